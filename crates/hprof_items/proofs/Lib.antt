@@ -1,0 +1,6 @@
+pub mod Numbers
+pub mod Steps
+pub mod Headers
+pub mod Heads
+pub mod Bodies
+pub mod Writes

@@ -1,0 +1,82 @@
+-- Reading at the front of some bytes: what stands there, or else the first test that fails, from the left.
+use Rattle.std.specs.Prelude.{◌≡◌, ◌==◌, ◌||◌, ◌&&◌, ℕ, ◌^◌, ◌<◌, Bool, true, false, nat_lt, nat_le, List, length, take, drop, slice_index, Result, Ok, Option, Some, None, bytes_eq, if◌then◌else◌}
+use Rattle.byteorder.specs.Endian.{big_number}
+use Rattle.hprof_items.specs.declared.ids.IdSize.{IdSize}
+use Rattle.hprof_items.specs.declared.ids.IdSize.TheVariants.{Four, Eight}
+use Rattle.hprof_items.specs.declared.header.Header.{Header}
+use Rattle.hprof_items.specs.declared.header.Version.{Version}
+use Rattle.hprof_items.specs.declared.header.Version.TheVariants.{V101, V102}
+use Rattle.hprof_items.specs.declared.head.Head.{Head}
+use Rattle.hprof_items.specs.declared.step.Reason.{Reason}
+use Rattle.hprof_items.specs.declared.step.Reason.TheVariants.{BadMagic, BadIdSize, BadLength, Unsupported}
+use Rattle.hprof_items.specs.declared.step.Step.{Step}
+use Rattle.hprof_items.specs.declared.step.Step.TheVariants.{Whole, Short, TooLong, Fault}
+use Rattle.hprof_items.specs.Ids.{width_of}
+use Rattle.hprof_items.specs.Header.{text_of}
+use Rattle.hprof_items.specs.Head.{is_fact_tag}
+use Rattle.hprof_items.specs.FactValue.{FactValue, Name}
+
+-- ---- the header: the text, the size of identifiers, the time
+
+-- the version whose text this is
+abbrev pub version_of : List ℕ → Option Version
+version_of text = if bytes_eq text (text_of V101) then Some V101 else (if bytes_eq text (text_of V102) then Some V102 else None)
+
+-- the size of identifiers that the number says
+abbrev pub ids_of : ℕ → Option IdSize
+ids_of size = if size == 4 then Some Four else (if size == 8 then Some Eight else None)
+
+-- a header whose text and size were right so far
+abbrev pub timed_header : Version → Option IdSize → List ℕ → Step Header
+timed_header version None bytes = Fault BadIdSize
+timed_header version (Some ids) bytes =
+    if nat_lt (length bytes) 31 then Short else Whole (record { version = version; ids = ids; millis = big_number 8 (drop 23 bytes) }) 31
+
+-- a header whose text was right so far
+abbrev pub sized_header : Option Version → List ℕ → Step Header
+sized_header None bytes = Fault BadMagic
+sized_header (Some version) bytes =
+    if nat_lt (length bytes) 23 then Short else timed_header version (ids_of (big_number 4 (drop 19 bytes))) bytes
+
+unfoldable pub header_at : List ℕ → Step Header
+header_at bytes = if nat_lt (length bytes) 19 then Short else sized_header (version_of (take 19 bytes)) bytes
+
+-- ---- the head of a record
+
+-- the records that are read so far: UTF8 and HEAP_DUMP_END
+abbrev pub is_known : ℕ → Bool
+is_known tag = (tag == 0x01) || (tag == 0x2c)
+
+-- a length that the record may have: of UTF8 at least that of an identifier, of HEAP_DUMP_END none
+abbrev pub is_legal : IdSize → ℕ → ℕ → Bool
+is_legal ids tag len = if tag == 0x01 then nat_le (width_of ids) len else len == 0
+
+-- a record that states a fact and is longer than the longest that is taken
+abbrev pub is_too_long : ℕ → Head → Bool
+is_too_long longest head = is_fact_tag head.tag && nat_lt longest head.length
+
+-- the tests of a head that is there
+abbrev pub judged_head : IdSize → ℕ → Head → Step Head
+judged_head ids longest head =
+    if is_known head.tag
+    then (if is_legal ids head.tag head.length then (if is_too_long longest head then TooLong else Whole head 9) else Fault BadLength)
+    else Fault Unsupported
+
+unfoldable pub head_at : IdSize → ℕ → List ℕ → Step Head
+head_at ids longest bytes =
+    if nat_lt (length bytes) 9 then Short
+    else judged_head ids longest (record { tag = slice_index bytes 0; time = big_number 4 (drop 1 bytes); length = big_number 4 (drop 5 bytes) })
+
+-- a head that is read: its fields lie in their ranges, and no test fails
+pub record IsRightHead (ids : IdSize) (longest : ℕ) (head : Head) : Type 0 where
+  pub tag : head.tag < 256
+  pub time : head.time < 256 ^ 4
+  pub length : head.length < 256 ^ 4
+  pub known : is_known head.tag ≡ true
+  pub legal : is_legal ids head.tag head.length ≡ true
+  pub taken : is_too_long longest head ≡ false
+
+-- ---- the body of a record that states a fact, of which the head is right
+
+unfoldable pub body_at : IdSize → ℕ → List ℕ → Result FactValue Reason
+body_at ids tag body = Ok (Name (big_number (width_of ids) body) (drop (width_of ids) body))

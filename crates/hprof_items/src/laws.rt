@@ -1,0 +1,42 @@
+//! Laws of the definitions. None of these functions does anything.
+
+ghost use Rattle.std.specs.Prelude.{◌≡◌, ◌≤◌, List, ℕ, ◌++◌, length, drop, Ok};
+ghost use Rattle.hprof_items.specs.declared.ids.IdSize.{IdSize};
+ghost use Rattle.hprof_items.specs.declared.header.Header.{Header};
+ghost use Rattle.hprof_items.specs.declared.head.Head.{Head};
+ghost use Rattle.hprof_items.specs.declared.step.Step.TheVariants.{Whole};
+ghost use Rattle.hprof_items.specs.Ids.{width_of, IsBytes};
+ghost use Rattle.hprof_items.specs.Header.{header_bytes, IsMillis};
+ghost use Rattle.hprof_items.specs.Head.{head_bytes};
+ghost use Rattle.hprof_items.specs.FactValue.{FactValue};
+ghost use Rattle.hprof_items.specs.Spelling.{Fits, spelling, tag_of, body_of, longest_body};
+ghost use Rattle.hprof_items.specs.Reading.{header_at, head_at, IsRightHead, body_at};
+
+/// No spelling begins another: bytes that begin with the spellings of two facts begin with those of one fact.
+pub fn one_spelling()
+    ensures { (ids : IdSize) (fact other : FactValue) (rest more : List ℕ) → Fits ids fact → Fits ids other
+        → spelling ids fact ++ rest ≡ spelling ids other ++ more → (fact ≡ other) × (rest ≡ more) }
+{}
+
+/// A header that is spelled is read, whatever follows, and one that is read is spelled so.
+pub fn headers_read_back()
+    ensures { ((header : Header) (rest : List ℕ) → IsMillis header.millis → header_at (header_bytes header ++ rest) ≡ Whole header 31)
+        × ((bytes : List ℕ) (header : Header) (n : ℕ) → IsBytes bytes → header_at bytes ≡ Whole header n
+        → (bytes ≡ header_bytes header ++ drop n bytes) × (n ≡ 31) × IsMillis header.millis) }
+{}
+
+/// A right head that is spelled is read, whatever follows, and one that is read is right and spelled so.
+pub fn heads_read_back()
+    ensures { ((ids : IdSize) (longest : ℕ) (head : Head) (rest : List ℕ) → IsRightHead ids longest head
+        → head_at ids longest (head_bytes head.tag head.time head.length ++ rest) ≡ Whole head 9)
+        × ((ids : IdSize) (longest : ℕ) (bytes : List ℕ) (head : Head) (n : ℕ) → IsBytes bytes → head_at ids longest bytes ≡ Whole head n
+        → (bytes ≡ head_bytes head.tag head.time head.length ++ drop n bytes) × (n ≡ 9) × IsRightHead ids longest head) }
+{}
+
+/// The body of a fact that has a spelling is read as that fact, and what is read is spelled so.
+pub fn bodies_read_back()
+    ensures { ((ids : IdSize) (fact : FactValue) → Fits ids fact → body_at ids (tag_of fact) (body_of ids fact) ≡ Ok fact)
+        × ((ids : IdSize) (tag : ℕ) (body : List ℕ) (fact : FactValue) → IsBytes body → tag ≡ 1 → width_of ids ≤ length body
+        → length body ≤ longest_body → body_at ids tag body ≡ Ok fact
+        → (tag_of fact ≡ tag) × (body ≡ body_of ids fact) × Fits ids fact) }
+{}

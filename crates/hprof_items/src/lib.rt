@@ -1,0 +1,32 @@
+//! One header, record or fact of an HPROF heap dump: what it is, how its bytes spell it, how it is read from
+//! bytes and written to them. The format is that of the comment "HPROF binary format" in OpenJDK's
+//! heapDumper.cpp. No call of this crate takes memory.
+#![tactic(auto)]
+
+mod device;
+mod fact;
+mod head;
+mod header;
+mod health;
+mod ids;
+pub mod laws;
+mod reading;
+mod source;
+mod step;
+mod target;
+mod writing;
+
+pub use device::Device;
+pub use fact::{Fact, fits, spelled_len};
+pub use head::{Head, HeadKind};
+pub use header::{Header, Version};
+pub use health::{Health, ReadFault, WriteFault};
+pub use ids::IdSize;
+pub use reading::{read_body, read_head, read_header};
+pub use source::Source;
+pub use step::{Reason, Step};
+pub use target::Target;
+pub use writing::{write_fact, write_head, write_header};
+
+#[cfg(test)]
+mod tests;
