@@ -4,3 +4,4 @@ pub mod Headers
 pub mod Heads
 pub mod Bodies
 pub mod Writes
+pub mod Limits

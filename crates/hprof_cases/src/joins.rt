@@ -1,0 +1,74 @@
+//! Parts that are joined.
+
+use crate::samples::{END, HEADER, NAME_1_A, NAME_2_B, WIDE_HEADER, bytes_of, joined};
+use hprof_tool::{Joined, ToolFault};
+use std::alloc::Global;
+use std::process::Abort;
+use std::test::Fail;
+
+/// Checks that the parts are joined to the texts, which state so many facts.
+fn expect_joined(
+    rt: &impl Abort,
+    alloc: Global,
+    parts: &[&[u8]],
+    texts: &[&[u8]],
+    facts: u128,
+) -> Result<(), Fail> {
+    let (answer, written) = joined(alloc, parts)?;
+    let expected = Joined {
+        parts: parts.len(),
+        facts,
+    };
+    assert_eq!(rt; answer, Ok(expected));
+    assert_eq!(rt; written.as_slice(), bytes_of(alloc, texts)?.as_slice());
+    Ok(())
+}
+
+#[test]
+fn one_name(rt: HostRuntime) -> Result<(), Fail> {
+    let part = bytes_of(rt.alloc(), &[HEADER, NAME_1_A])?;
+    expect_joined(&rt, rt.alloc(), &[&part], &[HEADER, NAME_1_A, END], 1)
+}
+
+#[test]
+fn header_alone(rt: HostRuntime) -> Result<(), Fail> {
+    expect_joined(&rt, rt.alloc(), &[HEADER], &[HEADER, END], 0)
+}
+
+#[test]
+fn no_parts(rt: HostRuntime) -> Result<(), Fail> {
+    let (answer, written) = joined(rt.alloc(), &[])?;
+    assert_eq!(rt; answer, Err(ToolFault::NoParts));
+    assert_eq!(rt; written.len(), 0);
+    Ok(())
+}
+
+#[test]
+fn two_times(rt: HostRuntime) -> Result<(), Fail> {
+    let later = b"JAVA PROFILE 1.0.2\0\0\0\0\x04\0\0\0\0\0\0\x07\xd0".as_slice();
+    let earlier = b"JAVA PROFILE 1.0.2\0\0\0\0\x04\0\0\0\0\0\0\x03\xe8".as_slice();
+    expect_joined(&rt, rt.alloc(), &[later, earlier], &[earlier, END], 0)?;
+    expect_joined(&rt, rt.alloc(), &[earlier, later], &[earlier, END], 0)
+}
+
+#[test]
+fn two_names_in_any_order_and_twice(rt: HostRuntime) -> Result<(), Fail> {
+    let both = bytes_of(rt.alloc(), &[HEADER, NAME_2_B, NAME_1_A, NAME_2_B])?;
+    let one = bytes_of(rt.alloc(), &[HEADER, END, NAME_1_A])?;
+    let expected = [HEADER, NAME_1_A, NAME_2_B, END];
+    expect_joined(&rt, rt.alloc(), &[&both], &expected, 2)?;
+    expect_joined(&rt, rt.alloc(), &[&one, &both, &one], &expected, 2)
+}
+
+#[test]
+fn first_version_is_written_as_the_second(rt: HostRuntime) -> Result<(), Fail> {
+    let old = b"JAVA PROFILE 1.0.1\0\0\0\0\x04\0\0\0\0\0\0\0\x01".as_slice();
+    expect_joined(&rt, rt.alloc(), &[old], &[HEADER, END], 0)
+}
+
+#[test]
+fn eight_byte_identifiers(rt: HostRuntime) -> Result<(), Fail> {
+    let greatest = b"\x01\0\0\0\0\0\0\0\x09\xff\xff\xff\xff\xff\xff\xff\xffA".as_slice();
+    let part = bytes_of(rt.alloc(), &[WIDE_HEADER, greatest])?;
+    expect_joined(&rt, rt.alloc(), &[&part], &[WIDE_HEADER, greatest, END], 1)
+}

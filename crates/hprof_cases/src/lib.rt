@@ -1,0 +1,21 @@
+//! Worked cases of the whole project, as tests through public calls. It has no code of its own.
+#![tactic(auto)]
+
+#[cfg(test)]
+mod conflicts;
+#[cfg(test)]
+mod joins;
+#[cfg(test)]
+mod limits;
+#[cfg(test)]
+mod pieces;
+#[cfg(test)]
+mod prefixes;
+#[cfg(test)]
+mod program;
+#[cfg(test)]
+mod refusals;
+#[cfg(test)]
+mod samples;
+#[cfg(test)]
+mod writers;

@@ -1,0 +1,142 @@
+//! Limits, one below what a part needs and just what it needs.
+
+use crate::samples::{END, HEADER, NAME_1_A, NAME_2_B, bytes_of, joined_under};
+use hprof_items::{Device, Reason};
+use hprof_stream::{Limits, PartFault};
+use hprof_tool::{Joined, ToolFault, join_to};
+use std::alloc::Global;
+use std::io;
+use std::io::Read;
+use std::process::Abort;
+use std::test::Fail;
+
+/// What joining the one part under the limits comes to, but for what is written.
+fn answer(alloc: Global, part: &[u8], limits: Limits) -> Result<Result<Joined, ToolFault>, Fail> {
+    Ok(joined_under(alloc, &[part], limits)?.0)
+}
+
+/// Checks that the answer is this fault of the one part.
+fn expect_fault(rt: &impl Abort, answer: Result<Joined, ToolFault>, fault: PartFault) {
+    assert_eq!(rt; answer, Err(ToolFault::Part { index: 0, fault }));
+}
+
+/// A reader that gives one byte at a time.
+#[derive(Drop)]
+struct ByteByByte<'a>(&'a [u8]);
+
+impl Read for ByteByByte<'_> {
+    fn read(&mut self, piece: &mut [u8]) -> io::Result<usize> {
+        match (self.0, piece) {
+            ([first, rest @ ..], [place, ..]) => {
+                *place = *first;
+                self.0 = rest;
+                Ok(1)
+            }
+            _ => Ok(0),
+        }
+    }
+}
+
+/// A reader that fails.
+#[derive(Drop)]
+struct Broken;
+
+impl Read for Broken {
+    fn read(&mut self, _piece: &mut [u8]) -> io::Result<usize> {
+        Err(io::Error::from(io::ErrorKind::Other))
+    }
+}
+
+fn reads(max_reads: u64) -> Limits {
+    Limits {
+        max_reads,
+        ..Limits::usual()
+    }
+}
+
+fn longest(max_item: u32) -> Limits {
+    Limits {
+        max_item,
+        ..Limits::usual()
+    }
+}
+
+fn bytes(max_bytes: u64) -> Limits {
+    Limits {
+        max_bytes,
+        ..Limits::usual()
+    }
+}
+
+/// What joining the header alone comes to, read byte by byte with so many reads.
+fn slow_answer(alloc: Global, max_reads: u64) -> Result<Joined, ToolFault> {
+    let mut target = Device::new(Vec::<u8>::new(alloc));
+    let mut readers = [Device::new(ByteByByte(HEADER))];
+    join_to(alloc, &mut readers, &mut target, reads(max_reads))
+}
+
+const ONE_PART: Joined = Joined { parts: 1, facts: 0 };
+
+#[test]
+fn limit_of_reads(rt: HostRuntime) -> Result<(), Fail> {
+    assert_eq!(rt; answer(rt.alloc(), HEADER, reads(2))?, Ok(ONE_PART));
+    expect_fault(
+        &rt,
+        answer(rt.alloc(), HEADER, reads(1))?,
+        PartFault::ReadsExceeded,
+    );
+    expect_fault(&rt, slow_answer(rt.alloc(), 10), PartFault::ReadsExceeded);
+    assert_eq!(rt; slow_answer(rt.alloc(), 32), Ok(ONE_PART));
+    Ok(())
+}
+
+#[test]
+fn limit_of_bytes(rt: HostRuntime) -> Result<(), Fail> {
+    assert_eq!(rt; answer(rt.alloc(), HEADER, bytes(31))?, Ok(ONE_PART));
+    expect_fault(
+        &rt,
+        answer(rt.alloc(), HEADER, bytes(30))?,
+        PartFault::BytesExceeded,
+    );
+    Ok(())
+}
+
+#[test]
+fn failed_read(rt: HostRuntime) -> Result<(), Fail> {
+    let mut target = Device::new(Vec::<u8>::new(rt.alloc()));
+    let answer = join_to(
+        rt.alloc(),
+        &mut [Device::new(Broken)],
+        &mut target,
+        Limits::usual(),
+    );
+    expect_fault(&rt, answer, PartFault::Read);
+    Ok(())
+}
+
+#[test]
+fn longest_item(rt: HostRuntime) -> Result<(), Fail> {
+    let part = bytes_of(rt.alloc(), &[HEADER, NAME_2_B, NAME_1_A])?;
+    let joined = Joined { parts: 1, facts: 2 };
+    assert_eq!(rt; answer(rt.alloc(), &part, longest(5))?, Ok(joined));
+    expect_fault(
+        &rt,
+        answer(rt.alloc(), &part, longest(4))?,
+        PartFault::ItemTooLong { at: 31 },
+    );
+    Ok(())
+}
+
+#[test]
+fn longest_item_of_nothing(rt: HostRuntime) -> Result<(), Fail> {
+    let ended = bytes_of(rt.alloc(), &[HEADER, END])?;
+    assert_eq!(rt; answer(rt.alloc(), &ended, longest(0))?, Ok(ONE_PART));
+    // The length is judged first.
+    let part = bytes_of(rt.alloc(), &[HEADER, b"\x01\0\0\0\0\0\0\0\x01\0"])?;
+    let fault = PartFault::Malformed {
+        at: 31,
+        reason: Reason::BadLength,
+    };
+    expect_fault(&rt, answer(rt.alloc(), &part, longest(0))?, fault);
+    Ok(())
+}

@@ -1,0 +1,70 @@
+//! Parts that are cut into pieces.
+
+use crate::samples::{HEADER, NAME_1_A, NAME_2_B, bytes_of, fed};
+use hprof_heap::{Gatherer, write_canonical};
+use hprof_items::{Device, Reason};
+use hprof_stream::{Limits, PartFault, PartReader};
+use std::test::Fail;
+
+#[test]
+fn reader_fed_nothing(rt: HostRuntime) {
+    let truncated = PartFault::Malformed {
+        at: 0,
+        reason: Reason::Truncated,
+    };
+    let mut gatherer = Gatherer::new(rt.alloc());
+    let mut reader = PartReader::new(rt.alloc(), Limits::usual());
+    assert_eq!(rt; reader.feed(&[], &mut gatherer), Ok(()));
+    assert_eq!(rt; reader.header(), None);
+    assert_eq!(rt; reader.buffered(), 0);
+    assert_eq!(rt; reader.finish(), Err(truncated));
+}
+
+/// The record of a name `A` with that identifier.
+fn name_record(id: u32) -> [u8; 14] {
+    let [a, b, c, d] = id.to_be_bytes();
+    [1, 0, 0, 0, 0, 0, 0, 0, 5, a, b, c, d, b'A']
+}
+
+#[test]
+fn descending_names_in_pieces_of_seven(rt: HostRuntime) -> Result<(), Fail> {
+    let mut part = bytes_of(rt.alloc(), &[HEADER])?;
+    let mut expected = bytes_of(rt.alloc(), &[HEADER])?;
+    for id in 1..3001u32 {
+        part.extend_from_slice(&name_record(3001 - id))?;
+        expected.extend_from_slice(&name_record(id))?;
+    }
+    expected.extend_from_slice(b"\x2c\0\0\0\0\0\0\0\0")?;
+    let mut gatherer = Gatherer::new(rt.alloc());
+    let summary = fed(rt.alloc(), &part, 7, &mut gatherer)
+        .ok()
+        .ok_or("the part is whole")?;
+    assert_eq!(rt;
+        (summary.records, summary.facts, summary.ended),
+        (3000, 3000, false)
+    );
+    let heap = gatherer.finish().ok().ok_or("the names agree")?;
+    let mut target = Device::new(Vec::new(rt.alloc()));
+    assert_eq!(rt; write_canonical(&heap, &mut target), Ok(()));
+    let written = target.into_inner();
+    assert_eq!(rt; written.len(), 42_040);
+    assert_eq!(rt; written.as_slice(), expected.as_slice());
+    Ok(())
+}
+
+#[test]
+fn whole_in_threes_and_byte_by_byte(rt: HostRuntime) -> Result<(), Fail> {
+    let part = bytes_of(rt.alloc(), &[HEADER, NAME_2_B, NAME_1_A])?;
+    for piece_len in [59usize, 3, 1] {
+        let mut gatherer = Gatherer::new(rt.alloc());
+        let summary = fed(rt.alloc(), &part, piece_len, &mut gatherer)
+            .ok()
+            .ok_or("whole")?;
+        assert_eq!(rt;
+            (summary.records, summary.facts, summary.ended),
+            (2, 2, false)
+        );
+        assert_eq!(rt; gatherer.heap().ok_or("the names agree")?.count(), 2);
+    }
+    Ok(())
+}

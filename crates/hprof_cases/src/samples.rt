@@ -1,0 +1,84 @@
+//! Parts to join, and joining them in memory.
+
+ghost use Rattle.std.specs.Prelude.{◌≡◌, All, IfOk};
+ghost use Rattle.hprof_items.specs.declared.health.Health.TheVariants.{Well};
+ghost use Rattle.hprof_items.specs.Device.{health_of};
+
+use hprof_heap::Gatherer;
+use hprof_items::Device;
+use hprof_stream::{Limits, PartFault, PartReader, PartSummary};
+use hprof_tool::{Joined, ToolFault, join_to};
+use std::alloc::{AllocError, Global};
+
+/// The header of version 1.0.2 with identifiers of four bytes and time 1.
+pub(crate) const HEADER: &[u8] = b"JAVA PROFILE 1.0.2\0\0\0\0\x04\0\0\0\0\0\0\0\x01";
+
+/// The same with identifiers of eight bytes.
+pub(crate) const WIDE_HEADER: &[u8] = b"JAVA PROFILE 1.0.2\0\0\0\0\x08\0\0\0\0\0\0\0\x01";
+
+/// Name 1 is `A`, and name 2 is `B`.
+pub(crate) const NAME_1_A: &[u8] = b"\x01\0\0\0\0\0\0\0\x05\0\0\0\x01A";
+
+pub(crate) const NAME_1_B: &[u8] = b"\x01\0\0\0\0\0\0\0\x05\0\0\0\x01B";
+
+pub(crate) const NAME_2_B: &[u8] = b"\x01\0\0\0\0\0\0\0\x05\0\0\0\x02B";
+
+/// The end of a heap dump.
+pub(crate) const END: &[u8] = b"\x2c\0\0\0\0\0\0\0\0";
+
+/// The texts, one after the other.
+pub(crate) fn bytes_of(alloc: Global, texts: &[&[u8]]) -> Result<Vec<u8>, AllocError> {
+    let mut bytes = Vec::new(alloc);
+    for text in texts {
+        bytes.extend_from_slice(text)?;
+    }
+    Ok(bytes)
+}
+
+/// Devices that read the parts.
+fn readers_of<'a>(alloc: Global, parts: &[&'a [u8]]) -> Result<Vec<Device<&'a [u8]>>, AllocError>
+    ensures { IfOk result (λ readers. All (λ reader. health_of reader ≡ Well) readers.items) }
+{
+    let mut readers = Vec::new(alloc);
+    for part in parts {
+        readers.push(Device::new(*part))?;
+    }
+    Ok(readers)
+}
+
+/// Joins the parts under limits, and gives the answer with what was written.
+pub(crate) fn joined_under(
+    alloc: Global,
+    parts: &[&[u8]],
+    limits: Limits,
+) -> Result<(Result<Joined, ToolFault>, Vec<u8>), AllocError> {
+    let mut readers = readers_of(alloc, parts)?;
+    let mut target = Device::new(Vec::new(alloc));
+    let answer = join_to(alloc, &mut readers, &mut target, limits);
+    Ok((answer, target.into_inner()))
+}
+
+/// Joins the parts under the usual limits.
+pub(crate) fn joined(
+    alloc: Global,
+    parts: &[&[u8]],
+) -> Result<(Result<Joined, ToolFault>, Vec<u8>), AllocError> {
+    joined_under(alloc, parts, Limits::usual())
+}
+
+/// Feeds the bytes in pieces of that length to a new reader and a gatherer, and gives what the end comes to.
+pub(crate) fn fed(
+    alloc: Global,
+    bytes: &[u8],
+    piece_len: usize,
+    gatherer: &mut Gatherer,
+) -> Result<PartSummary, PartFault> {
+    let mut reader = PartReader::new(alloc, Limits::usual());
+    let mut rest = bytes;
+    while !rest.is_empty() {
+        let (piece, after) = rest.split_at(piece_len.max(1).min(rest.len()));
+        reader.feed(piece, gatherer)?;
+        rest = after;
+    }
+    reader.finish()
+}

@@ -1,0 +1,55 @@
+//! Writers that fail or stick.
+
+ghost use Rattle.std.specs.Prelude.{◌≡◌};
+
+use crate::samples::{HEADER, NAME_1_A, bytes_of};
+use hprof_items::{Device, WriteFault};
+use hprof_stream::Limits;
+use hprof_tool::{ToolFault, join_to};
+use std::io;
+use std::io::Write;
+use std::test::Fail;
+
+/// A writer that takes some bytes, and then fails or takes none.
+#[derive(Drop)]
+struct Limited {
+    taken: Vec<u8>,
+    room: usize,
+    sticks: bool,
+}
+
+impl Write for Limited {
+    fn write(&mut self, bytes: &[u8]) -> io::Result<usize> {
+        if self.room == 0 && !self.sticks {
+            return Err(io::Error::from(io::ErrorKind::Other));
+        }
+        let count = self.room.min(bytes.len());
+        self.taken.extend_from_slice(&bytes[..count])?;
+        self.room -= count;
+        Ok(count)
+    }
+
+    fn flush(&mut self) -> io::Result<()> {
+        Ok(())
+    }
+}
+
+#[test]
+fn writer_that_fails_or_sticks(rt: HostRuntime) -> Result<(), Fail> {
+    let part = bytes_of(rt.alloc(), &[HEADER, NAME_1_A])?;
+    for (sticks, fault) in [(false, WriteFault::Failed), (true, WriteFault::Stuck)] {
+        let mut target = Device::new(Limited {
+            taken: Vec::new(rt.alloc()),
+            room: 10,
+            sticks,
+        });
+        let mut readers = [Device::new(part.as_slice())];
+        let answer = join_to(rt.alloc(), &mut readers, &mut target, Limits::usual());
+        assert_eq!(rt; answer, Err(ToolFault::Write(fault)));
+        assert_eq!(rt;
+            target.into_inner().taken.as_slice(),
+            b"JAVA PROFI".as_slice()
+        );
+    }
+    Ok(())
+}

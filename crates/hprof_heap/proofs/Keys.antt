@@ -1,0 +1,115 @@
+-- The order of keys.
+use Rattle.std.proofs.Common.{◌≡◌, ℕ, zero, suc, ◌<◌, ◌≤◌, Bool, true, false, cond, Some, refl, sym, ap, ◌∙◌, ◌⊎◌, inl, inr, arith}
+use Rattle.std.proofs.lemmas.Bool.{ltb-true, lt-ltb, eqb-true, eq-eqb, leb-true, le-leb, or_cases, and_parts, and_from, or_left, or_right, cases_order, cases_lt, both_ways}
+use Rattle.hprof_items.specs.FactValue.{FactValue, Name}
+use Rattle.hprof_heap.specs.declared.key.Key.{Key}
+use Rattle.hprof_heap.specs.declared.key.Key.TheVariants as keys
+use Rattle.hprof_heap.specs.Key.{key_of, rank_of, number_of, key_le, lesser_key}
+use Rattle.hprof_heap.specs.Gathering.{same_key}
+
+-- the first number is less, or it is the same and the second is no greater
+abbrev pub IsUpTo : (r n s m : ℕ) → Type 0
+IsUpTo r n s m = (r < s) ⊎ ((r ≡ s) × (n ≤ m))
+
+-- what the test of two keys tells
+pub key_le-true : (key other : Key) → key_le key other ≡ true → IsUpTo (rank_of key) (number_of key) (rank_of other) (number_of other)
+key_le-true key other e = elim (or_cases _ _ e) [
+  | inl lt ↦ inl (ltb-true _ _ lt)
+  | inr both ↦ let p = and_parts _ _ both in inr (eqb-true _ _ p.0, leb-true _ _ p.1)
+]
+
+-- what the test of two keys needs
+pub true-key_le : (key other : Key) → IsUpTo (rank_of key) (number_of key) (rank_of other) (number_of other) → key_le key other ≡ true
+true-key_le key other (inl lt) = or_left _ _ (lt-ltb _ _ lt)
+true-key_le key other (inr both) = or_right _ _ (and_from _ _ (eq-eqb _ _ both.0) (le-leb _ _ both.1))
+
+-- pairs of numbers are in one order
+IsUpTo-trans : (r n s m t k : ℕ) → IsUpTo r n s m → IsUpTo s m t k → IsUpTo r n t k
+IsUpTo-trans r n s m t k (inl a) (inl b) = inl (omega arith)
+IsUpTo-trans r n s m t k (inl a) (inr b) = inl (omega arith)
+IsUpTo-trans r n s m t k (inr a) (inl b) = inl (omega arith)
+IsUpTo-trans r n s m t k (inr a) (inr b) = inr (omega arith, omega arith)
+
+-- each key is no greater than itself
+pub key_le-refl : (key : Key) → key_le key key ≡ true
+key_le-refl key = true-key_le key key (inr (refl, omega arith))
+
+-- keys are in one order
+pub key_le-trans : (key other more : Key) → key_le key other ≡ true → key_le other more ≡ true → key_le key more ≡ true
+key_le-trans key other more a b =
+    true-key_le key more (IsUpTo-trans (rank_of key) (number_of key) (rank_of other) (number_of other) (rank_of more) (number_of more) (key_le-true key other a) (key_le-true other more b))
+
+-- of two keys one is no greater
+pub key_le-total : (key other : Key) → (key_le key other ≡ true) ⊎ (key_le other key ≡ true)
+key_le-total key other = elim (cases_order (rank_of key) (rank_of other)) [
+  | inr lt ↦ elim lt [ inl a ↦ inl (true-key_le key other (inl a)) | inr b ↦ inr (true-key_le other key (inl b)) ]
+  | inl e ↦ elim (cases_lt (number_of key) (number_of other)) [
+    | inl a ↦ inl (true-key_le key other (inr (e, omega arith)))
+    | inr b ↦ inr (true-key_le other key (inr (sym e, b)))
+  ]
+]
+
+-- the key of that rank and number
+key_at : ℕ → ℕ → Key
+key_at zero number = keys.Name number
+key_at (suc zero) number = keys.Load number
+key_at (suc (suc zero)) number = keys.Frame number
+key_at (suc (suc (suc zero))) number = keys.Trace number
+key_at (suc (suc (suc (suc zero)))) number = keys.Thread number
+key_at (suc (suc (suc (suc (suc zero))))) number = keys.Class number
+key_at (suc (suc (suc (suc (suc (suc rank)))))) number = keys.Object number
+
+-- each key is that of its rank and number
+key_is : (key : Key) → key_at (rank_of key) (number_of key) ≡ key
+unfolding key_at
+key_is (keys.Name id) = refl
+key_is (keys.Load serial) = refl
+key_is (keys.Frame id) = refl
+key_is (keys.Trace serial) = refl
+key_is (keys.Thread serial) = refl
+key_is (keys.Class id) = refl
+key_is (keys.Object id) = refl
+
+-- two pairs, each no greater than the other, are one
+IsUpTo-both : (r n s m : ℕ) → IsUpTo r n s m → IsUpTo s m r n → (r ≡ s) × (n ≡ m)
+IsUpTo-both r n s m (inl a) (inl b) = absurd (omega arith)
+IsUpTo-both r n s m (inl a) (inr b) = absurd (omega arith)
+IsUpTo-both r n s m (inr a) (inl b) = absurd (omega arith)
+IsUpTo-both r n s m (inr a) (inr b) = (a.0, omega arith)
+
+-- two keys, each no greater than the other, are one
+pub key_le-antisym : (key other : Key) → key_le key other ≡ true → key_le other key ≡ true → key ≡ other
+key_le-antisym key other a b =
+    let same = IsUpTo-both (rank_of key) (number_of key) (rank_of other) (number_of other) (key_le-true key other a) (key_le-true other key b) in
+    sym (key_is key) ∙ ap (λ (r : ℕ). key_at r (number_of key)) same.0 ∙ ap (λ (n : ℕ). key_at (rank_of other) n) same.1 ∙ key_is other
+
+-- the lesser of two keys is one of them, and no greater than either
+pub record IsLesser (key other least : Key) : Type 0 where
+  pub one : (least ≡ key) ⊎ (least ≡ other)
+  pub le_first : key_le least key ≡ true
+  pub le_second : key_le least other ≡ true
+
+-- the lesser key, by what the test answered
+lesser_by : (t : Bool) (key other : Key) → key_le key other ≡ t → IsLesser key other (cond t key other)
+lesser_by true key other e = record { one = inl refl; le_first = key_le-refl key; le_second = e }
+lesser_by false key other e = record {
+  one = inr refl;
+  le_first = elim (key_le-total key other) [ inl a ↦ absurd (both_ways _ e a) | inr b ↦ b ];
+  le_second = key_le-refl other;
+}
+
+-- what `lesser_key` answers
+pub lesser_is : (key other : Key) → IsLesser key other (lesser_key key other)
+lesser_is key other = lesser_by (key_le key other) key other refl
+
+-- ---- the keys of facts
+
+-- two facts have this key
+pub record HaveKey (one other : FactValue) (key : Key) : Type 0 where
+  pub first : key_of one ≡ Some key
+  pub second : key_of other ≡ Some key
+
+-- facts that the test finds equal have one key
+pub same_key-true : (one other : FactValue) → same_key one other ≡ true → (key : Key) × HaveKey one other key
+same_key-true (Name id text) (Name other more) e =
+    (keys.Name id, record { first = refl; second = ap (λ (n : ℕ). Some (keys.Name n)) (sym (eqb-true _ _ e)) })

@@ -1,0 +1,9 @@
+pub mod FactSets
+pub mod Keys
+pub mod Order
+pub mod Conflicts
+pub mod Inserting
+pub mod Names
+pub mod Steady
+pub mod Gathering
+pub mod Dump

@@ -1,0 +1,29 @@
+use Rattle.std.proofs.Common.{sym, subst}
+use Rattle.hprof_items.specs.FactValue.{value_of}
+use Rattle.hprof_heap.specs.declared.relation.Stated.TheVariants.{New, Same, Differs}
+use Rattle.hprof_heap.specs.Heap.{heap_of}
+use Rattle.hprof_heap.specs.Gathering.{gathered, Takes}
+use Rattle.hprof_heap.proofs.Steady.{states_ids, steady_after, took}
+use Rattle.hprof_heap.proofs.gatherer.GathererSink.take.Goals as goal
+
+pub invariant_of-self : goal.invariant_of-self
+invariant_of-self c = record {
+  steady = steady_after c.args.self.now.heap c.in-Some.heap c.state.new.self c.args.self.now.begun c.args.self.now.two_sizes c.args.self.now.steady c.in-Some.is
+      (states_ids c.state.result (heap_of c.in-Some.heap) (heap_of c.state.new.self) (value_of c.args.fact) c.state.ensures.ok c.state.ensures.err);
+}
+
+pub returns-in-Ok-New-clause-steps : goal.returns-in-Ok-New-clause-steps
+returns-in-Ok-New-clause-steps c =
+    took c.state.result c.in-Ok-New.field-0 New c.args.self.now c.in-Some.heap c.state.new.self (value_of c.args.fact)
+    c.if-self.false c.if-self-2.false c.in-Some.is c.in-Ok-New.is c.in-Ok-New.field-0-is c.state.ensures.ok
+
+pub returns-in-Ok-Same-clause-steps : goal.returns-in-Ok-Same-clause-steps
+returns-in-Ok-Same-clause-steps c =
+    took c.state.result c.in-Ok-Same.field-0 Same c.args.self.now c.in-Some.heap c.state.new.self (value_of c.args.fact)
+    c.if-self.false c.if-self-2.false c.in-Some.is c.in-Ok-Same.is c.in-Ok-Same.field-0-is c.state.ensures.ok
+
+pub returns-in-Ok-Differs-clause-steps : goal.returns-in-Ok-Differs-clause-steps
+returns-in-Ok-Differs-clause-steps c =
+    subst (Takes (gathered c.args.self.now) (value_of c.args.fact)) (sym c.mark.ensures)
+    (took c.state.result c.in-Ok-Differs.field-0 Differs c.args.self.now c.in-Some.heap c.state.new.self (value_of c.args.fact)
+    c.if-self.false c.if-self-2.false c.in-Some.is c.in-Ok-Differs.is c.in-Ok-Differs.field-0-is c.state.ensures.ok)

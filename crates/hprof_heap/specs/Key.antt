@@ -1,0 +1,36 @@
+-- Keys: what two facts may not both be about. A key has one content, which is the form of its fact and every field
+-- but the key itself.
+use Rattle.std.specs.Prelude.{◌==◌, ◌||◌, ◌&&◌, ℕ, Bool, nat_lt, nat_le, Option, Some, if◌then◌else◌}
+use Rattle.hprof_items.specs.FactValue.{FactValue, Name}
+use Rattle.hprof_heap.specs.declared.key.Key.{Key}
+use Rattle.hprof_heap.specs.declared.key.Key.TheVariants as keys
+
+-- the key of a fact; a fact that is its own key has none
+abbrev pub key_of : FactValue → Option Key
+key_of (Name id text) = Some (keys.Name id)
+
+-- keys are ordered as they are listed here, and then by number
+abbrev pub rank_of : Key → ℕ
+rank_of (keys.Name id) = 0
+rank_of (keys.Load serial) = 1
+rank_of (keys.Frame id) = 2
+rank_of (keys.Trace serial) = 3
+rank_of (keys.Thread serial) = 4
+rank_of (keys.Class id) = 5
+rank_of (keys.Object id) = 6
+
+abbrev pub number_of : Key → ℕ
+number_of (keys.Name id) = id
+number_of (keys.Load serial) = serial
+number_of (keys.Frame id) = id
+number_of (keys.Trace serial) = serial
+number_of (keys.Thread serial) = serial
+number_of (keys.Class id) = id
+number_of (keys.Object id) = id
+
+-- the first key is the second, or comes before it
+abbrev pub key_le : Key → Key → Bool
+key_le key other = nat_lt (rank_of key) (rank_of other) || ((rank_of key == rank_of other) && nat_le (number_of key) (number_of other))
+
+abbrev pub lesser_key : Key → Key → Key
+lesser_key key other = if key_le key other then key else other

@@ -1,0 +1,12 @@
+pub mod Key
+pub mod Order
+pub mod Facts
+pub mod Conflict
+pub mod Dump
+pub mod State
+pub mod Relation
+pub mod HeapValue
+pub mod Heap
+pub mod Rows
+pub mod Steady
+pub mod Gathering

@@ -1,0 +1,39 @@
+-- What parts state together: the size of their identifiers, the earliest of their times, the set of their facts.
+use Rattle.std.specs.Prelude.{◌≡◌, ℕ, min, List, [], ◌∷◌, map}
+use Rattle.std.specs.List.{AllByRecursion, flat_map}
+use Rattle.hprof_items.specs.declared.ids.IdSize.{IdSize}
+use Rattle.hprof_items.specs.FactValue.{FactValue}
+use Rattle.hprof_stream.specs.Part.{IsPart}
+use Rattle.hprof_heap.specs.Facts.{SameFacts}
+
+-- what one part states
+pub record PartState : Type 0 where
+  pub bytes : List ℕ
+  pub ids : IdSize
+  pub millis : ℕ
+  pub facts : List FactValue
+
+abbrev pub StatesIt : PartState → Type 0
+StatesIt part = IsPart part.bytes part.ids part.millis part.facts
+
+-- the least of the numbers, which are not none
+abbrev pub IsLeastOf : List ℕ → ℕ → Type 0
+IsLeastOf [] least = ⊥
+IsLeastOf (n ∷ []) least = least ≡ n
+IsLeastOf (n ∷ m ∷ ns) least = (rest : ℕ) × IsLeastOf (m ∷ ns) rest × (least ≡ min n rest)
+
+-- what the parts of the list state; it is not empty, and all have one size
+pub record IsState (parts : List (List ℕ)) (ids : IdSize) (millis : ℕ) (facts : List FactValue) : Type 0 where
+  pub states : List PartState
+  pub of_parts : map (λ part. part.bytes) states ≡ parts
+  pub each : AllByRecursion StatesIt states
+  pub one_size : AllByRecursion (λ part. part.ids ≡ ids) states
+  pub earliest : IsLeastOf (map (λ part. part.millis) states) millis
+  pub same : SameFacts facts (flat_map (λ part. part.facts) states)
+
+-- each is a part, and two of them have different sizes
+pub record HaveTwoSizes (parts : List (List ℕ)) : Type 0 where
+  pub states : List PartState
+  pub of_parts : map (λ part. part.bytes) states ≡ parts
+  pub each : AllByRecursion StatesIt states
+  pub two : (ids : IdSize) → AllByRecursion (λ part. part.ids ≡ ids) states → ⊥

@@ -1,0 +1,174 @@
+//! The sink that unites the facts of parts.
+
+ghost use Rattle.std.specs.Prelude.{◌≡◌, List, Some};
+ghost use Rattle.std.specs.Option.{option_map};
+ghost use Rattle.std.specs.Result.{result_ok};
+ghost use Rattle.hprof_items.specs.FactValue.{value_of};
+ghost use Rattle.hprof_heap.specs.Key.{key_of};
+ghost use Rattle.hprof_heap.specs.Steady.{IsSteady, IsSteady-prop};
+
+use crate::heap::Heap;
+use crate::key::Key;
+use crate::relation::Stated;
+use crate::standing::{Refusal, Standing};
+use hprof_items::{Fact, Header, IdSize};
+use hprof_stream::{Sink, SinkFault};
+use std::alloc::Global;
+
+/// Takes the headers and facts of any number of parts, and keeps their union. Where a key comes with two contents it
+/// keeps the least such key.
+#[derive(Drop)]
+pub struct Gatherer {
+    alloc: Global,
+    heap: Option<Heap>,
+    begun: Option<IdSize>,
+    conflict: Option<Key>,
+    two_sizes: bool,
+    // With one size begun so far, it is the heap's.
+    ghost steady: { IsSteady heap begun two_sizes } by { IsSteady-prop heap begun two_sizes },
+    failed: bool,
+}
+
+impl Gatherer {
+    ghost use Rattle.hprof_heap.specs.Gathering.{Gathered, Given, gathered, nothing_gathered, seen_heap, Gathers, Tells, answer_of, standing_of_answer, marked};
+    ghost use Rattle.hprof_heap.specs.Heap.{heap_of};
+
+    /// A gatherer that was given nothing. It takes no memory yet.
+    pub fn new(alloc: Global) -> Self
+        ensures { gathered result ≡ nothing_gathered }
+    {
+        Gatherer {
+            alloc,
+            heap: None,
+            begun: None,
+            conflict: None,
+            two_sizes: false,
+            failed: false,
+        }
+    }
+
+    /// How it stands.
+    pub fn standing(&self) -> Standing
+        ensures { result ≡ standing_of_answer (answer_of (gathered self.now)) }
+    {
+        if self.failed {
+            return Standing::Failed;
+        }
+        if self.heap.is_none() {
+            return Standing::Empty;
+        }
+        if self.two_sizes || self.conflict.is_some() {
+            return Standing::InConflict;
+        }
+        Standing::Clean
+    }
+
+    /// The heap of the facts so far, where it is clean.
+    pub fn heap(&self) -> Option<&Heap>
+        ensures { option_map (λ heap. heap_of heap.now) result ≡ result_ok (answer_of (gathered self.now)) }
+    {
+        match self.standing() {
+            Standing::Clean => self.heap.as_ref(),
+            Standing::Empty | Standing::InConflict | Standing::Failed => None,
+        }
+    }
+
+    /// The heap of all facts that were given. A fault comes first, then no parts, then two sizes, then a conflict.
+    pub fn finish(self) -> Result<Heap, Refusal>
+        ensures answer { seen_heap result ≡ answer_of (gathered self) }
+        // What it says of the parts that were given.
+        ensures told { (parts : List Given) → Gathers nothing_gathered parts (gathered self) → Tells parts (seen_heap result) }
+    {
+        let Gatherer {
+            heap,
+            conflict,
+            two_sizes,
+            failed,
+            ..
+        } = self;
+        if failed {
+            return Err(Refusal::Failed);
+        }
+        match (heap, conflict) {
+            (None, _) => Err(Refusal::NoParts),
+            (Some(_), _) if two_sizes => Err(Refusal::IdSizes),
+            (Some(_), Some(key)) => Err(Refusal::Conflict(key)),
+            (Some(heap), None) => Ok(heap),
+        }
+    }
+
+    /// Marks the key of a fact that differs from the one that is there.
+    fn mark(&mut self, fact: &Fact<'_>)
+        ensures { gathered self.new ≡ record (gathered self.old) { conflict = marked (gathered self.old).conflict (key_of (value_of fact.now)) } }
+    {
+        let key = key_of_fact(fact);
+        self.conflict = Some(match self.conflict {
+            None => key,
+            Some(least) => least.lesser(key),
+        });
+    }
+}
+
+/// The key of a fact.
+fn key_of_fact(fact: &Fact<'_>) -> Key
+    ensures { key_of (value_of fact.now) ≡ Some result }
+{
+    match *fact {
+        Fact::Name { id, .. } => Key::Name(id),
+    }
+}
+
+impl Sink for Gatherer {
+    ghost use Rattle.std.specs.Prelude.{◌≡◌, false};
+    ghost use Rattle.hprof_stream.specs.declared.sink.SinkFault.TheVariants.{OutOfMemory};
+    ghost use Rattle.hprof_heap.specs.Gathering.{gathered, Begins, Takes};
+
+    ghost begins = { λ old header new. Begins (gathered old) header (gathered new) };
+
+    ghost steps = { λ old fact new. Takes (gathered old) fact (gathered new) };
+
+    ghost begun = { λ gatherer. (gathered gatherer).begun };
+
+    ghost failed = { λ gatherer. (gathered gatherer).failed };
+
+    // A gatherer that has not failed answers no fault but want of memory.
+    ghost refuses = { λ gatherer fault. (gathered gatherer).failed ≡ false → fault ≡ OutOfMemory };
+
+    fn begin_part(&mut self, header: Header) -> Result<(), SinkFault> {
+        if self.failed {
+            return Err(SinkFault::Failed);
+        }
+        self.begun = Some(header.ids);
+        match &mut self.heap {
+            None => self.heap = Some(Heap::new(self.alloc, header.ids, header.millis)),
+            Some(heap) if heap.ids() == header.ids => heap.keep_earlier(header.millis),
+            Some(_) => self.two_sizes = true,
+        }
+        Ok(())
+    }
+
+    fn take(&mut self, fact: Fact<'_>) -> Result<(), SinkFault> {
+        if self.failed {
+            return Err(SinkFault::Failed);
+        }
+        if self.two_sizes {
+            return Ok(());
+        }
+        let Some(heap) = &mut self.heap else {
+            // A part was begun, so there is a heap.
+            unreachable!()
+        };
+        match heap.state(fact) {
+            Ok(Stated::New) => Ok(()),
+            Ok(Stated::Same) => Ok(()),
+            Ok(Stated::Differs) => {
+                self.mark(&fact);
+                Ok(())
+            }
+            Err(_) => {
+                self.failed = true;
+                Err(SinkFault::OutOfMemory)
+            }
+        }
+    }
+}

@@ -1,0 +1,42 @@
+//! Laws of the definitions. None of these functions does anything.
+
+ghost use Rattle.std.specs.Prelude.{◌≡◌, ℕ, List};
+ghost use Rattle.hprof_items.specs.declared.ids.IdSize.{IdSize};
+ghost use Rattle.hprof_items.specs.FactValue.{FactValue};
+ghost use Rattle.hprof_stream.specs.Part.{IsPart};
+ghost use Rattle.hprof_heap.specs.declared.key.Key.{Key};
+ghost use Rattle.hprof_heap.specs.Conflict.{IsConsistent, IsLeastConflict};
+ghost use Rattle.hprof_heap.specs.Dump.{canonical_dump};
+ghost use Rattle.hprof_heap.specs.Facts.{SameFacts};
+ghost use Rattle.hprof_heap.specs.HeapValue.{HeapValue, IsHeap};
+ghost use Rattle.hprof_heap.specs.Order.{IsCanonicalOrder};
+
+/// A set of facts that agree has a list in canonical order.
+pub fn agreeing_facts_have_an_order()
+    ensures { (facts : List FactValue) → IsConsistent facts
+        → (rows : List FactValue) × IsCanonicalOrder rows × SameFacts rows facts }
+{}
+
+/// It has no other such list, and only facts that agree have one.
+pub fn one_order()
+    ensures one { (rows others : List FactValue) → IsCanonicalOrder rows → IsCanonicalOrder others
+        → SameFacts rows others → rows ≡ others }
+    ensures agree { (rows : List FactValue) → IsCanonicalOrder rows → IsConsistent rows }
+{}
+
+/// Whether facts agree, and where they do not, is that of the set. There is one least conflict, and none among facts
+/// that agree.
+pub fn conflicts_are_of_the_set()
+    ensures consistent { (facts others : List FactValue) → SameFacts facts others → IsConsistent facts → IsConsistent others }
+    ensures least { (facts others : List FactValue) (key : Key) → SameFacts facts others
+        → IsLeastConflict facts key → IsLeastConflict others key }
+    ensures one { (facts : List FactValue) (key other : Key) → IsLeastConflict facts key
+        → IsLeastConflict facts other → key ≡ other }
+    ensures none { (facts : List FactValue) (key : Key) → IsConsistent facts → IsLeastConflict facts key → ⊥ }
+{}
+
+/// The canonical dump of a heap is a part, and states the heap's facts, each once.
+pub fn dump_reads_back()
+    ensures { (ids : IdSize) (millis : ℕ) (rows : List FactValue) → IsHeap (record { ids = ids; millis = millis; facts = rows })
+        → IsPart (canonical_dump ids millis rows) ids millis rows }
+{}

@@ -1,0 +1,31 @@
+//! The heap that parts state together: tables of rows, the gatherer that unites the facts of any number of parts,
+//! and the canonical dump of a heap.
+#![tactic(auto)]
+
+mod canonical;
+mod content;
+mod facts;
+mod gatherer;
+mod heap;
+mod key;
+pub mod laws;
+mod name_row;
+mod relation;
+mod rows;
+mod standing;
+mod table;
+
+pub use canonical::write_canonical;
+pub use content::{Content, Statement};
+pub use facts::Facts;
+pub use gatherer::Gatherer;
+pub use heap::Heap;
+pub use key::Key;
+pub use name_row::NameRow;
+pub use relation::{Relation, Stated};
+pub use rows::Rows;
+pub use standing::{Refusal, Standing};
+pub use table::Table;
+
+#[cfg(test)]
+mod tests;

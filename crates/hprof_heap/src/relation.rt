@@ -1,0 +1,102 @@
+//! A table of rows by key.
+
+ghost use Rattle.std.specs.Prelude.{◌≡◌, ℕ, List, [], length, IfOk, OnErr, MatchResult, None};
+ghost use Rattle.std.specs.Option.{option_copied};
+ghost use Rattle.std.specs.Ordering.{nat_cmp};
+ghost use Rattle.std.specs.BTreeMap.{is_at};
+ghost use Rattle.std.specs.Map.{lookup};
+
+use crate::content::{Content, Made, Statement};
+use crate::rows::Rows;
+use std::alloc::{AllocError, Global};
+use std::collections::BTreeMap;
+use std::collections::btree_map::Entry;
+
+/// What stating a fact came to.
+#[derive(Clone, Copy, Debug, PartialEq, Eq)]
+pub enum Stated {
+    /// The key was new, and the row was added.
+    New,
+    /// The key was there with the same content.
+    Same,
+    /// The key was there with another content.
+    Differs,
+}
+
+/// A table of rows by key, in order of key. No key has two rows.
+#[derive(Drop)]
+pub struct Relation<V: Content + Drop> {
+    rows: BTreeMap<u64, V>,
+    alloc: Global,
+}
+
+impl<V: Content + Drop> Relation<V> {
+    ghost use Rattle.hprof_heap.specs.Relation.{rows_of, States};
+    ghost use Rattle.hprof_heap.specs.Rows.{rows_left};
+
+    /// A table with no rows. It takes no memory yet.
+    pub fn new(alloc: Global) -> Self
+        ensures { rows_of result ≡ [] }
+    {
+        Relation {
+            rows: BTreeMap::new(alloc),
+            alloc,
+        }
+    }
+
+    /// States a row under a key. A key that is there takes no memory, and keeps its row.
+    pub fn state(&mut self, key: u64, row: V) -> Result<Stated, AllocError>
+        ensures ok { IfOk result (λ stated. States V.fact (rows_of self.old) key (V.fact key row) stated (rows_of self.new)) }
+        ensures err { OnErr result (rows_of self.new ≡ rows_of self.old) }
+        ensures absent { OnErr result (lookup (is_at (nat_cmp key)) (rows_of self.old) ≡ None) }
+    {
+        self.state_from(key, Made(row))
+    }
+
+    /// States under a key what can become a row. It becomes one only where the key is new.
+    pub fn state_from<T: Statement<V> + Drop>(
+        &mut self,
+        key: u64,
+        statement: T,
+    ) -> Result<Stated, AllocError>
+        ensures ok { IfOk result (λ stated. States V.fact (rows_of self.old) key (T.states key statement) stated (rows_of self.new)) }
+        ensures err { OnErr result (rows_of self.new ≡ rows_of self.old) }
+        ensures absent { OnErr result (lookup (is_at (nat_cmp key)) (rows_of self.old) ≡ None) }
+    {
+        match self.rows.entry(key)? {
+            Entry::Occupied(entry) => {
+                if statement.matches(entry.get()) {
+                    Ok(Stated::Same)
+                } else {
+                    Ok(Stated::Differs)
+                }
+            }
+            Entry::Vacant(entry) => {
+                let row = statement.into_row(self.alloc)?;
+                entry.insert(row);
+                Ok(Stated::New)
+            }
+        }
+    }
+
+    /// The row under a key.
+    pub fn get(&self, key: u64) -> Option<&V>
+        ensures { option_copied result ≡ lookup (is_at (nat_cmp key)) (rows_of self.now) }
+    {
+        self.rows.get(&key)
+    }
+
+    /// The number of rows.
+    pub fn len(&self) -> usize
+        ensures { result ≡ length (rows_of self.now) }
+    {
+        self.rows.len()
+    }
+
+    /// The rows, in order of key.
+    pub fn rows(&self) -> Rows<'_, V>
+        ensures { rows_left result ≡ rows_of self.now }
+    {
+        Rows::new(self.rows.iter())
+    }
+}

@@ -1,0 +1,172 @@
+use super::*;
+use crate::name_row::NameText;
+use hprof_items::{Device, Fact, Header, IdSize, Version, fits};
+use hprof_stream::{Sink, SinkFault};
+use std::test::*;
+
+#[test]
+fn stating_names(rt: HostRuntime) -> Result<(), Fail> {
+    let mut names = Relation::new(rt.alloc());
+    assert_eq!(rt;
+        names.state(1, NameRow::new(rt.alloc(), b"A")?)?,
+        Stated::New
+    );
+    assert_eq!(rt;
+        names.state(1, NameRow::new(rt.alloc(), b"A")?)?,
+        Stated::Same
+    );
+    assert_eq!(rt;
+        names.state(1, NameRow::new(rt.alloc(), b"B")?)?,
+        Stated::Differs
+    );
+    assert_eq!(rt;
+        names.state_from(1, NameText { text: b"AB" })?,
+        Stated::Differs
+    );
+    let first = NameRow::new(rt.alloc(), b"A")?;
+    let row = names.get(1).ok_or("no row")?;
+    assert!(rt; row.agrees(&first));
+    assert!(rt; names.get(2).is_none());
+    assert_eq!(rt; names.len(), 1);
+    assert_eq!(rt; names.state_from(0, NameText { text: b"B" })?, Stated::New);
+    let mut rows = names.rows();
+    let (key, row) = rows.next().ok_or("no first row")?;
+    assert_eq!(rt; key, 0);
+    assert!(rt; !row.agrees(&first));
+    let (key, row) = rows.next().ok_or("no second row")?;
+    assert_eq!(rt; key, 1);
+    assert!(rt; row.agrees(&first));
+    assert!(rt; rows.next().is_none());
+    Ok(())
+}
+
+// Gives the gatherer a part with these names.
+fn give(
+    gatherer: &mut Gatherer,
+    ids: IdSize,
+    millis: u64,
+    names: &[(u64, &[u8])],
+) -> Result<(), SinkFault> {
+    gatherer.begin_part(Header {
+        version: Version::V102,
+        ids,
+        millis,
+    })?;
+    for &(id, text) in names {
+        let fact = Fact::Name { id, text };
+        if fits(&fact, ids) {
+            gatherer.take(fact)?;
+        }
+    }
+    Ok(())
+}
+
+#[test]
+fn no_parts(rt: HostRuntime) {
+    let gatherer = Gatherer::new(rt.alloc());
+    assert_eq!(rt; gatherer.standing(), Standing::Empty);
+    assert!(rt; gatherer.heap().is_none());
+    assert_eq!(rt; gatherer.finish().err(), Some(Refusal::NoParts));
+}
+
+#[test]
+fn the_least_conflict(rt: HostRuntime) -> Result<(), Fail> {
+    let mut gatherer = Gatherer::new(rt.alloc());
+    give(
+        &mut gatherer,
+        IdSize::Four,
+        1,
+        &[
+            (5, b"A"),
+            (5, b"B"),
+            (3, b"A"),
+            (3, b"B"),
+            (4, b"A"),
+            (4, b"B"),
+        ],
+    )?;
+    assert_eq!(rt; gatherer.standing(), Standing::InConflict);
+    assert!(rt; gatherer.heap().is_none());
+    assert_eq!(rt;
+        gatherer.finish().err(),
+        Some(Refusal::Conflict(Key::Name(3)))
+    );
+    Ok(())
+}
+
+#[test]
+fn two_sizes_come_before_a_conflict(rt: HostRuntime) -> Result<(), Fail> {
+    let mut gatherer = Gatherer::new(rt.alloc());
+    give(&mut gatherer, IdSize::Four, 1, &[(1, b"A"), (1, b"B")])?;
+    give(&mut gatherer, IdSize::Eight, 1, &[(1, b"A")])?;
+    give(&mut gatherer, IdSize::Four, 1, &[(1, b"A")])?;
+    assert_eq!(rt; gatherer.standing(), Standing::InConflict);
+    assert_eq!(rt; gatherer.finish().err(), Some(Refusal::IdSizes));
+    Ok(())
+}
+
+// The bytes of a dump by hand: the text, a size of 4, the time 1, the names 1 = A and 2 = B, and the end.
+const DUMP: &[u8; 68] = b"JAVA PROFILE 1.0.2\0\0\0\0\x04\0\0\0\0\0\0\0\x01\
+    \x01\0\0\0\0\0\0\0\x05\0\0\0\x01A\x01\0\0\0\0\0\0\0\x05\0\0\0\x02B\x2c\0\0\0\0\0\0\0\0";
+
+#[test]
+fn the_canonical_dump(rt: HostRuntime) -> Result<(), Fail> {
+    let mut gatherer = Gatherer::new(rt.alloc());
+    give(&mut gatherer, IdSize::Four, 2, &[(2, b"B"), (1, b"A")])?;
+    give(&mut gatherer, IdSize::Four, 1, &[(2, b"B")])?;
+    give(&mut gatherer, IdSize::Four, 3, &[])?;
+    assert_eq!(rt; gatherer.standing(), Standing::Clean);
+    let heap = gatherer.heap().ok_or("no heap")?;
+    let mut device = Device::new(Vec::new(rt.alloc()));
+    assert_eq!(rt; write_canonical(heap, &mut device), Ok(()));
+    let bytes = device.into_inner();
+    assert_eq!(rt; bytes.as_slice(), DUMP.as_slice());
+    Ok(())
+}
+
+#[test]
+fn a_heap(rt: HostRuntime) -> Result<(), Fail> {
+    let one = Fact::Name { id: 1, text: b"A" };
+    let two = Fact::Name { id: 2, text: b"B" };
+    let mut gatherer = Gatherer::new(rt.alloc());
+    give(&mut gatherer, IdSize::Eight, 2000, &[(2, b"B")])?;
+    give(&mut gatherer, IdSize::Eight, 1000, &[(1, b"A")])?;
+    let heap = gatherer.finish()?;
+    assert_eq!(rt; heap.ids(), IdSize::Eight);
+    assert_eq!(rt; heap.millis(), 1000);
+    assert_eq!(rt; heap.count(), 2);
+    assert_eq!(rt; heap.len(Table::Names), 2);
+    assert_eq!(rt; heap.name(1), Some(one));
+    assert_eq!(rt; heap.name(3), None);
+    let mut rows = heap.rows(Table::Names);
+    assert_eq!(rt; rows.next(), Some(one));
+    assert_eq!(rt; rows.next(), Some(two));
+    assert_eq!(rt; rows.next(), None);
+    Ok(())
+}
+
+#[test]
+fn the_order_of_keys(rt: HostRuntime) {
+    let keys = [
+        Key::Name(1),
+        Key::Name(9),
+        Key::Load(8),
+        Key::Frame(7),
+        Key::Trace(6),
+        Key::Thread(5),
+        Key::Class(4),
+        Key::Object(3),
+        Key::Object(4),
+    ];
+    for pair in keys.windows(2) {
+        assert!(rt; pair[0] < pair[1], "{pair:?}");
+    }
+}
+
+#[test]
+fn the_laws(_rt: HostRuntime) {
+    laws::agreeing_facts_have_an_order();
+    laws::one_order();
+    laws::conflicts_are_of_the_set();
+    laws::dump_reads_back();
+}

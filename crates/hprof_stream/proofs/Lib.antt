@@ -1,0 +1,10 @@
+pub mod Items
+pub mod Refusals
+pub mod Runs
+pub mod Walks
+pub mod Faults
+pub mod Found
+pub mod Stepping
+pub mod Feeding
+pub mod Finishing
+pub mod Sources

@@ -1,0 +1,22 @@
+use Rattle.std.proofs.Common.{ℕ, List, sym, subst}
+use Rattle.hprof_stream.specs.Reader.{Walks}
+use Rattle.hprof_stream.proofs.Walks.{Walks-none, Walks-then, Walks-counted}
+use Rattle.hprof_stream.proofs.progress.Progress.walk.Goals as goal
+
+pub loop-len-init : goal.loop-len-init
+loop-len-init g c = record { walked = Walks-none g.S.Sink.begins g.S.Sink.steps c.args.self.now c.args.bytes.now c.args.sink.now; counted = c.requires.counted; begun = c.requires.begun }
+
+pub loop-len-preserved : goal.loop-len-preserved
+loop-len-preserved g c =
+    let inv = c.loop-len.invariant in
+    let now = c.loop-len.self in
+    let sink = c.loop-len.sink in
+    let bytes = c.loop-len.rest.now in
+    let rest = c.split_at.result.1.now in
+    let step = rw c.in-Some.is at c.in_ok-len.ensures.step in
+    let over = subst (λ (r : List ℕ). Walks g.S.Sink.begins g.S.Sink.steps now bytes sink c.step.new.self r c.step.new.sink) (sym c.split_at.ensures.back) step.0 in
+    record {
+      walked = Walks-then g.S.Sink.begins g.S.Sink.steps c.args.self.now now c.step.new.self c.args.bytes.now bytes rest c.args.sink.now sink c.step.new.sink inv.walked over;
+      counted = Walks-counted g.S.Sink.begins g.S.Sink.steps now c.step.new.self bytes rest sink c.step.new.sink over inv.counted;
+      begun = c.in_ok-len.ensures.begun;
+    }

@@ -1,0 +1,89 @@
+-- The items of a part: what is judged as one, from the first byte on. An item is wholly there and right, or the
+-- first of its tests that fails says what is wrong.
+use Rattle.std.specs.Prelude.{◌≡◌, ℕ, ◌+◌, ◌≤◌, Bool, true, false, nat_lt, List, [], ◌∷◌, length, take, drop, Result, Ok, Err, Option, Some, None, if◌then◌else◌}
+use Rattle.hprof_items.specs.declared.header.Header.{Header}
+use Rattle.hprof_items.specs.declared.head.Head.{Head}
+use Rattle.hprof_items.specs.declared.head.HeadKind.{HeadKind}
+use Rattle.hprof_items.specs.declared.head.HeadKind.TheVariants.{FactRecord, HeapDump, DumpEnd, Skipped}
+use Rattle.hprof_items.specs.declared.step.Reason.{Reason}
+use Rattle.hprof_items.specs.declared.step.Step.{Step}
+use Rattle.hprof_items.specs.declared.step.Step.TheVariants.{Whole, Short, TooLong, Fault}
+use Rattle.hprof_items.specs.FactValue.{FactValue}
+use Rattle.hprof_items.specs.Header.{header_bytes, IsMillis}
+use Rattle.hprof_items.specs.Head.{kind_of}
+use Rattle.hprof_items.specs.Reading.{header_at, head_at, body_at}
+use Rattle.hprof_stream.specs.Record.{IsFactRecord, IsEndRecord}
+use Rattle.hprof_stream.specs.Part.{Stated}
+
+-- where in a part an item stands
+pub data Place : Type 0 where
+  -- at its first byte
+  Start : Place
+  -- between the records behind this header
+  Between : Header → Place
+
+-- the header that was read before the place
+abbrev pub header_before : Place → Option Header
+header_before Start = None
+header_before (Between header) = Some header
+
+-- the place behind that header
+abbrev pub place_behind : Option Header → Place
+place_behind None = Start
+place_behind (Some header) = Between header
+
+-- a part may end there
+abbrev pub may_end : Place → Bool
+may_end Start = false
+may_end (Between header) = true
+
+-- ---- the items that are right
+
+-- at that place the bytes are one item, which states these facts and leads to the next place; a record with a
+-- fact is no longer than the longest, its nine bytes of head not counted
+pub data IsItem (longest : ℕ) : Place → Stated → Place → Type 0 where
+  is_header : {one : Stated} {header : Header} → IsMillis header.millis → one.bytes ≡ header_bytes header → one.facts ≡ [] → IsItem longest Start one (Between header)
+  is_fact : {one : Stated} {header : Header} {fact : FactValue} → IsFactRecord header.ids one.bytes fact → length one.bytes ≤ 9 + longest → one.facts ≡ fact ∷ [] → IsItem longest (Between header) one (Between header)
+  is_dump_end : {one : Stated} {header : Header} → IsEndRecord one.bytes → one.facts ≡ [] → IsItem longest (Between header) one (Between header)
+
+-- items one after the other, from one place to another
+pub data AreItems (longest : ℕ) : Place → List Stated → Place → Type 0 where
+  none : {place : Place} → AreItems longest place [] place
+  more : {from mid to : Place} {one : Stated} {items : List Stated} → IsItem longest from one mid → AreItems longest mid items to → AreItems longest from (one ∷ items) to
+
+-- ---- what stands at the front of some bytes
+
+-- what an item states, and the place that it leads to
+pub record Found : Type 0 where
+  pub next : Place
+  pub facts : List FactValue
+
+abbrev pub found_header : Step Header → Step Found
+found_header (Whole header n) = Whole (record { next = Between header; facts = [] }) n
+found_header Short = Short
+found_header TooLong = TooLong
+found_header (Fault reason) = Fault reason
+
+abbrev pub found_fact : Header → Result FactValue Reason → ℕ → Step Found
+found_fact header (Ok fact) n = Whole (record { next = Between header; facts = fact ∷ [] }) n
+found_fact header (Err reason) n = Fault reason
+
+-- a record whose head was read: the body of one with a fact is there, and right
+abbrev pub found_record : Header → HeadKind → Head → List ℕ → Step Found
+found_record header FactRecord head bytes =
+    if nat_lt (length bytes) (9 + head.length) then Short
+    else found_fact header (body_at header.ids head.tag (take head.length (drop 9 bytes))) (9 + head.length)
+found_record header HeapDump head bytes = Whole (record { next = Between header; facts = [] }) 9
+found_record header DumpEnd head bytes = Whole (record { next = Between header; facts = [] }) 9
+found_record header Skipped head bytes = Whole (record { next = Between header; facts = [] }) 9
+
+abbrev pub found_behind : Header → Step Head → List ℕ → Step Found
+found_behind header (Whole head n) bytes = found_record header (kind_of head.tag) head bytes
+found_behind header Short bytes = Short
+found_behind header TooLong bytes = TooLong
+found_behind header (Fault reason) bytes = Fault reason
+
+-- the item at the front, or the first of its tests that fails
+unfoldable pub item_at : ℕ → Place → List ℕ → Step Found
+item_at longest Start bytes = found_header (header_at bytes)
+item_at longest (Between header) bytes = found_behind header (head_at header.ids longest bytes) bytes

@@ -1,0 +1,129 @@
+//! Reading a part that comes in pieces.
+
+ghost use Rattle.std.specs.Prelude.{◌≡◌, ℕ, ◌+◌, ◌≤◌, List, [], length, Option, Some, true, false, OnOk, OnErr};
+ghost use Rattle.hprof_items.specs.declared.header.Header.{Header};
+ghost use Rattle.hprof_items.specs.declared.ids.IdSize.{IdSize};
+ghost use Rattle.hprof_items.specs.FactValue.{FactValue};
+
+use crate::held::{hold, read_on};
+use crate::limits::Limits;
+use crate::part_fault::PartFault;
+use crate::progress::Progress;
+use crate::sink::Sink;
+use crate::summary::PartSummary;
+use hprof_items::{Header, Reason};
+use std::alloc::Global;
+
+/// Reads a part from pieces of it, cut anywhere. It holds the bytes of an item that is not whole yet, and no others.
+#[derive(Drop)]
+pub struct PartReader {
+    progress: Progress,
+    held: Vec<u8>,
+    failed: bool,
+    ghost within: { progress.at + length held.items ≤ progress.limits.max_bytes },
+    ghost counted: { progress.records ≤ progress.at },
+    ghost stated: { progress.facts ≤ progress.at },
+    ghost emptied: { failed ≡ true → length held.items ≡ 0 },
+}
+
+impl PartReader {
+    ghost use Rattle.hprof_stream.specs.Reader.{HasRead, header_of, has_failed, IsReady, IsBegun, IsUnfinished, longest_held, Feeds, Finishes};
+    ghost use Rattle.hprof_stream.specs.declared.limits.Limits.{Limits};
+
+    /// A reader that was fed nothing. It takes no memory yet.
+    pub fn new(alloc: Global, limits: Limits) -> Self
+        ensures read { HasRead limits [] [] result }
+        ensures ready { (begun : Option IdSize) → IsReady result begun }
+    {
+        PartReader {
+            progress: Progress::start(limits),
+            held: Vec::new(alloc),
+            failed: false,
+        }
+    }
+
+    /// Reads the next piece, and hands the header and the facts of all items that are whole now to the sink, in
+    /// order. After a fault the reader has failed, and answers `Failed` to each later call.
+    ///
+    /// The first item that is not whole and right is refused, as soon as no further byte could change that; then
+    /// more bytes than the limit. A growth of the reader that is refused comes before what would be tested later.
+    pub fn feed<S: Sink>(&mut self, piece: &[u8], sink: &mut S) -> Result<(), PartFault>
+        requires { IsReady self.old (S.begun sink.old) }
+        ensures fed { (limits : Limits) (bytes : List ℕ) (facts : List FactValue) → HasRead limits bytes facts self.old
+            → Feeds S.begins S.steps S.refuses S.failed limits bytes facts self.old piece.now sink.old result self.new sink.new }
+        ensures failed { has_failed self.old ≡ true
+            → (result ≡ Err PartFault.Failed) × (sink.old ≡ sink.new) × (header_of self.new ≡ header_of self.old) }
+        ensures err { OnErr result (has_failed self.new ≡ true) }
+        ensures kept { (header : Header) → header_of self.old ≡ Some header → header_of self.new ≡ Some header }
+        ensures ready { IsReady self.new (S.begun sink.new) }
+    {
+        if self.failed {
+            return Err(PartFault::Failed);
+        }
+        let outcome = self.take_piece(piece, sink);
+        if outcome.is_err() {
+            self.failed = true;
+            self.held.clear();
+        }
+        outcome
+    }
+
+    /// The header, as soon as it was read. It stays after a fault.
+    pub fn header(&self) -> Option<Header>
+        ensures { result ≡ header_of self.now }
+    {
+        self.progress.header
+    }
+
+    /// How many bytes are held: those of an item that is not whole yet, and none after a fault.
+    pub fn buffered(&self) -> usize
+        ensures held { (limits : Limits) (bytes : List ℕ) (facts : List FactValue) → HasRead limits bytes facts self.now
+            → IsUnfinished limits.max_item bytes result × (result ≤ length bytes) × (result ≤ longest_held limits.max_item) }
+        ensures failed { has_failed self.now ≡ true → result ≡ 0 }
+    {
+        self.held.len()
+    }
+
+    /// The end of the part.
+    pub fn finish(self) -> Result<PartSummary, PartFault>
+        ensures finished { (limits : Limits) (bytes : List ℕ) (facts : List FactValue) → HasRead limits bytes facts self → Finishes limits bytes result }
+        ensures failed { has_failed self ≡ true → result ≡ Err PartFault.Failed }
+    {
+        if self.failed {
+            return Err(PartFault::Failed);
+        }
+        let progress = self.progress;
+        match progress.header {
+            Some(header) if self.held.is_empty() => Ok(PartSummary {
+                header,
+                records: progress.records,
+                facts: progress.facts,
+                ended: progress.ended,
+            }),
+            _ => Err(PartFault::Malformed {
+                at: progress.at,
+                reason: Reason::Truncated,
+            }),
+        }
+    }
+
+    fn take_piece<S: Sink>(&mut self, piece: &[u8], sink: &mut S) -> Result<(), PartFault>
+        requires sound { has_failed self.old ≡ false }
+        requires begun { IsBegun (header_of self.old) (S.begun sink.old) }
+        ensures fed { (limits : Limits) (bytes : List ℕ) (facts : List FactValue) → HasRead limits bytes facts self.old
+            → Feeds S.begins S.steps S.refuses S.failed limits bytes facts self.old piece.now sink.old result self.new sink.new }
+        ensures sound { has_failed self.new ≡ false }
+        ensures kept { (header : Header) → header_of self.old ≡ Some header → header_of self.new ≡ Some header }
+        ensures begun { OnOk result (IsBegun (header_of self.new) (S.begun sink.new)) }
+    {
+        let progress = &mut self.progress;
+        let held = &mut self.held;
+        let room = progress.limits.max_bytes - progress.at - held.len() as u64;
+        let (taken, excess) = piece.split_at(room.min(piece.len() as u64) as usize);
+        let rest = read_on(progress, held, taken, sink)?;
+        if !excess.is_empty() {
+            return Err(PartFault::BytesExceeded);
+        }
+        hold(held, rest)
+    }
+}

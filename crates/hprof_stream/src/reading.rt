@@ -1,0 +1,71 @@
+//! Reading a part from a source.
+
+ghost use Rattle.std.specs.Prelude.{◌≡◌, ℕ, ◌+◌, ◌-◌, ◌^◌, ◌≤◌, ◌<◌, min, List, length, [], OnOk};
+ghost use Rattle.std.specs.Io.KnownBytes.{Consumes};
+ghost use Rattle.hprof_items.specs.declared.health.Health.TheVariants.{Well};
+ghost use Rattle.hprof_stream.specs.declared.limits.Limits.{Limits};
+ghost use Rattle.hprof_stream.specs.Reader.{HasRead, IsReady, ReadsPart, FeedsAll};
+
+use crate::limits::Limits;
+use crate::part_fault::PartFault;
+use crate::part_reader::PartReader;
+use crate::sink::Sink;
+use crate::summary::PartSummary;
+use hprof_items::Source;
+use std::alloc::Global;
+
+/// The number of bytes that a read asks for.
+const PIECE_LEN: usize = 65_536;
+
+/// Feeds the source's pieces to the reader, to the source's end.
+fn feed_all<R: Source, S: Sink>(
+    reader: &mut PartReader,
+    source: &mut R,
+    piece: &mut [u8],
+    max_reads: u64,
+    sink: &mut S,
+) -> Result<(), PartFault>
+    requires well { R.health source.old ≡ Well }
+    requires room { 0 < length piece.old }
+    requires begun { IsReady reader.old (S.begun sink.old) }
+    ensures fed { (limits : Limits) → HasRead limits [] [] reader.old → limits.max_reads ≡ max_reads
+        → ((came : List ℕ) × Consumes (R.left source.old) (R.left source.new) came
+        × FeedsAll S.begins S.steps S.refuses S.failed limits came (R.left source.new) (R.health source.new)
+        (R.pulls source.old < 2 ^ 64 → R.pulls source.new ≡ min (R.pulls source.old + max_reads) (2 ^ 64 - 1)) sink.old result reader.new sink.new) }
+    ensures pulls { R.pulls source.new ≤ R.pulls source.old + max_reads }
+{
+    for _ in 0..max_reads {
+        let Ok(count) = source.pull(piece) else {
+            return Err(PartFault::Read);
+        };
+        if count == 0 {
+            return Ok(());
+        }
+        reader.feed(&piece[..count], sink)?;
+    }
+    Err(PartFault::ReadsExceeded)
+}
+
+/// Reads a part to its end, in pieces of 65,536 bytes, and hands its header and facts to the sink. The bytes that
+/// came are judged before a failed read or too many reads are answered.
+pub fn read_part<R: Source, S: Sink>(
+    alloc: Global,
+    source: &mut R,
+    limits: Limits,
+    sink: &mut S,
+) -> Result<PartSummary, PartFault>
+    requires { R.health source.old ≡ Well }
+    // Bytes came, and this is what they come to. The pulls are told where their count was below 2^64.
+    ensures read { (came : List ℕ) × Consumes (R.left source.old) (R.left source.new) came
+        × ReadsPart S.begins S.steps S.refuses S.failed limits came (R.left source.new) (R.health source.new)
+        (R.pulls source.old < 2 ^ 64 → R.pulls source.new ≡ min (R.pulls source.old + limits.max_reads) (2 ^ 64 - 1)) sink.old result sink.new }
+    // No more reads were made than the limit.
+    ensures pulls { R.pulls source.new ≤ R.pulls source.old + limits.max_reads }
+{
+    let Ok(mut piece) = vec![in alloc; 0u8; PIECE_LEN] else {
+        return Err(PartFault::OutOfMemory);
+    };
+    let mut reader = PartReader::new(alloc, limits);
+    feed_all(&mut reader, source, &mut piece, limits.max_reads, sink)?;
+    reader.finish()
+}

@@ -1,0 +1,58 @@
+//! What takes a part's header and facts.
+
+ghost use Rattle.std.specs.Prelude.{◌≡◌, Bool, true, false, Option, Some, Err, OnOk, IfErr};
+ghost use Rattle.hprof_items.specs.FactValue.{FactValue, value_of};
+
+use hprof_items::{Fact, Header, IdSize};
+use thiserror::Error;
+
+/// Why a sink refused a header or a fact.
+#[derive(Clone, Copy, Debug, PartialEq, Eq, Error)]
+pub enum SinkFault {
+    /// The sink was refused memory.
+    #[error("out of memory")]
+    OutOfMemory,
+    /// The sink failed, now or before.
+    #[error("sink failed")]
+    Failed,
+}
+
+/// What takes the header of a part and then its facts, in order. After a fault the sink has failed, and answers
+/// `Failed` to every later call.
+pub trait Sink {
+    ghost use Rattle.hprof_items.specs.declared.header.Header.{Header};
+    ghost use Rattle.hprof_items.specs.declared.ids.IdSize.{IdSize};
+    ghost use Rattle.hprof_stream.specs.declared.sink.SinkFault.{SinkFault};
+    ghost use Rattle.hprof_stream.specs.Run.{FitsBegun};
+
+    // What an Ok of `begin_part` means.
+    ghost begins: { Self → Header → Self → Type 0 };
+
+    // What an Ok of `take` means.
+    ghost steps: { Self → FactValue → Self → Type 0 };
+
+    // The size of identifiers that was begun last, if a part was begun.
+    ghost begun: { Self → Option IdSize };
+
+    // A call answered a fault.
+    ghost failed: { Self → Bool };
+
+    // What a fault tells of the sink as it stood before the call.
+    ghost refuses: { Self → SinkFault → Type 0 };
+
+    /// Begins a part. The one fault is `Failed`.
+    fn begin_part(&mut self, header: Header) -> Result<(), SinkFault>
+        ensures begins { OnOk result (begins self.old header self.new) }
+        ensures begun { OnOk result (begun self.new ≡ Some header.ids) }
+        ensures well { OnOk result ((failed self.old ≡ false) × (failed self.new ≡ false)) }
+        ensures err { IfErr result (λ fault. refuses self.old fault × (failed self.new ≡ true) × (fault ≡ SinkFault.Failed)) };
+
+    /// Takes a fact of the part that was begun last.
+    fn take(&mut self, fact: Fact<'_>) -> Result<(), SinkFault>
+        requires { FitsBegun (begun self.old) (value_of fact) }
+        ensures steps { OnOk result (steps self.old (value_of fact.entry) self.new) }
+        ensures begun { OnOk result (begun self.new ≡ begun self.old) }
+        ensures well { OnOk result ((failed self.old ≡ false) × (failed self.new ≡ false)) }
+        ensures err { IfErr result (λ fault. refuses self.old fault × (failed self.new ≡ true)) }
+        ensures failed { failed self.old ≡ true → result ≡ Err SinkFault.Failed };
+}

@@ -1,0 +1,16 @@
+//! What was read of a part.
+
+use hprof_items::Header;
+
+/// What was read of a part that was not refused.
+#[derive(Clone, Copy, Debug, PartialEq, Eq)]
+pub struct PartSummary {
+    /// The header.
+    pub header: Header,
+    /// The number of records.
+    pub records: u64,
+    /// The number of facts, each as often as the part states it.
+    pub facts: u64,
+    /// Whether one of the records ends a heap dump.
+    pub ended: bool,
+}

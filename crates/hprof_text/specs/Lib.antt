@@ -1,0 +1,3 @@
+pub mod ModifiedUtf8
+pub mod Printed
+pub mod Identifier

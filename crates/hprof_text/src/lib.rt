@@ -1,0 +1,16 @@
+//! Names in modified UTF-8, both ways and in print, and identifiers as text.
+#![tactic(auto)]
+
+mod decoding;
+mod encoding;
+mod identifier;
+pub mod laws;
+mod printing;
+
+pub use decoding::{is_modified, units};
+pub use encoding::encode_units;
+pub use identifier::{parse_id, push_id};
+pub use printing::printed;
+
+#[cfg(test)]
+mod tests;

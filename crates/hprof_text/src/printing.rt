@@ -1,0 +1,144 @@
+//! Names in print, which is this project's own form.
+
+ghost use Rattle.std.specs.Prelude.{◌≡◌, false, ℕ, ◌-◌, ◌^◌, ◌++◌, List, min, length, slice_get, IsTrue, IfSome, IfNone, IfOk, OnOk, IsAscii};
+ghost use Rattle.std.specs.List.{AllPass};
+ghost use Rattle.std.specs.Option.{SomeIff};
+ghost use Rattle.std.specs.String.{string_bytes};
+ghost use Rattle.hprof_text.specs.ModifiedUtf8.{HasUnits};
+ghost use Rattle.hprof_text.specs.Printed.{is_plain, escaped_unit, printed_unit, printed_bytes, IsPrinted, PrintsUnits};
+
+use crate::decoding::first_unit;
+use std::alloc::{AllocError, Global};
+
+// Whether a byte, as a unit, is printed as itself.
+fn is_plain(byte: u8) -> bool
+    ensures { result ≡ is_plain byte }
+{
+    matches!(byte, 0x20..=0x7e) && byte != b'\\'
+}
+
+// The plain bytes at the front, and the bytes after them.
+fn split_plain(bytes: &[u8]) -> (&[u8], &[u8])
+    ensures whole { bytes.now ≡ result.0.now ++ result.1.now }
+    ensures plain { AllPass is_plain result.0.now }
+    ensures longest { IfSome (slice_get result.1.now 0) (λ byte. is_plain byte ≡ false) }
+{
+    let end = bytes
+        .iter()
+        .position(|byte| !is_plain(*byte))
+        .unwrap_or(bytes.len());
+    bytes.split_at(end)
+}
+
+// The byte that a unit is printed as, if the unit is plain.
+fn plain_byte(unit: u16) -> Option<u8>
+    ensures { SomeIff result (IsTrue (is_plain unit)) unit }
+{
+    let byte = u8::try_from(unit).ok()?;
+    if is_plain(byte) { Some(byte) } else { None }
+}
+
+// How many bytes a unit takes in print.
+fn printed_len(unit: u16) -> usize
+    ensures { result ≡ length (printed_unit unit) }
+{
+    match plain_byte(unit) {
+        Some(_) => 1,
+        None => 6,
+    }
+}
+
+// Appends a unit that is not plain in print.
+fn push_escape(text: &mut Vec<u8>, unit: u16) -> Result<(), AllocError>
+    ensures { OnOk result (text.new.items ≡ text.old.items ++ escaped_unit unit) }
+{
+    let mut digits = [0; 4];
+    let _ = hex::encode_to_slice(unit.to_be_bytes(), &mut digits);
+    text.extend_from_slice(b"\\u")?;
+    text.extend_from_slice(&digits)?;
+    Ok(())
+}
+
+// Appends a unit in print.
+#[tactic(auto, unfolding(crate::specs::Printed::printed_unit))]
+fn push_unit(text: &mut Vec<u8>, unit: u16) -> Result<(), AllocError>
+    ensures { OnOk result (text.new.items ≡ text.old.items ++ printed_unit unit) }
+{
+    match plain_byte(unit) {
+        Some(byte) => text.push(byte)?,
+        None => push_escape(text, unit)?,
+    }
+    Ok(())
+}
+
+// How many bytes the units take in print, or the most that is a `usize`.
+fn units_len(bytes: &[u8]) -> Option<usize>
+    ensures found { IfSome result (λ len. (text : List ℕ) × PrintsUnits bytes.now text
+        × (len ≡ min (length text) (2 ^ 64 - 1))) }
+    ensures none { IfNone result (¬ (HasUnits bytes.now)) }
+{
+    let (plain, mut rest) = split_plain(bytes);
+    let mut len = plain.len();
+    while let Some((unit, after)) = first_unit(rest) {
+        let (plain, after) = split_plain(after);
+        len = len
+            .saturating_add(printed_len(unit))
+            .saturating_add(plain.len());
+        rest = after;
+    }
+    if rest.is_empty() { Some(len) } else { None }
+}
+
+// The units of modified UTF-8 in print, for which `len` bytes are set aside.
+fn printed_units(alloc: Global, bytes: &[u8], len: usize) -> Result<Vec<u8>, AllocError>
+    requires { HasUnits bytes.now }
+    ensures { IfOk result (λ text. PrintsUnits bytes.now text.items) }
+{
+    let mut text = Vec::with_capacity(alloc, len)?;
+    let (plain, mut rest) = split_plain(bytes);
+    text.extend_from_slice(plain)?;
+    while let Some((unit, after)) = first_unit(rest) {
+        push_unit(&mut text, unit)?;
+        let (plain, after) = split_plain(after);
+        text.extend_from_slice(plain)?;
+        rest = after;
+    }
+    Ok(text)
+}
+
+// Other bytes in print.
+fn printed_bytes(alloc: Global, bytes: &[u8]) -> Result<Vec<u8>, AllocError>
+    ensures { IfOk result (λ text. text.items ≡ printed_bytes bytes.now) }
+{
+    let len = bytes.len().saturating_mul(2).saturating_add(2);
+    let mut text = Vec::with_capacity(alloc, len)?;
+    text.extend_from_slice(b"\\x")?;
+    for byte in bytes {
+        let mut digits = [0; 2];
+        let _ = hex::encode_to_slice([*byte], &mut digits);
+        text.extend_from_slice(&digits)?;
+    }
+    Ok(text)
+}
+
+// The printed form as bytes.
+fn printed_text(alloc: Global, bytes: &[u8]) -> Result<Vec<u8>, AllocError>
+    ensures { IfOk result (λ text. IsPrinted bytes.now text.items) }
+{
+    match units_len(bytes) {
+        Some(len) => printed_units(alloc, bytes, len),
+        None => printed_bytes(alloc, bytes),
+    }
+}
+
+/// The printed form of a name, this project's own, which is ASCII. Of modified UTF-8 each unit from
+/// 0x20 to 0x7e but the backslash is itself, and each other unit is `\u` and four lower-case
+/// hexadecimal digits; other bytes are `\x` and all bytes in lower-case hexadecimal. Memory is asked
+/// for once, and the error is that there is not enough.
+pub fn printed(alloc: Global, bytes: &[u8]) -> Result<String, AllocError>
+    ensures form { IfOk result (λ text. IsPrinted bytes.now (string_bytes text)) }
+    ensures ascii { IfOk result (λ text. IsAscii (string_bytes text)) }
+{
+    let text = printed_text(alloc, bytes)?;
+    Ok(String::from_utf8(text).unwrap())
+}

@@ -1,0 +1,9 @@
+pub mod Parts
+pub mod Longer
+pub mod Smaller
+pub mod Dumps
+pub mod Gathered
+pub mod PartFaults
+pub mod Reading
+pub mod Stated
+pub mod Answers

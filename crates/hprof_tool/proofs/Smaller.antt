@@ -1,0 +1,185 @@
+-- A smaller limit changes the answer only to an item that is too long.
+use Rattle.std.proofs.Common.{◌≡◌, ◌⊎◌, inl, inr, ℕ, ◌+◌, ◌≤◌, Bool, true, false, cond, ltb, ◌&&◌, List, [], ◌∷◌, ◌++◌, length, drop, take, Result, Ok, Err, Some, refl, sym, ap, ◌∙◌, append_assoc, arith}
+use Rattle.std.proofs.lemmas.Bool.{cases_lt, ltb-false}
+use Rattle.std.proofs.lemmas.List.{length-append}
+use Rattle.hprof_items.specs.declared.header.Header.{Header}
+use Rattle.hprof_items.specs.declared.head.Head.{Head}
+use Rattle.hprof_items.specs.declared.head.HeadKind.{HeadKind}
+use Rattle.hprof_items.specs.declared.head.HeadKind.TheVariants.{FactRecord, HeapDump, DumpEnd, Skipped}
+use Rattle.hprof_items.specs.declared.step.Reason.{Reason}
+use Rattle.hprof_items.specs.declared.step.Reason.TheVariants.{Truncated}
+use Rattle.hprof_items.specs.declared.step.Step.{Step}
+use Rattle.hprof_items.specs.declared.step.Step.TheVariants.{Whole, Short, TooLong, Fault}
+use Rattle.hprof_items.specs.FactValue.{FactValue}
+use Rattle.hprof_items.specs.Head.{kind_of, is_fact_tag, is_dump_tag, is_end_tag}
+use Rattle.hprof_items.specs.Reading.{head_at, is_too_long, body_at}
+use Rattle.hprof_items.proofs.Limits.{head_same_or_long, head_taken}
+use Rattle.hprof_items.proofs.Steps.{long_enough, whole_parts, short_is_not_whole, too_long_is_not_whole, fault_is_not_whole}
+use Rattle.hprof_stream.specs.declared.part_fault.PartFault.{PartFault}
+use Rattle.hprof_stream.specs.declared.part_fault.PartFault.TheVariants.{Malformed, ItemTooLong}
+use Rattle.hprof_stream.specs.Part.{Stated, all_bytes}
+use Rattle.hprof_stream.specs.Item.{Place, Start, Between, Found, IsItem, is_header, is_fact, is_dump_end, AreItems, none, more, found_behind, found_record, found_fact, item_at}
+use Rattle.hprof_stream.specs.Fault.{Splits, fault_at, HasNoFault, IsFirstFault}
+use Rattle.hprof_stream.proofs.Items.{item_again}
+use Rattle.hprof_stream.proofs.Faults.{too_long_is_first}
+use Rattle.hprof_tool.specs.Offset.{offset_of}
+
+-- ---- one item
+
+-- the item is the same, or too long for the smaller limit
+pub same_or_long : (less longest : ℕ) (place : Place) (bytes : List ℕ) → less ≤ longest → (item_at less place bytes ≡ item_at longest place bytes) ⊎ (item_at less place bytes ≡ TooLong)
+unfolding item_at
+same_or_long less longest Start bytes le = inl refl
+same_or_long less longest (Between header) bytes le =
+    elim (head_same_or_long header.ids less longest bytes le) [
+      | inl same ↦ inl (ap (λ (s : Step Head). found_behind header s bytes) same)
+      | inr long ↦ inr (ap (λ (s : Step Head). found_behind header s bytes) long)
+    ]
+
+-- a fact that is found takes the bytes that were given
+fact_size : (header : Header) (read : Result FactValue Reason) (m : ℕ) (found : Found) (n : ℕ) → found_fact header read m ≡ Whole found n → m ≡ n
+fact_size header (Ok fact) m found n e = (whole_parts (record { next = Between header; facts = fact ∷ [] }) found m n e).1
+fact_size header (Err reason) m found n e = absurd (fault_is_not_whole reason found n e)
+
+-- a record with a fact that is not too long
+fact_within : (fact : Bool) (less len : ℕ) → fact ≡ true → (fact && ltb less len) ≡ false → len ≤ less
+fact_within true less len e h = ltb-false less len h
+fact_within false less len e h = absurd cc
+
+-- of the kinds of records the first is for facts
+first_kind : (a b c : Bool) → cond a FactRecord (cond b HeapDump (cond c DumpEnd Skipped)) ≡ FactRecord → a ≡ true
+first_kind true b c e = refl
+first_kind false true c e = absurd cc
+first_kind false false true e = absurd cc
+first_kind false false false e = absurd cc
+
+-- no facts are not one
+none_is_one : (fact : FactValue) → ◌≡◌ {A = List FactValue} [] (fact ∷ []) → ⊥
+none_is_one fact e = cc
+
+-- what states nothing states no fact
+states_none : (header : Header) (fact : FactValue) (next : Place) (m n : ℕ) → ◌≡◌ {A = Step Found} (Whole (record { next = Between header; facts = [] }) m) (Whole (record { next = next; facts = fact ∷ [] }) n) → ⊥
+states_none header fact next m n e =
+    let same = whole_parts (record { next = Between header; facts = [] }) (record { next = next; facts = fact ∷ [] }) m n e in
+    none_is_one fact (ap (λ (f : Found). f.facts) same.0)
+
+-- a whole record with a fact is no longer than the longest item
+record_within : (less : ℕ) (header : Header) (kind : HeadKind) (head : Head) (bytes : List ℕ) (fact : FactValue) (next : Place) (n : ℕ) → kind_of head.tag ≡ kind → is_too_long less head ≡ false
+    → found_record header kind head bytes ≡ Whole (record { next = next; facts = fact ∷ [] }) n → n ≤ 9 + less
+record_within less header FactRecord head bytes fact next n kind taken e =
+    let long = long_enough (length bytes) (9 + head.length) (found_fact header (body_at header.ids head.tag (take head.length (drop 9 bytes))) (9 + head.length)) (record { next = next; facts = fact ∷ [] }) n e in
+    let size = fact_size header (body_at header.ids head.tag (take head.length (drop 9 bytes))) (9 + head.length) (record { next = next; facts = fact ∷ [] }) n long.1 in
+    let within = fact_within (is_fact_tag head.tag) less head.length (first_kind (is_fact_tag head.tag) (is_dump_tag head.tag) (is_end_tag head.tag) kind) taken in
+    omega (arith, size, within)
+record_within less header HeapDump head bytes fact next n kind taken e = absurd (states_none header fact next 9 n e)
+record_within less header DumpEnd head bytes fact next n kind taken e = absurd (states_none header fact next 9 n e)
+record_within less header Skipped head bytes fact next n kind taken e = absurd (states_none header fact next 9 n e)
+
+-- the same of what is found behind the header
+behind_within : (less : ℕ) (header : Header) (step : Step Head) (bytes : List ℕ) (fact : FactValue) (next : Place) (n : ℕ) → head_at header.ids less bytes ≡ step
+    → found_behind header step bytes ≡ Whole (record { next = next; facts = fact ∷ [] }) n → n ≤ 9 + less
+behind_within less header (Whole head m) bytes fact next n is e =
+    record_within less header (kind_of head.tag) head bytes fact next n refl (head_taken header.ids less bytes head m is) e
+behind_within less header Short bytes fact next n is e = absurd (short_is_not_whole _ n e)
+behind_within less header TooLong bytes fact next n is e = absurd (too_long_is_not_whole _ n e)
+behind_within less header (Fault reason) bytes fact next n is e = absurd (fault_is_not_whole reason _ n e)
+
+item_within : (less : ℕ) (header : Header) (bytes : List ℕ) (fact : FactValue) (next : Place) (n : ℕ) → item_at less (Between header) bytes ≡ Whole (record { next = next; facts = fact ∷ [] }) n → n ≤ 9 + less
+unfolding item_at
+item_within less header bytes fact next n e = behind_within less header (head_at header.ids less bytes) bytes fact next n refl e
+
+-- ---- items
+
+-- an item is one for the smaller limit too, or too long for it, whatever follows
+item_or_long : (less longest : ℕ) (from to : Place) (one : Stated) → less ≤ longest → IsItem longest from one to
+    → IsItem less from one to ⊎ ((extra : List ℕ) → item_at less from (one.bytes ++ extra) ≡ TooLong)
+item_or_long less longest from to one le (is_header fits spelled facts) = inl (is_header fits spelled facts)
+item_or_long less longest from to one le (is_dump_end is facts) = inl (is_dump_end is facts)
+item_or_long less longest from to one le (is_fact {header = header} {fact = fact} is short facts) =
+    elim (cases_lt (9 + less) (length one.bytes)) [
+      | inl above ↦ inr (λ extra. elim (same_or_long less longest (Between header) (one.bytes ++ extra) le) [
+        | inr long ↦ long
+        | inl same ↦
+            let found = same ∙ item_again longest (Between header) (Between header) one extra (is_fact is short facts) in
+            let stated : item_at less (Between header) (one.bytes ++ extra) ≡ Whole (record { next = Between header; facts = fact ∷ [] }) (length one.bytes) =
+            found ∙ ap (λ (f : List FactValue). Whole (record { next = Between header; facts = f }) (length one.bytes)) facts in
+            let within = item_within less header (one.bytes ++ extra) fact (Between header) (length one.bytes) stated in
+            absurd (omega (arith, within, above))
+      ])
+      | inr within ↦ inl (is_fact is within facts)
+    ]
+
+-- items of which one is too long for the smaller limit, and those before it are not
+pub record IsCut (less : ℕ) (from : Place) (items : List Stated) : Type 0 where
+  pub front : List Stated
+  pub behind : List ℕ
+  pub place : Place
+  pub each : AreItems less from front place
+  pub parts : all_bytes items ≡ all_bytes front ++ behind
+  pub long : (extra : List ℕ) → item_at less place (behind ++ extra) ≡ TooLong
+
+items_or_cut : (less longest : ℕ) (from to : Place) (items : List Stated) → less ≤ longest → AreItems longest from items to → AreItems less from items to ⊎ IsCut less from items
+items_or_cut less longest from to items le none = inl none
+items_or_cut less longest from to items le (more {mid = mid} {one = one} {items = others} first next) =
+    elim (item_or_long less longest from mid one le first) [
+      | inr long ↦ inr (record {
+        front = [];
+        behind = all_bytes (one ∷ others);
+        place = from;
+        each = none;
+        parts = refl;
+        long = λ extra. ap (item_at less from) (append_assoc one.bytes (all_bytes others) extra) ∙ long (all_bytes others ++ extra);
+      })
+      | inl item ↦ elim (items_or_cut less longest mid to others le next) [
+        | inl items_too ↦ inl (more item items_too)
+        | inr cut ↦ inr (record {
+          front = one ∷ cut.front;
+          behind = cut.behind;
+          place = cut.place;
+          each = more item cut.each;
+          parts = ap (λ (b : List ℕ). one.bytes ++ b) cut.parts ∙ sym (append_assoc one.bytes (all_bytes cut.front) cut.behind);
+          long = cut.long;
+        })
+      ]
+    ]
+
+-- where items are cut, the first fault is that one is too long, no later than they end
+cut_is_first : (less : ℕ) (bytes : List ℕ) (items : List Stated) (rest : List ℕ) → bytes ≡ all_bytes items ++ rest → IsCut less Start items
+    → (at : ℕ) × (at ≤ length (all_bytes items)) × IsFirstFault less bytes (ItemTooLong at)
+cut_is_first less bytes items rest e cut = (
+  length (all_bytes cut.front),
+  omega (arith, ap length cut.parts, length-append (all_bytes cut.front) cut.behind),
+  too_long_is_first less bytes cut.front cut.place (cut.behind ++ rest)
+      (record { each = cut.each; parts = e ∙ ap (λ (b : List ℕ). b ++ rest) cut.parts ∙ append_assoc (all_bytes cut.front) cut.behind rest })
+      (cut.long rest),
+)
+
+-- ---- the law
+
+pub smaller_sound : (less longest : ℕ) (bytes : List ℕ) → less ≤ longest → HasNoFault longest bytes → HasNoFault less bytes ⊎ ((at : ℕ) × IsFirstFault less bytes (ItemTooLong at))
+smaller_sound less longest bytes le sound =
+    elim (items_or_cut less longest Start sound.place sound.items le sound.splits.each) [
+      | inl each ↦ inl (record { items = sound.items; place = sound.place; splits = record { each = each; parts = sound.splits.parts }; at_end = sound.at_end })
+      | inr cut ↦ let first = cut_is_first less bytes sound.items [] sound.splits.parts cut in inr (first.0, first.2)
+    ]
+
+-- the offset of the fault of a test
+offset_at : (offset : ℕ) (step : Step Found) (fault : PartFault) → fault_at offset step ≡ Some fault → offset_of fault ≡ offset
+offset_at offset (Whole found n) fault e = absurd cc
+offset_at offset Short fault e = let same : Malformed offset Truncated ≡ fault = cc in ap offset_of (sym same)
+offset_at offset TooLong fault e = let same : ItemTooLong offset ≡ fault = cc in ap offset_of (sym same)
+offset_at offset (Fault reason) fault e = let same : Malformed offset reason ≡ fault = cc in ap offset_of (sym same)
+
+pub smaller_faulty : (less longest : ℕ) (bytes : List ℕ) (fault : PartFault) → less ≤ longest → IsFirstFault longest bytes fault
+    → IsFirstFault less bytes fault ⊎ ((at : ℕ) × (at ≤ offset_of fault) × IsFirstFault less bytes (ItemTooLong at))
+smaller_faulty less longest bytes fault le first =
+    let offset = offset_at (length (all_bytes first.items)) (item_at longest first.place first.rest) fault first.fails in
+    elim (items_or_cut less longest Start first.place first.items le first.splits.each) [
+      | inr cut ↦ let long = cut_is_first less bytes first.items first.rest first.splits.parts cut in inr (long.0, omega (arith, long.1, offset), long.2)
+      | inl each ↦
+          let splits : Splits less bytes first.items first.place first.rest = record { each = each; parts = first.splits.parts } in
+          elim (same_or_long less longest first.place first.rest le) [
+            | inl same ↦ inl (record { items = first.items; place = first.place; rest = first.rest; splits = splits; undone = first.undone; fails = ap (fault_at (length (all_bytes first.items))) same ∙ first.fails })
+            | inr long ↦ inr (length (all_bytes first.items), omega (arith, offset), too_long_is_first less bytes first.items first.place first.rest splits long)
+          ]
+    ]

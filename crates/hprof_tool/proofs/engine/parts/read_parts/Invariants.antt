@@ -1,0 +1,12 @@
+use Rattle.std.proofs.Common.{◌≡◌, ℕ, false, ◌<◌, ◌≤◌, length, get_or}
+use Rattle.hprof_heap.specs.Gathering.{gathered}
+use Rattle.hprof_tool.specs.Joining.{GathersFirst}
+use Rattle.hprof_tool.proofs.engine.parts.read_parts.Given as goal
+
+-- the readers so far gave their parts to the gatherer, which is sound, and the others stand as they stood
+abbrev pub invariant-loop-index : goal.invariant-loop-index
+invariant-loop-index g l = record {
+  unread : (k : ℕ) (d : _) → l.index ≤ k → k < length l.fn.readers → get_or l.readers k d ≡ get_or l.fn.readers k d;
+  first : GathersFirst g.R.Source.left l.fn.limits l.fn.readers l.index (gathered l.fn.gatherer) (gathered l.gatherer);
+  sound : (gathered l.gatherer).failed ≡ false;
+}

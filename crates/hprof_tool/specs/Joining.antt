@@ -1,0 +1,173 @@
+-- What joining parts answers, and what it writes.
+use Rattle.std.specs.Prelude.{◌≡◌, ℕ, ◌+◌, ◌-◌, ◌<◌, ◌≤◌, ◌^◌, min, Bool, true, false, List, [], ◌∷◌, ◌++◌, length, take, map, Option, Some, None, Result, Ok, Err, ⊤, slice_get}
+use Rattle.std.specs.List.{AllByRecursion}
+use Rattle.std.specs.Io.KnownBytes.{Appends}
+use Rattle.hprof_items.specs.declared.health.Health.{Health}
+use Rattle.hprof_items.specs.declared.health.Health.TheVariants as healths
+use Rattle.hprof_items.specs.declared.ids.IdSize.{IdSize}
+use Rattle.hprof_items.specs.FactValue.{FactValue}
+use Rattle.hprof_stream.specs.declared.limits.Limits.{Limits}
+use Rattle.hprof_stream.specs.declared.part_fault.PartFault.{PartFault}
+use Rattle.hprof_stream.specs.declared.part_fault.PartFault.TheVariants as faults
+use Rattle.hprof_stream.specs.declared.sink.SinkFault.TheVariants as sinks
+use Rattle.hprof_stream.specs.Part.{IsPart}
+use Rattle.hprof_stream.specs.Fault.{HasNoFault, IsFirstFault, HasNoSettledFault, is_lasting}
+use Rattle.hprof_heap.specs.declared.key.Key.{Key}
+use Rattle.hprof_heap.specs.Conflict.{IsConsistent, IsLeastConflict}
+use Rattle.hprof_heap.specs.Dump.{canonical_dump}
+use Rattle.hprof_heap.specs.Order.{IsCanonicalOrder}
+use Rattle.hprof_heap.specs.Gathering.{Gathered, Given, Gathers}
+use Rattle.hprof_heap.specs.State.{IsState}
+use Rattle.hprof_tool.specs.declared.tool_fault.ToolFault.{ToolFault}
+use Rattle.hprof_tool.specs.declared.tool_fault.ToolFault.TheVariants as tool
+use Rattle.hprof_tool.specs.declared.joined.Joined.{Joined}
+
+-- the readers tell these parts, and no more
+abbrev pub Tell : {R : Type 0} → (R → Option (List ℕ)) → List R → List (List ℕ) → Type 0
+Tell left readers parts = map left readers ≡ map Some parts
+
+-- the facts that the parts state agree, and these are they, in canonical order, with the size and the earliest time
+pub record Agree (parts : List (List ℕ)) (ids : IdSize) (millis : ℕ) (rows : List FactValue) : Type 0 where
+  pub state : IsState parts ids millis rows
+  pub consistent : IsConsistent rows
+  pub ordered : IsCanonicalOrder rows
+
+-- the parts were joined: what they state was written, and how many parts and facts there are
+pub record Joins (parts : List (List ℕ)) (old new : Option (List ℕ)) (joined : Joined) : Type 0 where
+  pub ids : IdSize
+  pub millis : ℕ
+  pub rows : List FactValue
+  pub agree : Agree parts ids millis rows
+  pub written : Appends old new (canonical_dump ids millis rows)
+  pub parts_count : joined.parts ≡ length parts
+  pub facts_count : joined.facts ≡ length rows
+
+-- writing stopped: the parts agree, and a front of their dump was written
+pub record StopsWriting (parts : List (List ℕ)) (old new : Option (List ℕ)) : Type 0 where
+  pub ids : IdSize
+  pub millis : ℕ
+  pub rows : List FactValue
+  pub agree : Agree parts ids millis rows
+  pub count : ℕ
+  pub written : Appends old new (take count (canonical_dump ids millis rows))
+
+-- the parts do not agree, and this is the least key with two contents
+pub record Disagree (parts : List (List ℕ)) (key : Key) : Type 0 where
+  pub ids : IdSize
+  pub millis : ℕ
+  pub facts : List FactValue
+  pub state : IsState parts ids millis facts
+  pub least : IsLeastConflict facts key
+
+-- a front of the bytes was judged, and no fault is settled in it
+pub record IsJudged (longest : ℕ) (bytes : List ℕ) : Type 0 where
+  pub front : List ℕ
+  pub back : List ℕ
+  pub parts : bytes ≡ front ++ back
+  pub unsettled : HasNoSettledFault longest front
+
+-- with which fault reading refuses a part of these bytes
+--   health: the reader's, afterwards;  spent: it was pulled as often as it may be, or as can be counted
+abbrev pub IsPartFault : Limits → List ℕ → Health → Type 0 → PartFault → Type 0
+IsPartFault limits bytes health spent (faults.Malformed at reason) =
+    IsFirstFault limits.max_item bytes (faults.Malformed at reason) × (is_lasting reason ≡ false → length bytes ≤ limits.max_bytes)
+IsPartFault limits bytes health spent (faults.ItemTooLong at) = IsFirstFault limits.max_item bytes (faults.ItemTooLong at)
+IsPartFault limits bytes health spent faults.BytesExceeded =
+    (limits.max_bytes < length bytes) × HasNoSettledFault limits.max_item (take limits.max_bytes bytes)
+IsPartFault limits bytes health spent faults.Read = (health ≡ healths.Failed) × IsJudged limits.max_item bytes
+IsPartFault limits bytes health spent faults.ReadsExceeded = spent × IsJudged limits.max_item bytes
+IsPartFault limits bytes health spent faults.OutOfMemory = ⊤
+IsPartFault limits bytes health spent (faults.Sink sinks.OutOfMemory) = ⊤
+IsPartFault limits bytes health spent (faults.Sink sinks.Failed) = ⊥
+IsPartFault limits bytes health spent faults.Failed = ⊥
+
+-- the pulls of a reader, which a u64 can count, rose by so many, or stand at the greatest number
+abbrev pub AreSpent : ℕ → ℕ → ℕ → Type 0
+AreSpent old new most = old < 2 ^ 64 → new ≡ min (old + most) (2 ^ 64 - 1)
+
+module _ {R : Type 0} (left : R → Option (List ℕ)) (health : R → Health) (pulls : R → ℕ) where
+  -- the part at that place was refused with the fault; all parts before it were read without one
+  pub record RefusesPart (limits : Limits) (parts : List (List ℕ)) (old new : List R) (index : ℕ) (fault : PartFault) : Type 0 where
+    pub before : List (List ℕ)
+    pub bytes : List ℕ
+    pub after : List (List ℕ)
+    pub in_order : parts ≡ before ++ bytes ∷ after
+    pub place : length before ≡ index
+    pub accepted : AllByRecursion (HasNoFault limits.max_item) before
+    pub was : R
+    pub is : R
+    pub was_there : slice_get old index ≡ Some was
+    pub is_there : slice_get new index ≡ Some is
+    pub refused : IsPartFault limits bytes (health is) (AreSpent (pulls was) (pulls is) limits.max_reads) fault
+
+-- ---- reading all parts
+
+-- what a reader had to tell, if it told, is a part with no fault that states what was given
+abbrev pub IsGiven : Limits → Option (List ℕ) → Given → Type 0
+IsGiven limits None part = ⊤
+IsGiven limits (Some bytes) part =
+    HasNoFault limits.max_item bytes × IsPart bytes part.header.ids part.header.millis part.facts
+
+abbrev pub AreGiven : Limits → List (Option (List ℕ)) → List Given → Type 0
+AreGiven limits [] [] = ⊤
+AreGiven limits (left ∷ lefts) (part ∷ parts) = IsGiven limits left part × AreGiven limits lefts parts
+AreGiven limits [] (part ∷ parts) = ⊥
+AreGiven limits (left ∷ lefts) [] = ⊥
+
+abbrev pub IsFaultIfTold : Limits → Option (List ℕ) → Health → Type 0 → PartFault → Type 0
+IsFaultIfTold limits None health spent fault = ⊤
+IsFaultIfTold limits (Some bytes) health spent fault = IsPartFault limits bytes health spent fault
+
+module _ {R : Type 0} (left : R → Option (List ℕ)) where
+  -- so many readers were read to their ends, and the gatherer was given their parts
+  pub record GathersFirst (limits : Limits) (old : List R) (count : ℕ) (from to : Gathered) : Type 0 where
+    pub given : List Given
+    pub of_readers : AreGiven limits (map left (take count old)) given
+    pub gathers : Gathers from given to
+
+module _ {R : Type 0} (left : R → Option (List ℕ)) (health : R → Health) (pulls : R → ℕ) where
+  -- the reader at that place was refused, and those before it were not
+  pub record RefusesReader (limits : Limits) (old new : List R) (index : ℕ) (fault : PartFault) (from : Gathered) : Type 0 where
+    pub mid : Gathered
+    pub before : GathersFirst left limits old index from mid
+    pub was : R
+    pub is : R
+    pub was_there : slice_get old index ≡ Some was
+    pub is_there : slice_get new index ≡ Some is
+    pub refused : IsFaultIfTold limits (left was) (health is) (AreSpent (pulls was) (pulls is) limits.max_reads) fault
+
+  -- all readers were read to their ends, or one was refused
+  abbrev pub ReadsAll : Limits → List R → Gathered → Result (Unit {0}) ToolFault → List R → Gathered → Type 0
+  ReadsAll limits old from (Ok done) new to = GathersFirst left limits old (length old) from to
+  ReadsAll limits old from (Err (tool.Part index fault)) new to = RefusesReader limits old new index fault from
+  ReadsAll limits old from (Err other) new to = ⊥
+
+-- ---- no other answer
+
+-- want of memory was answered, or a limit was met
+abbrev pub is_want : PartFault → Bool
+is_want faults.OutOfMemory = true
+is_want (faults.Sink sinks.OutOfMemory) = true
+is_want (faults.ItemTooLong at) = true
+is_want faults.ReadsExceeded = true
+is_want faults.BytesExceeded = true
+is_want (faults.Sink sinks.Failed) = false
+is_want (faults.Malformed at reason) = false
+is_want faults.Failed = false
+is_want faults.Read = false
+
+abbrev pub IsHindered : Result Joined ToolFault → Type 0
+IsHindered (Err (tool.Part index fault)) = is_want fault ≡ true
+IsHindered (Err tool.OutOfMemory) = ⊤
+IsHindered other = ⊥
+
+abbrev pub IsOkOrConflict : Result Joined ToolFault → Type 0
+IsOkOrConflict (Ok joined) = ⊤
+IsOkOrConflict (Err (tool.Conflict key)) = ⊤
+IsOkOrConflict other = ⊥
+
+-- what is refused before anything is written
+abbrev pub IsBeforeWriting : {A : Type 0} → Result A ToolFault → Type 0
+IsBeforeWriting (Ok joined) = ⊥
+IsBeforeWriting (Err (tool.Write fault)) = ⊥
+IsBeforeWriting (Err other) = ⊤

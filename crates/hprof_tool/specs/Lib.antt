@@ -1,0 +1,3 @@
+pub mod Offset
+pub mod Joining
+pub mod Status

@@ -1,0 +1,85 @@
+//! Joining parts.
+
+ghost use Rattle.std.specs.Prelude.{◌≡◌, ◌↔◌, ℕ, List, [], All, IfOk, Err};
+ghost use Rattle.hprof_items.specs.declared.health.Health.TheVariants.{Well};
+ghost use Rattle.hprof_items.specs.declared.health.WriteFault.{WriteFault};
+ghost use Rattle.hprof_items.specs.declared.ids.IdSize.{IdSize};
+ghost use Rattle.hprof_items.specs.Device.{health_after};
+ghost use Rattle.hprof_items.specs.FactValue.{FactValue};
+ghost use Rattle.hprof_stream.specs.declared.part_fault.PartFault.{PartFault};
+ghost use Rattle.hprof_heap.specs.declared.key.Key.{Key};
+ghost use Rattle.hprof_heap.specs.State.{IsState, HaveTwoSizes};
+ghost use Rattle.hprof_tool.specs.Joining.{Tell, Joins, StopsWriting, Disagree, RefusesPart, IsHindered, IsOkOrConflict, IsBeforeWriting};
+
+use crate::engine::parts::read_parts;
+use crate::joined::Joined;
+use crate::tool_fault::ToolFault;
+use hprof_heap::{Gatherer, Refusal, write_canonical};
+use hprof_items::{Source, Target};
+use hprof_stream::Limits;
+use std::alloc::Global;
+
+/// Reads all parts, and writes the canonical dump of the facts that they state.
+///
+/// Every order, repetition and re-cutting of parts that state the same facts gives the same bytes, and the dump reads
+/// back to them. Where one key has two contents, every order is refused at the least such key.
+pub fn join_to<R: Source, W: Target>(
+    alloc: Global,
+    readers: &mut [R],
+    target: &mut W,
+    limits: Limits,
+) -> Result<Joined, ToolFault>
+    requires readers { All (λ reader. R.health reader ≡ Well) readers.old }
+    requires writer { W.health target.old ≡ Well }
+
+    // What Ok means: the dump of what the parts state was written.
+    ensures ok { IfOk result (λ joined. (parts : List (List ℕ)) → Tell R.left readers.old parts
+        → Joins parts (W.written target.old) (W.written target.new) joined) }
+
+    // What Conflict means: the parts have one size, and this is the least key with two contents.
+    ensures conflict { (key : Key) → result ≡ Err (ToolFault.Conflict key)
+        → (parts : List (List ℕ)) → Tell R.left readers.old parts → Disagree parts key }
+
+    // Refusals before writing.
+    ensures no_parts { (result ≡ Err ToolFault.NoParts) ↔ (readers.old ≡ []) }
+    ensures id_sizes { result ≡ Err ToolFault.IdSizes
+        → (parts : List (List ℕ)) → Tell R.left readers.old parts → HaveTwoSizes parts }
+    ensures part { (index : ℕ) (fault : PartFault) → result ≡ Err (ToolFault.Part index fault)
+        → (parts : List (List ℕ)) → Tell R.left readers.old parts
+        → RefusesPart R.left R.health R.pulls limits parts readers.old readers.new index fault }
+    ensures unwritten { IsBeforeWriting result → target.new ≡ target.old }
+
+    // Refusals while writing: the writer failed or stuck, and a front of the dump was written.
+    ensures write { (fault : WriteFault) → result ≡ Err (ToolFault.Write fault)
+        → (W.health target.new ≡ health_after fault) × ((parts : List (List ℕ)) → Tell R.left readers.old parts
+        → StopsWriting parts (W.written target.old) (W.written target.new)) }
+
+    // No other answer where the parts state something together, readers and writer stay well, no want of memory was
+    // answered and no limit was met.
+    ensures no_memory { result ≡ Err ToolFault.OutOfMemory → ⊥ }
+    ensures no_other { (parts : List (List ℕ)) (ids : IdSize) (millis : ℕ) (facts : List FactValue)
+        → Tell R.left readers.old parts → IsState parts ids millis facts
+        → All (λ reader. R.health reader ≡ Well) readers.new → W.health target.new ≡ Well
+        → (IsHindered result → ⊥) → IsOkOrConflict result }
+{
+    let mut gatherer = Gatherer::new(alloc);
+    if let Err(fault) = read_parts(alloc, readers, limits, &mut gatherer) {
+        return Err(fault);
+    }
+    let heap = match gatherer.finish() {
+        Ok(heap) => heap,
+        Err(Refusal::NoParts) => return Err(ToolFault::NoParts),
+        Err(Refusal::IdSizes) => return Err(ToolFault::IdSizes),
+        Err(Refusal::Conflict(key)) => return Err(ToolFault::Conflict(key)),
+        // All parts were read, so the gatherer answered no fault.
+        Err(Refusal::Failed) => unreachable!(),
+    };
+    let facts = heap.count();
+    match write_canonical(&heap, target) {
+        Ok(()) => Ok(Joined {
+            parts: readers.len(),
+            facts,
+        }),
+        Err(fault) => Err(ToolFault::Write(fault)),
+    }
+}

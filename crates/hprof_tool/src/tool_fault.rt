@@ -1,0 +1,64 @@
+//! Why an engine refused.
+
+use hprof_heap::Key;
+use hprof_items::WriteFault;
+use hprof_stream::PartFault;
+use hprof_text::push_id;
+use std::alloc::{AllocError, Global};
+
+/// Why an engine refused its parts. The first part in order that is at fault comes first, then no parts, then two
+/// sizes of identifiers, then a conflict, then the writer.
+#[derive(Clone, Copy, Debug, PartialEq, Eq)]
+pub enum ToolFault {
+    /// A part was refused.
+    Part {
+        /// Which part, counted from 0.
+        index: usize,
+        /// Why.
+        fault: PartFault,
+    },
+    /// There are no parts.
+    NoParts,
+    /// Two parts have different sizes of identifiers.
+    IdSizes,
+    /// Two facts have one key and different contents. It is the least such key.
+    Conflict(Key),
+    /// The writer failed or stuck.
+    Write(WriteFault),
+    /// Memory was refused, but to the reading of a part.
+    OutOfMemory,
+}
+
+impl ToolFault {
+    /// Its text, in one line. The error is that there is no memory for the text.
+    pub fn text(&self, alloc: Global) -> Result<String, AllocError> {
+        match *self {
+            ToolFault::Part { index, fault } => format!(in alloc; "part {index}: {fault}"),
+            ToolFault::NoParts => String::from_str(alloc, "no parts"),
+            ToolFault::IdSizes => String::from_str(alloc, "identifier sizes differ"),
+            ToolFault::Conflict(key) => conflict_text(alloc, key),
+            ToolFault::Write(_) => String::from_str(alloc, "write failed"),
+            ToolFault::OutOfMemory => String::from_str(alloc, "out of memory"),
+        }
+    }
+}
+
+/// The text of a conflict: identifiers in hexadecimal, serials in decimal.
+fn conflict_text(alloc: Global, key: Key) -> Result<String, AllocError> {
+    match key {
+        Key::Name(id) => text_of_id(alloc, "name", id),
+        Key::Load(serial) => format!(in alloc; "conflict at load {serial}"),
+        Key::Frame(id) => text_of_id(alloc, "frame", id),
+        Key::Trace(serial) => format!(in alloc; "conflict at trace {serial}"),
+        Key::Thread(serial) => format!(in alloc; "conflict at thread {serial}"),
+        Key::Class(id) => text_of_id(alloc, "class", id),
+        Key::Object(id) => text_of_id(alloc, "object", id),
+    }
+}
+
+/// The text of a conflict at an identifier.
+fn text_of_id(alloc: Global, word: &str, id: u64) -> Result<String, AllocError> {
+    let mut text = format!(in alloc; "conflict at {word} ")?;
+    push_id(&mut text, id)?;
+    Ok(text)
+}
