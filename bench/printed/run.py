@@ -2,7 +2,7 @@
 """Times `hprof_text::printed` on 100 MB of usual class names beside a plain Rust program.
 
 Needs `rt` and `rustc` on the path. It copies the crate into a repository of its own in a temporary
-folder, where `rt` proves and builds `main.rt` over it, and changes nothing here. Each program says how
+folder, where `rt` proves and builds `main.rt.in` over it, and changes nothing here. Each program says how
 long each of its rounds took, and the best round counts. The status is 0 where both print the same
 number of bytes and the crate takes at most twice as long as plain Rust.
 """
@@ -54,7 +54,7 @@ def build_rattle(folder):
     shutil.copytree(ROOT / "crates" / "hprof_text", crates / "hprof_text", ignore=shutil.ignore_patterns("out"))
     program = crates / "printed_bench"
     (program / "src").mkdir(parents=True)
-    shutil.copy(HERE / "main.rt", program / "src" / "main.rt")
+    shutil.copy(HERE / "main.rt.in", program / "src" / "main.rt")
     (folder / "crates.txt").write_text("hprof_text: hex\nprinted_bench: hprof_text\n")
     built = subprocess.run(["rt", "run", "--jobs", "2"], cwd=program, capture_output=True, text=True)
     if built.returncode != 0:
