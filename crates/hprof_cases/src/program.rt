@@ -108,6 +108,9 @@ fn joins_files_to_a_new_file(rt: HostRuntime) -> Result<(), Fail> {
     let text = b"hprof: cannot create the output\n".as_slice();
     assert_eq!(rt; second.errors.as_slice(), text);
     assert_eq!(rt; fs::read(&rt, out.as_str())?.as_slice(), dump.as_slice());
+    for path in [&out, &one, &two] {
+        fs::remove_file(&rt, path.as_str())?;
+    }
     Ok(())
 }
 
@@ -124,6 +127,7 @@ fn refused_part_leaves_no_file(rt: HostRuntime) -> Result<(), Fail> {
     let text = b"hprof: part 0: malformed at 31: Unsupported\n".as_slice();
     assert_eq!(rt; ran.errors.as_slice(), text);
     assert!(rt; fs::read(&rt, out.as_str()).is_err());
+    fs::remove_file(&rt, part.as_str())?;
     Ok(())
 }
 
