@@ -48,13 +48,17 @@ impl Refused {
 }
 
 impl From<AllocError> for Refused {
-    fn from(_error: AllocError) -> Refused {
+    fn from(_error: AllocError) -> Refused
+        ensures { result ≡ Refused.OutOfMemory }
+    {
         Refused::OutOfMemory
     }
 }
 
 impl<T: Drop> From<AllocFailed<T>> for Refused {
-    fn from(_error: AllocFailed<T>) -> Refused {
+    fn from(_error: AllocFailed<T>) -> Refused
+        ensures { result ≡ Refused.OutOfMemory }
+    {
         Refused::OutOfMemory
     }
 }
