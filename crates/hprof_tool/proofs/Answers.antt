@@ -2,7 +2,7 @@
 use Rattle.std.proofs.Common.{◌≡◌, inl, inr, ℕ, suc, ◌≤◌, true, List, [], ◌∷◌, ◌++◌, length, take, map, Option, Some, Result, Ok, Err, refl, sym, ap, subst, ◌∙◌}
 use Rattle.std.specs.Prelude.{slice_get}
 use Rattle.std.specs.List.{All, AllByRecursion}
-use Rattle.std.specs.Io.KnownBytes.{Appends}
+use Rattle.std.specs.Io.KnownBytes.{Appends, Consumes}
 use Rattle.std.proofs.Math.Seq.{take-length}
 use Rattle.std.proofs.lemmas.Option.{get_or_from_slice_get, slice_get_within}
 use Rattle.hprof_items.specs.declared.health.Health.{Health}
@@ -31,7 +31,8 @@ use Rattle.hprof_heap.proofs.Order.{order_agrees}
 use Rattle.hprof_tool.specs.declared.joined.Joined.{Joined}
 use Rattle.hprof_tool.specs.declared.tool_fault.ToolFault.{ToolFault}
 use Rattle.hprof_tool.specs.declared.tool_fault.ToolFault.TheVariants as tool
-use Rattle.hprof_tool.specs.Joining.{Tell, Agree, Joins, Disagree, AreSpent, IsPartFault, IsFaultIfTold, RefusesPart, AreGiven, RefusesReader, ReadsAll, is_want, IsHindered, IsOkOrConflict}
+use Rattle.hprof_tool.specs.Joining.{Tell, Agree, Joins, Disagree, AreSpent, IsPartFault, IsOfPart, IsAccepted, RefusesPart, AreGiven, RefusesReader, ReadsAll, is_want, IsHindered, IsOkOrConflict}
+use Rattle.hprof_tool.proofs.PartFaults.{of_part}
 use Rattle.hprof_tool.proofs.Parts.{part_sound}
 use Rattle.hprof_tool.proofs.Smaller.{smaller_sound}
 use Rattle.hprof_tool.proofs.Stated.{all_told, given_state, given_sizes, given_sound, least_of, sizes_once, placed}
@@ -94,17 +95,17 @@ never_malformed limits bytes ids millis facts at reason le part first =
     ]
 
 -- with what a part is not refused where its reader is well, no limit was met and memory was there
-unexpected : (limits : Limits) (bytes : List ℕ) (ids : IdSize) (millis : ℕ) (facts : List FactValue) (health : Health) (spent : Type 0) (fault : PartFault) → limits.max_item ≤ longest_body
-    → IsPart bytes ids millis facts → IsPartFault limits bytes health spent fault → health ≡ healths.Well → (is_want fault ≡ true → ⊥) → ⊥
-unexpected limits bytes ids millis facts health spent (faults.Malformed at reason) le part is well unhindered = never_malformed limits bytes ids millis facts at reason le part is.0
-unexpected limits bytes ids millis facts health spent (faults.ItemTooLong at) le part is well unhindered = unhindered refl
-unexpected limits bytes ids millis facts health spent faults.BytesExceeded le part is well unhindered = unhindered refl
-unexpected limits bytes ids millis facts health spent faults.Read le part is well unhindered = let no : healths.Failed ≡ healths.Well = sym is.0 ∙ well in cc
-unexpected limits bytes ids millis facts health spent faults.ReadsExceeded le part is well unhindered = unhindered refl
-unexpected limits bytes ids millis facts health spent faults.OutOfMemory le part is well unhindered = unhindered refl
-unexpected limits bytes ids millis facts health spent (faults.Sink sinks.OutOfMemory) le part is well unhindered = unhindered refl
-unexpected limits bytes ids millis facts health spent (faults.Sink sinks.Failed) le part is well unhindered = is
-unexpected limits bytes ids millis facts health spent faults.Failed le part is well unhindered = is
+unexpected : (limits : Limits) (bytes came : List ℕ) (left : Option (List ℕ)) (ids : IdSize) (millis : ℕ) (facts : List FactValue) (health : Health) (spent : Type 0) (fault : PartFault) → limits.max_item ≤ longest_body
+    → IsPart bytes ids millis facts → IsOfPart limits.max_item bytes fault → IsPartFault limits came left health spent fault → health ≡ healths.Well → (is_want fault ≡ true → ⊥) → ⊥
+unexpected limits bytes came left ids millis facts health spent (faults.Malformed at reason) le part of_part is well unhindered = never_malformed limits bytes ids millis facts at reason le part of_part
+unexpected limits bytes came left ids millis facts health spent (faults.ItemTooLong at) le part of_part is well unhindered = unhindered refl
+unexpected limits bytes came left ids millis facts health spent faults.BytesExceeded le part of_part is well unhindered = unhindered refl
+unexpected limits bytes came left ids millis facts health spent faults.Read le part of_part is well unhindered = let no : healths.Failed ≡ healths.Well = sym is.0 ∙ well in cc
+unexpected limits bytes came left ids millis facts health spent faults.ReadsExceeded le part of_part is well unhindered = unhindered refl
+unexpected limits bytes came left ids millis facts health spent faults.OutOfMemory le part of_part is well unhindered = unhindered refl
+unexpected limits bytes came left ids millis facts health spent (faults.Sink sinks.OutOfMemory) le part of_part is well unhindered = unhindered refl
+unexpected limits bytes came left ids millis facts health spent (faults.Sink sinks.Failed) le part of_part is well unhindered = is
+unexpected limits bytes came left ids millis facts health spent faults.Failed le part of_part is well unhindered = is
 
 -- parts of one size do not have two
 pub not_two_sizes : (parts : List (List ℕ)) (ids : IdSize) (millis : ℕ) (facts : List FactValue) → IsState parts ids millis facts → HaveTwoSizes parts → ⊥
@@ -168,6 +169,9 @@ module _ {R : Type 0} (left : R → Option (List ℕ)) (limits : Limits) (old : 
           least = tells.2;
         }
 
+    pub all_accepted : AllByRecursion (IsAccepted limits) parts
+    all_accepted = given_sound limits parts given given_by_parts
+
     pub two_sizes : Tells given (Err refusals.IdSizes) → HaveTwoSizes parts
     two_sizes tells = given_sizes limits parts given given_by_parts tells
 
@@ -177,19 +181,18 @@ module _ {R : Type 0} (left : R → Option (List ℕ)) (health : R → Health) (
   pub refuses_part : (limits : Limits) (parts : List (List ℕ)) (old new : List R) (index : ℕ) (fault : PartFault) (from : Gathered) → Tell left old parts
       → RefusesReader left health pulls limits old new index fault from → RefusesPart left health pulls limits parts old new index fault
   refuses_part limits parts old new index fault from told is =
-      let at = placed left old parts index is.was told is.was_there in
+      let place = placed left old parts index is.at.was told is.at.was_there in
       record {
-        before = at.before;
-        bytes = at.bytes;
-        after = at.after;
-        in_order = at.in_order;
-        place = at.place;
-        accepted = given_sound limits at.before is.before.given (subst (λ (ls : List (Option (List ℕ))). AreGiven limits ls is.before.given) at.told_before is.before.of_readers);
-        was = is.was;
-        is = is.is;
-        was_there = is.was_there;
-        is_there = is.is_there;
-        refused = subst (λ (l : Option (List ℕ)). IsFaultIfTold limits l (health is.is) (AreSpent (pulls is.was) (pulls is.is) limits.max_reads) fault) at.told is.refused;
+        before = place.before;
+        bytes = place.bytes;
+        after = place.after;
+        in_order = place.in_order;
+        place = place.place;
+        accepted = given_sound limits place.before is.before.given (subst (λ (ls : List (Option (List ℕ))). AreGiven limits ls is.before.given) place.told_before is.before.of_readers);
+        at = is.at;
+        told = place.told;
+        of_part = of_part limits place.bytes is.at.came (left is.at.is) (health is.at.is) (AreSpent (pulls is.at.was) (pulls is.at.is) limits.max_reads) fault
+            (subst (λ (l : Option (List ℕ)). Consumes l (left is.at.is) is.at.came) place.told is.at.consumed) is.at.refused;
       }
 
   -- a reader among those that are well is well
@@ -202,7 +205,8 @@ module _ {R : Type 0} (left : R → Option (List ℕ)) (health : R → Health) (
       → IsState parts ids millis facts → RefusesPart left health pulls limits parts old new index fault → All (λ reader. health reader ≡ healths.Well) new → (is_want fault ≡ true → ⊥) → ⊥
   never_refused limits parts ids millis facts old new index fault le state is well unhindered =
       let part = part_at state.states is.before is.bytes is.after (state.of_parts ∙ is.in_order) state.each in
-      unexpected limits is.bytes part.0 part.1 part.2 (health is.is) (AreSpent (pulls is.was) (pulls is.is) limits.max_reads) fault le part.3 is.refused (well_at new index is.is well is.is_there) unhindered
+      unexpected limits is.bytes is.at.came (left is.at.is) part.0 part.1 part.2 (health is.at.is) (AreSpent (pulls is.at.was) (pulls is.at.is) limits.max_reads) fault le part.3 is.of_part is.at.refused
+      (well_at new index is.at.is well is.at.is_there) unhindered
 
   -- the fault of an answer is that with which reading ended
   pub part_refused : (limits : Limits) (old new : List R) (index : ℕ) (fault : PartFault) (answer : ToolFault) (from to : Gathered) → ◌≡◌ {A = Result Joined ToolFault} (Err answer) (Err (tool.Part index fault))

@@ -6,11 +6,10 @@ use Rattle.std.specs.Prelude.{slice_get}
 use Rattle.hprof_items.specs.declared.header.Header.{Header}
 use Rattle.hprof_items.specs.FactValue.{FactValue}
 use Rattle.hprof_stream.specs.declared.limits.Limits.{Limits}
-use Rattle.hprof_stream.specs.Fault.{HasNoFault}
 use Rattle.hprof_stream.specs.Part.{IsPart}
 use Rattle.hprof_stream.specs.Run.{Run}
 use Rattle.hprof_heap.specs.Gathering.{Gathered, Given, Begins, Takes}
-use Rattle.hprof_tool.specs.Joining.{IsGiven, AreGiven, GathersFirst}
+use Rattle.hprof_tool.specs.Joining.{IsAccepted, IsGiven, AreGiven, GathersFirst}
 use Rattle.hprof_tool.proofs.Gathered.{Gathers-more}
 
 -- the front with one more
@@ -46,14 +45,22 @@ element_set [] i x lt = absurd (omega arith)
 element_set (y ∷ xs) zero x lt = refl
 element_set (y ∷ xs) (suc i) x lt = element_set xs i x (omega arith)
 
+-- two lists that agree at a place have the same there, or nothing
+pub same_at : {R : Type 0} (xs ys : List R) (k : ℕ) → length xs ≡ length ys → ((d : R) → k < length ys → get_or xs k d ≡ get_or ys k d) → slice_get xs k ≡ slice_get ys k
+same_at [] [] k e same = refl
+same_at [] (y ∷ ys) k e same = absurd cc
+same_at (x ∷ xs) [] k e same = absurd cc
+same_at (x ∷ xs) (y ∷ ys) zero e same = ap Some (same x (omega arith))
+same_at (x ∷ xs) (y ∷ ys) (suc k) e same = (let behind : length xs ≡ length ys = cc in same_at xs ys k behind (λ d below. same d (omega (arith, below))))
+
 -- what a reader told that was read to its end is given
-pub given_if_told : (limits : Limits) (left rest : Option (List ℕ)) (came : List ℕ) (part : Given) → Consumes left rest came → IsAtEnd rest → HasNoFault limits.max_item came
+pub given_if_told : (limits : Limits) (left rest : Option (List ℕ)) (came : List ℕ) (part : Given) → Consumes left rest came → IsAtEnd rest → IsAccepted limits came
     → IsPart came part.header.ids part.header.millis part.facts → IsGiven limits left part
 given_if_told limits None rest came part consumes ends sound is = tt
 given_if_told limits (Some bytes) None came part consumes ends sound is = absurd consumes
 given_if_told limits (Some bytes) (Some rest) came part consumes ends sound is =
     let whole : came ≡ bytes = sym (append-nil came) ∙ ap (λ (r : List ℕ). came ++ r) (sym ends) ∙ sym consumes in
-    (subst (λ (b : List ℕ). HasNoFault limits.max_item b) whole sound, subst (λ (b : List ℕ). IsPart b part.header.ids part.header.millis part.facts) whole is)
+    (subst (λ (b : List ℕ). IsAccepted limits b) whole sound, subst (λ (b : List ℕ). IsPart b part.header.ids part.header.millis part.facts) whole is)
 
 module _ {R : Type 0} (left : R → Option (List ℕ)) where
   -- no reader was read

@@ -5,11 +5,10 @@ use Rattle.std.specs.List.{AllByRecursion, flat_map}
 use Rattle.hprof_items.specs.declared.ids.IdSize.{IdSize}
 use Rattle.hprof_items.specs.FactValue.{FactValue}
 use Rattle.hprof_stream.specs.declared.limits.Limits.{Limits}
-use Rattle.hprof_stream.specs.Fault.{HasNoFault}
 use Rattle.hprof_heap.specs.Facts.{SameFacts}
 use Rattle.hprof_heap.specs.Gathering.{Given, all_given}
 use Rattle.hprof_heap.specs.State.{PartState, StatesIt, IsLeastOf, IsState, HaveTwoSizes}
-use Rattle.hprof_tool.specs.Joining.{AreGiven}
+use Rattle.hprof_tool.specs.Joining.{IsAccepted, AreGiven}
 use Rattle.hprof_tool.proofs.Parts.{states_one}
 
 -- what a part of these bytes states, of which this was given
@@ -86,8 +85,8 @@ module _ (limits : Limits) where
     two = λ ids sizes. two ids (sizes-states ids parts given are sizes);
   }
 
-  -- none of the parts that were given has a fault
-  pub given_sound : (parts : List (List ℕ)) (given : List Given) → AreGiven limits (all_told parts) given → AllByRecursion (HasNoFault limits.max_item) parts
+  -- the parts that were given were read to their ends
+  pub given_sound : (parts : List (List ℕ)) (given : List Given) → AreGiven limits (all_told parts) given → AllByRecursion (IsAccepted limits) parts
   given_sound [] given are = tt
   given_sound (bytes ∷ parts) [] are = absurd are
   given_sound (bytes ∷ parts) (part ∷ given) are = (are.0.0, given_sound parts given are.1)
@@ -139,7 +138,7 @@ placed left (reader ∷ old) (bytes ∷ parts) (suc index) was told there =
       before = bytes ∷ rest.before;
       bytes = rest.bytes;
       after = rest.after;
-      in_order = ap (λ (bs : List (List ℕ)). bytes ∷ bs) rest.in_order;
+      in_order = ap (λ (bs : List (List ℕ)). bytes ∷ bs) {y = rest.before ++ rest.bytes ∷ rest.after} rest.in_order;
       place = ap suc rest.place;
       told = rest.told;
       told_before = ap (λ (l : Option (List ℕ)). l ∷ map left (take index old)) first ∙ ap (λ (ls : List (Option (List ℕ))). Some bytes ∷ ls) rest.told_before;

@@ -1,7 +1,7 @@
 -- What joining parts answers, and what it writes.
 use Rattle.std.specs.Prelude.{◌≡◌, ℕ, ◌+◌, ◌-◌, ◌<◌, ◌≤◌, ◌^◌, min, Bool, true, false, List, [], ◌∷◌, ◌++◌, length, take, map, Option, Some, None, Result, Ok, Err, ⊤, slice_get}
 use Rattle.std.specs.List.{AllByRecursion}
-use Rattle.std.specs.Io.KnownBytes.{Appends}
+use Rattle.std.specs.Io.KnownBytes.{Appends, Consumes, IsAtEnd}
 use Rattle.hprof_items.specs.declared.health.Health.{Health}
 use Rattle.hprof_items.specs.declared.health.Health.TheVariants as healths
 use Rattle.hprof_items.specs.declared.ids.IdSize.{IdSize}
@@ -59,64 +59,76 @@ pub record Disagree (parts : List (List ℕ)) (key : Key) : Type 0 where
   pub state : IsState parts ids millis facts
   pub least : IsLeastConflict facts key
 
--- a front of the bytes was judged, and no fault is settled in it
-pub record IsJudged (longest : ℕ) (bytes : List ℕ) : Type 0 where
-  pub front : List ℕ
-  pub back : List ℕ
-  pub parts : bytes ≡ front ++ back
-  pub unsettled : HasNoSettledFault longest front
+-- a part was read to its end: its bytes are items and no more, and neither they nor one item are over its limit
+abbrev pub IsAccepted : Limits → List ℕ → Type 0
+IsAccepted limits bytes = HasNoFault limits.max_item bytes × (length bytes ≤ limits.max_bytes)
 
--- with which fault reading refuses a part of these bytes
---   health: the reader's, afterwards;  spent: it was pulled as often as it may be, or as can be counted
-abbrev pub IsPartFault : Limits → List ℕ → Health → Type 0 → PartFault → Type 0
-IsPartFault limits bytes health spent (faults.Malformed at reason) =
-    IsFirstFault limits.max_item bytes (faults.Malformed at reason) × (is_lasting reason ≡ false → length bytes ≤ limits.max_bytes)
-IsPartFault limits bytes health spent (faults.ItemTooLong at) = IsFirstFault limits.max_item bytes (faults.ItemTooLong at)
-IsPartFault limits bytes health spent faults.BytesExceeded =
-    (limits.max_bytes < length bytes) × HasNoSettledFault limits.max_item (take limits.max_bytes bytes)
-IsPartFault limits bytes health spent faults.Read = (health ≡ healths.Failed) × IsJudged limits.max_item bytes
-IsPartFault limits bytes health spent faults.ReadsExceeded = spent × IsJudged limits.max_item bytes
-IsPartFault limits bytes health spent faults.OutOfMemory = ⊤
-IsPartFault limits bytes health spent (faults.Sink sinks.OutOfMemory) = ⊤
-IsPartFault limits bytes health spent (faults.Sink sinks.Failed) = ⊥
-IsPartFault limits bytes health spent faults.Failed = ⊥
+-- with which fault a part is refused of which these bytes came, and were judged as far as they may be taken
+--   left, health: of the reader, afterwards;  spent: it was pulled as often as it may be, or as can be counted
+abbrev pub IsPartFault : Limits → List ℕ → Option (List ℕ) → Health → Type 0 → PartFault → Type 0
+IsPartFault limits came left health spent (faults.Malformed at reason) =
+    (health ≡ healths.Well) × IsFirstFault limits.max_item (take limits.max_bytes came) (faults.Malformed at reason)
+    × (is_lasting reason ≡ false → IsAtEnd left × (length came ≤ limits.max_bytes))
+IsPartFault limits came left health spent (faults.ItemTooLong at) =
+    (health ≡ healths.Well) × IsFirstFault limits.max_item (take limits.max_bytes came) (faults.ItemTooLong at)
+IsPartFault limits came left health spent faults.BytesExceeded =
+    (health ≡ healths.Well) × (limits.max_bytes < length came) × HasNoSettledFault limits.max_item (take limits.max_bytes came)
+IsPartFault limits came left health spent faults.Read =
+    (health ≡ healths.Failed) × (length came ≤ limits.max_bytes) × HasNoSettledFault limits.max_item came
+IsPartFault limits came left health spent faults.ReadsExceeded =
+    (health ≡ healths.Well) × spent × (length came ≤ limits.max_bytes) × HasNoSettledFault limits.max_item came
+IsPartFault limits came left health spent faults.OutOfMemory = health ≡ healths.Well
+IsPartFault limits came left health spent (faults.Sink sinks.OutOfMemory) = health ≡ healths.Well
+IsPartFault limits came left health spent (faults.Sink sinks.Failed) = ⊥
+IsPartFault limits came left health spent faults.Failed = ⊥
+
+-- a fault of an item is the first of the whole part
+abbrev pub IsOfPart : ℕ → List ℕ → PartFault → Type 0
+IsOfPart longest bytes (faults.Malformed at reason) = IsFirstFault longest bytes (faults.Malformed at reason)
+IsOfPart longest bytes (faults.ItemTooLong at) = IsFirstFault longest bytes (faults.ItemTooLong at)
+IsOfPart longest bytes other = ⊤
 
 -- the pulls of a reader, which a u64 can count, rose by so many, or stand at the greatest number
 abbrev pub AreSpent : ℕ → ℕ → ℕ → Type 0
 AreSpent old new most = old < 2 ^ 64 → new ≡ min (old + most) (2 ^ 64 - 1)
 
 module _ {R : Type 0} (left : R → Option (List ℕ)) (health : R → Health) (pulls : R → ℕ) where
-  -- the part at that place was refused with the fault; all parts before it were read without one
+  -- the reader at that place had so much left, was read on over these bytes, and was refused with the fault
+  pub record RefusesAt (limits : Limits) (old new : List R) (index : ℕ) (fault : PartFault) : Type 0 where
+    pub was : R
+    pub is : R
+    pub was_there : slice_get old index ≡ Some was
+    pub is_there : slice_get new index ≡ Some is
+    pub came : List ℕ
+    pub consumed : Consumes (left was) (left is) came
+    pub refused : IsPartFault limits came (left is) (health is) (AreSpent (pulls was) (pulls is) limits.max_reads) fault
+    pub unread : (k : ℕ) → index < k → slice_get new k ≡ slice_get old k
+
+  -- the part at that place was refused with the fault; all parts before it were read to their ends
   pub record RefusesPart (limits : Limits) (parts : List (List ℕ)) (old new : List R) (index : ℕ) (fault : PartFault) : Type 0 where
     pub before : List (List ℕ)
     pub bytes : List ℕ
     pub after : List (List ℕ)
     pub in_order : parts ≡ before ++ bytes ∷ after
     pub place : length before ≡ index
-    pub accepted : AllByRecursion (HasNoFault limits.max_item) before
-    pub was : R
-    pub is : R
-    pub was_there : slice_get old index ≡ Some was
-    pub is_there : slice_get new index ≡ Some is
-    pub refused : IsPartFault limits bytes (health is) (AreSpent (pulls was) (pulls is) limits.max_reads) fault
+    pub accepted : AllByRecursion (IsAccepted limits) before
+    pub at : RefusesAt limits old new index fault
+    pub told : left at.was ≡ Some bytes
+    pub of_part : IsOfPart limits.max_item bytes fault
 
 -- ---- reading all parts
 
--- what a reader had to tell, if it told, is a part with no fault that states what was given
+-- what a reader had to tell, if it told, is a part that was read to its end and states what was given
 abbrev pub IsGiven : Limits → Option (List ℕ) → Given → Type 0
 IsGiven limits None part = ⊤
 IsGiven limits (Some bytes) part =
-    HasNoFault limits.max_item bytes × IsPart bytes part.header.ids part.header.millis part.facts
+    IsAccepted limits bytes × IsPart bytes part.header.ids part.header.millis part.facts
 
 abbrev pub AreGiven : Limits → List (Option (List ℕ)) → List Given → Type 0
 AreGiven limits [] [] = ⊤
 AreGiven limits (left ∷ lefts) (part ∷ parts) = IsGiven limits left part × AreGiven limits lefts parts
 AreGiven limits [] (part ∷ parts) = ⊥
 AreGiven limits (left ∷ lefts) [] = ⊥
-
-abbrev pub IsFaultIfTold : Limits → Option (List ℕ) → Health → Type 0 → PartFault → Type 0
-IsFaultIfTold limits None health spent fault = ⊤
-IsFaultIfTold limits (Some bytes) health spent fault = IsPartFault limits bytes health spent fault
 
 module _ {R : Type 0} (left : R → Option (List ℕ)) where
   -- so many readers were read to their ends, and the gatherer was given their parts
@@ -130,17 +142,18 @@ module _ {R : Type 0} (left : R → Option (List ℕ)) (health : R → Health) (
   pub record RefusesReader (limits : Limits) (old new : List R) (index : ℕ) (fault : PartFault) (from : Gathered) : Type 0 where
     pub mid : Gathered
     pub before : GathersFirst left limits old index from mid
-    pub was : R
-    pub is : R
-    pub was_there : slice_get old index ≡ Some was
-    pub is_there : slice_get new index ≡ Some is
-    pub refused : IsFaultIfTold limits (left was) (health is) (AreSpent (pulls was) (pulls is) limits.max_reads) fault
+    pub at : RefusesAt left health pulls limits old new index fault
 
   -- all readers were read to their ends, or one was refused
   abbrev pub ReadsAll : Limits → List R → Gathered → Result (Unit {0}) ToolFault → List R → Gathered → Type 0
   ReadsAll limits old from (Ok done) new to = GathersFirst left limits old (length old) from to
   ReadsAll limits old from (Err (tool.Part index fault)) new to = RefusesReader limits old new index fault from
   ReadsAll limits old from (Err other) new to = ⊥
+
+-- all parts were read
+abbrev pub AreRead : {A : Type 0} → Result A ToolFault → Type 0
+AreRead (Err (tool.Part index fault)) = ⊥
+AreRead other = ⊤
 
 -- ---- no other answer
 

@@ -1,6 +1,7 @@
 //! Joining parts.
 
 ghost use Rattle.std.specs.Prelude.{◌≡◌, ◌↔◌, ℕ, List, [], All, IfOk, Err};
+ghost use Rattle.std.specs.List.{AllByRecursion};
 ghost use Rattle.hprof_items.specs.declared.health.Health.TheVariants.{Well};
 ghost use Rattle.hprof_items.specs.declared.health.WriteFault.{WriteFault};
 ghost use Rattle.hprof_items.specs.declared.ids.IdSize.{IdSize};
@@ -9,7 +10,7 @@ ghost use Rattle.hprof_items.specs.FactValue.{FactValue};
 ghost use Rattle.hprof_stream.specs.declared.part_fault.PartFault.{PartFault};
 ghost use Rattle.hprof_heap.specs.declared.key.Key.{Key};
 ghost use Rattle.hprof_heap.specs.State.{IsState, HaveTwoSizes};
-ghost use Rattle.hprof_tool.specs.Joining.{Tell, Joins, StopsWriting, Disagree, RefusesPart, IsHindered, IsOkOrConflict, IsBeforeWriting};
+ghost use Rattle.hprof_tool.specs.Joining.{Tell, Joins, StopsWriting, Disagree, IsAccepted, RefusesPart, AreRead, IsHindered, IsOkOrConflict, IsBeforeWriting};
 
 use crate::engine::parts::read_parts;
 use crate::joined::Joined;
@@ -47,6 +48,8 @@ pub fn join_to<R: Source, W: Target>(
     ensures part { (index : ℕ) (fault : PartFault) → result ≡ Err (ToolFault.Part index fault)
         → (parts : List (List ℕ)) → Tell R.left readers.old parts
         → RefusesPart R.left R.health R.pulls limits parts readers.old readers.new index fault }
+    ensures accepted { AreRead result → (parts : List (List ℕ)) → Tell R.left readers.old parts
+        → AllByRecursion (IsAccepted limits) parts }
     ensures unwritten { IsBeforeWriting result → target.new ≡ target.old }
 
     // Refusals while writing: the writer failed or stuck, and a front of the dump was written.

@@ -4,7 +4,7 @@ use Rattle.hprof_items.specs.Spelling.{longest_body}
 use Rattle.hprof_heap.specs.declared.standing.Refusal.TheVariants as refusals
 use Rattle.hprof_heap.specs.Gathering.{gathered}
 use Rattle.hprof_heap.specs.Heap.{heap_of}
-use Rattle.hprof_tool.proofs.Answers.{no_readers, joins, agree, disagree, two_sizes, from_nothing, refuses_part, part_refused, reading_hindered, some_parts, not_two_sizes, told_of, told_conflict, write_fault}
+use Rattle.hprof_tool.proofs.Answers.{no_readers, all_accepted, joins, agree, disagree, two_sizes, from_nothing, refuses_part, part_refused, reading_hindered, some_parts, not_two_sizes, told_of, told_conflict, write_fault}
 use Rattle.hprof_tool.proofs.engine.join.join_to.Goals as goal
 
 pub returns-in-Err-clause-part : goal.returns-in-Err-clause-part
@@ -80,3 +80,23 @@ returns-clause-write g c = λ fault same.
         written = c.in-Err-write_canonical.ensures.bytes.2;
       },
     )
+
+pub returns-in-Err-IdSizes-clause-accepted : goal.returns-in-Err-IdSizes-clause-accepted
+returns-in-Err-IdSizes-clause-accepted g c = λ read_all parts told.
+    let read = c.in_default.ensures.read in
+    all_accepted g.R.Source.left c.args.limits c.args.readers.now read.given read.of_readers parts told
+
+pub returns-in-Err-Conflict-clause-accepted : goal.returns-in-Err-Conflict-clause-accepted
+returns-in-Err-Conflict-clause-accepted g c = λ read_all parts told.
+    let read = c.in_default.ensures.read in
+    all_accepted g.R.Source.left c.args.limits c.args.readers.now read.given read.of_readers parts told
+
+pub returns-in-Ok-write_canonical-clause-accepted : goal.returns-in-Ok-write_canonical-clause-accepted
+returns-in-Ok-write_canonical-clause-accepted g c = λ read_all parts told.
+    let read = c.in_default.ensures.read in
+    all_accepted g.R.Source.left c.args.limits c.args.readers.now read.given read.of_readers parts told
+
+pub returns-clause-accepted : goal.returns-clause-accepted
+returns-clause-accepted g c = λ read_all parts told.
+    let read = c.in_default.ensures.read in
+    all_accepted g.R.Source.left c.args.limits c.args.readers.now read.given read.of_readers parts told

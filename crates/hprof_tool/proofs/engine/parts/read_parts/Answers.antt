@@ -1,10 +1,11 @@
-use Rattle.std.proofs.Common.{◌≢◌, ◌<◌, length, get_or, Some, ap, ◌∙◌, arith, get_or-set_other}
+use Rattle.std.proofs.lemmas.List.{length-set}
+use Rattle.std.proofs.Common.{◌≡◌, ◌≢◌, ◌<◌, length, set, get_or, Some, ap, ◌∙◌, arith, get_or-set_other}
 use Rattle.hprof_items.specs.declared.header.Header.{Header}
 use Rattle.hprof_heap.specs.Gathering.{gathered}
 use Rattle.hprof_tool.specs.Joining.{AreSpent}
 use Rattle.hprof_tool.proofs.Gathered.{Run-shown, Run-sound}
-use Rattle.hprof_tool.proofs.PartFaults.{fault_if_told}
-use Rattle.hprof_tool.proofs.Reading.{element_at, element_set, given_if_told, GathersFirst-more}
+use Rattle.hprof_tool.proofs.PartFaults.{fault_of_came}
+use Rattle.hprof_tool.proofs.Reading.{element_at, element_set, same_at, given_if_told, GathersFirst-more}
 use Rattle.hprof_tool.proofs.engine.parts.read_parts.Goals as goal
 
 pub returns-in-Err : goal.returns-in-Err
@@ -14,18 +15,25 @@ returns-in-Err g c =
     let was = get_or c.loop-index.readers index found in
     let within : index < length c.args.readers.now = omega arith in
     let still : index < length c.loop-index.readers = omega arith in
+    let same_length : length c.loop-index.readers ≡ length c.args.readers.now = omega arith in
     let read = c.in-Err.ensures.read in
-    let refused = fault_if_told c.args.limits (g.R.Source.left was) (g.R.Source.left c.read_part.new.source) read.0 (g.R.Source.health c.read_part.new.source)
-    (AreSpent (g.R.Source.pulls was) (g.R.Source.pulls c.read_part.new.source) c.args.limits.max_reads) c.loop-index.gatherer c.read_part.new.sink c.in-Err.fault c.loop-index.invariant.sound read.1 read.2 in
     record {
       read = record {
         mid = gathered c.loop-index.gatherer;
         before = c.loop-index.invariant.first;
-        was = was;
-        is = c.read_part.new.source;
-        was_there = element_at c.args.readers.now c.loop-index.readers index found within (c.loop-index.invariant.unread index found (omega arith) within) c.index-readers-index.is ∙ ap Some c.index-readers-index.is;
-        is_there = element_set c.loop-index.readers index c.read_part.new.source still;
-        refused = refused;
+        at = record {
+          was = was;
+          is = c.read_part.new.source;
+          was_there = element_at c.args.readers.now c.loop-index.readers index found within (c.loop-index.invariant.unread index found (omega arith) within) c.index-readers-index.is ∙ ap Some c.index-readers-index.is;
+          is_there = element_set c.loop-index.readers index c.read_part.new.source still;
+          came = read.0;
+          consumed = read.1;
+          refused = fault_of_came c.args.limits read.0 (g.R.Source.left c.read_part.new.source) (g.R.Source.health c.read_part.new.source)
+              (AreSpent (g.R.Source.pulls was) (g.R.Source.pulls c.read_part.new.source) c.args.limits.max_reads) c.loop-index.gatherer c.read_part.new.sink c.in-Err.fault c.loop-index.invariant.sound read.2;
+          unread = λ k behind. same_at (set c.loop-index.readers index c.read_part.new.source) c.args.readers.now k (length-set c.loop-index.readers index c.read_part.new.source ∙ same_length)
+              (λ d below. let other : k ≢ index = omega (arith, behind) in
+              get_or-set_other c.loop-index.readers index k c.read_part.new.source d other ∙ c.loop-index.invariant.unread k d (omega (arith, behind)) below);
+        };
       };
     }
 
@@ -39,7 +47,7 @@ loop-index-preserved g c =
     let header : Header = c.in_default.field-0.header in
     let facts = read.2.5.0 in
     let there = element_at c.args.readers.now c.loop-index.readers index found within (c.loop-index.invariant.unread index found (omega arith) within) c.index-readers-index.is ∙ ap Some c.index-readers-index.is in
-    let is = given_if_told c.args.limits (g.R.Source.left was) (g.R.Source.left c.read_part.new.source) read.0 (record { header = header; facts = facts }) read.1 read.2.0 read.2.3 read.2.5.1 in
+    let is = given_if_told c.args.limits (g.R.Source.left was) (g.R.Source.left c.read_part.new.source) read.0 (record { header = header; facts = facts }) read.1 read.2.0 (read.2.3, read.2.2) read.2.5.1 in
     let run = Run-shown c.loop-index.gatherer c.read_part.new.sink (Some header) facts read.2.5.2 in
     record {
       unread = λ k d after below.
