@@ -1,6 +1,7 @@
 -- Units that stand in front of bytes, as far as a loop has come.
-use Rattle.std.proofs.Common.{◌≡◌, ℕ, ◌+◌, ◌/◌, ◌%◌, ◌^◌, ◌<◌, List, [], ◌∷◌, ◌++◌, length, get_or, take, Option, Some, None, arith, refl, sym, ap, ◌∙◌, append_assoc}
+use Rattle.std.proofs.Common.{◌≡◌, ℕ, ◌+◌, ◌/◌, ◌%◌, ◌^◌, ◌<◌, ◌==◌, true, false, List, [], ◌∷◌, ◌++◌, length, get_or, take, Option, Some, None, arith, refl, sym, ap, ◌∙◌, append_assoc}
 use Rattle.std.specs.List.{All, flat_map}
+use Rattle.std.proofs.lemmas.Bool.Decides.{nat_tests}
 use Rattle.std.proofs.lemmas.List.{append-nil, length-append, take_more}
 use Rattle.std.proofs.lemmas.List.Concat.{flat_map-append}
 use Rattle.std.proofs.lemmas.List.Elements.{All-nil, All-cons, All-head, All-tail, All-append}
@@ -122,3 +123,13 @@ pub units_found : (units bytes : List ℕ) (found : Option (List ℕ)) → IsMod
     → DecodesTo bytes found → found ≡ Some units
 units_found units bytes (Some others) is h = ap Some (one_units others units bytes h is)
 units_found units bytes None is h = absurd (h (units, is))
+
+-- ---- the end of a loop
+
+pub ended : (rest : List ℕ) → (length rest == 0) ≡ true → rest ≡ []
+ended [] e = refl
+ended (byte ∷ rest) e = let none : length (byte ∷ rest) ≡ 0 = grind (arith, nat_tests, e) in absurd (omega (arith, none))
+
+pub not_ended : (rest : List ℕ) → (length rest == 0) ≡ false → rest ≡ [] → ⊥
+not_ended [] e same = absurd cc
+not_ended (byte ∷ rest) e same = absurd cc

@@ -1,5 +1,5 @@
 -- What is printed of the units in front, as far as a loop has come, and that it is ASCII.
-use Rattle.std.proofs.Common.{◌≡◌, ◌≢◌, ℕ, ◌+◌, ◌/◌, ◌%◌, ◌<◌, ◌≤◌, Bool, true, false, List, [], ◌∷◌, ◌++◌, length, get_or, take, codes, cond, inl, inr, arith, refl, sym, ap, ◌∙◌}
+use Rattle.std.proofs.Common.{◌≡◌, ◌≢◌, ℕ, ◌+◌, ◌/◌, ◌%◌, ◌<◌, ◌≤◌, ◌==◌, Bool, true, false, List, [], ◌∷◌, ◌++◌, length, get_or, take, codes, cond, inl, inr, arith, refl, sym, ap, ◌∙◌}
 use Rattle.std.specs.List.{AllPass, flat_map, list_all}
 use Rattle.std.specs.Prelude.{nat_lt}
 use Rattle.std.specs.Str.{IsAscii}
@@ -15,9 +15,9 @@ use borrow.Author.Tests.{ltb-true}
 use Rattle.hex.specs.Hex.{encode_lower, encode_with, lower_digits}
 use Rattle.hex.proofs.HexLemmas.{IsAscii-encode_with}
 use Rattle.hprof_text.specs.ModifiedUtf8.{unit_bytes, BeginsWithNoUnit, HasUnits}
-use Rattle.hprof_text.specs.Printed.{is_plain, escaped_unit, printed_unit, printed_bytes, PrintsUnits, IsPrinted}
+use Rattle.hprof_text.specs.Printed.{is_plain, escaped_unit, printed_unit, printed_bytes, PrintsUnits, PrintsIfUnits, IsPrinted}
 use Rattle.hprof_text.proofs.Rows.{unit_bytes-one, rest_is_shorter}
-use Rattle.hprof_text.proofs.Fronts.{fits, Front, front_none, front_more, front_push, front_all, front_stop, one_units}
+use Rattle.hprof_text.proofs.Fronts.{fits, Front, front_none, front_more, front_push, front_all, front_stop, one_units, ended, not_ended}
 
 -- ---- plain units
 
@@ -44,27 +44,6 @@ flat_map-printed_unit-plain : (xs : List ℕ) → AllPass is_plain xs → flat_m
 flat_map-printed_unit-plain [] plain = refl
 flat_map-printed_unit-plain (x ∷ xs) plain =
     rw (printed_unit-plain x (All-head plain_holds x xs plain), flat_map-printed_unit-plain xs (All-tail plain_holds x xs plain)) refl
-
--- how much a unit takes in print
-length-printed_unit : (unit : ℕ) → length (printed_unit unit) ≡ cond (is_plain unit) 1 6
-unfolding printed_unit encode_with
-length-printed_unit unit = by (is_plain unit)
-  where
-    by : (plain : Bool) → length (cond plain (unit ∷ []) (escaped_unit unit)) ≡ cond plain 1 6
-    by true = refl
-    by false = refl
-
-pub length-printed_unit-plain : (unit : ℕ) → is_plain unit ≡ true → 1 ≡ length (printed_unit unit)
-length-printed_unit-plain unit plain = rw (length-printed_unit unit, plain) refl
-
-pub length-printed_unit-other : (unit : ℕ) → ¬ (is_plain unit ≡ true) → 6 ≡ length (printed_unit unit)
-length-printed_unit-other unit other =
-    let test : is_plain unit ≡ false = not-true (is_plain unit) other in
-    rw (length-printed_unit unit, test) refl
-  where
-    not-true : (b : Bool) → ¬ (b ≡ true) → b ≡ false
-    not-true true h = absurd (h refl)
-    not-true false h = refl
 
 -- ---- hexadecimal, a byte at a time
 
@@ -114,6 +93,12 @@ prints_all bytes rest text p e = (p.0, front_all p.0 bytes (rw e at p.1), p.2)
 
 pub prints_stop : (bytes rest text : List ℕ) → PrintsFront bytes rest text → BeginsWithNoUnit rest → HasUnits bytes → rest ≡ []
 prints_stop bytes rest text p none has = front_stop p.0 bytes rest p.1 none has
+
+-- where no unit stands next, all bytes are printed or they have no units
+pub prints_if_units : (bytes rest text : List ℕ) (all : Bool) → PrintsFront bytes rest text → BeginsWithNoUnit rest → all ≡ (length rest == 0)
+    → PrintsIfUnits bytes all text
+prints_if_units bytes rest text true p none e = prints_all bytes rest text p (ended rest (sym e))
+prints_if_units bytes rest text false p none e = λ has. not_ended rest (sym e) (prints_stop bytes rest text p none has)
 
 -- a unit and the plain bytes after it make the rest shorter
 pub plain_is_shorter : (unit : ℕ) (rest after plain more : List ℕ) → rest ≡ unit_bytes unit ++ after

@@ -1,5 +1,5 @@
 -- The printed form of a name, which is this project's own.
-use Rattle.std.specs.Prelude.{◌≡◌, ℕ, ◌/◌, ◌%◌, nat_le, ◌==◌, ◌&&◌, not, if◌then◌else◌, Bool, List, [], ◌∷◌, ◌++◌, codes}
+use Rattle.std.specs.Prelude.{◌≡◌, ℕ, ◌/◌, ◌%◌, nat_le, ◌==◌, ◌&&◌, not, if◌then◌else◌, Bool, true, false, List, [], ◌∷◌, ◌++◌, codes}
 use Rattle.std.specs.List.{flat_map}
 use Rattle.hex.specs.Hex.{encode_lower}
 use Rattle.hprof_text.specs.ModifiedUtf8.{IsModifiedUtf8, HasUnits}
@@ -20,6 +20,11 @@ printed_unit unit = if is_plain unit then unit ∷ [] else escaped_unit unit
 abbrev pub PrintsUnits : List ℕ → List ℕ → Type 0
 PrintsUnits bytes text =
     (units : List ℕ) × IsModifiedUtf8 units bytes × (text ≡ flat_map printed_unit units)
+
+-- All of the bytes are units and the text is they in print, or the bytes have no units.
+abbrev pub PrintsIfUnits : List ℕ → Bool → List ℕ → Type 0
+PrintsIfUnits bytes true text = PrintsUnits bytes text
+PrintsIfUnits bytes false text = ¬ (HasUnits bytes)
 
 -- Other bytes in print: `\x` and all of them in lower-case hexadecimal.
 abbrev pub printed_bytes : List ℕ → List ℕ

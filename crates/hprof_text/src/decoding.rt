@@ -72,45 +72,45 @@ pub(crate) fn first_unit(bytes: &[u8]) -> Option<(u16, &[u8])>
     }
 }
 
-// How many units the bytes have.
-fn unit_count(bytes: &[u8]) -> Option<usize>
-    ensures found { IfSome result
-        (λ count. (units : List ℕ) × IsModifiedUtf8 units bytes.now × (length units ≡ count)) }
-    ensures none { IfNone result (¬ (HasUnits bytes.now)) }
-{
-    let mut count = 0;
-    let mut rest = bytes;
-    while let Some((_, after)) = first_unit(rest) {
-        count += 1;
-        rest = after;
-    }
-    if rest.is_empty() { Some(count) } else { None }
-}
-
 /// Whether the bytes are modified UTF-8 in its shortest forms, by the Java Virtual Machine
 /// Specification, section 4.4.7.
 pub fn is_modified(bytes: &[u8]) -> bool
     ensures { IsTrue result ↔ HasUnits bytes.now }
 {
-    unit_count(bytes).is_some()
+    let mut rest = bytes;
+    while let Some((_, after)) = first_unit(rest) {
+        rest = after;
+    }
+    rest.is_empty()
 }
 
-/// The 16-bit units of modified UTF-8 in its shortest forms, by the Java Virtual Machine
-/// Specification, section 4.4.7, and none where the bytes are no such text. A lone surrogate is a
-/// unit like any other. Memory is asked for once, only where there are units, and the error is that
-/// there is not enough.
-pub fn units(alloc: Global, bytes: &[u8]) -> Result<Option<Vec<u16>>, AllocError>
-    ensures ok { IfOk result (λ found. DecodesTo bytes.now (option_map (λ v. v.items) found)) }
-    ensures err { OnErr result (HasUnits bytes.now) }
+// The units of the bytes, and none where they have none. There are no more units than bytes.
+fn decoded(alloc: Global, bytes: &[u8]) -> Result<Option<Vec<u16>>, AllocError>
+    ensures { IfOk result (λ found. DecodesTo bytes.now (option_map (λ v. v.items) found)) }
 {
-    let Some(count) = unit_count(bytes) else {
-        return Ok(None);
-    };
-    let mut units = Vec::with_capacity(alloc, count)?;
+    let mut units = Vec::with_capacity(alloc, bytes.len())?;
     let mut rest = bytes;
     while let Some((unit, after)) = first_unit(rest) {
         units.push(unit)?;
         rest = after;
     }
-    Ok(Some(units))
+    if rest.is_empty() {
+        Ok(Some(units))
+    } else {
+        Ok(None)
+    }
+}
+
+/// The 16-bit units of modified UTF-8 in its shortest forms, by the Java Virtual Machine
+/// Specification, section 4.4.7, and none where the bytes are no such text. A lone surrogate is a
+/// unit like any other. The error is that there is not enough memory for the units, and comes only
+/// where there are units.
+pub fn units(alloc: Global, bytes: &[u8]) -> Result<Option<Vec<u16>>, AllocError>
+    ensures ok { IfOk result (λ found. DecodesTo bytes.now (option_map (λ v. v.items) found)) }
+    ensures err { OnErr result (HasUnits bytes.now) }
+{
+    match decoded(alloc, bytes) {
+        Err(_) if !is_modified(bytes) => Ok(None),
+        answer => answer,
+    }
 }

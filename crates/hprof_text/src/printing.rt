@@ -1,11 +1,10 @@
 //! Names in print, which is this project's own form.
 
-ghost use Rattle.std.specs.Prelude.{◌≡◌, false, ℕ, ◌-◌, ◌^◌, ◌++◌, List, min, length, slice_get, IsTrue, IfSome, IfNone, IfOk, OnOk, IsAscii};
+ghost use Rattle.std.specs.Prelude.{◌≡◌, false, ◌++◌, [], slice_get, IsTrue, IfSome, IfOk, OnOk, IsAscii};
 ghost use Rattle.std.specs.List.{AllPass};
 ghost use Rattle.std.specs.Option.{SomeIff};
 ghost use Rattle.std.specs.String.{string_bytes};
-ghost use Rattle.hprof_text.specs.ModifiedUtf8.{HasUnits};
-ghost use Rattle.hprof_text.specs.Printed.{is_plain, escaped_unit, printed_unit, printed_bytes, IsPrinted, PrintsUnits};
+ghost use Rattle.hprof_text.specs.Printed.{is_plain, escaped_unit, printed_unit, printed_bytes, IsPrinted, PrintsIfUnits};
 
 use crate::decoding::first_unit;
 use std::alloc::{AllocError, Global};
@@ -38,16 +37,6 @@ fn plain_byte(unit: u16) -> Option<u8>
     if is_plain(byte) { Some(byte) } else { None }
 }
 
-// How many bytes a unit takes in print.
-fn printed_len(unit: u16) -> usize
-    ensures { result ≡ length (printed_unit unit) }
-{
-    match plain_byte(unit) {
-        Some(_) => 1,
-        None => 6,
-    }
-}
-
 // Appends a unit that is not plain in print.
 fn push_escape(text: &mut Vec<u8>, unit: u16) -> Result<(), AllocError>
     ensures { OnOk result (text.new.items ≡ text.old.items ++ escaped_unit unit) }
@@ -71,70 +60,55 @@ fn push_unit(text: &mut Vec<u8>, unit: u16) -> Result<(), AllocError>
     Ok(())
 }
 
-// How many bytes the units take in print, or the most that is a `usize`.
-fn units_len(bytes: &[u8]) -> Option<usize>
-    ensures found { IfSome result (λ len. (text : List ℕ) × PrintsUnits bytes.now text
-        × (len ≡ min (length text) (2 ^ 64 - 1))) }
-    ensures none { IfNone result (¬ (HasUnits bytes.now)) }
+// Appends the units of modified UTF-8 in print. Where the bytes have no units it is false, and what was
+// appended is of no use.
+fn push_units(text: &mut Vec<u8>, bytes: &[u8]) -> Result<bool, AllocError>
+    requires { text.old.items ≡ [] }
+    ensures { IfOk result (λ all. PrintsIfUnits bytes.now all text.new.items) }
 {
-    let (plain, mut rest) = split_plain(bytes);
-    let mut len = plain.len();
-    while let Some((unit, after)) = first_unit(rest) {
-        let (plain, after) = split_plain(after);
-        len = len
-            .saturating_add(printed_len(unit))
-            .saturating_add(plain.len());
-        rest = after;
-    }
-    if rest.is_empty() { Some(len) } else { None }
-}
-
-// The units of modified UTF-8 in print, for which `len` bytes are set aside.
-fn printed_units(alloc: Global, bytes: &[u8], len: usize) -> Result<Vec<u8>, AllocError>
-    requires { HasUnits bytes.now }
-    ensures { IfOk result (λ text. PrintsUnits bytes.now text.items) }
-{
-    let mut text = Vec::with_capacity(alloc, len)?;
     let (plain, mut rest) = split_plain(bytes);
     text.extend_from_slice(plain)?;
     while let Some((unit, after)) = first_unit(rest) {
-        push_unit(&mut text, unit)?;
+        push_unit(text, unit)?;
         let (plain, after) = split_plain(after);
         text.extend_from_slice(plain)?;
         rest = after;
     }
-    Ok(text)
+    Ok(rest.is_empty())
 }
 
-// Other bytes in print.
-fn printed_bytes(alloc: Global, bytes: &[u8]) -> Result<Vec<u8>, AllocError>
-    ensures { IfOk result (λ text. text.items ≡ printed_bytes bytes.now) }
+// Appends other bytes in print.
+fn push_bytes(text: &mut Vec<u8>, bytes: &[u8]) -> Result<(), AllocError>
+    requires { text.old.items ≡ [] }
+    ensures { OnOk result (text.new.items ≡ printed_bytes bytes.now) }
 {
-    let len = bytes.len().saturating_mul(2).saturating_add(2);
-    let mut text = Vec::with_capacity(alloc, len)?;
+    text.reserve_exact(bytes.len().saturating_mul(2).saturating_add(2))?;
     text.extend_from_slice(b"\\x")?;
     for byte in bytes {
         let mut digits = [0; 2];
         let _ = hex::encode_to_slice([*byte], &mut digits);
         text.extend_from_slice(&digits)?;
     }
-    Ok(text)
+    Ok(())
 }
 
-// The printed form as bytes.
+// The printed form as bytes. A plain unit is one byte there as here.
 fn printed_text(alloc: Global, bytes: &[u8]) -> Result<Vec<u8>, AllocError>
     ensures { IfOk result (λ text. IsPrinted bytes.now text.items) }
 {
-    match units_len(bytes) {
-        Some(len) => printed_units(alloc, bytes, len),
-        None => printed_bytes(alloc, bytes),
+    let mut text = Vec::with_capacity(alloc, bytes.len())?;
+    if push_units(&mut text, bytes)? {
+        return Ok(text);
     }
+    text.clear();
+    push_bytes(&mut text, bytes)?;
+    Ok(text)
 }
 
 /// The printed form of a name, this project's own, which is ASCII. Of modified UTF-8 each unit from
 /// 0x20 to 0x7e but the backslash is itself, and each other unit is `\u` and four lower-case
-/// hexadecimal digits; other bytes are `\x` and all bytes in lower-case hexadecimal. Memory is asked
-/// for once, and the error is that there is not enough.
+/// hexadecimal digits; other bytes are `\x` and all bytes in lower-case hexadecimal. The error is that
+/// there is not enough memory for it.
 pub fn printed(alloc: Global, bytes: &[u8]) -> Result<String, AllocError>
     ensures form { IfOk result (λ text. IsPrinted bytes.now (string_bytes text)) }
     ensures ascii { IfOk result (λ text. IsAscii (string_bytes text)) }

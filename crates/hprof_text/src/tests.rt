@@ -21,6 +21,7 @@ fn prints_names(rt: HostRuntime) -> Result<(), Fail> {
         let bytes = hex::decode(rt.alloc(), name)?;
         assert_eq!(rt; printed(rt.alloc(), &bytes)?.as_str(), text, "of {name}");
     }
+    laws::one_printed_form();
     Ok(())
 }
 
@@ -68,6 +69,9 @@ fn several_units(rt: HostRuntime) -> Result<(), Fail> {
         Some(vec![in rt.alloc(); 0, 0xd800]?)
     );
     assert_eq!(rt; units(rt.alloc(), &[])?, Some(Vec::new(rt.alloc())));
+    laws::one_list_of_units();
+    laws::one_list_of_bytes();
+    laws::units_come_back();
     Ok(())
 }
 
@@ -109,5 +113,7 @@ fn identifiers(rt: HostRuntime) -> Result<(), Fail> {
     for text in ["0x1", "", "00000000000000001", "-1", "+1", " 1", "g", "1_0"] {
         assert_eq!(rt; parse_id(text), None, "{text}");
     }
+    laws::digits_are_shortest();
+    laws::digits_are_taken();
     Ok(())
 }

@@ -1,7 +1,7 @@
 use Rattle.std.proofs.Common.{◌≡◌, ◌++◌, ◌∷◌, [], slice_index, arith, rules}
 use Rattle.hex.specs.Hex.{encode_lower}
 use Rattle.hprof_text.proofs.Prints.{printed_bytes_none, printed_bytes_more}
-use Rattle.hprof_text.proofs.printing.printed_bytes.Goals as goal
+use Rattle.hprof_text.proofs.printing.push_bytes.Goals as goal
 
 pub loop-byte-init : goal.loop-byte-init
 loop-byte-init c = printed_bytes_none c.extend_from_slice.new.self.items (search rules)

@@ -1,7 +1,7 @@
 use Rattle.std.proofs.Common.{◌≡◌, ◌++◌, [], rules}
 use Rattle.hprof_text.specs.Printed.{printed_unit}
-use Rattle.hprof_text.proofs.Prints.{prints_none, prints_plain, prints_unit, prints_stop, prints_all, plain_is_shorter}
-use Rattle.hprof_text.proofs.printing.printed_units.Goals as goal
+use Rattle.hprof_text.proofs.Prints.{prints_none, prints_plain, prints_unit, prints_if_units, plain_is_shorter}
+use Rattle.hprof_text.proofs.printing.push_units.Goals as goal
 
 pub loop-unit-init : goal.loop-unit-init
 loop-unit-init c =
@@ -24,6 +24,4 @@ loop-unit-preserved c =
 
 pub returns : goal.returns
 returns c =
-    let bytes = c.args.bytes.now in
-    let done = prints_stop bytes c.loop-unit.rest.now c.loop-unit.text.items c.loop-unit.invariant c.in_default.ensures.none c.requires in
-    prints_all bytes c.loop-unit.rest.now c.loop-unit.text.items c.loop-unit.invariant done
+    prints_if_units c.args.bytes.now c.loop-unit.rest.now c.loop-unit.text.items c.is_empty.result c.loop-unit.invariant c.in_default.ensures.none c.is_empty.ensures
