@@ -5,6 +5,7 @@ ghost use Rattle.hprof_items.specs.FactValue.{value_of};
 ghost use Rattle.hprof_items.specs.Ids.{IsId};
 ghost use Rattle.hprof_items.specs.Spelling.{Fits, FitsName, spelling};
 
+use crate::head::HEAD_LEN;
 use crate::ids::IdSize;
 
 /// A fact, over the bytes that state it.
@@ -18,9 +19,6 @@ pub enum Fact<'a> {
         text: &'a [u8],
     },
 }
-
-/// The number of bytes in a record's head.
-pub(crate) const HEAD_LEN: usize = 9;
 
 /// The greatest length that the head of a record can say.
 const LONGEST_BODY: u64 = u32::MAX as u64;

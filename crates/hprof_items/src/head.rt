@@ -2,6 +2,11 @@
 
 ghost use Rattle.std.specs.Prelude.{◌≡◌};
 
+use crate::tag;
+
+/// The number of bytes in a record's head.
+pub const HEAD_LEN: usize = 9;
+
 /// The head of a record.
 #[derive(Clone, Copy, Debug, PartialEq, Eq)]
 pub struct Head {
@@ -22,7 +27,7 @@ pub enum HeadKind {
     HeapDump,
     /// The record that ends a heap dump, with no body.
     DumpEnd,
-    /// A record that states nothing here and is passed over by its length.
+    /// Any other record. It states nothing here.
     Skipped,
 }
 
@@ -34,9 +39,15 @@ impl Head {
         ensures { result ≡ kind_of self.now.tag }
     {
         match self.tag {
-            0x01 | 0x02 | 0x03 | 0x04 | 0x05 | 0x0a | 0x0b => HeadKind::FactRecord,
-            0x0c | 0x1c => HeadKind::HeapDump,
-            0x2c => HeadKind::DumpEnd,
+            tag::UTF8
+            | tag::LOAD_CLASS
+            | tag::UNLOAD_CLASS
+            | tag::FRAME
+            | tag::TRACE
+            | tag::START_THREAD
+            | tag::END_THREAD => HeadKind::FactRecord,
+            tag::HEAP_DUMP | tag::HEAP_DUMP_SEGMENT => HeadKind::HeapDump,
+            tag::HEAP_DUMP_END => HeadKind::DumpEnd,
             _ => HeadKind::Skipped,
         }
     }

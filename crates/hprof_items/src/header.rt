@@ -11,7 +11,10 @@ pub enum Version {
     V102,
 }
 
-/// What the 31 bytes at the front of a dump say.
+/// The number of bytes in a header.
+pub const HEADER_LEN: usize = 31;
+
+/// What the bytes at the front of a dump say.
 #[derive(Clone, Copy, Debug, PartialEq, Eq)]
 pub struct Header {
     /// The text.

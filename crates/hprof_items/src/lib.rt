@@ -13,13 +13,14 @@ pub mod laws;
 mod reading;
 mod source;
 mod step;
+pub mod tag;
 mod target;
 mod writing;
 
 pub use device::Device;
 pub use fact::{Fact, fits, spelled_len};
-pub use head::{Head, HeadKind};
-pub use header::{Header, Version};
+pub use head::{HEAD_LEN, Head, HeadKind};
+pub use header::{HEADER_LEN, Header, Version};
 pub use health::{Health, ReadFault, WriteFault};
 pub use ids::IdSize;
 pub use reading::{read_body, read_head, read_header};

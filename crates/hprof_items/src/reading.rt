@@ -11,11 +11,12 @@ ghost use Rattle.hprof_items.specs.FactValue.{FactValue, value_of};
 ghost use Rattle.hprof_items.specs.Spelling.{Fits, tag_of, body_of, longest_body};
 ghost use Rattle.hprof_items.specs.Reading.{version_of, ids_of, header_at, judged_head, head_at, is_legal, IsRightHead, body_at};
 
-use crate::fact::{Fact, HEAD_LEN};
-use crate::head::{Head, HeadKind};
-use crate::header::{Header, Version};
+use crate::fact::Fact;
+use crate::head::{HEAD_LEN, Head, HeadKind};
+use crate::header::{HEADER_LEN, Header, Version};
 use crate::ids::IdSize;
 use crate::step::{Reason, Step};
+use crate::tag;
 use byteorder::{BigEndian, ByteOrder};
 
 /// The text that each version's header begins with, and the zero byte behind it.
@@ -23,12 +24,10 @@ pub(crate) const TEXT_V101: &[u8; 19] = b"JAVA PROFILE 1.0.1\0";
 
 pub(crate) const TEXT_V102: &[u8; 19] = b"JAVA PROFILE 1.0.2\0";
 
-/// The number of bytes in a header's text, in that and the size, and in all of it.
+/// The number of bytes in a header's text, and in that and the size.
 pub(crate) const TEXT_LEN: usize = 19;
 
 pub(crate) const SIZED_LEN: usize = 23;
-
-pub(crate) const HEADER_LEN: usize = 31;
 
 fn version_in(text: &[u8]) -> Option<Version>
     ensures { result ≡ version_of text.now }
@@ -103,7 +102,7 @@ fn may_have_len(tag: u8, len: u32, ids: IdSize) -> bool
     ensures { result ≡ is_legal ids tag len }
 {
     match tag {
-        0x01 => ids.width() <= len as usize,
+        tag::UTF8 => ids.width() <= len as usize,
         _ => len == 0,
     }
 }
@@ -111,7 +110,7 @@ fn may_have_len(tag: u8, len: u32, ids: IdSize) -> bool
 fn judge_head(head: Head, ids: IdSize, longest: u32) -> Step<Head>
     ensures { result ≡ judged_head ids longest head }
 {
-    if head.tag != 0x01 && head.tag != 0x2c {
+    if head.tag != tag::UTF8 && head.tag != tag::HEAP_DUMP_END {
         return Step::Fault(Reason::Unsupported);
     }
     if !may_have_len(head.tag, head.length, ids) {
@@ -183,7 +182,7 @@ pub fn read_body<'a>(head: &Head, body: &'a [u8], ids: IdSize) -> Result<Fact<'a
     ensures only { (fact : FactValue) → Fits ids fact → tag_of fact ≡ head.now.tag
         → body.now ≡ body_of ids fact → IsOkAnd result (λ read. value_of read ≡ fact) }
 {
-    let _head = *head;
+    let _ = head;
     let id = id_at(body, ids);
     Ok(Fact::Name {
         id,

@@ -19,8 +19,8 @@ pub trait Source {
     // How many pulls were made; it stays at the greatest number.
     ghost pulls: { Self → ℕ };
 
-    /// Moves bytes that come next into the piece's front, and answers how many. None comes only where nothing is
-    /// left, or where the piece is empty.
+    /// Moves bytes that come next into the piece's front, and answers how many: 0 only where nothing is left, or
+    /// where the piece is empty.
     fn pull(&mut self, piece: &mut [u8]) -> Result<usize, ReadFault>
         requires { health self.old ≡ Well }
         ensures count { IfOk result (λ n. n ≤ length piece.new) }

@@ -23,6 +23,7 @@ fn a_header(rt: HostRuntime) {
     let bytes = device.into_inner();
     assert_eq!(rt; bytes.as_slice(), HEADER.as_slice());
     assert_eq!(rt; read_header(&bytes), Step::Whole(header, 31));
+    laws::headers_read_back();
 }
 
 // The head at the front.
@@ -63,6 +64,9 @@ fn names(rt: HostRuntime) -> Result<(), Fail> {
         text: b"A",
     };
     assert!(rt; !fits(&too_great, IdSize::Four));
+    assert_eq!(rt; (IdSize::Four.width(), IdSize::Eight.width()), (4, 8));
+    laws::one_spelling();
+    laws::bodies_read_back();
     Ok(())
 }
 
@@ -110,6 +114,7 @@ fn faults_of_a_head(rt: HostRuntime) {
             "{tag} {len}"
         );
     }
+    laws::heads_read_back();
 }
 
 // Moves some bytes in all, three a call, and from then on fails or moves none.
@@ -187,6 +192,50 @@ fn a_reader_that_stops(rt: HostRuntime) {
     assert_eq!(rt; bytes.pull(&mut piece), Ok(0));
 }
 
+// Fails once, and works from then on.
+#[derive(Drop)]
+struct FailsOnce {
+    failed: bool,
+}
+
+impl FailsOnce {
+    fn fails(&mut self) -> io::Result<usize>
+        ensures { IfOk result (λ n. n ≤ 0) }
+    {
+        if self.failed {
+            return Ok(0);
+        }
+        self.failed = true;
+        Err(io::Error::from(io::ErrorKind::Interrupted))
+    }
+}
+
+impl Read for FailsOnce {
+    fn read(&mut self, _buf: &mut [u8]) -> io::Result<usize> {
+        self.fails()
+    }
+}
+
+impl Write for FailsOnce {
+    fn write(&mut self, _buf: &[u8]) -> io::Result<usize> {
+        self.fails()
+    }
+
+    fn flush(&mut self) -> io::Result<()> {
+        Ok(())
+    }
+}
+
+#[test]
+fn nothing_is_tried_again(rt: HostRuntime) {
+    let mut source = Device::new(FailsOnce { failed: false });
+    assert_eq!(rt; source.pull(&mut [0]), Err(ReadFault::Failed));
+    assert_eq!(rt; source.health(), Health::Failed);
+    let mut target = Device::new(FailsOnce { failed: false });
+    assert_eq!(rt; target.push(b"a"), Err(WriteFault::Failed));
+    assert_eq!(rt; target.health(), Health::Failed);
+}
+
 #[test]
 fn a_push(rt: HostRuntime) {
     let mut device = Device::new(Narrow {
@@ -197,13 +246,4 @@ fn a_push(rt: HostRuntime) {
     assert_eq!(rt; device.health(), Health::Well);
     assert_eq!(rt; device.push(b""), Ok(0));
     assert_eq!(rt; device.health(), Health::Well);
-}
-
-#[test]
-fn laws_run(rt: HostRuntime) {
-    laws::one_spelling();
-    laws::headers_read_back();
-    laws::heads_read_back();
-    laws::bodies_read_back();
-    assert_eq!(rt; IdSize::Eight.width(), 8);
 }

@@ -10,11 +10,13 @@ ghost use Rattle.hprof_items.specs.FactValue.{Name, value_of};
 ghost use Rattle.hprof_items.specs.Spelling.{Fits, spelling};
 ghost use Rattle.hprof_items.specs.Device.{Writes, LeavesHealth};
 
-use crate::fact::{Fact, HEAD_LEN};
-use crate::header::{Header, Version};
+use crate::fact::Fact;
+use crate::head::HEAD_LEN;
+use crate::header::{HEADER_LEN, Header, Version};
 use crate::health::WriteFault;
 use crate::ids::IdSize;
-use crate::reading::{HEADER_LEN, SIZED_LEN, TEXT_LEN, TEXT_V101, TEXT_V102};
+use crate::reading::{SIZED_LEN, TEXT_LEN, TEXT_V101, TEXT_V102};
+use crate::tag;
 use crate::target::Target;
 use byteorder::{BigEndian, ByteOrder};
 
@@ -128,7 +130,7 @@ fn write_name<W: Target>(
     ensures health { LeavesHealth result (W.health target.new) }
 {
     let len = (ids.width() + text.len()) as u32;
-    write_front(0x01, len, id, ids, target)?;
+    write_front(tag::UTF8, len, id, ids, target)?;
     push_all(text, target)
 }
 
