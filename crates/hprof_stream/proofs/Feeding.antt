@@ -1,8 +1,8 @@
 -- What a reader has read once it went on over more bytes.
-use Rattle.std.proofs.Common.{◌≡◌, ℕ, ◌+◌, ◌-◌, ◌<◌, ◌≤◌, min, eqb, Bool, true, false, ◌||◌, List, [], ◌++◌, length, take, Option, Some, None, Result, Ok, Err, refl, sym, ap, subst, ◌∙◌, append-nil, arith}
+use Rattle.std.proofs.Common.{◌≡◌, ℕ, ◌+◌, ◌-◌, ◌<◌, ◌≤◌, min, eqb, Bool, true, false, ◌||◌, List, [], ◌++◌, length, take, Option, Some, None, Result, Ok, Err, inl, inr, refl, sym, ap, subst, ◌∙◌, arith}
 use Rattle.std.proofs.Math.Seq.{take-append-add}
 use Rattle.std.proofs.lemmas.Bool.{eqb-true, eqb-false}
-use Rattle.std.proofs.lemmas.List.{length-append, nil_from_length, take_min, take_all}
+use Rattle.std.proofs.lemmas.List.{length-append, nil_from_length, take_min}
 use Rattle.std.proofs.lemmas.List.Folds.{list_any-append}
 use Rattle.std.specs.Prelude.{OnOk, OnErr}
 use Rattle.std.specs.List.{list_any}
@@ -16,12 +16,13 @@ use Rattle.hprof_stream.specs.declared.part_reader.PartReader.{PartReader}
 use Rattle.hprof_stream.specs.declared.progress.Progress.{Progress}
 use Rattle.hprof_stream.specs.declared.sink.SinkFault.{SinkFault}
 use Rattle.hprof_stream.specs.Part.{Stated, all_bytes, all_facts, is_end}
-use Rattle.hprof_stream.specs.Item.{Place, Start, header_before, place_behind, AreItems, none, item_at}
+use Rattle.hprof_stream.specs.Item.{Place, Start, header_before, place_behind, IsItem, AreItems, none, item_at}
 use Rattle.hprof_stream.specs.Fault.{Splits, is_whole, IsFirstFault, HasNoSettledFault, is_settled}
 use Rattle.hprof_stream.specs.Run.{Run, became}
-use Rattle.hprof_stream.specs.Reader.{header_of, has_failed, header_count, HasRead, start_of, Walks, RanOver, RanOverSome, Stops, IsFeedFault, ReadsOn, Feeds}
-use Rattle.hprof_stream.proofs.Walks.{all_facts-then, all_bytes-then}
+use Rattle.hprof_stream.specs.Reader.{header_of, has_failed, header_count, HasRead, start_of, Walks, IsWithinItem, RanOver, RanUpTo, Stops, Halts, IsFeedFault, ReadsOn, Feeds}
+use Rattle.hprof_stream.proofs.Walks.{all_facts-then, all_bytes-then, Walks-kept}
 use Rattle.hprof_stream.proofs.Refusals.{item_none}
+use Rattle.hprof_stream.proofs.Stepping.{Stops-more}
 use Rattle.hprof_stream.proofs.Faults.{Splits-then, fault_is_first, too_long_is_first, short_unsettled}
 
 -- nothing was read
@@ -57,6 +58,10 @@ none_left items len test holds is same = nil_from_length items (omega (arith, sa
 -- a list that was found to have more
 pub some_left : (items : List ℕ) (len : ℕ) (test : Bool) → test ≡ false → test ≡ eqb len 0 → len ≡ length items → 0 < length items
 some_left items len test fails is same = let some = eqb-false len 0 (sym is ∙ fails) in omega (arith, same, some)
+
+-- no bytes are no item yet
+pub none_short : (longest : ℕ) (place : Place) (held : List ℕ) → held ≡ [] → item_at longest place held ≡ Short
+none_short longest place held nothing = ap (item_at longest place) nothing ∙ item_none longest place
 
 -- a header that was read before a place
 pub header_at_place : (header : Option Header) → header_before (place_behind header) ≡ header
@@ -95,6 +100,11 @@ pub taken_all : (limits : Limits) (bytes piece : List ℕ) (facts : List FactVal
 taken_all limits bytes piece facts reader count read is le =
     let limit : reader.progress.limits.max_bytes ≡ limits.max_bytes = ap (λ (l : Limits). l.max_bytes) read.has_limits in
     omega (arith, read_length limits bytes facts reader read, read.within, length-append bytes piece)
+
+-- a reader that holds some bytes
+pub IsWithinItem-read : (limits : Limits) (bytes : List ℕ) (facts : List FactValue) (reader : PartReader) → HasRead limits bytes facts reader → 0 < length reader.held.items → IsWithinItem limits.max_item bytes
+IsWithinItem-read limits bytes facts reader read some =
+    (length reader.held.items, record { items = read.items; place = place_behind (header_of reader); rest = reader.held.items; splits = read.splits; short = read.unfinished; has_count = refl }, some)
 
 module _ {S : Type 0} (begins : S → Header → S → Type 0) (steps : S → FactValue → S → Type 0) where
   -- what was read of the bytes: whole items, and a rest; these facts were handed to the sink before
@@ -141,30 +151,28 @@ module _ {S : Type 0} (begins : S → Header → S → Type 0) (steps : S → Fa
     ran = walked.ran;
   }
 
-  -- whatever the rest is, the sink ran over the items in front of it
-  pub RanOverSome-walked : (limits : Limits) (bytes : List ℕ) (facts : List FactValue) (before : Option Header) (to : Progress) (rest : List ℕ) (old new : S) → HasWalked limits bytes facts before to rest old new
-      → RanOverSome begins steps limits.max_item bytes facts before to.header old new
-  RanOverSome-walked limits bytes facts before to rest old new walked =
-      let front : List ℕ = all_bytes walked.items in
-      let place : Place = place_behind to.header in
-      record {
-        front = front;
-        back = rest;
-        parts = walked.splits.parts;
-        over = record {
-          handed = walked.handed;
-          states = record {
-            items = walked.items;
-            place = place;
-            rest = [];
-            splits = record { each = walked.splits.each; parts = sym (append-nil front) };
-            ends = ap is_whole (item_none limits.max_item place);
-            has_header = header_at_place to.header;
-            has_facts = walked.has_facts;
-          };
-          ran = walked.ran;
-        };
-      }
+  -- the rest begins with a whole item: the sink ran over the items in front of it
+  pub RanUpTo-walked : (limits : Limits) (bytes : List ℕ) (facts : List FactValue) (before : Option Header) (at : Progress) (one : Stated) (back : List ℕ) (told : Option Header) (rest : List ℕ) (old new : S) → HasWalked limits bytes facts before at rest old new
+      → ((header : Header) → before ≡ Some header → at.header ≡ Some header) → IsItem limits.max_item (place_behind at.header) one (place_behind told) → rest ≡ one.bytes ++ back → RanUpTo begins steps limits.max_item bytes facts before told old new
+  RanUpTo-walked limits bytes facts before at one back told rest old new walked stays is parts = record {
+    items = walked.items;
+    header = at.header;
+    one = one;
+    back = back;
+    stays = stays;
+    each = walked.splits.each;
+    next = is;
+    parts = walked.splits.parts ∙ ap (λ (r : List ℕ). all_bytes walked.items ++ r) parts;
+    handed = walked.handed;
+    has_facts = walked.has_facts;
+    ran = walked.ran;
+  }
+
+  -- the rest needs more bytes
+  pub IsWithinItem-walked : (limits : Limits) (bytes : List ℕ) (facts : List FactValue) (before : Option Header) (to : Progress) (rest : List ℕ) (old new : S) → HasWalked limits bytes facts before to rest old new
+      → item_at limits.max_item (place_behind to.header) rest ≡ Short → 0 < length rest → IsWithinItem limits.max_item bytes
+  IsWithinItem-walked limits bytes facts before to rest old new walked short some =
+      (length rest, record { items = walked.items; place = place_behind to.header; rest = rest; splits = walked.splits; short = short; has_count = refl }, some)
 
   -- a reader that stands there and holds the rest
   pub HasRead-walked : (limits : Limits) (bytes : List ℕ) (facts : List FactValue) (before : Option Header) (to : Progress) (rest : List ℕ) (old new : S) (walked : HasWalked limits bytes facts before to rest old new) (reader : PartReader)
@@ -191,47 +199,59 @@ module _ {S : Type 0} (begins : S → Header → S → Type 0) (steps : S → Fa
 
 module _ {S : Type 0} (begins : S → Header → S → Type 0) (steps : S → FactValue → S → Type 0) (refuses : S → SinkFault → Type 0) (failed : S → Bool) where
   -- the rest was refused
-  pub IsFeedFault-stopped : (limits : Limits) (bytes whole : List ℕ) (facts : List FactValue) (before : Option Header) (to : Progress) (rest : List ℕ) (old mid new : S) (fault : PartFault)
-      → whole ≡ take limits.max_bytes bytes → HasWalked begins steps limits whole facts before to rest old mid → Stops refuses failed to rest mid fault new → IsFeedFault begins steps refuses failed limits bytes facts before to.header old fault new
-  IsFeedFault-stopped limits bytes whole facts before to rest old mid new (faults.Malformed at reason) taken walked stop =
-      let place : Place = place_behind to.header in
+  pub IsFeedFault-stopped : (limits : Limits) (bytes whole : List ℕ) (facts : List FactValue) (before told : Option Header) (at : Progress) (rest : List ℕ) (old mid new : S) (fault : PartFault)
+      → whole ≡ take limits.max_bytes bytes → HasWalked begins steps limits whole facts before at rest old mid → ((header : Header) → before ≡ Some header → at.header ≡ Some header) → Stops refuses failed at rest mid fault told new → IsFeedFault begins steps refuses failed limits bytes facts before told old fault new
+  IsFeedFault-stopped limits bytes whole facts before told at rest old mid new (faults.Malformed n reason) taken walked stays stop =
+      let place : Place = place_behind at.header in
       let test : item_at limits.max_item place rest ≡ Fault reason = subst (λ (l : Limits). item_at l.max_item place rest ≡ Fault reason) walked.has_limits stop.0 in
       let first = fault_is_first limits.max_item whole walked.items place rest reason walked.splits test in
-      let ran = RanOver-walked begins steps limits whole facts before to rest old mid walked (ap is_whole test) in
-      subst (λ (b : List ℕ). IsFirstFault limits.max_item b (faults.Malformed at reason) × (is_settled (faults.Malformed at reason) ≡ true) × RanOver begins steps limits.max_item b facts before to.header old new) taken
-      (subst (λ (n : ℕ). IsFirstFault limits.max_item whole (faults.Malformed n reason)) (sym (stop.1 ∙ walked.offset)) first.0, first.1, subst (RanOver begins steps limits.max_item whole facts before to.header old) stop.2 ran)
-  IsFeedFault-stopped limits bytes whole facts before to rest old mid new (faults.ItemTooLong at) taken walked stop =
-      let place : Place = place_behind to.header in
+      let ran = RanOver-walked begins steps limits whole facts before at rest old mid walked (ap is_whole test) in
+      subst (λ (b : List ℕ). IsFirstFault limits.max_item b (faults.Malformed n reason) × (is_settled (faults.Malformed n reason) ≡ true) × RanOver begins steps limits.max_item b facts before told old new) taken (
+        subst (λ (k : ℕ). IsFirstFault limits.max_item whole (faults.Malformed k reason)) (sym (stop.1 ∙ walked.offset)) first.0,
+        first.1,
+        subst (λ (h : Option Header). RanOver begins steps limits.max_item whole facts before h old new) (sym stop.2) (subst (RanOver begins steps limits.max_item whole facts before at.header old) stop.3 ran),
+      )
+  IsFeedFault-stopped limits bytes whole facts before told at rest old mid new (faults.ItemTooLong n) taken walked stays stop =
+      let place : Place = place_behind at.header in
       let test : item_at limits.max_item place rest ≡ TooLong = subst (λ (l : Limits). item_at l.max_item place rest ≡ TooLong) walked.has_limits stop.0 in
       let first = too_long_is_first limits.max_item whole walked.items place rest walked.splits test in
-      let ran = RanOver-walked begins steps limits whole facts before to rest old mid walked (ap is_whole test) in
-      subst (λ (b : List ℕ). IsFirstFault limits.max_item b (faults.ItemTooLong at) × (is_settled (faults.ItemTooLong at) ≡ true) × RanOver begins steps limits.max_item b facts before to.header old new) taken
-      (subst (λ (n : ℕ). IsFirstFault limits.max_item whole (faults.ItemTooLong n)) (sym (stop.1 ∙ walked.offset)) first, refl, subst (RanOver begins steps limits.max_item whole facts before to.header old) stop.2 ran)
-  IsFeedFault-stopped limits bytes whole facts before to rest old mid new faults.OutOfMemory taken walked stop = absurd stop
-  IsFeedFault-stopped limits bytes whole facts before to rest old mid new (faults.Sink fault) taken walked stop =
-      (mid, subst (λ (b : List ℕ). RanOverSome begins steps limits.max_item b facts before to.header old mid) taken (RanOverSome-walked begins steps limits whole facts before to rest old mid walked), stop)
-  IsFeedFault-stopped limits bytes whole facts before to rest old mid new faults.Failed taken walked stop = absurd stop
-  IsFeedFault-stopped limits bytes whole facts before to rest old mid new faults.Read taken walked stop = absurd stop
-  IsFeedFault-stopped limits bytes whole facts before to rest old mid new faults.ReadsExceeded taken walked stop = absurd stop
-  IsFeedFault-stopped limits bytes whole facts before to rest old mid new faults.BytesExceeded taken walked stop = absurd stop
+      let ran = RanOver-walked begins steps limits whole facts before at rest old mid walked (ap is_whole test) in
+      subst (λ (b : List ℕ). IsFirstFault limits.max_item b (faults.ItemTooLong n) × (is_settled (faults.ItemTooLong n) ≡ true) × RanOver begins steps limits.max_item b facts before told old new) taken (
+        subst (λ (k : ℕ). IsFirstFault limits.max_item whole (faults.ItemTooLong k)) (sym (stop.1 ∙ walked.offset)) first,
+        refl,
+        subst (λ (h : Option Header). RanOver begins steps limits.max_item whole facts before h old new) (sym stop.2) (subst (RanOver begins steps limits.max_item whole facts before at.header old) stop.3 ran),
+      )
+  IsFeedFault-stopped limits bytes whole facts before told at rest old mid new (faults.Sink fault) taken walked stays stop =
+      let is : IsItem limits.max_item (place_behind at.header) stop.0 (place_behind told) = subst (λ (l : Limits). IsItem l.max_item (place_behind at.header) stop.0 (place_behind told)) walked.has_limits stop.2 in
+      (mid, subst (λ (b : List ℕ). RanUpTo begins steps limits.max_item b facts before told old mid) taken (RanUpTo-walked begins steps limits whole facts before at stop.0 stop.1 told rest old mid walked stays is stop.3), stop.4)
+  IsFeedFault-stopped limits bytes whole facts before told at rest old mid new faults.OutOfMemory taken walked stays stop = absurd stop
+  IsFeedFault-stopped limits bytes whole facts before told at rest old mid new faults.Failed taken walked stays stop = absurd stop
+  IsFeedFault-stopped limits bytes whole facts before told at rest old mid new faults.Read taken walked stays stop = absurd stop
+  IsFeedFault-stopped limits bytes whole facts before told at rest old mid new faults.ReadsExceeded taken walked stays stop = absurd stop
+  IsFeedFault-stopped limits bytes whole facts before told at rest old mid new faults.BytesExceeded taken walked stays stop = absurd stop
+
+  -- an item was refused
+  feed_halts : (limits : Limits) (bytes piece taken : List ℕ) (facts : List FactValue) (from : PartReader) (to : Progress) (old new : S) (fault : PartFault)
+      → HasRead limits bytes facts from → bytes ++ taken ≡ take limits.max_bytes (bytes ++ piece) → Halts begins steps refuses failed from.progress (from.held.items ++ taken) old fault to new
+      → IsFeedFault begins steps refuses failed limits (bytes ++ piece) facts (header_of from) to.header old fault new
+  feed_halts limits bytes piece taken facts from to old new fault read whole halts =
+      let walked = HasWalked-on begins steps limits bytes taken facts from halts.at (halts.shown ++ halts.rest) old halts.mid read halts.walked in
+      IsFeedFault-stopped limits (bytes ++ piece) (bytes ++ taken) facts (header_of from) to.header halts.at (halts.shown ++ halts.rest) old halts.mid new fault whole walked
+      (λ header e. Walks-kept begins steps from.progress halts.at (from.held.items ++ taken) (halts.shown ++ halts.rest) old halts.mid header halts.walked e) (Stops-more refuses failed halts.at halts.shown halts.rest halts.mid new fault to.header halts.stops)
 
   -- reading on was refused
-  pub IsFeedFault-read_on : (limits : Limits) (bytes piece taken : List ℕ) (facts : List FactValue) (from : PartReader) (to : Progress) (still : List ℕ) (old new : S) (fault : PartFault)
-      → HasRead limits bytes facts from → bytes ++ taken ≡ take limits.max_bytes (bytes ++ piece) → ReadsOn begins steps refuses failed from.progress from.held.items taken old (Err fault) to still new
-      → IsFeedFault begins steps refuses failed limits (bytes ++ piece) facts (header_of from) to.header old fault new
-  IsFeedFault-read_on limits bytes piece taken facts from to still old new (faults.Malformed at reason) read whole on =
-      IsFeedFault-stopped limits (bytes ++ piece) (bytes ++ taken) facts (header_of from) to on.0 old on.1 new (faults.Malformed at reason) whole (HasWalked-on begins steps limits bytes taken facts from to on.0 old on.1 read on.2) on.3
-  IsFeedFault-read_on limits bytes piece taken facts from to still old new (faults.ItemTooLong at) read whole on =
-      IsFeedFault-stopped limits (bytes ++ piece) (bytes ++ taken) facts (header_of from) to on.0 old on.1 new (faults.ItemTooLong at) whole (HasWalked-on begins steps limits bytes taken facts from to on.0 old on.1 read on.2) on.3
-  IsFeedFault-read_on limits bytes piece taken facts from to still old new faults.OutOfMemory read whole on =
-      subst (λ (b : List ℕ). RanOverSome begins steps limits.max_item b facts (header_of from) to.header old new) whole
-      (RanOverSome-walked begins steps limits (bytes ++ taken) facts (header_of from) to on.0 old new (HasWalked-on begins steps limits bytes taken facts from to on.0 old new read on.1))
-  IsFeedFault-read_on limits bytes piece taken facts from to still old new (faults.Sink fault) read whole on =
-      IsFeedFault-stopped limits (bytes ++ piece) (bytes ++ taken) facts (header_of from) to on.0 old on.1 new (faults.Sink fault) whole (HasWalked-on begins steps limits bytes taken facts from to on.0 old on.1 read on.2) on.3
-  IsFeedFault-read_on limits bytes piece taken facts from to still old new faults.Failed read whole on = absurd on.3
-  IsFeedFault-read_on limits bytes piece taken facts from to still old new faults.Read read whole on = absurd on.3
-  IsFeedFault-read_on limits bytes piece taken facts from to still old new faults.ReadsExceeded read whole on = absurd on.3
-  IsFeedFault-read_on limits bytes piece taken facts from to still old new faults.BytesExceeded read whole on = absurd on.3
+  pub Feeds-read_on : (limits : Limits) (bytes piece taken : List ℕ) (facts : List FactValue) (from to : PartReader) (still : List ℕ) (old new : S) (fault : PartFault)
+      → HasRead limits bytes facts from → bytes ++ taken ≡ take limits.max_bytes (bytes ++ piece) → ReadsOn begins steps refuses failed from.progress from.held.items taken old (Err fault) to.progress still new
+      → Feeds begins steps refuses failed limits bytes facts from piece old (Err fault) to new
+  Feeds-read_on limits bytes piece taken facts from to still old new (faults.Malformed at reason) read whole on = feed_halts limits bytes piece taken facts from to.progress old new (faults.Malformed at reason) read whole on
+  Feeds-read_on limits bytes piece taken facts from to still old new (faults.ItemTooLong at) read whole on = feed_halts limits bytes piece taken facts from to.progress old new (faults.ItemTooLong at) read whole on
+  Feeds-read_on limits bytes piece taken facts from to still old new (faults.Sink fault) read whole on = feed_halts limits bytes piece taken facts from to.progress old new (faults.Sink fault) read whole on
+  Feeds-read_on limits bytes piece taken facts from to still old new faults.OutOfMemory read whole on =
+      inr (IsWithinItem-read limits bytes facts from read on.2, ap (λ (p : Progress). p.header) on.0, on.1)
+  Feeds-read_on limits bytes piece taken facts from to still old new faults.Failed read whole on = absurd on.stops
+  Feeds-read_on limits bytes piece taken facts from to still old new faults.Read read whole on = absurd on.stops
+  Feeds-read_on limits bytes piece taken facts from to still old new faults.ReadsExceeded read whole on = absurd on.stops
+  Feeds-read_on limits bytes piece taken facts from to still old new faults.BytesExceeded read whole on = absurd on.stops
 
   -- there are more bytes than the limit, and no item is refused
   pub IsFeedFault-excess : (limits : Limits) (bytes piece taken : List ℕ) (facts : List FactValue) (from : PartReader) (to : Progress) (still rest : List ℕ) (old new : S)
@@ -248,12 +268,19 @@ module _ {S : Type 0} (begins : S → Header → S → Type 0) (steps : S → Fa
       )
 
   -- there is no memory to hold the rest
-  pub IsFeedFault-memory : (limits : Limits) (bytes piece taken : List ℕ) (facts : List FactValue) (from : PartReader) (to : Progress) (still rest : List ℕ) (old new : S)
-      → HasRead limits bytes facts from → bytes ++ taken ≡ take limits.max_bytes (bytes ++ piece) → ReadsOn begins steps refuses failed from.progress from.held.items taken old (Ok rest) to still new
-      → IsFeedFault begins steps refuses failed limits (bytes ++ piece) facts (header_of from) to.header old faults.OutOfMemory new
-  IsFeedFault-memory limits bytes piece taken facts from to still rest old new read whole on =
-      subst (λ (b : List ℕ). RanOverSome begins steps limits.max_item b facts (header_of from) to.header old new) whole
-      (RanOverSome-walked begins steps limits (bytes ++ taken) facts (header_of from) to (still ++ rest) old new (HasWalked-on begins steps limits bytes taken facts from to (still ++ rest) old new read on.0))
+  feeds_memory : (limits : Limits) (bytes piece : List ℕ) (facts : List FactValue) (from to : PartReader) (still rest : List ℕ) (old new : S)
+      → HasRead limits bytes facts from → length (bytes ++ piece) ≤ limits.max_bytes → ReadsOn begins steps refuses failed from.progress from.held.items piece old (Ok rest) to.progress still new → 0 < length rest
+      → Feeds begins steps refuses failed limits bytes facts from piece old (Err faults.OutOfMemory) to new
+  feeds_memory limits bytes piece facts from to still rest old new read within on some =
+      let place : Place = place_behind (header_of to) in
+      let walked = HasWalked-on begins steps limits bytes piece facts from to.progress (still ++ rest) old new read on.0 in
+      let short : item_at limits.max_item place (still ++ rest) ≡ Short = subst (λ (l : Limits). item_at l.max_item place (still ++ rest) ≡ Short) walked.has_limits on.1 in
+      inl (
+        within,
+        short_unsettled limits.max_item (bytes ++ piece) walked.items place (still ++ rest) walked.splits short,
+        IsWithinItem-walked begins steps limits (bytes ++ piece) facts (header_of from) to.progress (still ++ rest) old new walked short (omega (arith, some, length-append still rest)),
+        RanOver-walked begins steps limits (bytes ++ piece) facts (header_of from) to.progress (still ++ rest) old new walked (ap is_whole short),
+      )
 
   -- the rest is held
   pub Feeds-held : (limits : Limits) (bytes piece : List ℕ) (facts : List FactValue) (from to : PartReader) (still rest : List ℕ) (old new : S) (done : Unit {0})
@@ -268,11 +295,10 @@ module _ {S : Type 0} (begins : S → Header → S → Type 0) (steps : S → Fa
   -- the rest is held, or there is no memory for it
   pub Feeds-hold : (limits : Limits) (bytes piece taken : List ℕ) (facts : List FactValue) (from to : PartReader) (still rest : List ℕ) (old new : S) (result : Result (Unit {0}) PartFault)
       → HasRead limits bytes facts from → length (bytes ++ piece) ≤ limits.max_bytes → taken ≡ piece → ReadsOn begins steps refuses failed from.progress from.held.items taken old (Ok rest) to.progress still new
-      → OnOk result (to.held.items ≡ still ++ rest) → OnErr result ((result ≡ Err faults.OutOfMemory) × (to.held.items ≡ still)) → has_failed to ≡ false → Feeds begins steps refuses failed limits bytes facts from piece old result to new
+      → OnOk result (to.held.items ≡ still ++ rest) → OnErr result ((result ≡ Err faults.OutOfMemory) × (to.held.items ≡ still) × (0 < length rest)) → has_failed to ≡ false → Feeds begins steps refuses failed limits bytes facts from piece old result to new
   Feeds-hold limits bytes piece taken facts from to still rest old new (Ok done) read within all on ok err sound =
       Feeds-held limits bytes piece facts from to still rest old new done read within (subst (λ (t : List ℕ). ReadsOn begins steps refuses failed from.progress from.held.items t old (Ok rest) to.progress still new) all on) ok sound
   Feeds-hold limits bytes piece taken facts from to still rest old new (Err fault) read within all on ok err sound =
       let same : faults.OutOfMemory ≡ fault = out_of_memory fault err.0 in
-      let whole : bytes ++ taken ≡ take limits.max_bytes (bytes ++ piece) = ap (λ (t : List ℕ). bytes ++ t) all ∙ sym (take_all limits.max_bytes (bytes ++ piece) within) in
-      subst (λ (f : PartFault). IsFeedFault begins steps refuses failed limits (bytes ++ piece) facts (header_of from) (header_of to) old f new) same
-      (IsFeedFault-memory limits bytes piece taken facts from to.progress still rest old new read whole on)
+      subst (λ (f : PartFault). Feeds begins steps refuses failed limits bytes facts from piece old (Err f) to new) same
+      (feeds_memory limits bytes piece facts from to still rest old new read within (subst (λ (t : List ℕ). ReadsOn begins steps refuses failed from.progress from.held.items t old (Ok rest) to.progress still new) all on) err.2)

@@ -1,5 +1,5 @@
 -- What a reader that was fed all of a part knows: the part is a header and then records.
-use Rattle.std.proofs.Common.{◌≡◌, ℕ, ◌≤◌, Bool, false, ◌||◌, List, [], ◌∷◌, ◌++◌, length, Option, Some, refl, sym, ap, subst, ◌∙◌, append-nil, arith}
+use Rattle.std.proofs.Common.{◌≡◌, ℕ, ◌≤◌, Bool, false, ◌||◌, List, [], ◌∷◌, ◌++◌, length, Option, Some, Ok, refl, sym, ap, subst, ◌∙◌, append-nil, arith}
 use Rattle.std.proofs.lemmas.List.{length-append}
 use Rattle.std.specs.List.{list_any, AllByRecursion}
 use Rattle.hprof_items.specs.declared.header.Header.{Header}
@@ -8,10 +8,10 @@ use Rattle.hprof_items.specs.Header.{header_bytes, IsMillis}
 use Rattle.hprof_stream.specs.declared.limits.Limits.{Limits}
 use Rattle.hprof_stream.specs.declared.part_reader.PartReader.{PartReader}
 use Rattle.hprof_stream.specs.Record.{IsRecord, states, ends}
-use Rattle.hprof_stream.specs.Part.{Stated, all_bytes, all_facts, is_end, IsWritten, IsSummary}
+use Rattle.hprof_stream.specs.Part.{Stated, all_bytes, all_facts, is_end, IsWritten}
 use Rattle.hprof_stream.specs.Item.{Place, Start, Between, place_behind, IsItem, is_header, is_fact, is_dump_end, AreItems, none, more}
-use Rattle.hprof_stream.specs.Fault.{Splits, HasNoFault}
-use Rattle.hprof_stream.specs.Reader.{header_of, header_count, HasRead, IsUnfinished, longest_held}
+use Rattle.hprof_stream.specs.Fault.{Splits}
+use Rattle.hprof_stream.specs.Reader.{header_of, header_count, HasRead, IsUnfinished, longest_held, Finishes}
 use Rattle.hprof_stream.proofs.Found.{start_no_end}
 use Rattle.hprof_stream.proofs.Refusals.{item_short}
 use Rattle.hprof_stream.proofs.Walks.{item_behind, items_behind}
@@ -79,19 +79,22 @@ HasHeader-read limits bytes facts reader header read behind =
 
 -- the end of a part of which all is read
 pub Finishes-read : (limits : Limits) (bytes : List ℕ) (facts : List FactValue) (reader : PartReader) (header : Header) → HasRead limits bytes facts reader → header_of reader ≡ Some header → reader.held.items ≡ []
-    → HasNoFault limits.max_item bytes × IsSummary bytes (record { header = header; records = reader.progress.records; facts = reader.progress.facts; ended = reader.progress.ended })
+    → Finishes limits bytes facts (header_of reader) (Ok (record { header = header; records = reader.progress.records; facts = reader.progress.facts; ended = reader.progress.ended }))
 Finishes-read limits bytes facts reader header read behind nothing =
     let has = HasHeader-read limits bytes facts reader header read behind in
     let splits : Splits limits.max_item bytes read.items (Between header) [] =
-    subst (λ (h : Option Header). Splits limits.max_item bytes read.items (place_behind h) []) behind (subst (λ (r : List ℕ). Splits limits.max_item bytes read.items (place_behind (header_of reader)) r) nothing read.splits) in (
+    subst (λ (h : Option Header). Splits limits.max_item bytes read.items (place_behind h) []) behind (subst (λ (r : List ℕ). Splits limits.max_item bytes read.items (place_behind (header_of reader)) r) nothing read.splits) in
+    let written : IsWritten bytes header has.records = IsWritten-items header bytes reader.held.items read.items has read.splits.parts nothing in (
       record { items = read.items; place = Between header; splits = splits; at_end = refl },
       record {
         records = has.records;
-        written = IsWritten-items header bytes reader.held.items read.items has read.splits.parts nothing;
+        written = written;
         record_count = omega (arith, read.record_count, ap header_count behind, ap length has.parts);
         fact_count = read.fact_count ∙ ap length (sym read.has_facts ∙ facts_of_records header read.items has);
         has_end = read.has_end ∙ ap (list_any is_end) has.parts ∙ ap (λ (b : Bool). b || list_any is_end has.records) has.no_end;
       },
+      record { header = header; records = has.records; written = written; has_ids = refl; has_millis = refl; has_facts = sym (facts_of_records header read.items has) ∙ read.has_facts },
+      behind,
     )
 
 -- what a reader holds

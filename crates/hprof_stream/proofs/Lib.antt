@@ -5,6 +5,7 @@ pub mod Walks
 pub mod Faults
 pub mod Found
 pub mod Stepping
+pub mod Holding
 pub mod Feeding
 pub mod Finishing
 pub mod Sources

@@ -78,7 +78,7 @@ header_stays bytes more reason e =
     ∙ sized_stays (version_of (take 19 bytes)) bytes more reason g.1
 
 -- a head that is judged
-head_stays : (ids : IdSize) (longest : ℕ) (bytes more : List ℕ) (step : Step Head) → (Short ≡ step → ⊥) → head_at ids longest bytes ≡ step → head_at ids longest (bytes ++ more) ≡ step
+pub head_stays : (ids : IdSize) (longest : ℕ) (bytes more : List ℕ) (step : Step Head) → (Short ≡ step → ⊥) → head_at ids longest bytes ≡ step → head_at ids longest (bytes ++ more) ≡ step
 unfolding head_at number_4
 head_stays ids longest bytes more step never e =
     let judged : ℕ → ℕ → ℕ → Step Head = λ tag time len. judged_head ids longest (record { tag = tag; time = time; length = len }) in
@@ -165,6 +165,9 @@ unfolding header_at
 header_tells bytes =
     cond_both (ltb (length bytes) 19) Short _ (Tells (λ _. Unit {0}) (length bytes < 31) ⊥) (λ t. omega (arith, ltb-true (length bytes) 19 t)) (λ f. sized_tells (version_of (take 19 bytes)) bytes)
 
+pub header_short : (bytes : List ℕ) → header_at bytes ≡ Short → length bytes < 31
+header_short bytes e = subst (Tells (λ _. Unit {0}) (length bytes < 31) ⊥) e (header_tells bytes)
+
 -- a head that is there is no longer than the longest, or refused
 judged_tells : (ids : IdSize) (longest : ℕ) (head : Head) (few : Type 0) → Tells (λ h. is_too_long longest h ≡ false) few (Unit {0}) (judged_head ids longest head)
 judged_tells ids longest head few =
@@ -182,6 +185,9 @@ unfolding head_at number_4
 head_tells ids longest bytes =
     let head : Head = record { tag = slice_index bytes 0; time = number_4 (drop 1 bytes); length = number_4 (drop 5 bytes) } in
     cond_both (ltb (length bytes) 9) Short (judged_head ids longest head) (Tells (λ h. is_too_long longest h ≡ false) (length bytes < 9) (Unit {0})) (λ t. ltb-true (length bytes) 9 t) (λ f. judged_tells ids longest head (length bytes < 9))
+
+pub head_short : (ids : IdSize) (longest : ℕ) (bytes : List ℕ) → head_at ids longest bytes ≡ Short → length bytes < 9
+head_short ids longest bytes e = subst (Tells (λ h. is_too_long longest h ≡ false) (length bytes < 9) (Unit {0})) e (head_tells ids longest bytes)
 
 -- a record of a fact has the tag of one
 fact_kind : (a b c : Bool) → cond a FactRecord (cond b HeapDump (cond c DumpEnd Skipped)) ≡ FactRecord → a ≡ true

@@ -1,32 +1,28 @@
 -- Reading a part from a source: what the reader was fed so far, and what that comes to.
-use Rattle.std.proofs.Common.{◌≡◌, ℕ, Bool, true, false, List, [], ◌++◌, take, Option, Some, None, Result, Ok, Err, refl, sym, ap, subst, ◌∙◌, append-nil, arith}
+use Rattle.std.proofs.Common.{◌≡◌, ℕ, Bool, true, false, ◌+◌, ◌<◌, ◌≤◌, List, [], ◌++◌, length, take, Option, Some, None, ◌-◌, Result, Ok, Err, inl, inr, refl, sym, ap, subst, ◌∙◌, append-nil, arith}
 use Rattle.std.proofs.KnownBytes.{Consumes-nil, Consumes-trans, Consumes-kept}
-use Rattle.std.proofs.lemmas.List.{take_all}
+use Rattle.std.proofs.lemmas.List.{take_all, length-append}
 use Rattle.std.specs.Io.KnownBytes.{Keeps, Consumes, IsAtEnd}
 use Rattle.hprof_items.specs.declared.header.Header.{Header}
 use Rattle.hprof_items.specs.declared.health.Health.{Health}
 use Rattle.hprof_items.specs.declared.health.Health.TheVariants as healths
 use Rattle.hprof_items.specs.declared.step.Reason.TheVariants.{BadMagic, BadIdSize, Truncated, BadLength, BadSubTag, PastEnd, BadType, Unsupported}
-use Rattle.hprof_items.specs.declared.step.Step.TheVariants.{Whole}
 use Rattle.hprof_items.specs.FactValue.{FactValue}
-use Rattle.hprof_items.specs.Reading.{header_at}
-use Rattle.hprof_items.proofs.Headers.{header_again}
 use Rattle.hprof_stream.specs.declared.limits.Limits.{Limits}
 use Rattle.hprof_stream.specs.declared.part_fault.PartFault.{PartFault}
 use Rattle.hprof_stream.specs.declared.part_fault.PartFault.TheVariants as faults
 use Rattle.hprof_stream.specs.declared.part_reader.PartReader.{PartReader}
 use Rattle.hprof_stream.specs.declared.sink.SinkFault.{SinkFault}
 use Rattle.hprof_stream.specs.declared.summary.PartSummary.{PartSummary}
-use Rattle.hprof_stream.specs.Part.{Stated, all_bytes, all_facts, IsPart, IsWritten, IsSummary}
-use Rattle.hprof_stream.specs.Item.{Place, Start, may_end, place_behind, none}
-use Rattle.hprof_stream.specs.Fault.{is_whole, is_settled, HasNoFault, IsFirstFault}
+use Rattle.hprof_stream.specs.Part.{all_facts}
+use Rattle.hprof_stream.specs.Item.{place_behind, header_before}
+use Rattle.hprof_stream.specs.Fault.{is_whole, is_settled, IsFirstFault, StatesSoFar}
 use Rattle.hprof_stream.specs.Run.{Run}
-use Rattle.hprof_stream.specs.Reader.{header_of, HasRead, RanOver, RanOverSome, IsFeedFault, Feeds, Finishes, ReadsPart, FeedsAll}
+use Rattle.hprof_stream.specs.Reader.{header_of, HasRead, RanOver, RanUpTo, IsFeedFault, LacksMemory, Feeds, Finishes, ReadsPart, FeedsAll}
 use Rattle.hprof_stream.proofs.Runs.{Run-then}
 use Rattle.hprof_stream.proofs.Walks.{items_headers}
-use Rattle.hprof_stream.proofs.Faults.{none_stops, splits_once, short_unsettled}
-use Rattle.hprof_stream.proofs.Feeding.{header_at_place}
-use Rattle.hprof_stream.proofs.Finishing.{HasHeader-read, IsWritten-items, facts_of_records}
+use Rattle.hprof_stream.proofs.Faults.{short_unsettled, splits_once}
+use Rattle.hprof_stream.proofs.Feeding.{header_at_place, taken_is}
 
 -- ---- what a reader knows of the facts
 
@@ -35,17 +31,17 @@ pub no_header_no_fact : (limits : Limits) (bytes : List ℕ) (facts : List FactV
 no_header_no_fact limits bytes facts reader read bare =
     sym read.has_facts ∙ ap all_facts ((items_headers limits.max_item None (header_of reader) read.items read.splits.each).0 bare).1
 
--- a place where a part may end is behind a header
-header_at_end : (header : Option Header) (place : Place) → place_behind header ≡ place → may_end place ≡ true → (h : Header) × (header ≡ Some h)
-header_at_end None place e ends = let no : false ≡ true = ap may_end e ∙ ends in absurd cc
-header_at_end (Some header) place e ends = (header, refl)
+-- what a reader has read is what the bytes state so far
+pub StatesSoFar-read : (limits : Limits) (bytes : List ℕ) (facts : List FactValue) (reader : PartReader) → HasRead limits bytes facts reader → StatesSoFar limits.max_item bytes (header_of reader) facts
+StatesSoFar-read limits bytes facts reader read =
+    record { items = read.items; place = place_behind (header_of reader); rest = reader.held.items; splits = read.splits; ends = ap is_whole read.unfinished; has_header = header_at_place (header_of reader); has_facts = read.has_facts }
 
--- bytes are written with one header
-one_header : (bytes : List ℕ) (header other : Header) (records others : List Stated) → IsWritten bytes header records → IsWritten bytes other others → header ≡ other
-one_header bytes header other records others one two =
-    let read : Whole header 31 ≡ Whole other 31 =
-    sym (header_again header (all_bytes records) one.is_millis) ∙ ap header_at (sym one.spelled ∙ two.spelled) ∙ header_again other (all_bytes others) two.is_millis in
-    cc
+-- and that is one thing
+pub states_once : (longest : ℕ) (bytes : List ℕ) (header other : Option Header) (facts others : List FactValue) → StatesSoFar longest bytes header facts → StatesSoFar longest bytes other others
+    → (header ≡ other) × (facts ≡ others)
+states_once longest bytes header other facts others one two =
+    let once = splits_once longest bytes one.items two.items one.place two.place one.rest two.rest one.splits two.splits one.ends two.ends in
+    (sym one.has_header ∙ ap header_before once.1 ∙ two.has_header, sym one.has_facts ∙ ap all_facts once.0 ∙ two.has_facts)
 
 -- ---- runs from where reading began
 
@@ -59,24 +55,36 @@ module _ {S : Type 0} (begins : S → Header → S → Type 0) (steps : S → Fa
     ran = Run-then begins steps old mid new None before after facts over.handed (λ e. (refl, bare e)) stays first over.ran;
   }
 
-  -- the same over the items at the front alone
-  pub RanOverSome-from : (longest : ℕ) (bytes : List ℕ) (facts : List FactValue) (before after : Option Header) (old mid new : S) → Run begins steps old before facts mid → (before ≡ None → facts ≡ [])
-      → ((header : Header) → before ≡ Some header → after ≡ Some header) → RanOverSome begins steps longest bytes facts before after mid new → RanOverSome begins steps longest bytes [] None after old new
-  RanOverSome-from longest bytes facts before after old mid new first bare stays some =
-      record { front = some.front; back = some.back; parts = some.parts; over = RanOver-from longest some.front facts before after old mid new first bare stays some.over }
+  -- the same, up to an item that the sink was then given
+  pub RanUpTo-from : (longest : ℕ) (bytes : List ℕ) (facts : List FactValue) (before told : Option Header) (old mid new : S) → Run begins steps old before facts mid → (before ≡ None → facts ≡ [])
+      → RanUpTo begins steps longest bytes facts before told mid new → RanUpTo begins steps longest bytes [] None told old new
+  RanUpTo-from longest bytes facts before told old mid new first bare over = record {
+    items = over.items;
+    header = over.header;
+    one = over.one;
+    back = over.back;
+    stays = λ header e. absurd cc;
+    each = over.each;
+    next = over.next;
+    parts = over.parts;
+    handed = facts ++ over.handed;
+    has_facts = over.has_facts;
+    ran = Run-then begins steps old mid new None before over.header facts over.handed (λ e. (refl, bare e)) over.stays first over.ran;
+  }
 
   -- what a reader has read, the sink ran over
   pub RanOver-read : (limits : Limits) (bytes : List ℕ) (facts : List FactValue) (reader : PartReader) (old new : S) → HasRead limits bytes facts reader → Run begins steps old (header_of reader) facts new
       → RanOver begins steps limits.max_item bytes [] None (header_of reader) old new
   RanOver-read limits bytes facts reader old new read ran = record {
     handed = facts;
-    states = record { items = read.items; place = place_behind (header_of reader); rest = reader.held.items; splits = read.splits; ends = ap is_whole read.unfinished; has_header = header_at_place (header_of reader); has_facts = read.has_facts };
+    states = StatesSoFar-read limits bytes facts reader read;
     ran = ran;
   }
 
-  -- a reader that was fed what came from a source since it was new, with no fault
-  pub record HasFed (limits : Limits) (first left : Option (List ℕ)) (reader : PartReader) (old new : S) : Type 0 where
+  -- a reader that was fed what came from a source since it was new, at least a byte at each turn, with no fault
+  pub record HasFed (limits : Limits) (turns : ℕ) (first left : Option (List ℕ)) (reader : PartReader) (old new : S) : Type 0 where
     pub came : List ℕ
+    pub gave : turns ≤ length came
     pub consumed : Consumes first left came
     pub facts : List FactValue
     pub read : HasRead limits came facts reader
@@ -84,14 +92,15 @@ module _ {S : Type 0} (begins : S → Header → S → Type 0) (steps : S → Fa
 
 module _ {S : Type 0} (begins : S → Header → S → Type 0) (steps : S → FactValue → S → Type 0) (refuses : S → SinkFault → Type 0) (failed : S → Bool) where
   -- a piece came, and was fed
-  pub HasFed-more : (limits : Limits) (first left rest : Option (List ℕ)) (reader next : PartReader) (old mid new : S) (piece : List ℕ) (done : Unit {0}) → Consumes left rest piece
+  pub HasFed-more : (limits : Limits) (turns : ℕ) (first left rest : Option (List ℕ)) (reader next : PartReader) (old mid new : S) (piece : List ℕ) (done : Unit {0}) → Consumes left rest piece → 0 < length piece
       → ((bytes : List ℕ) (facts : List FactValue) → HasRead limits bytes facts reader → Feeds begins steps refuses failed limits bytes facts reader piece mid (Ok done) next new)
       → ((header : Header) → header_of reader ≡ Some header → header_of next ≡ Some header)
-      → HasFed begins steps limits first left reader old mid → HasFed begins steps limits first rest next old new
-  HasFed-more limits first left rest reader next old mid new piece done consumed feeds stays fed =
+      → HasFed begins steps limits turns first left reader old mid → HasFed begins steps limits (turns + 1) first rest next old new
+  HasFed-more limits turns first left rest reader next old mid new piece done consumed some feeds stays fed =
       let on = feeds fed.came fed.facts fed.read in
       record {
         came = fed.came ++ piece;
+        gave = omega (arith, fed.gave, some, length-append fed.came piece);
         consumed = Consumes-trans first left rest fed.came piece fed.consumed consumed;
         facts = fed.facts ++ on.0;
         read = on.1;
@@ -105,10 +114,16 @@ module _ {S : Type 0} (begins : S → Header → S → Type 0) (steps : S → Fa
       (is.0, is.1, RanOver-from begins steps limits.max_item (take limits.max_bytes bytes) facts before after old mid new first bare stays is.2)
   IsFeedFault-from limits bytes facts before after old mid new (faults.ItemTooLong at) first bare stays is =
       (is.0, is.1, RanOver-from begins steps limits.max_item (take limits.max_bytes bytes) facts before after old mid new first bare stays is.2)
-  IsFeedFault-from limits bytes facts before after old mid new faults.OutOfMemory first bare stays is =
-      RanOverSome-from begins steps limits.max_item (take limits.max_bytes bytes) facts before after old mid new first bare stays is
+  IsFeedFault-from limits bytes facts before after old mid new faults.OutOfMemory first bare stays is = record {
+    front = is.front;
+    back = is.back;
+    parts = is.parts;
+    unsettled = is.unsettled;
+    within = is.within;
+    over = RanOver-from begins steps limits.max_item is.front facts before after old mid new first bare stays is.over;
+  }
   IsFeedFault-from limits bytes facts before after old mid new (faults.Sink fault) first bare stays is =
-      (is.0, RanOverSome-from begins steps limits.max_item (take limits.max_bytes bytes) facts before after old mid is.0 first bare stays is.1, is.2)
+      (is.0, RanUpTo-from begins steps limits.max_item (take limits.max_bytes bytes) facts before after old mid is.0 first bare is.1, is.2)
   IsFeedFault-from limits bytes facts before after old mid new faults.Failed first bare stays is = is
   IsFeedFault-from limits bytes facts before after old mid new faults.Read first bare stays is = is
   IsFeedFault-from limits bytes facts before after old mid new faults.ReadsExceeded first bare stays is = is
@@ -127,38 +142,83 @@ module _ {S : Type 0} (begins : S → Header → S → Type 0) (steps : S → Fa
   ReadsPart-fed limits came left health spent header old new (faults.Malformed at BadType) well is = (well, (header, is))
   ReadsPart-fed limits came left health spent header old new (faults.Malformed at Unsupported) well is = (well, (header, is))
   ReadsPart-fed limits came left health spent header old new (faults.ItemTooLong at) well is = (well, (header, is))
-  ReadsPart-fed limits came left health spent header old new faults.OutOfMemory well is = (well, (header, is))
+  ReadsPart-fed limits came left health spent header old new faults.OutOfMemory well is = (well, inr (header, is))
   ReadsPart-fed limits came left health spent header old new (faults.Sink fault) well is = (well, (header, is))
   ReadsPart-fed limits came left health spent header old new faults.Failed well is = absurd is
   ReadsPart-fed limits came left health spent header old new faults.Read well is = absurd is
   ReadsPart-fed limits came left health spent header old new faults.ReadsExceeded well is = absurd is
   ReadsPart-fed limits came left health spent header old new faults.BytesExceeded well is = (well, (header, is))
 
+  -- a growth that was refused at the last piece
+  lacks_memory : (limits : Limits) (bytes : List ℕ) (facts : List FactValue) (from to : PartReader) (piece : List ℕ) (old mid new : S) → HasRead limits bytes facts from → Run begins steps old (header_of from) facts mid
+      → ((header : Header) → header_of from ≡ Some header → header_of to ≡ Some header) → LacksMemory begins steps refuses failed limits bytes facts (header_of from) piece mid (header_of to) new
+      → IsFeedFault begins steps refuses failed limits (bytes ++ piece) [] None (header_of to) old faults.OutOfMemory new
+  lacks_memory limits bytes facts from to piece old mid new read first stays (inl all) = record {
+    front = bytes ++ piece;
+    back = [];
+    parts = take_all limits.max_bytes (bytes ++ piece) all.0 ∙ sym (append-nil (bytes ++ piece));
+    unsettled = all.1;
+    within = all.2;
+    over = RanOver-from begins steps limits.max_item (bytes ++ piece) facts (header_of from) (header_of to) old mid new first (no_header_no_fact limits bytes facts from read) stays all.3;
+  }
+  lacks_memory limits bytes facts from to piece old mid new read first stays (inr held) = record {
+    front = bytes;
+    back = take (limits.max_bytes - length bytes) piece;
+    parts = taken_is limits.max_bytes bytes piece read.within;
+    unsettled = short_unsettled limits.max_item bytes read.items (place_behind (header_of from)) from.held.items read.splits read.unfinished;
+    within = held.0;
+    over = subst (λ (h : Option Header). RanOver begins steps limits.max_item bytes [] None h old new) (sym held.1)
+        (subst (RanOver begins steps limits.max_item bytes [] None (header_of from) old) held.2 (RanOver-read begins steps limits bytes facts from old mid read first));
+  }
+
+  -- a fault of the last piece is what reading the part comes to
+  ReadsPart-feeds : (limits : Limits) (bytes : List ℕ) (facts : List FactValue) (from to : PartReader) (piece : List ℕ) (left : Option (List ℕ)) (health : Health) (spent : Type 0) (old mid new : S) (fault : PartFault) → health ≡ healths.Well
+      → HasRead limits bytes facts from → Run begins steps old (header_of from) facts mid → ((header : Header) → header_of from ≡ Some header → header_of to ≡ Some header)
+      → Feeds begins steps refuses failed limits bytes facts from piece mid (Err fault) to new → ReadsPart begins steps refuses failed limits (bytes ++ piece) left health spent old (Err fault) new
+  ReadsPart-feeds limits bytes facts from to piece left health spent old mid new fault well read first stays fed =
+      ReadsPart-fed limits (bytes ++ piece) left health spent (header_of to) old new fault well (by fault fed)
+    where
+      more : (f : PartFault) → IsFeedFault begins steps refuses failed limits (bytes ++ piece) facts (header_of from) (header_of to) mid f new → IsFeedFault begins steps refuses failed limits (bytes ++ piece) [] None (header_of to) old f new
+      more f is = IsFeedFault-from limits (bytes ++ piece) facts (header_of from) (header_of to) old mid new f first (no_header_no_fact limits bytes facts from read) stays is
+
+      by : (f : PartFault) → Feeds begins steps refuses failed limits bytes facts from piece mid (Err f) to new → IsFeedFault begins steps refuses failed limits (bytes ++ piece) [] None (header_of to) old f new
+      by (faults.Malformed at reason) is = more (faults.Malformed at reason) is
+      by (faults.ItemTooLong at) is = more (faults.ItemTooLong at) is
+      by faults.OutOfMemory is = lacks_memory limits bytes facts from to piece old mid new read first stays is
+      by (faults.Sink why) is = more (faults.Sink why) is
+      by faults.Failed is = more faults.Failed is
+      by faults.Read is = more faults.Read is
+      by faults.ReadsExceeded is = more faults.ReadsExceeded is
+      by faults.BytesExceeded is = more faults.BytesExceeded is
+
   -- a piece came, and feeding it was refused
-  pub HasFed-fault : (limits : Limits) (first left rest : Option (List ℕ)) (health : Health) (spent : Type 0) (reader next : PartReader) (old mid new : S) (piece : List ℕ) (fault : PartFault) → Consumes left rest piece
+  pub HasFed-fault : (limits : Limits) (turns before after : ℕ) (first left rest : Option (List ℕ)) (health : Health) (spent : Type 0) (reader next : PartReader) (old mid new : S) (piece : List ℕ) (fault : PartFault) → Consumes left rest piece
       → ((bytes : List ℕ) (facts : List FactValue) → HasRead limits bytes facts reader → Feeds begins steps refuses failed limits bytes facts reader piece mid (Err fault) next new)
-      → ((header : Header) → header_of reader ≡ Some header → header_of next ≡ Some header) → health ≡ healths.Well → HasFed begins steps limits first left reader old mid
-      → (came : List ℕ) × Consumes first rest came × FeedsAll begins steps refuses failed limits came rest health spent old (Err fault) next new
-  HasFed-fault limits first left rest health spent reader next old mid new piece fault consumed feeds stays well fed = (
+      → ((header : Header) → header_of reader ≡ Some header → header_of next ≡ Some header) → health ≡ healths.Well → HasFed begins steps limits turns first left reader old mid → after ≤ before + turns + 1
+      → (came : List ℕ) × Consumes first rest came × (after ≤ before + length came + 1) × FeedsAll begins steps refuses failed limits came rest health spent old (Err fault) next new
+  HasFed-fault limits turns before after first left rest health spent reader next old mid new piece fault consumed feeds stays well fed pulls = (
     fed.came ++ piece,
     Consumes-trans first left rest fed.came piece fed.consumed consumed,
-    ReadsPart-fed limits (fed.came ++ piece) rest health spent (header_of next) old new fault well
-        (IsFeedFault-from limits (fed.came ++ piece) fed.facts (header_of reader) (header_of next) old mid new fault fed.ran (no_header_no_fact limits fed.came fed.facts reader fed.read) stays (feeds fed.came fed.facts fed.read)),
+    omega (arith, fed.gave, pulls, length-append fed.came piece),
+    ReadsPart-feeds limits fed.came fed.facts reader next piece rest health spent old mid new fault well fed.read fed.ran stays (feeds fed.came fed.facts fed.read),
   )
 
   -- nothing more came
-  pub HasFed-end : (limits : Limits) (first left rest : Option (List ℕ)) (health : Health) (spent : Type 0) (reader : PartReader) (old new : S) (piece : List ℕ) (done : Unit {0}) → Consumes left rest piece → piece ≡ [] → IsAtEnd rest → health ≡ healths.Well
-      → HasFed begins steps limits first left reader old new → (came : List ℕ) × Consumes first rest came × FeedsAll begins steps refuses failed limits came rest health spent old (Ok done) reader new
-  HasFed-end limits first left rest health spent reader old new piece done consumed nothing end well fed =
+  pub HasFed-end : (limits : Limits) (turns before after : ℕ) (first left rest : Option (List ℕ)) (health : Health) (spent : Type 0) (reader : PartReader) (old new : S) (piece : List ℕ) (done : Unit {0}) → Consumes left rest piece → piece ≡ [] → IsAtEnd rest → health ≡ healths.Well
+      → HasFed begins steps limits turns first left reader old new → after ≤ before + turns + 1
+      → (came : List ℕ) × Consumes first rest came × (after ≤ before + length came + 1) × FeedsAll begins steps refuses failed limits came rest health spent old (Ok done) reader new
+  HasFed-end limits turns before after first left rest health spent reader old new piece done consumed nothing end well fed pulls =
       let same : fed.came ++ piece ≡ fed.came = ap (λ (p : List ℕ). fed.came ++ p) nothing ∙ append-nil fed.came in
-      (fed.came, subst (Consumes first rest) same (Consumes-trans first left rest fed.came piece fed.consumed consumed), (end, well, (fed.facts, fed.read, fed.ran)))
+      (fed.came, subst (Consumes first rest) same (Consumes-trans first left rest fed.came piece fed.consumed consumed), omega (arith, fed.gave, pulls), (end, well, (fed.facts, fed.read, fed.ran)))
 
   -- what came is judged before the source's failure
-  pub HasFed-failed : (limits : Limits) (first left rest : Option (List ℕ)) (health : Health) (spent : Type 0) (reader : PartReader) (old new : S) → Keeps left rest → health ≡ healths.Failed
-      → HasFed begins steps limits first left reader old new → (came : List ℕ) × Consumes first rest came × FeedsAll begins steps refuses failed limits came rest health spent old (Err faults.Read) reader new
-  HasFed-failed limits first left rest health spent reader old new kept ill fed = (
+  pub HasFed-failed : (limits : Limits) (turns before after : ℕ) (first left rest : Option (List ℕ)) (health : Health) (spent : Type 0) (reader : PartReader) (old new : S) → Keeps left rest → health ≡ healths.Failed
+      → HasFed begins steps limits turns first left reader old new → after ≤ before + turns + 1
+      → (came : List ℕ) × Consumes first rest came × (after ≤ before + length came + 1) × FeedsAll begins steps refuses failed limits came rest health spent old (Err faults.Read) reader new
+  HasFed-failed limits turns before after first left rest health spent reader old new kept ill fed pulls = (
     fed.came,
     Consumes-kept first left rest fed.came fed.consumed kept,
+    omega (arith, fed.gave, pulls),
     (
       ill,
       fed.read.within,
@@ -168,14 +228,17 @@ module _ {S : Type 0} (begins : S → Header → S → Type 0) (steps : S → Fa
   )
 
   -- what came is judged before there are too many reads
-  pub HasFed-spent : (limits : Limits) (first left : Option (List ℕ)) (health : Health) (spent : Type 0) (reader : PartReader) (old new : S) → health ≡ healths.Well → spent
-      → HasFed begins steps limits first left reader old new → (came : List ℕ) × Consumes first left came × FeedsAll begins steps refuses failed limits came left health spent old (Err faults.ReadsExceeded) reader new
-  HasFed-spent limits first left health spent reader old new well is fed = (
+  pub HasFed-spent : (limits : Limits) (turns before after : ℕ) (first left : Option (List ℕ)) (health : Health) (spent : Type 0) (reader : PartReader) (old new : S) → health ≡ healths.Well → spent
+      → HasFed begins steps limits turns first left reader old new → limits.max_reads ≤ turns → after ≤ before + turns
+      → (came : List ℕ) × Consumes first left came × (after ≤ before + length came + 1) × FeedsAll begins steps refuses failed limits came left health spent old (Err faults.ReadsExceeded) reader new
+  HasFed-spent limits turns before after first left health spent reader old new well is fed enough pulls = (
     fed.came,
     fed.consumed,
+    omega (arith, fed.gave, pulls),
     (
       well,
       is,
+      omega (arith, fed.gave, enough),
       fed.read.within,
       short_unsettled limits.max_item fed.came fed.read.items (place_behind (header_of reader)) reader.held.items fed.read.splits fed.read.unfinished,
       (header_of reader, RanOver-read begins steps limits fed.came fed.facts reader old new fed.read fed.ran),
@@ -184,26 +247,9 @@ module _ {S : Type 0} (begins : S → Header → S → Type 0) (steps : S → Fa
 
   -- the end of a part that came whole
   ReadsPart-whole : (limits : Limits) (came : List ℕ) (left : Option (List ℕ)) (health : Health) (spent : Type 0) (reader : PartReader) (facts : List FactValue) (old new : S) (summary : PartSummary) → IsAtEnd left → health ≡ healths.Well
-      → HasRead limits came facts reader → Run begins steps old (header_of reader) facts new → Finishes limits came (Ok summary) → ReadsPart begins steps refuses failed limits came left health spent old (Ok summary) new
+      → HasRead limits came facts reader → Run begins steps old (header_of reader) facts new → Finishes limits came facts (header_of reader) (Ok summary) → ReadsPart begins steps refuses failed limits came left health spent old (Ok summary) new
   ReadsPart-whole limits came left health spent reader facts old new summary end well read ran finished =
-      let sound : HasNoFault limits.max_item came = finished.0 in
-      let whole : IsSummary came summary = finished.1 in
-      let once = splits_once limits.max_item came read.items sound.items (place_behind (header_of reader)) sound.place reader.held.items [] read.splits sound.splits (ap is_whole read.unfinished) (none_stops limits.max_item sound.place) in
-      let had = header_at_end (header_of reader) sound.place once.1 sound.at_end in
-      let header : Header = had.0 in
-      let has = HasHeader-read limits came facts reader header read had.1 in
-      let written : IsWritten came header has.records = IsWritten-items header came reader.held.items read.items has read.splits.parts once.2 in
-      let same : header ≡ summary.header = one_header came header summary.header has.records whole.records written whole.written in
-      let part : IsPart came summary.header.ids summary.header.millis facts = record {
-        header = header;
-        records = has.records;
-        written = written;
-        has_ids = ap (λ (h : Header). h.ids) same;
-        has_millis = ap (λ (h : Header). h.millis) same;
-        has_facts = sym (facts_of_records header read.items has) ∙ read.has_facts;
-      } in
-      let run : Run begins steps old (Some summary.header) facts new = subst (λ (h : Option Header). Run begins steps old h facts new) (had.1 ∙ ap (λ (h : Header). Some h) same) ran in
-      (end, well, read.within, sound, whole, (facts, part, run))
+      (end, well, read.within, finished.0, finished.1, (facts, finished.2, subst (λ (h : Option Header). Run begins steps old h facts new) finished.3 ran))
 
   -- the end of a part that did not come whole
   ReadsPart-cut : (limits : Limits) (came : List ℕ) (left : Option (List ℕ)) (health : Health) (spent : Type 0) (reader : PartReader) (facts : List FactValue) (old new : S) (fault : PartFault) → IsAtEnd left → health ≡ healths.Well
@@ -227,7 +273,7 @@ module _ {S : Type 0} (begins : S → Header → S → Type 0) (steps : S → Fa
 
   -- the end of a part
   pub ReadsPart-finished : (limits : Limits) (came : List ℕ) (left : Option (List ℕ)) (health : Health) (spent : Type 0) (reader : PartReader) (old new : S) (done : Unit {0}) (result : Result PartSummary PartFault)
-      → FeedsAll begins steps refuses failed limits came left health spent old (Ok done) reader new → ((facts : List FactValue) → HasRead limits came facts reader → Finishes limits came result)
+      → FeedsAll begins steps refuses failed limits came left health spent old (Ok done) reader new → ((facts : List FactValue) → HasRead limits came facts reader → Finishes limits came facts (header_of reader) result)
       → ReadsPart begins steps refuses failed limits came left health spent old result new
   ReadsPart-finished limits came left health spent reader old new done (Ok summary) fed finishes =
       ReadsPart-whole limits came left health spent reader fed.2.0 old new summary fed.0 fed.1 fed.2.1 fed.2.2 (finishes fed.2.0 fed.2.1)
@@ -236,26 +282,15 @@ module _ {S : Type 0} (begins : S → Header → S → Type 0) (steps : S → Fa
       ReadsPart-cut limits came left health spent reader fed.2.0 old new fault fed.0 fed.1 fed.2.1 fed.2.2 is.0 is.1
 
   -- no memory for a piece
-  pub ReadsPart-memory : (limits : Limits) (left : Option (List ℕ)) (health : Health) (spent : Type 0) (sink : S) → health ≡ healths.Well
-      → (came : List ℕ) × Consumes left left came × ReadsPart begins steps refuses failed limits came left health spent sink (Err faults.OutOfMemory) sink
-  ReadsPart-memory limits left health spent sink well =
-      let nothing : take limits.max_bytes [] ≡ [] = take_all limits.max_bytes [] (omega arith) in (
+  pub ReadsPart-memory : (limits : Limits) (pulls : ℕ) (left : Option (List ℕ)) (health : Health) (spent : Type 0) (sink : S) → health ≡ healths.Well
+      → (came : List ℕ) × Consumes left left came × (pulls ≤ pulls + length came + 1) × ReadsPart begins steps refuses failed limits came left health spent sink (Err faults.OutOfMemory) sink
+  ReadsPart-memory limits pulls left health spent sink well =
+      let few : pulls ≤ pulls + length {A = ℕ} [] + 1 = omega arith in (
         [],
         Consumes-nil left,
+        few,
         (
           well,
-          (
-            None,
-            record {
-              front = [];
-              back = [];
-              parts = nothing;
-              over = record {
-                handed = [];
-                states = record { items = []; place = Start; rest = []; splits = record { each = none; parts = refl }; ends = none_stops limits.max_item Start; has_header = refl; has_facts = refl };
-                ran = refl;
-              };
-            },
-          ),
+          inl (refl, refl),
         ),
       )

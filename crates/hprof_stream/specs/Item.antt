@@ -83,6 +83,13 @@ found_behind header Short bytes = Short
 found_behind header TooLong bytes = TooLong
 found_behind header (Fault reason) bytes = Fault reason
 
+-- whether more bytes are needed
+abbrev pub is_short : {A : Type 0} → Step A → Bool
+is_short (Whole value n) = false
+is_short Short = true
+is_short TooLong = false
+is_short (Fault reason) = false
+
 -- the item at the front, or the first of its tests that fails
 unfoldable pub item_at : ℕ → Place → List ℕ → Step Found
 item_at longest Start bytes = found_header (header_at bytes)

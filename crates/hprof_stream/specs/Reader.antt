@@ -1,5 +1,5 @@
 -- What a reader of a part has read, and what reading on does.
-use Rattle.std.specs.Prelude.{◌≡◌, ◌||◌, ◌⊎◌, ℕ, ◌+◌, ◌^◌, ◌≤◌, ◌<◌, max, Bool, true, false, List, ◌++◌, length, take, drop, [], Option, Some, None, Result, Ok, Err, ⊤}
+use Rattle.std.specs.Prelude.{◌≡◌, ◌≢◌, ◌||◌, ◌⊎◌, ℕ, ◌+◌, ◌^◌, ◌≤◌, ◌<◌, max, Bool, true, false, List, ◌++◌, length, take, drop, [], Option, Some, None, Result, Ok, Err, ⊤}
 use Rattle.std.specs.List.{list_any}
 use Rattle.std.specs.Borrow.{Bor}
 use Rattle.std.specs.Io.KnownBytes.{IsAtEnd}
@@ -8,7 +8,7 @@ use Rattle.hprof_items.specs.declared.health.Health.{Health}
 use Rattle.hprof_items.specs.declared.health.Health.TheVariants as healths
 use Rattle.hprof_items.specs.declared.ids.IdSize.{IdSize}
 use Rattle.hprof_items.specs.declared.step.Reason.TheVariants.{Truncated}
-use Rattle.hprof_items.specs.declared.step.Step.TheVariants.{Short, TooLong, Fault}
+use Rattle.hprof_items.specs.declared.step.Step.TheVariants.{Whole, Short, TooLong, Fault}
 use Rattle.hprof_items.specs.FactValue.{FactValue}
 use Rattle.hprof_stream.specs.declared.limits.Limits.{Limits}
 use Rattle.hprof_stream.specs.declared.part_fault.PartFault.{PartFault}
@@ -18,7 +18,7 @@ use Rattle.hprof_stream.specs.declared.progress.Progress.{Progress}
 use Rattle.hprof_stream.specs.declared.part_reader.PartReader.{PartReader}
 use Rattle.hprof_stream.specs.declared.summary.PartSummary.{PartSummary}
 use Rattle.hprof_stream.specs.Part.{Stated, all_bytes, all_facts, is_end, IsPart, IsSummary}
-use Rattle.hprof_stream.specs.Item.{Place, place_behind, AreItems, item_at}
+use Rattle.hprof_stream.specs.Item.{Place, Start, place_behind, Found, IsItem, AreItems, item_at}
 use Rattle.hprof_stream.specs.Fault.{Splits, HasNoFault, IsFirstFault, HasNoSettledFault, StatesSoFar, is_settled}
 use Rattle.hprof_stream.specs.Run.{Run, became}
 
@@ -80,9 +80,27 @@ pub record IsUnfinished (longest : ℕ) (bytes : List ℕ) (count : ℕ) : Type 
   pub short : item_at longest place rest ≡ Short
   pub has_count : length rest ≡ count
 
+-- some bytes are those of an item that is not whole yet
+abbrev pub IsWithinItem : ℕ → List ℕ → Type 0
+IsWithinItem longest bytes = (count : ℕ) × IsUnfinished longest bytes count × (0 < count)
+
 -- the longer of a header and the longest item with its head
 abbrev pub longest_held : ℕ → ℕ
 longest_held longest = max 31 (9 + longest)
+
+-- ---- the item that is held
+
+-- the item has so many bytes at least, of which these are held; where as many are held, it is settled
+abbrev pub HasAtLeast : ℕ → Option Header → List ℕ → ℕ → Type 0
+HasAtLeast longest header held least =
+    (least ≤ length held → item_at longest (place_behind header) held ≢ Short)
+    × ((more : List ℕ) (found : Found) (n : ℕ) → length held < least → item_at longest (place_behind header) (held ++ more) ≡ Whole found n → least ≤ n)
+
+-- the front of the bytes was added to what was held, which is one item at most, and one where any of them are left
+pub record Fills (progress : Progress) (held bytes now rest : List ℕ) : Type 0 where
+  pub moved : held ++ bytes ≡ now ++ rest
+  pub one : (found : Found) (n : ℕ) → item_at progress.limits.max_item (place_behind progress.header) now ≡ Whole found n → length now ≤ n
+  pub all : item_at progress.limits.max_item (place_behind progress.header) now ≡ Short → rest ≡ []
 
 -- ---- reading on
 
@@ -106,11 +124,29 @@ module _ {S : Type 0} (begins : S → Header → S → Type 0) (steps : S → Fa
     pub states : StatesSoFar longest bytes to (facts ++ handed)
     pub ran : Run begins steps old (became from to) handed new
 
-  -- the same over the items at the front alone
-  pub record RanOverSome (longest : ℕ) (bytes : List ℕ) (facts : List FactValue) (from to : Option Header) (old new : S) : Type 0 where
+  -- the same over the items at the front, up to one that the sink was then given
+  --   header: that of the items, and also that which was read before, if any;  to: that which was read by then
+  pub record RanUpTo (longest : ℕ) (bytes : List ℕ) (facts : List FactValue) (from to : Option Header) (old new : S) : Type 0 where
+    pub items : List Stated
+    pub header : Option Header
+    pub one : Stated
+    pub back : List ℕ
+    pub stays : (before : Header) → from ≡ Some before → header ≡ Some before
+    pub each : AreItems longest Start items (place_behind header)
+    pub next : IsItem longest (place_behind header) one (place_behind to)
+    pub parts : bytes ≡ all_bytes items ++ (one.bytes ++ back)
+    pub handed : List FactValue
+    pub has_facts : all_facts items ≡ facts ++ handed
+    pub ran : Run begins steps old (became from header) handed new
+
+  -- the item at the end of a front of the bytes is not whole, nothing is wrong so far, and the sink has run over the
+  -- whole items of that front
+  pub record RanWithin (longest : ℕ) (bytes : List ℕ) (facts : List FactValue) (from to : Option Header) (old new : S) : Type 0 where
     pub front : List ℕ
     pub back : List ℕ
     pub parts : bytes ≡ front ++ back
+    pub unsettled : HasNoSettledFault longest front
+    pub within : IsWithinItem longest front
     pub over : RanOver longest front facts from to old new
 
 module _ {S : Type 0} (refuses : S → SinkFault → Type 0) (failed : S → Bool) where
@@ -118,18 +154,21 @@ module _ {S : Type 0} (refuses : S → SinkFault → Type 0) (failed : S → Boo
   abbrev pub Refuses : S → SinkFault → S → Type 0
   Refuses old fault new = refuses old fault × (failed new ≡ true)
 
-  -- why no step was taken at the front of the bytes
-  abbrev pub Stops : Progress → List ℕ → S → PartFault → S → Type 0
-  Stops progress bytes old (faults.Malformed at reason) new =
-      (item_at progress.limits.max_item (place_behind progress.header) bytes ≡ Fault reason) × (at ≡ progress.at) × (old ≡ new)
-  Stops progress bytes old (faults.ItemTooLong at) new =
-      (item_at progress.limits.max_item (place_behind progress.header) bytes ≡ TooLong) × (at ≡ progress.at) × (old ≡ new)
-  Stops progress bytes old (faults.Sink fault) new = Refuses old fault new
-  Stops progress bytes old faults.OutOfMemory new = ⊥
-  Stops progress bytes old faults.Failed new = ⊥
-  Stops progress bytes old faults.Read new = ⊥
-  Stops progress bytes old faults.ReadsExceeded new = ⊥
-  Stops progress bytes old faults.BytesExceeded new = ⊥
+  -- why no step was taken at the front of the bytes: the item is refused, or it is whole and the sink refuses it
+  --   told: the header that was read by then
+  abbrev pub Stops : Progress → List ℕ → S → PartFault → Option Header → S → Type 0
+  Stops progress bytes old (faults.Malformed at reason) told new =
+      (item_at progress.limits.max_item (place_behind progress.header) bytes ≡ Fault reason) × (at ≡ progress.at) × (told ≡ progress.header) × (old ≡ new)
+  Stops progress bytes old (faults.ItemTooLong at) told new =
+      (item_at progress.limits.max_item (place_behind progress.header) bytes ≡ TooLong) × (at ≡ progress.at) × (told ≡ progress.header) × (old ≡ new)
+  Stops progress bytes old (faults.Sink fault) told new =
+      (one : Stated) × (back : List ℕ) × IsItem progress.limits.max_item (place_behind progress.header) one (place_behind told)
+      × (bytes ≡ one.bytes ++ back) × Refuses old fault new
+  Stops progress bytes old faults.OutOfMemory told new = ⊥
+  Stops progress bytes old faults.Failed told new = ⊥
+  Stops progress bytes old faults.Read told new = ⊥
+  Stops progress bytes old faults.ReadsExceeded told new = ⊥
+  Stops progress bytes old faults.BytesExceeded told new = ⊥
 
 module _ {S : Type 0} (begins : S → Header → S → Type 0) (steps : S → FactValue → S → Type 0) (refuses : S → SinkFault → Type 0) (failed : S → Bool) where
   -- a fault of an item, which no further byte changes: the first fault of the bytes that are taken
@@ -148,9 +187,9 @@ module _ {S : Type 0} (begins : S → Header → S → Type 0) (steps : S → Fa
       (limits.max_bytes < length bytes) × HasNoSettledFault limits.max_item (take limits.max_bytes bytes)
       × RanOver begins steps limits.max_item (take limits.max_bytes bytes) facts before after old new
   IsFeedFault limits bytes facts before after old faults.OutOfMemory new =
-      RanOverSome begins steps limits.max_item (take limits.max_bytes bytes) facts before after old new
+      RanWithin begins steps limits.max_item (take limits.max_bytes bytes) facts before after old new
   IsFeedFault limits bytes facts before after old (faults.Sink fault) new =
-      (mid : S) × RanOverSome begins steps limits.max_item (take limits.max_bytes bytes) facts before after old mid
+      (mid : S) × RanUpTo begins steps limits.max_item (take limits.max_bytes bytes) facts before after old mid
       × Refuses refuses failed mid fault new
   IsFeedFault limits bytes facts before after old faults.Failed new = ⊥
   IsFeedFault limits bytes facts before after old faults.Read new = ⊥
@@ -163,43 +202,59 @@ module _ {S : Type 0} (begins : S → Header → S → Type 0) (steps : S → Fa
       (item_at from.limits.max_item (place_behind from.header) bytes ≡ Short) × (from ≡ to) × (old ≡ new)
   StepsOver from bytes old (Ok (Some n)) to new =
       Walks begins steps from bytes old to (drop n bytes) new × (0 < n) × (n ≤ length bytes)
-  StepsOver from bytes old (Err fault) to new = Stops refuses failed from bytes old fault new × (from ≡ to)
+      × ((found : Found) × (item_at from.limits.max_item (place_behind from.header) bytes ≡ Whole found n))
+  StepsOver from bytes old (Err fault) to new = Stops refuses failed from bytes old fault to.header new × (to ≡ record from { header = to.header })
+
+  -- whole items were walked over, and of the next one these bytes were shown, and it was refused
+  pub record Halts (from : Progress) (bytes : List ℕ) (old : S) (fault : PartFault) (to : Progress) (new : S) : Type 0 where
+    pub shown : List ℕ
+    pub rest : List ℕ
+    pub mid : S
+    pub at : Progress
+    pub walked : Walks begins steps from bytes old at (shown ++ rest) mid
+    pub stops : Stops refuses failed at shown mid fault to.header new
+    pub stands : to ≡ record at { header = to.header }
 
   -- whole items were walked over up to a rest that needs more bytes, or up to one that is refused
   abbrev pub WalksAll : Progress → List ℕ → S → Result (List ℕ) PartFault → Progress → S → Type 0
   WalksAll from bytes old (Ok rest) to new =
       Walks begins steps from bytes old to rest new × (item_at to.limits.max_item (place_behind to.header) rest ≡ Short)
-  WalksAll from bytes old (Err fault) to new =
-      (rest : List ℕ) × (mid : S) × Walks begins steps from bytes old to rest mid × Stops refuses failed to rest mid fault new
+  WalksAll from bytes old (Err fault) to new = Halts from bytes old fault to new
 
-  -- the held item was made whole as far as the bytes go: nothing is held, or nothing is left and the held item needs
-  -- more; or the item was refused, of which these bytes were shown
+  -- what is held, if anything, is made whole, which leaves a rest, or needs more bytes than there are; or it was refused, or could not
+  -- be held further, before anything was handed on
   abbrev pub FinishesHeld : Progress → List ℕ → List ℕ → S → Result (List ℕ) PartFault → Progress → List ℕ → S → Type 0
   FinishesHeld from held bytes old (Ok rest) to still new =
       Walks begins steps from (held ++ bytes) old to (still ++ rest) new
       × ((still ≡ []) ⊎ ((rest ≡ []) × (item_at to.limits.max_item (place_behind to.header) still ≡ Short)))
-  FinishesHeld from held bytes old (Err faults.OutOfMemory) to still new =
-      (rest : List ℕ) × Walks begins steps from (held ++ bytes) old to rest new
-  FinishesHeld from held bytes old (Err fault) to still new =
-      (shown : List ℕ) × (rest : List ℕ) × (mid : S) × Walks begins steps from (held ++ bytes) old to (shown ++ rest) mid
-      × Stops refuses failed to shown mid fault new
+  FinishesHeld from held bytes old (Err faults.OutOfMemory) to still new = (to ≡ from) × (old ≡ new) × (still ≡ []) × (0 < length held)
+  FinishesHeld from held bytes old (Err fault) to still new = Halts from (held ++ bytes) old fault to new × (still ≡ [])
 
   -- whole items were walked over up to a rest that needs more bytes, which is held or behind what is held; or up to
-  -- one that is refused, or where memory ran out
+  -- one that is refused; or what was held could not be held further, before anything was handed on
   abbrev pub ReadsOn : Progress → List ℕ → List ℕ → S → Result (List ℕ) PartFault → Progress → List ℕ → S → Type 0
   ReadsOn from held bytes old (Ok rest) to still new =
       Walks begins steps from (held ++ bytes) old to (still ++ rest) new
       × (item_at to.limits.max_item (place_behind to.header) (still ++ rest) ≡ Short)
-  ReadsOn from held bytes old (Err faults.OutOfMemory) to still new =
-      (rest : List ℕ) × Walks begins steps from (held ++ bytes) old to rest new
-  ReadsOn from held bytes old (Err fault) to still new =
-      (rest : List ℕ) × (mid : S) × Walks begins steps from (held ++ bytes) old to rest mid × Stops refuses failed to rest mid fault new
+  ReadsOn from held bytes old (Err faults.OutOfMemory) to still new = (to ≡ from) × (old ≡ new) × (0 < length held)
+  ReadsOn from held bytes old (Err fault) to still new = Halts from (held ++ bytes) old fault to new
+
+  -- a growth was refused: the item in which all the bytes end could not be held, when nothing was wrong in them and the
+  -- sink had run over all that is whole; or the one in which they ended before the piece came could not be held
+  -- further, when nothing of the piece had been handed on
+  abbrev pub LacksMemory : Limits → List ℕ → List FactValue → Option Header → List ℕ → S → Option Header → S → Type 0
+  LacksMemory limits bytes facts before piece old after new =
+      ((length (bytes ++ piece) ≤ limits.max_bytes) × HasNoSettledFault limits.max_item (bytes ++ piece) × IsWithinItem limits.max_item (bytes ++ piece)
+      × RanOver begins steps limits.max_item (bytes ++ piece) facts before after old new)
+      ⊎ (IsWithinItem limits.max_item bytes × (after ≡ before) × (old ≡ new))
 
   -- what feeding a piece does, to a reader that was fed bytes which state facts
   abbrev pub Feeds : Limits → List ℕ → List FactValue → PartReader → List ℕ → S → Result (Unit {0}) PartFault → PartReader → S → Type 0
   Feeds limits bytes facts from piece old (Ok _) to new =
       (handed : List FactValue) × HasRead limits (bytes ++ piece) (facts ++ handed) to
       × Run begins steps old (became (header_of from) (header_of to)) handed new
+  Feeds limits bytes facts from piece old (Err faults.OutOfMemory) to new =
+      LacksMemory limits bytes facts (header_of from) piece old (header_of to) new
   Feeds limits bytes facts from piece old (Err fault) to new =
       IsFeedFault begins steps refuses failed limits (bytes ++ piece) facts (header_of from) (header_of to) old fault new
 
@@ -210,16 +265,18 @@ seen (Err fault) = Err fault
 
 -- ---- the end of a part
 
--- what the end of the input makes of bytes that were fed with no fault
-abbrev pub Finishes : Limits → List ℕ → Result PartSummary PartFault → Type 0
-Finishes limits bytes (Ok summary) = HasNoFault limits.max_item bytes × IsSummary bytes summary
-Finishes limits bytes (Err fault) = IsFirstFault limits.max_item bytes fault × (is_settled fault ≡ false)
+-- what the end of the input makes of bytes that were fed with no fault and state these facts
+abbrev pub Finishes : Limits → List ℕ → List FactValue → Option Header → Result PartSummary PartFault → Type 0
+Finishes limits bytes facts header (Ok summary) =
+    HasNoFault limits.max_item bytes × IsSummary bytes summary × IsPart bytes summary.header.ids summary.header.millis facts × (header ≡ Some summary.header)
+Finishes limits bytes facts header (Err fault) = IsFirstFault limits.max_item bytes fault × (is_settled fault ≡ false)
 
 -- ---- a part from a source
 
 module _ {S : Type 0} (begins : S → Header → S → Type 0) (steps : S → FactValue → S → Type 0) (refuses : S → SinkFault → Type 0) (failed : S → Bool) where
   -- what reading a part to its end comes to, where these bytes came
-  --   left, health: of the source, afterwards;  spent: it made as many pulls as it may, or as can be counted
+  --   left, health: of the source, afterwards;  spent: it made as many pulls as it may, or as can be counted, each
+  --   of which gave a byte
   abbrev pub ReadsPart : Limits → List ℕ → Option (List ℕ) → Health → Type 0 → S → Result PartSummary PartFault → S → Type 0
   ReadsPart limits came left health spent old (Ok summary) new =
       IsAtEnd left × (health ≡ healths.Well) × (length came ≤ limits.max_bytes) × HasNoFault limits.max_item came × IsSummary came summary
@@ -228,11 +285,14 @@ module _ {S : Type 0} (begins : S → Header → S → Type 0) (steps : S → Fa
       (health ≡ healths.Failed) × (length came ≤ limits.max_bytes) × HasNoSettledFault limits.max_item came
       × ((header : Option Header) × RanOver begins steps limits.max_item came [] None header old new)
   ReadsPart limits came left health spent old (Err faults.ReadsExceeded) new =
-      (health ≡ healths.Well) × spent × (length came ≤ limits.max_bytes) × HasNoSettledFault limits.max_item came
+      (health ≡ healths.Well) × spent × (limits.max_reads ≤ length came) × (length came ≤ limits.max_bytes) × HasNoSettledFault limits.max_item came
       × ((header : Option Header) × RanOver begins steps limits.max_item came [] None header old new)
   ReadsPart limits came left health spent old (Err (faults.Malformed at Truncated)) new =
       IsAtEnd left × (health ≡ healths.Well) × (length came ≤ limits.max_bytes) × IsFirstFault limits.max_item came (faults.Malformed at Truncated)
       × ((header : Option Header) × RanOver begins steps limits.max_item came [] None header old new)
+  ReadsPart limits came left health spent old (Err faults.OutOfMemory) new =
+      (health ≡ healths.Well) × (((came ≡ []) × (old ≡ new))
+      ⊎ ((header : Option Header) × IsFeedFault begins steps refuses failed limits came [] None header old faults.OutOfMemory new))
   ReadsPart limits came left health spent old (Err fault) new =
       (health ≡ healths.Well) × ((header : Option Header) × IsFeedFault begins steps refuses failed limits came [] None header old fault new)
 

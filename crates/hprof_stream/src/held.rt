@@ -1,22 +1,19 @@
 //! The bytes of an item that is not whole yet.
 
-ghost use Rattle.std.specs.Prelude.{◌≡◌, ◌+◌, ◌<◌, ◌≤◌, ◌++◌, length, drop, IfOk, OnOk, OnErr};
-ghost use Rattle.hprof_stream.specs.Reader.{IsCounted, IsBegun, FinishesHeld, ReadsOn, seen};
+ghost use Rattle.std.specs.Prelude.{◌≡◌, ◌+◌, ◌<◌, ◌++◌, length, Some, IfOk, OnOk, OnErr};
+ghost use Rattle.hprof_items.specs.declared.step.Step.TheVariants.{Short};
+ghost use Rattle.hprof_stream.specs.Item.{place_behind, item_at};
+ghost use Rattle.hprof_stream.specs.Reader.{IsCounted, IsBegun, HasAtLeast, Fills, FinishesHeld, ReadsOn, seen};
 
 use crate::part_fault::PartFault;
 use crate::progress::Progress;
 use crate::sink::Sink;
-use hprof_items::{Step, read_head};
-
-/// The number of bytes in a header, and in the head of a record.
-const HEADER_LEN: usize = 31;
-
-const HEAD_LEN: usize = 9;
+use hprof_items::{HEAD_LEN, HEADER_LEN, HeadKind, Header, Step, read_head};
 
 /// Adds bytes to those that are held.
 pub(crate) fn hold(held: &mut Vec<u8>, bytes: &[u8]) -> Result<(), PartFault>
     ensures ok { OnOk result (held.new.items ≡ held.old.items ++ bytes.now) }
-    ensures err { OnErr result ((result ≡ Err PartFault.OutOfMemory) × (held.new.items ≡ held.old.items)) }
+    ensures err { OnErr result ((result ≡ Err PartFault.OutOfMemory) × (held.new.items ≡ held.old.items) × (0 < length bytes.now)) }
 {
     match held.extend_from_slice(bytes) {
         Ok(()) => Ok(()),
@@ -24,21 +21,54 @@ pub(crate) fn hold(held: &mut Vec<u8>, bytes: &[u8]) -> Result<(), PartFault>
     }
 }
 
-/// How many bytes are wanted to judge the held item further: at least one.
-fn wanted(progress: &Progress, held: &[u8]) -> usize
-    ensures { 0 < result }
+/// How many bytes a record has at least, of which some are held.
+fn least_record(header: &Header, held: &[u8], longest: u32) -> usize
+    ensures { HasAtLeast longest (Some header.now) held.now result }
 {
-    let len = match progress.header {
-        None => HEADER_LEN,
-        Some(header) => match read_head(held, header.ids, progress.limits.max_item) {
-            Step::Whole(head, len) => len + head.length as usize,
-            _ => HEAD_LEN,
+    match read_head(held, header.ids, longest) {
+        Step::Whole(head, _) => match head.kind() {
+            HeadKind::FactRecord => HEAD_LEN + head.length as usize,
+            HeadKind::HeapDump | HeadKind::DumpEnd | HeadKind::Skipped => HEAD_LEN,
         },
-    };
-    len.saturating_sub(held.len()).max(1)
+        Step::Short | Step::TooLong | Step::Fault(_) => HEAD_LEN,
+    }
 }
 
-/// Makes the held item whole, as far as the bytes go, and answers what is behind it.
+/// How many bytes an item has at least, of which some are held.
+fn least_len(progress: &Progress, held: &[u8]) -> usize
+    ensures { HasAtLeast progress.now.limits.max_item progress.now.header held.now result }
+{
+    match progress.header {
+        None => HEADER_LEN,
+        Some(header) => least_record(&header, held, progress.limits.max_item),
+    }
+}
+
+/// Adds to the held item what it wants of the bytes, and answers what is behind that.
+fn fill_held<'a>(
+    progress: &Progress,
+    held: &mut Vec<u8>,
+    bytes: &'a [u8],
+) -> Result<&'a [u8], PartFault>
+    requires short { item_at progress.now.limits.max_item (place_behind progress.now.header) held.old.items ≡ Short }
+    ensures ok { IfOk result (λ rest. Fills progress.now held.old.items bytes.now held.new.items rest.now) }
+    ensures err { OnErr result (result ≡ Err PartFault.OutOfMemory) }
+{
+    let mut rest = bytes;
+    loop {
+        let wanted = least_len(progress, held).saturating_sub(held.len());
+        let count = wanted.min(rest.len());
+        if count == 0 {
+            return Ok(rest);
+        }
+        let (more, after) = rest.split_at(count);
+        hold(held, more)?;
+        rest = after;
+    }
+}
+
+/// Makes the held item whole, as far as the bytes go, and hands it to the sink. It answers what is behind the item.
+/// Nothing is held any more but an item that needs more bytes than there are.
 fn finish_held<'a, S: Sink>(
     progress: &mut Progress,
     held: &mut Vec<u8>,
@@ -47,24 +77,30 @@ fn finish_held<'a, S: Sink>(
 ) -> Result<&'a [u8], PartFault>
     requires counted { IsCounted progress.old (length held.old.items + length bytes.now) }
     requires begun { IsBegun progress.old.header (S.begun sink.old) }
+    requires short { item_at progress.old.limits.max_item (place_behind progress.old.header) held.old.items ≡ Short }
     ensures finished { FinishesHeld S.begins S.steps S.refuses S.failed
         progress.old held.old.items bytes.now sink.old (seen result) progress.new held.new.items sink.new }
     ensures counted { IsCounted progress.new (length held.new.items) }
     ensures begun { OnOk result (IsBegun progress.new.header (S.begun sink.new)) }
 {
-    let mut rest = bytes;
-    while !held.is_empty() {
-        match progress.step(held, sink)? {
-            Some(len) => cut_front(held, len),
-            None if rest.is_empty() => break,
-            None => {
-                let (more, after) = rest.split_at(wanted(progress, held).min(rest.len()));
-                hold(held, more)?;
-                rest = after;
-            }
+    if held.is_empty() {
+        return Ok(bytes);
+    }
+    let Ok(rest) = fill_held(progress, held, bytes) else {
+        held.clear();
+        return Err(PartFault::OutOfMemory);
+    };
+    match progress.step(held, sink) {
+        Ok(None) => Ok(rest),
+        Ok(Some(_)) => {
+            held.clear();
+            Ok(rest)
+        }
+        Err(fault) => {
+            held.clear();
+            Err(fault)
         }
     }
-    Ok(rest)
 }
 
 /// Steps over the whole items at the front of what is held and the bytes behind it, and answers which of the bytes
@@ -77,8 +113,10 @@ pub(crate) fn read_on<'a, S: Sink>(
 ) -> Result<&'a [u8], PartFault>
     requires counted { IsCounted progress.old (length held.old.items + length bytes.now) }
     requires begun { IsBegun progress.old.header (S.begun sink.old) }
+    requires short { item_at progress.old.limits.max_item (place_behind progress.old.header) held.old.items ≡ Short }
     ensures read { ReadsOn S.begins S.steps S.refuses S.failed
         progress.old held.old.items bytes.now sink.old (seen result) progress.new held.new.items sink.new }
+    ensures short { item_at progress.new.limits.max_item (place_behind progress.new.header) held.new.items ≡ Short }
     ensures counted { IsCounted progress.new (length held.new.items) }
     ensures room { IfOk result (λ rest. IsCounted progress.new (length held.new.items + length rest.now)) }
     ensures begun { OnOk result (IsBegun progress.new.header (S.begun sink.new)) }
@@ -88,17 +126,5 @@ pub(crate) fn read_on<'a, S: Sink>(
         progress.walk(rest, sink)
     } else {
         Ok(rest)
-    }
-}
-
-/// Drops the bytes of an item that was handed on. Nothing stands behind it, but for an item that wants no byte.
-fn cut_front(held: &mut Vec<u8>, len: usize)
-    requires { len ≤ length held.old.items }
-    ensures { held.new.items ≡ drop len held.old.items }
-{
-    if len == held.len() {
-        held.clear();
-    } else {
-        held.drain(..len);
     }
 }

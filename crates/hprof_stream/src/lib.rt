@@ -2,6 +2,7 @@
 #![tactic(auto)]
 
 mod held;
+pub mod laws;
 mod limits;
 mod part_fault;
 mod part_reader;

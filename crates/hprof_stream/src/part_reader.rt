@@ -4,6 +4,7 @@ ghost use Rattle.std.specs.Prelude.{◌≡◌, ℕ, ◌+◌, ◌≤◌, List, []
 ghost use Rattle.hprof_items.specs.declared.header.Header.{Header};
 ghost use Rattle.hprof_items.specs.declared.ids.IdSize.{IdSize};
 ghost use Rattle.hprof_items.specs.FactValue.{FactValue};
+ghost use Rattle.hprof_stream.specs.Item.{place_behind, is_short, item_at};
 
 use crate::held::{hold, read_on};
 use crate::limits::Limits;
@@ -24,6 +25,7 @@ pub struct PartReader {
     ghost counted: { progress.records ≤ progress.at },
     ghost stated: { progress.facts ≤ progress.at },
     ghost emptied: { failed ≡ true → length held.items ≡ 0 },
+    ghost short: { is_short (item_at progress.limits.max_item (place_behind progress.header) held.items) ≡ true },
 }
 
 impl PartReader {
@@ -46,7 +48,8 @@ impl PartReader {
     /// order. After a fault the reader has failed, and answers `Failed` to each later call.
     ///
     /// The first item that is not whole and right is refused, as soon as no further byte could change that; then
-    /// more bytes than the limit. A growth of the reader that is refused comes before what would be tested later.
+    /// more bytes than the limit. A growth of the reader that is refused comes before what would be tested later. Where
+    /// the header was read before, the sink was begun with its size and with no other since.
     pub fn feed<S: Sink>(&mut self, piece: &[u8], sink: &mut S) -> Result<(), PartFault>
         requires { IsReady self.old (S.begun sink.old) }
         ensures fed { (limits : Limits) (bytes : List ℕ) (facts : List FactValue) → HasRead limits bytes facts self.old
@@ -68,7 +71,7 @@ impl PartReader {
         outcome
     }
 
-    /// The header, as soon as it was read. It stays after a fault.
+    /// The header, as soon as it was read, also where the sink refuses it. It stays after a fault.
     pub fn header(&self) -> Option<Header>
         ensures { result ≡ header_of self.now }
     {
@@ -84,9 +87,11 @@ impl PartReader {
         self.held.len()
     }
 
-    /// The end of the part.
+    /// The end of the part: what was read of it, where the bytes end behind an item and a header is there. Else they
+    /// are cut short at the offset of the item that is not whole. A reader that has failed answers `Failed`.
     pub fn finish(self) -> Result<PartSummary, PartFault>
-        ensures finished { (limits : Limits) (bytes : List ℕ) (facts : List FactValue) → HasRead limits bytes facts self → Finishes limits bytes result }
+        ensures finished { (limits : Limits) (bytes : List ℕ) (facts : List FactValue) → HasRead limits bytes facts self
+            → Finishes limits bytes facts (header_of self) result }
         ensures failed { has_failed self ≡ true → result ≡ Err PartFault.Failed }
     {
         if self.failed {

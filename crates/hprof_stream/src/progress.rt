@@ -9,7 +9,7 @@ ghost use Rattle.hprof_stream.specs.Fault.{IsStopAt};
 use crate::limits::Limits;
 use crate::part_fault::PartFault;
 use crate::sink::Sink;
-use hprof_items::{Head, HeadKind, Header, Step, read_body, read_head, read_header};
+use hprof_items::{HEAD_LEN, Head, HeadKind, Header, Step, read_body, read_head, read_header};
 
 /// What has been read of a part: its whole items from the front.
 #[derive(Clone, Copy)]
@@ -26,9 +26,6 @@ pub(crate) struct Progress {
     /// Whether a record ended a heap dump.
     pub(crate) ended: bool,
 }
-
-/// The number of bytes in a record's head.
-const HEAD_LEN: usize = 9;
 
 /// What was read, with its number of bytes, or None where more bytes are needed.
 fn if_whole<T>(step: Step<T>, at: u64) -> Result<Option<(T, usize)>, PartFault>
@@ -74,10 +71,11 @@ impl Progress {
         let Some((header, len)) = if_whole(read_header(bytes), self.at)? else {
             return Ok(None);
         };
+        // It was read, also where the sink refuses it.
+        self.header = Some(header);
         if let Err(fault) = sink.begin_part(header) {
             return Err(PartFault::Sink(fault));
         }
-        self.header = Some(header);
         self.at += len as u64;
         Ok(Some(len))
     }

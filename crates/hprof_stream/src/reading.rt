@@ -30,7 +30,7 @@ fn feed_all<R: Source, S: Sink>(
     requires begun { IsReady reader.old (S.begun sink.old) }
     ensures fed { (limits : Limits) → HasRead limits [] [] reader.old → limits.max_reads ≡ max_reads
         → ((came : List ℕ) × Consumes (R.left source.old) (R.left source.new) came
-        × FeedsAll S.begins S.steps S.refuses S.failed limits came (R.left source.new) (R.health source.new)
+        × (R.pulls source.new ≤ R.pulls source.old + length came + 1) × FeedsAll S.begins S.steps S.refuses S.failed limits came (R.left source.new) (R.health source.new)
         (R.pulls source.old < 2 ^ 64 → R.pulls source.new ≡ min (R.pulls source.old + max_reads) (2 ^ 64 - 1)) sink.old result reader.new sink.new) }
     ensures pulls { R.pulls source.new ≤ R.pulls source.old + max_reads }
 {
@@ -55,9 +55,10 @@ pub fn read_part<R: Source, S: Sink>(
     sink: &mut S,
 ) -> Result<PartSummary, PartFault>
     requires { R.health source.old ≡ Well }
-    // Bytes came, and this is what they come to. The pulls are told where their count was below 2^64.
+    // Bytes came, one or more with each pull but the last, and this is what they come to. How many pulls make too many
+    // reads is told where their count was below 2^64.
     ensures read { (came : List ℕ) × Consumes (R.left source.old) (R.left source.new) came
-        × ReadsPart S.begins S.steps S.refuses S.failed limits came (R.left source.new) (R.health source.new)
+        × (R.pulls source.new ≤ R.pulls source.old + length came + 1) × ReadsPart S.begins S.steps S.refuses S.failed limits came (R.left source.new) (R.health source.new)
         (R.pulls source.old < 2 ^ 64 → R.pulls source.new ≡ min (R.pulls source.old + limits.max_reads) (2 ^ 64 - 1)) sink.old result sink.new }
     // No more reads were made than the limit.
     ensures pulls { R.pulls source.new ≤ R.pulls source.old + limits.max_reads }

@@ -106,6 +106,48 @@ fn a_part_in_pieces(rt: HostRuntime) {
         };
         assert_eq!(rt; reader.finish(), Ok(want), "{len}");
     }
+    laws::bytes_state_one_thing();
+}
+
+// Refuses each header.
+#[derive(Drop)]
+struct Closed {
+    failed: bool,
+}
+
+impl Sink for Closed {
+    ghost begins = { λ _ _ _. Unit {0} };
+
+    ghost steps = { λ _ _ _. Unit {0} };
+
+    ghost begun = { λ _. None };
+
+    ghost failed = { λ s. s.failed };
+
+    ghost refuses = { λ _ _. Unit {0} };
+
+    fn begin_part(&mut self, _header: Header) -> Result<(), SinkFault> {
+        self.failed = true;
+        Err(SinkFault::Failed)
+    }
+
+    fn take(&mut self, _fact: Fact<'_>) -> Result<(), SinkFault> {
+        self.failed = true;
+        Err(SinkFault::Failed)
+    }
+}
+
+#[test]
+fn a_header_that_is_refused(rt: HostRuntime) {
+    let mut sink = Closed { failed: false };
+    let mut reader = PartReader::new(rt.alloc(), Limits::usual());
+    assert_eq!(rt;
+        reader.feed(PART, &mut sink),
+        Err(PartFault::Sink(SinkFault::Failed))
+    );
+    assert_eq!(rt; reader.header(), Some(HEADER));
+    assert_eq!(rt; reader.buffered(), 0);
+    assert_eq!(rt; reader.finish(), Err(PartFault::Failed));
 }
 
 #[test]

@@ -13,7 +13,7 @@ use Rattle.hprof_stream.specs.declared.part_fault.PartFault.TheVariants as fault
 use Rattle.hprof_stream.specs.declared.sink.SinkFault.{SinkFault}
 use Rattle.hprof_stream.specs.declared.sink.SinkFault.TheVariants as sinks
 use Rattle.hprof_stream.specs.Fault.{IsFirstFault, is_lasting, is_settled}
-use Rattle.hprof_stream.specs.Reader.{RanOverSome, ReadsPart}
+use Rattle.hprof_stream.specs.Reader.{RanUpTo, ReadsPart}
 use Rattle.hprof_heap.specs.declared.gatherer.Gatherer.{Gatherer}
 use Rattle.hprof_heap.specs.Gathering.{gathered, Begins, Takes}
 use Rattle.hprof_tool.specs.Joining.{IsPartFault, IsOfPart}
@@ -47,10 +47,10 @@ abbrev pub shown_failed : Gatherer → Bool
 shown_failed gatherer = (gathered gatherer).failed
 
 -- a gatherer that had not failed refuses nothing but for want of memory
-no_failure : (limits : Limits) (bytes : List ℕ) (header : Option Header) (old mid : Gatherer) → (gathered old).failed ≡ false
-    → RanOverSome shown_begins shown_steps limits.max_item bytes [] None header old mid → shown_refuses mid sinks.Failed → ⊥
-no_failure limits bytes header old mid sound ran refuses =
-    let still = Run-sound (gathered old) (gathered mid) header ran.over.handed (Run-shown old mid header ran.over.handed ran.over.ran) sound in
+no_failure : (limits : Limits) (bytes : List ℕ) (told : Option Header) (old mid : Gatherer) → (gathered old).failed ≡ false
+    → RanUpTo shown_begins shown_steps limits.max_item bytes [] None told old mid → shown_refuses mid sinks.Failed → ⊥
+no_failure limits bytes told old mid sound ran refuses =
+    let still = Run-sound (gathered old) (gathered mid) ran.header ran.handed (Run-shown old mid ran.header ran.handed ran.ran) sound in
     let other : sinks.Failed ≡ sinks.OutOfMemory = refuses still in
     cc
 
@@ -73,7 +73,7 @@ fault_of_came limits came left health spent old new (faults.Sink sinks.Failed) s
     no_failure limits (take limits.max_bytes came) reads.1.0 old reads.1.1.0 sound reads.1.1.1 reads.1.1.2.0
 fault_of_came limits came left health spent old new faults.Failed sound reads = absurd reads.1.1
 fault_of_came limits came left health spent old new faults.Read sound reads = (reads.0, reads.1, reads.2)
-fault_of_came limits came left health spent old new faults.ReadsExceeded sound reads = (reads.0, reads.1, reads.2, reads.3)
+fault_of_came limits came left health spent old new faults.ReadsExceeded sound reads = (reads.0, reads.1, reads.2, reads.3, reads.4)
 fault_of_came limits came left health spent old new faults.BytesExceeded sound reads = (reads.0, reads.1.1.0, reads.1.1.1)
 
 -- a fault of an item that came is the first of the whole part

@@ -64,7 +64,8 @@ abbrev pub IsAccepted : Limits → List ℕ → Type 0
 IsAccepted limits bytes = HasNoFault limits.max_item bytes × (length bytes ≤ limits.max_bytes)
 
 -- with which fault a part is refused of which these bytes came, and were judged as far as they may be taken
---   left, health: of the reader, afterwards;  spent: it was pulled as often as it may be, or as can be counted
+--   left, health: of the reader, afterwards;  spent: it was pulled as often as it may be, or as can be counted, and each
+--   pull gave a byte
 abbrev pub IsPartFault : Limits → List ℕ → Option (List ℕ) → Health → Type 0 → PartFault → Type 0
 IsPartFault limits came left health spent (faults.Malformed at reason) =
     (health ≡ healths.Well) × IsFirstFault limits.max_item (take limits.max_bytes came) (faults.Malformed at reason)
@@ -76,7 +77,7 @@ IsPartFault limits came left health spent faults.BytesExceeded =
 IsPartFault limits came left health spent faults.Read =
     (health ≡ healths.Failed) × (length came ≤ limits.max_bytes) × HasNoSettledFault limits.max_item came
 IsPartFault limits came left health spent faults.ReadsExceeded =
-    (health ≡ healths.Well) × spent × (length came ≤ limits.max_bytes) × HasNoSettledFault limits.max_item came
+    (health ≡ healths.Well) × spent × (limits.max_reads ≤ length came) × (length came ≤ limits.max_bytes) × HasNoSettledFault limits.max_item came
 IsPartFault limits came left health spent faults.OutOfMemory = health ≡ healths.Well
 IsPartFault limits came left health spent (faults.Sink sinks.OutOfMemory) = health ≡ healths.Well
 IsPartFault limits came left health spent (faults.Sink sinks.Failed) = ⊥
@@ -93,7 +94,8 @@ abbrev pub AreSpent : ℕ → ℕ → ℕ → Type 0
 AreSpent old new most = old < 2 ^ 64 → new ≡ min (old + most) (2 ^ 64 - 1)
 
 module _ {R : Type 0} (left : R → Option (List ℕ)) (health : R → Health) (pulls : R → ℕ) where
-  -- the reader at that place had so much left, was read on over these bytes, and was refused with the fault
+  -- the reader at that place was read over these bytes, one or more with each pull but the last, and was refused with
+  -- the fault; those behind it were not touched
   pub record RefusesAt (limits : Limits) (old new : List R) (index : ℕ) (fault : PartFault) : Type 0 where
     pub was : R
     pub is : R
@@ -101,6 +103,7 @@ module _ {R : Type 0} (left : R → Option (List ℕ)) (health : R → Health) (
     pub is_there : slice_get new index ≡ Some is
     pub came : List ℕ
     pub consumed : Consumes (left was) (left is) came
+    pub pulled : pulls is ≤ pulls was + length came + 1
     pub refused : IsPartFault limits came (left is) (health is) (AreSpent (pulls was) (pulls is) limits.max_reads) fault
     pub unread : (k : ℕ) → index < k → slice_get new k ≡ slice_get old k
 

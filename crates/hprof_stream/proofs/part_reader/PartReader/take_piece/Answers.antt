@@ -3,7 +3,7 @@ use Rattle.std.proofs.lemmas.List.{take_all, length-drop}
 use Rattle.std.proofs.lemmas.Result.{err_from_is_err_and}
 use Rattle.hprof_stream.specs.Reader.{seen}
 use Rattle.hprof_stream.proofs.Stepping.{ReadsOn-kept}
-use Rattle.hprof_stream.proofs.Feeding.{none_left, some_left, taken_whole, taken_some, taken_all, IsFeedFault-read_on, IsFeedFault-excess, Feeds-hold}
+use Rattle.hprof_stream.proofs.Feeding.{none_left, some_left, taken_whole, taken_some, taken_all, Feeds-read_on, IsFeedFault-excess, Feeds-hold}
 use Rattle.hprof_stream.proofs.part_reader.PartReader.take_piece.Goals as goal
 
 pub returns-in_err-rest-clause-fed : goal.returns-in_err-rest-clause-fed
@@ -13,7 +13,7 @@ returns-in_err-rest-clause-fed g c =
     let piece = c.args.piece.now in
     let taken = c.split_at.result.0.now in
     let count : c.min.result ≡ min (self.progress.limits.max_bytes - self.progress.at - length self.held.items) (length piece) = omega (arith, self.held.ok.0) in
-    λ limits bytes facts read. rw (p.1, p.2) (IsFeedFault-read_on g.S.Sink.begins g.S.Sink.steps g.S.Sink.refuses g.S.Sink.failed limits bytes piece taken facts self c.read_on.new.progress c.read_on.new.held.items
+    λ limits bytes facts read. rw (p.1, p.2) (Feeds-read_on g.S.Sink.begins g.S.Sink.steps g.S.Sink.refuses g.S.Sink.failed limits bytes piece taken facts self _ c.read_on.new.held.items
     c.args.sink.now c.read_on.new.sink c.in_err-rest.field-0.0 read (taken_whole limits bytes piece taken facts self c.min.result read count c.split_at.ensures.front) c.in_err-rest.ensures.read)
 
 pub returns-in_err-rest-clause-kept : goal.returns-in_err-rest-clause-kept

@@ -4,7 +4,7 @@ use Rattle.hprof_items.specs.declared.step.Reason.{Reason}
 use Rattle.hprof_items.specs.FactValue.{FactValue, value_of}
 use Rattle.hprof_items.specs.Reading.{body_at}
 use Rattle.hprof_stream.proofs.Found.{body_is, body_is_short, head_read, right_at_all}
-use Rattle.hprof_stream.proofs.Stepping.{Walks-fact}
+use Rattle.hprof_stream.proofs.Stepping.{Stops-take, Walks-fact}
 use Rattle.hprof_stream.proofs.progress.Progress.step_fact.Goals as goal
 
 pub returns-then-bytes-len-clause-step : goal.returns-then-bytes-len-clause-step
@@ -31,7 +31,19 @@ returns-in-Err-clause-step g c =
             (cut header.ids head.tag head.length bytes (Err c.in-Err.reason) c.in-Err.ensures.exact),
         refl,
         refl,
+        refl,
       ),
+      refl,
+    )
+
+pub returns-in-Err-take-clause-step : goal.returns-in-Err-take-clause-step
+returns-in-Err-take-clause-step g c =
+    let header = c.args.header.now in
+    let head = c.args.head.now in
+    let bytes = c.args.bytes.now in
+    let fact = value_of c.in-Ok.fact in (
+      Stops-take g.S.Sink.refuses g.S.Sink.failed c.args.self.now bytes c.args.sink.now c.take.new.self header head fact c.in-Err-take.fault (λ i. omega (arith, c.type_inv.bytes i)) c.requires.behind c.requires.head c.requires.kind c.if-bytes-len.false
+          (cut header.ids head.tag head.length bytes (Ok fact) c.in-Ok.ensures.exact) (c.in-Err-take.ensures.err.0, c.in-Err-take.ensures.err.1),
       refl,
     )
 

@@ -1,7 +1,8 @@
-use Rattle.std.proofs.Common.{◌<◌, ◌≤◌, ℕ, length, drop, inl, inr, sym, ap, subst, ◌∙◌, refl, arith}
+use Rattle.std.proofs.Common.{◌≡◌, ◌<◌, ◌≤◌, ℕ, length, drop, inl, inr, sym, ap, subst, ◌∙◌, refl, arith}
 use Rattle.std.proofs.lemmas.Result.{err_from_is_err_and}
 use Rattle.hprof_items.specs.declared.step.Step.TheVariants.{Whole, Short}
 use Rattle.hprof_stream.specs.declared.progress.Progress.{Progress}
+use Rattle.hprof_stream.specs.Item.{place_behind, Found, item_at}
 use Rattle.hprof_stream.specs.Reader.{Walks}
 use Rattle.hprof_stream.proofs.Found.{behind_is, known_kinds}
 use Rattle.hprof_stream.proofs.Stepping.{Stops-head, Walks-end}
@@ -48,5 +49,5 @@ returns-in-DumpEnd-clause-step g c =
     let sink = c.args.sink.now in
     let step = Walks-end g.S.Sink.begins g.S.Sink.steps self bytes sink c.args.header.now c.in-Some.head (λ i. omega (arith, c.type_inv.bytes i)) c.requires.behind
     (sym c.read_head-read.ensures.exact ∙ whole ∙ ap (λ (n : ℕ). Whole c.in-Some.head n) read.1) (sym c.kind.ensures ∙ c.in-DumpEnd.is) in
-    subst (λ (n : ℕ). Walks g.S.Sink.begins g.S.Sink.steps self bytes sink c.step_end.new.self (drop n bytes) sink × (0 < n) × (n ≤ length bytes)) (sym read.1)
-    (subst (λ (p : Progress). Walks g.S.Sink.begins g.S.Sink.steps self bytes sink p (drop 9 bytes) sink × (0 < 9) × (9 ≤ length bytes)) (sym c.step_end.ensures) step)
+    subst (λ (n : ℕ). Walks g.S.Sink.begins g.S.Sink.steps self bytes sink c.step_end.new.self (drop n bytes) sink × (0 < n) × (n ≤ length bytes) × ((it : Found) × (item_at self.limits.max_item (place_behind self.header) bytes ≡ Whole it n))) (sym read.1)
+    (subst (λ (p : Progress). Walks g.S.Sink.begins g.S.Sink.steps self bytes sink p (drop 9 bytes) sink × (0 < 9) × (9 ≤ length bytes) × ((it : Found) × (item_at self.limits.max_item (place_behind self.header) bytes ≡ Whole it 9))) (sym c.step_end.ensures) step)

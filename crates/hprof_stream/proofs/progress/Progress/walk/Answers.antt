@@ -1,10 +1,18 @@
 use Rattle.std.proofs.Common.{ℕ, List, sym, subst}
+use Rattle.std.proofs.lemmas.Result.{err_from_is_err_and}
 use Rattle.hprof_stream.specs.Reader.{Walks}
+use Rattle.hprof_stream.proofs.Stepping.{Halts-here, Halts-then}
 use Rattle.hprof_stream.proofs.Walks.{Walks-none, Walks-then, Walks-counted}
 use Rattle.hprof_stream.proofs.progress.Progress.walk.Goals as goal
 
 pub loop-len-init : goal.loop-len-init
 loop-len-init g c = record { walked = Walks-none g.S.Sink.begins g.S.Sink.steps c.args.self.now c.args.bytes.now c.args.sink.now; counted = c.requires.counted; begun = c.requires.begun }
+
+pub returns-in_err-len-clause-walk : goal.returns-in_err-len-clause-walk
+returns-in_err-len-clause-walk g c =
+    let p = err_from_is_err_and c.from_residual.result c.from_residual.ensures.1 in
+    rw (p.1, p.2) (Halts-then g.S.Sink.begins g.S.Sink.steps g.S.Sink.refuses g.S.Sink.failed c.args.self.now c.loop-len.self c.step.new.self c.args.bytes.now c.loop-len.rest.now c.args.sink.now c.loop-len.sink c.step.new.sink c.in_err-len.field-0.0 c.loop-len.invariant.walked
+    (Halts-here g.S.Sink.begins g.S.Sink.steps g.S.Sink.refuses g.S.Sink.failed c.loop-len.self c.step.new.self c.loop-len.rest.now c.loop-len.sink c.step.new.sink c.in_err-len.field-0.0 c.in_err-len.ensures.step))
 
 pub loop-len-preserved : goal.loop-len-preserved
 loop-len-preserved g c =
