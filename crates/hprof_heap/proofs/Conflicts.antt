@@ -4,8 +4,7 @@ use Rattle.hprof_items.specs.FactValue.{FactValue}
 use Rattle.hprof_heap.specs.declared.key.Key.{Key}
 use Rattle.hprof_heap.specs.Facts.{Has, SameFacts}
 use Rattle.hprof_heap.specs.Conflict.{IsConsistent, HasConflict, IsLeastConflict}
-use Rattle.hprof_heap.specs.Gathering.{same_key}
-use Rattle.hprof_heap.proofs.Keys.{key_le-antisym, same_key-true}
+use Rattle.hprof_heap.proofs.Keys.{key_le-antisym, same_key, same_key-true}
 
 -- some of facts that agree agree
 pub IsConsistent-some : (facts others : List FactValue) → ((fact : FactValue) → Has others fact → Has facts fact) → IsConsistent facts → IsConsistent others
@@ -18,8 +17,8 @@ IsConsistent-same facts others same = IsConsistent-some facts others (λ fact. (
 -- of facts that agree two with one key are the same
 pub IsConsistent-key : (facts : List FactValue) (one other : FactValue) → IsConsistent facts → Has facts one → Has facts other → same_key one other ≡ true → one ≡ other
 IsConsistent-key facts one other agree has_one has_other e =
-    let k = same_key-true one other e in
-    agree k.0 one other has_one has_other k.1.first k.1.second
+    let have = same_key-true one other e in
+    agree have.key one other has_one has_other have.key_of_one have.key_of_other
 
 -- a conflict of some facts is one of more
 pub HasConflict-more : (facts others : List FactValue) (key : Key) → ((fact : FactValue) → Has facts fact → Has others fact) → HasConflict facts key → HasConflict others key

@@ -1,7 +1,7 @@
 -- What a gatherer holds after the parts that it was given.
-use Rattle.std.proofs.Common.{◌≡◌, ℕ, min, Bool, true, false, not, ◌||◌, cond, List, [], ◌∷◌, ◌++◌, map, find, Option, Some, None, refl, sym, ap, subst, ◌∙◌, append_assoc, ◌⊎◌, inl, inr, arith}
+use Rattle.std.proofs.Common.{◌≡◌, ℕ, min, Bool, true, false, not, ◌||◌, cond, List, [], ◌∷◌, ◌++◌, map, Option, Some, None, refl, sym, ap, subst, ◌∙◌, append_assoc, ◌⊎◌, inl, inr}
 use Rattle.std.specs.List.{AllByRecursion}
-use Rattle.std.proofs.lemmas.List.{append-nil}
+use Rattle.std.proofs.lemmas.List.{append-nil, map-append}
 use Rattle.std.proofs.lemmas.Simd.{map-map}
 use Rattle.hprof_items.specs.declared.header.Header.{Header}
 use Rattle.hprof_items.specs.declared.ids.IdSize.{IdSize}
@@ -19,12 +19,12 @@ use Rattle.hprof_heap.specs.Conflict.{HasConflict, IsLeastConflict}
 use Rattle.hprof_heap.specs.Order.{IsCanonicalOrder}
 use Rattle.hprof_heap.specs.State.{IsLeastOf}
 use Rattle.hprof_heap.specs.HeapValue.{HeapValue, IsHeap}
-use Rattle.hprof_heap.specs.Gathering.{Gathered, Given, gathered, lent_heap, nothing_gathered, same_size, begun_heap, has_other_size, Begins, same_key, inserted, marked, TakesInto, TakesHeap, Takes, Gathers, all_given, unconflicted, answer_of, Tells}
+use Rattle.hprof_heap.specs.Gathering.{Gathered, Given, gathered, lent_heap, nothing_gathered, same_size, begun_heap, has_other_size, Begins, Adds, HasOther, marked, TakesInto, TakesHeap, Takes, Gathers, all_given, unconflicted, answer_of, Tells}
 use Rattle.hprof_heap.proofs.FactSets.{Has-parts, Has-front, Has-back}
-use Rattle.hprof_heap.proofs.Keys.{key_le-refl, key_le-trans, lesser_is, HaveKey, same_key-true}
+use Rattle.hprof_heap.proofs.Least.{no_least, IsLeastOf-one, IsLeastOf-push}
+use Rattle.hprof_heap.proofs.Keys.{key_le-refl, key_le-trans, lesser_is}
 use Rattle.hprof_heap.proofs.Order.{order_agrees}
 use Rattle.hprof_heap.proofs.Conflicts.{IsConsistent-same, HasConflict-more}
-use Rattle.hprof_heap.proofs.Inserting.{find-Some, inserted-has, has-inserted, inserted-ordered}
 
 -- ---- the facts of a heap, and its mark
 
@@ -55,25 +55,25 @@ last_given : (given : List FactValue) (fact other : FactValue) → Has (given ++
 last_given given fact other has = elim (Has-parts given (fact ∷ []) other has) [ inl h ↦ inl h | inr h ↦ elim h [ inl e ↦ inr e | inr none ↦ absurd none ] ]
 
 -- a fact at a new key
-holds_new : (given facts : List FactValue) (mark : Option Key) (fact : FactValue) → Holds given facts mark → find (same_key fact) facts ≡ None → Holds (given ++ fact ∷ []) (inserted facts fact) mark
-holds_new given facts mark fact holds none = record {
-  ordered = inserted-ordered facts fact holds.ordered none;
-  was_given = λ other has. elim (inserted-has facts fact other has) [ inl e ↦ Has-back given (fact ∷ []) other (inl e) | inr h ↦ Has-front given (fact ∷ []) other (holds.was_given other h) ];
+holds_new : (given : List FactValue) (heap : HeapValue) (mark : Option Key) (fact : FactValue) (new : HeapValue) → Holds given heap.facts mark → Adds heap fact new → Holds (given ++ fact ∷ []) new.facts mark
+holds_new given heap mark fact new holds added = record {
+  ordered = added.is_heap.ordered;
+  was_given = λ other has. elim ((added.facts other).0 has) [ inl e ↦ Has-back given (fact ∷ []) other (inl e) | inr h ↦ Has-front given (fact ∷ []) other (holds.was_given other h) ];
   each = λ other has. elim (last_given given fact other has) [
-    | inl h ↦ elim (holds.each other h) [ inl there ↦ inl (has-inserted facts fact other (inr there)) | inr marked ↦ inr marked ]
-    | inr e ↦ inl (has-inserted facts fact other (inl e))
+    | inl h ↦ elim (holds.each other h) [ inl there ↦ inl ((added.facts other).1 (inr there)) | inr marked ↦ inr marked ]
+    | inr e ↦ inl ((added.facts other).1 (inl e))
   ];
   has_mark = HasMark-more given fact mark holds.has_mark;
 }
 
 -- a fact that is there
-holds_same : (given facts : List FactValue) (mark : Option Key) (fact : FactValue) → Holds given facts mark → find (same_key fact) facts ≡ Some fact → Holds (given ++ fact ∷ []) facts mark
-holds_same given facts mark fact holds found = record {
+holds_same : (given facts : List FactValue) (mark : Option Key) (fact : FactValue) → Holds given facts mark → Has facts fact → Holds (given ++ fact ∷ []) facts mark
+holds_same given facts mark fact holds there = record {
   ordered = holds.ordered;
   was_given = λ other has. Has-front given (fact ∷ []) other (holds.was_given other has);
   each = λ other has. elim (last_given given fact other has) [
     | inl h ↦ holds.each other h
-    | inr e ↦ inl (subst (Has facts) (sym e) (find-Some (same_key fact) facts fact found).0)
+    | inr e ↦ inl (subst (Has facts) (sym e) there)
   ];
   has_mark = HasMark-more given fact mark holds.has_mark;
 }
@@ -94,33 +94,26 @@ HasMark-conflict given (Some least) key has conflict = elim (lesser_is least key
 ]
 
 -- a fact that differs from the one that is there
-holds_differs_at : (given facts : List FactValue) (mark : Option Key) (fact other : FactValue) (key : Key) → Holds given facts mark → Has facts other → (other ≡ fact → ⊥) → HaveKey fact other key
-    → Holds (given ++ fact ∷ []) facts (marked mark (Some key))
-holds_differs_at given facts mark fact other key holds there differ have = record {
-  ordered = holds.ordered;
-  was_given = λ one has. Has-front given (fact ∷ []) one (holds.was_given one has);
-  each = λ one has. elim (last_given given fact one has) [
-    | inl h ↦ elim (holds.each one h) [ inl there ↦ inl there | inr m ↦ inr (marked_more mark key one (inl m)) ]
-    | inr e ↦ inr (marked_more mark key one (inr (ap key_of e ∙ have.first)))
-  ];
-  has_mark = HasMark-conflict (given ++ fact ∷ []) mark key (HasMark-more given fact mark holds.has_mark) (record {
-    one = other;
-    other = fact;
-    has_one = Has-front given (fact ∷ []) other (holds.was_given other there);
-    has_other = Has-back given (fact ∷ []) fact (inl refl);
-    key_of_one = have.second;
-    key_of_other = have.first;
-    differ = differ;
-  });
-}
-
--- a fact that differs from the one that is found
-holds_differs : (given facts : List FactValue) (mark : Option Key) (fact other : FactValue) → Holds given facts mark → find (same_key fact) facts ≡ Some other → (other ≡ fact → ⊥)
-    → Holds (given ++ fact ∷ []) facts (marked mark (key_of fact))
-holds_differs given facts mark fact other holds found differ =
-    let f = find-Some (same_key fact) facts other found in
-    let k = same_key-true fact other f.1 in
-    subst (λ (key : Option Key). Holds (given ++ fact ∷ []) facts (marked mark key)) (sym k.1.first) (holds_differs_at given facts mark fact other k.0 holds f.0 differ k.1)
+holds_differs : (given facts : List FactValue) (mark : Option Key) (fact : FactValue) → Holds given facts mark → HasOther facts fact → Holds (given ++ fact ∷ []) facts (marked mark (key_of fact))
+holds_differs given facts mark fact holds has_other =
+    let have = has_other.one_key in
+    subst (λ (key : Option Key). Holds (given ++ fact ∷ []) facts (marked mark key)) (sym have.key_of_other) (record {
+      ordered = holds.ordered;
+      was_given = λ one has. Has-front given (fact ∷ []) one (holds.was_given one has);
+      each = λ one has. elim (last_given given fact one has) [
+        | inl h ↦ elim (holds.each one h) [ inl there ↦ inl there | inr m ↦ inr (marked_more mark have.key one (inl m)) ]
+        | inr e ↦ inr (marked_more mark have.key one (inr (ap key_of e ∙ have.key_of_other)))
+      ];
+      has_mark = HasMark-conflict (given ++ fact ∷ []) mark have.key (HasMark-more given fact mark holds.has_mark) (record {
+        one = has_other.other;
+        other = fact;
+        has_one = Has-front given (fact ∷ []) has_other.other (holds.was_given has_other.other has_other.has_other);
+        has_other = Has-back given (fact ∷ []) fact (inl refl);
+        key_of_one = have.key_of_one;
+        key_of_other = have.key_of_other;
+        differ = has_other.differ;
+      });
+    })
 
 -- ---- what a heap says of the parts
 
@@ -190,17 +183,12 @@ HaveSize-parts ids (first ∷ headers) header all = let rest = HaveSize-parts id
 -- the least of one more time
 IsLeastOf-more : (headers : List Header) (header : Header) (least : ℕ) → IsLeastOf (map (λ header. header.millis) headers) least
     → IsLeastOf (map (λ header. header.millis) (headers ++ header ∷ [])) (min least header.millis)
-IsLeastOf-more [] header least l = absurd l
-IsLeastOf-more (one ∷ []) header least l = (header.millis, refl, ap (λ (n : ℕ). min n header.millis) l)
-IsLeastOf-more (one ∷ two ∷ headers) header least l =
-    let e = l.2 in
-    let rest = l.0 in
-    (min rest header.millis, IsLeastOf-more (two ∷ headers) header rest l.1, omega arith)
+IsLeastOf-more headers header least is = rw map-append (IsLeastOf-push (map (λ (header : Header). header.millis) headers) header.millis least is)
 
 -- another size than that of the headers so far
 two_sizes : (headers : List Header) (header : Header) (heap : HeapValue) (least : ℕ) → HaveSize heap.ids headers → IsLeastOf (map (λ header. header.millis) headers) least
     → same_size heap.ids header.ids ≡ false → HaveSizes (headers ++ header ∷ [])
-two_sizes [] header heap least one_size l apart ids all = absurd l
+two_sizes [] header heap least one_size l apart ids all = absurd (no_least least l)
 two_sizes (first ∷ headers) header heap least one_size l apart ids all =
     let p = HaveSize-parts ids (first ∷ headers) header all in
     let e : header.ids ≡ heap.ids = p.1 ∙ sym p.0.0 ∙ one_size.0 in
@@ -212,7 +200,7 @@ first_union : (headers : List Header) (given : List FactValue) (mark : Option Ke
     → IsUnion (headers ++ header ∷ []) given (record { ids = header.ids; millis = header.millis; facts = [] }) mark
 first_union headers given mark header nothing = rw (nothing.no_headers, nothing.no_facts, nothing.no_mark) (record {
   one_size = (refl, tt);
-  earliest = refl;
+  earliest = IsLeastOf-one header.millis;
   holds = record { ordered = tt; was_given = λ fact has. has; each = λ fact has. absurd has; has_mark = tt };
 })
 
@@ -247,20 +235,20 @@ begins_stands headers given old header new s b = record {
 -- a fact that the heap took
 takes_union : (stated : Stated) (headers : List Header) (given : List FactValue) (heap : HeapValue) (mark : Option Key) (fact : FactValue) (new : HeapValue) (after : Option Key)
     → IsUnion headers given heap mark → TakesInto heap mark fact stated new after → IsUnion headers (given ++ fact ∷ []) new after
-takes_union New headers given heap mark fact new after u t = rw (t.1, t.2) (record {
-  one_size = u.one_size;
-  earliest = u.earliest;
-  holds = holds_new given heap.facts mark fact u.holds t.0;
+takes_union New headers given heap mark fact new after u t = rw t.1 (record {
+  one_size = subst (λ (ids : IdSize). HaveSize ids headers) (sym t.0.ids) u.one_size;
+  earliest = subst (IsLeastOf (map (λ (header : Header). header.millis) headers)) (sym t.0.millis) u.earliest;
+  holds = holds_new given heap mark fact new u.holds t.0;
 })
-takes_union Same headers given heap mark fact new after u t = rw (t.1, t.2) (record {
+takes_union Same headers given heap mark fact new after u t = rw (t.0.1, t.1) (record {
   one_size = u.one_size;
   earliest = u.earliest;
-  holds = holds_same given heap.facts mark fact u.holds t.0;
+  holds = holds_same given heap.facts mark fact u.holds t.0.0;
 })
-takes_union Differs headers given heap mark fact new after u t = rw (t.1, t.2) (record {
+takes_union Differs headers given heap mark fact new after u t = rw (t.0.1, t.1) (record {
   one_size = u.one_size;
   earliest = u.earliest;
-  holds = holds_differs given heap.facts mark fact t.0.0 u.holds t.0.1 t.0.2;
+  holds = holds_differs given heap.facts mark fact u.holds t.0.0;
 })
 
 -- a fact that the gatherer took, or with two sizes passed over
@@ -329,7 +317,7 @@ no_parts (part ∷ parts) e = absurd cc
 
 -- where there is a least time there is a part
 some_parts : (parts : List Given) (least : ℕ) → IsLeastOf (map (λ header. header.millis) (headers_of parts)) least → parts ≡ [] → ⊥
-some_parts [] least l e = l
+some_parts [] least l e = no_least least l
 some_parts (part ∷ parts) least l e = cc
 
 -- the facts with no mark are those that were given

@@ -7,12 +7,13 @@ use Rattle.hprof_items.specs.Spelling.{Fits}
 use Rattle.hprof_heap.specs.Facts.{Has, SameFacts, AllFit}
 use Rattle.hprof_heap.specs.Conflict.{IsConsistent}
 use Rattle.hprof_heap.specs.Order.{IsBefore, IsCanonicalOrder}
-use Rattle.hprof_heap.specs.Gathering.{same_key, is_before, inserted, StatesInto}
+use Rattle.hprof_heap.specs.Gathering.{Adds, StatesInto}
 use Rattle.hprof_heap.specs.HeapValue.{HeapValue, IsHeap}
 use Rattle.hprof_heap.specs.declared.relation.Stated.{Stated}
 use Rattle.hprof_heap.specs.declared.relation.Stated.TheVariants.{New, Same, Differs}
+use Rattle.hprof_heap.proofs.Keys.{same_key, same_key-false, HaveOneKey-sym}
 use Rattle.hprof_heap.proofs.FactSets.{All-has, All-from_has, SameFacts-again}
-use Rattle.hprof_heap.proofs.Order.{IsBefore-trans, is_before-true, is_before-false}
+use Rattle.hprof_heap.proofs.Order.{IsBefore-trans, is_before, is_before-true, is_before-false}
 use Rattle.hprof_heap.proofs.Conflicts.{IsConsistent-some, IsConsistent-key}
 
 -- ---- looking up
@@ -42,6 +43,11 @@ find-Some p (first ∷ facts) fact e = elim (hit (p first) first fact (find p fa
 ]
 
 -- ---- putting in
+
+-- the facts with one more, in its place
+abbrev pub inserted : List FactValue → FactValue → List FactValue
+inserted [] fact = fact ∷ []
+inserted (first ∷ facts) fact = cond (is_before fact first) (fact ∷ first ∷ facts) (first ∷ inserted facts fact)
 
 -- what is there afterwards is the new fact or was there
 pub inserted-has : (facts : List FactValue) (fact other : FactValue) → Has (inserted facts fact) other → (other ≡ fact) ⊎ Has facts other
@@ -85,15 +91,29 @@ inserted-ordered_by (first ∷ facts) fact ordered new =
 pub inserted-ordered : (facts : List FactValue) (fact : FactValue) → IsCanonicalOrder facts → find (same_key fact) facts ≡ None → IsCanonicalOrder (inserted facts fact)
 inserted-ordered facts fact ordered none = inserted-ordered_by facts fact ordered (λ other has. find-None (same_key fact) facts other none has)
 
--- stating a fact that fits keeps what every heap keeps
-pub states-sound : (heap new : HeapValue) (fact : FactValue) (stated : Stated) → StatesInto heap fact stated new → Fits heap.ids fact → IsHeap heap → IsHeap new
-states-sound heap new fact New s fits sound = rw (s None).1 (record {
-  is_millis = sound.is_millis;
-  fit = inserted-fit heap.ids heap.facts fact fits sound.fit;
-  ordered = inserted-ordered heap.facts fact sound.ordered (s None).0;
-})
-states-sound heap new fact Same s fits sound = rw (s None).1 sound
-states-sound heap new fact Differs s fits sound = rw (s None).1 sound
+-- they are the new fact and those that were there
+pub inserted-same : (facts : List FactValue) (fact : FactValue) → SameFacts (inserted facts fact) (fact ∷ facts)
+inserted-same facts fact other = (inserted-has facts fact other, has-inserted facts fact other)
+
+-- a fact that fits, put in its place at a new key, is added
+pub inserted-adds : (heap : HeapValue) (fact : FactValue) → find (same_key fact) heap.facts ≡ None → Fits heap.ids fact → IsHeap heap → Adds heap fact (record heap { facts = inserted heap.facts fact })
+inserted-adds heap fact none fits sound = record {
+  is_new = λ other has have. same_key-false fact other (find-None (same_key fact) heap.facts other none has) (HaveOneKey-sym other fact have);
+  ids = refl;
+  millis = refl;
+  facts = inserted-same heap.facts fact;
+  is_heap = record {
+    is_millis = sound.is_millis;
+    fit = inserted-fit heap.ids heap.facts fact fits sound.fit;
+    ordered = inserted-ordered heap.facts fact sound.ordered none;
+  };
+}
+
+-- stating a fact keeps what every heap keeps
+pub states-sound : (heap new : HeapValue) (fact : FactValue) (stated : Stated) → StatesInto heap fact stated new → IsHeap heap → IsHeap new
+states-sound heap new fact New s sound = s.is_heap
+states-sound heap new fact Same s sound = rw s.1 sound
+states-sound heap new fact Differs s sound = rw s.1 sound
 
 -- ---- facts that agree, in order
 

@@ -1,11 +1,11 @@
 -- The order of keys.
+use Rattle.std.specs.Prelude.{◌==◌}
 use Rattle.std.proofs.Common.{◌≡◌, ℕ, zero, suc, ◌<◌, ◌≤◌, Bool, true, false, cond, Some, refl, sym, ap, ◌∙◌, ◌⊎◌, inl, inr, arith}
-use Rattle.std.proofs.lemmas.Bool.{ltb-true, lt-ltb, eqb-true, eq-eqb, leb-true, le-leb, or_cases, and_parts, and_from, or_left, or_right, cases_order, cases_lt, both_ways}
+use Rattle.std.proofs.lemmas.Bool.{ltb-true, lt-ltb, eqb-true, eqb-false, eq-eqb, leb-true, le-leb, or_cases, and_parts, and_from, or_left, or_right, cases_order, cases_lt, both_ways}
 use Rattle.hprof_items.specs.FactValue.{FactValue, Name}
 use Rattle.hprof_heap.specs.declared.key.Key.{Key}
 use Rattle.hprof_heap.specs.declared.key.Key.TheVariants as keys
-use Rattle.hprof_heap.specs.Key.{key_of, rank_of, number_of, key_le, lesser_key}
-use Rattle.hprof_heap.specs.Gathering.{same_key}
+use Rattle.hprof_heap.specs.Key.{HaveOneKey, rank_of, number_of, key_le, lesser_key}
 
 -- the first number is less, or it is the same and the second is no greater
 abbrev pub IsUpTo : (r n s m : ℕ) → Type 0
@@ -104,12 +104,23 @@ lesser_is key other = lesser_by (key_le key other) key other refl
 
 -- ---- the keys of facts
 
--- two facts have this key
-pub record HaveKey (one other : FactValue) (key : Key) : Type 0 where
-  pub first : key_of one ≡ Some key
-  pub second : key_of other ≡ Some key
+-- whether two facts have one key
+abbrev pub same_key : FactValue → FactValue → Bool
+same_key (Name id text) (Name other more) = id == other
 
 -- facts that the test finds equal have one key
-pub same_key-true : (one other : FactValue) → same_key one other ≡ true → (key : Key) × HaveKey one other key
+pub same_key-true : (one other : FactValue) → same_key one other ≡ true → HaveOneKey one other
 same_key-true (Name id text) (Name other more) e =
-    (keys.Name id, record { first = refl; second = ap (λ (n : ℕ). Some (keys.Name n)) (sym (eqb-true _ _ e)) })
+    record { key = keys.Name id; key_of_one = refl; key_of_other = ap (λ (n : ℕ). Some (keys.Name n)) (sym (eqb-true _ _ e)) }
+
+-- others have not
+pub same_key-false : (one other : FactValue) → same_key one other ≡ false → HaveOneKey one other → ⊥
+same_key-false (Name id text) (Name other more) e have =
+    let first = have.key_of_one in
+    let second = have.key_of_other in
+    let same : id ≡ other = cc in
+    eqb-false id other e same
+
+-- the facts have one key either way round
+pub HaveOneKey-sym : (one other : FactValue) → HaveOneKey one other → HaveOneKey other one
+HaveOneKey-sym one other have = record { key = have.key; key_of_one = have.key_of_other; key_of_other = have.key_of_one }

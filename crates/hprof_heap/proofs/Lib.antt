@@ -1,3 +1,4 @@
+pub mod Least
 pub mod FactSets
 pub mod Keys
 pub mod Order

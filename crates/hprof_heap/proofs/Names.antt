@@ -16,9 +16,11 @@ use Rattle.hprof_heap.specs.declared.relation.Stated.{Stated}
 use Rattle.hprof_heap.specs.declared.relation.Stated.TheVariants.{New, Same, Differs}
 use Rattle.hprof_heap.specs.HeapValue.{HeapValue, IsHeap, name_facts}
 use Rattle.hprof_heap.specs.Heap.{is_name}
+use Rattle.hprof_heap.specs.Facts.{Has}
 use Rattle.hprof_heap.specs.Relation.{States}
-use Rattle.hprof_heap.specs.Gathering.{same_key, inserted, StatesInto}
-use Rattle.hprof_heap.proofs.Inserting.{states-sound}
+use Rattle.hprof_heap.specs.Gathering.{Adds, StatesInto}
+use Rattle.hprof_heap.proofs.Keys.{same_key, same_key-true, HaveOneKey-sym}
+use Rattle.hprof_heap.proofs.Inserting.{find-Some, inserted, inserted-adds, states-sound}
 
 -- ---- two names
 
@@ -82,27 +84,41 @@ found_in : (rows : List (ℕ × NameRow)) (key : ℕ) (text : List ℕ) (row : O
     → find (same_key (Name key text)) (name_facts rows) ≡ option_map (name_fact key) row
 found_in rows key text row e = find_same rows key text ∙ find_names rows key ∙ ap (option_map (name_fact key)) e
 
--- what stating a name does to the rows it does to the heap
+-- the row of a name that is there
+there : (rows : List (ℕ × NameRow)) (key : ℕ) (text : List ℕ) (row : NameRow) → lookup (is_at (nat_cmp key)) rows ≡ Some row
+    → Has (name_facts rows) (name_fact key row) × (same_key (Name key text) (name_fact key row) ≡ true)
+there rows key text row e = find-Some (same_key (Name key text)) (name_facts rows) (name_fact key row) (found_in rows key text (Some row) e)
+
+-- what stating a name that fits does to the rows it does to the heap
 pub state_names : (ids : IdSize) (millis : ℕ) (old new : List (ℕ × NameRow)) (key : ℕ) (text : List ℕ) (stated : Stated) → States name_fact old key (Name key text) stated new
-    → StatesInto (record { ids = ids; millis = millis; facts = name_facts old }) (Name key text) stated (record { ids = ids; millis = millis; facts = name_facts new })
-state_names ids millis old new key text New s mark =
+    → Fits ids (Name key text) → IsHeap (with_facts ids millis (name_facts old)) → StatesInto (with_facts ids millis (name_facts old)) (Name key text) stated (with_facts ids millis (name_facts new))
+state_names ids millis old new key text New s fits sound =
     let facts : name_facts new ≡ inserted (name_facts old) (Name key text) =
     ap (λ (rows : List (ℕ × NameRow)). name_facts rows) s.1.2 ∙ insert_names old key s.1.0 s.0 ∙ ap (inserted (name_facts old)) s.1.1 in
-    (found_in old key text None s.0, ap (with_facts ids millis) facts, refl)
-state_names ids millis old new key text Same s mark =
-    (found_in old key text (Some s.1.0) s.1.1 ∙ ap (λ (fact : FactValue). Some fact) s.1.2, ap (λ (rows : List (ℕ × NameRow)). with_facts ids millis (name_facts rows)) s.0, refl)
-state_names ids millis old new key text Differs s mark =
-    ((name_fact key s.1.0, found_in old key text (Some s.1.0) s.1.1, s.1.2), ap (λ (rows : List (ℕ × NameRow)). with_facts ids millis (name_facts rows)) s.0, refl)
+    subst (λ (fs : List FactValue). Adds (with_facts ids millis (name_facts old)) (Name key text) (with_facts ids millis fs)) (sym facts)
+    (inserted-adds (with_facts ids millis (name_facts old)) (Name key text) (found_in old key text None s.0) fits sound)
+state_names ids millis old new key text Same s fits sound =
+    (subst (Has (name_facts old)) s.1.2 (there old key text s.1.0 s.1.1).0, ap (λ (rows : List (ℕ × NameRow)). with_facts ids millis (name_facts rows)) s.0)
+state_names ids millis old new key text Differs s fits sound =
+    let found = there old key text s.1.0 s.1.1 in (
+      record {
+        other = name_fact key s.1.0;
+        has_other = found.0;
+        one_key = HaveOneKey-sym (Name key text) (name_fact key s.1.0) (same_key-true (Name key text) (name_fact key s.1.0) found.1);
+        differ = s.1.2;
+      },
+      ap (λ (rows : List (ℕ × NameRow)). with_facts ids millis (name_facts rows)) s.0,
+    )
+
+-- what the heap does where the rows did
+pub names_state : {E : Type 0} (r : Result Stated E) (ids : IdSize) (millis : ℕ) (old new : List (ℕ × NameRow)) (key : ℕ) (text : List ℕ) → IfOk r (λ stated. States name_fact old key (Name key text) stated new)
+    → Fits ids (Name key text) → IsHeap (with_facts ids millis (name_facts old)) → IfOk r (λ stated. StatesInto (with_facts ids millis (name_facts old)) (Name key text) stated (with_facts ids millis (name_facts new)))
+names_state (Ok stated) ids millis old new key text ok fits sound = state_names ids millis old new key text stated ok fits sound
+names_state (Err e) ids millis old new key text ok fits sound = tt
 
 -- a name that fits keeps what every heap keeps
 pub names_sound : {E : Type 0} (r : Result Stated E) (ids : IdSize) (millis : ℕ) (old new : List (ℕ × NameRow)) (key : ℕ) (text : List ℕ) → IfOk r (λ stated. States name_fact old key (Name key text) stated new)
     → OnErr r (new ≡ old) → Fits ids (Name key text) → IsHeap (with_facts ids millis (name_facts old)) → IsHeap (with_facts ids millis (name_facts new))
 names_sound (Ok stated) ids millis old new key text ok err fits sound =
-    states-sound (with_facts ids millis (name_facts old)) (with_facts ids millis (name_facts new)) (Name key text) stated (state_names ids millis old new key text stated ok) fits sound
+    states-sound (with_facts ids millis (name_facts old)) (with_facts ids millis (name_facts new)) (Name key text) stated (state_names ids millis old new key text stated ok fits sound) sound
 names_sound (Err e) ids millis old new key text ok err fits sound = subst (λ (rows : List (ℕ × NameRow)). IsHeap (with_facts ids millis (name_facts rows))) (sym err) sound
-
--- what the heap does where the rows did
-pub names_state : {E : Type 0} (r : Result Stated E) (ids : IdSize) (millis : ℕ) (old new : List (ℕ × NameRow)) (key : ℕ) (text : List ℕ) → IfOk r (λ stated. States name_fact old key (Name key text) stated new)
-    → IfOk r (λ stated. StatesInto (with_facts ids millis (name_facts old)) (Name key text) stated (with_facts ids millis (name_facts new)))
-names_state (Ok stated) ids millis old new key text ok = state_names ids millis old new key text stated ok
-names_state (Err e) ids millis old new key text ok = tt

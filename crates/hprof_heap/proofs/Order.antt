@@ -1,5 +1,6 @@
 -- The order of facts.
-use Rattle.std.proofs.Common.{◌≡◌, true, false, List, [], ◌∷◌, Some, refl, sym, subst, ◌∙◌, inl, inr, arith}
+use Rattle.std.specs.Prelude.{nat_lt}
+use Rattle.std.proofs.Common.{◌≡◌, Bool, true, false, List, [], ◌∷◌, Some, refl, sym, subst, ◌∙◌, inl, inr, arith}
 use Rattle.std.proofs.lemmas.Bool.{ltb-true, ltb-false, eqb-false}
 use Rattle.hprof_items.specs.FactValue.{FactValue, Name}
 use Rattle.hprof_heap.specs.declared.key.Key.{Key}
@@ -7,7 +8,7 @@ use Rattle.hprof_heap.specs.Key.{key_of}
 use Rattle.hprof_heap.specs.Facts.{Has, SameFacts}
 use Rattle.hprof_heap.specs.Conflict.{IsConsistent}
 use Rattle.hprof_heap.specs.Order.{IsBefore, IsCanonicalOrder}
-use Rattle.hprof_heap.specs.Gathering.{same_key, is_before}
+use Rattle.hprof_heap.proofs.Keys.{same_key}
 use Rattle.hprof_heap.proofs.FactSets.{All-has, SameFacts-sym}
 
 -- ---- two facts
@@ -23,6 +24,10 @@ IsBefore-asym (Name id text) (Name other more) a b = omega arith
 -- a fact stands before none of its key
 pub IsBefore-key : (one other : FactValue) (key : Key) → IsBefore one other → key_of one ≡ Some key → key_of other ≡ Some key → ⊥
 IsBefore-key (Name id text) (Name other more) key lt e f = let same : id ≡ other = cc in omega arith
+
+-- whether the first fact stands before the second
+abbrev pub is_before : FactValue → FactValue → Bool
+is_before (Name id text) (Name other more) = nat_lt id other
 
 -- what the test of two facts tells
 pub is_before-true : (one other : FactValue) → is_before one other ≡ true → IsBefore one other

@@ -1,5 +1,5 @@
 -- What a gatherer's heap and the size that was begun last keep.
-use Rattle.std.proofs.Common.{◌≡◌, Bool, true, false, Option, Some, None, Result, Ok, Err, refl, sym, ap, subst, ◌∙◌}
+use Rattle.std.proofs.Common.{◌≡◌, Bool, true, false, Option, Some, Result, Ok, Err, refl, sym, ap, subst, ◌∙◌}
 use Rattle.std.specs.Prelude.{IfOk, OnErr}
 use Rattle.std.proofs.lemmas.Result.{IfOk-at_ok}
 use Rattle.hprof_items.specs.declared.ids.IdSize.{IdSize}
@@ -15,9 +15,9 @@ use Rattle.hprof_heap.specs.Gathering.{gathered, StatesInto, Takes, mark_after}
 
 -- stating a fact keeps the size
 pub states_ids : {E : Type 0} (r : Result Stated E) (heap new : HeapValue) (fact : FactValue) → IfOk r (λ stated. StatesInto heap fact stated new) → OnErr r (new ≡ heap) → new.ids ≡ heap.ids
-states_ids (Ok New) heap new fact s e = ap (λ (h : HeapValue). h.ids) (s None).1
-states_ids (Ok Same) heap new fact s e = ap (λ (h : HeapValue). h.ids) (s None).1
-states_ids (Ok Differs) heap new fact s e = ap (λ (h : HeapValue). h.ids) (s None).1
+states_ids (Ok New) heap new fact s e = s.ids
+states_ids (Ok Same) heap new fact s e = ap (λ (h : HeapValue). h.ids) s.1
+states_ids (Ok Differs) heap new fact s e = ap (λ (h : HeapValue). h.ids) s.1
 states_ids (Err f) heap new fact s e = ap (λ (h : HeapValue). h.ids) e
 
 -- a heap that keeps its size stays that of the size that was begun last
@@ -35,5 +35,5 @@ took r got stated old heap new fact well one there e f ok = record {
   sound = well;
   begun = refl;
   two_sizes = refl;
-  taken = rw (one, there) (stated, IfOk-at_ok (λ (s : Stated). StatesInto (heap_of heap) fact s (heap_of new)) (e ∙ ap (λ (s : Stated). Ok s) f) ok old.conflict);
+  taken = rw (one, there) (stated, (IfOk-at_ok (λ (s : Stated). StatesInto (heap_of heap) fact s (heap_of new)) (e ∙ ap (λ (s : Stated). Ok s) f) ok, refl));
 }

@@ -1,10 +1,10 @@
 -- What a gatherer holds, and what headers and facts do to it.
-use Rattle.std.specs.Prelude.{◌≡◌, ◌≢◌, ◌==◌, ◌||◌, Bool, true, false, not, nat_lt, min, List, [], ◌∷◌, map, Option, Some, None, Result, Ok, Err, if◌then◌else◌}
-use Rattle.std.specs.List.{AllByRecursion, flat_map, find}
+use Rattle.std.specs.Prelude.{◌≡◌, ◌≢◌, ◌||◌, Bool, true, false, not, min, List, [], ◌∷◌, map, Option, Some, None, Result, Ok, Err, if◌then◌else◌}
+use Rattle.std.specs.List.{AllByRecursion, flat_map}
 use Rattle.hprof_items.specs.declared.header.Header.{Header}
 use Rattle.hprof_items.specs.declared.ids.IdSize.{IdSize}
 use Rattle.hprof_items.specs.declared.ids.IdSize.TheVariants.{Four, Eight}
-use Rattle.hprof_items.specs.FactValue.{FactValue, Name}
+use Rattle.hprof_items.specs.FactValue.{FactValue}
 use Rattle.hprof_stream.specs.Run.{Run}
 use Rattle.hprof_heap.specs.declared.gatherer.Gatherer.{Gatherer}
 use Rattle.hprof_heap.specs.declared.heap.Heap.{Heap}
@@ -15,8 +15,8 @@ use Rattle.hprof_heap.specs.declared.standing.Refusal.{Refusal}
 use Rattle.hprof_heap.specs.declared.standing.Refusal.TheVariants as refusals
 use Rattle.hprof_heap.specs.declared.standing.Standing.{Standing}
 use Rattle.hprof_heap.specs.declared.standing.Standing.TheVariants as standings
-use Rattle.hprof_heap.specs.Key.{key_of, lesser_key}
-use Rattle.hprof_heap.specs.Facts.{SameFacts}
+use Rattle.hprof_heap.specs.Key.{HaveOneKey, key_of, lesser_key}
+use Rattle.hprof_heap.specs.Facts.{Has, SameFacts}
 use Rattle.hprof_heap.specs.Conflict.{IsConsistent, IsLeastConflict}
 use Rattle.hprof_heap.specs.State.{IsLeastOf}
 use Rattle.hprof_heap.specs.HeapValue.{HeapValue, IsHeap}
@@ -76,17 +76,27 @@ pub record Begins (old : Gathered) (header : Header) (new : Gathered) : Type 0 w
 
 -- ---- a fact
 
--- whether two facts have one key
-abbrev pub same_key : FactValue → FactValue → Bool
-same_key (Name id text) (Name other more) = id == other
+-- a fact at a new key is added: the facts are this one and those that were there, in canonical order
+pub record Adds (heap : HeapValue) (fact : FactValue) (new : HeapValue) : Type 0 where
+  pub is_new : (other : FactValue) → Has heap.facts other → HaveOneKey other fact → ⊥
+  pub ids : new.ids ≡ heap.ids
+  pub millis : new.millis ≡ heap.millis
+  pub facts : SameFacts new.facts (fact ∷ heap.facts)
+  pub is_heap : IsHeap new
 
-abbrev pub is_before : FactValue → FactValue → Bool
-is_before (Name id text) (Name other more) = nat_lt id other
+-- another fact than this one is there with its key
+pub record HasOther (facts : List FactValue) (fact : FactValue) : Type 0 where
+  pub other : FactValue
+  pub has_other : Has facts other
+  pub one_key : HaveOneKey other fact
+  pub differ : other ≢ fact
 
--- the facts with one more, in its place
-abbrev pub inserted : List FactValue → FactValue → List FactValue
-inserted [] fact = fact ∷ []
-inserted (first ∷ facts) fact = if is_before fact first then fact ∷ first ∷ facts else first ∷ inserted facts fact
+-- what stating a fact does to a heap: one at a new key is added; nothing changes where it is there, or another one with
+-- its key
+abbrev pub StatesInto : HeapValue → FactValue → Stated → HeapValue → Type 0
+StatesInto heap fact New new = Adds heap fact new
+StatesInto heap fact Same new = Has heap.facts fact × (new ≡ heap)
+StatesInto heap fact Differs new = HasOther heap.facts fact × (new ≡ heap)
 
 -- the mark of the least conflict, where there is one more
 abbrev pub marked : Option Key → Option Key → Option Key
@@ -94,23 +104,15 @@ marked mark None = mark
 marked None (Some key) = Some key
 marked (Some least) (Some key) = Some (lesser_key least key)
 
--- a fact at a new key is added; one that is there changes nothing; one that differs leaves the facts and marks the key
-abbrev pub TakesInto : HeapValue → Option Key → FactValue → Stated → HeapValue → Option Key → Type 0
-TakesInto heap mark fact New new after =
-    (find (same_key fact) heap.facts ≡ None) × (new ≡ record heap { facts = inserted heap.facts fact }) × (after ≡ mark)
-TakesInto heap mark fact Same new after = (find (same_key fact) heap.facts ≡ Some fact) × (new ≡ heap) × (after ≡ mark)
-TakesInto heap mark fact Differs new after =
-    ((other : FactValue) × (find (same_key fact) heap.facts ≡ Some other) × (other ≢ fact)) × (new ≡ heap) × (after ≡ marked mark (key_of fact))
-
 -- the mark after a fact was stated
 abbrev pub mark_after : Stated → Option Key → FactValue → Option Key
 mark_after New mark fact = mark
 mark_after Same mark fact = mark
 mark_after Differs mark fact = marked mark (key_of fact)
 
--- what stating a fact does to a heap, and to whatever mark there is
-abbrev pub StatesInto : HeapValue → FactValue → Stated → HeapValue → Type 0
-StatesInto heap fact stated new = (mark : Option Key) → TakesInto heap mark fact stated new (mark_after stated mark fact)
+-- what stating a fact does to a heap and its mark
+abbrev pub TakesInto : HeapValue → Option Key → FactValue → Stated → HeapValue → Option Key → Type 0
+TakesInto heap mark fact stated new after = StatesInto heap fact stated new × (after ≡ mark_after stated mark fact)
 
 -- with two sizes begun nothing changes
 abbrev pub TakesHeap : Bool → Option HeapValue → Option Key → FactValue → Option HeapValue → Option Key → Type 0

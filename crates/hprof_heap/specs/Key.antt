@@ -1,6 +1,6 @@
 -- Keys: what two facts may not both be about. A key has one content, which is the form of its fact and every field
 -- but the key itself.
-use Rattle.std.specs.Prelude.{◌==◌, ◌||◌, ◌&&◌, ℕ, Bool, nat_lt, nat_le, Option, Some, if◌then◌else◌}
+use Rattle.std.specs.Prelude.{◌≡◌, ◌==◌, ◌||◌, ◌&&◌, ℕ, Bool, nat_lt, nat_le, Option, Some, if◌then◌else◌}
 use Rattle.hprof_items.specs.FactValue.{FactValue, Name}
 use Rattle.hprof_heap.specs.declared.key.Key.{Key}
 use Rattle.hprof_heap.specs.declared.key.Key.TheVariants as keys
@@ -8,6 +8,12 @@ use Rattle.hprof_heap.specs.declared.key.Key.TheVariants as keys
 -- the key of a fact; a fact that is its own key has none
 abbrev pub key_of : FactValue → Option Key
 key_of (Name id text) = Some (keys.Name id)
+
+-- the two facts have a key, and one
+pub record HaveOneKey (one other : FactValue) : Type 0 where
+  pub key : Key
+  pub key_of_one : key_of one ≡ Some key
+  pub key_of_other : key_of other ≡ Some key
 
 -- keys are ordered as they are listed here, and then by number
 abbrev pub rank_of : Key → ℕ

@@ -1,6 +1,6 @@
 -- What parts state together: the size of their identifiers, the earliest of their times, the set of their facts.
-use Rattle.std.specs.Prelude.{◌≡◌, ℕ, min, List, [], ◌∷◌, map}
-use Rattle.std.specs.List.{AllByRecursion, flat_map}
+use Rattle.std.specs.Prelude.{◌≡◌, ◌≤◌, ℕ, List, map}
+use Rattle.std.specs.List.{AllByRecursion, Contains, flat_map}
 use Rattle.hprof_items.specs.declared.ids.IdSize.{IdSize}
 use Rattle.hprof_items.specs.FactValue.{FactValue}
 use Rattle.hprof_stream.specs.Part.{IsPart}
@@ -16,11 +16,10 @@ pub record PartState : Type 0 where
 abbrev pub StatesIt : PartState → Type 0
 StatesIt part = IsPart part.bytes part.ids part.millis part.facts
 
--- the least of the numbers, which are not none
-abbrev pub IsLeastOf : List ℕ → ℕ → Type 0
-IsLeastOf [] least = ⊥
-IsLeastOf (n ∷ []) least = least ≡ n
-IsLeastOf (n ∷ m ∷ ns) least = (rest : ℕ) × IsLeastOf (m ∷ ns) rest × (least ≡ min n rest)
+-- the number is one of these, and no greater than any of them
+pub record IsLeastOf (numbers : List ℕ) (least : ℕ) : Type 0 where
+  pub is_one : Contains numbers least
+  pub is_least : AllByRecursion (λ number. least ≤ number) numbers
 
 -- what the parts of the list state; it is not empty, and all have one size
 pub record IsState (parts : List (List ℕ)) (ids : IdSize) (millis : ℕ) (facts : List FactValue) : Type 0 where

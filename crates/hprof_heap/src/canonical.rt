@@ -9,10 +9,7 @@ ghost use Rattle.hprof_heap.specs.Heap.{heap_of, facts_of_table};
 
 use crate::heap::Heap;
 use crate::table::Table;
-use hprof_items::{Header, Target, Version, WriteFault, write_fact, write_head, write_header};
-
-/// The tag of the record that ends a dump.
-const DUMP_END: u8 = 0x2c;
+use hprof_items::{Header, Target, Version, WriteFault, tag, write_fact, write_head, write_header};
 
 /// Writes the heap's facts of a table.
 fn write_table<W: Target>(heap: &Heap, table: Table, target: &mut W) -> Result<(), WriteFault>
@@ -44,5 +41,5 @@ pub fn write_canonical<W: Target>(heap: &Heap, target: &mut W) -> Result<(), Wri
     };
     write_header(&header, target)?;
     write_table(heap, Table::Names, target)?;
-    write_head(DUMP_END, 0, target)
+    write_head(tag::HEAP_DUMP_END, 0, target)
 }

@@ -158,16 +158,15 @@ impl Sink for Gatherer {
             // A part was begun, so there is a heap.
             unreachable!()
         };
-        match heap.state(fact) {
-            Ok(Stated::New) => Ok(()),
-            Ok(Stated::Same) => Ok(()),
-            Ok(Stated::Differs) => {
+        let Ok(stated) = heap.state(fact) else {
+            self.failed = true;
+            return Err(SinkFault::OutOfMemory);
+        };
+        match stated {
+            Stated::New | Stated::Same => Ok(()),
+            Stated::Differs => {
                 self.mark(&fact);
                 Ok(())
-            }
-            Err(_) => {
-                self.failed = true;
-                Err(SinkFault::OutOfMemory)
             }
         }
     }

@@ -24,6 +24,7 @@ pub struct Heap {
 
 impl Heap {
     ghost use Rattle.hprof_heap.specs.Heap.{heap_of, facts_of_table, is_name};
+    ghost use Rattle.hprof_heap.specs.Order.{IsCanonicalOrder};
     ghost use Rattle.hprof_heap.specs.Gathering.{StatesInto};
     ghost use Rattle.hprof_heap.specs.Rows.{facts_left};
 
@@ -101,7 +102,8 @@ impl Heap {
 
     /// The facts of a table, in canonical order.
     pub fn rows(&self, table: Table) -> Facts<'_>
-        ensures { facts_left result ≡ facts_of_table table (heap_of self.now).facts }
+        ensures all { facts_left result ≡ facts_of_table table (heap_of self.now).facts }
+        ensures ordered { IsCanonicalOrder (facts_left result) }
     {
         match table {
             Table::Names => Facts::of_names(self.names.rows()),

@@ -4,10 +4,12 @@ ghost use Rattle.std.specs.Prelude.{◌≡◌, ℕ, List};
 ghost use Rattle.hprof_items.specs.declared.ids.IdSize.{IdSize};
 ghost use Rattle.hprof_items.specs.FactValue.{FactValue};
 ghost use Rattle.hprof_stream.specs.Part.{IsPart};
+ghost use Rattle.hprof_heap.specs.declared.gatherer.Gatherer.{Gatherer};
 ghost use Rattle.hprof_heap.specs.declared.key.Key.{Key};
 ghost use Rattle.hprof_heap.specs.Conflict.{IsConsistent, IsLeastConflict};
 ghost use Rattle.hprof_heap.specs.Dump.{canonical_dump};
 ghost use Rattle.hprof_heap.specs.Facts.{SameFacts};
+ghost use Rattle.hprof_heap.specs.Gathering.{Given, Gathers, Tells, answer_of, gathered, nothing_gathered};
 ghost use Rattle.hprof_heap.specs.HeapValue.{HeapValue, IsHeap};
 ghost use Rattle.hprof_heap.specs.Order.{IsCanonicalOrder};
 
@@ -33,6 +35,13 @@ pub fn conflicts_are_of_the_set()
     ensures one { (facts : List FactValue) (key other : Key) → IsLeastConflict facts key
         → IsLeastConflict facts other → key ≡ other }
     ensures none { (facts : List FactValue) (key : Key) → IsConsistent facts → IsLeastConflict facts key → ⊥ }
+{}
+
+/// What a gatherer that was given nothing but these parts answers tells of them: the heap of exactly their facts, or
+/// the first refusal that they call for. Its standing and the heap that it lends are those of this answer.
+pub fn answers_tell_of_the_parts()
+    ensures { (parts : List Given) (gatherer : Gatherer) → Gathers nothing_gathered parts (gathered gatherer)
+        → Tells parts (answer_of (gathered gatherer)) }
 {}
 
 /// The canonical dump of a heap is a part, and states the heap's facts, each once.

@@ -32,7 +32,7 @@ pub struct Relation<V: Content + Drop> {
 
 impl<V: Content + Drop> Relation<V> {
     ghost use Rattle.hprof_heap.specs.Relation.{rows_of, States};
-    ghost use Rattle.hprof_heap.specs.Rows.{rows_left};
+    ghost use Rattle.hprof_heap.specs.Rows.{rows_left, IsAscending};
 
     /// A table with no rows. It takes no memory yet.
     pub fn new(alloc: Global) -> Self
@@ -95,7 +95,8 @@ impl<V: Content + Drop> Relation<V> {
 
     /// The rows, in order of key.
     pub fn rows(&self) -> Rows<'_, V>
-        ensures { rows_left result ≡ rows_of self.now }
+        ensures all { rows_left result ≡ rows_of self.now }
+        ensures ascending { IsAscending (rows_left result) }
     {
         Rows::new(self.rows.iter())
     }

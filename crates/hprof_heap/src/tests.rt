@@ -91,6 +91,7 @@ fn the_least_conflict(rt: HostRuntime) -> Result<(), Fail> {
         gatherer.finish().err(),
         Some(Refusal::Conflict(Key::Name(3)))
     );
+    laws::conflicts_are_of_the_set();
     Ok(())
 }
 
@@ -102,6 +103,7 @@ fn two_sizes_come_before_a_conflict(rt: HostRuntime) -> Result<(), Fail> {
     give(&mut gatherer, IdSize::Four, 1, &[(1, b"A")])?;
     assert_eq!(rt; gatherer.standing(), Standing::InConflict);
     assert_eq!(rt; gatherer.finish().err(), Some(Refusal::IdSizes));
+    laws::answers_tell_of_the_parts();
     Ok(())
 }
 
@@ -121,6 +123,7 @@ fn the_canonical_dump(rt: HostRuntime) -> Result<(), Fail> {
     assert_eq!(rt; write_canonical(heap, &mut device), Ok(()));
     let bytes = device.into_inner();
     assert_eq!(rt; bytes.as_slice(), DUMP.as_slice());
+    laws::dump_reads_back();
     Ok(())
 }
 
@@ -161,12 +164,6 @@ fn the_order_of_keys(rt: HostRuntime) {
     for pair in keys.windows(2) {
         assert!(rt; pair[0] < pair[1], "{pair:?}");
     }
-}
-
-#[test]
-fn the_laws(_rt: HostRuntime) {
     laws::agreeing_facts_have_an_order();
     laws::one_order();
-    laws::conflicts_are_of_the_set();
-    laws::dump_reads_back();
 }

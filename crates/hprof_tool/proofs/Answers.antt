@@ -27,6 +27,7 @@ use Rattle.hprof_heap.specs.Dump.{canonical_dump}
 use Rattle.hprof_heap.specs.Gathering.{Gathered, Given, nothing_gathered, all_given, Gathers, Tells}
 use Rattle.hprof_heap.specs.HeapValue.{HeapValue}
 use Rattle.hprof_heap.specs.State.{PartState, StatesIt, IsLeastOf, IsState, HaveTwoSizes}
+use Rattle.hprof_heap.proofs.Least.{no_least}
 use Rattle.hprof_heap.proofs.Order.{order_agrees}
 use Rattle.hprof_tool.specs.declared.joined.Joined.{Joined}
 use Rattle.hprof_tool.specs.declared.tool_fault.ToolFault.{ToolFault}
@@ -64,7 +65,7 @@ gives_none left limits (reader ∷ old) given are none = absurd cc
 
 -- what is told of nothing is that there is nothing
 told_of_nothing : (answer : Result HeapValue Refusal) → Tells [] answer → answer ≡ Err refusals.NoParts
-told_of_nothing (Ok heap) tells = absurd tells.1
+told_of_nothing (Ok heap) tells = absurd (no_least heap.millis tells.1)
 told_of_nothing (Err refusals.NoParts) tells = refl
 told_of_nothing (Err refusals.IdSizes) tells = absurd (tells Four tt)
 told_of_nothing (Err (refusals.Conflict key)) tells = absurd (tells.1 refl)
@@ -114,7 +115,7 @@ not_two_sizes parts ids millis facts state two =
 
 -- no numbers have a least one
 no_states : (states : List PartState) (least : ℕ) → map (λ part. part.bytes) states ≡ [] → IsLeastOf (map (λ part. part.millis) states) least → ⊥
-no_states [] least e is = is
+no_states [] least e is = no_least least is
 no_states (part ∷ states) least e is = absurd cc
 
 -- ---- all parts were read

@@ -8,6 +8,7 @@ use Rattle.hprof_stream.specs.declared.limits.Limits.{Limits}
 use Rattle.hprof_heap.specs.Facts.{SameFacts}
 use Rattle.hprof_heap.specs.Gathering.{Given, all_given}
 use Rattle.hprof_heap.specs.State.{PartState, StatesIt, IsLeastOf, IsState, HaveTwoSizes}
+use Rattle.hprof_heap.proofs.Least.{IsLeastOf-one, IsLeastOf-cons}
 use Rattle.hprof_tool.specs.Joining.{IsAccepted, AreGiven}
 use Rattle.hprof_tool.proofs.Parts.{states_one}
 
@@ -99,8 +100,8 @@ module _ (limits : Limits) where
 -- numbers that are not none have a least one
 pub least_of : (ns : List ℕ) → (ns ≡ [] → ⊥) → (least : ℕ) × IsLeastOf ns least
 least_of [] some = absurd (some refl)
-least_of (n ∷ []) some = (n, refl)
-least_of (n ∷ m ∷ ns) some = let rest = least_of (m ∷ ns) (λ e. cc) in (min n rest.0, (rest.0, rest.1, refl))
+least_of (n ∷ []) some = (n, IsLeastOf-one n)
+least_of (n ∷ m ∷ ns) some = let rest = least_of (m ∷ ns) (λ e. cc) in (min n rest.0, IsLeastOf-cons n (m ∷ ns) rest.0 rest.1)
 
 -- states of the same parts have the same sizes
 pub sizes_once : (ids : IdSize) (states others : List PartState) → map (λ part. part.bytes) states ≡ map (λ part. part.bytes) others → AllByRecursion StatesIt states → AllByRecursion StatesIt others

@@ -1,5 +1,6 @@
-use Rattle.std.proofs.Common.{sym, subst}
+use Rattle.std.proofs.Common.{◌≡◌, sym, subst, inl, inr}
 use Rattle.hprof_items.specs.FactValue.{value_of}
+use Rattle.hprof_heap.specs.declared.relation.Stated.{Stated}
 use Rattle.hprof_heap.specs.declared.relation.Stated.TheVariants.{New, Same, Differs}
 use Rattle.hprof_heap.specs.Heap.{heap_of}
 use Rattle.hprof_heap.specs.Gathering.{gathered, Takes}
@@ -12,18 +13,15 @@ invariant_of-self c = record {
       (states_ids c.state.result (heap_of c.in-Some.heap) (heap_of c.state.new.self) (value_of c.args.fact) c.state.ensures.ok c.state.ensures.err);
 }
 
-pub returns-in-Ok-New-clause-steps : goal.returns-in-Ok-New-clause-steps
-returns-in-Ok-New-clause-steps c =
-    took c.state.result c.in-Ok-New.field-0 New c.args.self.now c.in-Some.heap c.state.new.self (value_of c.args.fact)
-    c.if-self.false c.if-self-2.false c.in-Some.is c.in-Ok-New.is c.in-Ok-New.field-0-is c.state.ensures.ok
+pub returns-in-New-clause-steps : goal.returns-in-New-clause-steps
+returns-in-New-clause-steps c =
+    let told = λ (stated : Stated) (e : c.in-Ok.stated ≡ stated).
+    took c.state.result c.in-Ok.stated stated c.args.self.now c.in-Some.heap c.state.new.self (value_of c.args.fact)
+    c.if-self.false c.if-self-2.false c.in-Some.is c.in-Ok.is e c.state.ensures.ok in
+    elim c.in-New.is [ inl e ↦ told New e | inr e ↦ told Same e ]
 
-pub returns-in-Ok-Same-clause-steps : goal.returns-in-Ok-Same-clause-steps
-returns-in-Ok-Same-clause-steps c =
-    took c.state.result c.in-Ok-Same.field-0 Same c.args.self.now c.in-Some.heap c.state.new.self (value_of c.args.fact)
-    c.if-self.false c.if-self-2.false c.in-Some.is c.in-Ok-Same.is c.in-Ok-Same.field-0-is c.state.ensures.ok
-
-pub returns-in-Ok-Differs-clause-steps : goal.returns-in-Ok-Differs-clause-steps
-returns-in-Ok-Differs-clause-steps c =
+pub returns-in-Differs-clause-steps : goal.returns-in-Differs-clause-steps
+returns-in-Differs-clause-steps c =
     subst (Takes (gathered c.args.self.now) (value_of c.args.fact)) (sym c.mark.ensures)
-    (took c.state.result c.in-Ok-Differs.field-0 Differs c.args.self.now c.in-Some.heap c.state.new.self (value_of c.args.fact)
-    c.if-self.false c.if-self-2.false c.in-Some.is c.in-Ok-Differs.is c.in-Ok-Differs.field-0-is c.state.ensures.ok)
+    (took c.state.result c.in-Ok.stated Differs c.args.self.now c.in-Some.heap c.state.new.self (value_of c.args.fact)
+    c.if-self.false c.if-self-2.false c.in-Some.is c.in-Ok.is c.in-Differs.is c.state.ensures.ok)

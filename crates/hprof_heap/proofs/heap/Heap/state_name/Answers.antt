@@ -10,3 +10,4 @@ invariant_of-self c = record {
 pub returns-clause-ok : goal.returns-clause-ok
 returns-clause-ok c =
     names_state c.state_from.result c.args.self.now.ids c.args.self.now.millis c.args.self.now.names.rows.entries c.state_from.new.self.rows.entries c.args.id c.args.text.now c.state_from.ensures.ok
+    c.requires c.args.self.now.sound
