@@ -1,7 +1,7 @@
 //! Parts that are joined.
 
 use crate::samples::{END, HEADER, NAME_1_A, NAME_2_B, WIDE_HEADER, bytes_of, joined};
-use hprof_tool::{Joined, ToolFault};
+use hprof_tool::{Joined, ToolFault, laws};
 use std::alloc::Global;
 use std::process::Abort;
 use std::test::Fail;
@@ -57,7 +57,14 @@ fn two_names_in_any_order_and_twice(rt: HostRuntime) -> Result<(), Fail> {
     let one = bytes_of(rt.alloc(), &[HEADER, END, NAME_1_A])?;
     let expected = [HEADER, NAME_1_A, NAME_2_B, END];
     expect_joined(&rt, rt.alloc(), &[&both], &expected, 2)?;
-    expect_joined(&rt, rt.alloc(), &[&one, &both, &one], &expected, 2)
+    expect_joined(&rt, rt.alloc(), &[&one, &both, &one], &expected, 2)?;
+    laws::order_repetition_and_cutting_do_not_matter();
+    laws::a_part_states_one_thing();
+    laws::equal_dumps_equal_facts();
+    // The dump reads back.
+    let dump = bytes_of(rt.alloc(), &expected)?;
+    laws::the_dump_reads_back();
+    expect_joined(&rt, rt.alloc(), &[&dump], &expected, 2)
 }
 
 #[test]

@@ -3,7 +3,7 @@
 use crate::samples::{END, HEADER, NAME_1_A, NAME_2_B, bytes_of, joined_under};
 use hprof_items::{Device, Reason};
 use hprof_stream::{Limits, PartFault};
-use hprof_tool::{Joined, ToolFault, join_to};
+use hprof_tool::{Joined, ToolFault, join_to, laws};
 use std::alloc::Global;
 use std::io;
 use std::io::Read;
@@ -37,15 +37,28 @@ impl Read for ByteByByte<'_> {
     }
 }
 
-/// A reader that fails.
+/// A reader that gives these bytes one at a time, and then fails.
 #[derive(Drop)]
-struct Broken;
+struct Broken<'a>(ByteByByte<'a>);
 
-impl Read for Broken {
-    fn read(&mut self, _piece: &mut [u8]) -> io::Result<usize> {
-        Err(io::Error::from(io::ErrorKind::Other))
+impl Read for Broken<'_> {
+    fn read(&mut self, piece: &mut [u8]) -> io::Result<usize> {
+        match self.0.read(piece)? {
+            0 => Err(io::Error::from(io::ErrorKind::Other)),
+            count => Ok(count),
+        }
     }
 }
+
+/// Bytes that are wrong from their 31st on: a record that is not known, behind a header.
+fn unknown_record(alloc: Global) -> Result<Vec<u8>, Fail> {
+    Ok(bytes_of(alloc, &[HEADER, b"\x03\0\0\0\0\0\0\0\x04\0\0\0\x01"])?)
+}
+
+const UNKNOWN: PartFault = PartFault::Malformed {
+    at: 31,
+    reason: Reason::Unsupported,
+};
 
 fn reads(max_reads: u64) -> Limits {
     Limits {
@@ -87,6 +100,9 @@ fn limit_of_reads(rt: HostRuntime) -> Result<(), Fail> {
     );
     expect_fault(&rt, slow_answer(rt.alloc(), 10), PartFault::ReadsExceeded);
     assert_eq!(rt; slow_answer(rt.alloc(), 32), Ok(ONE_PART));
+    // What came is judged first.
+    let unknown = unknown_record(rt.alloc())?;
+    expect_fault(&rt, answer(rt.alloc(), &unknown, reads(1))?, UNKNOWN);
     Ok(())
 }
 
@@ -98,19 +114,32 @@ fn limit_of_bytes(rt: HostRuntime) -> Result<(), Fail> {
         answer(rt.alloc(), HEADER, bytes(30))?,
         PartFault::BytesExceeded,
     );
+    // Only the bytes within the limit are judged.
+    let unknown = unknown_record(rt.alloc())?;
+    expect_fault(
+        &rt,
+        answer(rt.alloc(), &unknown, bytes(39))?,
+        PartFault::BytesExceeded,
+    );
+    expect_fault(&rt, answer(rt.alloc(), &unknown, bytes(40))?, UNKNOWN);
     Ok(())
+}
+
+/// What joining these bytes comes to, read one at a time until the reader fails.
+fn broken_answer(alloc: Global, came: &[u8]) -> Result<Joined, ToolFault> {
+    let mut target = Device::new(Vec::<u8>::new(alloc));
+    let mut readers = [Device::new(Broken(ByteByByte(came)))];
+    join_to(alloc, &mut readers, &mut target, Limits::usual())
 }
 
 #[test]
 fn failed_read(rt: HostRuntime) -> Result<(), Fail> {
-    let mut target = Device::new(Vec::<u8>::new(rt.alloc()));
-    let answer = join_to(
-        rt.alloc(),
-        &mut [Device::new(Broken)],
-        &mut target,
-        Limits::usual(),
-    );
-    expect_fault(&rt, answer, PartFault::Read);
+    for came in [b"".as_slice(), b"JAVA", HEADER] {
+        expect_fault(&rt, broken_answer(rt.alloc(), came), PartFault::Read);
+    }
+    // What came is judged first.
+    let unknown = unknown_record(rt.alloc())?;
+    expect_fault(&rt, broken_answer(rt.alloc(), &unknown), UNKNOWN);
     Ok(())
 }
 
@@ -124,6 +153,7 @@ fn longest_item(rt: HostRuntime) -> Result<(), Fail> {
         answer(rt.alloc(), &part, longest(4))?,
         PartFault::ItemTooLong { at: 31 },
     );
+    laws::a_smaller_limit();
     Ok(())
 }
 

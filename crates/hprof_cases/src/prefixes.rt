@@ -4,6 +4,7 @@ use crate::samples::{HEADER, NAME_1_A, NAME_2_B, bytes_of, fed};
 use hprof_heap::Gatherer;
 use hprof_items::Reason;
 use hprof_stream::PartFault;
+use hprof_tool::laws;
 use std::test::Fail;
 
 /// Where the items of the part begin, and where the last one ends.
@@ -40,5 +41,8 @@ fn every_prefix_of_two_names(rt: HostRuntime) -> Result<(), Fail> {
             assert_eq!(rt; summary.err(), expected);
         }
     }
+    laws::no_fault_exactly_in_the_grammar();
+    laws::one_first_fault();
+    laws::a_longer_input();
     Ok(())
 }

@@ -82,6 +82,39 @@ fn no_words(rt: HostRuntime) -> Result<(), Fail> {
     Ok(())
 }
 
+/// A writer that counts its writes, of which the first fails.
+#[derive(Drop)]
+struct FailsOnce<'a>(&'a mut u32);
+
+impl Write for FailsOnce<'_> {
+    fn write(&mut self, bytes: &[u8]) -> io::Result<usize> {
+        *self.0 = self.0.saturating_add(1);
+        if *self.0 == 1 {
+            return Err(io::Error::from(io::ErrorKind::Other));
+        }
+        Ok(bytes.len())
+    }
+
+    fn flush(&mut self) -> io::Result<()> {
+        Ok(())
+    }
+}
+
+#[test]
+fn nothing_is_written_again(rt: HostRuntime) -> Result<(), Fail> {
+    let mut words = Vec::new(rt.alloc());
+    words.push(String::from_str(rt.alloc(), "hprof")?)?;
+    let mut writes = 0;
+    let mut errors = Vec::new(rt.alloc());
+    let output = FailsOnce(&mut writes);
+    let words = Ok(words.into_iter());
+    let status = run(rt.alloc(), &rt, words, HEADER, output, &mut errors);
+    assert_eq!(rt; status, Status::Refused);
+    assert_eq!(rt; errors.as_slice(), b"hprof: write failed\n".as_slice());
+    assert_eq!(rt; writes, 1);
+    Ok(())
+}
+
 /// Writes a file of that name with the texts, and gives its path.
 fn written(rt: &HostRuntime, name: &str, texts: &[&[u8]]) -> Result<String, Fail> {
     let path = path_of(rt, name)?;

@@ -78,13 +78,15 @@ fn join_into<R: Source, W: Write + Drop>(
         return Err(Refused::OutOfMemory);
     };
     let mut target = Device::new(buffered);
-    if let Err(fault) = join_to(alloc, readers, &mut target, Limits::usual()) {
-        return Err(Refused::Engine(fault));
-    }
-    match target.into_inner().flush() {
-        Ok(()) => Ok(()),
-        Err(_) => Err(WRITE_FAILED),
-    }
+    let joined = join_to(alloc, readers, &mut target, Limits::usual());
+    let mut buffered = target.into_inner();
+    let outcome = match joined {
+        Ok(_) => buffered.flush().map_err(|_| WRITE_FAILED),
+        Err(fault) => Err(Refused::Engine(fault)),
+    };
+    // A buffer that is dropped would write once more what it holds.
+    let _ = buffered.into_parts();
+    outcome
 }
 
 /// Joins the one part that a stream gives into another.
