@@ -19,7 +19,8 @@ use Rattle.hprof_stream.specs.Part.{Stated, all_bytes, all_facts, is_end}
 use Rattle.hprof_stream.specs.Item.{Place, Start, header_before, place_behind, IsItem, AreItems, none, item_at}
 use Rattle.hprof_stream.specs.Fault.{Splits, is_whole, IsFirstFault, HasNoSettledFault, is_settled}
 use Rattle.hprof_stream.specs.Run.{Run, became}
-use Rattle.hprof_stream.specs.Reader.{header_of, has_failed, header_count, HasRead, start_of, Walks, IsWithinItem, RanOver, RanUpTo, Stops, Halts, IsFeedFault, ReadsOn, Feeds}
+use Rattle.hprof_stream.specs.Reader.{header_of, has_failed, header_count, HasRead, IsWithinItem, RanOver, RanUpTo, IsFeedFault, Feeds}
+use Rattle.hprof_stream.specs.Walking.{start_of, Walks, Stops, Halts, ReadsOn}
 use Rattle.hprof_stream.proofs.Walks.{all_facts-then, all_bytes-then, Walks-kept}
 use Rattle.hprof_stream.proofs.Refusals.{item_none}
 use Rattle.hprof_stream.proofs.Stepping.{Stops-more}
@@ -153,8 +154,8 @@ module _ {S : Type 0} (begins : S → Header → S → Type 0) (steps : S → Fa
 
   -- the rest begins with a whole item: the sink ran over the items in front of it
   pub RanUpTo-walked : (limits : Limits) (bytes : List ℕ) (facts : List FactValue) (before : Option Header) (at : Progress) (one : Stated) (back : List ℕ) (told : Option Header) (rest : List ℕ) (old new : S) → HasWalked limits bytes facts before at rest old new
-      → ((header : Header) → before ≡ Some header → at.header ≡ Some header) → IsItem limits.max_item (place_behind at.header) one (place_behind told) → rest ≡ one.bytes ++ back → RanUpTo begins steps limits.max_item bytes facts before told old new
-  RanUpTo-walked limits bytes facts before at one back told rest old new walked stays is parts = record {
+      → ((header : Header) → before ≡ Some header → at.header ≡ Some header) → IsItem limits.max_item (place_behind at.header) one (place_behind told) → (one.facts ≡ [] → at.header ≡ None) → rest ≡ one.bytes ++ back → RanUpTo begins steps limits.max_item bytes facts before told old new
+  RanUpTo-walked limits bytes facts before at one back told rest old new walked stays is given parts = record {
     items = walked.items;
     header = at.header;
     one = one;
@@ -162,6 +163,7 @@ module _ {S : Type 0} (begins : S → Header → S → Type 0) (steps : S → Fa
     stays = stays;
     each = walked.splits.each;
     next = is;
+    given = given;
     parts = walked.splits.parts ∙ ap (λ (r : List ℕ). all_bytes walked.items ++ r) parts;
     handed = walked.handed;
     has_facts = walked.has_facts;
@@ -223,7 +225,7 @@ module _ {S : Type 0} (begins : S → Header → S → Type 0) (steps : S → Fa
       )
   IsFeedFault-stopped limits bytes whole facts before told at rest old mid new (faults.Sink fault) taken walked stays stop =
       let is : IsItem limits.max_item (place_behind at.header) stop.0 (place_behind told) = subst (λ (l : Limits). IsItem l.max_item (place_behind at.header) stop.0 (place_behind told)) walked.has_limits stop.2 in
-      (mid, subst (λ (b : List ℕ). RanUpTo begins steps limits.max_item b facts before told old mid) taken (RanUpTo-walked begins steps limits whole facts before at stop.0 stop.1 told rest old mid walked stays is stop.3), stop.4)
+      (mid, subst (λ (b : List ℕ). RanUpTo begins steps limits.max_item b facts before told old mid) taken (RanUpTo-walked begins steps limits whole facts before at stop.0 stop.1 told rest old mid walked stays is stop.3 stop.4), stop.5)
   IsFeedFault-stopped limits bytes whole facts before told at rest old mid new faults.OutOfMemory taken walked stays stop = absurd stop
   IsFeedFault-stopped limits bytes whole facts before told at rest old mid new faults.Failed taken walked stays stop = absurd stop
   IsFeedFault-stopped limits bytes whole facts before told at rest old mid new faults.Read taken walked stays stop = absurd stop

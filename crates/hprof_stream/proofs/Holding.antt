@@ -14,7 +14,7 @@ use Rattle.hprof_items.specs.FactValue.{FactValue}
 use Rattle.hprof_items.specs.Head.{kind_of}
 use Rattle.hprof_items.specs.Reading.{version_of, timed_header, sized_header, header_at, head_at, body_at}
 use Rattle.hprof_stream.specs.Item.{Between, Found, found_header, found_fact, found_record, found_behind, item_at}
-use Rattle.hprof_stream.specs.Reader.{HasAtLeast}
+use Rattle.hprof_stream.specs.Walking.{HasAtLeast}
 use Rattle.hprof_stream.proofs.Refusals.{header_short, head_short, head_stays}
 
 -- what is whole has so many bytes at least

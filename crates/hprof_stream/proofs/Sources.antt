@@ -18,7 +18,8 @@ use Rattle.hprof_stream.specs.Part.{all_facts}
 use Rattle.hprof_stream.specs.Item.{place_behind, header_before}
 use Rattle.hprof_stream.specs.Fault.{is_whole, is_settled, IsFirstFault, StatesSoFar}
 use Rattle.hprof_stream.specs.Run.{Run}
-use Rattle.hprof_stream.specs.Reader.{header_of, HasRead, RanOver, RanUpTo, IsFeedFault, LacksMemory, Feeds, Finishes, ReadsPart, FeedsAll}
+use Rattle.hprof_stream.specs.Reader.{header_of, HasRead, RanOver, RanUpTo, IsFeedFault, LacksMemory, Feeds, Finishes, ReadsPart}
+use Rattle.hprof_stream.specs.Walking.{FeedsAll}
 use Rattle.hprof_stream.proofs.Runs.{Run-then}
 use Rattle.hprof_stream.proofs.Walks.{items_headers}
 use Rattle.hprof_stream.proofs.Faults.{short_unsettled, splits_once}
@@ -66,6 +67,7 @@ module _ {S : Type 0} (begins : S → Header → S → Type 0) (steps : S → Fa
     stays = λ header e. absurd cc;
     each = over.each;
     next = over.next;
+    given = over.given;
     parts = over.parts;
     handed = facts ++ over.handed;
     has_facts = over.has_facts;

@@ -23,7 +23,8 @@ use Rattle.hprof_stream.specs.Part.{Stated, is_end}
 use Rattle.hprof_stream.specs.Item.{Between, place_behind, Found, IsItem, item_at}
 use Rattle.hprof_stream.specs.Fault.{IsStopAt}
 use Rattle.hprof_stream.specs.Run.{Run, became}
-use Rattle.hprof_stream.specs.Reader.{header_count, seen, IsCounted, Walks, Refuses, Stops, StepsOver, Halts, Fills, WalksAll, FinishesHeld, ReadsOn}
+use Rattle.hprof_stream.specs.Reader.{header_count, Refuses}
+use Rattle.hprof_stream.specs.Walking.{seen, IsCounted, Walks, Stops, StepsOver, Halts, Fills, WalksAll, FinishesHeld, ReadsOn}
 use Rattle.hprof_stream.proofs.Items.{item_found}
 use Rattle.hprof_stream.proofs.Found.{start_is, behind_is, body_is, end_is, start_no_end, fact_no_end, no_fact_ends}
 use Rattle.hprof_stream.proofs.Refusals.{item_stays, item_stays_long}
@@ -66,19 +67,19 @@ module _ {S : Type 0} (refuses : S → SinkFault → Type 0) (failed : S → Boo
 
   -- an item that was found, and that the sink refuses
   stops_found : (progress : Progress) (bytes : List ℕ) (old new : S) (found : Found) (n : ℕ) (told : Option Header) (fault : SinkFault) → IsBytes bytes
-      → item_at progress.limits.max_item (place_behind progress.header) bytes ≡ Whole found n → found.next ≡ place_behind told → Refuses refuses failed old fault new
+      → item_at progress.limits.max_item (place_behind progress.header) bytes ≡ Whole found n → found.next ≡ place_behind told → (found.facts ≡ [] → progress.header ≡ None) → Refuses refuses failed old fault new
       → Stops refuses failed progress bytes old (faults.Sink fault) told new
-  stops_found progress bytes old new found n told fault are e next refused =
+  stops_found progress bytes old new found n told fault are e next given refused =
       let longest : ℕ = progress.limits.max_item in
       let read = item_found longest (place_behind progress.header) bytes found n are e in
       let one : Stated = record { bytes = take n bytes; facts = found.facts } in
-      (one, drop n bytes, subst (IsItem longest (place_behind progress.header) one) next read.2, sym (take-append-drop n bytes), refused)
+      (one, drop n bytes, subst (IsItem longest (place_behind progress.header) one) next read.2, given, sym (take-append-drop n bytes), refused)
 
   -- a header that the sink refuses was read all the same
   pub Stops-begin : (progress : Progress) (bytes : List ℕ) (old new : S) (header : Header) (n : ℕ) (fault : SinkFault) → IsBytes bytes → progress.header ≡ None → header_at bytes ≡ Whole header n
       → Refuses refuses failed old fault new → Stops refuses failed progress bytes old (faults.Sink fault) (Some header) new
   Stops-begin progress bytes old new header n fault are none e refused =
-      stops_found progress bytes old new (record { next = Between header; facts = [] }) n (Some header) fault are (start_is progress.limits.max_item progress.header bytes (Whole header n) none e) refl refused
+      stops_found progress bytes old new (record { next = Between header; facts = [] }) n (Some header) fault are (start_is progress.limits.max_item progress.header bytes (Whole header n) none e) refl (λ _. none) refused
 
   -- a fact that the sink refuses
   pub Stops-take : (progress : Progress) (bytes : List ℕ) (old new : S) (header : Header) (head : Head) (fact : FactValue) (fault : SinkFault) → IsBytes bytes → progress.header ≡ Some header
@@ -86,14 +87,14 @@ module _ {S : Type 0} (refuses : S → SinkFault → Type 0) (failed : S → Boo
       → Refuses refuses failed old fault new → Stops refuses failed progress bytes old (faults.Sink fault) progress.header new
   Stops-take progress bytes old new header head fact fault are behind e kind long body refused =
       stops_found progress bytes old new (record { next = Between header; facts = fact ∷ [] }) (9 + head.length) progress.header fault are
-      (body_is progress.limits.max_item progress.header header head bytes (Ok fact) behind e kind long body) (sym (ap place_behind behind)) refused
+      (body_is progress.limits.max_item progress.header header head bytes (Ok fact) behind e kind long body) (sym (ap place_behind behind)) (λ nothing. absurd cc) refused
 
   -- more bytes behind what is refused do not help it
   pub Stops-more : (progress : Progress) (shown rest : List ℕ) (old new : S) (fault : PartFault) (told : Option Header) → Stops refuses failed progress shown old fault told new → Stops refuses failed progress (shown ++ rest) old fault told new
   Stops-more progress shown rest old new (faults.Malformed at reason) told stop = (item_stays progress.limits.max_item (place_behind progress.header) shown rest reason stop.0, stop.1, stop.2, stop.3)
   Stops-more progress shown rest old new (faults.ItemTooLong at) told stop = (item_stays_long progress.limits.max_item (place_behind progress.header) shown rest stop.0, stop.1, stop.2, stop.3)
   Stops-more progress shown rest old new (faults.Sink fault) told stop =
-      (stop.0, stop.1 ++ rest, stop.2, ap (λ (b : List ℕ). b ++ rest) stop.3 ∙ append_assoc stop.0.bytes stop.1 rest, stop.4)
+      (stop.0, stop.1 ++ rest, stop.2, stop.3, ap (λ (b : List ℕ). b ++ rest) stop.4 ∙ append_assoc stop.0.bytes stop.1 rest, stop.5)
   Stops-more progress shown rest old new faults.OutOfMemory told stop = stop
   Stops-more progress shown rest old new faults.Failed told stop = stop
   Stops-more progress shown rest old new faults.Read told stop = stop

@@ -13,7 +13,8 @@ use Rattle.hprof_stream.specs.declared.progress.Progress.{Progress}
 use Rattle.hprof_stream.specs.Part.{Stated, all_bytes, all_facts, is_end}
 use Rattle.hprof_stream.specs.Item.{Place, Start, Between, place_behind, IsItem, is_header, is_fact, is_dump_end, AreItems, none, more}
 use Rattle.hprof_stream.specs.Run.{Run, became}
-use Rattle.hprof_stream.specs.Reader.{IsCounted, header_count, Walks}
+use Rattle.hprof_stream.specs.Reader.{header_count}
+use Rattle.hprof_stream.specs.Walking.{IsCounted, Walks}
 use Rattle.hprof_stream.proofs.Items.{length-header, length-record}
 use Rattle.hprof_stream.proofs.Runs.{Run-none, Run-then}
 

@@ -4,3 +4,4 @@ pub mod Item
 pub mod Fault
 pub mod Run
 pub mod Reader
+pub mod Walking

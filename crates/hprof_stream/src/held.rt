@@ -3,7 +3,8 @@
 ghost use Rattle.std.specs.Prelude.{◌≡◌, ◌+◌, ◌<◌, ◌++◌, length, Some, IfOk, OnOk, OnErr};
 ghost use Rattle.hprof_items.specs.declared.step.Step.TheVariants.{Short};
 ghost use Rattle.hprof_stream.specs.Item.{place_behind, item_at};
-ghost use Rattle.hprof_stream.specs.Reader.{IsCounted, IsBegun, HasAtLeast, Fills, FinishesHeld, ReadsOn, seen};
+ghost use Rattle.hprof_stream.specs.Reader.{IsBegun};
+ghost use Rattle.hprof_stream.specs.Walking.{IsCounted, HasAtLeast, Fills, FinishesHeld, ReadsOn, seen};
 
 use crate::part_fault::PartFault;
 use crate::progress::Progress;

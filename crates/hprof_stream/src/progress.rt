@@ -42,7 +42,8 @@ fn if_whole<T>(step: Step<T>, at: u64) -> Result<Option<(T, usize)>, PartFault>
 }
 
 impl Progress {
-    ghost use Rattle.hprof_stream.specs.Reader.{start_of, IsCounted, IsBegun, StepsOver, WalksAll, seen};
+    ghost use Rattle.hprof_stream.specs.Reader.{IsBegun};
+    ghost use Rattle.hprof_stream.specs.Walking.{start_of, IsCounted, StepsOver, WalksAll, seen};
 
     /// Nothing was read.
     pub(crate) fn start(limits: Limits) -> Self

@@ -4,7 +4,8 @@ ghost use Rattle.std.specs.Prelude.{◌≡◌, ℕ, ◌+◌, ◌-◌, ◌^◌, �
 ghost use Rattle.std.specs.Io.KnownBytes.{Consumes};
 ghost use Rattle.hprof_items.specs.declared.health.Health.TheVariants.{Well};
 ghost use Rattle.hprof_stream.specs.declared.limits.Limits.{Limits};
-ghost use Rattle.hprof_stream.specs.Reader.{HasRead, IsReady, ReadsPart, FeedsAll};
+ghost use Rattle.hprof_stream.specs.Reader.{HasRead, IsReady, ReadsPart};
+ghost use Rattle.hprof_stream.specs.Walking.{FeedsAll};
 
 use crate::limits::Limits;
 use crate::part_fault::PartFault;

@@ -112,6 +112,7 @@ fn a_part_in_pieces(rt: HostRuntime) {
 // Refuses each header.
 #[derive(Drop)]
 struct Closed {
+    begun: Option<IdSize>,
     failed: bool,
 }
 
@@ -120,7 +121,7 @@ impl Sink for Closed {
 
     ghost steps = { λ _ _ _. Unit {0} };
 
-    ghost begun = { λ _. None };
+    ghost begun = { λ s. s.begun };
 
     ghost failed = { λ s. s.failed };
 
@@ -139,7 +140,10 @@ impl Sink for Closed {
 
 #[test]
 fn a_header_that_is_refused(rt: HostRuntime) {
-    let mut sink = Closed { failed: false };
+    let mut sink = Closed {
+        begun: None,
+        failed: false,
+    };
     let mut reader = PartReader::new(rt.alloc(), Limits::usual());
     assert_eq!(rt;
         reader.feed(PART, &mut sink),

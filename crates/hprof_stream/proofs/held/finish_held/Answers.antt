@@ -1,6 +1,6 @@
 use Rattle.std.proofs.Common.{◌+◌, ◌++◌, length, inl, sym, ap, subst, arith}
 use Rattle.std.proofs.lemmas.List.{length-append}
-use Rattle.hprof_stream.specs.Reader.{IsCounted}
+use Rattle.hprof_stream.specs.Walking.{IsCounted}
 use Rattle.hprof_stream.proofs.Walks.{Walks-none, IsCounted-less}
 use Rattle.hprof_stream.proofs.Feeding.{none_left}
 use Rattle.hprof_stream.proofs.Stepping.{FinishesHeld-none, FinishesHeld-whole, FinishesHeld-err, StepsOver-counted}

@@ -1,7 +1,7 @@
 use Rattle.std.proofs.Common.{◌+◌, length, ap, arith}
 use Rattle.std.proofs.lemmas.Result.{err_from_is_err_and}
 use Rattle.hprof_stream.specs.Item.{place_behind}
-use Rattle.hprof_stream.specs.Reader.{seen}
+use Rattle.hprof_stream.specs.Walking.{seen}
 use Rattle.hprof_stream.proofs.Feeding.{none_left, none_short}
 use Rattle.hprof_stream.proofs.Walks.{Walks-room, IsCounted-less}
 use Rattle.hprof_stream.proofs.Stepping.{held_none, ReadsOn-held_err, ReadsOn-walk, WalksAll-counted, WalksAll-room}

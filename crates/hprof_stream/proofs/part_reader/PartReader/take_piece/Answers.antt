@@ -1,7 +1,7 @@
 use Rattle.std.proofs.Common.{◌≡◌, ◌<◌, ◌≤◌, ◌-◌, min, length, ap, ◌∙◌, refl, arith}
 use Rattle.std.proofs.lemmas.List.{take_all, length-drop}
 use Rattle.std.proofs.lemmas.Result.{err_from_is_err_and}
-use Rattle.hprof_stream.specs.Reader.{seen}
+use Rattle.hprof_stream.specs.Walking.{seen}
 use Rattle.hprof_stream.proofs.Stepping.{ReadsOn-kept}
 use Rattle.hprof_stream.proofs.Feeding.{none_left, some_left, taken_whole, taken_some, taken_all, Feeds-read_on, IsFeedFault-excess, Feeds-hold}
 use Rattle.hprof_stream.proofs.part_reader.PartReader.take_piece.Goals as goal

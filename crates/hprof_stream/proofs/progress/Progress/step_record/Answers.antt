@@ -3,7 +3,7 @@ use Rattle.std.proofs.lemmas.Result.{err_from_is_err_and}
 use Rattle.hprof_items.specs.declared.step.Step.TheVariants.{Whole, Short}
 use Rattle.hprof_stream.specs.declared.progress.Progress.{Progress}
 use Rattle.hprof_stream.specs.Item.{place_behind, Found, item_at}
-use Rattle.hprof_stream.specs.Reader.{Walks}
+use Rattle.hprof_stream.specs.Walking.{Walks}
 use Rattle.hprof_stream.proofs.Found.{behind_is, known_kinds}
 use Rattle.hprof_stream.proofs.Stepping.{Stops-head, Walks-end}
 use Rattle.hprof_stream.proofs.progress.Progress.step_record.Goals as goal

@@ -1,6 +1,6 @@
 use Rattle.std.proofs.Common.{ℕ, List, sym, subst}
 use Rattle.std.proofs.lemmas.Result.{err_from_is_err_and}
-use Rattle.hprof_stream.specs.Reader.{Walks}
+use Rattle.hprof_stream.specs.Walking.{Walks}
 use Rattle.hprof_stream.proofs.Stepping.{Halts-here, Halts-then}
 use Rattle.hprof_stream.proofs.Walks.{Walks-none, Walks-then, Walks-counted}
 use Rattle.hprof_stream.proofs.progress.Progress.walk.Goals as goal

@@ -1,5 +1,6 @@
 use Rattle.std.proofs.Common.{length}
-use Rattle.hprof_stream.specs.Reader.{IsCounted, IsBegun, Walks}
+use Rattle.hprof_stream.specs.Reader.{IsBegun}
+use Rattle.hprof_stream.specs.Walking.{IsCounted, Walks}
 use Rattle.hprof_stream.proofs.progress.Progress.walk.Given as goal
 
 abbrev pub invariant-loop-len : goal.invariant-loop-len
