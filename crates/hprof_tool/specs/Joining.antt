@@ -1,7 +1,8 @@
 -- What joining parts answers, and what it writes.
-use Rattle.std.specs.Prelude.{◌≡◌, ℕ, ◌+◌, ◌-◌, ◌<◌, ◌≤◌, ◌^◌, min, Bool, true, false, List, [], ◌∷◌, ◌++◌, length, take, map, Option, Some, None, Result, Ok, Err, ⊤, slice_get}
+use Rattle.std.specs.Prelude.{◌≡◌, ◌⊎◌, ℕ, ◌+◌, ◌-◌, ◌<◌, ◌≤◌, ◌^◌, min, Bool, true, false, List, [], ◌∷◌, ◌++◌, length, take, map, Option, Some, None, Result, Ok, Err, ⊤, slice_get}
 use Rattle.std.specs.List.{AllByRecursion}
 use Rattle.std.specs.Io.KnownBytes.{Appends, Consumes, IsAtEnd}
+use Rattle.hprof_items.specs.declared.header.Header.{Header}
 use Rattle.hprof_items.specs.declared.health.Health.{Health}
 use Rattle.hprof_items.specs.declared.health.Health.TheVariants as healths
 use Rattle.hprof_items.specs.declared.ids.IdSize.{IdSize}
@@ -10,7 +11,9 @@ use Rattle.hprof_stream.specs.declared.limits.Limits.{Limits}
 use Rattle.hprof_stream.specs.declared.part_fault.PartFault.{PartFault}
 use Rattle.hprof_stream.specs.declared.part_fault.PartFault.TheVariants as faults
 use Rattle.hprof_stream.specs.declared.sink.SinkFault.TheVariants as sinks
-use Rattle.hprof_stream.specs.Part.{IsPart}
+use Rattle.hprof_stream.specs.Part.{Stated, all_bytes, IsPart}
+use Rattle.hprof_stream.specs.Item.{Start, place_behind, IsItem, AreItems}
+use Rattle.hprof_stream.specs.Reader.{IsWithinItem}
 use Rattle.hprof_stream.specs.Fault.{HasNoFault, IsFirstFault, HasNoSettledFault, is_lasting}
 use Rattle.hprof_heap.specs.declared.key.Key.{Key}
 use Rattle.hprof_heap.specs.Conflict.{IsConsistent, IsLeastConflict}
@@ -63,7 +66,28 @@ pub record Disagree (parts : List (List ℕ)) (key : Key) : Type 0 where
 abbrev pub IsAccepted : Limits → List ℕ → Type 0
 IsAccepted limits bytes = HasNoFault limits.max_item bytes × (length bytes ≤ limits.max_bytes)
 
--- with which fault a part is refused of which these bytes came, and were judged as far as they may be taken
+-- a front of the bytes ends within an item, and nothing is wrong in it so far
+pub record BeginsCut (longest : ℕ) (bytes : List ℕ) : Type 0 where
+  pub front : List ℕ
+  pub back : List ℕ
+  pub parts : bytes ≡ front ++ back
+  pub unsettled : HasNoSettledFault longest front
+  pub within : IsWithinItem longest front
+
+-- the bytes begin with whole and right items, of which the last is a header or a record with a fact
+pub record BeginsWhole (longest : ℕ) (bytes : List ℕ) : Type 0 where
+  pub items : List Stated
+  pub header : Option Header
+  pub last : Stated
+  pub told : Option Header
+  pub back : List ℕ
+  pub each : AreItems longest Start items (place_behind header)
+  pub item : IsItem longest (place_behind header) last (place_behind told)
+  pub given : last.facts ≡ [] → header ≡ None
+  pub parts : bytes ≡ all_bytes items ++ (last.bytes ++ back)
+
+-- with which fault a part is refused of which these bytes came, and were judged as far as they may be taken; where
+-- memory was wanted, nothing came, or an item could not be held, or what an item states could not be kept
 --   left, health: of the reader, afterwards;  spent: it was pulled as often as it may be, or as can be counted, and each
 --   pull gave a byte
 abbrev pub IsPartFault : Limits → List ℕ → Option (List ℕ) → Health → Type 0 → PartFault → Type 0
@@ -78,8 +102,10 @@ IsPartFault limits came left health spent faults.Read =
     (health ≡ healths.Failed) × (length came ≤ limits.max_bytes) × HasNoSettledFault limits.max_item came
 IsPartFault limits came left health spent faults.ReadsExceeded =
     (health ≡ healths.Well) × spent × (limits.max_reads ≤ length came) × (length came ≤ limits.max_bytes) × HasNoSettledFault limits.max_item came
-IsPartFault limits came left health spent faults.OutOfMemory = health ≡ healths.Well
-IsPartFault limits came left health spent (faults.Sink sinks.OutOfMemory) = health ≡ healths.Well
+IsPartFault limits came left health spent faults.OutOfMemory =
+    (health ≡ healths.Well) × ((came ≡ []) ⊎ BeginsCut limits.max_item (take limits.max_bytes came))
+IsPartFault limits came left health spent (faults.Sink sinks.OutOfMemory) =
+    (health ≡ healths.Well) × BeginsWhole limits.max_item (take limits.max_bytes came)
 IsPartFault limits came left health spent (faults.Sink sinks.Failed) = ⊥
 IsPartFault limits came left health spent faults.Failed = ⊥
 
