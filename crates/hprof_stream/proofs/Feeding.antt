@@ -156,15 +156,17 @@ module _ {S : Type 0} (begins : S → Header → S → Type 0) (steps : S → Fa
   pub RanUpTo-walked : (limits : Limits) (bytes : List ℕ) (facts : List FactValue) (before : Option Header) (at : Progress) (one : Stated) (back : List ℕ) (told : Option Header) (rest : List ℕ) (old new : S) → HasWalked limits bytes facts before at rest old new
       → ((header : Header) → before ≡ Some header → at.header ≡ Some header) → IsItem limits.max_item (place_behind at.header) one (place_behind told) → (one.facts ≡ [] → at.header ≡ None) → rest ≡ one.bytes ++ back → RanUpTo begins steps limits.max_item bytes facts before told old new
   RanUpTo-walked limits bytes facts before at one back told rest old new walked stays is given parts = record {
-    items = walked.items;
-    header = at.header;
-    one = one;
-    back = back;
+    whole = record {
+      items = walked.items;
+      header = at.header;
+      last = one;
+      back = back;
+      each = walked.splits.each;
+      item = is;
+      given = given;
+      parts = walked.splits.parts ∙ ap (λ (r : List ℕ). all_bytes walked.items ++ r) parts;
+    };
     stays = stays;
-    each = walked.splits.each;
-    next = is;
-    given = given;
-    parts = walked.splits.parts ∙ ap (λ (r : List ℕ). all_bytes walked.items ++ r) parts;
     handed = walked.handed;
     has_facts = walked.has_facts;
     ran = walked.ran;

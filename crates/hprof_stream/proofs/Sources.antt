@@ -60,18 +60,11 @@ module _ {S : Type 0} (begins : S → Header → S → Type 0) (steps : S → Fa
   pub RanUpTo-from : (longest : ℕ) (bytes : List ℕ) (facts : List FactValue) (before told : Option Header) (old mid new : S) → Run begins steps old before facts mid → (before ≡ None → facts ≡ [])
       → RanUpTo begins steps longest bytes facts before told mid new → RanUpTo begins steps longest bytes [] None told old new
   RanUpTo-from longest bytes facts before told old mid new first bare over = record {
-    items = over.items;
-    header = over.header;
-    one = over.one;
-    back = over.back;
+    whole = over.whole;
     stays = λ header e. absurd cc;
-    each = over.each;
-    next = over.next;
-    given = over.given;
-    parts = over.parts;
     handed = facts ++ over.handed;
     has_facts = over.has_facts;
-    ran = Run-then begins steps old mid new None before over.header facts over.handed (λ e. (refl, bare e)) over.stays first over.ran;
+    ran = Run-then begins steps old mid new None before over.whole.header facts over.handed (λ e. (refl, bare e)) over.stays first over.ran;
   }
 
   -- what a reader has read, the sink ran over
@@ -117,12 +110,8 @@ module _ {S : Type 0} (begins : S → Header → S → Type 0) (steps : S → Fa
   IsFeedFault-from limits bytes facts before after old mid new (faults.ItemTooLong at) first bare stays is =
       (is.0, is.1, RanOver-from begins steps limits.max_item (take limits.max_bytes bytes) facts before after old mid new first bare stays is.2)
   IsFeedFault-from limits bytes facts before after old mid new faults.OutOfMemory first bare stays is = record {
-    front = is.front;
-    back = is.back;
-    parts = is.parts;
-    unsettled = is.unsettled;
-    within = is.within;
-    over = RanOver-from begins steps limits.max_item is.front facts before after old mid new first bare stays is.over;
+    cut = is.cut;
+    over = RanOver-from begins steps limits.max_item is.cut.front facts before after old mid new first bare stays is.over;
   }
   IsFeedFault-from limits bytes facts before after old mid new (faults.Sink fault) first bare stays is =
       (is.0, RanUpTo-from begins steps limits.max_item (take limits.max_bytes bytes) facts before after old mid is.0 first bare is.1, is.2)
@@ -156,19 +145,17 @@ module _ {S : Type 0} (begins : S → Header → S → Type 0) (steps : S → Fa
       → ((header : Header) → header_of from ≡ Some header → header_of to ≡ Some header) → LacksMemory begins steps refuses failed limits bytes facts (header_of from) piece mid (header_of to) new
       → IsFeedFault begins steps refuses failed limits (bytes ++ piece) [] None (header_of to) old faults.OutOfMemory new
   lacks_memory limits bytes facts from to piece old mid new read first stays (inl all) = record {
-    front = bytes ++ piece;
-    back = [];
-    parts = take_all limits.max_bytes (bytes ++ piece) all.0 ∙ sym (append-nil (bytes ++ piece));
-    unsettled = all.1;
-    within = all.2;
+    cut = record { front = bytes ++ piece; back = []; parts = take_all limits.max_bytes (bytes ++ piece) all.0 ∙ sym (append-nil (bytes ++ piece)); unsettled = all.1; within = all.2 };
     over = RanOver-from begins steps limits.max_item (bytes ++ piece) facts (header_of from) (header_of to) old mid new first (no_header_no_fact limits bytes facts from read) stays all.3;
   }
   lacks_memory limits bytes facts from to piece old mid new read first stays (inr held) = record {
-    front = bytes;
-    back = take (limits.max_bytes - length bytes) piece;
-    parts = taken_is limits.max_bytes bytes piece read.within;
-    unsettled = short_unsettled limits.max_item bytes read.items (place_behind (header_of from)) from.held.items read.splits read.unfinished;
-    within = held.0;
+    cut = record {
+      front = bytes;
+      back = take (limits.max_bytes - length bytes) piece;
+      parts = taken_is limits.max_bytes bytes piece read.within;
+      unsettled = short_unsettled limits.max_item bytes read.items (place_behind (header_of from)) from.held.items read.splits read.unfinished;
+      within = held.0;
+    };
     over = subst (λ (h : Option Header). RanOver begins steps limits.max_item bytes [] None h old new) (sym held.1)
         (subst (RanOver begins steps limits.max_item bytes [] None (header_of from) old) held.2 (RanOver-read begins steps limits bytes facts from old mid read first));
   }

@@ -71,6 +71,26 @@ pub record IsUnfinished (longest : ℕ) (bytes : List ℕ) (count : ℕ) : Type 
 abbrev pub IsWithinItem : ℕ → List ℕ → Type 0
 IsWithinItem longest bytes = (count : ℕ) × IsUnfinished longest bytes count × (0 < count)
 
+-- a front of the bytes ends within an item, and nothing is wrong in it so far
+pub record BeginsCut (longest : ℕ) (bytes : List ℕ) : Type 0 where
+  pub front : List ℕ
+  pub back : List ℕ
+  pub parts : bytes ≡ front ++ back
+  pub unsettled : HasNoSettledFault longest front
+  pub within : IsWithinItem longest front
+
+-- the bytes begin with whole and right items, of which the last is a header or a record with a fact
+--   header: that of the items before the last, if any;  told: that of all
+pub record BeginsWhole (longest : ℕ) (bytes : List ℕ) (told : Option Header) : Type 0 where
+  pub items : List Stated
+  pub header : Option Header
+  pub last : Stated
+  pub back : List ℕ
+  pub each : AreItems longest Start items (place_behind header)
+  pub item : IsItem longest (place_behind header) last (place_behind told)
+  pub given : last.facts ≡ [] → header ≡ None
+  pub parts : bytes ≡ all_bytes items ++ (last.bytes ++ back)
+
 -- the longer of a header and the longest item with its head
 abbrev pub longest_held : ℕ → ℕ
 longest_held longest = max 31 (9 + longest)
@@ -85,31 +105,18 @@ module _ {S : Type 0} (begins : S → Header → S → Type 0) (steps : S → Fa
     pub states : StatesSoFar longest bytes to (facts ++ handed)
     pub ran : Run begins steps old (became from to) handed new
 
-  -- the same over the items at the front, up to one that the sink was then given: a header, or a record with a fact
-  --   header: that of the items, and also that which was read before, if any;  to: that which was read by then
+  -- the same over the items at the front, up to one that the sink was then given
   pub record RanUpTo (longest : ℕ) (bytes : List ℕ) (facts : List FactValue) (from to : Option Header) (old new : S) : Type 0 where
-    pub items : List Stated
-    pub header : Option Header
-    pub one : Stated
-    pub back : List ℕ
-    pub stays : (before : Header) → from ≡ Some before → header ≡ Some before
-    pub each : AreItems longest Start items (place_behind header)
-    pub next : IsItem longest (place_behind header) one (place_behind to)
-    pub given : one.facts ≡ [] → header ≡ None
-    pub parts : bytes ≡ all_bytes items ++ (one.bytes ++ back)
+    pub whole : BeginsWhole longest bytes to
+    pub stays : (before : Header) → from ≡ Some before → whole.header ≡ Some before
     pub handed : List FactValue
-    pub has_facts : all_facts items ≡ facts ++ handed
-    pub ran : Run begins steps old (became from header) handed new
+    pub has_facts : all_facts whole.items ≡ facts ++ handed
+    pub ran : Run begins steps old (became from whole.header) handed new
 
-  -- the item at the end of a front of the bytes is not whole, nothing is wrong so far, and the sink has run over the
-  -- whole items of that front
+  -- the same over a front that ends within an item
   pub record RanWithin (longest : ℕ) (bytes : List ℕ) (facts : List FactValue) (from to : Option Header) (old new : S) : Type 0 where
-    pub front : List ℕ
-    pub back : List ℕ
-    pub parts : bytes ≡ front ++ back
-    pub unsettled : HasNoSettledFault longest front
-    pub within : IsWithinItem longest front
-    pub over : RanOver longest front facts from to old new
+    pub cut : BeginsCut longest bytes
+    pub over : RanOver longest cut.front facts from to old new
 
 module _ {S : Type 0} (refuses : S → SinkFault → Type 0) (failed : S → Bool) where
   -- a call on the sink answered the fault, and the sink has failed

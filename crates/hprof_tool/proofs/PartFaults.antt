@@ -13,10 +13,10 @@ use Rattle.hprof_stream.specs.declared.part_fault.PartFault.TheVariants as fault
 use Rattle.hprof_stream.specs.declared.sink.SinkFault.{SinkFault}
 use Rattle.hprof_stream.specs.declared.sink.SinkFault.TheVariants as sinks
 use Rattle.hprof_stream.specs.Fault.{IsFirstFault, is_lasting, is_settled}
-use Rattle.hprof_stream.specs.Reader.{RanUpTo, IsFeedFault, ReadsPart}
+use Rattle.hprof_stream.specs.Reader.{BeginsCut, RanUpTo, IsFeedFault, ReadsPart}
 use Rattle.hprof_heap.specs.declared.gatherer.Gatherer.{Gatherer}
 use Rattle.hprof_heap.specs.Gathering.{gathered, Begins, Takes}
-use Rattle.hprof_tool.specs.Joining.{BeginsCut, BeginsWhole, IsPartFault, IsOfPart}
+use Rattle.hprof_tool.specs.Joining.{IsPartFault, IsOfPart}
 use Rattle.hprof_tool.proofs.Gathered.{Run-shown, Run-sound}
 use Rattle.hprof_tool.proofs.Longer.{longer_input}
 
@@ -50,7 +50,7 @@ shown_failed gatherer = (gathered gatherer).failed
 no_failure : (limits : Limits) (bytes : List ℕ) (told : Option Header) (old mid : Gatherer) → (gathered old).failed ≡ false
     → RanUpTo shown_begins shown_steps limits.max_item bytes [] None told old mid → shown_refuses mid sinks.Failed → ⊥
 no_failure limits bytes told old mid sound ran refuses =
-    let still = Run-sound (gathered old) (gathered mid) ran.header ran.handed (Run-shown old mid ran.header ran.handed ran.ran) sound in
+    let still = Run-sound (gathered old) (gathered mid) ran.whole.header ran.handed (Run-shown old mid ran.whole.header ran.handed ran.ran) sound in
     let other : sinks.Failed ≡ sinks.OutOfMemory = refuses still in
     cc
 
@@ -59,13 +59,7 @@ lacked : (limits : Limits) (came : List ℕ) (old new : Gatherer)
     → ((came ≡ []) × (old ≡ new)) ⊎ ((header : Option Header) × IsFeedFault shown_begins shown_steps shown_refuses shown_failed limits came [] None header old faults.OutOfMemory new)
     → (came ≡ []) ⊎ BeginsCut limits.max_item (take limits.max_bytes came)
 lacked limits came old new (inl none) = inl none.0
-lacked limits came old new (inr held) =
-    let is = held.1 in inr (record { front = is.front; back = is.back; parts = is.parts; unsettled = is.unsettled; within = is.within })
-
--- what could not be kept
-begins_whole : (longest : ℕ) (bytes : List ℕ) (told : Option Header) (old mid : Gatherer) → RanUpTo shown_begins shown_steps longest bytes [] None told old mid → BeginsWhole longest bytes
-begins_whole longest bytes told old mid ran =
-    record { items = ran.items; header = ran.header; last = ran.one; told = told; back = ran.back; each = ran.each; item = ran.next; given = ran.given; parts = ran.parts }
+lacked limits came old new (inr held) = inr held.1.cut
 
 -- with which fault a part is refused of which these bytes came
 pub fault_of_came : (limits : Limits) (came : List ℕ) (left : Option (List ℕ)) (health : Health) (spent : Type 0) (old new : Gatherer) (fault : PartFault) → (gathered old).failed ≡ false
@@ -81,7 +75,7 @@ fault_of_came limits came left health spent old new (faults.Malformed at BadType
 fault_of_came limits came left health spent old new (faults.Malformed at Unsupported) sound reads = (reads.0, reads.1.1.0, λ e. absurd cc)
 fault_of_came limits came left health spent old new (faults.ItemTooLong at) sound reads = (reads.0, reads.1.1.0)
 fault_of_came limits came left health spent old new faults.OutOfMemory sound reads = (reads.0, lacked limits came old new reads.1)
-fault_of_came limits came left health spent old new (faults.Sink sinks.OutOfMemory) sound reads = (reads.0, begins_whole limits.max_item (take limits.max_bytes came) reads.1.0 old reads.1.1.0 reads.1.1.1)
+fault_of_came limits came left health spent old new (faults.Sink sinks.OutOfMemory) sound reads = (reads.0, (reads.1.0, reads.1.1.1.whole))
 fault_of_came limits came left health spent old new (faults.Sink sinks.Failed) sound reads =
     no_failure limits (take limits.max_bytes came) reads.1.0 old reads.1.1.0 sound reads.1.1.1 reads.1.1.2.0
 fault_of_came limits came left health spent old new faults.Failed sound reads = absurd reads.1.1

@@ -11,9 +11,8 @@ use Rattle.hprof_stream.specs.declared.limits.Limits.{Limits}
 use Rattle.hprof_stream.specs.declared.part_fault.PartFault.{PartFault}
 use Rattle.hprof_stream.specs.declared.part_fault.PartFault.TheVariants as faults
 use Rattle.hprof_stream.specs.declared.sink.SinkFault.TheVariants as sinks
-use Rattle.hprof_stream.specs.Part.{Stated, all_bytes, IsPart}
-use Rattle.hprof_stream.specs.Item.{Start, place_behind, IsItem, AreItems}
-use Rattle.hprof_stream.specs.Reader.{IsWithinItem}
+use Rattle.hprof_stream.specs.Part.{IsPart}
+use Rattle.hprof_stream.specs.Reader.{BeginsCut, BeginsWhole}
 use Rattle.hprof_stream.specs.Fault.{HasNoFault, IsFirstFault, HasNoSettledFault, is_lasting}
 use Rattle.hprof_heap.specs.declared.key.Key.{Key}
 use Rattle.hprof_heap.specs.Conflict.{IsConsistent, IsLeastConflict}
@@ -66,26 +65,6 @@ pub record Disagree (parts : List (List ℕ)) (key : Key) : Type 0 where
 abbrev pub IsAccepted : Limits → List ℕ → Type 0
 IsAccepted limits bytes = HasNoFault limits.max_item bytes × (length bytes ≤ limits.max_bytes)
 
--- a front of the bytes ends within an item, and nothing is wrong in it so far
-pub record BeginsCut (longest : ℕ) (bytes : List ℕ) : Type 0 where
-  pub front : List ℕ
-  pub back : List ℕ
-  pub parts : bytes ≡ front ++ back
-  pub unsettled : HasNoSettledFault longest front
-  pub within : IsWithinItem longest front
-
--- the bytes begin with whole and right items, of which the last is a header or a record with a fact
-pub record BeginsWhole (longest : ℕ) (bytes : List ℕ) : Type 0 where
-  pub items : List Stated
-  pub header : Option Header
-  pub last : Stated
-  pub told : Option Header
-  pub back : List ℕ
-  pub each : AreItems longest Start items (place_behind header)
-  pub item : IsItem longest (place_behind header) last (place_behind told)
-  pub given : last.facts ≡ [] → header ≡ None
-  pub parts : bytes ≡ all_bytes items ++ (last.bytes ++ back)
-
 -- with which fault a part is refused of which these bytes came, and were judged as far as they may be taken; where
 -- memory was wanted, nothing came, or an item could not be held, or what an item states could not be kept
 --   left, health: of the reader, afterwards;  spent: it was pulled as often as it may be, or as can be counted, and each
@@ -105,7 +84,7 @@ IsPartFault limits came left health spent faults.ReadsExceeded =
 IsPartFault limits came left health spent faults.OutOfMemory =
     (health ≡ healths.Well) × ((came ≡ []) ⊎ BeginsCut limits.max_item (take limits.max_bytes came))
 IsPartFault limits came left health spent (faults.Sink sinks.OutOfMemory) =
-    (health ≡ healths.Well) × BeginsWhole limits.max_item (take limits.max_bytes came)
+    (health ≡ healths.Well) × ((told : Option Header) × BeginsWhole limits.max_item (take limits.max_bytes came) told)
 IsPartFault limits came left health spent (faults.Sink sinks.Failed) = ⊥
 IsPartFault limits came left health spent faults.Failed = ⊥
 
