@@ -26,7 +26,7 @@ front_is_whole longest from mid one behind bytes is e =
     ap (λ (b : List ℕ). is_whole (item_at longest from b)) (sym e) ∙ ap is_whole (item_again longest from mid one behind is)
 
 -- two items at the front of the same bytes are one
-item_once : (longest : ℕ) (from mid next : Place) (one two : Stated) (rest others : List ℕ) → IsItem longest from one mid → IsItem longest from two next → one.bytes ++ rest ≡ two.bytes ++ others
+pub item_once : (longest : ℕ) (from mid next : Place) (one two : Stated) (rest others : List ℕ) → IsItem longest from one mid → IsItem longest from two next → one.bytes ++ rest ≡ two.bytes ++ others
     → (mid ≡ next) × (one ≡ two) × (rest ≡ others)
 item_once longest from mid next one two rest others is is_too e =
     let left : Found = record { next = mid; facts = one.facts } in

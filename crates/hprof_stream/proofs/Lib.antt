@@ -8,4 +8,5 @@ pub mod Stepping
 pub mod Holding
 pub mod Feeding
 pub mod Finishing
+pub mod LastItems
 pub mod Sources

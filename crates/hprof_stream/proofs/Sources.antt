@@ -1,7 +1,7 @@
 -- Reading a part from a source: what the reader was fed so far, and what that comes to.
-use Rattle.std.proofs.Common.{◌≡◌, ℕ, Bool, true, false, ◌+◌, ◌<◌, ◌≤◌, List, [], ◌++◌, length, take, Option, Some, None, ◌-◌, Result, Ok, Err, inl, inr, refl, sym, ap, subst, ◌∙◌, append-nil, arith}
+use Rattle.std.proofs.Common.{◌≡◌, ℕ, Bool, true, false, ◌+◌, ◌-◌, ◌^◌, ◌<◌, ◌≤◌, min, List, [], ◌++◌, length, take, Option, Some, None, Result, Ok, Err, inl, inr, refl, sym, ap, subst, ◌∙◌, append-nil, arith}
 use Rattle.std.proofs.KnownBytes.{Consumes-nil, Consumes-trans, Consumes-kept}
-use Rattle.std.proofs.lemmas.List.{take_all, length-append}
+use Rattle.std.proofs.lemmas.List.{length-append}
 use Rattle.std.specs.Io.KnownBytes.{Keeps, Consumes, IsAtEnd}
 use Rattle.hprof_items.specs.declared.header.Header.{Header}
 use Rattle.hprof_items.specs.declared.health.Health.{Health}
@@ -18,12 +18,13 @@ use Rattle.hprof_stream.specs.Part.{all_facts}
 use Rattle.hprof_stream.specs.Item.{place_behind, header_before}
 use Rattle.hprof_stream.specs.Fault.{is_whole, is_settled, IsFirstFault, StatesSoFar}
 use Rattle.hprof_stream.specs.Run.{Run}
-use Rattle.hprof_stream.specs.Reader.{header_of, HasRead, RanOver, RanUpTo, IsFeedFault, LacksMemory, Feeds, Finishes, ReadsPart}
+use Rattle.hprof_stream.specs.Reader.{header_of, HasRead, RanOver, RanUpTo, IsFeedFault, Feeds, Finishes, AreSpent, CameLast, IsJudged, RefusesAtLast, ReadsPart}
 use Rattle.hprof_stream.specs.Walking.{FeedsAll}
 use Rattle.hprof_stream.proofs.Runs.{Run-then}
 use Rattle.hprof_stream.proofs.Walks.{items_headers}
 use Rattle.hprof_stream.proofs.Faults.{short_unsettled, splits_once}
-use Rattle.hprof_stream.proofs.Feeding.{header_at_place, taken_is}
+use Rattle.hprof_stream.proofs.Feeding.{header_at_place}
+use Rattle.hprof_stream.proofs.LastItems.{ends_behind}
 
 -- ---- what a reader knows of the facts
 
@@ -109,10 +110,7 @@ module _ {S : Type 0} (begins : S → Header → S → Type 0) (steps : S → Fa
       (is.0, is.1, RanOver-from begins steps limits.max_item (take limits.max_bytes bytes) facts before after old mid new first bare stays is.2)
   IsFeedFault-from limits bytes facts before after old mid new (faults.ItemTooLong at) first bare stays is =
       (is.0, is.1, RanOver-from begins steps limits.max_item (take limits.max_bytes bytes) facts before after old mid new first bare stays is.2)
-  IsFeedFault-from limits bytes facts before after old mid new faults.OutOfMemory first bare stays is = record {
-    cut = is.cut;
-    over = RanOver-from begins steps limits.max_item is.cut.front facts before after old mid new first bare stays is.over;
-  }
+  IsFeedFault-from limits bytes facts before after old mid new faults.OutOfMemory first bare stays is = is
   IsFeedFault-from limits bytes facts before after old mid new (faults.Sink fault) first bare stays is =
       (is.0, RanUpTo-from begins steps limits.max_item (take limits.max_bytes bytes) facts before after old mid is.0 first bare is.1, is.2)
   IsFeedFault-from limits bytes facts before after old mid new faults.Failed first bare stays is = is
@@ -121,165 +119,191 @@ module _ {S : Type 0} (begins : S → Header → S → Type 0) (steps : S → Fa
   IsFeedFault-from limits bytes facts before after old mid new faults.BytesExceeded first bare stays is =
       (is.0, is.1, RanOver-from begins steps limits.max_item (take limits.max_bytes bytes) facts before after old mid new first bare stays is.2)
 
-  -- a fault of feeding is what reading the part comes to
-  pub ReadsPart-fed : (limits : Limits) (came : List ℕ) (left : Option (List ℕ)) (health : Health) (spent : Type 0) (header : Option Header) (old new : S) (fault : PartFault) → health ≡ healths.Well
-      → IsFeedFault begins steps refuses failed limits came [] None header old fault new → ReadsPart begins steps refuses failed limits came left health spent old (Err fault) new
-  ReadsPart-fed limits came left health spent header old new (faults.Malformed at BadMagic) well is = (well, (header, is))
-  ReadsPart-fed limits came left health spent header old new (faults.Malformed at BadIdSize) well is = (well, (header, is))
-  ReadsPart-fed limits came left health spent header old new (faults.Malformed at Truncated) well is = let no : false ≡ true = is.1 in absurd cc
-  ReadsPart-fed limits came left health spent header old new (faults.Malformed at BadLength) well is = (well, (header, is))
-  ReadsPart-fed limits came left health spent header old new (faults.Malformed at BadSubTag) well is = (well, (header, is))
-  ReadsPart-fed limits came left health spent header old new (faults.Malformed at PastEnd) well is = (well, (header, is))
-  ReadsPart-fed limits came left health spent header old new (faults.Malformed at BadType) well is = (well, (header, is))
-  ReadsPart-fed limits came left health spent header old new (faults.Malformed at Unsupported) well is = (well, (header, is))
-  ReadsPart-fed limits came left health spent header old new (faults.ItemTooLong at) well is = (well, (header, is))
-  ReadsPart-fed limits came left health spent header old new faults.OutOfMemory well is = (well, inr (header, is))
-  ReadsPart-fed limits came left health spent header old new (faults.Sink fault) well is = (well, (header, is))
-  ReadsPart-fed limits came left health spent header old new faults.Failed well is = absurd is
-  ReadsPart-fed limits came left health spent header old new faults.Read well is = absurd is
-  ReadsPart-fed limits came left health spent header old new faults.ReadsExceeded well is = absurd is
-  ReadsPart-fed limits came left health spent header old new faults.BytesExceeded well is = (well, (header, is))
+  -- an item that the sink refused while the last piece was fed
+  RefusesAtLast-fed : (limits : Limits) (bytes : List ℕ) (facts : List FactValue) (from : PartReader) (piece : List ℕ) (told : Option Header) (old mid new : S) (fault : SinkFault) → HasRead limits bytes facts from
+      → Run begins steps old (header_of from) facts mid → IsFeedFault begins steps refuses failed limits (bytes ++ piece) facts (header_of from) told mid (faults.Sink fault) new
+      → RefusesAtLast begins steps refuses failed limits bytes (bytes ++ piece) old fault new
+  unfolding RanUpTo-from
+  RefusesAtLast-fed limits bytes facts from piece told old mid new fault read first is = record {
+    header = told;
+    mid = is.0;
+    ran = RanUpTo-from begins steps limits.max_item (take limits.max_bytes (bytes ++ piece)) facts (header_of from) told old mid is.0 first (no_header_no_fact limits bytes facts from read) is.1;
+    behind = ends_behind begins steps limits bytes facts from piece told mid is.0 read is.1;
+    refused = is.2;
+  }
 
-  -- a growth that was refused at the last piece
-  lacks_memory : (limits : Limits) (bytes : List ℕ) (facts : List FactValue) (from to : PartReader) (piece : List ℕ) (old mid new : S) → HasRead limits bytes facts from → Run begins steps old (header_of from) facts mid
-      → ((header : Header) → header_of from ≡ Some header → header_of to ≡ Some header) → LacksMemory begins steps refuses failed limits bytes facts (header_of from) piece mid (header_of to) new
-      → IsFeedFault begins steps refuses failed limits (bytes ++ piece) [] None (header_of to) old faults.OutOfMemory new
-  lacks_memory limits bytes facts from to piece old mid new read first stays (inl all) = record {
-    cut = record { front = bytes ++ piece; back = []; parts = take_all limits.max_bytes (bytes ++ piece) all.0 ∙ sym (append-nil (bytes ++ piece)); unsettled = all.1; within = all.2 };
-    over = RanOver-from begins steps limits.max_item (bytes ++ piece) facts (header_of from) (header_of to) old mid new first (no_header_no_fact limits bytes facts from read) stays all.3;
-  }
-  lacks_memory limits bytes facts from to piece old mid new read first stays (inr held) = record {
-    cut = record {
-      front = bytes;
-      back = take (limits.max_bytes - length bytes) piece;
-      parts = taken_is limits.max_bytes bytes piece read.within;
-      unsettled = short_unsettled limits.max_item bytes read.items (place_behind (header_of from)) from.held.items read.splits read.unfinished;
-      within = held.0;
-    };
-    over = subst (λ (h : Option Header). RanOver begins steps limits.max_item bytes [] None h old new) (sym held.1)
-        (subst (RanOver begins steps limits.max_item bytes [] None (header_of from) old) held.2 (RanOver-read begins steps limits bytes facts from old mid read first));
-  }
+  -- what a reader has read was judged
+  IsJudged-read : (limits : Limits) (bytes : List ℕ) (facts : List FactValue) (reader : PartReader) (old new : S) → HasRead limits bytes facts reader → Run begins steps old (header_of reader) facts new
+      → IsJudged begins steps refuses failed limits bytes old new
+  IsJudged-read limits bytes facts reader old new read ran = (
+    read.within,
+    short_unsettled limits.max_item bytes read.items (place_behind (header_of reader)) reader.held.items read.splits read.unfinished,
+    (header_of reader, RanOver-read begins steps limits bytes facts reader old new read ran),
+  )
+
+-- what a reader has read came before a last piece
+CameLast-read : {R : Type 0} (left : R → Option (List ℕ)) (pulls : R → ℕ) (limits : Limits) (bytes : List ℕ) (facts : List FactValue) (reader : PartReader) (piece : List ℕ) (was before is : R) → HasRead limits bytes facts reader
+    → Consumes (left was) (left before) bytes → Consumes (left before) (left is) piece → pulls is ≡ min (pulls before + 1) (2 ^ 64 - 1) → 0 < length piece → length piece ≤ 65536
+    → CameLast left pulls limits was (bytes ++ piece) is
+CameLast-read left pulls limits bytes facts reader piece was before is read gave gave_last one_pull some few = record {
+  before = before;
+  front = bytes;
+  piece = piece;
+  parts = refl;
+  gave = gave;
+  gave_last = gave_last;
+  one_pull = one_pull;
+  some = some;
+  few = few;
+  within = read.within;
+  unsettled = short_unsettled limits.max_item bytes read.items (place_behind (header_of reader)) reader.held.items read.splits read.unfinished;
+}
+
+-- the faults that judging what came gives
+abbrev is_judgement : PartFault → Bool
+is_judgement (faults.Malformed at reason) = true
+is_judgement (faults.ItemTooLong at) = true
+is_judgement faults.BytesExceeded = true
+is_judgement other = false
+
+module _ {R : Type 0} (left : R → Option (List ℕ)) (health : R → Health) (pulls : R → ℕ)
+    {S : Type 0} (begins : S → Header → S → Type 0) (steps : S → FactValue → S → Type 0) (refuses : S → SinkFault → Type 0) (failed : S → Bool) where
+  -- a fault of an item, or too many bytes, is what reading the part comes to
+  ReadsPart-fed : (limits : Limits) (was : R) (came : List ℕ) (is : R) (header : Option Header) (old new : S) (fault : PartFault) → is_judgement fault ≡ true → health is ≡ healths.Well
+      → IsFeedFault begins steps refuses failed limits came [] None header old fault new → ReadsPart left health pulls begins steps refuses failed limits was came is old (Err fault) new
+  ReadsPart-fed limits was came is header old new (faults.Malformed at BadMagic) judged well why = (well, (header, why))
+  ReadsPart-fed limits was came is header old new (faults.Malformed at BadIdSize) judged well why = (well, (header, why))
+  ReadsPart-fed limits was came is header old new (faults.Malformed at Truncated) judged well why = let no : false ≡ true = why.1 in absurd cc
+  ReadsPart-fed limits was came is header old new (faults.Malformed at BadLength) judged well why = (well, (header, why))
+  ReadsPart-fed limits was came is header old new (faults.Malformed at BadSubTag) judged well why = (well, (header, why))
+  ReadsPart-fed limits was came is header old new (faults.Malformed at PastEnd) judged well why = (well, (header, why))
+  ReadsPart-fed limits was came is header old new (faults.Malformed at BadType) judged well why = (well, (header, why))
+  ReadsPart-fed limits was came is header old new (faults.Malformed at Unsupported) judged well why = (well, (header, why))
+  ReadsPart-fed limits was came is header old new (faults.ItemTooLong at) judged well why = (well, (header, why))
+  ReadsPart-fed limits was came is header old new faults.OutOfMemory judged well why = absurd why
+  ReadsPart-fed limits was came is header old new (faults.Sink fault) judged well why = absurd cc
+  ReadsPart-fed limits was came is header old new faults.Failed judged well why = absurd why
+  ReadsPart-fed limits was came is header old new faults.Read judged well why = absurd why
+  ReadsPart-fed limits was came is header old new faults.ReadsExceeded judged well why = absurd why
+  ReadsPart-fed limits was came is header old new faults.BytesExceeded judged well why = (well, (header, why))
 
   -- a fault of the last piece is what reading the part comes to
-  ReadsPart-feeds : (limits : Limits) (bytes : List ℕ) (facts : List FactValue) (from to : PartReader) (piece : List ℕ) (left : Option (List ℕ)) (health : Health) (spent : Type 0) (old mid new : S) (fault : PartFault) → health ≡ healths.Well
+  ReadsPart-feeds : (limits : Limits) (bytes : List ℕ) (facts : List FactValue) (from to : PartReader) (piece : List ℕ) (was before is : R) (old mid new : S) (fault : PartFault) → health is ≡ healths.Well
       → HasRead limits bytes facts from → Run begins steps old (header_of from) facts mid → ((header : Header) → header_of from ≡ Some header → header_of to ≡ Some header)
-      → Feeds begins steps refuses failed limits bytes facts from piece mid (Err fault) to new → ReadsPart begins steps refuses failed limits (bytes ++ piece) left health spent old (Err fault) new
-  ReadsPart-feeds limits bytes facts from to piece left health spent old mid new fault well read first stays fed =
-      ReadsPart-fed limits (bytes ++ piece) left health spent (header_of to) old new fault well (by fault fed)
+      → Consumes (left was) (left before) bytes → Consumes (left before) (left is) piece → pulls is ≡ min (pulls before + 1) (2 ^ 64 - 1) → 0 < length piece → length piece ≤ 65536
+      → Feeds begins steps refuses failed limits bytes facts from piece mid (Err fault) to new → ReadsPart left health pulls begins steps refuses failed limits was (bytes ++ piece) is old (Err fault) new
+  unfolding CameLast-read RanOver-read
+  ReadsPart-feeds limits bytes facts from to piece was before is old mid new fault well read first stays gave gave_last one_pull some few fed = by fault fed
     where
-      more : (f : PartFault) → IsFeedFault begins steps refuses failed limits (bytes ++ piece) facts (header_of from) (header_of to) mid f new → IsFeedFault begins steps refuses failed limits (bytes ++ piece) [] None (header_of to) old f new
-      more f is = IsFeedFault-from limits (bytes ++ piece) facts (header_of from) (header_of to) old mid new f first (no_header_no_fact limits bytes facts from read) stays is
+      last : CameLast left pulls limits was (bytes ++ piece) is
+      last = CameLast-read left pulls limits bytes facts from piece was before is read gave gave_last one_pull some few
 
-      by : (f : PartFault) → Feeds begins steps refuses failed limits bytes facts from piece mid (Err f) to new → IsFeedFault begins steps refuses failed limits (bytes ++ piece) [] None (header_of to) old f new
-      by (faults.Malformed at reason) is = more (faults.Malformed at reason) is
-      by (faults.ItemTooLong at) is = more (faults.ItemTooLong at) is
-      by faults.OutOfMemory is = lacks_memory limits bytes facts from to piece old mid new read first stays is
-      by (faults.Sink why) is = more (faults.Sink why) is
-      by faults.Failed is = more faults.Failed is
-      by faults.Read is = more faults.Read is
-      by faults.ReadsExceeded is = more faults.ReadsExceeded is
-      by faults.BytesExceeded is = more faults.BytesExceeded is
+      more : (f : PartFault) → is_judgement f ≡ true → IsFeedFault begins steps refuses failed limits (bytes ++ piece) facts (header_of from) (header_of to) mid f new
+          → ReadsPart left health pulls begins steps refuses failed limits was (bytes ++ piece) is old (Err f) new
+      more f judged is_fault = ReadsPart-fed limits was (bytes ++ piece) is (header_of to) old new f judged well
+          (IsFeedFault-from begins steps refuses failed limits (bytes ++ piece) facts (header_of from) (header_of to) old mid new f first (no_header_no_fact limits bytes facts from read) stays is_fault)
+
+      by : (f : PartFault) → Feeds begins steps refuses failed limits bytes facts from piece mid (Err f) to new → ReadsPart left health pulls begins steps refuses failed limits was (bytes ++ piece) is old (Err f) new
+      by (faults.Malformed at reason) is_fault = more (faults.Malformed at reason) refl is_fault
+      by (faults.ItemTooLong at) is_fault = more (faults.ItemTooLong at) refl is_fault
+      by faults.OutOfMemory lacks =
+          (well, inr (last, record { told = header_of from; header = header_of to; mid = mid; over = RanOver-read begins steps limits bytes facts from old mid read first; lacks = lacks }))
+      by (faults.Sink why) is_fault = (well, (last, RefusesAtLast-fed begins steps refuses failed limits bytes facts from piece (header_of to) old mid new why read first is_fault))
+      by faults.Failed is_fault = absurd is_fault
+      by faults.Read is_fault = absurd is_fault
+      by faults.ReadsExceeded is_fault = absurd is_fault
+      by faults.BytesExceeded is_fault = more faults.BytesExceeded refl is_fault
+
+  -- what came and what feeding it came to
+  abbrev pub CameOf : Limits → R → R → S → Result (Unit {0}) PartFault → PartReader → S → Type 0
+  CameOf limits was is old result reader new =
+      (came : List ℕ) × Consumes (left was) (left is) came × (pulls is ≤ pulls was + length came + 1) × FeedsAll left health pulls begins steps refuses failed limits was came is old result reader new
 
   -- a piece came, and feeding it was refused
-  pub HasFed-fault : (limits : Limits) (turns before after : ℕ) (first left rest : Option (List ℕ)) (health : Health) (spent : Type 0) (reader next : PartReader) (old mid new : S) (piece : List ℕ) (fault : PartFault) → Consumes left rest piece
+  pub HasFed-fault : (limits : Limits) (turns : ℕ) (was before is : R) (reader next : PartReader) (old mid new : S) (piece : List ℕ) (fault : PartFault) → Consumes (left before) (left is) piece → 0 < length piece → length piece ≤ 65536
       → ((bytes : List ℕ) (facts : List FactValue) → HasRead limits bytes facts reader → Feeds begins steps refuses failed limits bytes facts reader piece mid (Err fault) next new)
-      → ((header : Header) → header_of reader ≡ Some header → header_of next ≡ Some header) → health ≡ healths.Well → HasFed begins steps limits turns first left reader old mid → after ≤ before + turns + 1
-      → (came : List ℕ) × Consumes first rest came × (after ≤ before + length came + 1) × FeedsAll begins steps refuses failed limits came rest health spent old (Err fault) next new
-  HasFed-fault limits turns before after first left rest health spent reader next old mid new piece fault consumed feeds stays well fed pulls = (
+      → ((header : Header) → header_of reader ≡ Some header → header_of next ≡ Some header) → health is ≡ healths.Well → HasFed begins steps limits turns (left was) (left before) reader old mid
+      → pulls is ≡ min (pulls before + 1) (2 ^ 64 - 1) → pulls before ≤ pulls was + turns → CameOf limits was is old (Err fault) next new
+  HasFed-fault limits turns was before is reader next old mid new piece fault consumed some few feeds stays well fed one_pull pulled = (
     fed.came ++ piece,
-    Consumes-trans first left rest fed.came piece fed.consumed consumed,
-    omega (arith, fed.gave, pulls, length-append fed.came piece),
-    ReadsPart-feeds limits fed.came fed.facts reader next piece rest health spent old mid new fault well fed.read fed.ran stays (feeds fed.came fed.facts fed.read),
+    Consumes-trans (left was) (left before) (left is) fed.came piece fed.consumed consumed,
+    omega (arith, fed.gave, one_pull, pulled, length-append fed.came piece),
+    ReadsPart-feeds limits fed.came fed.facts reader next piece was before is old mid new fault well fed.read fed.ran stays fed.consumed consumed one_pull some few (feeds fed.came fed.facts fed.read),
   )
 
   -- nothing more came
-  pub HasFed-end : (limits : Limits) (turns before after : ℕ) (first left rest : Option (List ℕ)) (health : Health) (spent : Type 0) (reader : PartReader) (old new : S) (piece : List ℕ) (done : Unit {0}) → Consumes left rest piece → piece ≡ [] → IsAtEnd rest → health ≡ healths.Well
-      → HasFed begins steps limits turns first left reader old new → after ≤ before + turns + 1
-      → (came : List ℕ) × Consumes first rest came × (after ≤ before + length came + 1) × FeedsAll begins steps refuses failed limits came rest health spent old (Ok done) reader new
-  HasFed-end limits turns before after first left rest health spent reader old new piece done consumed nothing end well fed pulls =
-      let same : fed.came ++ piece ≡ fed.came = ap (λ (p : List ℕ). fed.came ++ p) nothing ∙ append-nil fed.came in
-      (fed.came, subst (Consumes first rest) same (Consumes-trans first left rest fed.came piece fed.consumed consumed), omega (arith, fed.gave, pulls), (end, well, (fed.facts, fed.read, fed.ran)))
+  pub HasFed-end : (limits : Limits) (turns : ℕ) (was before is : R) (reader : PartReader) (old new : S) (piece : List ℕ) (done : Unit {0}) → Consumes (left before) (left is) piece → piece ≡ [] → IsAtEnd (left is)
+      → health is ≡ healths.Well → HasFed begins steps limits turns (left was) (left before) reader old new → pulls is ≤ pulls was + turns + 1 → CameOf limits was is old (Ok done) reader new
+  HasFed-end limits turns was before is reader old new piece done consumed nothing end well fed pulled =
+      let same : fed.came ++ piece ≡ fed.came = ap (λ (p : List ℕ). fed.came ++ p) nothing ∙ append-nil fed.came in (
+        fed.came,
+        subst (Consumes (left was) (left is)) same (Consumes-trans (left was) (left before) (left is) fed.came piece fed.consumed consumed),
+        omega (arith, fed.gave, pulled),
+        (end, well, (fed.facts, fed.read, fed.ran)),
+      )
 
   -- what came is judged before the source's failure
-  pub HasFed-failed : (limits : Limits) (turns before after : ℕ) (first left rest : Option (List ℕ)) (health : Health) (spent : Type 0) (reader : PartReader) (old new : S) → Keeps left rest → health ≡ healths.Failed
-      → HasFed begins steps limits turns first left reader old new → after ≤ before + turns + 1
-      → (came : List ℕ) × Consumes first rest came × (after ≤ before + length came + 1) × FeedsAll begins steps refuses failed limits came rest health spent old (Err faults.Read) reader new
-  HasFed-failed limits turns before after first left rest health spent reader old new kept ill fed pulls = (
+  pub HasFed-failed : (limits : Limits) (turns : ℕ) (was before is : R) (reader : PartReader) (old new : S) → Keeps (left before) (left is) → health is ≡ healths.Failed
+      → HasFed begins steps limits turns (left was) (left before) reader old new → pulls is ≤ pulls was + turns + 1 → CameOf limits was is old (Err faults.Read) reader new
+  HasFed-failed limits turns was before is reader old new kept ill fed pulled = (
     fed.came,
-    Consumes-kept first left rest fed.came fed.consumed kept,
-    omega (arith, fed.gave, pulls),
-    (
-      ill,
-      fed.read.within,
-      short_unsettled limits.max_item fed.came fed.read.items (place_behind (header_of reader)) reader.held.items fed.read.splits fed.read.unfinished,
-      (header_of reader, RanOver-read begins steps limits fed.came fed.facts reader old new fed.read fed.ran),
-    ),
+    Consumes-kept (left was) (left before) (left is) fed.came fed.consumed kept,
+    omega (arith, fed.gave, pulled),
+    (ill, IsJudged-read begins steps refuses failed limits fed.came fed.facts reader old new fed.read fed.ran),
   )
 
   -- what came is judged before there are too many reads
-  pub HasFed-spent : (limits : Limits) (turns before after : ℕ) (first left : Option (List ℕ)) (health : Health) (spent : Type 0) (reader : PartReader) (old new : S) → health ≡ healths.Well → spent
-      → HasFed begins steps limits turns first left reader old new → limits.max_reads ≤ turns → after ≤ before + turns
-      → (came : List ℕ) × Consumes first left came × (after ≤ before + length came + 1) × FeedsAll begins steps refuses failed limits came left health spent old (Err faults.ReadsExceeded) reader new
-  HasFed-spent limits turns before after first left health spent reader old new well is fed enough pulls = (
+  pub HasFed-spent : (limits : Limits) (turns : ℕ) (was is : R) (reader : PartReader) (old new : S) → health is ≡ healths.Well → AreSpent (pulls was) (pulls is) limits.max_reads
+      → HasFed begins steps limits turns (left was) (left is) reader old new → limits.max_reads ≤ turns → pulls is ≤ pulls was + turns → CameOf limits was is old (Err faults.ReadsExceeded) reader new
+  HasFed-spent limits turns was is reader old new well spent fed enough pulled = (
     fed.came,
     fed.consumed,
-    omega (arith, fed.gave, pulls),
-    (
-      well,
-      is,
-      omega (arith, fed.gave, enough),
-      fed.read.within,
-      short_unsettled limits.max_item fed.came fed.read.items (place_behind (header_of reader)) reader.held.items fed.read.splits fed.read.unfinished,
-      (header_of reader, RanOver-read begins steps limits fed.came fed.facts reader old new fed.read fed.ran),
-    ),
+    omega (arith, fed.gave, pulled),
+    (well, spent, omega (arith, fed.gave, enough), IsJudged-read begins steps refuses failed limits fed.came fed.facts reader old new fed.read fed.ran),
   )
 
   -- the end of a part that came whole
-  ReadsPart-whole : (limits : Limits) (came : List ℕ) (left : Option (List ℕ)) (health : Health) (spent : Type 0) (reader : PartReader) (facts : List FactValue) (old new : S) (summary : PartSummary) → IsAtEnd left → health ≡ healths.Well
-      → HasRead limits came facts reader → Run begins steps old (header_of reader) facts new → Finishes limits came facts (header_of reader) (Ok summary) → ReadsPart begins steps refuses failed limits came left health spent old (Ok summary) new
-  ReadsPart-whole limits came left health spent reader facts old new summary end well read ran finished =
+  ReadsPart-whole : (limits : Limits) (was : R) (came : List ℕ) (is : R) (reader : PartReader) (facts : List FactValue) (old new : S) (summary : PartSummary) → IsAtEnd (left is) → health is ≡ healths.Well
+      → HasRead limits came facts reader → Run begins steps old (header_of reader) facts new → Finishes limits came facts (header_of reader) (Ok summary)
+      → ReadsPart left health pulls begins steps refuses failed limits was came is old (Ok summary) new
+  ReadsPart-whole limits was came is reader facts old new summary end well read ran finished =
       (end, well, read.within, finished.0, finished.1, (facts, finished.2, subst (λ (h : Option Header). Run begins steps old h facts new) finished.3 ran))
 
   -- the end of a part that did not come whole
-  ReadsPart-cut : (limits : Limits) (came : List ℕ) (left : Option (List ℕ)) (health : Health) (spent : Type 0) (reader : PartReader) (facts : List FactValue) (old new : S) (fault : PartFault) → IsAtEnd left → health ≡ healths.Well
-      → HasRead limits came facts reader → Run begins steps old (header_of reader) facts new → IsFirstFault limits.max_item came fault → is_settled fault ≡ false → ReadsPart begins steps refuses failed limits came left health spent old (Err fault) new
-  ReadsPart-cut limits came left health spent reader facts old new (faults.Malformed at BadMagic) end well read ran is unsettled = absurd cc
-  ReadsPart-cut limits came left health spent reader facts old new (faults.Malformed at BadIdSize) end well read ran is unsettled = absurd cc
-  ReadsPart-cut limits came left health spent reader facts old new (faults.Malformed at Truncated) end well read ran is unsettled =
-      (end, well, read.within, is, (header_of reader, RanOver-read begins steps limits came facts reader old new read ran))
-  ReadsPart-cut limits came left health spent reader facts old new (faults.Malformed at BadLength) end well read ran is unsettled = absurd cc
-  ReadsPart-cut limits came left health spent reader facts old new (faults.Malformed at BadSubTag) end well read ran is unsettled = absurd cc
-  ReadsPart-cut limits came left health spent reader facts old new (faults.Malformed at PastEnd) end well read ran is unsettled = absurd cc
-  ReadsPart-cut limits came left health spent reader facts old new (faults.Malformed at BadType) end well read ran is unsettled = absurd cc
-  ReadsPart-cut limits came left health spent reader facts old new (faults.Malformed at Unsupported) end well read ran is unsettled = absurd cc
-  ReadsPart-cut limits came left health spent reader facts old new (faults.ItemTooLong at) end well read ran is unsettled = absurd cc
-  ReadsPart-cut limits came left health spent reader facts old new faults.OutOfMemory end well read ran is unsettled = absurd cc
-  ReadsPart-cut limits came left health spent reader facts old new (faults.Sink fault) end well read ran is unsettled = absurd cc
-  ReadsPart-cut limits came left health spent reader facts old new faults.Failed end well read ran is unsettled = absurd cc
-  ReadsPart-cut limits came left health spent reader facts old new faults.Read end well read ran is unsettled = absurd cc
-  ReadsPart-cut limits came left health spent reader facts old new faults.ReadsExceeded end well read ran is unsettled = absurd cc
-  ReadsPart-cut limits came left health spent reader facts old new faults.BytesExceeded end well read ran is unsettled = absurd cc
+  ReadsPart-cut : (limits : Limits) (was : R) (came : List ℕ) (is : R) (reader : PartReader) (facts : List FactValue) (old new : S) (fault : PartFault) → IsAtEnd (left is) → health is ≡ healths.Well
+      → HasRead limits came facts reader → Run begins steps old (header_of reader) facts new → IsFirstFault limits.max_item came fault → is_settled fault ≡ false
+      → ReadsPart left health pulls begins steps refuses failed limits was came is old (Err fault) new
+  ReadsPart-cut limits was came is reader facts old new (faults.Malformed at BadMagic) end well read ran first unsettled = absurd cc
+  ReadsPart-cut limits was came is reader facts old new (faults.Malformed at BadIdSize) end well read ran first unsettled = absurd cc
+  ReadsPart-cut limits was came is reader facts old new (faults.Malformed at Truncated) end well read ran first unsettled =
+      (end, well, read.within, first, (header_of reader, RanOver-read begins steps limits came facts reader old new read ran))
+  ReadsPart-cut limits was came is reader facts old new (faults.Malformed at BadLength) end well read ran first unsettled = absurd cc
+  ReadsPart-cut limits was came is reader facts old new (faults.Malformed at BadSubTag) end well read ran first unsettled = absurd cc
+  ReadsPart-cut limits was came is reader facts old new (faults.Malformed at PastEnd) end well read ran first unsettled = absurd cc
+  ReadsPart-cut limits was came is reader facts old new (faults.Malformed at BadType) end well read ran first unsettled = absurd cc
+  ReadsPart-cut limits was came is reader facts old new (faults.Malformed at Unsupported) end well read ran first unsettled = absurd cc
+  ReadsPart-cut limits was came is reader facts old new (faults.ItemTooLong at) end well read ran first unsettled = absurd cc
+  ReadsPart-cut limits was came is reader facts old new faults.OutOfMemory end well read ran first unsettled = absurd cc
+  ReadsPart-cut limits was came is reader facts old new (faults.Sink fault) end well read ran first unsettled = absurd cc
+  ReadsPart-cut limits was came is reader facts old new faults.Failed end well read ran first unsettled = absurd cc
+  ReadsPart-cut limits was came is reader facts old new faults.Read end well read ran first unsettled = absurd cc
+  ReadsPart-cut limits was came is reader facts old new faults.ReadsExceeded end well read ran first unsettled = absurd cc
+  ReadsPart-cut limits was came is reader facts old new faults.BytesExceeded end well read ran first unsettled = absurd cc
 
   -- the end of a part
-  pub ReadsPart-finished : (limits : Limits) (came : List ℕ) (left : Option (List ℕ)) (health : Health) (spent : Type 0) (reader : PartReader) (old new : S) (done : Unit {0}) (result : Result PartSummary PartFault)
-      → FeedsAll begins steps refuses failed limits came left health spent old (Ok done) reader new → ((facts : List FactValue) → HasRead limits came facts reader → Finishes limits came facts (header_of reader) result)
-      → ReadsPart begins steps refuses failed limits came left health spent old result new
-  ReadsPart-finished limits came left health spent reader old new done (Ok summary) fed finishes =
-      ReadsPart-whole limits came left health spent reader fed.2.0 old new summary fed.0 fed.1 fed.2.1 fed.2.2 (finishes fed.2.0 fed.2.1)
-  ReadsPart-finished limits came left health spent reader old new done (Err fault) fed finishes =
-      let is = finishes fed.2.0 fed.2.1 in
-      ReadsPart-cut limits came left health spent reader fed.2.0 old new fault fed.0 fed.1 fed.2.1 fed.2.2 is.0 is.1
+  pub ReadsPart-finished : (limits : Limits) (was : R) (came : List ℕ) (is : R) (reader : PartReader) (old new : S) (done : Unit {0}) (result : Result PartSummary PartFault)
+      → FeedsAll left health pulls begins steps refuses failed limits was came is old (Ok done) reader new → ((facts : List FactValue) → HasRead limits came facts reader → Finishes limits came facts (header_of reader) result)
+      → ReadsPart left health pulls begins steps refuses failed limits was came is old result new
+  ReadsPart-finished limits was came is reader old new done (Ok summary) fed finishes =
+      ReadsPart-whole limits was came is reader fed.2.0 old new summary fed.0 fed.1 fed.2.1 fed.2.2 (finishes fed.2.0 fed.2.1)
+  ReadsPart-finished limits was came is reader old new done (Err fault) fed finishes =
+      let why = finishes fed.2.0 fed.2.1 in
+      ReadsPart-cut limits was came is reader fed.2.0 old new fault fed.0 fed.1 fed.2.1 fed.2.2 why.0 why.1
 
   -- no memory for a piece
-  pub ReadsPart-memory : (limits : Limits) (pulls : ℕ) (left : Option (List ℕ)) (health : Health) (spent : Type 0) (sink : S) → health ≡ healths.Well
-      → (came : List ℕ) × Consumes left left came × (pulls ≤ pulls + length came + 1) × ReadsPart begins steps refuses failed limits came left health spent sink (Err faults.OutOfMemory) sink
-  ReadsPart-memory limits pulls left health spent sink well =
-      let few : pulls ≤ pulls + length {A = ℕ} [] + 1 = omega arith in (
-        [],
-        Consumes-nil left,
-        few,
-        (
-          well,
-          inl (refl, refl),
-        ),
-      )
+  pub ReadsPart-memory : (limits : Limits) (was : R) (sink : S) → health was ≡ healths.Well
+      → (came : List ℕ) × Consumes (left was) (left was) came × (pulls was ≤ pulls was + length came + 1)
+      × ReadsPart left health pulls begins steps refuses failed limits was came was sink (Err faults.OutOfMemory) sink
+  ReadsPart-memory limits was sink well =
+      let few : pulls was ≤ pulls was + length {A = ℕ} [] + 1 = omega arith in
+      ([], Consumes-nil (left was), few, (well, inl (refl, refl, refl)))

@@ -1,7 +1,7 @@
 -- What a reader of a part has read, and what reading on does.
-use Rattle.std.specs.Prelude.{◌≡◌, ◌⊎◌, ℕ, ◌+◌, ◌≤◌, ◌<◌, max, Bool, true, false, List, ◌++◌, length, take, [], Option, Some, None, Result, Ok, Err, ⊤}
+use Rattle.std.specs.Prelude.{◌≡◌, ◌⊎◌, ℕ, ◌+◌, ◌-◌, ◌^◌, ◌≤◌, ◌<◌, min, max, Bool, true, false, List, ◌++◌, length, take, [], Option, Some, None, Result, Ok, Err, ⊤}
 use Rattle.std.specs.List.{list_any}
-use Rattle.std.specs.Io.KnownBytes.{IsAtEnd}
+use Rattle.std.specs.Io.KnownBytes.{Consumes, IsAtEnd}
 use Rattle.hprof_items.specs.declared.header.Header.{Header}
 use Rattle.hprof_items.specs.declared.health.Health.{Health}
 use Rattle.hprof_items.specs.declared.health.Health.TheVariants as healths
@@ -71,14 +71,6 @@ pub record IsUnfinished (longest : ℕ) (bytes : List ℕ) (count : ℕ) : Type 
 abbrev pub IsWithinItem : ℕ → List ℕ → Type 0
 IsWithinItem longest bytes = (count : ℕ) × IsUnfinished longest bytes count × (0 < count)
 
--- a front of the bytes ends within an item, and nothing is wrong in it so far
-pub record BeginsCut (longest : ℕ) (bytes : List ℕ) : Type 0 where
-  pub front : List ℕ
-  pub back : List ℕ
-  pub parts : bytes ≡ front ++ back
-  pub unsettled : HasNoSettledFault longest front
-  pub within : IsWithinItem longest front
-
 -- the bytes begin with whole and right items, of which the last is a header or a record with a fact
 --   header: that of the items before the last, if any;  told: that of all
 pub record BeginsWhole (longest : ℕ) (bytes : List ℕ) (told : Option Header) : Type 0 where
@@ -90,6 +82,10 @@ pub record BeginsWhole (longest : ℕ) (bytes : List ℕ) (told : Option Header)
   pub item : IsItem longest (place_behind header) last (place_behind told)
   pub given : last.facts ≡ [] → header ≡ None
   pub parts : bytes ≡ all_bytes items ++ (last.bytes ++ back)
+
+-- where the last of them ends
+abbrev pub whole_len : {longest : ℕ} {bytes : List ℕ} {told : Option Header} → BeginsWhole longest bytes told → ℕ
+whole_len whole = length (all_bytes whole.items) + length whole.last.bytes
 
 -- the longer of a header and the longest item with its head
 abbrev pub longest_held : ℕ → ℕ
@@ -113,11 +109,6 @@ module _ {S : Type 0} (begins : S → Header → S → Type 0) (steps : S → Fa
     pub has_facts : all_facts whole.items ≡ facts ++ handed
     pub ran : Run begins steps old (became from whole.header) handed new
 
-  -- the same over a front that ends within an item
-  pub record RanWithin (longest : ℕ) (bytes : List ℕ) (facts : List FactValue) (from to : Option Header) (old new : S) : Type 0 where
-    pub cut : BeginsCut longest bytes
-    pub over : RanOver longest cut.front facts from to old new
-
 module _ {S : Type 0} (refuses : S → SinkFault → Type 0) (failed : S → Bool) where
   -- a call on the sink answered the fault, and the sink has failed
   abbrev pub Refuses : S → SinkFault → S → Type 0
@@ -130,7 +121,8 @@ module _ {S : Type 0} (begins : S → Header → S → Type 0) (steps : S → Fa
       IsFirstFault limits.max_item (take limits.max_bytes bytes) fault × (is_settled fault ≡ true)
       × RanOver begins steps limits.max_item (take limits.max_bytes bytes) facts before after old new
 
-  -- with which fault a reader that was fed all these bytes, the last of them just now, refuses them
+  -- with which fault a reader that was fed all these bytes, the last of them just now, refuses them; want of memory is
+  -- told apart
   abbrev pub IsFeedFault : Limits → List ℕ → List FactValue → Option Header → Option Header → S → PartFault → S → Type 0
   IsFeedFault limits bytes facts before after old (faults.Malformed at reason) new =
       IsItemFault limits bytes facts before after old (faults.Malformed at reason) new
@@ -139,8 +131,7 @@ module _ {S : Type 0} (begins : S → Header → S → Type 0) (steps : S → Fa
   IsFeedFault limits bytes facts before after old faults.BytesExceeded new =
       (limits.max_bytes < length bytes) × HasNoSettledFault limits.max_item (take limits.max_bytes bytes)
       × RanOver begins steps limits.max_item (take limits.max_bytes bytes) facts before after old new
-  IsFeedFault limits bytes facts before after old faults.OutOfMemory new =
-      RanWithin begins steps limits.max_item (take limits.max_bytes bytes) facts before after old new
+  IsFeedFault limits bytes facts before after old faults.OutOfMemory new = ⊥
   IsFeedFault limits bytes facts before after old (faults.Sink fault) new =
       (mid : S) × RanUpTo begins steps limits.max_item (take limits.max_bytes bytes) facts before after old mid
       × Refuses refuses failed mid fault new
@@ -177,25 +168,76 @@ Finishes limits bytes facts header (Err fault) = IsFirstFault limits.max_item by
 
 -- ---- a part from a source
 
+-- the pulls of a source, which a u64 can count, rose by so many, or stand at the greatest number
+abbrev pub AreSpent : ℕ → ℕ → ℕ → Type 0
+AreSpent old new most = old < 2 ^ 64 → new ≡ min (old + most) (2 ^ 64 - 1)
+
+-- an item could not be held: that in which a front and the piece behind it end, when nothing is wrong in them; or the
+-- one in which the front ended
+abbrev pub IsUnheld : Limits → List ℕ → List ℕ → Type 0
+IsUnheld limits front piece =
+    ((length (front ++ piece) ≤ limits.max_bytes) × HasNoSettledFault limits.max_item (front ++ piece) × IsWithinItem limits.max_item (front ++ piece))
+    ⊎ IsWithinItem limits.max_item front
+
+module _ {R : Type 0} (left : R → Option (List ℕ)) (pulls : R → ℕ) where
+  -- these bytes came from a source: a front, in which nothing is wrong, and with its last pull a piece, of no more bytes
+  -- than a read asks for
+  --   was, is: the source before the first pull and behind the last;  before: before the last
+  pub record CameLast (limits : Limits) (was : R) (came : List ℕ) (is : R) : Type 0 where
+    pub before : R
+    pub front : List ℕ
+    pub piece : List ℕ
+    pub parts : came ≡ front ++ piece
+    pub gave : Consumes (left was) (left before) front
+    pub gave_last : Consumes (left before) (left is) piece
+    pub one_pull : pulls is ≡ min (pulls before + 1) (2 ^ 64 - 1)
+    pub some : 0 < length piece
+    pub few : length piece ≤ 65536
+    pub within : length front ≤ limits.max_bytes
+    pub unsettled : HasNoSettledFault limits.max_item front
+
 module _ {S : Type 0} (begins : S → Header → S → Type 0) (steps : S → FactValue → S → Type 0) (refuses : S → SinkFault → Type 0) (failed : S → Bool) where
-  -- what reading a part to its end comes to, where these bytes came
-  --   left, health: of the source, afterwards;  spent: it made as many pulls as it may, or as can be counted, each
-  --   of which gave a byte
-  abbrev pub ReadsPart : Limits → List ℕ → Option (List ℕ) → Health → Type 0 → S → Result PartSummary PartFault → S → Type 0
-  ReadsPart limits came left health spent old (Ok summary) new =
-      IsAtEnd left × (health ≡ healths.Well) × (length came ≤ limits.max_bytes) × HasNoFault limits.max_item came × IsSummary came summary
+  -- nothing is wrong in the bytes, which are no more than may come, and the sink has run over all that is whole
+  abbrev pub IsJudged : Limits → List ℕ → S → S → Type 0
+  IsJudged limits came old new =
+      (length came ≤ limits.max_bytes) × HasNoSettledFault limits.max_item came
+      × ((header : Option Header) × RanOver begins steps limits.max_item came [] None header old new)
+
+  -- the sink ran over the front, and then memory was wanted for the piece
+  pub record LacksAtLast (limits : Limits) (front piece : List ℕ) (old new : S) : Type 0 where
+    pub told : Option Header
+    pub header : Option Header
+    pub mid : S
+    pub over : RanOver begins steps limits.max_item front [] None told old mid
+    pub lacks : LacksMemory begins steps refuses failed limits front over.handed told piece mid header new
+
+  -- the sink refused an item that ends behind the front
+  pub record RefusesAtLast (limits : Limits) (front came : List ℕ) (old : S) (fault : SinkFault) (new : S) : Type 0 where
+    pub header : Option Header
+    pub mid : S
+    pub ran : RanUpTo begins steps limits.max_item (take limits.max_bytes came) [] None header old mid
+    pub behind : length front < whole_len ran.whole
+    pub refused : Refuses refuses failed mid fault new
+
+module _ {R : Type 0} (left : R → Option (List ℕ)) (health : R → Health) (pulls : R → ℕ)
+    {S : Type 0} (begins : S → Header → S → Type 0) (steps : S → FactValue → S → Type 0) (refuses : S → SinkFault → Type 0) (failed : S → Bool) where
+  -- what reading a part to its end comes to, where these bytes came from a source
+  --   was, is: the source, before and afterwards
+  abbrev pub ReadsPart : Limits → R → List ℕ → R → S → Result PartSummary PartFault → S → Type 0
+  ReadsPart limits was came is old (Ok summary) new =
+      IsAtEnd (left is) × (health is ≡ healths.Well) × (length came ≤ limits.max_bytes) × HasNoFault limits.max_item came × IsSummary came summary
       × ((facts : List FactValue) × IsPart came summary.header.ids summary.header.millis facts × Run begins steps old (Some summary.header) facts new)
-  ReadsPart limits came left health spent old (Err faults.Read) new =
-      (health ≡ healths.Failed) × (length came ≤ limits.max_bytes) × HasNoSettledFault limits.max_item came
+  ReadsPart limits was came is old (Err faults.Read) new =
+      (health is ≡ healths.Failed) × IsJudged begins steps refuses failed limits came old new
+  ReadsPart limits was came is old (Err faults.ReadsExceeded) new =
+      (health is ≡ healths.Well) × AreSpent (pulls was) (pulls is) limits.max_reads × (limits.max_reads ≤ length came) × IsJudged begins steps refuses failed limits came old new
+  ReadsPart limits was came is old (Err (faults.Malformed at Truncated)) new =
+      IsAtEnd (left is) × (health is ≡ healths.Well) × (length came ≤ limits.max_bytes) × IsFirstFault limits.max_item came (faults.Malformed at Truncated)
       × ((header : Option Header) × RanOver begins steps limits.max_item came [] None header old new)
-  ReadsPart limits came left health spent old (Err faults.ReadsExceeded) new =
-      (health ≡ healths.Well) × spent × (limits.max_reads ≤ length came) × (length came ≤ limits.max_bytes) × HasNoSettledFault limits.max_item came
-      × ((header : Option Header) × RanOver begins steps limits.max_item came [] None header old new)
-  ReadsPart limits came left health spent old (Err (faults.Malformed at Truncated)) new =
-      IsAtEnd left × (health ≡ healths.Well) × (length came ≤ limits.max_bytes) × IsFirstFault limits.max_item came (faults.Malformed at Truncated)
-      × ((header : Option Header) × RanOver begins steps limits.max_item came [] None header old new)
-  ReadsPart limits came left health spent old (Err faults.OutOfMemory) new =
-      (health ≡ healths.Well) × (((came ≡ []) × (old ≡ new))
-      ⊎ ((header : Option Header) × IsFeedFault begins steps refuses failed limits came [] None header old faults.OutOfMemory new))
-  ReadsPart limits came left health spent old (Err fault) new =
-      (health ≡ healths.Well) × ((header : Option Header) × IsFeedFault begins steps refuses failed limits came [] None header old fault new)
+  ReadsPart limits was came is old (Err faults.OutOfMemory) new =
+      (health is ≡ healths.Well) × (((came ≡ []) × (was ≡ is) × (old ≡ new))
+      ⊎ ((last : CameLast left pulls limits was came is) × LacksAtLast begins steps refuses failed limits last.front last.piece old new))
+  ReadsPart limits was came is old (Err (faults.Sink fault)) new =
+      (health is ≡ healths.Well) × ((last : CameLast left pulls limits was came is) × RefusesAtLast begins steps refuses failed limits last.front came old fault new)
+  ReadsPart limits was came is old (Err fault) new =
+      (health is ≡ healths.Well) × ((header : Option Header) × IsFeedFault begins steps refuses failed limits came [] None header old fault new)

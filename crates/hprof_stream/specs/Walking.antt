@@ -129,10 +129,11 @@ seen (Err fault) = Err fault
 
 -- ---- over the pieces of a source
 
-module _ {S : Type 0} (begins : S → Header → S → Type 0) (steps : S → FactValue → S → Type 0) (refuses : S → SinkFault → Type 0) (failed : S → Bool) where
+module _ {R : Type 0} (left : R → Option (List ℕ)) (health : R → Health) (pulls : R → ℕ)
+    {S : Type 0} (begins : S → Header → S → Type 0) (steps : S → FactValue → S → Type 0) (refuses : S → SinkFault → Type 0) (failed : S → Bool) where
   -- feeding a new reader all pieces of a source
-  abbrev pub FeedsAll : Limits → List ℕ → Option (List ℕ) → Health → Type 0 → S → Result (Unit {0}) PartFault → PartReader → S → Type 0
-  FeedsAll limits came left health spent old (Ok _) to new =
-      IsAtEnd left × (health ≡ healths.Well)
+  abbrev pub FeedsAll : Limits → R → List ℕ → R → S → Result (Unit {0}) PartFault → PartReader → S → Type 0
+  FeedsAll limits was came is old (Ok _) to new =
+      IsAtEnd (left is) × (health is ≡ healths.Well)
       × ((facts : List FactValue) × HasRead limits came facts to × Run begins steps old (header_of to) facts new)
-  FeedsAll limits came left health spent old (Err fault) to new = ReadsPart begins steps refuses failed limits came left health spent old (Err fault) new
+  FeedsAll limits was came is old (Err fault) to new = ReadsPart left health pulls begins steps refuses failed limits was came is old (Err fault) new

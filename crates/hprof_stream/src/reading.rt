@@ -1,6 +1,6 @@
 //! Reading a part from a source.
 
-ghost use Rattle.std.specs.Prelude.{◌≡◌, ℕ, ◌+◌, ◌-◌, ◌^◌, ◌≤◌, ◌<◌, min, List, length, [], OnOk};
+ghost use Rattle.std.specs.Prelude.{◌≡◌, ℕ, ◌+◌, ◌≤◌, ◌<◌, List, length, []};
 ghost use Rattle.std.specs.Io.KnownBytes.{Consumes};
 ghost use Rattle.hprof_items.specs.declared.health.Health.TheVariants.{Well};
 ghost use Rattle.hprof_stream.specs.declared.limits.Limits.{Limits};
@@ -28,11 +28,11 @@ fn feed_all<R: Source, S: Sink>(
 ) -> Result<(), PartFault>
     requires well { R.health source.old ≡ Well }
     requires room { 0 < length piece.old }
+    requires few { length piece.old ≤ 65536 }
     requires begun { IsReady reader.old (S.begun sink.old) }
     ensures fed { (limits : Limits) → HasRead limits [] [] reader.old → limits.max_reads ≡ max_reads
-        → ((came : List ℕ) × Consumes (R.left source.old) (R.left source.new) came
-        × (R.pulls source.new ≤ R.pulls source.old + length came + 1) × FeedsAll S.begins S.steps S.refuses S.failed limits came (R.left source.new) (R.health source.new)
-        (R.pulls source.old < 2 ^ 64 → R.pulls source.new ≡ min (R.pulls source.old + max_reads) (2 ^ 64 - 1)) sink.old result reader.new sink.new) }
+        → ((came : List ℕ) × Consumes (R.left source.old) (R.left source.new) came × (R.pulls source.new ≤ R.pulls source.old + length came + 1)
+        × FeedsAll R.left R.health R.pulls S.begins S.steps S.refuses S.failed limits source.old came source.new sink.old result reader.new sink.new) }
     ensures pulls { R.pulls source.new ≤ R.pulls source.old + max_reads }
 {
     for _ in 0..max_reads {
@@ -57,10 +57,10 @@ pub fn read_part<R: Source, S: Sink>(
 ) -> Result<PartSummary, PartFault>
     requires { R.health source.old ≡ Well }
     // Bytes came, one or more with each pull but the last, and this is what they come to. How many pulls make too many
-    // reads is told where their count was below 2^64.
-    ensures read { (came : List ℕ) × Consumes (R.left source.old) (R.left source.new) came
-        × (R.pulls source.new ≤ R.pulls source.old + length came + 1) × ReadsPart S.begins S.steps S.refuses S.failed limits came (R.left source.new) (R.health source.new)
-        (R.pulls source.old < 2 ^ 64 → R.pulls source.new ≡ min (R.pulls source.old + limits.max_reads) (2 ^ 64 - 1)) sink.old result sink.new }
+    // reads is told where their count was below 2^64. Want of memory is the reader's where a front of the bytes, all but
+    // what the last pull gave, had been judged, and an item could not be held; or where nothing was read.
+    ensures read { (came : List ℕ) × Consumes (R.left source.old) (R.left source.new) came × (R.pulls source.new ≤ R.pulls source.old + length came + 1)
+        × ReadsPart R.left R.health R.pulls S.begins S.steps S.refuses S.failed limits source.old came source.new sink.old result sink.new }
     // No more reads were made than the limit.
     ensures pulls { R.pulls source.new ≤ R.pulls source.old + limits.max_reads }
 {

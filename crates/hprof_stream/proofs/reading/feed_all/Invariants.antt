@@ -12,5 +12,6 @@ invariant-loop g l = record {
   spent : g.R.Source.pulls l.fn.source < 2 ^ 64 → g.R.Source.pulls l.source ≡ min (g.R.Source.pulls l.fn.source + l.counter) (2 ^ 64 - 1);
   few : g.R.Source.pulls l.source ≤ g.R.Source.pulls l.fn.source + l.counter;
   room : 0 < length l.piece;
+  small : length l.piece ≤ 65536;
   ready : IsReady l.reader (g.S.Sink.begun l.sink);
 }
