@@ -2,7 +2,7 @@
 use Rattle.std.proofs.Common.{◌≡◌, inl, inr, ℕ, suc, ◌≤◌, true, List, [], ◌∷◌, ◌++◌, length, take, map, Option, Some, Result, Ok, Err, refl, sym, ap, subst, ◌∙◌}
 use Rattle.std.specs.Prelude.{slice_get}
 use Rattle.std.specs.List.{All, AllByRecursion}
-use Rattle.std.specs.Io.KnownBytes.{Appends, Consumes}
+use Rattle.std.specs.Io.KnownBytes.{Appends}
 use Rattle.std.proofs.Math.Seq.{take-length}
 use Rattle.std.proofs.lemmas.Option.{get_or_from_slice_get, slice_get_within}
 use Rattle.hprof_items.specs.declared.health.Health.{Health}
@@ -32,7 +32,7 @@ use Rattle.hprof_heap.proofs.Order.{order_agrees}
 use Rattle.hprof_tool.specs.declared.joined.Joined.{Joined}
 use Rattle.hprof_tool.specs.declared.tool_fault.ToolFault.{ToolFault}
 use Rattle.hprof_tool.specs.declared.tool_fault.ToolFault.TheVariants as tool
-use Rattle.hprof_tool.specs.Joining.{Tell, Agree, Joins, Disagree, AreSpent, IsPartFault, IsOfPart, IsAccepted, RefusesPart, AreGiven, RefusesReader, ReadsAll, is_want, IsHindered, IsOkOrConflict}
+use Rattle.hprof_tool.specs.Joining.{Tell, Agree, Joins, Disagree, IsPartFault, IsOfPart, IsAccepted, RefusesPart, AreGiven, RefusesReader, AreReadOut, read_count, ReadsAll, is_want, IsHindered, IsOkOrConflict}
 use Rattle.hprof_tool.proofs.PartFaults.{of_part}
 use Rattle.hprof_tool.proofs.Parts.{part_sound}
 use Rattle.hprof_tool.proofs.Smaller.{smaller_sound}
@@ -96,17 +96,17 @@ never_malformed limits bytes ids millis facts at reason le part first =
     ]
 
 -- with what a part is not refused where its reader is well, no limit was met and memory was there
-unexpected : (limits : Limits) (bytes came : List ℕ) (left : Option (List ℕ)) (ids : IdSize) (millis : ℕ) (facts : List FactValue) (health : Health) (spent : Type 0) (fault : PartFault) → limits.max_item ≤ longest_body
-    → IsPart bytes ids millis facts → IsOfPart limits.max_item bytes fault → IsPartFault limits came left health spent fault → health ≡ healths.Well → (is_want fault ≡ true → ⊥) → ⊥
-unexpected limits bytes came left ids millis facts health spent (faults.Malformed at reason) le part of_part is well unhindered = never_malformed limits bytes ids millis facts at reason le part of_part
-unexpected limits bytes came left ids millis facts health spent (faults.ItemTooLong at) le part of_part is well unhindered = unhindered refl
-unexpected limits bytes came left ids millis facts health spent faults.BytesExceeded le part of_part is well unhindered = unhindered refl
-unexpected limits bytes came left ids millis facts health spent faults.Read le part of_part is well unhindered = let no : healths.Failed ≡ healths.Well = sym is.0 ∙ well in cc
-unexpected limits bytes came left ids millis facts health spent faults.ReadsExceeded le part of_part is well unhindered = unhindered refl
-unexpected limits bytes came left ids millis facts health spent faults.OutOfMemory le part of_part is well unhindered = unhindered refl
-unexpected limits bytes came left ids millis facts health spent (faults.Sink sinks.OutOfMemory) le part of_part is well unhindered = unhindered refl
-unexpected limits bytes came left ids millis facts health spent (faults.Sink sinks.Failed) le part of_part is well unhindered = is
-unexpected limits bytes came left ids millis facts health spent faults.Failed le part of_part is well unhindered = is
+unexpected : {R : Type 0} (left : R → Option (List ℕ)) (health : R → Health) (pulls : R → ℕ) (limits : Limits) (bytes came : List ℕ) (was is : R) (ids : IdSize) (millis : ℕ) (facts : List FactValue) (fault : PartFault)
+    → limits.max_item ≤ longest_body → IsPart bytes ids millis facts → IsOfPart limits.max_item bytes fault → IsPartFault left health pulls limits was came is fault → health is ≡ healths.Well → (is_want fault ≡ true → ⊥) → ⊥
+unexpected left health pulls limits bytes came was is ids millis facts (faults.Malformed at reason) le part of_part why well unhindered = never_malformed limits bytes ids millis facts at reason le part of_part
+unexpected left health pulls limits bytes came was is ids millis facts (faults.ItemTooLong at) le part of_part why well unhindered = unhindered refl
+unexpected left health pulls limits bytes came was is ids millis facts faults.BytesExceeded le part of_part why well unhindered = unhindered refl
+unexpected left health pulls limits bytes came was is ids millis facts faults.Read le part of_part why well unhindered = let no : healths.Failed ≡ healths.Well = sym why.0 ∙ well in cc
+unexpected left health pulls limits bytes came was is ids millis facts faults.ReadsExceeded le part of_part why well unhindered = unhindered refl
+unexpected left health pulls limits bytes came was is ids millis facts faults.OutOfMemory le part of_part why well unhindered = unhindered refl
+unexpected left health pulls limits bytes came was is ids millis facts (faults.Sink sinks.OutOfMemory) le part of_part why well unhindered = unhindered refl
+unexpected left health pulls limits bytes came was is ids millis facts (faults.Sink sinks.Failed) le part of_part why well unhindered = why
+unexpected left health pulls limits bytes came was is ids millis facts faults.Failed le part of_part why well unhindered = why
 
 -- parts of one size do not have two
 pub not_two_sizes : (parts : List (List ℕ)) (ids : IdSize) (millis : ℕ) (facts : List FactValue) → IsState parts ids millis facts → HaveTwoSizes parts → ⊥
@@ -192,8 +192,7 @@ module _ {R : Type 0} (left : R → Option (List ℕ)) (health : R → Health) (
         accepted = given_sound limits place.before is.before.given (subst (λ (ls : List (Option (List ℕ))). AreGiven limits ls is.before.given) place.told_before is.before.of_readers);
         at = is.at;
         told = place.told;
-        of_part = of_part limits place.bytes is.at.came (left is.at.is) (health is.at.is) (AreSpent (pulls is.at.was) (pulls is.at.is) limits.max_reads) fault
-            (subst (λ (l : Option (List ℕ)). Consumes l (left is.at.is) is.at.came) place.told is.at.consumed) is.at.refused;
+        of_part = of_part left health pulls limits is.at.was place.bytes is.at.came is.at.is fault place.told is.at.consumed is.at.refused;
       }
 
   -- a reader among those that are well is well
@@ -206,7 +205,7 @@ module _ {R : Type 0} (left : R → Option (List ℕ)) (health : R → Health) (
       → IsState parts ids millis facts → RefusesPart left health pulls limits parts old new index fault → All (λ reader. health reader ≡ healths.Well) new → (is_want fault ≡ true → ⊥) → ⊥
   never_refused limits parts ids millis facts old new index fault le state is well unhindered =
       let part = part_at state.states is.before is.bytes is.after (state.of_parts ∙ is.in_order) state.each in
-      unexpected limits is.bytes is.at.came (left is.at.is) part.0 part.1 part.2 (health is.at.is) (AreSpent (pulls is.at.was) (pulls is.at.is) limits.max_reads) fault le part.3 is.of_part is.at.refused
+      unexpected left health pulls limits is.bytes is.at.came is.at.was is.at.is part.0 part.1 part.2 fault le part.3 is.of_part is.at.refused
       (well_at new index is.at.is well is.at.is_there) unhindered
 
   -- the fault of an answer is that with which reading ended
@@ -215,6 +214,16 @@ module _ {R : Type 0} (left : R → Option (List ℕ)) (health : R → Health) (
   part_refused limits old new index fault answer from to e reads =
       let same : answer ≡ tool.Part index fault = cc in
       subst (λ (f : ToolFault). ReadsAll left health pulls limits old from (Err f) new to) same reads
+
+  -- where reading ended with a fault, the readers before the one that was refused were read to their ends
+  pub stopped_read_out : (limits : Limits) (old new : List R) (answer : ToolFault) (from to : Gathered) → ReadsAll left health pulls limits old from (Err answer) new to
+      → AreReadOut left health pulls limits old new (read_count {A = Joined} (Err answer) (length old))
+  stopped_read_out limits old new (tool.Part index fault) from to reads = reads.out
+  stopped_read_out limits old new tool.NoParts from to reads = absurd reads
+  stopped_read_out limits old new tool.IdSizes from to reads = absurd reads
+  stopped_read_out limits old new (tool.Conflict key) from to reads = absurd reads
+  stopped_read_out limits old new (tool.Write fault) from to reads = absurd reads
+  stopped_read_out limits old new tool.OutOfMemory from to reads = absurd reads
 
   -- reading ends with a fault only where something hinders it
   pub reading_hindered : (limits : Limits) (parts : List (List ℕ)) (ids : IdSize) (millis : ℕ) (facts : List FactValue) (old new : List R) (answer : ToolFault) (from to : Gathered) → limits.max_item ≤ longest_body

@@ -1,8 +1,8 @@
 -- With which fault a part is refused, by the bytes that its reader had to tell.
-use Rattle.std.proofs.Common.{◌≡◌, ◌⊎◌, ℕ, ◌≤◌, Bool, true, false, inl, inr, List, [], ◌++◌, length, take, drop, Option, Some, None, Err, refl, sym, ap, subst, ◌∙◌, append_assoc, append-nil}
+use Rattle.std.proofs.Common.{◌≡◌, ℕ, ◌≤◌, Bool, true, false, inl, inr, List, [], ◌++◌, length, take, drop, Option, Some, None, Err, refl, sym, ap, subst, ◌∙◌, append_assoc, append-nil}
 use Rattle.std.proofs.lemmas.Bool.{cases_Bool}
 use Rattle.std.proofs.lemmas.List.{take_all, take-append-drop}
-use Rattle.std.specs.Io.KnownBytes.{Consumes}
+use Rattle.std.specs.Io.KnownBytes.{Consumes, IsAtEnd}
 use Rattle.hprof_items.specs.declared.header.Header.{Header}
 use Rattle.hprof_items.specs.declared.health.Health.{Health}
 use Rattle.hprof_items.specs.declared.step.Reason.TheVariants.{BadMagic, BadIdSize, Truncated, BadLength, BadSubTag, PastEnd, BadType, Unsupported}
@@ -13,7 +13,7 @@ use Rattle.hprof_stream.specs.declared.part_fault.PartFault.TheVariants as fault
 use Rattle.hprof_stream.specs.declared.sink.SinkFault.{SinkFault}
 use Rattle.hprof_stream.specs.declared.sink.SinkFault.TheVariants as sinks
 use Rattle.hprof_stream.specs.Fault.{IsFirstFault, is_lasting, is_settled}
-use Rattle.hprof_stream.specs.Reader.{BeginsCut, RanUpTo, IsFeedFault, ReadsPart}
+use Rattle.hprof_stream.specs.Reader.{RanUpTo, IsUnheld, LacksAtLast, ReadsPart}
 use Rattle.hprof_heap.specs.declared.gatherer.Gatherer.{Gatherer}
 use Rattle.hprof_heap.specs.Gathering.{gathered, Begins, Takes}
 use Rattle.hprof_tool.specs.Joining.{IsPartFault, IsOfPart}
@@ -55,51 +55,57 @@ no_failure limits bytes told old mid sound ran refuses =
     cc
 
 -- what could not be held
-lacked : (limits : Limits) (came : List ℕ) (old new : Gatherer)
-    → ((came ≡ []) × (old ≡ new)) ⊎ ((header : Option Header) × IsFeedFault shown_begins shown_steps shown_refuses shown_failed limits came [] None header old faults.OutOfMemory new)
-    → (came ≡ []) ⊎ BeginsCut limits.max_item (take limits.max_bytes came)
-lacked limits came old new (inl none) = inl none.0
-lacked limits came old new (inr held) = inr held.1.cut
+unheld : (limits : Limits) (front piece : List ℕ) (old new : Gatherer) → LacksAtLast shown_begins shown_steps shown_refuses shown_failed limits front piece old new → IsUnheld limits front piece
+unheld limits front piece old new lacks = elim lacks.lacks [ inl all ↦ inl (all.0, all.1, all.2) | inr held ↦ inr held.0 ]
 
--- with which fault a part is refused of which these bytes came
-pub fault_of_came : (limits : Limits) (came : List ℕ) (left : Option (List ℕ)) (health : Health) (spent : Type 0) (old new : Gatherer) (fault : PartFault) → (gathered old).failed ≡ false
-    → ReadsPart shown_begins shown_steps shown_refuses shown_failed limits came left health spent old (Err fault) new → IsPartFault limits came left health spent fault
-fault_of_came limits came left health spent old new (faults.Malformed at Truncated) sound reads =
-    (reads.1, subst (λ (b : List ℕ). IsFirstFault limits.max_item b (faults.Malformed at Truncated)) (sym (take_all limits.max_bytes came reads.2)) reads.3, λ _. (reads.0, reads.2))
-fault_of_came limits came left health spent old new (faults.Malformed at BadMagic) sound reads = (reads.0, reads.1.1.0, λ e. absurd cc)
-fault_of_came limits came left health spent old new (faults.Malformed at BadIdSize) sound reads = (reads.0, reads.1.1.0, λ e. absurd cc)
-fault_of_came limits came left health spent old new (faults.Malformed at BadLength) sound reads = (reads.0, reads.1.1.0, λ e. absurd cc)
-fault_of_came limits came left health spent old new (faults.Malformed at BadSubTag) sound reads = (reads.0, reads.1.1.0, λ e. absurd cc)
-fault_of_came limits came left health spent old new (faults.Malformed at PastEnd) sound reads = (reads.0, reads.1.1.0, λ e. absurd cc)
-fault_of_came limits came left health spent old new (faults.Malformed at BadType) sound reads = (reads.0, reads.1.1.0, λ e. absurd cc)
-fault_of_came limits came left health spent old new (faults.Malformed at Unsupported) sound reads = (reads.0, reads.1.1.0, λ e. absurd cc)
-fault_of_came limits came left health spent old new (faults.ItemTooLong at) sound reads = (reads.0, reads.1.1.0)
-fault_of_came limits came left health spent old new faults.OutOfMemory sound reads = (reads.0, lacked limits came old new reads.1)
-fault_of_came limits came left health spent old new (faults.Sink sinks.OutOfMemory) sound reads = (reads.0, (reads.1.0, reads.1.1.1.whole))
-fault_of_came limits came left health spent old new (faults.Sink sinks.Failed) sound reads =
-    no_failure limits (take limits.max_bytes came) reads.1.0 old reads.1.1.0 sound reads.1.1.1 reads.1.1.2.0
-fault_of_came limits came left health spent old new faults.Failed sound reads = absurd reads.1.1
-fault_of_came limits came left health spent old new faults.Read sound reads = (reads.0, reads.1, reads.2)
-fault_of_came limits came left health spent old new faults.ReadsExceeded sound reads = (reads.0, reads.1, reads.2, reads.3, reads.4)
-fault_of_came limits came left health spent old new faults.BytesExceeded sound reads = (reads.0, reads.1.1.0, reads.1.1.1)
+module _ {R : Type 0} (left : R → Option (List ℕ)) (health : R → Health) (pulls : R → ℕ) where
+  -- with which fault a part is refused of which these bytes came
+  pub fault_of_came : (limits : Limits) (was : R) (came : List ℕ) (is : R) (old new : Gatherer) (fault : PartFault) → (gathered old).failed ≡ false
+      → ReadsPart left health pulls shown_begins shown_steps shown_refuses shown_failed limits was came is old (Err fault) new → IsPartFault left health pulls limits was came is fault
+  fault_of_came limits was came is old new (faults.Malformed at Truncated) sound reads =
+      (reads.1, subst (λ (b : List ℕ). IsFirstFault limits.max_item b (faults.Malformed at Truncated)) (sym (take_all limits.max_bytes came reads.2)) reads.3, λ _. (reads.0, reads.2))
+  fault_of_came limits was came is old new (faults.Malformed at BadMagic) sound reads = (reads.0, reads.1.1.0, λ e. absurd cc)
+  fault_of_came limits was came is old new (faults.Malformed at BadIdSize) sound reads = (reads.0, reads.1.1.0, λ e. absurd cc)
+  fault_of_came limits was came is old new (faults.Malformed at BadLength) sound reads = (reads.0, reads.1.1.0, λ e. absurd cc)
+  fault_of_came limits was came is old new (faults.Malformed at BadSubTag) sound reads = (reads.0, reads.1.1.0, λ e. absurd cc)
+  fault_of_came limits was came is old new (faults.Malformed at PastEnd) sound reads = (reads.0, reads.1.1.0, λ e. absurd cc)
+  fault_of_came limits was came is old new (faults.Malformed at BadType) sound reads = (reads.0, reads.1.1.0, λ e. absurd cc)
+  fault_of_came limits was came is old new (faults.Malformed at Unsupported) sound reads = (reads.0, reads.1.1.0, λ e. absurd cc)
+  fault_of_came limits was came is old new (faults.ItemTooLong at) sound reads = (reads.0, reads.1.1.0)
+  fault_of_came limits was came is old new faults.OutOfMemory sound reads =
+      (reads.0, elim reads.1 [ inl nothing ↦ inl (nothing.0, nothing.1) | inr last ↦ inr (last.0, unheld limits last.0.front last.0.piece old new last.1) ])
+  fault_of_came limits was came is old new (faults.Sink sinks.OutOfMemory) sound reads = (reads.0, (reads.1.0, (reads.1.1.header, reads.1.1.ran.whole, reads.1.1.behind)))
+  fault_of_came limits was came is old new (faults.Sink sinks.Failed) sound reads =
+      no_failure limits (take limits.max_bytes came) reads.1.1.header old reads.1.1.mid sound reads.1.1.ran reads.1.1.refused.0
+  fault_of_came limits was came is old new faults.Failed sound reads = absurd reads.1.1
+  fault_of_came limits was came is old new faults.Read sound reads = (reads.0, reads.1.0, reads.1.1)
+  fault_of_came limits was came is old new faults.ReadsExceeded sound reads = (reads.0, reads.1, reads.2, reads.3.0, reads.3.1)
+  fault_of_came limits was came is old new faults.BytesExceeded sound reads = (reads.0, reads.1.1.0, reads.1.1.1)
 
--- a fault of an item that came is the first of the whole part
-of_rest : (limits : Limits) (came rest : List ℕ) (health : Health) (spent : Type 0) (fault : PartFault) → IsPartFault limits came (Some rest) health spent fault → IsOfPart limits.max_item (came ++ rest) fault
-of_rest limits came rest health spent (faults.Malformed at reason) is =
-    elim (cases_Bool (is_lasting reason)) [
-      | inl settled ↦ settled_of_whole limits.max_item limits.max_bytes came rest (faults.Malformed at reason) is.1 settled
-      | inr unsettled ↦ let whole = is.2 unsettled in unsettled_of_whole limits.max_item limits.max_bytes came rest (faults.Malformed at reason) is.1 whole.0 whole.1
-    ]
-of_rest limits came rest health spent (faults.ItemTooLong at) is = settled_of_whole limits.max_item limits.max_bytes came rest (faults.ItemTooLong at) is.1 refl
-of_rest limits came rest health spent faults.OutOfMemory is = tt
-of_rest limits came rest health spent (faults.Sink fault) is = tt
-of_rest limits came rest health spent faults.Failed is = tt
-of_rest limits came rest health spent faults.Read is = tt
-of_rest limits came rest health spent faults.ReadsExceeded is = tt
-of_rest limits came rest health spent faults.BytesExceeded is = tt
+  -- a fault of an item that came is the first of the whole part
+  of_rest : (limits : Limits) (was : R) (came rest : List ℕ) (is : R) (fault : PartFault) → left is ≡ Some rest → IsPartFault left health pulls limits was came is fault → IsOfPart limits.max_item (came ++ rest) fault
+  of_rest limits was came rest is (faults.Malformed at reason) told why =
+      elim (cases_Bool (is_lasting reason)) [
+        | inl settled ↦ settled_of_whole limits.max_item limits.max_bytes came rest (faults.Malformed at reason) why.1 settled
+        | inr unsettled ↦
+            let whole = why.2 unsettled in
+            let none : rest ≡ [] = subst IsAtEnd told whole.0 in
+            unsettled_of_whole limits.max_item limits.max_bytes came rest (faults.Malformed at reason) why.1 none whole.1
+      ]
+  of_rest limits was came rest is (faults.ItemTooLong at) told why = settled_of_whole limits.max_item limits.max_bytes came rest (faults.ItemTooLong at) why.1 refl
+  of_rest limits was came rest is faults.OutOfMemory told why = tt
+  of_rest limits was came rest is (faults.Sink fault) told why = tt
+  of_rest limits was came rest is faults.Failed told why = tt
+  of_rest limits was came rest is faults.Read told why = tt
+  of_rest limits was came rest is faults.ReadsExceeded told why = tt
+  of_rest limits was came rest is faults.BytesExceeded told why = tt
 
-pub of_part : (limits : Limits) (bytes came : List ℕ) (left : Option (List ℕ)) (health : Health) (spent : Type 0) (fault : PartFault) → Consumes (Some bytes) left came → IsPartFault limits came left health spent fault
-    → IsOfPart limits.max_item bytes fault
-of_part limits bytes came None health spent fault consumed is = absurd consumed
-of_part limits bytes came (Some rest) health spent fault consumed is =
-    subst (λ (b : List ℕ). IsOfPart limits.max_item b fault) (sym consumed) (of_rest limits came rest health spent fault is)
+  pub of_part : (limits : Limits) (was : R) (bytes came : List ℕ) (is : R) (fault : PartFault) → left was ≡ Some bytes → Consumes (left was) (left is) came → IsPartFault left health pulls limits was came is fault
+      → IsOfPart limits.max_item bytes fault
+  of_part limits was bytes came is fault told consumed why = by (left is) refl
+    where
+      by : (rest : Option (List ℕ)) → left is ≡ rest → IsOfPart limits.max_item bytes fault
+      by None e = absurd (subst (λ (l : Option (List ℕ)). Consumes l None came) told (subst (λ (l : Option (List ℕ)). Consumes (left was) l came) e consumed))
+      by (Some rest) e =
+          let whole : bytes ≡ came ++ rest = subst (λ (l : Option (List ℕ)). Consumes l (Some rest) came) told (subst (λ (l : Option (List ℕ)). Consumes (left was) l came) e consumed) in
+          subst (λ (b : List ℕ). IsOfPart limits.max_item b fault) (sym whole) (of_rest limits was came rest is fault e why)

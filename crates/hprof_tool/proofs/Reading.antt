@@ -1,15 +1,17 @@
 -- Reading all parts, one after the other.
 use Rattle.std.proofs.Common.{◌≡◌, ℕ, zero, suc, ◌+◌, List, [], ◌∷◌, ◌++◌, length, take, map, set, Option, Some, None, get_or, ◌<◌, inl, inr, refl, sym, ap, subst, ◌∙◌, add-one, append-nil, arith}
+use Rattle.std.proofs.lemmas.Bool.{cases_lt}
 use Rattle.std.proofs.lemmas.Option.{slice_get_cases, get_or_from_slice_get}
 use Rattle.std.specs.Io.KnownBytes.{Consumes, IsAtEnd}
 use Rattle.std.specs.Prelude.{slice_get}
 use Rattle.hprof_items.specs.declared.header.Header.{Header}
+use Rattle.hprof_items.specs.declared.health.Health.{Health}
 use Rattle.hprof_items.specs.FactValue.{FactValue}
 use Rattle.hprof_stream.specs.declared.limits.Limits.{Limits}
 use Rattle.hprof_stream.specs.Part.{IsPart}
 use Rattle.hprof_stream.specs.Run.{Run}
 use Rattle.hprof_heap.specs.Gathering.{Gathered, Given, Begins, Takes}
-use Rattle.hprof_tool.specs.Joining.{IsAccepted, IsGiven, AreGiven, GathersFirst}
+use Rattle.hprof_tool.specs.Joining.{IsAccepted, IsGiven, AreGiven, GathersFirst, IsReadOut, AreReadOut}
 use Rattle.hprof_tool.proofs.Gathered.{Gathers-more}
 
 -- the front with one more
@@ -80,3 +82,27 @@ module _ {R : Type 0} (left : R → Option (List ℕ)) where
         of_readers = subst (λ (l : List (Option (List ℕ))). AreGiven limits l (first.given ++ part ∷ [])) (sym lefts) (AreGiven-more limits (map left (take i old)) (left was) first.given part first.of_readers is);
         gathers = Gathers-more from mid new first.given header facts first.gathers run;
       }
+
+-- what was written to another place changes nothing here
+get_set_other : {R : Type 0} (xs : List R) (i k : ℕ) (x : R) → k < i → slice_get (set xs i x) k ≡ slice_get xs k
+get_set_other [] i k x other = refl
+get_set_other (y ∷ xs) zero k x other = absurd (omega arith)
+get_set_other (y ∷ xs) (suc i) zero x other = refl
+get_set_other (y ∷ xs) (suc i) (suc k) x other = get_set_other xs i k x (omega arith)
+
+module _ {R : Type 0} (left : R → Option (List ℕ)) (health : R → Health) (pulls : R → ℕ) where
+  -- what was written to a place behind them changes nothing for readers that were read to their ends
+  pub AreReadOut-kept : (limits : Limits) (old cur : List R) (i : ℕ) (is : R) → AreReadOut left health pulls limits old cur i → AreReadOut left health pulls limits old (set cur i is) i
+  AreReadOut-kept limits old cur i is out k before =
+      let one = out k before in
+      (one.0, one.1, one.2, get_set_other cur i k is before ∙ one.3, one.4)
+
+  -- one more reader was read to its end
+  pub AreReadOut-more : (limits : Limits) (old cur : List R) (i : ℕ) (was is : R) → slice_get old i ≡ Some was → i < length cur → AreReadOut left health pulls limits old cur i
+      → IsReadOut left health pulls limits was is → AreReadOut left health pulls limits old (set cur i is) (i + 1)
+  AreReadOut-more limits old cur i was is there within out read k below =
+      elim (cases_lt k i) [
+        | inl before ↦ AreReadOut-kept limits old cur i is out k before
+        | inr here ↦ let same : i ≡ k = omega arith in
+            subst (λ (n : ℕ). (from : R) × (to : R) × (slice_get old n ≡ Some from) × (slice_get (set cur i is) n ≡ Some to) × IsReadOut left health pulls limits from to) same (was, is, there, element_set cur i is within, read)
+      ]

@@ -1,5 +1,5 @@
 -- What joining parts answers, and what it writes.
-use Rattle.std.specs.Prelude.{◌≡◌, ◌⊎◌, ℕ, ◌+◌, ◌-◌, ◌<◌, ◌≤◌, ◌^◌, min, Bool, true, false, List, [], ◌∷◌, ◌++◌, length, take, map, Option, Some, None, Result, Ok, Err, ⊤, slice_get}
+use Rattle.std.specs.Prelude.{◌≡◌, ◌⊎◌, ℕ, ◌+◌, ◌<◌, ◌≤◌, Bool, true, false, List, [], ◌∷◌, ◌++◌, length, take, map, Option, Some, None, Result, Ok, Err, ⊤, slice_get}
 use Rattle.std.specs.List.{AllByRecursion}
 use Rattle.std.specs.Io.KnownBytes.{Appends, Consumes, IsAtEnd}
 use Rattle.hprof_items.specs.declared.header.Header.{Header}
@@ -12,7 +12,7 @@ use Rattle.hprof_stream.specs.declared.part_fault.PartFault.{PartFault}
 use Rattle.hprof_stream.specs.declared.part_fault.PartFault.TheVariants as faults
 use Rattle.hprof_stream.specs.declared.sink.SinkFault.TheVariants as sinks
 use Rattle.hprof_stream.specs.Part.{IsPart}
-use Rattle.hprof_stream.specs.Reader.{BeginsCut, BeginsWhole}
+use Rattle.hprof_stream.specs.Reader.{BeginsWhole, whole_len, AreSpent, IsUnheld, CameLast}
 use Rattle.hprof_stream.specs.Fault.{HasNoFault, IsFirstFault, HasNoSettledFault, is_lasting}
 use Rattle.hprof_heap.specs.declared.key.Key.{Key}
 use Rattle.hprof_heap.specs.Conflict.{IsConsistent, IsLeastConflict}
@@ -65,28 +65,31 @@ pub record Disagree (parts : List (List ℕ)) (key : Key) : Type 0 where
 abbrev pub IsAccepted : Limits → List ℕ → Type 0
 IsAccepted limits bytes = HasNoFault limits.max_item bytes × (length bytes ≤ limits.max_bytes)
 
--- with which fault a part is refused of which these bytes came, and were judged as far as they may be taken; where
--- memory was wanted, nothing came, or an item could not be held, or what an item states could not be kept
---   left, health: of the reader, afterwards;  spent: it was pulled as often as it may be, or as can be counted, and each
---   pull gave a byte
-abbrev pub IsPartFault : Limits → List ℕ → Option (List ℕ) → Health → Type 0 → PartFault → Type 0
-IsPartFault limits came left health spent (faults.Malformed at reason) =
-    (health ≡ healths.Well) × IsFirstFault limits.max_item (take limits.max_bytes came) (faults.Malformed at reason)
-    × (is_lasting reason ≡ false → IsAtEnd left × (length came ≤ limits.max_bytes))
-IsPartFault limits came left health spent (faults.ItemTooLong at) =
-    (health ≡ healths.Well) × IsFirstFault limits.max_item (take limits.max_bytes came) (faults.ItemTooLong at)
-IsPartFault limits came left health spent faults.BytesExceeded =
-    (health ≡ healths.Well) × (limits.max_bytes < length came) × HasNoSettledFault limits.max_item (take limits.max_bytes came)
-IsPartFault limits came left health spent faults.Read =
-    (health ≡ healths.Failed) × (length came ≤ limits.max_bytes) × HasNoSettledFault limits.max_item came
-IsPartFault limits came left health spent faults.ReadsExceeded =
-    (health ≡ healths.Well) × spent × (limits.max_reads ≤ length came) × (length came ≤ limits.max_bytes) × HasNoSettledFault limits.max_item came
-IsPartFault limits came left health spent faults.OutOfMemory =
-    (health ≡ healths.Well) × ((came ≡ []) ⊎ BeginsCut limits.max_item (take limits.max_bytes came))
-IsPartFault limits came left health spent (faults.Sink sinks.OutOfMemory) =
-    (health ≡ healths.Well) × ((told : Option Header) × BeginsWhole limits.max_item (take limits.max_bytes came) told)
-IsPartFault limits came left health spent (faults.Sink sinks.Failed) = ⊥
-IsPartFault limits came left health spent faults.Failed = ⊥
+module _ {R : Type 0} (left : R → Option (List ℕ)) (health : R → Health) (pulls : R → ℕ) where
+  -- with which fault a part is refused of which these bytes came, and were judged as far as they may be taken; where
+  -- memory was wanted, nothing was read, or all but the last piece was judged, and an item could not be held, or one that
+  -- ends in that piece could not be kept
+  --   was, is: the reader, before and afterwards
+  abbrev pub IsPartFault : Limits → R → List ℕ → R → PartFault → Type 0
+  IsPartFault limits was came is (faults.Malformed at reason) =
+      (health is ≡ healths.Well) × IsFirstFault limits.max_item (take limits.max_bytes came) (faults.Malformed at reason)
+      × (is_lasting reason ≡ false → IsAtEnd (left is) × (length came ≤ limits.max_bytes))
+  IsPartFault limits was came is (faults.ItemTooLong at) =
+      (health is ≡ healths.Well) × IsFirstFault limits.max_item (take limits.max_bytes came) (faults.ItemTooLong at)
+  IsPartFault limits was came is faults.BytesExceeded =
+      (health is ≡ healths.Well) × (limits.max_bytes < length came) × HasNoSettledFault limits.max_item (take limits.max_bytes came)
+  IsPartFault limits was came is faults.Read =
+      (health is ≡ healths.Failed) × (length came ≤ limits.max_bytes) × HasNoSettledFault limits.max_item came
+  IsPartFault limits was came is faults.ReadsExceeded =
+      (health is ≡ healths.Well) × AreSpent (pulls was) (pulls is) limits.max_reads × (limits.max_reads ≤ length came) × (length came ≤ limits.max_bytes)
+      × HasNoSettledFault limits.max_item came
+  IsPartFault limits was came is faults.OutOfMemory =
+      (health is ≡ healths.Well) × (((came ≡ []) × (was ≡ is)) ⊎ ((last : CameLast left pulls limits was came is) × IsUnheld limits last.front last.piece))
+  IsPartFault limits was came is (faults.Sink sinks.OutOfMemory) =
+      (health is ≡ healths.Well) × ((last : CameLast left pulls limits was came is) × ((told : Option Header)
+      × (whole : BeginsWhole limits.max_item (take limits.max_bytes came) told) × (length last.front < whole_len whole)))
+  IsPartFault limits was came is (faults.Sink sinks.Failed) = ⊥
+  IsPartFault limits was came is faults.Failed = ⊥
 
 -- a fault of an item is the first of the whole part
 abbrev pub IsOfPart : ℕ → List ℕ → PartFault → Type 0
@@ -94,11 +97,23 @@ IsOfPart longest bytes (faults.Malformed at reason) = IsFirstFault longest bytes
 IsOfPart longest bytes (faults.ItemTooLong at) = IsFirstFault longest bytes (faults.ItemTooLong at)
 IsOfPart longest bytes other = ⊤
 
--- the pulls of a reader, which a u64 can count, rose by so many, or stand at the greatest number
-abbrev pub AreSpent : ℕ → ℕ → ℕ → Type 0
-AreSpent old new most = old < 2 ^ 64 → new ≡ min (old + most) (2 ^ 64 - 1)
-
 module _ {R : Type 0} (left : R → Option (List ℕ)) (health : R → Health) (pulls : R → ℕ) where
+  -- a reader was read to its end over these bytes, which were accepted: it is well, and was pulled no more often than it
+  -- may be, nor than there were bytes and once more
+  pub record IsReadOut (limits : Limits) (was is : R) : Type 0 where
+    pub came : List ℕ
+    pub consumed : Consumes (left was) (left is) came
+    pub at_end : IsAtEnd (left is)
+    pub accepted : IsAccepted limits came
+    pub well : health is ≡ healths.Well
+    pub pulled : pulls is ≤ pulls was + length came + 1
+    pub spared : pulls is ≤ pulls was + limits.max_reads
+
+  -- so many readers, from the first on, were read to their ends
+  abbrev pub AreReadOut : Limits → List R → List R → ℕ → Type 0
+  AreReadOut limits old new count =
+      (k : ℕ) → k < count → (was : R) × (is : R) × (slice_get old k ≡ Some was) × (slice_get new k ≡ Some is) × IsReadOut limits was is
+
   -- the reader at that place was read over these bytes, one or more with each pull but the last, and was refused with
   -- the fault; those behind it were not touched
   pub record RefusesAt (limits : Limits) (old new : List R) (index : ℕ) (fault : PartFault) : Type 0 where
@@ -109,7 +124,8 @@ module _ {R : Type 0} (left : R → Option (List ℕ)) (health : R → Health) (
     pub came : List ℕ
     pub consumed : Consumes (left was) (left is) came
     pub pulled : pulls is ≤ pulls was + length came + 1
-    pub refused : IsPartFault limits came (left is) (health is) (AreSpent (pulls was) (pulls is) limits.max_reads) fault
+    pub spared : pulls is ≤ pulls was + limits.max_reads
+    pub refused : IsPartFault left health pulls limits was came is fault
     pub unread : (k : ℕ) → index < k → slice_get new k ≡ slice_get old k
 
   -- the part at that place was refused with the fault; all parts before it were read to their ends
@@ -150,13 +166,19 @@ module _ {R : Type 0} (left : R → Option (List ℕ)) (health : R → Health) (
   pub record RefusesReader (limits : Limits) (old new : List R) (index : ℕ) (fault : PartFault) (from : Gathered) : Type 0 where
     pub mid : Gathered
     pub before : GathersFirst left limits old index from mid
+    pub out : AreReadOut left health pulls limits old new index
     pub at : RefusesAt left health pulls limits old new index fault
 
   -- all readers were read to their ends, or one was refused
   abbrev pub ReadsAll : Limits → List R → Gathered → Result (Unit {0}) ToolFault → List R → Gathered → Type 0
-  ReadsAll limits old from (Ok done) new to = GathersFirst left limits old (length old) from to
+  ReadsAll limits old from (Ok done) new to = GathersFirst left limits old (length old) from to × AreReadOut left health pulls limits old new (length old)
   ReadsAll limits old from (Err (tool.Part index fault)) new to = RefusesReader limits old new index fault from
   ReadsAll limits old from (Err other) new to = ⊥
+
+-- how many of the readers were read to their ends, by the answer: all, or those before the one that was refused
+abbrev pub read_count : {A : Type 0} → Result A ToolFault → ℕ → ℕ
+read_count (Err (tool.Part index fault)) all = index
+read_count other all = all
 
 -- all parts were read
 abbrev pub AreRead : {A : Type 0} → Result A ToolFault → Type 0

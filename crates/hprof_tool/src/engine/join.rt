@@ -1,6 +1,6 @@
 //! Joining parts.
 
-ghost use Rattle.std.specs.Prelude.{◌≡◌, ◌↔◌, ℕ, List, [], All, IfOk, Err};
+ghost use Rattle.std.specs.Prelude.{◌≡◌, ◌↔◌, ℕ, List, [], length, All, IfOk, Err};
 ghost use Rattle.std.specs.List.{AllByRecursion};
 ghost use Rattle.hprof_items.specs.declared.health.Health.TheVariants.{Well};
 ghost use Rattle.hprof_items.specs.declared.health.WriteFault.{WriteFault};
@@ -10,7 +10,7 @@ ghost use Rattle.hprof_items.specs.FactValue.{FactValue};
 ghost use Rattle.hprof_stream.specs.declared.part_fault.PartFault.{PartFault};
 ghost use Rattle.hprof_heap.specs.declared.key.Key.{Key};
 ghost use Rattle.hprof_heap.specs.State.{IsState, HaveTwoSizes};
-ghost use Rattle.hprof_tool.specs.Joining.{Tell, Joins, StopsWriting, Disagree, IsAccepted, RefusesPart, AreRead, IsHindered, IsOkOrConflict, IsBeforeWriting};
+ghost use Rattle.hprof_tool.specs.Joining.{Tell, Joins, StopsWriting, Disagree, IsAccepted, RefusesPart, AreReadOut, read_count, AreRead, IsHindered, IsOkOrConflict, IsBeforeWriting};
 
 use crate::engine::parts::read_parts;
 use crate::joined::Joined;
@@ -37,6 +37,8 @@ pub fn join_to<R: Source, W: Target>(
     ensures ok { IfOk result (λ joined. (parts : List (List ℕ)) → Tell R.left readers.old parts
         → Joins parts (W.written target.old) (W.written target.new) joined) }
 
+    ensures well { IfOk result (λ _. W.health target.new ≡ Well) }
+
     // What Conflict means: the parts have one size, and this is the least key with two contents.
     ensures conflict { (key : Key) → result ≡ Err (ToolFault.Conflict key)
         → (parts : List (List ℕ)) → Tell R.left readers.old parts → Disagree parts key }
@@ -50,6 +52,9 @@ pub fn join_to<R: Source, W: Target>(
         → RefusesPart R.left R.health R.pulls limits parts readers.old readers.new index fault }
     ensures accepted { AreRead result → (parts : List (List ℕ)) → Tell R.left readers.old parts
         → AllByRecursion (IsAccepted limits) parts }
+    // Each reader that was read to its end, which are all, or those before the one that was refused: nothing was read
+    // behind the end.
+    ensures read_out { AreReadOut R.left R.health R.pulls limits readers.old readers.new (read_count result (length readers.old)) }
     ensures unwritten { IsBeforeWriting result → target.new ≡ target.old }
 
     // Refusals while writing: the writer failed or stuck, and a front of the dump was written.

@@ -2,10 +2,9 @@ use Rattle.std.proofs.lemmas.List.{length-set}
 use Rattle.std.proofs.Common.{◌≡◌, ◌≢◌, ◌<◌, length, set, get_or, Some, ap, ◌∙◌, arith, get_or-set_other}
 use Rattle.hprof_items.specs.declared.header.Header.{Header}
 use Rattle.hprof_heap.specs.Gathering.{gathered}
-use Rattle.hprof_tool.specs.Joining.{AreSpent}
 use Rattle.hprof_tool.proofs.Gathered.{Run-shown, Run-sound}
 use Rattle.hprof_tool.proofs.PartFaults.{fault_of_came}
-use Rattle.hprof_tool.proofs.Reading.{element_at, element_set, same_at, given_if_told, GathersFirst-more}
+use Rattle.hprof_tool.proofs.Reading.{element_at, element_set, same_at, given_if_told, GathersFirst-more, AreReadOut-kept, AreReadOut-more}
 use Rattle.hprof_tool.proofs.engine.parts.read_parts.Goals as goal
 
 pub returns-in-Err : goal.returns-in-Err
@@ -21,6 +20,7 @@ returns-in-Err g c =
       read = record {
         mid = gathered c.loop-index.gatherer;
         before = c.loop-index.invariant.first;
+        out = AreReadOut-kept g.R.Source.left g.R.Source.health g.R.Source.pulls c.args.limits c.args.readers.now c.loop-index.readers index c.read_part.new.source c.loop-index.invariant.out;
         at = record {
           was = was;
           is = c.read_part.new.source;
@@ -29,8 +29,8 @@ returns-in-Err g c =
           came = read.0;
           consumed = read.1;
           pulled = read.2;
-          refused = fault_of_came c.args.limits read.0 (g.R.Source.left c.read_part.new.source) (g.R.Source.health c.read_part.new.source)
-              (AreSpent (g.R.Source.pulls was) (g.R.Source.pulls c.read_part.new.source) c.args.limits.max_reads) c.loop-index.gatherer c.read_part.new.sink c.in-Err.fault c.loop-index.invariant.sound read.3;
+          spared = c.in-Err.ensures.pulls;
+          refused = fault_of_came g.R.Source.left g.R.Source.health g.R.Source.pulls c.args.limits was read.0 c.read_part.new.source c.loop-index.gatherer c.read_part.new.sink c.in-Err.fault c.loop-index.invariant.sound read.3;
           unread = λ k behind. same_at (set c.loop-index.readers index c.read_part.new.source) c.args.readers.now k (length-set c.loop-index.readers index c.read_part.new.source ∙ same_length)
               (λ d below. let other : k ≢ index = omega (arith, behind) in
               get_or-set_other c.loop-index.readers index k c.read_part.new.source d other ∙ c.loop-index.invariant.unread k d (omega (arith, behind)) below);
@@ -55,5 +55,14 @@ loop-index-preserved g c =
           let other : k ≢ index = omega arith in
           get_or-set_other c.loop-index.readers index k c.read_part.new.source d other ∙ c.loop-index.invariant.unread k d (omega arith) below;
       first = GathersFirst-more g.R.Source.left c.args.limits c.args.readers.now index was (gathered c.args.gatherer.now) (gathered c.loop-index.gatherer) (gathered c.read_part.new.sink) header facts there c.loop-index.invariant.first run is;
+      out = AreReadOut-more g.R.Source.left g.R.Source.health g.R.Source.pulls c.args.limits c.args.readers.now c.loop-index.readers index was c.read_part.new.source there (omega arith) c.loop-index.invariant.out (record {
+        came = read.0;
+        consumed = read.1;
+        at_end = read.3.0;
+        accepted = (read.3.3, read.3.2);
+        well = read.3.1;
+        pulled = read.2;
+        spared = c.in_default.ensures.pulls;
+      });
       sound = Run-sound (gathered c.loop-index.gatherer) (gathered c.read_part.new.sink) (Some header) facts run c.loop-index.invariant.sound;
     }
