@@ -132,3 +132,6 @@ impl PartReader {
         hold(held, rest)
     }
 }
+
+#[cfg(test)]
+mod tests;

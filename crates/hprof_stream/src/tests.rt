@@ -3,6 +3,7 @@ ghost use Rattle.hprof_stream.specs.Reader.{IsReady};
 
 use super::*;
 use hprof_items::{Device, Fact, Header, Health, IdSize, ReadFault, Reason, Source, Version};
+use std::alloc::Global;
 use std::test::*;
 
 // A header, and two names: 2 is "B", and 1 is "A".
@@ -17,17 +18,17 @@ const HEADER: Header = Header {
 
 // Keeps the identifiers of names, up to a number of them.
 #[derive(Drop)]
-struct Names {
+pub(crate) struct Names {
     ids: Vec<u64>,
     room: usize,
-    begun: Option<IdSize>,
+    pub(crate) begun: Option<IdSize>,
     failed: bool,
 }
 
 impl Names {
-    fn new(rt: &HostRuntime, room: usize) -> Self {
+    pub(crate) fn new(alloc: Global, room: usize) -> Self {
         Names {
-            ids: Vec::new(rt.alloc()),
+            ids: Vec::new(alloc),
             room,
             begun: None,
             failed: false,
@@ -68,7 +69,7 @@ impl Sink for Names {
 }
 
 // Feeds the bytes in pieces, and answers the greatest number that were held.
-fn feed_in(
+pub(crate) fn feed_in(
     reader: &mut PartReader,
     bytes: &[u8],
     len: usize,
@@ -89,7 +90,7 @@ fn feed_in(
 #[test]
 fn a_part_in_pieces(rt: HostRuntime) {
     for (len, most) in [(59, 0), (3, 30), (1, 30)] {
-        let mut sink = Names::new(&rt, 2);
+        let mut sink = Names::new(rt.alloc(), 2);
         let mut reader = PartReader::new(rt.alloc(), Limits::usual());
         assert_eq!(rt;
             feed_in(&mut reader, PART, len, &mut sink),
@@ -156,7 +157,7 @@ fn a_header_that_is_refused(rt: HostRuntime) {
 
 #[test]
 fn no_bytes(rt: HostRuntime) {
-    let mut sink = Names::new(&rt, 0);
+    let mut sink = Names::new(rt.alloc(), 0);
     let mut reader = PartReader::new(rt.alloc(), Limits::usual());
     assert_eq!(rt; reader.feed(&[], &mut sink), Ok(()));
     assert_eq!(rt; reader.header(), None);
@@ -171,7 +172,7 @@ fn no_bytes(rt: HostRuntime) {
 #[test]
 fn a_bad_text(rt: HostRuntime) {
     let text = b"JAVA PROFILE 1.0.3\0";
-    let mut sink = Names::new(&rt, 0);
+    let mut sink = Names::new(rt.alloc(), 0);
     let mut reader = PartReader::new(rt.alloc(), Limits::usual());
     assert_eq!(rt; feed_in(&mut reader, &text[..18], 1, &mut sink), Ok(18));
     let bad = PartFault::Malformed {
@@ -204,7 +205,7 @@ fn from_a_source(rt: HostRuntime) {
             max_reads,
             max_bytes,
         };
-        let mut sink = Names::new(&rt, 1);
+        let mut sink = Names::new(rt.alloc(), 1);
         let mut source = Device::new(&PART[..len]);
         assert_eq!(rt;
             read_part(rt.alloc(), &mut source, limits, &mut sink),
@@ -243,7 +244,7 @@ impl Source for Broken {
 
 #[test]
 fn a_source_that_fails(rt: HostRuntime) {
-    let mut sink = Names::new(&rt, 0);
+    let mut sink = Names::new(rt.alloc(), 0);
     let mut source = Broken {
         pulls: 0,
         health: Health::Well,

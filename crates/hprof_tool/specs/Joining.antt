@@ -23,6 +23,7 @@ use Rattle.hprof_heap.specs.State.{IsState}
 use Rattle.hprof_tool.specs.declared.tool_fault.ToolFault.{ToolFault}
 use Rattle.hprof_tool.specs.declared.tool_fault.ToolFault.TheVariants as tool
 use Rattle.hprof_tool.specs.declared.joined.Joined.{Joined}
+use Rattle.hprof_tool.specs.declared.joined.Kept.{Kept}
 
 -- the readers tell these parts, and no more
 abbrev pub Tell : {R : Type 0} → (R → Option (List ℕ)) → List R → List (List ℕ) → Type 0
@@ -174,6 +175,11 @@ module _ {R : Type 0} (left : R → Option (List ℕ)) (health : R → Health) (
   ReadsAll limits old from (Ok done) new to = GathersFirst left limits old (length old) from to × AreReadOut left health pulls limits old new (length old)
   ReadsAll limits old from (Err (tool.Part index fault)) new to = RefusesReader limits old new index fault from
   ReadsAll limits old from (Err other) new to = ⊥
+
+-- what was joined, without the heap
+abbrev pub joined_of : Result Kept ToolFault → Result Joined ToolFault
+joined_of (Ok kept) = Ok kept.joined
+joined_of (Err fault) = Err fault
 
 -- how many of the readers were read to their ends, by the answer: all, or those before the one that was refused
 abbrev pub read_count : {A : Type 0} → Result A ToolFault → ℕ → ℕ

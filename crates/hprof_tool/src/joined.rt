@@ -1,5 +1,7 @@
 //! What was joined.
 
+use hprof_heap::Heap;
+
 /// How many parts were joined, and how many facts they state, each counted once.
 #[derive(Clone, Copy, Debug, PartialEq, Eq)]
 pub struct Joined {
@@ -7,4 +9,13 @@ pub struct Joined {
     pub parts: usize,
     /// The number of distinct facts.
     pub facts: u128,
+}
+
+/// What was joined, and the heap that was written.
+#[derive(Drop)]
+pub struct Kept {
+    /// How much was joined.
+    pub joined: Joined,
+    /// The heap whose dump was written.
+    pub heap: Heap,
 }

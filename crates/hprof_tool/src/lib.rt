@@ -9,8 +9,8 @@ mod program;
 mod status;
 mod tool_fault;
 
-pub use engine::join::join_to;
-pub use joined::Joined;
+pub use engine::join::{join_kept, join_to};
+pub use joined::{Joined, Kept};
 pub use program::run;
 pub use status::Status;
 pub use tool_fault::ToolFault;

@@ -5,7 +5,7 @@ use Rattle.hprof_heap.specs.declared.standing.Refusal.TheVariants as refusals
 use Rattle.hprof_heap.specs.Gathering.{gathered}
 use Rattle.hprof_heap.specs.Heap.{heap_of}
 use Rattle.hprof_tool.proofs.Answers.{no_readers, all_accepted, joins, agree, disagree, two_sizes, from_nothing, refuses_part, part_refused, stopped_read_out, reading_hindered, some_parts, not_two_sizes, told_of, told_conflict, write_fault}
-use Rattle.hprof_tool.proofs.engine.join.join_to.Goals as goal
+use Rattle.hprof_tool.proofs.engine.join.join_kept.Goals as goal
 
 pub returns-in-Err-clause-part : goal.returns-in-Err-clause-part
 returns-in-Err-clause-part g c = λ index fault same parts told.
@@ -64,8 +64,8 @@ returns-in-Ok-write_canonical-clause-ok g c = λ parts told.
     joins g.R.Source.left c.args.limits c.args.readers.now read.given read.of_readers parts told (heap_of c.in-Ok.heap) (record { parts = length c.read_parts.new.readers; facts = c.count-facts.result })
     (g.W.Target.written c.args.target.now) (g.W.Target.written c.write_canonical.new.target) tells c.in-Ok-write_canonical.ensures.bytes c.read_parts.auto.readers c.count-facts.ensures
 
-pub returns-clause-write : goal.returns-clause-write
-returns-clause-write g c = λ fault same.
+pub returns-in-Err-write_canonical-clause-write : goal.returns-in-Err-write_canonical-clause-write
+returns-in-Err-write_canonical-clause-write g c = λ fault same.
     let read = c.in_default.ensures.read.0 in
     let gathers = from_nothing (gathered c.new-gatherer.result) (gathered c.read_parts.new.gatherer) read.given c.new-gatherer.ensures read.gathers in
     let tells = c.in-Ok.ensures.told read.given gathers in
@@ -96,8 +96,8 @@ returns-in-Ok-write_canonical-clause-accepted g c = λ read_all parts told.
     let read = c.in_default.ensures.read.0 in
     all_accepted g.R.Source.left c.args.limits c.args.readers.now read.given read.of_readers parts told
 
-pub returns-clause-accepted : goal.returns-clause-accepted
-returns-clause-accepted g c = λ read_all parts told.
+pub returns-in-Err-write_canonical-clause-accepted : goal.returns-in-Err-write_canonical-clause-accepted
+returns-in-Err-write_canonical-clause-accepted g c = λ read_all parts told.
     let read = c.in_default.ensures.read.0 in
     all_accepted g.R.Source.left c.args.limits c.args.readers.now read.given read.of_readers parts told
 
