@@ -8,3 +8,4 @@ pub mod Names
 pub mod Steady
 pub mod Gathering
 pub mod Dump
+pub mod Packing

@@ -10,3 +10,4 @@ pub mod Heap
 pub mod Rows
 pub mod Steady
 pub mod Gathering
+pub mod Segments

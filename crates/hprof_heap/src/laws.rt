@@ -12,6 +12,7 @@ ghost use Rattle.hprof_heap.specs.Facts.{SameFacts};
 ghost use Rattle.hprof_heap.specs.Gathering.{Given, Gathers, Tells, answer_of, gathered, nothing_gathered};
 ghost use Rattle.hprof_heap.specs.HeapValue.{HeapValue, IsHeap};
 ghost use Rattle.hprof_heap.specs.Order.{IsCanonicalOrder};
+ghost use Rattle.hprof_heap.specs.Segments.{IsPacked, packed};
 
 /// A set of facts that agree has a list in canonical order.
 pub fn agreeing_facts_have_an_order()
@@ -48,4 +49,12 @@ pub fn answers_tell_of_the_parts()
 pub fn dump_reads_back()
     ensures { (ids : IdSize) (millis : ℕ) (rows : List FactValue) → IsHeap (record { ids = ids; millis = millis; facts = rows })
         → IsPart (canonical_dump ids millis rows) ids millis rows }
+{}
+
+/// There is one way to divide sub-records among segments that are as full as they can be, whatever their sizes and
+/// the most that a segment of more than one may have: each goes into the segment that was begun last, where it has room.
+pub fn sub_records_are_packed_in_one_way()
+    ensures once { (size : FactValue → ℕ) (most : ℕ) (subs : List FactValue) (segments others : List (List FactValue))
+        → IsPacked size most subs segments → IsPacked size most subs others → segments ≡ others }
+    ensures greedy { (size : FactValue → ℕ) (most : ℕ) (subs : List FactValue) → IsPacked size most subs (packed size most subs) }
 {}
