@@ -1,0 +1,235 @@
+//! A plain program with the same tables, to measure hprof's join beside: it reads parts in pieces, goes over them in
+//! place, unites their facts in BTreeMaps of boxed spellings, and writes the canonical dump. It uses std alone.
+//!
+//!     plain OUT PART..
+
+use std::collections::btree_map::Entry;
+use std::collections::{BTreeMap, BTreeSet};
+use std::env;
+use std::fs::File;
+use std::io::{BufWriter, Read, Write};
+
+mod format;
+use format::{HEAD_LEN, HEADER_LEN, number, refuse, sub_len};
+
+const PIECE_LEN: usize = 65_536;
+const SEGMENT_LEN: usize = 1_048_576;
+
+/// Rows by key: for a record its body, for a sub-record all of it.
+type Rows = BTreeMap<u64, Box<[u8]>>;
+
+fn state(rows: &mut Rows, key: u64, row: &[u8]) {
+    match rows.entry(key) {
+        Entry::Vacant(entry) => {
+            entry.insert(row.into());
+        }
+        Entry::Occupied(entry) if **entry.get() == *row => {}
+        Entry::Occupied(_) => refuse("conflict"),
+    }
+}
+
+#[derive(Default)]
+struct Heap {
+    width: usize,
+    millis: u64,
+    names: Rows,
+    loads: Rows,
+    unloads: Rows,
+    frames: Rows,
+    traces: Rows,
+    starts: Rows,
+    ends: Rows,
+    roots: BTreeSet<Box<[u8]>>,
+    classes: Rows,
+    objects: Rows,
+}
+
+impl Heap {
+    fn begin(&mut self, header: &[u8]) {
+        let width = number(&header[19..23]) as usize;
+        let millis = number(&header[23..31]);
+        if self.width == 0 {
+            self.width = width;
+            self.millis = millis;
+        } else if self.width != width {
+            refuse("identifier sizes differ");
+        }
+        self.millis = self.millis.min(millis);
+    }
+
+    fn record(&mut self, tag: u8, body: &[u8]) {
+        let (rows, width) = match tag {
+            0x01 => (&mut self.names, self.width),
+            0x02 => (&mut self.loads, 4),
+            0x03 => (&mut self.unloads, 4),
+            0x04 => (&mut self.frames, self.width),
+            0x05 => (&mut self.traces, 4),
+            0x0a => (&mut self.starts, 4),
+            0x0b => (&mut self.ends, 4),
+            _ => return,
+        };
+        state(rows, number(&body[..width]), body);
+    }
+
+    fn sub_record(&mut self, bytes: &[u8]) {
+        let key = number(&bytes[1..1 + self.width]);
+        match bytes[0] {
+            0x20 => state(&mut self.classes, key, bytes),
+            0x21..=0x23 => state(&mut self.objects, key, bytes),
+            _ if self.roots.contains(bytes) => {}
+            _ => {
+                self.roots.insert(bytes.into());
+            }
+        }
+    }
+}
+
+/// Where in a part reading stands.
+enum Place {
+    Start,
+    Between,
+    /// Within a heap dump record, with so many bytes of it left.
+    Within(usize),
+    /// Within a record that is passed over.
+    Over(usize),
+}
+
+/// Takes the whole items at the front of the bytes, and gives how many bytes they have.
+fn take(heap: &mut Heap, place: &mut Place, bytes: &[u8]) -> usize {
+    let mut at = 0;
+    loop {
+        let rest = &bytes[at..];
+        match *place {
+            Place::Start => {
+                if rest.len() < HEADER_LEN {
+                    return at;
+                }
+                heap.begin(&rest[..HEADER_LEN]);
+                at += HEADER_LEN;
+                *place = Place::Between;
+            }
+            Place::Between => {
+                if rest.len() < HEAD_LEN {
+                    return at;
+                }
+                let len = number(&rest[5..9]) as usize;
+                match rest[0] {
+                    0x0c | 0x1c => *place = Place::Within(len),
+                    0x01..=0x05 | 0x0a | 0x0b => {
+                        if rest.len() < HEAD_LEN + len {
+                            return at;
+                        }
+                        heap.record(rest[0], &rest[HEAD_LEN..HEAD_LEN + len]);
+                        at += len;
+                    }
+                    _ => *place = Place::Over(len),
+                }
+                at += HEAD_LEN;
+            }
+            Place::Within(0) | Place::Over(0) => *place = Place::Between,
+            Place::Within(left) => {
+                let Some(len) = sub_len(rest, heap.width) else {
+                    return at;
+                };
+                if len > left {
+                    refuse("past the end");
+                }
+                heap.sub_record(&rest[..len]);
+                at += len;
+                *place = Place::Within(left - len);
+            }
+            Place::Over(left) => {
+                let count = left.min(rest.len());
+                if count == 0 {
+                    return at;
+                }
+                at += count;
+                *place = Place::Over(left - count);
+            }
+        }
+    }
+}
+
+fn read_part(heap: &mut Heap, name: &str) {
+    let mut file = File::open(name).unwrap_or_else(|_| refuse("cannot open"));
+    let mut piece = vec![0; PIECE_LEN];
+    // What is held of a part is at the front of the piece, which grows where an item is longer.
+    let mut held = 0;
+    let mut place = Place::Start;
+    loop {
+        if held == piece.len() {
+            piece.resize(2 * held, 0);
+        }
+        let count = file.read(&mut piece[held..]).unwrap_or_else(|_| refuse("read failed"));
+        if count == 0 {
+            break;
+        }
+        let taken = take(heap, &mut place, &piece[..held + count]);
+        piece.copy_within(taken..held + count, 0);
+        held = held + count - taken;
+    }
+    if held != 0 || !matches!(place, Place::Between) {
+        refuse("truncated");
+    }
+}
+
+fn head(tag: u8, len: usize) -> [u8; HEAD_LEN] {
+    let mut head = [0; HEAD_LEN];
+    head[0] = tag;
+    head[5..].copy_from_slice(&(len as u32).to_be_bytes());
+    head
+}
+
+fn write(heap: &Heap, out: &mut impl Write) -> std::io::Result<()> {
+    out.write_all(b"JAVA PROFILE 1.0.2\0")?;
+    out.write_all(&(heap.width as u32).to_be_bytes())?;
+    out.write_all(&heap.millis.to_be_bytes())?;
+    for (tag, rows) in [
+        (0x01, &heap.names),
+        (0x02, &heap.loads),
+        (0x03, &heap.unloads),
+        (0x04, &heap.frames),
+        (0x05, &heap.traces),
+        (0x0a, &heap.starts),
+        (0x0b, &heap.ends),
+    ] {
+        for body in rows.values() {
+            out.write_all(&head(tag, body.len()))?;
+            out.write_all(body)?;
+        }
+    }
+    let subs = || heap.roots.iter().chain(heap.classes.values()).chain(heap.objects.values());
+    let mut ahead = subs();
+    let mut first = ahead.next();
+    let mut behind = subs();
+    while let Some(sub) = first {
+        let (mut len, mut count) = (sub.len(), 1);
+        first = ahead.next();
+        while let Some(next) = first
+            && len + next.len() <= SEGMENT_LEN
+        {
+            len += next.len();
+            count += 1;
+            first = ahead.next();
+        }
+        out.write_all(&head(0x1c, len))?;
+        for sub in behind.by_ref().take(count) {
+            out.write_all(sub)?;
+        }
+    }
+    out.write_all(&head(0x2c, 0))
+}
+
+fn main() {
+    let names: Vec<String> = env::args().skip(1).collect();
+    let mut heap = Heap::default();
+    for name in &names[1..] {
+        read_part(&mut heap, name);
+    }
+    let file = File::create_new(&names[0]).unwrap_or_else(|_| refuse("cannot create"));
+    let mut out = BufWriter::with_capacity(PIECE_LEN, file);
+    write(&heap, &mut out).unwrap_or_else(|_| refuse("write failed"));
+    out.flush().unwrap_or_else(|_| refuse("write failed"));
+    // Freeing millions of rows is no work that anyone waits for.
+    std::mem::forget(heap);
+}
