@@ -2,10 +2,12 @@
 
 ghost use Rattle.std.specs.Prelude.{◌≡◌};
 ghost use Rattle.hprof_items.specs.declared.health.Health.TheVariants.{Well};
+ghost use Rattle.hprof_items.specs.Device.{EndsRead, EndsWrite};
 
 use crate::health::{Health, ReadFault, WriteFault};
 use crate::source::Source;
 use crate::target::Target;
+use std::io;
 use std::io::{Read, Write};
 
 /// A std reader or writer that keeps its health. An error of any kind is a failure, and nothing is tried again.
@@ -54,6 +56,27 @@ impl<T> Device<T> {
     }
 }
 
+/// What std's answer to a read comes to: the device's own answer, and the health in which it leaves a device.
+fn end_of_read(answer: io::Result<usize>) -> (Result<usize, ReadFault>, Health)
+    ensures { EndsRead answer result.0 result.1 }
+{
+    match answer {
+        Ok(read) => (Ok(read), Health::Well),
+        Err(_) => (Err(ReadFault::Failed), Health::Failed),
+    }
+}
+
+/// What std's answer to a write comes to, of a piece of that length.
+fn end_of_write(answer: io::Result<usize>, length: usize) -> (Result<usize, WriteFault>, Health)
+    ensures { EndsWrite answer length result.0 result.1 }
+{
+    match answer {
+        Ok(0) if length > 0 => (Err(WriteFault::Stuck), Health::Stuck),
+        Ok(taken) => (Ok(taken), Health::Well),
+        Err(_) => (Err(WriteFault::Failed), Health::Failed),
+    }
+}
+
 impl<T: Read> Source for Device<T> {
     ghost left = { λ d. T.remaining d.inner };
 
@@ -63,13 +86,9 @@ impl<T: Read> Source for Device<T> {
 
     fn pull(&mut self, piece: &mut [u8]) -> Result<usize, ReadFault> {
         self.pulls = self.pulls.saturating_add(1);
-        match self.inner.read(piece) {
-            Ok(count) => Ok(count),
-            Err(_) => {
-                self.health = Health::Failed;
-                Err(ReadFault::Failed)
-            }
-        }
+        let (outcome, health) = end_of_read(self.inner.read(piece));
+        self.health = health;
+        outcome
     }
 }
 
@@ -79,16 +98,8 @@ impl<T: Write> Target for Device<T> {
     ghost health = { λ d. d.health };
 
     fn push(&mut self, piece: &[u8]) -> Result<usize, WriteFault> {
-        match self.inner.write(piece) {
-            Ok(0) if !piece.is_empty() => {
-                self.health = Health::Stuck;
-                Err(WriteFault::Stuck)
-            }
-            Ok(count) => Ok(count),
-            Err(_) => {
-                self.health = Health::Failed;
-                Err(WriteFault::Failed)
-            }
-        }
+        let (outcome, health) = end_of_write(self.inner.write(piece), piece.len());
+        self.health = health;
+        outcome
     }
 }

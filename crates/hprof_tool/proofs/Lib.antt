@@ -7,3 +7,4 @@ pub mod PartFaults
 pub mod Reading
 pub mod Stated
 pub mod Answers
+pub mod Ends

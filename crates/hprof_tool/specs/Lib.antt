@@ -1,3 +1,4 @@
-pub mod Offset
 pub mod Joining
+pub mod Offset
+pub mod Program
 pub mod Status

@@ -1,0 +1,99 @@
+use Rattle.std.proofs.Common.{◌≡◌, ℕ, List, [], ◌∷◌, length, take, Option, Result, Ok, Err, refl, sym, ap, subst}
+use Rattle.std.specs.Prelude.{IfOk, IfErr, OnOk, OnErr}
+use Rattle.std.specs.Io.KnownBytes.{Appends, Keeps}
+use Rattle.std.proofs.KnownBytes.{Appends-kept}
+use Rattle.std.proofs.Math.Seq.{take-length}
+use Rattle.hprof_items.specs.declared.health.WriteFault.{WriteFault}
+use Rattle.hprof_items.specs.declared.health.WriteFault.TheVariants as faults
+use Rattle.hprof_heap.specs.declared.key.Key.{Key}
+use Rattle.hprof_heap.specs.Dump.{canonical_dump}
+use Rattle.hprof_heap.specs.State.{HaveTwoSizes}
+use Rattle.hprof_tool.specs.declared.joined.Joined.{Joined}
+use Rattle.hprof_tool.specs.declared.tool_fault.ToolFault.{ToolFault}
+use Rattle.hprof_tool.specs.declared.tool_fault.ToolFault.TheVariants as tool
+use Rattle.hprof_tool.specs.declared.program.refused.Refused.{Refused}
+use Rattle.hprof_tool.specs.declared.program.refused.Refused.TheVariants as refusals
+use Rattle.hprof_tool.specs.Joining.{Tell, Joins, StopsWriting, Disagree}
+use Rattle.hprof_tool.specs.Program.{IsRefusal}
+use Rattle.hprof_tool.proofs.program.joining.join_into.Goals as goal
+
+-- no reader tells no part
+no_parts_told : {R : Type 0} (left : R → Option (List ℕ)) (readers : List R) (parts : List (List ℕ)) → readers ≡ [] → Tell left readers parts → parts ≡ []
+no_parts_told left [] [] none told = refl
+no_parts_told left [] (part ∷ parts) none told = absurd cc
+no_parts_told left (reader ∷ readers) parts none told = absurd cc
+
+-- what the engine's answer tells of the parts and of the bytes that it wrote
+record EngineTells {R : Type 0} (left : R → Option (List ℕ)) (readers : List R) (old new : Option (List ℕ)) (joined : Result Joined ToolFault) : Type 0 where
+  ok : IfOk joined (λ j. (parts : List (List ℕ)) → Tell left readers parts → Joins parts old new j)
+  conflict : (key : Key) → joined ≡ Err (tool.Conflict key) → (parts : List (List ℕ)) → Tell left readers parts → Disagree parts key
+  no_parts : joined ≡ Err tool.NoParts → readers ≡ []
+  id_sizes : joined ≡ Err tool.IdSizes → (parts : List (List ℕ)) → Tell left readers parts → HaveTwoSizes parts
+  write : (fault : WriteFault) → joined ≡ Err (tool.Write fault) → (parts : List (List ℕ)) → Tell left readers parts → StopsWriting parts old new
+
+module _ {R : Type 0} (left : R → Option (List ℕ)) (readers : List R) (old new : Option (List ℕ)) where
+  of_fault : (joined : Result Joined ToolFault) (fault : ToolFault) → EngineTells left readers old new joined → joined ≡ Err fault
+      → (parts : List (List ℕ)) → Tell left readers parts → IsRefusal (refusals.Engine fault) parts
+  of_fault joined (tool.Part index fault) t same parts told = tt
+  of_fault joined tool.NoParts t same parts told = no_parts_told left readers parts (t.no_parts same) told
+  of_fault joined tool.IdSizes t same parts told = t.id_sizes same parts told
+  of_fault joined (tool.Conflict key) t same parts told = t.conflict key same parts told
+  of_fault joined (tool.Write fault) t same parts told =
+      let stops = t.write fault same parts told in (stops.ids, stops.millis, stops.rows, stops.agree)
+  of_fault joined tool.OutOfMemory t same parts told = tt
+
+  -- a refusal says what the engine's fault says, and of a flush that failed that the parts agree
+  refusal : (joined : Result Joined ToolFault) (outcome : Result (Unit {0}) Refused) → EngineTells left readers old new joined
+      → OnOk joined (OnErr outcome (outcome ≡ Err (refusals.Engine (tool.Write faults.Failed)))) → IfErr joined (λ fault. outcome ≡ Err (refusals.Engine fault))
+      → IfErr outcome (λ refused. (parts : List (List ℕ)) → Tell left readers parts → IsRefusal refused parts)
+  refusal joined (Ok done) t failed same = tt
+  refusal (Ok j) (Err refused) t failed same = λ parts told.
+      let is : refused ≡ refusals.Engine (tool.Write faults.Failed) = cc in
+      let joins = t.ok parts told in
+      subst (λ (r : Refused). IsRefusal r parts) (sym is) (joins.ids, joins.millis, joins.rows, joins.agree)
+  refusal (Err fault) (Err refused) t failed same = λ parts told.
+      let is : refused ≡ refusals.Engine fault = cc in
+      subst (λ (r : Refused). IsRefusal r parts) (sym is) (of_fault (Err fault) fault t refl parts told)
+
+  -- what was written stands in the writer and then in the buffer
+  stops : (joined : Result Joined ToolFault) (outcome : Result (Unit {0}) Refused) (end : Option (List ℕ)) → EngineTells left readers old new joined → Keeps new end
+      → IfErr joined (λ fault. outcome ≡ Err (refusals.Engine fault))
+      → (fault : WriteFault) → outcome ≡ Err (refusals.Engine (tool.Write fault)) → (parts : List (List ℕ)) → Tell left readers parts → StopsWriting parts old end
+  stops (Ok j) outcome end t kept same fault is parts told =
+      let joins = t.ok parts told in
+      let dump = canonical_dump joins.ids joins.millis joins.rows in
+      record {
+        ids = joins.ids;
+        millis = joins.millis;
+        rows = joins.rows;
+        agree = joins.agree;
+        count = length dump;
+        written = subst (Appends old end) (sym (take-length dump)) (Appends-kept old new end dump joins.written kept);
+      }
+  stops (Err known) outcome end t kept same fault is parts told =
+      let of_write : known ≡ tool.Write fault = cc in
+      let written = t.write fault (ap Err of_write) parts told in
+      record {
+        ids = written.ids;
+        millis = written.millis;
+        rows = written.rows;
+        agree = written.agree;
+        count = written.count;
+        written = Appends-kept old new end (take written.count (canonical_dump written.ids written.millis written.rows)) written.written kept;
+      }
+
+pub returns-clause-refused : goal.returns-clause-refused
+returns-clause-refused g c =
+    let e = c.join_to-joined.ensures in
+    refusal g.R.Source.left c.args.readers.now _ _ c.join_to-joined.result c.end_of_writing-outcome.result
+    (record { ok = e.ok; conflict = e.conflict; no_parts = e.no_parts.0; id_sizes = e.id_sizes; write = λ fault same. (e.write fault same).1 })
+    c.end_of_writing-outcome.ensures.failed c.end_of_writing-outcome.ensures.refused
+
+pub returns-clause-write : goal.returns-clause-write
+returns-clause-write g c =
+    let e = c.join_to-joined.ensures in
+    let kept = rw c.into_inner-buffered.ensures at c.end_of_writing-outcome.ensures.bytes in
+    λ fault is parts told. rw (← c.new-target.ensures.inner, c.into_parts-writer.ensures.inner, c.into_parts-writer.ensures.buffer)
+    (stops g.R.Source.left c.args.readers.now _ _ c.join_to-joined.result c.end_of_writing-outcome.result _
+    (record { ok = e.ok; conflict = e.conflict; no_parts = e.no_parts.0; id_sizes = e.id_sizes; write = λ fault same. (e.write fault same).1 })
+    kept c.end_of_writing-outcome.ensures.refused fault is parts told)

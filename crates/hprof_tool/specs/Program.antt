@@ -1,0 +1,91 @@
+-- What the program's calls come to.
+use Rattle.std.specs.Prelude.{◌≡◌, ◌≢◌, ℕ, ◌<◌, List, [], ◌∷◌, length, Option, Some, Result, Err, ⊤}
+use Rattle.clap.specs.declared.error.ErrorKind.{ErrorKind}
+use Rattle.clap.specs.declared.error.ErrorKind.TheVariants as kinds
+use Rattle.hprof_items.specs.declared.device.Device.{Device}
+use Rattle.hprof_items.specs.declared.ids.IdSize.{IdSize}
+use Rattle.hprof_items.specs.FactValue.{FactValue}
+use Rattle.hprof_items.specs.Device.{inner_of}
+use Rattle.hprof_heap.specs.State.{HaveTwoSizes}
+use Rattle.hprof_tool.specs.declared.joined.Joined.{Joined}
+use Rattle.hprof_tool.specs.declared.tool_fault.ToolFault.{ToolFault}
+use Rattle.hprof_tool.specs.declared.tool_fault.ToolFault.TheVariants as tool
+use Rattle.hprof_tool.specs.declared.program.refused.Refused.{Refused}
+use Rattle.hprof_tool.specs.declared.program.refused.Refused.TheVariants as refusals
+use Rattle.hprof_tool.specs.declared.status.Status.{Status}
+use Rattle.hprof_tool.specs.declared.status.Status.TheVariants as statuses
+use Rattle.hprof_tool.specs.Joining.{Tell, Agree, Joins, Disagree, IsBeforeWriting}
+
+-- the parts agree, and the canonical dump of what they state was written
+abbrev pub IsWritten : List (List ℕ) → Option (List ℕ) → Option (List ℕ) → Type 0
+IsWritten parts old new = (joined : Joined) × Joins parts old new joined
+
+-- the parts agree
+abbrev pub HaveOneState : List (List ℕ) → Type 0
+HaveOneState parts = (ids : IdSize) × (millis : ℕ) × (rows : List FactValue) × Agree parts ids millis rows
+
+-- what a refusal to join says of the parts
+abbrev pub IsRefusal : Refused → List (List ℕ) → Type 0
+IsRefusal (refusals.Engine (tool.Part index fault)) parts = ⊤
+IsRefusal (refusals.Engine tool.NoParts) parts = parts ≡ []
+IsRefusal (refusals.Engine tool.IdSizes) parts = HaveTwoSizes parts
+IsRefusal (refusals.Engine (tool.Conflict key)) parts = Disagree parts key
+IsRefusal (refusals.Engine (tool.Write fault)) parts = HaveOneState parts
+IsRefusal (refusals.Engine tool.OutOfMemory) parts = ⊤
+IsRefusal (refusals.Open index) parts = ⊥
+IsRefusal refusals.Create parts = ⊥
+IsRefusal refusals.OutOfMemory parts = ⊤
+
+-- as many files were opened as parts, and this holds of what they tell
+--   remaining: what a file has left to tell
+pub record OfParts {F : Type 0} (remaining : F → Option (List ℕ)) (count : ℕ) (Holds : List (List ℕ) → Type 0) : Type 0 where
+  pub parts : List (Device F)
+  pub opened : length parts ≡ count
+  pub holds : (told : List (List ℕ)) → Tell (λ part. remaining (inner_of part)) parts told → Holds told
+
+-- the part that a stream gave, where it told one, was joined into another
+--   remaining, contents: what a stream has left to tell, and what one tells that it holds
+abbrev pub IsJoinOfStream : {I O : Type 0} → (I → Option (List ℕ)) → (O → Option (List ℕ)) → I → O → O → Type 0
+IsJoinOfStream remaining contents input old new =
+    (part : List ℕ) → remaining input ≡ Some part → IsWritten (part ∷ []) (contents old) (contents new)
+
+-- so many files were joined into one that had been created, and this it is now
+abbrev pub IsJoinOfFiles : {F : Type 0} → (F → Option (List ℕ)) → (F → Option (List ℕ)) → ℕ → F → Type 0
+IsJoinOfFiles {F} remaining contents count new =
+    (old : F) × OfParts remaining count (λ parts. IsWritten parts (contents old) (contents new))
+
+-- what a refusal to join so many files says
+abbrev pub IsFilesRefusal : {F : Type 0} → (F → Option (List ℕ)) → ℕ → Refused → Type 0
+IsFilesRefusal remaining count (refusals.Engine fault) = OfParts remaining count (IsRefusal (refusals.Engine fault))
+IsFilesRefusal remaining count (refusals.Open index) = index < count
+IsFilesRefusal remaining count refusals.Create = ⊤
+IsFilesRefusal remaining count refusals.OutOfMemory = ⊤
+
+-- the engine refused
+abbrev pub IsOfEngine : Refused → Type 0
+IsOfEngine (refusals.Engine fault) = ⊤
+IsOfEngine other = ⊥
+
+-- the engine refused, or there was no memory
+abbrev pub IsOfJoining : Refused → Type 0
+IsOfJoining (refusals.Engine fault) = ⊤
+IsOfJoining refusals.OutOfMemory = ⊤
+IsOfJoining other = ⊥
+
+-- one of so many files could not be opened, or there was no memory
+abbrev pub IsOfOpening : ℕ → Refused → Type 0
+IsOfOpening count (refusals.Open index) = index < count
+IsOfOpening count refusals.OutOfMemory = ⊤
+IsOfOpening count other = ⊥
+
+-- the engine refused before anything was written
+abbrev pub IsUnwritten : Result (Unit {0}) Refused → Type 0
+IsUnwritten (Err (refusals.Engine fault)) = let joined : Result Joined ToolFault = Err fault in IsBeforeWriting joined
+IsUnwritten other = ⊥
+
+-- the status of words that ask for help, or are not understood, by the kind that clap tells
+abbrev pub IsStatusOfWords : ErrorKind → Status → Type 0
+IsStatusOfWords kinds.OutOfMemory status = status ≡ statuses.Refused
+IsStatusOfWords kinds.DisplayHelp status = status ≢ statuses.NotUnderstood
+IsStatusOfWords kinds.DisplayVersion status = status ≢ statuses.NotUnderstood
+IsStatusOfWords other status = status ≡ statuses.NotUnderstood

@@ -1,0 +1,74 @@
+//! What the program tells beside the dump, and the status that it ends with.
+
+ghost use Rattle.std.specs.Prelude.{◌≡◌, ◌≢◌, MatchResult};
+ghost use Rattle.std.specs.IoError.{error_kind};
+ghost use Rattle.std.specs.declared.io.ErrorKind.TheVariants.{OutOfMemory};
+ghost use Rattle.clap.specs.Values.{kind_of};
+ghost use Rattle.hprof_tool.specs.Program.{IsStatusOfWords};
+
+use crate::program::refused::{Refused, WRITE_FAILED};
+use crate::status::Status;
+use clap::Error;
+use clap::error::ErrorKind;
+use std::alloc::Global;
+use std::io;
+use std::io::Write;
+
+/// Says in one line why the program refused. A text that finds no memory is that there is none.
+fn refuse<E: Write>(alloc: Global, refused: &Refused, errors: &mut E) -> Status
+    ensures { result ≡ Status.Refused }
+{
+    let _ = match refused.text(alloc) {
+        Ok(text) => writeln!(errors, "hprof: {text}"),
+        Err(_) => writeln!(errors, "hprof: out of memory"),
+    };
+    Status::Refused
+}
+
+/// Ends a task.
+pub(crate) fn answer_outcome<T: Drop, E: Write>(
+    alloc: Global,
+    outcome: Result<T, Refused>,
+    errors: &mut E,
+) -> Status
+    ensures { MatchResult outcome (λ _. result ≡ Status.Done) (λ _. result ≡ Status.Refused) }
+{
+    match outcome {
+        Ok(_) => Status::Done,
+        Err(refused) => refuse(alloc, &refused, errors),
+    }
+}
+
+/// Answers words that are not understood, or a request for help.
+pub(crate) fn answer_words<O: Write, E: Write>(
+    alloc: Global,
+    error: &Error,
+    output: &mut O,
+    errors: &mut E,
+) -> Status
+    ensures { IsStatusOfWords (kind_of error.now) result }
+{
+    if error.kind() == ErrorKind::OutOfMemory {
+        return refuse(alloc, &Refused::OutOfMemory, errors);
+    }
+    if error.use_stderr() {
+        let _ = write!(errors, "{error}");
+        return Status::NotUnderstood;
+    }
+    if write!(output, "{error}").is_err() || output.flush().is_err() {
+        return refuse(alloc, &WRITE_FAILED, errors);
+    }
+    Status::Done
+}
+
+/// Answers that the words could not be had: they are no text, or memory was refused.
+pub(crate) fn answer_no_words<E: Write>(alloc: Global, error: &io::Error, errors: &mut E) -> Status
+    ensures memory { error_kind error.now ≡ OutOfMemory → result ≡ Status.Refused }
+    ensures no_text { error_kind error.now ≢ OutOfMemory → result ≡ Status.NotUnderstood }
+{
+    if error.kind() == io::ErrorKind::OutOfMemory {
+        return refuse(alloc, &Refused::OutOfMemory, errors);
+    }
+    let _ = writeln!(errors, "hprof: the words are no text");
+    Status::NotUnderstood
+}

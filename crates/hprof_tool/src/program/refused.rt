@@ -1,0 +1,45 @@
+//! Why the program refused.
+
+ghost use Rattle.std.specs.Prelude.{◌≡◌};
+
+use crate::tool_fault::ToolFault;
+use hprof_items::WriteFault;
+use std::alloc::{AllocError, AllocFailed, Global};
+
+/// Why the program refused.
+#[derive(Debug, Drop)]
+pub(crate) enum Refused {
+    /// The engine refused.
+    Engine(ToolFault),
+    /// A part could not be opened.
+    Open(usize),
+    /// The new file could not be created.
+    Create,
+    /// Memory was refused to the program itself.
+    OutOfMemory,
+}
+
+/// What is written could not be.
+pub(crate) const WRITE_FAILED: Refused = Refused::Engine(ToolFault::Write(WriteFault::Failed));
+
+impl Refused {
+    /// Its text, in one line.
+    pub(crate) fn text(&self, alloc: Global) -> Result<String, AllocError> {
+        match self {
+            Refused::Engine(fault) => fault.text(alloc),
+            Refused::Open(index) => format!(in alloc; "cannot open part {index}"),
+            Refused::Create => String::from_str(alloc, "cannot create the output"),
+            Refused::OutOfMemory => String::from_str(alloc, "out of memory"),
+        }
+    }
+}
+
+impl<T: Drop> From<AllocFailed<T>> for Refused {
+    ghost use Rattle.hprof_tool.specs.declared.program.refused.Refused.TheVariants.{OutOfMemory};
+
+    ghost from_gives = { λ _ refused. refused ≡ OutOfMemory };
+
+    fn from(_error: AllocFailed<T>) -> Refused {
+        Refused::OutOfMemory
+    }
+}
