@@ -6,20 +6,20 @@ ghost use Rattle.std.specs.Io.Buffered.{writer_inner, writer_buffer, writer_cont
 ghost use Rattle.hprof_items.specs.declared.health.Health.TheVariants.{Well};
 ghost use Rattle.hprof_items.specs.declared.health.WriteFault.{WriteFault};
 ghost use Rattle.hprof_items.specs.Device.{inner_of, health_of};
-ghost use Rattle.hprof_tool.specs.Joining.{Tell, StopsWriting};
+ghost use Rattle.hprof_tool.specs.Joining.{joined_of, Tell, StopsWriting};
 ghost use Rattle.hprof_tool.specs.Program.{IsWritten, IsRefusal, IsJoinOfStream, IsJoinOfFiles, IsFilesRefusal, IsOfEngine, IsOfJoining, IsOfOpening, IsUnwritten};
 
-use crate::engine::join::join_to;
-use crate::joined::Joined;
+use crate::engine::join::join_kept;
+use crate::joined::Kept;
 use crate::program::refused::{Refused, WRITE_FAILED};
 use crate::tool_fault::ToolFault;
 use hprof_items::{Device, Source, WriteFault};
 use hprof_stream::Limits;
 use std::alloc::Global;
-use std::fs;
 use std::fs::File;
 use std::io::{BufWriter, Read, Write};
 use std::rt::Files;
+use std::{fs, mem};
 
 /// The number of bytes that are written at a time.
 const BUFFER_LEN: usize = 65_536;
@@ -34,18 +34,22 @@ struct Joining<W> {
 
 /// Ends the writing of what the engine answered: the buffer is flushed, and after a refusal it is left alone.
 fn end_of_writing<W: Write + Drop>(
-    joined: Result<Joined, ToolFault>,
+    kept: Result<Kept, ToolFault>,
     buffered: &mut BufWriter<W>,
 ) -> Result<(), Refused>
-    ensures done { OnOk result (IsOk joined) }
+    ensures done { OnOk result (IsOk (joined_of kept)) }
     ensures flushed { OnOk result (writer_buffer buffered.new ≡ []) }
     ensures bytes { Keeps (writer_contents W.contents buffered.old) (writer_contents W.contents buffered.new) }
-    ensures failed { OnOk joined (OnErr result (result ≡ Err WRITE_FAILED)) }
-    ensures refused { IfErr joined (λ fault. result ≡ Err (Refused.Engine fault)) }
-    ensures unchanged { OnErr joined (buffered.new ≡ buffered.old) }
+    ensures failed { OnOk (joined_of kept) (OnErr result (result ≡ Err WRITE_FAILED)) }
+    ensures refused { IfErr (joined_of kept) (λ fault. result ≡ Err (Refused.Engine fault)) }
+    ensures unchanged { OnErr (joined_of kept) (buffered.new ≡ buffered.old) }
 {
-    match joined {
-        Ok(_) => buffered.flush().map_err(|_| WRITE_FAILED),
+    match kept {
+        Ok(kept) => {
+            // The process ends, so to free the heap row by row is work for nothing.
+            mem::forget(kept.heap);
+            buffered.flush().map_err(|_| WRITE_FAILED)
+        }
         Err(fault) => Err(Refused::Engine(fault)),
     }
 }
@@ -78,9 +82,9 @@ fn join_into<R: Source, W: Write + Drop>(
         (append_known (W.contents result.writer) result.unwritten.items) }
 {
     let mut target = Device::new(buffered);
-    let joined = join_to(alloc, readers, &mut target, Limits::usual());
+    let kept = join_kept(alloc, readers, &mut target, Limits::usual());
     let mut buffered = target.into_inner();
-    let outcome = end_of_writing(joined, &mut buffered);
+    let outcome = end_of_writing(kept, &mut buffered);
     let (writer, unwritten) = buffered.into_parts();
     Joining {
         outcome,
@@ -109,8 +113,10 @@ fn join_buffered<R: Source, W: Write + Drop>(
     let Joining {
         outcome,
         writer,
-        unwritten: _,
+        unwritten,
     } = join_into(alloc, readers, buffered);
+    // To free this large block behind the rows would make the allocator go over all of them.
+    mem::forget(unwritten);
     outcome?;
     Ok(writer)
 }

@@ -13,7 +13,7 @@ use Rattle.hprof_tool.specs.declared.tool_fault.ToolFault.{ToolFault}
 use Rattle.hprof_tool.specs.declared.tool_fault.ToolFault.TheVariants as tool
 use Rattle.hprof_tool.specs.declared.program.refused.Refused.{Refused}
 use Rattle.hprof_tool.specs.declared.program.refused.Refused.TheVariants as refusals
-use Rattle.hprof_tool.specs.Joining.{Tell, Joins, StopsWriting, Disagree}
+use Rattle.hprof_tool.specs.Joining.{joined_of, Tell, Joins, StopsWriting, Disagree}
 use Rattle.hprof_tool.specs.Program.{IsRefusal}
 use Rattle.hprof_tool.proofs.program.joining.join_into.Goals as goal
 
@@ -84,16 +84,16 @@ module _ {R : Type 0} (left : R → Option (List ℕ)) (readers : List R) (old n
 
 pub returns-clause-refused : goal.returns-clause-refused
 returns-clause-refused g c =
-    let e = c.join_to-joined.ensures in
-    refusal g.R.Source.left c.args.readers.now _ _ c.join_to-joined.result c.end_of_writing-outcome.result
+    let e = c.join_kept-kept.ensures in
+    refusal g.R.Source.left c.args.readers.now _ _ (joined_of c.join_kept-kept.result) c.end_of_writing-outcome.result
     (record { ok = e.ok; conflict = e.conflict; no_parts = e.no_parts.0; id_sizes = e.id_sizes; write = λ fault same. (e.write fault same).1 })
     c.end_of_writing-outcome.ensures.failed c.end_of_writing-outcome.ensures.refused
 
 pub returns-clause-write : goal.returns-clause-write
 returns-clause-write g c =
-    let e = c.join_to-joined.ensures in
+    let e = c.join_kept-kept.ensures in
     let kept = rw c.into_inner-buffered.ensures at c.end_of_writing-outcome.ensures.bytes in
     λ fault is parts told. rw (← c.new-target.ensures.inner, c.into_parts-writer.ensures.inner, c.into_parts-writer.ensures.buffer)
-    (stops g.R.Source.left c.args.readers.now _ _ c.join_to-joined.result c.end_of_writing-outcome.result _
+    (stops g.R.Source.left c.args.readers.now _ _ (joined_of c.join_kept-kept.result) c.end_of_writing-outcome.result _
     (record { ok = e.ok; conflict = e.conflict; no_parts = e.no_parts.0; id_sizes = e.id_sizes; write = λ fault same. (e.write fault same).1 })
     kept c.end_of_writing-outcome.ensures.refused fault is parts told)
