@@ -4,6 +4,7 @@ pub mod Keys
 pub mod Order
 pub mod Conflicts
 pub mod Inserting
+pub mod SortedRows
 pub mod Names
 pub mod Steady
 pub mod Gathering

@@ -14,21 +14,13 @@ use Rattle.hprof_items.specs.Spelling.{Fits}
 use Rattle.hprof_heap.specs.declared.name_row.NameRow.{NameRow}
 use Rattle.hprof_heap.specs.declared.relation.Stated.{Stated}
 use Rattle.hprof_heap.specs.declared.relation.Stated.TheVariants.{New, Same, Differs}
-use Rattle.hprof_heap.specs.HeapValue.{HeapValue, IsHeap, name_facts}
+use Rattle.hprof_heap.specs.HeapValue.{HeapValue, IsHeap, name_facts, name_text}
 use Rattle.hprof_heap.specs.Heap.{is_name}
 use Rattle.hprof_heap.specs.Facts.{Has}
 use Rattle.hprof_heap.specs.Relation.{States}
 use Rattle.hprof_heap.specs.Gathering.{Adds, StatesInto}
 use Rattle.hprof_heap.proofs.Keys.{same_key, same_key-true, HaveOneKey-sym}
 use Rattle.hprof_heap.proofs.Inserting.{find-Some, inserted, inserted-adds, states-sound}
-
--- ---- two names
-
--- names with equal bytes are one fact under a key, and no others are
-pub names_agree : (result : Bool) (text more : List ℕ) → result ≡ bytes_eq text more → (key : ℕ) → IsTrue result ↔ (Name key text ≡ Name key more)
-names_agree result text more e key =
-    let d = bytes_eq-Decides text more in
-    (λ holds. ap (Name key) (d.0 (sym e ∙ holds)), λ same. let t : text ≡ more = cc in e ∙ d.1 t)
 
 -- ---- rows
 
@@ -90,34 +82,34 @@ there : (rows : List (ℕ × NameRow)) (key : ℕ) (text : List ℕ) (row : Name
 there rows key text row e = find-Some (same_key (Name key text)) (name_facts rows) (name_fact key row) (found_in rows key text (Some row) e)
 
 -- what stating a name that fits does to the rows it does to the heap
-pub state_names : (ids : IdSize) (millis : ℕ) (old new : List (ℕ × NameRow)) (key : ℕ) (text : List ℕ) (stated : Stated) → States name_fact old key (Name key text) stated new
+pub state_names : (ids : IdSize) (millis : ℕ) (old new : List (ℕ × NameRow)) (key : ℕ) (text : List ℕ) (stated : Stated) → States name_text old key text stated new
     → Fits ids (Name key text) → IsHeap (with_facts ids millis (name_facts old)) → StatesInto (with_facts ids millis (name_facts old)) (Name key text) stated (with_facts ids millis (name_facts new))
 state_names ids millis old new key text New s fits sound =
     let facts : name_facts new ≡ inserted (name_facts old) (Name key text) =
-    ap (λ (rows : List (ℕ × NameRow)). name_facts rows) s.1.2 ∙ insert_names old key s.1.0 s.0 ∙ ap (inserted (name_facts old)) s.1.1 in
+    ap (λ (rows : List (ℕ × NameRow)). name_facts rows) s.1.2 ∙ insert_names old key s.1.0 s.0 ∙ ap (λ (t : List ℕ). inserted (name_facts old) (Name key t)) s.1.1 in
     subst (λ (fs : List FactValue). Adds (with_facts ids millis (name_facts old)) (Name key text) (with_facts ids millis fs)) (sym facts)
     (inserted-adds (with_facts ids millis (name_facts old)) (Name key text) (found_in old key text None s.0) fits sound)
 state_names ids millis old new key text Same s fits sound =
-    (subst (Has (name_facts old)) s.1.2 (there old key text s.1.0 s.1.1).0, ap (λ (rows : List (ℕ × NameRow)). with_facts ids millis (name_facts rows)) s.0)
+    (subst (Has (name_facts old)) (ap (Name key) s.1.2) (there old key text s.1.0 s.1.1).0, ap (λ (rows : List (ℕ × NameRow)). with_facts ids millis (name_facts rows)) s.0)
 state_names ids millis old new key text Differs s fits sound =
     let found = there old key text s.1.0 s.1.1 in (
       record {
         other = name_fact key s.1.0;
         has_other = found.0;
         one_key = HaveOneKey-sym (Name key text) (name_fact key s.1.0) (same_key-true (Name key text) (name_fact key s.1.0) found.1);
-        differ = s.1.2;
+        differ = λ same. let equal : name_text s.1.0 ≡ text = cc in s.1.2 equal;
       },
       ap (λ (rows : List (ℕ × NameRow)). with_facts ids millis (name_facts rows)) s.0,
     )
 
 -- what the heap does where the rows did
-pub names_state : {E : Type 0} (r : Result Stated E) (ids : IdSize) (millis : ℕ) (old new : List (ℕ × NameRow)) (key : ℕ) (text : List ℕ) → IfOk r (λ stated. States name_fact old key (Name key text) stated new)
+pub names_state : {E : Type 0} (r : Result Stated E) (ids : IdSize) (millis : ℕ) (old new : List (ℕ × NameRow)) (key : ℕ) (text : List ℕ) → IfOk r (λ stated. States name_text old key text stated new)
     → Fits ids (Name key text) → IsHeap (with_facts ids millis (name_facts old)) → IfOk r (λ stated. StatesInto (with_facts ids millis (name_facts old)) (Name key text) stated (with_facts ids millis (name_facts new)))
 names_state (Ok stated) ids millis old new key text ok fits sound = state_names ids millis old new key text stated ok fits sound
 names_state (Err e) ids millis old new key text ok fits sound = tt
 
 -- a name that fits keeps what every heap keeps
-pub names_sound : {E : Type 0} (r : Result Stated E) (ids : IdSize) (millis : ℕ) (old new : List (ℕ × NameRow)) (key : ℕ) (text : List ℕ) → IfOk r (λ stated. States name_fact old key (Name key text) stated new)
+pub names_sound : {E : Type 0} (r : Result Stated E) (ids : IdSize) (millis : ℕ) (old new : List (ℕ × NameRow)) (key : ℕ) (text : List ℕ) → IfOk r (λ stated. States name_text old key text stated new)
     → OnErr r (new ≡ old) → Fits ids (Name key text) → IsHeap (with_facts ids millis (name_facts old)) → IsHeap (with_facts ids millis (name_facts new))
 names_sound (Ok stated) ids millis old new key text ok err fits sound =
     states-sound (with_facts ids millis (name_facts old)) (with_facts ids millis (name_facts new)) (Name key text) stated (state_names ids millis old new key text stated ok fits sound) sound
