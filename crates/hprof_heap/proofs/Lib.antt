@@ -5,6 +5,8 @@ pub mod Order
 pub mod Conflicts
 pub mod Inserting
 pub mod SortedRows
+pub mod Stating
+pub mod RowFacts
 pub mod Names
 pub mod Steady
 pub mod Gathering
