@@ -4,6 +4,9 @@ pub mod Keys
 pub mod Order
 pub mod Conflicts
 pub mod Inserting
+pub mod SortedRows
+pub mod Stating
+pub mod RowFacts
 pub mod Names
 pub mod Steady
 pub mod Gathering

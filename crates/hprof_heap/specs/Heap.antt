@@ -5,9 +5,10 @@ use Rattle.hprof_heap.specs.declared.heap.Heap.{Heap}
 use Rattle.hprof_heap.specs.declared.table.Table.{Table}
 use Rattle.hprof_heap.specs.declared.table.Table.TheVariants as tables
 use Rattle.hprof_heap.specs.HeapValue.{HeapValue, name_facts}
+use Rattle.hprof_heap.specs.Relation.{rows_of}
 
 abbrev pub heap_of : Heap → HeapValue
-heap_of heap = record { ids = heap.ids; millis = heap.millis; facts = name_facts heap.names.rows.entries }
+heap_of heap = record { ids = heap.ids; millis = heap.millis; facts = name_facts (rows_of heap.names) }
 
 -- the facts of a table, in canonical order
 abbrev pub facts_of_table : Table → List FactValue → List FactValue

@@ -41,12 +41,16 @@ IsCanonicalOrder-prop (fact ∷ facts) = ×_prop (all_before-prop fact facts) (I
 pub IsHeap-prop : (heap : HeapValue) → IsProp (IsHeap heap)
 IsHeap-prop heap = hlevel (le_prop, Fits-prop, IsCanonicalOrder-prop)
 
--- ---- the rows of names
+-- ---- rows
 
--- the bytes of a name
+-- the facts that rows state: of each row the fact of its key and its content
+abbrev pub facts_of_rows : {V : Type 0} → (ℕ → List ℕ → FactValue) → (V → List ℕ) → List (ℕ × V) → List FactValue
+facts_of_rows fact content rows = map (λ row. fact row.0 (content row.1)) rows
+
+-- the content of a name's row: its bytes
 abbrev pub name_text : NameRow → List ℕ
 name_text row = row.text.items
 
 -- the facts that rows of names state
 abbrev pub name_facts : List (ℕ × NameRow) → List FactValue
-name_facts rows = map (λ row. Name row.0 row.1.text.items) rows
+name_facts rows = facts_of_rows Name name_text rows

@@ -4,6 +4,8 @@ pub mod Facts
 pub mod Conflict
 pub mod Dump
 pub mod State
+pub mod SortedRows
+pub mod SortedTable
 pub mod Relation
 pub mod HeapValue
 pub mod Heap

@@ -1,32 +1,31 @@
 //! What a row of a table says under its key.
 
-ghost use Rattle.std.specs.Prelude.{◌≡◌, ◌↔◌, ℕ, IsTrue, IfOk};
-ghost use Rattle.hprof_items.specs.FactValue.{FactValue};
+ghost use Rattle.std.specs.Prelude.{◌≡◌, ◌↔◌, ℕ, List, IsTrue, IfOk};
 
 use std::alloc::{AllocError, Global};
 
 /// The content of a row: all of its fact but the key.
 pub trait Content {
-    // The fact that the row states under a key.
-    ghost fact: { ℕ → Self → FactValue };
+    // The content as a list of numbers, one list for one content.
+    ghost content: { Self → List ℕ };
 
-    /// Whether the contents are equal. Under each key they then state one fact, and else under none.
+    /// Whether the contents are equal.
     fn agrees(&self, other: &Self) -> bool
-        ensures { (key : ℕ) → (IsTrue result ↔ (fact key self.now ≡ fact key other.now)) };
+        ensures { IsTrue result ↔ (content self.now ≡ content other.now) };
 }
 
 /// What can become a row, and be compared with one before it does.
 pub trait Statement<V: Content> {
-    // The fact that is stated under a key.
-    ghost states: { ℕ → Self → FactValue };
+    // The content that is stated.
+    ghost content: { Self → List ℕ };
 
-    /// Whether the row says the same, which is so under each key or under none.
+    /// Whether the row has the content that is stated.
     fn matches(&self, row: &V) -> bool
-        ensures { (key : ℕ) → (IsTrue result ↔ (V.fact key row.now ≡ states key self.now)) };
+        ensures { IsTrue result ↔ (V.content row.now ≡ content self.now) };
 
-    /// The row that says it.
+    /// The row that has it.
     fn into_row(self, alloc: Global) -> Result<V, AllocError>
-        ensures { IfOk result (λ row. (key : ℕ) → V.fact key row ≡ states key self) };
+        ensures { IfOk result (λ row. V.content row ≡ content self) };
 }
 
 /// A row that was made already.
@@ -34,7 +33,7 @@ pub trait Statement<V: Content> {
 pub(crate) struct Made<V>(pub(crate) V);
 
 impl<V: Content> Statement<V> for Made<V> {
-    ghost states = { λ key made. V.fact key made.0 };
+    ghost content = { λ made. V.content made.0 };
 
     fn matches(&self, row: &V) -> bool {
         row.agrees(&self.0)

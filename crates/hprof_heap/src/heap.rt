@@ -5,6 +5,7 @@ ghost use Rattle.std.specs.Option.{option_map};
 ghost use Rattle.hprof_items.specs.FactValue.{Name, value_of};
 ghost use Rattle.hprof_items.specs.Spelling.{Fits};
 ghost use Rattle.hprof_heap.specs.HeapValue.{IsHeap, IsHeap-prop, name_facts};
+ghost use Rattle.hprof_heap.specs.Relation.{rows_of};
 
 use crate::facts::Facts;
 use crate::name_row::{NameRow, NameText};
@@ -19,7 +20,7 @@ pub struct Heap {
     ids: IdSize,
     millis: u64,
     names: Relation<NameRow>,
-    ghost sound: { IsHeap (record { ids = ids; millis = millis; facts = name_facts names.rows.entries }) } by { IsHeap-prop (record { ids = ids; millis = millis; facts = name_facts names.rows.entries }) },
+    ghost sound: { IsHeap (record { ids = ids; millis = millis; facts = name_facts (rows_of names) }) } by { IsHeap-prop (record { ids = ids; millis = millis; facts = name_facts (rows_of names) }) },
 }
 
 impl Heap {

@@ -12,6 +12,7 @@ pub mod laws;
 mod name_row;
 mod relation;
 mod rows;
+mod sorted_table;
 mod standing;
 mod table;
 

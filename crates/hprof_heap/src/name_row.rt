@@ -1,7 +1,6 @@
 //! The rows of names.
 
 ghost use Rattle.std.specs.Prelude.{◌≡◌, IfOk};
-ghost use Rattle.hprof_items.specs.FactValue.{Name};
 ghost use Rattle.hprof_heap.specs.HeapValue.{name_text};
 
 use crate::content::{Content, Statement};
@@ -30,7 +29,7 @@ pub(crate) struct NameText<'a> {
 }
 
 impl Content for NameRow {
-    ghost fact = { λ key row. Name key row.text.items };
+    ghost content = { name_text };
 
     fn agrees(&self, other: &Self) -> bool {
         self.text.as_slice() == other.text.as_slice()
@@ -38,7 +37,7 @@ impl Content for NameRow {
 }
 
 impl Statement<NameRow> for NameText<'_> {
-    ghost states = { λ key name. Name key name.text.now };
+    ghost content = { λ name. name.text.now };
 
     fn matches(&self, row: &NameRow) -> bool {
         row.text.as_slice() == self.text

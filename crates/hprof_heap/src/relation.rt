@@ -1,6 +1,6 @@
 //! A table of rows by key.
 
-ghost use Rattle.std.specs.Prelude.{◌≡◌, ℕ, List, [], length, IfOk, OnErr, MatchResult, None};
+ghost use Rattle.std.specs.Prelude.{◌≡◌, ℕ, List, [], length, IfOk, OnErr, IsTrue, ◌↔◌, None};
 ghost use Rattle.std.specs.Option.{option_copied};
 ghost use Rattle.std.specs.Ordering.{nat_cmp};
 ghost use Rattle.std.specs.BTreeMap.{is_at};
@@ -8,9 +8,8 @@ ghost use Rattle.std.specs.Map.{lookup};
 
 use crate::content::{Content, Made, Statement};
 use crate::rows::Rows;
+use crate::sorted_table::{SortedTable, Visit};
 use std::alloc::{AllocError, Global};
-use std::collections::BTreeMap;
-use std::collections::btree_map::Entry;
 
 /// What stating a fact came to.
 #[derive(Clone, Copy, Debug, PartialEq, Eq)]
@@ -23,30 +22,55 @@ pub enum Stated {
     Differs,
 }
 
+/// A statement that visits its key: the row that is there is compared with it, and else it becomes one.
+#[derive(Drop)]
+struct Stating<T> {
+    statement: T,
+    alloc: Global,
+}
+
+impl<V: Content, T: Statement<V> + Drop> Visit<V> for Stating<T> {
+    type Answer = bool;
+
+    ghost answers = { λ stating row same. IsTrue same ↔ (V.content row ≡ T.content stating.statement) };
+
+    ghost makes = { λ stating row. V.content row ≡ T.content stating.statement };
+
+    fn ask(self, row: &V) -> bool {
+        self.statement.matches(row)
+    }
+
+    fn make(self) -> Result<V, AllocError> {
+        let Stating { statement, alloc } = self;
+        statement.into_row(alloc)
+    }
+}
+
 /// A table of rows by key, in order of key. No key has two rows.
 #[derive(Drop)]
 pub struct Relation<V: Content + Drop> {
-    rows: BTreeMap<u64, V>,
+    rows: SortedTable<V>,
     alloc: Global,
 }
 
 impl<V: Content + Drop> Relation<V> {
     ghost use Rattle.hprof_heap.specs.Relation.{rows_of, States};
-    ghost use Rattle.hprof_heap.specs.Rows.{rows_left, IsAscending};
+    ghost use Rattle.hprof_heap.specs.Rows.{rows_left};
+    ghost use Rattle.hprof_heap.specs.SortedRows.{IsAscending};
 
     /// A table with no rows. It takes no memory yet.
     pub fn new(alloc: Global) -> Self
         ensures { rows_of result ≡ [] }
     {
         Relation {
-            rows: BTreeMap::new(alloc),
+            rows: SortedTable::new(alloc),
             alloc,
         }
     }
 
     /// States a row under a key. A key that is there takes no memory, and keeps its row.
     pub fn state(&mut self, key: u64, row: V) -> Result<Stated, AllocError>
-        ensures ok { IfOk result (λ stated. States V.fact (rows_of self.old) key (V.fact key row) stated (rows_of self.new)) }
+        ensures ok { IfOk result (λ stated. States V.content (rows_of self.old) key (V.content row) stated (rows_of self.new)) }
         ensures err { OnErr result (rows_of self.new ≡ rows_of self.old) }
         ensures absent { OnErr result (lookup (is_at (nat_cmp key)) (rows_of self.old) ≡ None) }
     {
@@ -59,23 +83,18 @@ impl<V: Content + Drop> Relation<V> {
         key: u64,
         statement: T,
     ) -> Result<Stated, AllocError>
-        ensures ok { IfOk result (λ stated. States V.fact (rows_of self.old) key (T.states key statement) stated (rows_of self.new)) }
+        ensures ok { IfOk result (λ stated. States V.content (rows_of self.old) key (T.content statement) stated (rows_of self.new)) }
         ensures err { OnErr result (rows_of self.new ≡ rows_of self.old) }
         ensures absent { OnErr result (lookup (is_at (nat_cmp key)) (rows_of self.old) ≡ None) }
     {
-        match self.rows.entry(key)? {
-            Entry::Occupied(entry) => {
-                if statement.matches(entry.get()) {
-                    Ok(Stated::Same)
-                } else {
-                    Ok(Stated::Differs)
-                }
-            }
-            Entry::Vacant(entry) => {
-                let row = statement.into_row(self.alloc)?;
-                entry.insert(row);
-                Ok(Stated::New)
-            }
+        let stating = Stating {
+            statement,
+            alloc: self.alloc,
+        };
+        match self.rows.visit(key, stating)? {
+            None => Ok(Stated::New),
+            Some(true) => Ok(Stated::Same),
+            Some(false) => Ok(Stated::Differs),
         }
     }
 
@@ -83,7 +102,7 @@ impl<V: Content + Drop> Relation<V> {
     pub fn get(&self, key: u64) -> Option<&V>
         ensures { option_copied result ≡ lookup (is_at (nat_cmp key)) (rows_of self.now) }
     {
-        self.rows.get(&key)
+        self.rows.get(key)
     }
 
     /// The number of rows.

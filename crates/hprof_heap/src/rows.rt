@@ -1,19 +1,20 @@
 //! The rows of a table, one after the other.
 
-use std::collections::btree_map;
+use crate::sorted_table::Entries;
 
 /// The rows of a table with their keys, in order of key.
 #[derive(Drop)]
 pub struct Rows<'a, V> {
-    entries: btree_map::Iter<'a, u64, V>,
+    entries: Entries<'a, V>,
 }
 
 impl<'a, V> Rows<'a, V> {
     ghost use Rattle.std.specs.Prelude.{◌≡◌};
     ghost use Rattle.hprof_heap.specs.Rows.{rows_left};
+    ghost use Rattle.hprof_heap.specs.SortedTable.{entries_left};
 
-    pub(crate) fn new(entries: btree_map::Iter<'a, u64, V>) -> Self
-        ensures { rows_left result ≡ entries.entry }
+    pub(crate) fn new(entries: Entries<'a, V>) -> Self
+        ensures { rows_left result ≡ entries_left entries.entry }
     {
         Rows { entries }
     }
@@ -30,7 +31,6 @@ impl<'a, V> Iterator for Rows<'a, V> {
     ghost remaining = { item_count rows_left };
 
     fn next(&mut self) -> Option<(u64, &'a V)> {
-        let (key, row) = self.entries.next()?;
-        Some((*key, row))
+        self.entries.next()
     }
 }

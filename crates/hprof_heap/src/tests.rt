@@ -2,6 +2,8 @@ use super::*;
 use crate::name_row::NameText;
 use hprof_items::{Device, Fact, Header, IdSize, Version, fits};
 use hprof_stream::{Sink, SinkFault};
+use std::alloc::AllocError;
+use std::process::Abort;
 use std::test::*;
 
 #[test]
@@ -166,4 +168,110 @@ fn the_order_of_keys(rt: HostRuntime) {
     }
     laws::agreeing_facts_have_an_order();
     laws::one_order();
+}
+
+// States a name. Where memory is refused nothing has changed, and it is stated again.
+fn state(
+    rt: &impl Abort,
+    names: &mut Relation<NameRow>,
+    id: u64,
+    text: &[u8],
+) -> Result<Stated, AllocError> {
+    let count = names.len();
+    if let Ok(stated) = names.state_from(id, NameText { text }) {
+        return Ok(stated);
+    }
+    assert!(rt; names.get(id).is_none());
+    assert_eq!(rt; names.len(), count);
+    names.state_from(id, NameText { text })
+}
+
+// That names of even identifiers which are stated in this order come to what stands beside them, and to these rows.
+fn check_names(
+    rt: &impl Abort,
+    mut names: Relation<NameRow>,
+    given: &[(u64, &[u8], Stated)],
+    expected: &[(u64, &[u8])],
+) -> Result<(), Fail> {
+    for &(id, text, stated) in given {
+        assert_eq!(rt; state(rt, &mut names, id, text)?, stated);
+    }
+    assert_eq!(rt; names.len(), expected.len());
+    let mut rows = names.rows();
+    for &(id, text) in expected {
+        let (key, row) = rows.next().ok_or("a row is missing")?;
+        assert_eq!(rt; key, id);
+        assert_eq!(rt; row.text.as_slice(), text);
+        let row = names.get(id).ok_or("no row is found")?;
+        assert_eq!(rt; row.text.as_slice(), text);
+        assert!(rt; names.get(id | 1).is_none());
+    }
+    assert!(rt; rows.next().is_none());
+    Ok(())
+}
+
+#[test]
+fn names_in_ascending_order(rt: HostRuntime) -> Result<(), Fail> {
+    check_names(
+        &rt,
+        Relation::new(rt.alloc()),
+        &[
+            (2, b"A", Stated::New),
+            (4, b"B", Stated::New),
+            (6, b"C", Stated::New),
+            (4, b"B", Stated::Same),
+            (4, b"C", Stated::Differs),
+            (6, b"C", Stated::Same),
+            (6, b"", Stated::Differs),
+        ],
+        &[(2, b"A"), (4, b"B"), (6, b"C")],
+    )
+}
+
+#[test]
+fn names_in_descending_order(rt: HostRuntime) -> Result<(), Fail> {
+    check_names(
+        &rt,
+        Relation::new(rt.alloc()),
+        &[
+            (6, b"A", Stated::New),
+            (4, b"B", Stated::New),
+            (2, b"C", Stated::New),
+            (6, b"A", Stated::Same),
+            (6, b"B", Stated::Differs),
+            (2, b"C", Stated::Same),
+            (2, b"CC", Stated::Differs),
+        ],
+        &[(2, b"C"), (4, b"B"), (6, b"A")],
+    )
+}
+
+#[test]
+fn names_in_alternating_order(rt: HostRuntime) -> Result<(), Fail> {
+    check_names(
+        &rt,
+        Relation::new(rt.alloc()),
+        &[
+            (20, b"A", Stated::New),
+            (10, b"B", Stated::New),
+            (30, b"C", Stated::New),
+            (14, b"D", Stated::New),
+            (40, b"E", Stated::New),
+            (0, b"F", Stated::New),
+            (30, b"C", Stated::Same),
+            (30, b"D", Stated::Differs),
+            (14, b"D", Stated::Same),
+            (14, b"C", Stated::Differs),
+            (36, b"G", Stated::New),
+        ],
+        &[
+            (0, b"F"),
+            (10, b"B"),
+            (14, b"D"),
+            (20, b"A"),
+            (30, b"C"),
+            (36, b"G"),
+            (40, b"E"),
+        ],
+    )
 }

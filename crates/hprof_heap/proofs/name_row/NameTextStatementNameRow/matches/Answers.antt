@@ -1,6 +1,0 @@
-use Rattle.std.proofs.Common.{rules}
-use Rattle.hprof_heap.proofs.Names.{names_agree}
-use Rattle.hprof_heap.proofs.name_row.NameTextStatementNameRow.matches.Goals as goal
-
-pub returns : goal.returns
-returns c = names_agree c.eq.result c.args.row.now.text.items c.args.self.now.text.now (search rules)
