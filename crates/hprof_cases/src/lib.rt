@@ -4,9 +4,15 @@
 #[cfg(test)]
 mod conflicts;
 #[cfg(test)]
+mod disk;
+#[cfg(test)]
 mod joins;
 #[cfg(test)]
+mod large;
+#[cfg(test)]
 mod limits;
+#[cfg(test)]
+mod outputs;
 #[cfg(test)]
 mod pieces;
 #[cfg(test)]

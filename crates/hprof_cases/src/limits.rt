@@ -22,7 +22,7 @@ fn expect_fault(rt: &impl Abort, answer: Result<Joined, ToolFault>, fault: PartF
 
 /// A reader that gives one byte at a time.
 #[derive(Drop)]
-struct ByteByByte<'a>(&'a [u8]);
+pub(crate) struct ByteByByte<'a>(pub(crate) &'a [u8]);
 
 impl Read for ByteByByte<'_> {
     fn read(&mut self, piece: &mut [u8]) -> io::Result<usize> {

@@ -3,7 +3,7 @@
 use crate::samples::{END, HEADER, NAME_1_A, NAME_2_B, bytes_of};
 use hprof_tool::{Status, run};
 use std::alloc::Global;
-use std::io::Write;
+use std::io::{Read, Write};
 use std::rt::Files;
 use std::test::Fail;
 use std::{env, fs, io};
@@ -31,6 +31,25 @@ struct Ran {
     errors: Vec<u8>,
 }
 
+/// Runs the program on words behind its name, and gives its status and what it told of errors.
+pub(crate) fn ended<F: Files, I: Read + Drop, O: Write + Drop>(
+    alloc: Global,
+    files: &F,
+    words: &[&str],
+    input: I,
+    output: O,
+) -> Result<(Status, Vec<u8>), Fail> {
+    let mut list = Vec::new(alloc);
+    list.push(String::from_str(alloc, "hprof")?)?;
+    for word in words {
+        list.push(String::from_str(alloc, word)?)?;
+    }
+    let mut errors = Vec::new(alloc);
+    let words = Ok(list.into_iter());
+    let status = run(alloc, files, words, input, output, &mut errors);
+    Ok((status, errors))
+}
+
 /// Runs the program on words behind its name, with those bytes on standard input.
 fn outcome_of<F: Files>(
     alloc: Global,
@@ -38,21 +57,8 @@ fn outcome_of<F: Files>(
     words: &[&str],
     input: &[u8],
 ) -> Result<Ran, Fail> {
-    let mut list = Vec::new(alloc);
-    list.push(String::from_str(alloc, "hprof")?)?;
-    for word in words {
-        list.push(String::from_str(alloc, word)?)?;
-    }
     let mut output = Vec::new(alloc);
-    let mut errors = Vec::new(alloc);
-    let status = run(
-        alloc,
-        files,
-        Ok(list.into_iter()),
-        input,
-        Sheet(&mut output),
-        &mut errors,
-    );
+    let (status, errors) = ended(alloc, files, words, input, Sheet(&mut output))?;
     Ok(Ran {
         status,
         output,
@@ -61,7 +67,7 @@ fn outcome_of<F: Files>(
 }
 
 /// The path of a file of that name in the folder for such files.
-fn path_of(rt: &HostRuntime, name: &str) -> Result<String, Fail> {
+pub(crate) fn path_of(rt: &HostRuntime, name: &str) -> Result<String, Fail> {
     let folder = env::temp_dir(rt)?;
     let folder = folder.to_str().ok_or("the folder's name is text")?;
     let mut path = String::from_str(rt.alloc(), folder)?;
@@ -75,10 +81,13 @@ fn path_of(rt: &HostRuntime, name: &str) -> Result<String, Fail> {
 fn no_words(rt: HostRuntime) -> Result<(), Fail> {
     let part = bytes_of(rt.alloc(), &[HEADER, NAME_2_B, NAME_1_A])?;
     let dump = bytes_of(rt.alloc(), &[HEADER, NAME_1_A, NAME_2_B, END])?;
-    let ran = outcome_of(rt.alloc(), &rt, &[], &part)?;
-    assert_eq!(rt; ran.status.code(), 0);
-    assert_eq!(rt; ran.output.as_slice(), dump.as_slice());
-    assert_eq!(rt; ran.errors.len(), 0);
+    // What only says that no option follows is no word.
+    for count in 0..=1 {
+        let ran = outcome_of(rt.alloc(), &rt, &["--"][..count], &part)?;
+        assert_eq!(rt; ran.status.code(), 0);
+        assert_eq!(rt; ran.output.as_slice(), dump.as_slice());
+        assert_eq!(rt; ran.errors.len(), 0);
+    }
     Ok(())
 }
 
@@ -102,13 +111,9 @@ impl Write for FailsOnce<'_> {
 
 #[test]
 fn nothing_is_written_again(rt: HostRuntime) -> Result<(), Fail> {
-    let mut words = Vec::new(rt.alloc());
-    words.push(String::from_str(rt.alloc(), "hprof")?)?;
     let mut writes = 0;
-    let mut errors = Vec::new(rt.alloc());
     let output = FailsOnce(&mut writes);
-    let words = Ok(words.into_iter());
-    let status = run(rt.alloc(), &rt, words, HEADER, output, &mut errors);
+    let (status, errors) = ended(rt.alloc(), &rt, &[], HEADER, output)?;
     assert_eq!(rt; status, Status::Refused);
     assert_eq!(rt; errors.as_slice(), b"hprof: write failed\n".as_slice());
     assert_eq!(rt; writes, 1);
@@ -116,7 +121,7 @@ fn nothing_is_written_again(rt: HostRuntime) -> Result<(), Fail> {
 }
 
 /// Writes a file of that name with the texts, and gives its path.
-fn written(rt: &HostRuntime, name: &str, texts: &[&[u8]]) -> Result<String, Fail> {
+pub(crate) fn written(rt: &HostRuntime, name: &str, texts: &[&[u8]]) -> Result<String, Fail> {
     let path = path_of(rt, name)?;
     let bytes = bytes_of(rt.alloc(), texts)?;
     fs::write(rt, path.as_str(), bytes.as_slice())?;
@@ -173,6 +178,24 @@ fn part_that_cannot_be_opened(rt: HostRuntime) -> Result<(), Fail> {
     let text = b"hprof: cannot open part 0\n".as_slice();
     assert_eq!(rt; ran.errors.as_slice(), text);
     assert!(rt; fs::read(&rt, out.as_str()).is_err());
+    Ok(())
+}
+
+#[test]
+fn second_part_that_cannot_be_opened(rt: HostRuntime) -> Result<(), Fail> {
+    let one = written(&rt, "opened-one", &[HEADER])?;
+    let two = path_of(&rt, "opened-two")?;
+    let three = written(&rt, "opened-three", &[HEADER])?;
+    let out = path_of(&rt, "opened-out")?;
+    let [out, one, two, three] = [&out, &one, &two, &three].map(|path| path.as_str());
+    let ran = outcome_of(rt.alloc(), &rt, &["join", out, one, two, three], &[])?;
+    assert_eq!(rt; ran.status, Status::Refused);
+    let text = b"hprof: cannot open part 1\n".as_slice();
+    assert_eq!(rt; ran.errors.as_slice(), text);
+    assert!(rt; fs::read(&rt, out).is_err());
+    for path in [one, three] {
+        fs::remove_file(&rt, path)?;
+    }
     Ok(())
 }
 

@@ -1,0 +1,41 @@
+//! The program, with parts that only its usual limits let through.
+
+use crate::limits::ByteByByte;
+use crate::program::ended;
+use crate::samples::{END, HEADER, NAME_1_A, bytes_of};
+use hprof_tool::Status;
+use std::alloc::{AllocError, Global};
+use std::test::Fail;
+
+/// The canonical dump of one name of that length, whose record begins so.
+fn dump_of(alloc: Global, front: &[u8], length: usize) -> Result<Vec<u8>, AllocError> {
+    let text = vec![in alloc; b'n'; length]?;
+    bytes_of(alloc, &[HEADER, front, &text, END])
+}
+
+#[test]
+fn long_names_pass(rt: HostRuntime) -> Result<(), Fail> {
+    let names: [(usize, &[u8]); 2] = [
+        (1_048_577, b"\x01\0\0\0\0\0\x10\0\x05\0\0\0\x01"),
+        (3_000_000, b"\x01\0\0\0\0\0\x2d\xc6\xc4\0\0\0\x01"),
+    ];
+    for (length, front) in names {
+        let dump = dump_of(rt.alloc(), front, length)?;
+        let mut output = Vec::new(rt.alloc());
+        let (status, errors) = ended(rt.alloc(), &rt, &[], dump.as_slice(), &mut output)?;
+        assert_eq!(rt; (status, errors.len()), (Status::Done, 0), "{length}");
+        assert!(rt; output.as_slice() == dump.as_slice(), "{length}");
+    }
+    Ok(())
+}
+
+#[test]
+fn many_reads_pass(rt: HostRuntime) -> Result<(), Fail> {
+    let dump = bytes_of(rt.alloc(), &[HEADER, NAME_1_A, END])?;
+    let mut output = Vec::new(rt.alloc());
+    let input = ByteByByte(&dump);
+    let (status, errors) = ended(rt.alloc(), &rt, &[], input, &mut output)?;
+    assert_eq!(rt; (status, errors.len()), (Status::Done, 0));
+    assert_eq!(rt; output.as_slice(), dump.as_slice());
+    Ok(())
+}

@@ -1,0 +1,89 @@
+//! The program, where its output cannot be written.
+
+use crate::disk::{Disk, Narrow, Trouble};
+use crate::program::{ended, path_of, written};
+use crate::samples::{END, HEADER, bytes_of};
+use hprof_tool::Status;
+use std::alloc::{AllocError, Global};
+use std::fs;
+use std::test::Fail;
+
+/// The fronts of three names of 30,000 bytes.
+const FRONTS: [&[u8]; 3] = [
+    b"\x01\0\0\0\0\0\0\x75\x34\0\0\0\x01",
+    b"\x01\0\0\0\0\0\0\x75\x34\0\0\0\x02",
+    b"\x01\0\0\0\0\0\0\x75\x34\0\0\0\x03",
+];
+
+/// A canonical dump of 90,079 bytes, which are more than the program's buffer of 65,536.
+fn long_dump(alloc: Global) -> Result<Vec<u8>, AllocError> {
+    let text = vec![in alloc; b'n'; 30_000]?;
+    let [one, two, three] = FRONTS;
+    bytes_of(alloc, &[HEADER, one, &text, two, &text, three, &text, END])
+}
+
+/// Where the long dump comes to an end: in its middle, where the buffer is flushed at last, and behind all its bytes.
+const TROUBLES: [(usize, Trouble); 5] = [
+    (10_000, Trouble::Fails),
+    (10_000, Trouble::Sticks),
+    (80_000, Trouble::Fails),
+    (80_000, Trouble::Sticks),
+    (usize::MAX, Trouble::FailsToFlush),
+];
+
+const WRITE_FAILED: &[u8] = b"hprof: write failed\n";
+
+#[test]
+fn long_dump_to_a_stream_that_fails(rt: HostRuntime) -> Result<(), Fail> {
+    let dump = long_dump(rt.alloc())?;
+    for (room, trouble) in TROUBLES {
+        let mut taken = Vec::new(rt.alloc());
+        let output = Narrow {
+            inner: &mut taken,
+            room,
+            trouble,
+        };
+        let (status, errors) = ended(rt.alloc(), &rt, &[], dump.as_slice(), output)?;
+        assert_eq!(rt; status, Status::Refused, "{room} {trouble:?}");
+        assert_eq!(rt; errors.as_slice(), WRITE_FAILED, "{room} {trouble:?}");
+        let front = &dump[..room.min(dump.len())];
+        assert_eq!(rt; taken.as_slice(), front, "{room} {trouble:?}");
+    }
+    Ok(())
+}
+
+#[test]
+fn long_dump_to_a_file_that_fails(rt: HostRuntime) -> Result<(), Fail> {
+    let dump = long_dump(rt.alloc())?;
+    let part = written(&rt, "long-part", &[&dump])?;
+    let out = path_of(&rt, "long-out")?;
+    let words = ["join", out.as_str(), part.as_str()];
+    for (room, trouble) in TROUBLES {
+        let disk = Disk {
+            files: &rt,
+            room,
+            trouble,
+        };
+        let mut output = Vec::new(rt.alloc());
+        let (status, errors) = ended(rt.alloc(), &disk, &words, [].as_slice(), &mut output)?;
+        assert_eq!(rt; status, Status::Refused, "{room} {trouble:?}");
+        assert_eq!(rt; errors.as_slice(), WRITE_FAILED, "{room} {trouble:?}");
+        assert!(rt; fs::read(&rt, out.as_str()).is_err(), "{room} {trouble:?}");
+    }
+    fs::remove_file(&rt, part.as_str())?;
+    Ok(())
+}
+
+#[test]
+fn help_that_cannot_be_flushed(rt: HostRuntime) -> Result<(), Fail> {
+    let mut taken = Vec::new(rt.alloc());
+    let output = Narrow {
+        inner: &mut taken,
+        room: usize::MAX,
+        trouble: Trouble::FailsToFlush,
+    };
+    let (status, errors) = ended(rt.alloc(), &rt, &["--help"], [].as_slice(), output)?;
+    assert_eq!(rt; status, Status::Refused);
+    assert_eq!(rt; errors.as_slice(), WRITE_FAILED);
+    Ok(())
+}
