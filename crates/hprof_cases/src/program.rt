@@ -81,10 +81,13 @@ pub(crate) fn path_of(rt: &HostRuntime, name: &str) -> Result<String, Fail> {
 fn no_words(rt: HostRuntime) -> Result<(), Fail> {
     let part = bytes_of(rt.alloc(), &[HEADER, NAME_2_B, NAME_1_A])?;
     let dump = bytes_of(rt.alloc(), &[HEADER, NAME_1_A, NAME_2_B, END])?;
-    let ran = outcome_of(rt.alloc(), &rt, &[], &part)?;
-    assert_eq!(rt; ran.status.code(), 0);
-    assert_eq!(rt; ran.output.as_slice(), dump.as_slice());
-    assert_eq!(rt; ran.errors.len(), 0);
+    // What only says that no option follows is no word.
+    for count in 0..=1 {
+        let ran = outcome_of(rt.alloc(), &rt, &["--"][..count], &part)?;
+        assert_eq!(rt; ran.status.code(), 0);
+        assert_eq!(rt; ran.output.as_slice(), dump.as_slice());
+        assert_eq!(rt; ran.errors.len(), 0);
+    }
     Ok(())
 }
 
