@@ -5,6 +5,7 @@ pub mod Order
 pub mod Conflicts
 pub mod Inserting
 pub mod SortedRows
+pub mod SortedTable
 pub mod Stating
 pub mod RowFacts
 pub mod Names

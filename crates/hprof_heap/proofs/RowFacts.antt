@@ -36,28 +36,35 @@ module _ {V : Type 0} (fact : ℕ → List ℕ → FactValue) (content : V → L
   facts rows = facts_of_rows fact content rows
 
   -- the fact of the first row, or of a later one
-  find_step : (t : Bool) (key other : ℕ) (row : V) (found : Option FactValue) (rest : Option V) → (t ≡ true → key ≡ other) → found ≡ option_map (row_fact key) rest
+  find_step : (t : Bool) (key other : ℕ) (row : V) (found : Option FactValue) (rest : Option V) → (t ≡ true → key ≡ other)
+      → found ≡ option_map (row_fact key) rest
       → cond t (Some (row_fact other row)) found ≡ option_map (row_fact key) (cond t (Some row) rest)
   find_step true key other row found rest same e = ap (λ (k : ℕ). Some (row_fact k row)) (sym (same refl))
   find_step false key other row found rest same e = e
 
   -- the fact of a key is that of its row
-  pub find_rows : (rows : List (ℕ × V)) (key : ℕ) (stated : List ℕ) → find (same_key (fact key stated)) (facts rows) ≡ option_map (row_fact key) (row_at key rows)
+  pub find_rows : (rows : List (ℕ × V)) (key : ℕ) (stated : List ℕ)
+      → find (same_key (fact key stated)) (facts rows) ≡ option_map (row_fact key) (row_at key rows)
   find_rows [] key stated = refl
   find_rows (row ∷ rows) key stated =
-      ap (λ (t : Bool). cond t (Some (row_fact row.0 row.1)) (find (same_key (fact key stated)) (facts rows))) (kind.same_key_by key row.0 stated (content row.1))
-      ∙ find_step (eqb key row.0) key row.0 row.1 (find (same_key (fact key stated)) (facts rows)) (row_at key rows) (eqb-true key row.0) (find_rows rows key stated)
+      ap (λ (t : Bool). cond t (Some (row_fact row.0 row.1)) (find (same_key (fact key stated)) (facts rows)))
+      (kind.same_key_by key row.0 stated (content row.1))
+      ∙ find_step (eqb key row.0) key row.0 row.1 (find (same_key (fact key stated)) (facts rows)) (row_at key rows) (eqb-true key row.0)
+      (find_rows rows key stated)
       ∙ ap (option_map (row_fact key)) (sym (row_at-cons key row rows))
 
   -- what is put among the facts of rows comes before the first of them, or later
   among : (t : Bool) (key : ℕ) (row : V) (first : ℕ × V) (rows : List (ℕ × V)) → ltb key first.0 ≡ t
-      → inserted (facts (first ∷ rows)) (row_fact key row) ≡ cond t (row_fact key row ∷ facts (first ∷ rows)) (row_fact first.0 first.1 ∷ inserted (facts rows) (row_fact key row))
+      → inserted (facts (first ∷ rows)) (row_fact key row) ≡ cond t (row_fact key row ∷ facts (first ∷ rows))
+      (row_fact first.0 first.1 ∷ inserted (facts rows) (row_fact key row))
   among t key row first rows e =
-      ap (λ (u : Bool). cond u (row_fact key row ∷ facts (first ∷ rows)) (row_fact first.0 first.1 ∷ inserted (facts rows) (row_fact key row)))
+      ap (λ (u : Bool). cond u (row_fact key row ∷ facts (first ∷ rows))
+      (row_fact first.0 first.1 ∷ inserted (facts rows) (row_fact key row)))
       (kind.before_by key first.0 (content row) (content first.1) ∙ e)
 
   -- a row that is put in at a new key is its fact, put in its place
-  pub insert_rows : (rows : List (ℕ × V)) (key : ℕ) (row : V) → row_at key rows ≡ None → facts (insert_entry nat_cmp rows key row) ≡ inserted (facts rows) (row_fact key row)
+  pub insert_rows : (rows : List (ℕ × V)) (key : ℕ) (row : V) → row_at key rows ≡ None
+      → facts (insert_entry nat_cmp rows key row) ≡ inserted (facts rows) (row_fact key row)
   insert_rows [] key row none = refl
   insert_rows (first ∷ rows) key row none = elim (cases_order key first.0) [
     | inl same ↦ let e : Some first.1 ≡ None = sym (row_at-here key first rows same) ∙ none in absurd cc
@@ -67,16 +74,20 @@ module _ {V : Type 0} (fact : ℕ → List ℕ → FactValue) (content : V → L
           let past : key ≢ first.0 = λ e. omega arith in
           let rest = insert_rows rows key row (sym (row_at-past key first rows past) ∙ none) in
           rw (← nat_cmp_is key first.0 Greater gt)
-          (ap (λ (l : List FactValue). row_fact first.0 first.1 ∷ l) rest ∙ sym (among false key row first rows (le-ltb key first.0 (omega arith))))
+          (ap (λ (l : List FactValue). row_fact first.0 first.1 ∷ l) rest
+          ∙ sym (among false key row first rows (le-ltb key first.0 (omega arith))))
     ]
   ]
 
   -- the row that is there states a fact of the key
-  there : (rows : List (ℕ × V)) (key : ℕ) (stated : List ℕ) (row : V) → row_at key rows ≡ Some row → Has (facts rows) (row_fact key row) × (same_key (fact key stated) (row_fact key row) ≡ true)
-  there rows key stated row e = find-Some (same_key (fact key stated)) (facts rows) (row_fact key row) (find_rows rows key stated ∙ ap (option_map (row_fact key)) e)
+  there : (rows : List (ℕ × V)) (key : ℕ) (stated : List ℕ) (row : V) → row_at key rows ≡ Some row
+      → Has (facts rows) (row_fact key row) × (same_key (fact key stated) (row_fact key row) ≡ true)
+  there rows key stated row e =
+      find-Some (same_key (fact key stated)) (facts rows) (row_fact key row) (find_rows rows key stated ∙ ap (option_map (row_fact key)) e)
 
   -- what stating a content does to the rows, stating its fact does to their facts
-  pub rows_state : (old new : List (ℕ × V)) (key : ℕ) (stated : List ℕ) (answer : Stated) → States content old key stated answer new → StatesAmong (facts old) (fact key stated) answer (facts new)
+  pub rows_state : (old new : List (ℕ × V)) (key : ℕ) (stated : List ℕ) (answer : Stated) → States content old key stated answer new
+      → StatesAmong (facts old) (fact key stated) answer (facts new)
   rows_state old new key stated New s = (
     find_rows old key stated ∙ ap (option_map (row_fact key)) s.0,
     ap facts s.1.2 ∙ insert_rows old key s.1.0 s.0 ∙ ap (λ (c : List ℕ). inserted (facts old) (fact key c)) s.1.1,
@@ -94,7 +105,8 @@ module _ {V : Type 0} (fact : ℕ → List ℕ → FactValue) (content : V → L
       )
 
   -- the same where memory may have been refused
-  pub rows_tried : {E : Type 0} (r : Result Stated E) (old new : List (ℕ × V)) (key : ℕ) (stated : List ℕ) → IfOk r (λ answer. States content old key stated answer new)
+  pub rows_tried : {E : Type 0} (r : Result Stated E) (old new : List (ℕ × V)) (key : ℕ) (stated : List ℕ)
+      → IfOk r (λ answer. States content old key stated answer new)
       → IfOk r (λ answer. StatesAmong (facts old) (fact key stated) answer (facts new))
   rows_tried (Ok answer) old new key stated ok = rows_state old new key stated answer ok
   rows_tried (Err e) old new key stated ok = tt

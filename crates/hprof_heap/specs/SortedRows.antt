@@ -17,12 +17,12 @@ module _ {V : Type 0} where
   abbrev pub IsAscending : List (ℕ × V) → Type 0
   IsAscending rows = IsStrictlySortedBy nat_cmp (keys_of rows)
 
-  -- a row and the rest of its list, put between rows of which the greater keys come after it
+  -- a row and what comes of the rest of its list, among others: those of lesser keys come before it
   abbrev pub put_among : ℕ × V → (List (ℕ × V) → List (ℕ × V)) → List (ℕ × V) → List (ℕ × V)
   put_among row rest [] = row ∷ rest []
   put_among row rest (other ∷ others) = if nat_lt row.0 other.0 then row ∷ rest (other ∷ others) else other ∷ put_among row rest others
 
-  -- two lists as one: of their first rows the one with the lesser key comes first
+  -- two lists as one: of their first rows the one with the lesser key comes first (IsListOfBoth says what this is)
   abbrev pub merged : List (ℕ × V) → List (ℕ × V) → List (ℕ × V)
   merged [] others = others
   merged (row ∷ rows) others = put_among row (merged rows) others

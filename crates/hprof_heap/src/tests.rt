@@ -219,12 +219,14 @@ fn names_in_ascending_order(rt: HostRuntime) -> Result<(), Fail> {
             (2, b"A", Stated::New),
             (4, b"B", Stated::New),
             (6, b"C", Stated::New),
+            (8, b"D", Stated::New),
+            (10, b"E", Stated::New),
             (4, b"B", Stated::Same),
             (4, b"C", Stated::Differs),
-            (6, b"C", Stated::Same),
-            (6, b"", Stated::Differs),
+            (10, b"E", Stated::Same),
+            (10, b"", Stated::Differs),
         ],
-        &[(2, b"A"), (4, b"B"), (6, b"C")],
+        &[(2, b"A"), (4, b"B"), (6, b"C"), (8, b"D"), (10, b"E")],
     )
 }
 

@@ -1,7 +1,7 @@
-use Rattle.std.proofs.Common.{◌≡◌, ◌+◌, ◌∙◌, arith, rules}
+use Rattle.std.proofs.Common.{◌≡◌, ◌+◌, arith, rules}
 use Rattle.std.proofs.lemmas.Bool.{lt-ltb, ltb-true}
 use Rattle.hprof_heap.specs.SortedRows.{end_of}
-use Rattle.hprof_heap.proofs.SortedRows.{end_of-last}
+use Rattle.hprof_heap.proofs.SortedTable.{end_of-last}
 use Rattle.hprof_heap.proofs.sorted_table.SortedTable.is_above.Goals as goal
 
 pub returns-in-Some : goal.returns-in-Some

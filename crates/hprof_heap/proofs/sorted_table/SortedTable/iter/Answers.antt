@@ -1,4 +1,4 @@
-use Rattle.hprof_heap.proofs.SortedRows.{table-both}
+use Rattle.hprof_heap.proofs.SortedTable.{table-both}
 use Rattle.hprof_heap.proofs.sorted_table.SortedTable.iter.Goals as goal
 
 pub returns-clause-both : goal.returns-clause-both
