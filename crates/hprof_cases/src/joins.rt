@@ -1,6 +1,8 @@
 //! Parts that are joined.
 
-use crate::samples::{END, HEADER, NAME_1_A, NAME_2_B, WIDE_HEADER, bytes_of, joined};
+use crate::samples::{
+    END, HEADER, NAME_1_A, NAME_2_B, WIDE_HEADER, bytes_of, joined, joined_and_kept,
+};
 use hprof_tool::{Joined, ToolFault, laws};
 use std::alloc::Global;
 use std::process::Abort;
@@ -65,6 +67,22 @@ fn two_names_in_any_order_and_twice(rt: HostRuntime) -> Result<(), Fail> {
     let dump = bytes_of(rt.alloc(), &expected)?;
     laws::the_dump_reads_back();
     expect_joined(&rt, rt.alloc(), &[&dump], &expected, 2)
+}
+
+#[test]
+fn the_heap_is_handed_back(rt: HostRuntime) -> Result<(), Fail> {
+    let part = bytes_of(rt.alloc(), &[HEADER, NAME_2_B, NAME_1_A])?;
+    let (answer, written) = joined_and_kept(rt.alloc(), &[&part])?;
+    let dump = bytes_of(rt.alloc(), &[HEADER, NAME_1_A, NAME_2_B, END])?;
+    assert_eq!(rt; written.as_slice(), dump.as_slice());
+    let Ok(kept) = answer else {
+        return Err("the parts were refused".into());
+    };
+    assert_eq!(rt; kept.joined, Joined { parts: 1, facts: 2 });
+    assert_eq!(rt; kept.heap.count(), 2);
+    assert_eq!(rt; kept.heap.name(1).is_some(), true);
+    assert_eq!(rt; kept.heap.name(3).is_none(), true);
+    Ok(())
 }
 
 #[test]

@@ -7,7 +7,7 @@ ghost use Rattle.hprof_items.specs.Device.{health_of};
 use hprof_heap::Gatherer;
 use hprof_items::Device;
 use hprof_stream::{Limits, PartFault, PartReader, PartSummary};
-use hprof_tool::{Joined, ToolFault, join_to};
+use hprof_tool::{Joined, Kept, ToolFault, join_kept, join_to};
 use std::alloc::{AllocError, Global};
 
 /// The header of version 1.0.2 with identifiers of four bytes and time 1.
@@ -55,6 +55,17 @@ pub(crate) fn joined_under(
     let mut readers = readers_of(alloc, parts)?;
     let mut target = Device::new(Vec::new(alloc));
     let answer = join_to(alloc, &mut readers, &mut target, limits);
+    Ok((answer, target.into_inner()))
+}
+
+/// Joins the parts under the usual limits, and keeps the heap; also gives what was written.
+pub(crate) fn joined_and_kept(
+    alloc: Global,
+    parts: &[&[u8]],
+) -> Result<(Result<Kept, ToolFault>, Vec<u8>), AllocError> {
+    let mut readers = readers_of(alloc, parts)?;
+    let mut target = Device::new(Vec::new(alloc));
+    let answer = join_kept(alloc, &mut readers, &mut target, Limits::usual());
     Ok((answer, target.into_inner()))
 }
 

@@ -126,6 +126,7 @@ fn the_canonical_dump(rt: HostRuntime) -> Result<(), Fail> {
     let bytes = device.into_inner();
     assert_eq!(rt; bytes.as_slice(), DUMP.as_slice());
     laws::dump_reads_back();
+    laws::sub_records_are_packed_in_one_way();
     Ok(())
 }
 
