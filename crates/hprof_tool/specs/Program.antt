@@ -1,11 +1,16 @@
 -- What the program's calls come to.
-use Rattle.std.specs.Prelude.{◌≡◌, ◌≢◌, ℕ, ◌<◌, List, [], ◌∷◌, length, Option, Some, Result, Err, ⊤}
+use Rattle.std.specs.Prelude.{◌≡◌, ◌≢◌, ℕ, ◌<◌, List, [], ◌∷◌, ◌++◌, length, Option, Some, Result, Err, ⊤}
+use Rattle.std.specs.List.{AllByRecursion}
 use Rattle.clap.specs.declared.error.ErrorKind.{ErrorKind}
 use Rattle.clap.specs.declared.error.ErrorKind.TheVariants as kinds
 use Rattle.hprof_items.specs.declared.device.Device.{Device}
 use Rattle.hprof_items.specs.declared.ids.IdSize.{IdSize}
 use Rattle.hprof_items.specs.FactValue.{FactValue}
 use Rattle.hprof_items.specs.Device.{inner_of}
+use Rattle.hprof_stream.specs.declared.limits.Limits.{Limits}
+use Rattle.hprof_stream.specs.declared.part_fault.PartFault.{PartFault}
+use Rattle.hprof_stream.specs.declared.part_fault.PartFault.TheVariants as faults
+use Rattle.hprof_stream.specs.declared.sink.SinkFault.TheVariants as sinks
 use Rattle.hprof_heap.specs.State.{HaveTwoSizes}
 use Rattle.hprof_tool.specs.declared.joined.Joined.{Joined}
 use Rattle.hprof_tool.specs.declared.tool_fault.ToolFault.{ToolFault}
@@ -14,7 +19,7 @@ use Rattle.hprof_tool.specs.declared.program.refused.Refused.{Refused}
 use Rattle.hprof_tool.specs.declared.program.refused.Refused.TheVariants as refusals
 use Rattle.hprof_tool.specs.declared.status.Status.{Status}
 use Rattle.hprof_tool.specs.declared.status.Status.TheVariants as statuses
-use Rattle.hprof_tool.specs.Joining.{Tell, Agree, Joins, Disagree, IsBeforeWriting}
+use Rattle.hprof_tool.specs.Joining.{Tell, Agree, Joins, Disagree, IsAccepted, IsOfPart, IsBeforeWriting}
 
 -- the parts agree, and the canonical dump of what they state was written
 abbrev pub IsWritten : List (List ℕ) → Option (List ℕ) → Option (List ℕ) → Type 0
@@ -24,9 +29,30 @@ IsWritten parts old new = (joined : Joined) × Joins parts old new joined
 abbrev pub HaveOneState : List (List ℕ) → Type 0
 HaveOneState parts = (ids : IdSize) × (millis : ℕ) × (rows : List FactValue) × Agree parts ids millis rows
 
+-- the limits with which the program reads: every length that a record can say, 2^40 reads, 2^64 - 1 bytes
+abbrev pub usual_limits : Limits
+usual_limits = record { max_item = 4294967295; max_reads = 1099511627776; max_bytes = 18446744073709551615 }
+
+-- a fault that is not answered for what failed before
+abbrev pub IsFirstAnswer : PartFault → Type 0
+IsFirstAnswer faults.Failed = ⊥
+IsFirstAnswer (faults.Sink sinks.Failed) = ⊥
+IsFirstAnswer other = ⊤
+
+-- there is a part at that place; those before it are read to their ends, and a fault of an item is its first
+pub record IsPartRefusal (parts : List (List ℕ)) (index : ℕ) (fault : PartFault) : Type 0 where
+  pub before : List (List ℕ)
+  pub bytes : List ℕ
+  pub after : List (List ℕ)
+  pub in_order : parts ≡ before ++ bytes ∷ after
+  pub place : length before ≡ index
+  pub accepted : AllByRecursion (IsAccepted usual_limits) before
+  pub of_part : IsOfPart usual_limits.max_item bytes fault
+  pub is_first : IsFirstAnswer fault
+
 -- what a refusal to join says of the parts
 abbrev pub IsRefusal : Refused → List (List ℕ) → Type 0
-IsRefusal (refusals.Engine (tool.Part index fault)) parts = ⊤
+IsRefusal (refusals.Engine (tool.Part index fault)) parts = IsPartRefusal parts index fault
 IsRefusal (refusals.Engine tool.NoParts) parts = parts ≡ []
 IsRefusal (refusals.Engine tool.IdSizes) parts = HaveTwoSizes parts
 IsRefusal (refusals.Engine (tool.Conflict key)) parts = Disagree parts key

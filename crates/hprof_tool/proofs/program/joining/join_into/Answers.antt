@@ -1,10 +1,16 @@
-use Rattle.std.proofs.Common.{◌≡◌, ℕ, List, [], ◌∷◌, length, take, Option, Result, Ok, Err, refl, sym, ap, subst}
+use Rattle.std.proofs.Common.{◌≡◌, ℕ, List, [], ◌∷◌, length, take, Option, Result, Ok, Err, refl, sym, ap, subst, ◌∙◌}
 use Rattle.std.specs.Prelude.{IfOk, IfErr, OnOk, OnErr}
 use Rattle.std.specs.Io.KnownBytes.{Appends, Keeps}
 use Rattle.std.proofs.KnownBytes.{Appends-kept}
 use Rattle.std.proofs.Math.Seq.{take-length}
+use Rattle.std.specs.List.{AllByRecursion}
+use Rattle.hprof_items.specs.declared.health.Health.{Health}
 use Rattle.hprof_items.specs.declared.health.WriteFault.{WriteFault}
 use Rattle.hprof_items.specs.declared.health.WriteFault.TheVariants as faults
+use Rattle.hprof_stream.specs.declared.limits.Limits.{Limits}
+use Rattle.hprof_stream.specs.declared.part_fault.PartFault.{PartFault}
+use Rattle.hprof_stream.specs.declared.part_fault.PartFault.TheVariants as part_faults
+use Rattle.hprof_stream.specs.declared.sink.SinkFault.TheVariants as sinks
 use Rattle.hprof_heap.specs.declared.key.Key.{Key}
 use Rattle.hprof_heap.specs.Dump.{canonical_dump}
 use Rattle.hprof_heap.specs.State.{HaveTwoSizes}
@@ -13,8 +19,8 @@ use Rattle.hprof_tool.specs.declared.tool_fault.ToolFault.{ToolFault}
 use Rattle.hprof_tool.specs.declared.tool_fault.ToolFault.TheVariants as tool
 use Rattle.hprof_tool.specs.declared.program.refused.Refused.{Refused}
 use Rattle.hprof_tool.specs.declared.program.refused.Refused.TheVariants as refusals
-use Rattle.hprof_tool.specs.Joining.{joined_of, Tell, Joins, StopsWriting, Disagree}
-use Rattle.hprof_tool.specs.Program.{IsRefusal}
+use Rattle.hprof_tool.specs.Joining.{joined_of, Tell, Joins, StopsWriting, Disagree, IsAccepted, IsOfPart, IsPartFault, RefusesPart}
+use Rattle.hprof_tool.specs.Program.{usual_limits, IsFirstAnswer, IsPartRefusal, IsRefusal}
 use Rattle.hprof_tool.proofs.program.joining.join_into.Goals as goal
 
 -- no reader tells no part
@@ -23,9 +29,42 @@ no_parts_told left [] [] none told = refl
 no_parts_told left [] (part ∷ parts) none told = absurd cc
 no_parts_told left (reader ∷ readers) parts none told = absurd cc
 
+-- limits with these numbers are the usual ones
+are_usual : (limits : Limits) → limits.max_item ≡ 4294967295 → limits.max_reads ≡ 1099511627776 → limits.max_bytes ≡ 18446744073709551615 → limits ≡ usual_limits
+are_usual limits item reads bytes =
+    ap (λ (n : ℕ). record limits { max_item = n }) item ∙ ap (λ (n : ℕ). record { max_item = 4294967295; max_reads = n; max_bytes = limits.max_bytes }) reads
+    ∙ ap (λ (n : ℕ). record { max_item = 4294967295; max_reads = 1099511627776; max_bytes = n }) bytes
+
+-- what a part is refused with is not answered for what failed before
+first_answer : {R : Type 0} (left : R → Option (List ℕ)) (health : R → Health) (pulls : R → ℕ) (limits : Limits) (was : R) (came : List ℕ) (is : R) (fault : PartFault) → IsPartFault left health pulls limits was came is fault → IsFirstAnswer fault
+first_answer left health pulls limits was came is (part_faults.Malformed at reason) why = tt
+first_answer left health pulls limits was came is (part_faults.ItemTooLong at) why = tt
+first_answer left health pulls limits was came is part_faults.OutOfMemory why = tt
+first_answer left health pulls limits was came is (part_faults.Sink sinks.OutOfMemory) why = tt
+first_answer left health pulls limits was came is (part_faults.Sink sinks.Failed) why = absurd why
+first_answer left health pulls limits was came is part_faults.Failed why = absurd why
+first_answer left health pulls limits was came is part_faults.Read why = tt
+first_answer left health pulls limits was came is part_faults.ReadsExceeded why = tt
+first_answer left health pulls limits was came is part_faults.BytesExceeded why = tt
+
+-- what the engine says of a part that it refuses
+part_refusal : {R : Type 0} (left : R → Option (List ℕ)) (health : R → Health) (pulls : R → ℕ) (limits : Limits) (parts : List (List ℕ)) (old new : List R) (index : ℕ) (fault : PartFault) → limits ≡ usual_limits
+    → RefusesPart left health pulls limits parts old new index fault → IsPartRefusal parts index fault
+part_refusal left health pulls limits parts old new index fault same is = record {
+  before = is.before;
+  bytes = is.bytes;
+  after = is.after;
+  in_order = is.in_order;
+  place = is.place;
+  accepted = subst (λ (l : Limits). AllByRecursion (IsAccepted l) is.before) same is.accepted;
+  of_part = subst (λ (l : Limits). IsOfPart l.max_item is.bytes fault) same is.of_part;
+  is_first = first_answer left health pulls limits is.at.was is.at.came is.at.is fault is.at.refused;
+}
+
 -- what the engine's answer tells of the parts and of the bytes that it wrote
 record EngineTells {R : Type 0} (left : R → Option (List ℕ)) (readers : List R) (old new : Option (List ℕ)) (joined : Result Joined ToolFault) : Type 0 where
   ok : IfOk joined (λ j. (parts : List (List ℕ)) → Tell left readers parts → Joins parts old new j)
+  part : (index : ℕ) (fault : PartFault) → joined ≡ Err (tool.Part index fault) → (parts : List (List ℕ)) → Tell left readers parts → IsPartRefusal parts index fault
   conflict : (key : Key) → joined ≡ Err (tool.Conflict key) → (parts : List (List ℕ)) → Tell left readers parts → Disagree parts key
   no_parts : joined ≡ Err tool.NoParts → readers ≡ []
   id_sizes : joined ≡ Err tool.IdSizes → (parts : List (List ℕ)) → Tell left readers parts → HaveTwoSizes parts
@@ -34,7 +73,7 @@ record EngineTells {R : Type 0} (left : R → Option (List ℕ)) (readers : List
 module _ {R : Type 0} (left : R → Option (List ℕ)) (readers : List R) (old new : Option (List ℕ)) where
   of_fault : (joined : Result Joined ToolFault) (fault : ToolFault) → EngineTells left readers old new joined → joined ≡ Err fault
       → (parts : List (List ℕ)) → Tell left readers parts → IsRefusal (refusals.Engine fault) parts
-  of_fault joined (tool.Part index fault) t same parts told = tt
+  of_fault joined (tool.Part index fault) t same parts told = t.part index fault same parts told
   of_fault joined tool.NoParts t same parts told = no_parts_told left readers parts (t.no_parts same) told
   of_fault joined tool.IdSizes t same parts told = t.id_sizes same parts told
   of_fault joined (tool.Conflict key) t same parts told = t.conflict key same parts told
@@ -86,7 +125,8 @@ pub returns-clause-refused : goal.returns-clause-refused
 returns-clause-refused g c =
     let e = c.join_kept-kept.ensures in
     refusal g.R.Source.left c.args.readers.now _ _ (joined_of c.join_kept-kept.result) c.end_of_writing-outcome.result
-    (record { ok = e.ok; conflict = e.conflict; no_parts = e.no_parts.0; id_sizes = e.id_sizes; write = λ fault same. (e.write fault same).1 })
+    (record { ok = e.ok; part = λ index fault same parts told. part_refusal g.R.Source.left g.R.Source.health g.R.Source.pulls c.usual.result parts c.args.readers.now c.join_kept-kept.new.readers index fault
+    (are_usual c.usual.result c.usual.ensures.item c.usual.ensures.reads c.usual.ensures.bytes) (e.part index fault same parts told); conflict = e.conflict; no_parts = e.no_parts.0; id_sizes = e.id_sizes; write = λ fault same. (e.write fault same).1 })
     c.end_of_writing-outcome.ensures.failed c.end_of_writing-outcome.ensures.refused
 
 pub returns-clause-write : goal.returns-clause-write
@@ -95,5 +135,6 @@ returns-clause-write g c =
     let kept = rw c.into_inner-buffered.ensures at c.end_of_writing-outcome.ensures.bytes in
     λ fault is parts told. rw (← c.new-target.ensures.inner, c.into_parts-writer.ensures.inner, c.into_parts-writer.ensures.buffer)
     (stops g.R.Source.left c.args.readers.now _ _ (joined_of c.join_kept-kept.result) c.end_of_writing-outcome.result _
-    (record { ok = e.ok; conflict = e.conflict; no_parts = e.no_parts.0; id_sizes = e.id_sizes; write = λ fault same. (e.write fault same).1 })
+    (record { ok = e.ok; part = λ index fault same parts told. part_refusal g.R.Source.left g.R.Source.health g.R.Source.pulls c.usual.result parts c.args.readers.now c.join_kept-kept.new.readers index fault
+    (are_usual c.usual.result c.usual.ensures.item c.usual.ensures.reads c.usual.ensures.bytes) (e.part index fault same parts told); conflict = e.conflict; no_parts = e.no_parts.0; id_sizes = e.id_sizes; write = λ fault same. (e.write fault same).1 })
     kept c.end_of_writing-outcome.ensures.refused fault is parts told)
