@@ -5,3 +5,10 @@ pub mod Heads
 pub mod Bodies
 pub mod Writes
 pub mod Limits
+pub mod Orders
+pub mod FieldGroups
+pub mod EntryLists
+pub mod Counting
+pub mod IdLists
+pub mod SubRecords
+pub mod ArrayRecords

@@ -14,11 +14,11 @@ pub IsBytes-tail : (b : ℕ) (bytes : List ℕ) → IsBytes (b ∷ bytes) → Is
 IsBytes-tail b bytes are i = are (suc i)
 
 -- a power of 256 is above zero
-pow256_pos : (n : ℕ) → zero < 256 ^ n
+pub pow256_pos : (n : ℕ) → zero < 256 ^ n
 pow256_pos n = let h = one-le-pow n 256 (omega arith) in omega arith
 
 -- a byte of a number, by its place
-byte_at-pow : (k x : ℕ) → byte_at k x ≡ x / 256 ^ k % 256
+pub byte_at-pow : (k x : ℕ) → byte_at k x ≡ x / 256 ^ k % 256
 byte_at-pow zero x = ap (λ (y : ℕ). y % 256) (sym (div-one x))
 byte_at-pow (suc k) x = refl
 
@@ -37,7 +37,7 @@ byte_at-above k more a r =
     ∙ sym (byte_at-pow k r)
 
 -- the low bytes do not see what stands above them
-bytes_high_first-above : (k n a r : ℕ) → k ≤ n → bytes_high_first k (a * 256 ^ n + r) ≡ bytes_high_first k r
+pub bytes_high_first-above : (k n a r : ℕ) → k ≤ n → bytes_high_first k (a * 256 ^ n + r) ≡ bytes_high_first k r
 bytes_high_first-above zero n a r le = refl
 bytes_high_first-above (suc k) n a r le =
     let place : n ≡ (n - suc k) + 1 + k = omega arith in
@@ -86,3 +86,10 @@ same_parts (x ∷ front) back (y ∷ others) more len e =
     let tail : front ++ back ≡ others ++ more = cc in
     let rest = same_parts front back others more (omega arith) tail in
     (rw (head, rest.0) refl, rest.1)
+
+-- the bytes in front
+pub IsBytes-take : (k : ℕ) (bytes : List ℕ) → IsBytes bytes → IsBytes (take k bytes)
+IsBytes-take zero bytes are i = omega arith
+IsBytes-take (suc k) [] are i = omega arith
+IsBytes-take (suc k) (b ∷ bytes) are zero = are 0
+IsBytes-take (suc k) (b ∷ bytes) are (suc i) = IsBytes-take k bytes (IsBytes-tail b bytes are) i

@@ -1,6 +1,16 @@
 pub mod Ids
 pub mod Header
 pub mod Head
+pub mod Basic
+pub mod Fields
+pub mod Item
+pub mod Entries
+pub mod Value
+pub mod Lists
+pub mod SubTag
+pub mod Root
+pub mod AnyFact
+pub mod SubRecord
 pub mod FactValue
 pub mod Spelling
 pub mod Reading

@@ -1,16 +1,32 @@
 //! Laws of the definitions. None of these functions does anything.
 
-ghost use Rattle.std.specs.Prelude.{◌≡◌, ◌≤◌, List, ℕ, ◌++◌, length, drop, Ok};
+ghost use Rattle.std.specs.Prelude.{◌≡◌, ◌+◌, ◌<◌, ◌≤◌, ◌⊎◌, List, ℕ, ◌++◌, length, drop, sum, true, Ok, Err};
+ghost use Rattle.std.specs.Cmp.Lexicographic.{slice_cmp};
+ghost use Rattle.std.specs.Ordering.{nat_cmp};
 ghost use Rattle.hprof_items.specs.declared.ids.IdSize.{IdSize};
 ghost use Rattle.hprof_items.specs.declared.header.Header.{Header};
 ghost use Rattle.hprof_items.specs.declared.head.Head.{Head};
+ghost use Rattle.hprof_items.specs.declared.root.Root.{Root};
 ghost use Rattle.hprof_items.specs.declared.step.Step.TheVariants.{Whole};
+ghost use Rattle.hprof_items.specs.declared.stop.Stop.TheVariants as stops;
 ghost use Rattle.hprof_items.specs.Ids.{width_of, IsBytes};
 ghost use Rattle.hprof_items.specs.Header.{header_bytes, IsMillis};
 ghost use Rattle.hprof_items.specs.Head.{head_bytes};
 ghost use Rattle.hprof_items.specs.FactValue.{FactValue};
 ghost use Rattle.hprof_items.specs.Spelling.{Fits, spelling, tag_of, body_of, longest_body};
+ghost use Rattle.hprof_items.specs.declared.entry.Entry.{Entry};
+ghost use Rattle.hprof_items.specs.declared.entry.EntryKind.{EntryKind};
+ghost use Rattle.hprof_items.specs.Entries.{IsEntryList};
+ghost use Rattle.hprof_items.specs.Lists.{IsIdList};
+ghost use Rattle.hprof_items.specs.declared.basic.Basic.{Basic};
+ghost use Rattle.hprof_items.specs.declared.sub_tag.SubTag.{SubTag};
+ghost use Rattle.hprof_items.specs.AnyFact.{AnyFact, Rooted, Instance, ObjArray, PrimArray};
+ghost use Rattle.hprof_items.specs.SubRecord.{root_at, instance_at, obj_array_at, prim_array_at, dump_bytes, DumpFits, is_root_tag, IsDumpOf};
+ghost use Rattle.hprof_items.specs.Fields.{field_bytes, fields_in, FitFields, Bounds, reached, IsWithin, with_more};
+ghost use Rattle.hprof_items.specs.Root.{root_bytes, tag_of_root, RootFits};
 ghost use Rattle.hprof_items.specs.Reading.{header_at, head_at, IsRightHead, body_at};
+
+use crate::root::Root;
 
 /// No spelling begins another: bytes that begin with the spellings of two facts begin with those of one fact.
 pub fn one_spelling()
@@ -39,4 +55,77 @@ pub fn bodies_read_back()
         × ((ids : IdSize) (tag : ℕ) (body : List ℕ) (fact : FactValue) → IsBytes body → tag ≡ 1 → width_of ids ≤ length body
         → length body ≤ longest_body → body_at ids tag body ≡ Ok fact
         → (tag_of fact ≡ tag) × (body ≡ body_of ids fact) × Fits ids fact) }
+{}
+
+/// Roots are in the order of the bytes that spell them.
+pub fn roots_in_order()
+    ensures { (ids : IdSize) (root other : Root) → RootFits ids root → RootFits ids other
+        → ⟦<Root as Ord>⟧.cmp root other ≡ slice_cmp nat_cmp (root_bytes ids root) (root_bytes ids other) }
+{}
+
+/// Numbers that are spelled in fields are read, whatever follows, and those that are read are spelled so.
+pub fn fields_read_back()
+    ensures again { (widths numbers rest : List ℕ) → FitFields widths numbers
+        → (fields_in widths (field_bytes widths numbers ++ rest) ≡ numbers) × (drop (sum widths) (field_bytes widths numbers ++ rest) ≡ rest) }
+    ensures found { (widths bytes : List ℕ) → IsBytes bytes → sum widths ≤ length bytes
+        → FitFields widths (fields_in widths bytes) × (bytes ≡ field_bytes widths (fields_in widths bytes) ++ drop (sum widths) bytes) }
+{}
+
+/// Fields that lie within all bounds end where their widths say; of those of which a front is there, more bytes are
+/// needed and nothing is wrong; and with more bytes no other answer changes.
+pub fn fronts_are_short()
+    ensures whole { (bounds : Bounds) (at : ℕ) (widths : List ℕ) → IsWithin bounds (at + sum widths)
+        → reached bounds at widths ≡ Ok (at + sum widths) }
+    ensures front { (bounds : Bounds) (at : ℕ) (widths : List ℕ) → at ≤ bounds.there → bounds.there < at + sum widths
+        → at + sum widths ≤ bounds.room → at + sum widths ≤ bounds.longest → reached bounds at widths ≡ Err stops.Short }
+    ensures more { (bounds : Bounds) (at more : ℕ) (widths : List ℕ)
+        → (reached bounds at widths ≡ Err stops.Short) ⊎ (reached (with_more bounds more) at widths ≡ reached bounds at widths) }
+{}
+
+/// Bytes spell one list of entries of a kind, and one list of identifiers.
+pub fn one_list()
+    ensures entries { (ids : IdSize) (kind : EntryKind) (entries others : List Entry) (bytes : List ℕ)
+        → IsEntryList ids kind entries bytes → IsEntryList ids kind others bytes → entries ≡ others }
+    ensures identifiers { (ids : IdSize) (numbers others bytes : List ℕ)
+        → IsIdList ids numbers bytes → IsIdList ids others bytes → numbers ≡ others }
+{}
+
+/// A root that is spelled behind its tag within all bounds is read, and one that is read is spelled so.
+pub fn roots_read_back()
+    ensures again { (ids : IdSize) (bounds : Bounds) (root : Root) (rest bytes : List ℕ) → RootFits ids root
+        → drop 1 bytes ≡ drop 1 (root_bytes ids root) ++ rest → IsWithin bounds (length (root_bytes ids root))
+        → root_at ids (tag_of_root root) bounds bytes ≡ Ok (Rooted root, length (root_bytes ids root)) }
+    ensures found { (ids : IdSize) (tag : SubTag) (bounds : Bounds) (bytes : List ℕ) (fact : AnyFact) (n : ℕ) → IsBytes bytes
+        → bounds.there ≤ length bytes → is_root_tag tag ≡ true → root_at ids tag bounds bytes ≡ Ok (fact, n)
+        → IsDumpOf ids bounds bytes fact n }
+{}
+
+/// An instance that is spelled behind its tag within all bounds is read, and one that is read is spelled so.
+pub fn instances_read_back()
+    ensures again { (ids : IdSize) (bounds : Bounds) (id trace class : ℕ) (raw rest bytes : List ℕ) → DumpFits ids (Instance id trace class raw)
+        → drop 1 bytes ≡ drop 1 (dump_bytes ids (Instance id trace class raw)) ++ rest
+        → IsWithin bounds (length (dump_bytes ids (Instance id trace class raw)))
+        → instance_at ids bounds bytes ≡ Ok (Instance id trace class raw, length (dump_bytes ids (Instance id trace class raw))) }
+    ensures found { (ids : IdSize) (bounds : Bounds) (bytes : List ℕ) (fact : AnyFact) (n : ℕ) → IsBytes bytes → bounds.there ≤ length bytes
+        → instance_at ids bounds bytes ≡ Ok (fact, n) → IsDumpOf ids bounds bytes fact n }
+{}
+
+/// An array of objects that is spelled behind its tag within all bounds is read, and one that is read is spelled so.
+pub fn obj_arrays_read_back()
+    ensures again { (ids : IdSize) (bounds : Bounds) (id trace class : ℕ) (elements rest bytes : List ℕ) → DumpFits ids (ObjArray id trace class elements)
+        → drop 1 bytes ≡ drop 1 (dump_bytes ids (ObjArray id trace class elements)) ++ rest
+        → IsWithin bounds (length (dump_bytes ids (ObjArray id trace class elements)))
+        → obj_array_at ids bounds bytes ≡ Ok (ObjArray id trace class elements, length (dump_bytes ids (ObjArray id trace class elements))) }
+    ensures found { (ids : IdSize) (bounds : Bounds) (bytes : List ℕ) (fact : AnyFact) (n : ℕ) → IsBytes bytes → bounds.there ≤ length bytes
+        → obj_array_at ids bounds bytes ≡ Ok (fact, n) → IsDumpOf ids bounds bytes fact n }
+{}
+
+/// The same of an array of numbers or truth values.
+pub fn prim_arrays_read_back()
+    ensures again { (ids : IdSize) (bounds : Bounds) (id trace : ℕ) (elem : Basic) (raw rest bytes : List ℕ) → DumpFits ids (PrimArray id trace elem raw)
+        → drop 1 bytes ≡ drop 1 (dump_bytes ids (PrimArray id trace elem raw)) ++ rest
+        → IsWithin bounds (length (dump_bytes ids (PrimArray id trace elem raw)))
+        → prim_array_at ids bounds bytes ≡ Ok (PrimArray id trace elem raw, length (dump_bytes ids (PrimArray id trace elem raw))) }
+    ensures found { (ids : IdSize) (bounds : Bounds) (bytes : List ℕ) (fact : AnyFact) (n : ℕ) → IsBytes bytes → bounds.there ≤ length bytes
+        → prim_array_at ids bounds bytes ≡ Ok (fact, n) → IsDumpOf ids bounds bytes fact n }
 {}

@@ -2,6 +2,9 @@ ghost use Rattle.std.specs.Prelude.{◌≤◌, IfOk, IfSome};
 ghost use Rattle.hprof_items.specs.Spelling.{longest_body};
 ghost use Rattle.hprof_items.specs.Reading.{IsRightHead};
 
+mod items;
+mod values;
+
 use super::*;
 use std::io;
 use std::io::{Read, Write};

@@ -1,0 +1,145 @@
+-- Sub-records, from their tag on: heapDumper.cpp, "HPROF binary format", HEAP_DUMP. Roots, instances and arrays are
+-- a group of fields behind the tag and at most one further field, whose length the group says.
+use Rattle.std.specs.Prelude.{◌≡◌, ℕ, ◌*◌, ◌/◌, ◌%◌, Bool, true, false, List, [], ◌∷◌, ◌++◌, length, take, drop, slice_index, Option, Some, None, Result, Ok, Err}
+use Rattle.hprof_items.specs.declared.ids.IdSize.{IdSize}
+use Rattle.hprof_items.specs.declared.basic.Basic.{Basic}
+use Rattle.hprof_items.specs.declared.basic.Basic.TheVariants as basics
+use Rattle.hprof_items.specs.declared.root.Root.{Root}
+use Rattle.hprof_items.specs.declared.root.Root.TheVariants as roots
+use Rattle.hprof_items.specs.declared.sub_tag.SubTag.{SubTag}
+use Rattle.hprof_items.specs.declared.sub_tag.SubTag.TheVariants as tags
+use Rattle.hprof_items.specs.declared.sub_fact.SubFact.{SubFact}
+use Rattle.hprof_items.specs.declared.sub_fact.SubFact.TheVariants as facts
+use Rattle.hprof_items.specs.declared.step.Reason.TheVariants.{BadType}
+use Rattle.hprof_items.specs.declared.stop.Stop.{Stop}
+use Rattle.hprof_items.specs.declared.stop.Stop.TheVariants.{Fault}
+use Rattle.hprof_items.specs.Ids.{width_of}
+use Rattle.hprof_items.specs.Basic.{code_of_basic, basic_of_code, width_of_basic}
+use Rattle.hprof_items.specs.Fields.{field_bytes, fields_in, FitFields, Bounds, ◌>>=◌, reached, IsWithin}
+use Rattle.hprof_items.specs.SubTag.{code_of_tag}
+use Rattle.hprof_items.specs.Root.{root_fields, root_bytes, RootFits}
+use Rattle.hprof_items.specs.Lists.{id_widths, ids_in, identifiers_of}
+use Rattle.hprof_items.specs.AnyFact.{AnyFact, Rooted, Instance, ObjArray, PrimArray}
+
+abbrev pub value_of_sub : SubFact → AnyFact
+value_of_sub (facts.Root root) = Rooted root
+value_of_sub (facts.Instance id trace class bytes) = Instance id trace class bytes.now
+value_of_sub (facts.ObjArray id trace class elements) = ObjArray id trace class (identifiers_of elements)
+value_of_sub (facts.PrimArray id trace elem bytes) = PrimArray id trace elem bytes.now
+
+-- ---- the fields behind the tag
+
+-- id object, u4 trace serial, id class, u4 number of bytes
+abbrev pub instance_widths : IdSize → List ℕ
+instance_widths ids = width_of ids ∷ 4 ∷ width_of ids ∷ 4 ∷ []
+
+-- id array, u4 trace serial, u4 number of elements, id array class
+abbrev pub obj_array_widths : IdSize → List ℕ
+obj_array_widths ids = width_of ids ∷ 4 ∷ 4 ∷ width_of ids ∷ []
+
+-- id array, u4 trace serial, u4 number of elements, u1 element type
+abbrev pub prim_array_widths : IdSize → List ℕ
+prim_array_widths ids = width_of ids ∷ 4 ∷ 4 ∷ 1 ∷ []
+
+-- ---- reading, behind a tag that was read
+
+-- the root of that tag with those numbers
+abbrev pub root_of : SubTag → List ℕ → Root
+root_of tags.RootJniGlobal numbers = roots.JniGlobal (slice_index numbers 0) (slice_index numbers 1)
+root_of tags.RootJniLocal numbers = roots.JniLocal (slice_index numbers 0) (slice_index numbers 1) (slice_index numbers 2)
+root_of tags.RootJavaFrame numbers = roots.JavaFrame (slice_index numbers 0) (slice_index numbers 1) (slice_index numbers 2)
+root_of tags.RootNativeStack numbers = roots.NativeStack (slice_index numbers 0) (slice_index numbers 1)
+root_of tags.RootSticky numbers = roots.Sticky (slice_index numbers 0)
+root_of tags.RootBlock numbers = roots.Block (slice_index numbers 0) (slice_index numbers 1)
+root_of tags.RootMonitor numbers = roots.Monitor (slice_index numbers 0)
+root_of tags.RootThreadObject numbers = roots.ThreadObject (slice_index numbers 0) (slice_index numbers 1) (slice_index numbers 2)
+root_of _ numbers = roots.Unknown (slice_index numbers 0)
+
+unfoldable pub root_at : IdSize → SubTag → Bounds → List ℕ → Result (AnyFact × ℕ) Stop
+root_at ids tag bounds bytes =
+    reached bounds 1 (root_fields ids tag) >>= λ end. Ok (Rooted (root_of tag (fields_in (root_fields ids tag) (drop 1 bytes))), end)
+
+-- a field of that many bytes behind others
+abbrev pub cut : ℕ → ℕ → List ℕ → List ℕ
+cut len at bytes = take len (drop at bytes)
+
+unfoldable pub instance_at : IdSize → Bounds → List ℕ → Result (AnyFact × ℕ) Stop
+instance_at ids bounds bytes =
+    let numbers = fields_in (instance_widths ids) (drop 1 bytes) in
+    let len = slice_index numbers 3 in
+    reached bounds 1 (instance_widths ids) >>= λ front.
+    reached bounds front (len ∷ []) >>= λ end.
+    Ok (Instance (slice_index numbers 0) (slice_index numbers 1) (slice_index numbers 2) (cut len front bytes), end)
+
+unfoldable pub obj_array_at : IdSize → Bounds → List ℕ → Result (AnyFact × ℕ) Stop
+obj_array_at ids bounds bytes =
+    let numbers = fields_in (obj_array_widths ids) (drop 1 bytes) in
+    let len = slice_index numbers 2 * width_of ids in
+    reached bounds 1 (obj_array_widths ids) >>= λ front.
+    reached bounds front (len ∷ []) >>= λ end.
+    Ok (ObjArray (slice_index numbers 0) (slice_index numbers 1) (slice_index numbers 3) (ids_in ids (cut len front bytes)), end)
+
+-- the type of an array's elements: neither array nor object
+abbrev pub element_type : Option Basic → Result Basic Stop
+element_type None = Err (Fault BadType)
+element_type (Some basics.Array) = Err (Fault BadType)
+element_type (Some basics.Object) = Err (Fault BadType)
+element_type (Some basic) = Ok basic
+
+unfoldable pub prim_array_at : IdSize → Bounds → List ℕ → Result (AnyFact × ℕ) Stop
+prim_array_at ids bounds bytes =
+    let numbers = fields_in (prim_array_widths ids) (drop 1 bytes) in
+    reached bounds 1 (prim_array_widths ids) >>= λ front.
+    element_type (basic_of_code (slice_index numbers 3)) >>= λ elem.
+    reached bounds front (slice_index numbers 2 * width_of_basic ids elem ∷ []) >>= λ end.
+    Ok (PrimArray (slice_index numbers 0) (slice_index numbers 1) elem (cut (slice_index numbers 2 * width_of_basic ids elem) front bytes), end)
+
+-- ---- spelling, with the tag
+
+-- a group of fields behind a tag, and then bytes
+abbrev pub tagged_bytes : SubTag → List ℕ → List ℕ → List ℕ → List ℕ
+tagged_bytes tag widths numbers raw = code_of_tag tag ∷ (field_bytes widths numbers ++ raw)
+
+-- the numbers in the groups
+abbrev pub instance_numbers : (id trace class : ℕ) → List ℕ → List ℕ
+instance_numbers id trace class bytes = id ∷ trace ∷ class ∷ length bytes ∷ []
+
+abbrev pub obj_array_numbers : (id trace class : ℕ) → List ℕ → List ℕ
+obj_array_numbers id trace class elements = id ∷ trace ∷ length elements ∷ class ∷ []
+
+abbrev pub prim_array_numbers : IdSize → (id trace : ℕ) → Basic → List ℕ → List ℕ
+prim_array_numbers ids id trace elem bytes = id ∷ trace ∷ length bytes / width_of_basic ids elem ∷ code_of_basic elem ∷ []
+
+-- the sub-record of a root, an instance or an array
+abbrev pub dump_bytes : IdSize → AnyFact → List ℕ
+dump_bytes ids (Rooted root) = root_bytes ids root
+dump_bytes ids (Instance id trace class bytes) = tagged_bytes tags.InstanceDump (instance_widths ids) (instance_numbers id trace class bytes) bytes
+dump_bytes ids (ObjArray id trace class elements) =
+    tagged_bytes tags.ObjArrayDump (obj_array_widths ids) (obj_array_numbers id trace class elements) (field_bytes (id_widths ids (length elements)) elements)
+dump_bytes ids (PrimArray id trace elem bytes) = tagged_bytes tags.PrimArrayDump (prim_array_widths ids) (prim_array_numbers ids id trace elem bytes) bytes
+dump_bytes ids _ = []
+
+-- each field lies in its range, and no element is cut
+abbrev pub DumpFits : IdSize → AnyFact → Type 0
+DumpFits ids (Rooted root) = RootFits ids root
+DumpFits ids (Instance id trace class bytes) = FitFields (instance_widths ids) (instance_numbers id trace class bytes)
+DumpFits ids (ObjArray id trace class elements) =
+    FitFields (obj_array_widths ids) (obj_array_numbers id trace class elements) × FitFields (id_widths ids (length elements)) elements
+DumpFits ids (PrimArray id trace elem bytes) =
+    FitFields (prim_array_widths ids) (prim_array_numbers ids id trace elem bytes) × (length bytes % width_of_basic ids elem ≡ 0) × (element_type (Some elem) ≡ Ok elem)
+DumpFits ids _ = ⊥
+
+-- the tags of roots
+abbrev pub is_root_tag : SubTag → Bool
+is_root_tag tags.ClassDump = false
+is_root_tag tags.InstanceDump = false
+is_root_tag tags.ObjArrayDump = false
+is_root_tag tags.PrimArrayDump = false
+is_root_tag _ = true
+
+-- behind its tag stands what spells the fact, which has a spelling, within all bounds, and ends there
+pub record IsDumpOf (ids : IdSize) (bounds : Bounds) (bytes : List ℕ) (fact : AnyFact) (end : ℕ) : Type 0 where
+  pub fits : DumpFits ids fact
+  pub spelled : drop 1 bytes ≡ drop 1 (dump_bytes ids fact) ++ drop end bytes
+  pub ends : end ≡ length (dump_bytes ids fact)
+  pub within : IsWithin bounds end

@@ -1,0 +1,82 @@
+//! Reading a root behind its tag.
+
+ghost use Rattle.std.specs.Prelude.{◌≡◌, ◌≤◌, length, sum, Ok, Err, MatchResult};
+ghost use Rattle.hprof_items.specs.Fields.{fields_in, reached};
+ghost use Rattle.hprof_items.specs.Item.{bounds_of};
+ghost use Rattle.hprof_items.specs.Root.{root_fields};
+ghost use Rattle.hprof_items.specs.AnyFact.{Rooted};
+ghost use Rattle.hprof_items.specs.SubRecord.{root_of, root_at};
+
+use crate::ids::IdSize;
+use crate::item::Item;
+use crate::number::{split_id, split_u32};
+use crate::root::Root;
+use crate::stop::Stop;
+use crate::sub_tag::SubTag;
+
+/// Where the fields of a root end, or the first of their tests that fails.
+fn root_end(item: &Item<'_>, tag: SubTag, ids: IdSize) -> Result<usize, Stop>
+    ensures { result ≡ reached (bounds_of item.now) 1 (root_fields ids tag) }
+{
+    let id = ids.width();
+    match tag {
+        SubTag::RootJniGlobal => item.end_of(1, &[id, id]),
+        SubTag::RootJniLocal | SubTag::RootJavaFrame | SubTag::RootThreadObject => {
+            item.end_of(1, &[id, 4, 4])
+        }
+        SubTag::RootNativeStack | SubTag::RootBlock => item.end_of(1, &[id, 4]),
+        _ => item.end_of(1, &[id]),
+    }
+}
+
+/// The root of that tag whose fields stand at the front.
+fn root_in(bytes: &[u8], tag: SubTag, ids: IdSize) -> Root
+    requires { sum (root_fields ids tag) ≤ length bytes.now }
+    ensures { result ≡ root_of tag (fields_in (root_fields ids tag) bytes.now) }
+{
+    let (id, rest) = split_id(bytes, ids);
+    match tag {
+        SubTag::RootJniGlobal => {
+            let (reference, _) = split_id(rest, ids);
+            Root::JniGlobal { id, reference }
+        }
+        SubTag::RootJniLocal => {
+            let (thread, rest) = split_u32(rest);
+            let (frame, _) = split_u32(rest);
+            Root::JniLocal { id, thread, frame }
+        }
+        SubTag::RootJavaFrame => {
+            let (thread, rest) = split_u32(rest);
+            let (frame, _) = split_u32(rest);
+            Root::JavaFrame { id, thread, frame }
+        }
+        SubTag::RootNativeStack => {
+            let (thread, _) = split_u32(rest);
+            Root::NativeStack { id, thread }
+        }
+        SubTag::RootSticky => Root::Sticky { id },
+        SubTag::RootBlock => {
+            let (thread, _) = split_u32(rest);
+            Root::Block { id, thread }
+        }
+        SubTag::RootMonitor => Root::Monitor { id },
+        SubTag::RootThreadObject => {
+            let (thread, rest) = split_u32(rest);
+            let (trace, _) = split_u32(rest);
+            Root::ThreadObject { id, thread, trace }
+        }
+        _ => Root::Unknown { id },
+    }
+}
+
+/// Reads a root behind its tag.
+#[tactic(auto, unfolding(crate::specs::SubRecord::root_at))]
+pub(crate) fn read_root(item: &Item<'_>, tag: SubTag, ids: IdSize) -> Result<(Root, usize), Stop>
+    ensures { MatchResult result
+        (λ read. root_at ids tag (bounds_of item.now) item.now.bytes.now ≡ Ok (Rooted read.0, read.1))
+        (λ stop. root_at ids tag (bounds_of item.now) item.now.bytes.now ≡ Err stop) }
+{
+    let end = root_end(item, tag, ids)?;
+    let (_, fields) = item.bytes.split_at(1);
+    Ok((root_in(fields, tag, ids), end))
+}
