@@ -125,8 +125,15 @@ pub returns-clause-refused : goal.returns-clause-refused
 returns-clause-refused g c =
     let e = c.join_kept-kept.ensures in
     refusal g.R.Source.left c.args.readers.now _ _ (joined_of c.join_kept-kept.result) c.end_of_writing-outcome.result
-    (record { ok = e.ok; part = λ index fault same parts told. part_refusal g.R.Source.left g.R.Source.health g.R.Source.pulls c.usual.result parts c.args.readers.now c.join_kept-kept.new.readers index fault
-    (are_usual c.usual.result c.usual.ensures.item c.usual.ensures.reads c.usual.ensures.bytes) (e.part index fault same parts told); conflict = e.conflict; no_parts = e.no_parts.0; id_sizes = e.id_sizes; write = λ fault same. (e.write fault same).1 })
+    (record {
+      ok = e.ok;
+      part = λ index fault same parts told. part_refusal g.R.Source.left g.R.Source.health g.R.Source.pulls c.usual.result parts c.args.readers.now c.join_kept-kept.new.readers index fault
+          (are_usual c.usual.result c.usual.ensures.item c.usual.ensures.reads c.usual.ensures.bytes) (e.part index fault same parts told);
+      conflict = e.conflict;
+      no_parts = e.no_parts.0;
+      id_sizes = e.id_sizes;
+      write = λ fault same. (e.write fault same).1;
+    })
     c.end_of_writing-outcome.ensures.failed c.end_of_writing-outcome.ensures.refused
 
 pub returns-clause-write : goal.returns-clause-write
@@ -135,6 +142,13 @@ returns-clause-write g c =
     let kept = rw c.into_inner-buffered.ensures at c.end_of_writing-outcome.ensures.bytes in
     λ fault is parts told. rw (← c.new-target.ensures.inner, c.into_parts-writer.ensures.inner, c.into_parts-writer.ensures.buffer)
     (stops g.R.Source.left c.args.readers.now _ _ (joined_of c.join_kept-kept.result) c.end_of_writing-outcome.result _
-    (record { ok = e.ok; part = λ index fault same parts told. part_refusal g.R.Source.left g.R.Source.health g.R.Source.pulls c.usual.result parts c.args.readers.now c.join_kept-kept.new.readers index fault
-    (are_usual c.usual.result c.usual.ensures.item c.usual.ensures.reads c.usual.ensures.bytes) (e.part index fault same parts told); conflict = e.conflict; no_parts = e.no_parts.0; id_sizes = e.id_sizes; write = λ fault same. (e.write fault same).1 })
+    (record {
+      ok = e.ok;
+      part = λ index fault same parts told. part_refusal g.R.Source.left g.R.Source.health g.R.Source.pulls c.usual.result parts c.args.readers.now c.join_kept-kept.new.readers index fault
+          (are_usual c.usual.result c.usual.ensures.item c.usual.ensures.reads c.usual.ensures.bytes) (e.part index fault same parts told);
+      conflict = e.conflict;
+      no_parts = e.no_parts.0;
+      id_sizes = e.id_sizes;
+      write = λ fault same. (e.write fault same).1;
+    })
     kept c.end_of_writing-outcome.ensures.refused fault is parts told)
