@@ -2,7 +2,7 @@
 use Rattle.std.proofs.Common.{◌≡◌, ℕ, ◌+◌, ◌-◌, ◌<◌, ◌≤◌, min, eqb, Bool, true, false, ◌||◌, List, [], ◌++◌, length, take, Option, Some, None, Result, Ok, Err, inl, inr, refl, sym, ap, subst, ◌∙◌, arith}
 use Rattle.std.proofs.Math.Seq.{take-append-add}
 use Rattle.std.proofs.lemmas.Bool.{eqb-true, eqb-false}
-use Rattle.std.proofs.lemmas.List.{length-append, nil_from_length, take_min}
+use Rattle.std.proofs.lemmas.List.{length-append, length-take, nil_from_length, take_min}
 use Rattle.std.proofs.lemmas.List.Folds.{list_any-append}
 use Rattle.std.specs.Prelude.{OnOk, OnErr}
 use Rattle.std.specs.List.{list_any}
@@ -74,6 +74,13 @@ pub taken_is : (limit : ℕ) (bytes piece : List ℕ) → length bytes ≤ limit
 taken_is limit bytes piece within =
     let split : limit ≡ length bytes + (limit - length bytes) = omega arith in
     ap (λ (n : ℕ). take n (bytes ++ piece)) split ∙ take-append-add bytes piece (limit - length bytes)
+
+-- what is taken of a piece is within the limit, and nothing of a piece that has nothing
+taken_within : (limit : ℕ) (bytes piece taken : List ℕ) → bytes ++ taken ≡ take limit (bytes ++ piece) → length bytes + length taken ≤ limit
+taken_within limit bytes piece taken e = omega (arith, ap length e, length-append bytes taken, length-take limit (bytes ++ piece))
+
+some_of_taken : (limit : ℕ) (bytes piece taken : List ℕ) → bytes ++ taken ≡ take limit (bytes ++ piece) → 0 < length taken → 0 < length piece
+some_of_taken limit bytes piece taken e some = omega (arith, some, ap length e, length-append bytes taken, length-append bytes piece, length-take limit (bytes ++ piece))
 
 -- as many bytes as there were are those of the items and those that are held
 read_length : (limits : Limits) (bytes : List ℕ) (facts : List FactValue) (reader : PartReader) → HasRead limits bytes facts reader → length bytes ≡ reader.progress.at + length reader.held.items
@@ -251,7 +258,8 @@ module _ {S : Type 0} (begins : S → Header → S → Type 0) (steps : S → Fa
   Feeds-read_on limits bytes piece taken facts from to still old new (faults.ItemTooLong at) read whole on = feed_halts limits bytes piece taken facts from to.progress old new (faults.ItemTooLong at) read whole on
   Feeds-read_on limits bytes piece taken facts from to still old new (faults.Sink fault) read whole on = feed_halts limits bytes piece taken facts from to.progress old new (faults.Sink fault) read whole on
   Feeds-read_on limits bytes piece taken facts from to still old new faults.OutOfMemory read whole on =
-      inr (IsWithinItem-read limits bytes facts from read on.2, ap (λ (p : Progress). p.header) on.0, on.1)
+      let taken_len = taken_within limits.max_bytes bytes piece taken whole in
+      (some_of_taken limits.max_bytes bytes piece taken whole on.3, inr (omega (arith, taken_len, on.3), IsWithinItem-read limits bytes facts from read on.2, ap (λ (p : Progress). p.header) on.0, on.1))
   Feeds-read_on limits bytes piece taken facts from to still old new faults.Failed read whole on = absurd on.stops
   Feeds-read_on limits bytes piece taken facts from to still old new faults.Read read whole on = absurd on.stops
   Feeds-read_on limits bytes piece taken facts from to still old new faults.ReadsExceeded read whole on = absurd on.stops
@@ -273,18 +281,18 @@ module _ {S : Type 0} (begins : S → Header → S → Type 0) (steps : S → Fa
 
   -- there is no memory to hold the rest
   feeds_memory : (limits : Limits) (bytes piece : List ℕ) (facts : List FactValue) (from to : PartReader) (still rest : List ℕ) (old new : S)
-      → HasRead limits bytes facts from → length (bytes ++ piece) ≤ limits.max_bytes → ReadsOn begins steps refuses failed from.progress from.held.items piece old (Ok rest) to.progress still new → 0 < length rest
+      → HasRead limits bytes facts from → length (bytes ++ piece) ≤ limits.max_bytes → ReadsOn begins steps refuses failed from.progress from.held.items piece old (Ok rest) to.progress still new → 0 < length rest → length rest ≤ length piece
       → Feeds begins steps refuses failed limits bytes facts from piece old (Err faults.OutOfMemory) to new
-  feeds_memory limits bytes piece facts from to still rest old new read within on some =
+  feeds_memory limits bytes piece facts from to still rest old new read within on some shorter =
       let place : Place = place_behind (header_of to) in
       let walked = HasWalked-on begins steps limits bytes piece facts from to.progress (still ++ rest) old new read on.0 in
       let short : item_at limits.max_item place (still ++ rest) ≡ Short = subst (λ (l : Limits). item_at l.max_item place (still ++ rest) ≡ Short) walked.has_limits on.1 in
-      inl (
+      (omega (arith, some, shorter), inl (
         within,
         short_unsettled limits.max_item (bytes ++ piece) walked.items place (still ++ rest) walked.splits short,
         IsWithinItem-walked begins steps limits (bytes ++ piece) facts (header_of from) to.progress (still ++ rest) old new walked short (omega (arith, some, length-append still rest)),
         RanOver-walked begins steps limits (bytes ++ piece) facts (header_of from) to.progress (still ++ rest) old new walked (ap is_whole short),
-      )
+      ))
 
   -- the rest is held
   pub Feeds-held : (limits : Limits) (bytes piece : List ℕ) (facts : List FactValue) (from to : PartReader) (still rest : List ℕ) (old new : S) (done : Unit {0})
@@ -299,10 +307,10 @@ module _ {S : Type 0} (begins : S → Header → S → Type 0) (steps : S → Fa
   -- the rest is held, or there is no memory for it
   pub Feeds-hold : (limits : Limits) (bytes piece taken : List ℕ) (facts : List FactValue) (from to : PartReader) (still rest : List ℕ) (old new : S) (result : Result (Unit {0}) PartFault)
       → HasRead limits bytes facts from → length (bytes ++ piece) ≤ limits.max_bytes → taken ≡ piece → ReadsOn begins steps refuses failed from.progress from.held.items taken old (Ok rest) to.progress still new
-      → OnOk result (to.held.items ≡ still ++ rest) → OnErr result ((result ≡ Err faults.OutOfMemory) × (to.held.items ≡ still) × (0 < length rest)) → has_failed to ≡ false → Feeds begins steps refuses failed limits bytes facts from piece old result to new
-  Feeds-hold limits bytes piece taken facts from to still rest old new (Ok done) read within all on ok err sound =
+      → OnOk result (to.held.items ≡ still ++ rest) → OnErr result ((result ≡ Err faults.OutOfMemory) × (to.held.items ≡ still) × (0 < length rest)) → length rest ≤ length taken → has_failed to ≡ false → Feeds begins steps refuses failed limits bytes facts from piece old result to new
+  Feeds-hold limits bytes piece taken facts from to still rest old new (Ok done) read within all on ok err shorter sound =
       Feeds-held limits bytes piece facts from to still rest old new done read within (subst (λ (t : List ℕ). ReadsOn begins steps refuses failed from.progress from.held.items t old (Ok rest) to.progress still new) all on) ok sound
-  Feeds-hold limits bytes piece taken facts from to still rest old new (Err fault) read within all on ok err sound =
+  Feeds-hold limits bytes piece taken facts from to still rest old new (Err fault) read within all on ok err shorter sound =
       let same : faults.OutOfMemory ≡ fault = out_of_memory fault err.0 in
       subst (λ (f : PartFault). Feeds begins steps refuses failed limits bytes facts from piece old (Err f) to new) same
-      (feeds_memory limits bytes piece facts from to still rest old new read within (subst (λ (t : List ℕ). ReadsOn begins steps refuses failed from.progress from.held.items t old (Ok rest) to.progress still new) all on) err.2)
+      (feeds_memory limits bytes piece facts from to still rest old new read within (subst (λ (t : List ℕ). ReadsOn begins steps refuses failed from.progress from.held.items t old (Ok rest) to.progress still new) all on) err.2 (omega (arith, shorter, ap length all)))

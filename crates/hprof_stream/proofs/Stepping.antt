@@ -262,7 +262,7 @@ module _ {S : Type 0} (begins : S → Header → S → Type 0) (steps : S → Fa
   ReadsOn-held_err from to held bytes still old new (faults.Malformed at reason) on = on.0
   ReadsOn-held_err from to held bytes still old new (faults.ItemTooLong at) on = on.0
   ReadsOn-held_err from to held bytes still old new (faults.Sink fault) on = on.0
-  ReadsOn-held_err from to held bytes still old new faults.OutOfMemory on = (on.0, on.1, on.3)
+  ReadsOn-held_err from to held bytes still old new faults.OutOfMemory on = (on.0, on.1, on.3, on.4)
   ReadsOn-held_err from to held bytes still old new faults.Failed on = on.0
   ReadsOn-held_err from to held bytes still old new faults.Read on = on.0
   ReadsOn-held_err from to held bytes still old new faults.ReadsExceeded on = on.0

@@ -146,7 +146,7 @@ module _ {S : Type 0} (begins : S → Header → S → Type 0) (steps : S → Fa
   LacksMemory limits bytes facts before piece old after new =
       ((length (bytes ++ piece) ≤ limits.max_bytes) × HasNoSettledFault limits.max_item (bytes ++ piece) × IsWithinItem limits.max_item (bytes ++ piece)
       × RanOver begins steps limits.max_item (bytes ++ piece) facts before after old new)
-      ⊎ (IsWithinItem limits.max_item bytes × (after ≡ before) × (old ≡ new))
+      ⊎ ((length bytes < limits.max_bytes) × IsWithinItem limits.max_item bytes × (after ≡ before) × (old ≡ new))
 
   -- what feeding a piece does, to a reader that was fed bytes which state facts
   abbrev pub Feeds : Limits → List ℕ → List FactValue → PartReader → List ℕ → S → Result (Unit {0}) PartFault → PartReader → S → Type 0
@@ -154,7 +154,7 @@ module _ {S : Type 0} (begins : S → Header → S → Type 0) (steps : S → Fa
       (handed : List FactValue) × HasRead limits (bytes ++ piece) (facts ++ handed) to
       × Run begins steps old (became (header_of from) (header_of to)) handed new
   Feeds limits bytes facts from piece old (Err faults.OutOfMemory) to new =
-      LacksMemory limits bytes facts (header_of from) piece old (header_of to) new
+      (0 < length piece) × LacksMemory limits bytes facts (header_of from) piece old (header_of to) new
   Feeds limits bytes facts from piece old (Err fault) to new =
       IsFeedFault limits (bytes ++ piece) facts (header_of from) (header_of to) old fault new
 
@@ -168,31 +168,46 @@ Finishes limits bytes facts header (Err fault) = IsFirstFault limits.max_item by
 
 -- ---- a part from a source
 
--- the pulls of a source, which a u64 can count, rose by so many, or stand at the greatest number
-abbrev pub AreSpent : ℕ → ℕ → ℕ → Type 0
-AreSpent old new most = old < 2 ^ 64 → new ≡ min (old + most) (2 ^ 64 - 1)
-
 -- an item could not be held: that in which a front and the piece behind it end, when nothing is wrong in them; or the
 -- one in which the front ended
 abbrev pub IsUnheld : Limits → List ℕ → List ℕ → Type 0
 IsUnheld limits front piece =
     ((length (front ++ piece) ≤ limits.max_bytes) × HasNoSettledFault limits.max_item (front ++ piece) × IsWithinItem limits.max_item (front ++ piece))
-    ⊎ IsWithinItem limits.max_item front
+    ⊎ ((length front < limits.max_bytes) × IsWithinItem limits.max_item front)
 
 module _ {R : Type 0} (left : R → Option (List ℕ)) (pulls : R → ℕ) where
-  -- these bytes came from a source: a front, in which nothing is wrong, and with its last pull a piece, of no more bytes
-  -- than a read asks for
+  -- one pull of a source gave these bytes, which are no more than a read asks for
+  pub record IsPull (from : R) (piece : List ℕ) (to : R) : Type 0 where
+    pub gave : Consumes (left from) (left to) piece
+    pub one : pulls to ≡ min (pulls from + 1) (2 ^ 64 - 1)
+    pub few : length piece ≤ 65536
+
+  -- so many pulls, one after the other, gave these bytes, and each of them one or more
+  pub data Pulled (was : R) : List ℕ → ℕ → R → Type 0 where
+    none : Pulled was [] 0 was
+    once_more : {came piece : List ℕ} {count : ℕ} {mid is : R} → Pulled was came count mid → IsPull mid piece is → 0 < length piece → Pulled was (came ++ piece) (count + 1) is
+
+  -- these bytes came, and then one pull more gave nothing; there were no more pulls than may be made
+  pub record PulledOut (limits : Limits) (was : R) (came : List ℕ) (is : R) : Type 0 where
+    pub before : R
+    pub count : ℕ
+    pub pulled : Pulled was came count before
+    pub allowed : count < limits.max_reads
+    pub last : IsPull before [] is
+
+  -- these bytes came from a source: a front, in which nothing is wrong, and with its last pull a piece; there were no
+  -- more pulls than may be made
   --   was, is: the source before the first pull and behind the last;  before: before the last
   pub record CameLast (limits : Limits) (was : R) (came : List ℕ) (is : R) : Type 0 where
     pub before : R
     pub front : List ℕ
     pub piece : List ℕ
+    pub count : ℕ
     pub parts : came ≡ front ++ piece
-    pub gave : Consumes (left was) (left before) front
-    pub gave_last : Consumes (left before) (left is) piece
-    pub one_pull : pulls is ≡ min (pulls before + 1) (2 ^ 64 - 1)
+    pub pulled : Pulled was front count before
+    pub allowed : count < limits.max_reads
+    pub last : IsPull before piece is
     pub some : 0 < length piece
-    pub few : length piece ≤ 65536
     pub within : length front ≤ limits.max_bytes
     pub unsettled : HasNoSettledFault limits.max_item front
 
@@ -225,14 +240,14 @@ module _ {R : Type 0} (left : R → Option (List ℕ)) (health : R → Health) (
   --   was, is: the source, before and afterwards
   abbrev pub ReadsPart : Limits → R → List ℕ → R → S → Result PartSummary PartFault → S → Type 0
   ReadsPart limits was came is old (Ok summary) new =
-      IsAtEnd (left is) × (health is ≡ healths.Well) × (length came ≤ limits.max_bytes) × HasNoFault limits.max_item came × IsSummary came summary
+      PulledOut left pulls limits was came is × IsAtEnd (left is) × (health is ≡ healths.Well) × (length came ≤ limits.max_bytes) × HasNoFault limits.max_item came × IsSummary came summary
       × ((facts : List FactValue) × IsPart came summary.header.ids summary.header.millis facts × Run begins steps old (Some summary.header) facts new)
   ReadsPart limits was came is old (Err faults.Read) new =
-      (health is ≡ healths.Failed) × IsJudged begins steps refuses failed limits came old new
+      PulledOut left pulls limits was came is × (health is ≡ healths.Failed) × IsJudged begins steps refuses failed limits came old new
   ReadsPart limits was came is old (Err faults.ReadsExceeded) new =
-      (health is ≡ healths.Well) × AreSpent (pulls was) (pulls is) limits.max_reads × (limits.max_reads ≤ length came) × IsJudged begins steps refuses failed limits came old new
+      Pulled left pulls was came limits.max_reads is × (health is ≡ healths.Well) × IsJudged begins steps refuses failed limits came old new
   ReadsPart limits was came is old (Err (faults.Malformed at Truncated)) new =
-      IsAtEnd (left is) × (health is ≡ healths.Well) × (length came ≤ limits.max_bytes) × IsFirstFault limits.max_item came (faults.Malformed at Truncated)
+      PulledOut left pulls limits was came is × IsAtEnd (left is) × (health is ≡ healths.Well) × (length came ≤ limits.max_bytes) × IsFirstFault limits.max_item came (faults.Malformed at Truncated)
       × ((header : Option Header) × RanOver begins steps limits.max_item came [] None header old new)
   ReadsPart limits was came is old (Err faults.OutOfMemory) new =
       (health is ≡ healths.Well) × (((came ≡ []) × (was ≡ is) × (old ≡ new))
@@ -240,4 +255,4 @@ module _ {R : Type 0} (left : R → Option (List ℕ)) (health : R → Health) (
   ReadsPart limits was came is old (Err (faults.Sink fault)) new =
       (health is ≡ healths.Well) × ((last : CameLast left pulls limits was came is) × RefusesAtLast begins steps refuses failed limits last.front came old fault new)
   ReadsPart limits was came is old (Err fault) new =
-      (health is ≡ healths.Well) × ((header : Option Header) × IsFeedFault begins steps refuses failed limits came [] None header old fault new)
+      CameLast left pulls limits was came is × (health is ≡ healths.Well) × ((header : Option Header) × IsFeedFault begins steps refuses failed limits came [] None header old fault new)

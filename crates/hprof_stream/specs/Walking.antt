@@ -17,7 +17,7 @@ use Rattle.hprof_stream.specs.declared.part_reader.PartReader.{PartReader}
 use Rattle.hprof_stream.specs.Part.{Stated, all_bytes, all_facts, is_end}
 use Rattle.hprof_stream.specs.Item.{place_behind, Found, IsItem, AreItems, item_at}
 use Rattle.hprof_stream.specs.Run.{Run, became}
-use Rattle.hprof_stream.specs.Reader.{header_of, header_count, HasRead, Refuses, ReadsPart}
+use Rattle.hprof_stream.specs.Reader.{header_of, header_count, HasRead, Refuses, PulledOut, ReadsPart}
 
 -- ---- where it stands
 
@@ -110,7 +110,7 @@ module _ {S : Type 0} (begins : S → Header → S → Type 0) (steps : S → Fa
   FinishesHeld from held bytes old (Ok rest) to still new =
       Walks begins steps from (held ++ bytes) old to (still ++ rest) new
       × ((still ≡ []) ⊎ ((rest ≡ []) × (item_at to.limits.max_item (place_behind to.header) still ≡ Short)))
-  FinishesHeld from held bytes old (Err faults.OutOfMemory) to still new = (to ≡ from) × (old ≡ new) × (still ≡ []) × (0 < length held)
+  FinishesHeld from held bytes old (Err faults.OutOfMemory) to still new = (to ≡ from) × (old ≡ new) × (still ≡ []) × (0 < length held) × (0 < length bytes)
   FinishesHeld from held bytes old (Err fault) to still new = Halts from (held ++ bytes) old fault to new × (still ≡ [])
 
   -- whole items were walked over up to a rest that needs more bytes, which is held or behind what is held; or up to
@@ -119,7 +119,7 @@ module _ {S : Type 0} (begins : S → Header → S → Type 0) (steps : S → Fa
   ReadsOn from held bytes old (Ok rest) to still new =
       Walks begins steps from (held ++ bytes) old to (still ++ rest) new
       × (item_at to.limits.max_item (place_behind to.header) (still ++ rest) ≡ Short)
-  ReadsOn from held bytes old (Err faults.OutOfMemory) to still new = (to ≡ from) × (old ≡ new) × (0 < length held)
+  ReadsOn from held bytes old (Err faults.OutOfMemory) to still new = (to ≡ from) × (old ≡ new) × (0 < length held) × (0 < length bytes)
   ReadsOn from held bytes old (Err fault) to still new = Halts from (held ++ bytes) old fault to new
 
 -- the bytes behind the reference
@@ -134,6 +134,6 @@ module _ {R : Type 0} (left : R → Option (List ℕ)) (health : R → Health) (
   -- feeding a new reader all pieces of a source
   abbrev pub FeedsAll : Limits → R → List ℕ → R → S → Result (Unit {0}) PartFault → PartReader → S → Type 0
   FeedsAll limits was came is old (Ok _) to new =
-      IsAtEnd (left is) × (health is ≡ healths.Well)
+      PulledOut left pulls limits was came is × IsAtEnd (left is) × (health is ≡ healths.Well)
       × ((facts : List FactValue) × HasRead limits came facts to × Run begins steps old (header_of to) facts new)
   FeedsAll limits was came is old (Err fault) to new = ReadsPart left health pulls begins steps refuses failed limits was came is old (Err fault) new

@@ -1,6 +1,6 @@
 //! The bytes of an item that is not whole yet.
 
-ghost use Rattle.std.specs.Prelude.{◌≡◌, ◌+◌, ◌<◌, ◌++◌, length, Some, IfOk, OnOk, OnErr};
+ghost use Rattle.std.specs.Prelude.{◌≡◌, ◌+◌, ◌<◌, ◌≤◌, ◌++◌, length, Some, IfOk, OnOk, OnErr};
 ghost use Rattle.hprof_items.specs.declared.step.Step.TheVariants.{Short};
 ghost use Rattle.hprof_stream.specs.Item.{place_behind, item_at};
 ghost use Rattle.hprof_stream.specs.Reader.{IsBegun};
@@ -53,7 +53,8 @@ fn fill_held<'a>(
 ) -> Result<&'a [u8], PartFault>
     requires short { item_at progress.now.limits.max_item (place_behind progress.now.header) held.old.items ≡ Short }
     ensures ok { IfOk result (λ rest. Fills progress.now held.old.items bytes.now held.new.items rest.now) }
-    ensures err { OnErr result (result ≡ Err PartFault.OutOfMemory) }
+    ensures shorter { IfOk result (λ rest. length rest.now ≤ length bytes.now) }
+    ensures err { OnErr result ((result ≡ Err PartFault.OutOfMemory) × (0 < length bytes.now)) }
 {
     let mut rest = bytes;
     loop {
@@ -81,6 +82,7 @@ fn finish_held<'a, S: Sink>(
     requires short { item_at progress.old.limits.max_item (place_behind progress.old.header) held.old.items ≡ Short }
     ensures finished { FinishesHeld S.begins S.steps S.refuses S.failed
         progress.old held.old.items bytes.now sink.old (seen result) progress.new held.new.items sink.new }
+    ensures shorter { IfOk result (λ rest. length rest.now ≤ length bytes.now) }
     ensures counted { IsCounted progress.new (length held.new.items) }
     ensures begun { OnOk result (IsBegun progress.new.header (S.begun sink.new)) }
 {
@@ -119,6 +121,7 @@ pub(crate) fn read_on<'a, S: Sink>(
         progress.old held.old.items bytes.now sink.old (seen result) progress.new held.new.items sink.new }
     ensures short { item_at progress.new.limits.max_item (place_behind progress.new.header) held.new.items ≡ Short }
     ensures counted { IsCounted progress.new (length held.new.items) }
+    ensures shorter { IfOk result (λ rest. length rest.now ≤ length bytes.now) }
     ensures room { IfOk result (λ rest. IsCounted progress.new (length held.new.items + length rest.now)) }
     ensures begun { OnOk result (IsBegun progress.new.header (S.begun sink.new)) }
 {

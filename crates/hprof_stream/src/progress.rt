@@ -183,6 +183,7 @@ impl Progress {
         requires counted { IsCounted self.old (length bytes.now) }
         requires begun { IsBegun self.old.header (S.begun sink.old) }
         ensures walk { WalksAll S.begins S.steps S.refuses S.failed self.old bytes.now sink.old (seen result) self.new sink.new }
+        ensures shorter { IfOk result (λ rest. length rest.now ≤ length bytes.now) }
         ensures begun { OnOk result (IsBegun self.new.header (S.begun sink.new)) }
     {
         let mut rest = bytes;

@@ -31,7 +31,7 @@ fn feed_all<R: Source, S: Sink>(
     requires few { length piece.old ≤ 65536 }
     requires begun { IsReady reader.old (S.begun sink.old) }
     ensures fed { (limits : Limits) → HasRead limits [] [] reader.old → limits.max_reads ≡ max_reads
-        → ((came : List ℕ) × Consumes (R.left source.old) (R.left source.new) came × (R.pulls source.new ≤ R.pulls source.old + length came + 1)
+        → ((came : List ℕ) × Consumes (R.left source.old) (R.left source.new) came
         × FeedsAll R.left R.health R.pulls S.begins S.steps S.refuses S.failed limits source.old came source.new sink.old result reader.new sink.new) }
     ensures pulls { R.pulls source.new ≤ R.pulls source.old + max_reads }
 {
@@ -56,10 +56,10 @@ pub fn read_part<R: Source, S: Sink>(
     sink: &mut S,
 ) -> Result<PartSummary, PartFault>
     requires { R.health source.old ≡ Well }
-    // Bytes came, one or more with each pull but the last, and this is what they come to. How many pulls make too many
-    // reads is told where their count was below 2^64. Want of memory is the reader's where a front of the bytes, all but
+    // Bytes came, one or more with each pull, behind which a pull that gave none ends the part; this is what they come to.
+    // Want of memory is the reader's where a front of the bytes, all but
     // what the last pull gave, had been judged, and an item could not be held; or where nothing was read.
-    ensures read { (came : List ℕ) × Consumes (R.left source.old) (R.left source.new) came × (R.pulls source.new ≤ R.pulls source.old + length came + 1)
+    ensures read { (came : List ℕ) × Consumes (R.left source.old) (R.left source.new) came
         × ReadsPart R.left R.health R.pulls S.begins S.steps S.refuses S.failed limits source.old came source.new sink.old result sink.new }
     // No more reads were made than the limit.
     ensures pulls { R.pulls source.new ≤ R.pulls source.old + limits.max_reads }

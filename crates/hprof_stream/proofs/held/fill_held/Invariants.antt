@@ -5,6 +5,7 @@ use Rattle.hprof_stream.proofs.held.fill_held.Given as goal
 
 abbrev pub invariant-loop-rest : goal.invariant-loop-rest
 invariant-loop-rest l = record {
+  shrinks : length l.rest ≤ length l.bytes;
   moved : l.fn.held.items ++ l.bytes ≡ l.held.items ++ l.rest;
   one : (found : Found) (n : ℕ) → item_at l.progress.limits.max_item (place_behind l.progress.header) l.held.items ≡ Whole found n → length l.held.items ≤ n;
 }

@@ -1,4 +1,4 @@
-use Rattle.std.proofs.Common.{◌≡◌, ◌+◌, ◌-◌, ◌^◌, ◌<◌, ◌≤◌, min, [], length}
+use Rattle.std.proofs.Common.{◌≡◌, ◌+◌, ◌<◌, ◌≤◌, [], length}
 use Rattle.hprof_items.specs.declared.health.Health.TheVariants.{Well}
 use Rattle.hprof_stream.specs.declared.limits.Limits.{Limits}
 use Rattle.hprof_stream.specs.Reader.{HasRead, IsReady}
@@ -7,9 +7,8 @@ use Rattle.hprof_stream.proofs.reading.feed_all.Given as goal
 
 abbrev pub invariant-loop : goal.invariant-loop
 invariant-loop g l = record {
-  fed : (limits : Limits) → HasRead limits [] [] l.fn.reader → HasFed g.S.Sink.begins g.S.Sink.steps limits l.counter (g.R.Source.left l.fn.source) (g.R.Source.left l.source) l.reader l.fn.sink l.sink;
+  fed : (limits : Limits) → HasRead limits [] [] l.fn.reader → HasFed g.R.Source.left g.R.Source.health g.R.Source.pulls g.S.Sink.begins g.S.Sink.steps g.S.Sink.refuses g.S.Sink.failed limits l.counter l.fn.source l.source l.reader l.fn.sink l.sink;
   well : g.R.Source.health l.source ≡ Well;
-  spent : g.R.Source.pulls l.fn.source < 2 ^ 64 → g.R.Source.pulls l.source ≡ min (g.R.Source.pulls l.fn.source + l.counter) (2 ^ 64 - 1);
   few : g.R.Source.pulls l.source ≤ g.R.Source.pulls l.fn.source + l.counter;
   room : 0 < length l.piece;
   small : length l.piece ≤ 65536;

@@ -20,7 +20,6 @@ returns-clause-read g c =
     let fed = c.in_ok-feed_all.ensures.fed c.args.limits c.new-reader.ensures.read refl in (
       fed.0,
       fed.1,
-      fed.2,
       ReadsPart-finished g.R.Source.left g.R.Source.health g.R.Source.pulls g.S.Sink.begins g.S.Sink.steps g.S.Sink.refuses g.S.Sink.failed c.args.limits c.args.source.now fed.0 c.feed_all.new.source c.feed_all.new.reader
-          c.args.sink.now c.feed_all.new.sink c.in_ok-feed_all.field-0 c.finish.result fed.3 (λ facts was. c.finish.ensures.finished c.args.limits fed.0 facts was),
+          c.args.sink.now c.feed_all.new.sink c.in_ok-feed_all.field-0 c.finish.result fed.2 (λ facts was. c.finish.ensures.finished c.args.limits fed.0 facts was),
     )

@@ -46,7 +46,7 @@ returns-clause-fed g c =
     let none = none_left excess (length excess) c.is_empty.result c.if-not-is_empty.false c.is_empty.ensures refl in
     let le : length piece ≤ c.min.result = omega (arith, ap length none, ap length c.split_at.ensures.back, length-drop c.min.result piece) in
     λ limits bytes facts read. Feeds-hold g.S.Sink.begins g.S.Sink.steps g.S.Sink.refuses g.S.Sink.failed limits bytes piece taken facts self _ c.read_on.new.held.items c.in_ok-rest.rest.now
-    c.args.sink.now c.read_on.new.sink c.hold.result read (taken_all limits bytes piece facts self c.min.result read count le) (c.split_at.ensures.front ∙ take_all c.min.result piece le) c.in_ok-rest.ensures.read c.hold.ensures.ok c.hold.ensures.err c.requires.sound
+    c.args.sink.now c.read_on.new.sink c.hold.result read (taken_all limits bytes piece facts self c.min.result read count le) (c.split_at.ensures.front ∙ take_all c.min.result piece le) c.in_ok-rest.ensures.read c.hold.ensures.ok c.hold.ensures.err c.in_ok-rest.ensures.shorter c.requires.sound
 
 pub returns-clause-kept : goal.returns-clause-kept
 returns-clause-kept g c = λ header e.
