@@ -56,31 +56,31 @@ no_failure limits bytes told old mid sound ran refuses =
 
 -- what could not be held
 unheld : (limits : Limits) (front piece : List ℕ) (old new : Gatherer) → LacksAtLast shown_begins shown_steps shown_refuses shown_failed limits front piece old new → IsUnheld limits front piece
-unheld limits front piece old new lacks = elim lacks.lacks [ inl all ↦ inl (all.0, all.1, all.2) | inr held ↦ inr held.0 ]
+unheld limits front piece old new lacks = elim lacks.lacks [ inl all ↦ inl (all.0, all.1, all.2) | inr held ↦ inr (held.0, held.1) ]
 
 module _ {R : Type 0} (left : R → Option (List ℕ)) (health : R → Health) (pulls : R → ℕ) where
   -- with which fault a part is refused of which these bytes came
   pub fault_of_came : (limits : Limits) (was : R) (came : List ℕ) (is : R) (old new : Gatherer) (fault : PartFault) → (gathered old).failed ≡ false
       → ReadsPart left health pulls shown_begins shown_steps shown_refuses shown_failed limits was came is old (Err fault) new → IsPartFault left health pulls limits was came is fault
   fault_of_came limits was came is old new (faults.Malformed at Truncated) sound reads =
-      (reads.1, subst (λ (b : List ℕ). IsFirstFault limits.max_item b (faults.Malformed at Truncated)) (sym (take_all limits.max_bytes came reads.2)) reads.3, λ _. (reads.0, reads.2))
-  fault_of_came limits was came is old new (faults.Malformed at BadMagic) sound reads = (reads.0, reads.1.1.0, λ e. absurd cc)
-  fault_of_came limits was came is old new (faults.Malformed at BadIdSize) sound reads = (reads.0, reads.1.1.0, λ e. absurd cc)
-  fault_of_came limits was came is old new (faults.Malformed at BadLength) sound reads = (reads.0, reads.1.1.0, λ e. absurd cc)
-  fault_of_came limits was came is old new (faults.Malformed at BadSubTag) sound reads = (reads.0, reads.1.1.0, λ e. absurd cc)
-  fault_of_came limits was came is old new (faults.Malformed at PastEnd) sound reads = (reads.0, reads.1.1.0, λ e. absurd cc)
-  fault_of_came limits was came is old new (faults.Malformed at BadType) sound reads = (reads.0, reads.1.1.0, λ e. absurd cc)
-  fault_of_came limits was came is old new (faults.Malformed at Unsupported) sound reads = (reads.0, reads.1.1.0, λ e. absurd cc)
-  fault_of_came limits was came is old new (faults.ItemTooLong at) sound reads = (reads.0, reads.1.1.0)
+      (reads.2, subst (λ (b : List ℕ). IsFirstFault limits.max_item b (faults.Malformed at Truncated)) (sym (take_all limits.max_bytes came reads.3)) reads.4, λ e. absurd cc, λ _. (reads.0, reads.1, reads.3))
+  fault_of_came limits was came is old new (faults.Malformed at BadMagic) sound reads = (reads.1, reads.2.1.0, λ _. reads.0, λ e. absurd cc)
+  fault_of_came limits was came is old new (faults.Malformed at BadIdSize) sound reads = (reads.1, reads.2.1.0, λ _. reads.0, λ e. absurd cc)
+  fault_of_came limits was came is old new (faults.Malformed at BadLength) sound reads = (reads.1, reads.2.1.0, λ _. reads.0, λ e. absurd cc)
+  fault_of_came limits was came is old new (faults.Malformed at BadSubTag) sound reads = (reads.1, reads.2.1.0, λ _. reads.0, λ e. absurd cc)
+  fault_of_came limits was came is old new (faults.Malformed at PastEnd) sound reads = (reads.1, reads.2.1.0, λ _. reads.0, λ e. absurd cc)
+  fault_of_came limits was came is old new (faults.Malformed at BadType) sound reads = (reads.1, reads.2.1.0, λ _. reads.0, λ e. absurd cc)
+  fault_of_came limits was came is old new (faults.Malformed at Unsupported) sound reads = (reads.1, reads.2.1.0, λ _. reads.0, λ e. absurd cc)
+  fault_of_came limits was came is old new (faults.ItemTooLong at) sound reads = (reads.1, reads.2.1.0, reads.0)
   fault_of_came limits was came is old new faults.OutOfMemory sound reads =
       (reads.0, elim reads.1 [ inl nothing ↦ inl (nothing.0, nothing.1) | inr last ↦ inr (last.0, unheld limits last.0.front last.0.piece old new last.1) ])
   fault_of_came limits was came is old new (faults.Sink sinks.OutOfMemory) sound reads = (reads.0, (reads.1.0, (reads.1.1.header, reads.1.1.ran.whole, reads.1.1.behind)))
   fault_of_came limits was came is old new (faults.Sink sinks.Failed) sound reads =
       no_failure limits (take limits.max_bytes came) reads.1.1.header old reads.1.1.mid sound reads.1.1.ran reads.1.1.refused.0
-  fault_of_came limits was came is old new faults.Failed sound reads = absurd reads.1.1
-  fault_of_came limits was came is old new faults.Read sound reads = (reads.0, reads.1.0, reads.1.1)
-  fault_of_came limits was came is old new faults.ReadsExceeded sound reads = (reads.0, reads.1, reads.2, reads.3.0, reads.3.1)
-  fault_of_came limits was came is old new faults.BytesExceeded sound reads = (reads.0, reads.1.1.0, reads.1.1.1)
+  fault_of_came limits was came is old new faults.Failed sound reads = absurd reads.2.1
+  fault_of_came limits was came is old new faults.Read sound reads = (reads.1, reads.2.0, reads.2.1, reads.0)
+  fault_of_came limits was came is old new faults.ReadsExceeded sound reads = (reads.1, reads.0, reads.2.0, reads.2.1)
+  fault_of_came limits was came is old new faults.BytesExceeded sound reads = (reads.1, reads.2.1.0, reads.2.1.1, reads.0)
 
   -- a fault of an item that came is the first of the whole part
   of_rest : (limits : Limits) (was : R) (came rest : List ℕ) (is : R) (fault : PartFault) → left is ≡ Some rest → IsPartFault left health pulls limits was came is fault → IsOfPart limits.max_item (came ++ rest) fault
@@ -88,9 +88,9 @@ module _ {R : Type 0} (left : R → Option (List ℕ)) (health : R → Health) (
       elim (cases_Bool (is_lasting reason)) [
         | inl settled ↦ settled_of_whole limits.max_item limits.max_bytes came rest (faults.Malformed at reason) why.1 settled
         | inr unsettled ↦
-            let whole = why.2 unsettled in
-            let none : rest ≡ [] = subst IsAtEnd told whole.0 in
-            unsettled_of_whole limits.max_item limits.max_bytes came rest (faults.Malformed at reason) why.1 none whole.1
+            let whole = why.3 unsettled in
+            let none : rest ≡ [] = subst IsAtEnd told whole.1 in
+            unsettled_of_whole limits.max_item limits.max_bytes came rest (faults.Malformed at reason) why.1 none whole.2
       ]
   of_rest limits was came rest is (faults.ItemTooLong at) told why = settled_of_whole limits.max_item limits.max_bytes came rest (faults.ItemTooLong at) why.1 refl
   of_rest limits was came rest is faults.OutOfMemory told why = tt

@@ -12,7 +12,7 @@ use Rattle.hprof_stream.specs.declared.part_fault.PartFault.{PartFault}
 use Rattle.hprof_stream.specs.declared.part_fault.PartFault.TheVariants as faults
 use Rattle.hprof_stream.specs.declared.sink.SinkFault.TheVariants as sinks
 use Rattle.hprof_stream.specs.Part.{IsPart}
-use Rattle.hprof_stream.specs.Reader.{BeginsWhole, whole_len, AreSpent, IsUnheld, CameLast}
+use Rattle.hprof_stream.specs.Reader.{BeginsWhole, whole_len, IsUnheld, Pulled, PulledOut, CameLast}
 use Rattle.hprof_stream.specs.Fault.{HasNoFault, IsFirstFault, HasNoSettledFault, is_lasting}
 use Rattle.hprof_heap.specs.declared.key.Key.{Key}
 use Rattle.hprof_heap.specs.Conflict.{IsConsistent, IsLeastConflict}
@@ -69,21 +69,21 @@ IsAccepted limits bytes = HasNoFault limits.max_item bytes × (length bytes ≤ 
 module _ {R : Type 0} (left : R → Option (List ℕ)) (health : R → Health) (pulls : R → ℕ) where
   -- with which fault a part is refused of which these bytes came, and were judged as far as they may be taken; where
   -- memory was wanted, nothing was read, or all but the last piece was judged, and an item could not be held, or one that
-  -- ends in that piece could not be kept
+  -- ends in that piece could not be kept; each pull but one behind the end, or one that failed, gave a byte
   --   was, is: the reader, before and afterwards
   abbrev pub IsPartFault : Limits → R → List ℕ → R → PartFault → Type 0
   IsPartFault limits was came is (faults.Malformed at reason) =
       (health is ≡ healths.Well) × IsFirstFault limits.max_item (take limits.max_bytes came) (faults.Malformed at reason)
-      × (is_lasting reason ≡ false → IsAtEnd (left is) × (length came ≤ limits.max_bytes))
+      × (is_lasting reason ≡ true → CameLast left pulls limits was came is)
+      × (is_lasting reason ≡ false → PulledOut left pulls limits was came is × IsAtEnd (left is) × (length came ≤ limits.max_bytes))
   IsPartFault limits was came is (faults.ItemTooLong at) =
-      (health is ≡ healths.Well) × IsFirstFault limits.max_item (take limits.max_bytes came) (faults.ItemTooLong at)
+      (health is ≡ healths.Well) × IsFirstFault limits.max_item (take limits.max_bytes came) (faults.ItemTooLong at) × CameLast left pulls limits was came is
   IsPartFault limits was came is faults.BytesExceeded =
-      (health is ≡ healths.Well) × (limits.max_bytes < length came) × HasNoSettledFault limits.max_item (take limits.max_bytes came)
+      (health is ≡ healths.Well) × (limits.max_bytes < length came) × HasNoSettledFault limits.max_item (take limits.max_bytes came) × CameLast left pulls limits was came is
   IsPartFault limits was came is faults.Read =
-      (health is ≡ healths.Failed) × (length came ≤ limits.max_bytes) × HasNoSettledFault limits.max_item came
+      (health is ≡ healths.Failed) × (length came ≤ limits.max_bytes) × HasNoSettledFault limits.max_item came × PulledOut left pulls limits was came is
   IsPartFault limits was came is faults.ReadsExceeded =
-      (health is ≡ healths.Well) × AreSpent (pulls was) (pulls is) limits.max_reads × (limits.max_reads ≤ length came) × (length came ≤ limits.max_bytes)
-      × HasNoSettledFault limits.max_item came
+      (health is ≡ healths.Well) × Pulled left pulls was came limits.max_reads is × (length came ≤ limits.max_bytes) × HasNoSettledFault limits.max_item came
   IsPartFault limits was came is faults.OutOfMemory =
       (health is ≡ healths.Well) × (((came ≡ []) × (was ≡ is)) ⊎ ((last : CameLast left pulls limits was came is) × IsUnheld limits last.front last.piece))
   IsPartFault limits was came is (faults.Sink sinks.OutOfMemory) =
@@ -99,15 +99,15 @@ IsOfPart longest bytes (faults.ItemTooLong at) = IsFirstFault longest bytes (fau
 IsOfPart longest bytes other = ⊤
 
 module _ {R : Type 0} (left : R → Option (List ℕ)) (health : R → Health) (pulls : R → ℕ) where
-  -- a reader was read to its end over these bytes, which were accepted: it is well, and was pulled no more often than it
-  -- may be, nor than there were bytes and once more
+  -- a reader was read to its end over these bytes, which were accepted: it is well, each pull gave a byte, and the last
+  -- one that there is nothing more
   pub record IsReadOut (limits : Limits) (was is : R) : Type 0 where
     pub came : List ℕ
     pub consumed : Consumes (left was) (left is) came
+    pub pulled : PulledOut left pulls limits was came is
     pub at_end : IsAtEnd (left is)
     pub accepted : IsAccepted limits came
     pub well : health is ≡ healths.Well
-    pub pulled : pulls is ≤ pulls was + length came + 1
     pub spared : pulls is ≤ pulls was + limits.max_reads
 
   -- so many readers, from the first on, were read to their ends
@@ -115,8 +115,7 @@ module _ {R : Type 0} (left : R → Option (List ℕ)) (health : R → Health) (
   AreReadOut limits old new count =
       (k : ℕ) → k < count → (was : R) × (is : R) × (slice_get old k ≡ Some was) × (slice_get new k ≡ Some is) × IsReadOut limits was is
 
-  -- the reader at that place was read over these bytes, one or more with each pull but the last, and was refused with
-  -- the fault; those behind it were not touched
+  -- the reader at that place was read over these bytes and was refused with the fault; those behind it were not touched
   pub record RefusesAt (limits : Limits) (old new : List R) (index : ℕ) (fault : PartFault) : Type 0 where
     pub was : R
     pub is : R
@@ -124,7 +123,6 @@ module _ {R : Type 0} (left : R → Option (List ℕ)) (health : R → Health) (
     pub is_there : slice_get new index ≡ Some is
     pub came : List ℕ
     pub consumed : Consumes (left was) (left is) came
-    pub pulled : pulls is ≤ pulls was + length came + 1
     pub spared : pulls is ≤ pulls was + limits.max_reads
     pub refused : IsPartFault left health pulls limits was came is fault
     pub unread : (k : ℕ) → index < k → slice_get new k ≡ slice_get old k

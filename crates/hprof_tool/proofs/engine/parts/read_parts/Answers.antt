@@ -28,9 +28,8 @@ returns-in-Err g c =
           is_there = element_set c.loop-index.readers index c.read_part.new.source still;
           came = read.0;
           consumed = read.1;
-          pulled = read.2;
           spared = c.in-Err.ensures.pulls;
-          refused = fault_of_came g.R.Source.left g.R.Source.health g.R.Source.pulls c.args.limits was read.0 c.read_part.new.source c.loop-index.gatherer c.read_part.new.sink c.in-Err.fault c.loop-index.invariant.sound read.3;
+          refused = fault_of_came g.R.Source.left g.R.Source.health g.R.Source.pulls c.args.limits was read.0 c.read_part.new.source c.loop-index.gatherer c.read_part.new.sink c.in-Err.fault c.loop-index.invariant.sound read.2;
           unread = λ k behind. same_at (set c.loop-index.readers index c.read_part.new.source) c.args.readers.now k (length-set c.loop-index.readers index c.read_part.new.source ∙ same_length)
               (λ d below. let other : k ≢ index = omega (arith, behind) in
               get_or-set_other c.loop-index.readers index k c.read_part.new.source d other ∙ c.loop-index.invariant.unread k d (omega (arith, behind)) below);
@@ -46,10 +45,10 @@ loop-index-preserved g c =
     let within : index < length c.args.readers.now = omega arith in
     let read = c.in_default.ensures.read in
     let header : Header = c.in_default.field-0.header in
-    let facts = read.3.5.0 in
+    let facts = read.2.6.0 in
     let there = element_at c.args.readers.now c.loop-index.readers index found within (c.loop-index.invariant.unread index found (omega arith) within) c.index-readers-index.is ∙ ap Some c.index-readers-index.is in
-    let is = given_if_told c.args.limits (g.R.Source.left was) (g.R.Source.left c.read_part.new.source) read.0 (record { header = header; facts = facts }) read.1 read.3.0 (read.3.3, read.3.2) read.3.5.1 in
-    let run = Run-shown c.loop-index.gatherer c.read_part.new.sink (Some header) facts read.3.5.2 in
+    let is = given_if_told c.args.limits (g.R.Source.left was) (g.R.Source.left c.read_part.new.source) read.0 (record { header = header; facts = facts }) read.1 read.2.1 (read.2.4, read.2.3) read.2.6.1 in
+    let run = Run-shown c.loop-index.gatherer c.read_part.new.sink (Some header) facts read.2.6.2 in
     record {
       unread = λ k d after below.
           let other : k ≢ index = omega arith in
@@ -58,10 +57,10 @@ loop-index-preserved g c =
       out = AreReadOut-more g.R.Source.left g.R.Source.health g.R.Source.pulls c.args.limits c.args.readers.now c.loop-index.readers index was c.read_part.new.source there (omega arith) c.loop-index.invariant.out (record {
         came = read.0;
         consumed = read.1;
-        at_end = read.3.0;
-        accepted = (read.3.3, read.3.2);
-        well = read.3.1;
-        pulled = read.2;
+        pulled = read.2.0;
+        at_end = read.2.1;
+        accepted = (read.2.4, read.2.3);
+        well = read.2.2;
         spared = c.in_default.ensures.pulls;
       });
       sound = Run-sound (gathered c.loop-index.gatherer) (gathered c.read_part.new.sink) (Some header) facts run c.loop-index.invariant.sound;
