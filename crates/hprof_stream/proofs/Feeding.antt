@@ -286,13 +286,15 @@ module _ {S : Type 0} (begins : S → Header → S → Type 0) (steps : S → Fa
   feeds_memory limits bytes piece facts from to still rest old new read within on some shorter =
       let place : Place = place_behind (header_of to) in
       let walked = HasWalked-on begins steps limits bytes piece facts from to.progress (still ++ rest) old new read on.0 in
-      let short : item_at limits.max_item place (still ++ rest) ≡ Short = subst (λ (l : Limits). item_at l.max_item place (still ++ rest) ≡ Short) walked.has_limits on.1 in
-      (omega (arith, some, shorter), inl (
-        within,
-        short_unsettled limits.max_item (bytes ++ piece) walked.items place (still ++ rest) walked.splits short,
-        IsWithinItem-walked begins steps limits (bytes ++ piece) facts (header_of from) to.progress (still ++ rest) old new walked short (omega (arith, some, length-append still rest)),
-        RanOver-walked begins steps limits (bytes ++ piece) facts (header_of from) to.progress (still ++ rest) old new walked (ap is_whole short),
-      ))
+      let short : item_at limits.max_item place (still ++ rest) ≡ Short = subst (λ (l : Limits). item_at l.max_item place (still ++ rest) ≡ Short) walked.has_limits on.1 in (
+        omega (arith, some, shorter),
+        inl (
+          within,
+          short_unsettled limits.max_item (bytes ++ piece) walked.items place (still ++ rest) walked.splits short,
+          IsWithinItem-walked begins steps limits (bytes ++ piece) facts (header_of from) to.progress (still ++ rest) old new walked short (omega (arith, some, length-append still rest)),
+          RanOver-walked begins steps limits (bytes ++ piece) facts (header_of from) to.progress (still ++ rest) old new walked (ap is_whole short),
+        ),
+      )
 
   -- the rest is held
   pub Feeds-held : (limits : Limits) (bytes piece : List ℕ) (facts : List FactValue) (from to : PartReader) (still rest : List ℕ) (old new : S) (done : Unit {0})
