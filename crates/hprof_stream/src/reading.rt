@@ -56,9 +56,9 @@ pub fn read_part<R: Source, S: Sink>(
     sink: &mut S,
 ) -> Result<PartSummary, PartFault>
     requires { R.health source.old ≡ Well }
-    // Bytes came, one or more with each pull, behind which a pull that gave none ends the part; this is what they come to.
-    // Want of memory is the reader's where a front of the bytes, all but
-    // what the last pull gave, had been judged, and an item could not be held; or where nothing was read.
+    // Bytes came, one or more with each pull, and behind them a pull that gave none ends the part; this is what they come
+    // to. Want of memory is the reader's where all but what the last pull gave had been judged and an item could not be
+    // held, or where nothing was read.
     ensures read { (came : List ℕ) × Consumes (R.left source.old) (R.left source.new) came
         × ReadsPart R.left R.health R.pulls S.begins S.steps S.refuses S.failed limits source.old came source.new sink.old result sink.new }
     // No more reads were made than the limit.
