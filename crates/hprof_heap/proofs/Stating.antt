@@ -1,7 +1,7 @@
 -- What stating a fact does to facts in order, and so to a heap.
 use Rattle.std.proofs.Common.{◌≡◌, ℕ, List, find, None, Result, Ok, Err, sym, ap, subst}
 use Rattle.std.specs.Prelude.{IfOk, OnErr}
-use Rattle.hprof_items.specs.declared.ids.IdSize.{IdSize}
+use Rattle.hprof_values.specs.declared.ids.IdSize.{IdSize}
 use Rattle.hprof_items.specs.FactValue.{FactValue}
 use Rattle.hprof_items.specs.Spelling.{Fits}
 use Rattle.hprof_heap.specs.declared.relation.Stated.{Stated}

@@ -2,7 +2,7 @@
 use Rattle.std.proofs.Common.{◌≡◌, Bool, true, false, Option, Some, Result, Ok, Err, refl, sym, ap, subst, ◌∙◌}
 use Rattle.std.specs.Prelude.{IfOk, OnErr}
 use Rattle.std.proofs.lemmas.Result.{IfOk-at_ok}
-use Rattle.hprof_items.specs.declared.ids.IdSize.{IdSize}
+use Rattle.hprof_values.specs.declared.ids.IdSize.{IdSize}
 use Rattle.hprof_items.specs.FactValue.{FactValue}
 use Rattle.hprof_heap.specs.declared.gatherer.Gatherer.{Gatherer}
 use Rattle.hprof_heap.specs.declared.heap.Heap.{Heap}

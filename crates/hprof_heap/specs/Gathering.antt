@@ -2,8 +2,8 @@
 use Rattle.std.specs.Prelude.{◌≡◌, ◌≢◌, ◌||◌, Bool, true, false, not, min, List, [], ◌∷◌, map, Option, Some, None, Result, Ok, Err, if◌then◌else◌}
 use Rattle.std.specs.List.{AllByRecursion, flat_map}
 use Rattle.hprof_items.specs.declared.header.Header.{Header}
-use Rattle.hprof_items.specs.declared.ids.IdSize.{IdSize}
-use Rattle.hprof_items.specs.declared.ids.IdSize.TheVariants.{Four, Eight}
+use Rattle.hprof_values.specs.declared.ids.IdSize.{IdSize}
+use Rattle.hprof_values.specs.declared.ids.IdSize.TheVariants.{Four, Eight}
 use Rattle.hprof_items.specs.FactValue.{FactValue}
 use Rattle.hprof_stream.specs.Run.{Run}
 use Rattle.hprof_heap.specs.declared.gatherer.Gatherer.{Gatherer}

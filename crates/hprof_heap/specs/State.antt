@@ -1,7 +1,7 @@
 -- What parts state together: the size of their identifiers, the earliest of their times, the set of their facts.
 use Rattle.std.specs.Prelude.{◌≡◌, ◌≤◌, ℕ, List, map}
 use Rattle.std.specs.List.{AllByRecursion, Contains, flat_map}
-use Rattle.hprof_items.specs.declared.ids.IdSize.{IdSize}
+use Rattle.hprof_values.specs.declared.ids.IdSize.{IdSize}
 use Rattle.hprof_items.specs.FactValue.{FactValue}
 use Rattle.hprof_stream.specs.Part.{IsPart}
 use Rattle.hprof_heap.specs.Facts.{SameFacts}

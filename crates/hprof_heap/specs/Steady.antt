@@ -2,7 +2,7 @@
 use Rattle.std.specs.Prelude.{◌≡◌, Bool, true, false, Option, Some, None, ⊤}
 use Rattle.std.specs.Coded.{Unit-prop}
 use Rattle.std.proofs.Props.{props}
-use Rattle.hprof_items.specs.declared.ids.IdSize.{IdSize}
+use Rattle.hprof_values.specs.declared.ids.IdSize.{IdSize}
 use Rattle.hprof_heap.specs.declared.heap.Heap.{Heap}
 
 -- with two sizes begun nothing; else the heap has the size, and there is none where no part was begun

@@ -1,7 +1,7 @@
 //! Laws of the definitions. None of these functions does anything.
 
 ghost use Rattle.std.specs.Prelude.{◌≡◌, ℕ, List};
-ghost use Rattle.hprof_items.specs.declared.ids.IdSize.{IdSize};
+ghost use Rattle.hprof_values.specs.declared.ids.IdSize.{IdSize};
 ghost use Rattle.hprof_items.specs.FactValue.{FactValue};
 ghost use Rattle.hprof_stream.specs.Part.{IsPart};
 ghost use Rattle.hprof_heap.specs.declared.gatherer.Gatherer.{Gatherer};

@@ -3,20 +3,20 @@ use Rattle.std.proofs.Common.{◌≡◌, ℕ, ◌+◌, ◌*◌, ◌/◌, ◌%◌
 use Rattle.std.proofs.lemmas.List.{length-append}
 use Rattle.std.proofs.lemmas.Nat.{div-add-mod'}
 use Rattle.std.specs.Prelude.{sum, slice_index}
-use Rattle.hprof_items.specs.declared.ids.IdSize.{IdSize}
-use Rattle.hprof_items.specs.declared.basic.Basic.{Basic}
-use Rattle.hprof_items.specs.declared.basic.Basic.TheVariants as basics
-use Rattle.hprof_items.specs.declared.stop.Stop.{Stop}
-use Rattle.hprof_items.specs.Ids.{width_of, IsBytes}
-use Rattle.hprof_items.specs.Basic.{code_of_basic, basic_of_code, width_of_basic}
-use Rattle.hprof_items.specs.Fields.{field_bytes, fields_in, FitFields, Bounds, ◌>>=◌, reached, IsWithin}
-use Rattle.hprof_items.specs.Lists.{id_widths, IsIdList, ids_in}
+use Rattle.hprof_values.specs.declared.ids.IdSize.{IdSize}
+use Rattle.hprof_values.specs.declared.basic.Basic.{Basic}
+use Rattle.hprof_values.specs.declared.basic.Basic.TheVariants as basics
+use Rattle.hprof_values.specs.declared.stop.Stop.{Stop}
+use Rattle.hprof_values.specs.Ids.{width_of, IsBytes}
+use Rattle.hprof_values.specs.Basic.{code_of_basic, basic_of_code, width_of_basic}
+use Rattle.hprof_values.specs.Fields.{field_bytes, fields_in, FitFields, Bounds, ◌>>=◌, reached, IsWithin}
+use Rattle.hprof_values.specs.Lists.{id_widths, IsIdList, ids_in}
 use Rattle.hprof_items.specs.AnyFact.{AnyFact, ObjArray, PrimArray}
 use Rattle.hprof_items.specs.SubRecord.{cut, obj_array_widths, obj_array_numbers, obj_array_at, prim_array_widths, prim_array_numbers, prim_array_at, element_type, dump_bytes, DumpFits, IsDumpOf}
-use Rattle.hprof_items.proofs.Numbers.{IsBytes-drop, IsBytes-take}
-use Rattle.hprof_items.proofs.FieldGroups.{length-fields, then_ok, then_next, within-less}
-use Rattle.hprof_items.proofs.EntryLists.{code_found, code_again}
-use Rattle.hprof_items.proofs.IdLists.{sum-id_widths, ids_whole, length-ids, ids_found, ids_again}
+use Rattle.hprof_values.proofs.Numbers.{IsBytes-drop, IsBytes-take}
+use Rattle.hprof_values.proofs.FieldGroups.{length-fields, then_ok, then_next, within-less}
+use Rattle.hprof_values.proofs.EntryLists.{code_found, code_again}
+use Rattle.hprof_values.proofs.IdLists.{sum-id_widths, ids_whole, length-ids, ids_found, ids_again}
 use Rattle.hprof_items.proofs.SubRecords.{dump_found, dump_again, along_answer}
 
 -- ---- arrays of objects
@@ -140,7 +140,7 @@ prim_array_found ids bounds bytes fact n are there e =
     ap (λ (k : ℕ). id ∷ trace ∷ k ∷ code ∷ []) (sym many) ∙ ap (λ (k : ℕ). id ∷ trace ∷ length raw / width_of_basic ids elem ∷ k ∷ []) (sym (code_found code elem right.0)) in
     let fits = subst (FitFields widths) same dump.fits in
     let is : IsDumpOf ids bounds bytes (read elem first.0) second.0 = record {
-      fits = (fits, whole, right.1);
+      fits = (fits, dump.are, whole, right.1);
       spelled = dump.parts ∙ ap (λ (ns : List ℕ). field_bytes widths ns ++ (raw ++ drop second.0 bytes)) same
           ∙ sym (append_assoc (field_bytes widths (prim_array_numbers ids id trace elem raw)) raw (drop second.0 bytes));
       ends = omega (arith, dump.ends, dump.ends_front, dump.raw, length-append (field_bytes widths (prim_array_numbers ids id trace elem raw)) raw, length-fields widths (prim_array_numbers ids id trace elem raw) fits);
@@ -166,8 +166,8 @@ prim_array_again ids bounds id trace elem raw rest bytes fits spelled within =
     ap (λ (ns : List ℕ). reached bounds 1 widths >>= next ns) again.0
     ∙ then_next (reached bounds 1 widths) (next numbers) (1 + sum widths) again.1
     ∙ then_next (element_type (basic_of_code (code_of_basic elem))) (λ (basic : Basic). last numbers (1 + sum widths) basic (slice_index numbers 2 * width_of_basic ids basic)) elem
-    (ap element_type (code_again elem) ∙ fits.2)
-    ∙ ap (last numbers (1 + sum widths) elem) (whole_values ids elem (length raw) fits.1)
+    (ap element_type (code_again elem) ∙ fits.3)
+    ∙ ap (last numbers (1 + sum widths) elem) (whole_values ids elem (length raw) fits.2)
     ∙ then_next (reached bounds (1 + sum widths) (length raw ∷ [])) (λ (end : ℕ). Ok (PrimArray id trace elem (cut (length raw) (1 + sum widths) bytes), end)) (1 + sum widths + length raw) again.2
     ∙ ap (λ (r : List ℕ). Ok (PrimArray id trace elem r, 1 + sum widths + length raw)) again.3
     ∙ ap (λ (n : ℕ). Ok (PrimArray id trace elem raw, n)) len

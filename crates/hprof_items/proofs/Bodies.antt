@@ -4,13 +4,13 @@ use Rattle.std.proofs.lemmas.List.{drop_at, length-append, length-drop}
 use Rattle.std.specs.Prelude.{slice_index}
 use Rattle.byteorder.specs.Endian.{big_bytes, big_number}
 use Rattle.byteorder.specs.Numbers.{big_from-lt, big_number-reads_back, length-bytes_high_first}
-use Rattle.hprof_items.specs.declared.ids.IdSize.{IdSize}
-use Rattle.hprof_items.specs.declared.step.Reason.{Reason}
-use Rattle.hprof_items.specs.Ids.{width_of, IsBytes}
+use Rattle.hprof_values.specs.declared.ids.IdSize.{IdSize}
+use Rattle.hprof_values.specs.declared.reason.Reason.{Reason}
+use Rattle.hprof_values.specs.Ids.{width_of, IsBytes}
 use Rattle.hprof_items.specs.FactValue.{FactValue, Name}
 use Rattle.hprof_items.specs.Spelling.{tag_of, body_of, spelling, longest_body, Fits}
 use Rattle.hprof_items.specs.Reading.{body_at}
-use Rattle.hprof_items.proofs.Numbers.{IsBytes-drop, number_parts, same_parts}
+use Rattle.hprof_values.proofs.Numbers.{IsBytes-drop, number_parts, same_parts}
 
 -- what is spelled so is read
 pub body_again : (ids : IdSize) (fact : FactValue) → Fits ids fact → body_at ids (tag_of fact) (body_of ids fact) ≡ Ok fact

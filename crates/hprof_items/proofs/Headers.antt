@@ -6,17 +6,17 @@ use Rattle.std.proofs.lemmas.Slice.Eq.{bytes_eq-Decides}
 use Rattle.std.specs.Prelude.{bytes_eq}
 use Rattle.byteorder.specs.Endian.{big_bytes, big_number}
 use Rattle.byteorder.specs.Numbers.{big_from-lt, big_number-reads_back}
-use Rattle.hprof_items.specs.declared.ids.IdSize.{IdSize}
-use Rattle.hprof_items.specs.declared.ids.IdSize.TheVariants.{Four, Eight}
+use Rattle.hprof_values.specs.declared.ids.IdSize.{IdSize}
+use Rattle.hprof_values.specs.declared.ids.IdSize.TheVariants.{Four, Eight}
 use Rattle.hprof_items.specs.declared.header.Header.{Header}
 use Rattle.hprof_items.specs.declared.header.Version.{Version}
 use Rattle.hprof_items.specs.declared.header.Version.TheVariants.{V101, V102}
-use Rattle.hprof_items.specs.declared.step.Reason.TheVariants.{BadMagic, BadIdSize}
+use Rattle.hprof_values.specs.declared.reason.Reason.TheVariants.{BadMagic, BadIdSize}
 use Rattle.hprof_items.specs.declared.step.Step.TheVariants.{Whole, Short}
-use Rattle.hprof_items.specs.Ids.{width_of, IsBytes}
+use Rattle.hprof_values.specs.Ids.{width_of, IsBytes}
 use Rattle.hprof_items.specs.Header.{text_of, header_bytes, IsMillis}
 use Rattle.hprof_items.specs.Reading.{version_of, ids_of, timed_header, sized_header, header_at}
-use Rattle.hprof_items.proofs.Numbers.{IsBytes-drop, number_parts_at}
+use Rattle.hprof_values.proofs.Numbers.{IsBytes-drop, number_parts_at}
 use Rattle.hprof_items.proofs.Steps.{long_enough, fault_is_not_whole, whole_parts}
 
 -- a value that a test gives, or else a later test

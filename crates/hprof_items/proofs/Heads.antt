@@ -5,15 +5,15 @@ use Rattle.std.proofs.Math.Seq.{drop-cons}
 use Rattle.std.specs.Prelude.{slice_index}
 use Rattle.byteorder.specs.Endian.{big_bytes, big_number}
 use Rattle.byteorder.specs.Numbers.{big_from-lt, big_number-reads_back}
-use Rattle.hprof_items.specs.declared.ids.IdSize.{IdSize}
+use Rattle.hprof_values.specs.declared.ids.IdSize.{IdSize}
 use Rattle.hprof_items.specs.declared.head.Head.{Head}
-use Rattle.hprof_items.specs.declared.step.Reason.TheVariants.{BadLength, Unsupported}
+use Rattle.hprof_values.specs.declared.reason.Reason.TheVariants.{BadLength, Unsupported}
 use Rattle.hprof_items.specs.declared.step.Step.{Step}
 use Rattle.hprof_items.specs.declared.step.Step.TheVariants.{Whole, Short, TooLong, Fault}
-use Rattle.hprof_items.specs.Ids.{IsBytes}
+use Rattle.hprof_values.specs.Ids.{IsBytes}
 use Rattle.hprof_items.specs.Head.{head_bytes}
 use Rattle.hprof_items.specs.Reading.{is_known, is_legal, is_too_long, judged_head, head_at, IsRightHead}
-use Rattle.hprof_items.proofs.Numbers.{IsBytes-drop, number_parts_at}
+use Rattle.hprof_values.proofs.Numbers.{IsBytes-drop, number_parts_at}
 use Rattle.hprof_items.proofs.Steps.{went_on, held, long_enough, fault_is_not_whole, too_long_is_not_whole, whole_parts}
 
 -- the fields at their places

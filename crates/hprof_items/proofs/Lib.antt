@@ -1,14 +1,8 @@
-pub mod Numbers
 pub mod Steps
 pub mod Headers
 pub mod Heads
 pub mod Bodies
 pub mod Writes
 pub mod Limits
-pub mod Orders
-pub mod FieldGroups
-pub mod EntryLists
-pub mod Counting
-pub mod IdLists
 pub mod SubRecords
 pub mod ArrayRecords

@@ -3,19 +3,19 @@ use Rattle.std.proofs.Common.{◌≡◌, ℕ, ◌+◌, ◌≤◌, true, List, []
 use Rattle.std.proofs.lemmas.List.{take_at, length-append, length-drop, length-take-le, take-append-drop}
 use Rattle.std.proofs.Math.Seq.{drop-drop}
 use Rattle.std.specs.Prelude.{sum, slice_index}
-use Rattle.hprof_items.specs.declared.ids.IdSize.{IdSize}
-use Rattle.hprof_items.specs.declared.stop.Stop.{Stop}
-use Rattle.hprof_items.specs.declared.root.Root.{Root}
-use Rattle.hprof_items.specs.declared.root.Root.TheVariants as roots
-use Rattle.hprof_items.specs.declared.sub_tag.SubTag.{SubTag}
-use Rattle.hprof_items.specs.declared.sub_tag.SubTag.TheVariants as tags
-use Rattle.hprof_items.specs.Ids.{width_of, IsBytes}
-use Rattle.hprof_items.specs.Fields.{field_bytes, fields_in, FitFields, Bounds, ◌>>=◌, reached, IsWithin}
-use Rattle.hprof_items.specs.Root.{tag_of_root, root_fields, root_numbers, root_bytes, RootFits}
+use Rattle.hprof_values.specs.declared.ids.IdSize.{IdSize}
+use Rattle.hprof_values.specs.declared.stop.Stop.{Stop}
+use Rattle.hprof_values.specs.declared.root.Root.{Root}
+use Rattle.hprof_values.specs.declared.root.Root.TheVariants as roots
+use Rattle.hprof_values.specs.declared.sub_tag.SubTag.{SubTag}
+use Rattle.hprof_values.specs.declared.sub_tag.SubTag.TheVariants as tags
+use Rattle.hprof_values.specs.Ids.{width_of, IsBytes}
+use Rattle.hprof_values.specs.Fields.{field_bytes, fields_in, FitFields, Bounds, ◌>>=◌, reached, IsWithin}
+use Rattle.hprof_values.specs.Root.{tag_of_root, root_fields, root_numbers, root_bytes, RootFits}
 use Rattle.hprof_items.specs.AnyFact.{AnyFact, Rooted, Instance}
 use Rattle.hprof_items.specs.SubRecord.{cut, instance_widths, instance_numbers, instance_at, root_of, root_at, dump_bytes, DumpFits, is_root_tag, IsDumpOf}
-use Rattle.hprof_items.proofs.Numbers.{IsBytes-drop}
-use Rattle.hprof_items.proofs.FieldGroups.{sum_widths, length-fields, fields_again, fields_rest, fields_fit, fields_found, then_ok, then_next, within-less, reached_within, reached_passed}
+use Rattle.hprof_values.proofs.Numbers.{IsBytes-drop, IsBytes-take}
+use Rattle.hprof_values.proofs.FieldGroups.{sum_widths, length-fields, fields_again, fields_rest, fields_fit, fields_found, then_ok, then_next, within-less, reached_within, reached_passed}
 
 -- ---- a group of fields behind the tag, and then so many bytes
 
@@ -27,6 +27,7 @@ pub record IsDumpAt (bounds : Bounds) (widths : List ℕ) (len : ℕ) (bytes : L
   pub parts : drop 1 bytes ≡ field_bytes widths (fields_in widths (drop 1 bytes)) ++ (cut len front bytes ++ drop end bytes)
   pub raw : length (cut len front bytes) ≡ len
   pub fits : FitFields widths (fields_in widths (drop 1 bytes))
+  pub are : IsBytes (cut len front bytes)
 
 pub dump_found : (bounds : Bounds) (w : ℕ) (ws : List ℕ) (len : ℕ) (bytes : List ℕ) (front end : ℕ) → IsBytes bytes → bounds.there ≤ length bytes
     → reached bounds 1 (w ∷ ws) ≡ Ok front → reached bounds front (len ∷ []) ≡ Ok end → IsDumpAt bounds (w ∷ ws) len bytes front end
@@ -47,6 +48,7 @@ dump_found bounds w ws len bytes front end are there first second =
       parts = found ∙ ap (λ (r : List ℕ). field_bytes widths (fields_in widths (drop 1 bytes)) ++ r) (back ∙ sym (take-append-drop len (drop front bytes)) ∙ ap (λ (r : List ℕ). cut len front bytes ++ r) rest);
       raw = length-take-le len (drop front bytes) (omega (arith, length-drop front bytes, b.1.there, there));
       fits = fields_fit widths (drop 1 bytes) (IsBytes-drop 1 bytes are);
+      are = IsBytes-take len (drop front bytes) (IsBytes-drop front bytes are);
     }
 
 -- where both are spelled
@@ -102,8 +104,8 @@ instance_again ids bounds id trace class raw rest bytes fits spelled within =
     let widths : List ℕ = instance_widths ids in
     let numbers : List ℕ = instance_numbers id trace class raw in
     let all : ℕ = length (dump_bytes ids (Instance id trace class raw)) in
-    let len : 1 + sum widths + length raw ≡ all = omega (arith, length-fields widths numbers fits, length-append (field_bytes widths numbers) raw) in
-    let again = dump_again bounds widths numbers raw rest bytes fits (spelled ∙ append_assoc (field_bytes widths numbers) raw rest) (within-less bounds (1 + sum widths + length raw) all (omega arith) within) in
+    let len : 1 + sum widths + length raw ≡ all = omega (arith, length-fields widths numbers fits.0, length-append (field_bytes widths numbers) raw) in
+    let again = dump_again bounds widths numbers raw rest bytes fits.0 (spelled ∙ append_assoc (field_bytes widths numbers) raw rest) (within-less bounds (1 + sum widths + length raw) all (omega arith) within) in
     let step : List ℕ → ℕ → Result (AnyFact × ℕ) Stop =
     λ ns front. reached bounds front (slice_index ns 3 ∷ []) >>= λ (end : ℕ). Ok (Instance (slice_index ns 0) (slice_index ns 1) (slice_index ns 2) (cut (slice_index ns 3) front bytes), end) in
     ap (λ (ns : List ℕ). reached bounds 1 widths >>= step ns) again.0
@@ -201,7 +203,7 @@ instance_found ids bounds bytes fact n are there e =
     ap (λ (k : ℕ). slice_index numbers 0 ∷ slice_index numbers 1 ∷ slice_index numbers 2 ∷ k ∷ []) (sym dump.raw) in
     let fits = subst (FitFields widths) same dump.fits in
     let is : IsDumpOf ids bounds bytes (read first.0) second.0 = record {
-      fits = fits;
+      fits = (fits, dump.are);
       spelled = dump.parts ∙ ap (λ (ns : List ℕ). field_bytes widths ns ++ (raw ++ drop second.0 bytes)) same
           ∙ sym (append_assoc (field_bytes widths (instance_numbers (slice_index numbers 0) (slice_index numbers 1) (slice_index numbers 2) raw)) raw (drop second.0 bytes));
       ends = omega (

@@ -1,9 +1,9 @@
 -- What any record or sub-record states, as a value over numbers and lists. Only `FactValue` is read and written so far;
 -- it is to take these forms.
 use Rattle.std.specs.Prelude.{ℕ, ℤ, List}
-use Rattle.hprof_items.specs.declared.basic.Basic.{Basic}
-use Rattle.hprof_items.specs.declared.entry.Entry.{Entry}
-use Rattle.hprof_items.specs.declared.root.Root.{Root}
+use Rattle.hprof_values.specs.declared.basic.Basic.{Basic}
+use Rattle.hprof_values.specs.declared.entry.Entry.{Entry}
+use Rattle.hprof_values.specs.declared.root.Root.{Root}
 
 pub data AnyFact : Type 0 where
   -- UTF8: the identifier of a name, and its bytes

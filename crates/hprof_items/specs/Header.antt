@@ -4,7 +4,7 @@ use Rattle.byteorder.specs.Endian.{big_bytes}
 use Rattle.hprof_items.specs.declared.header.Header.{Header}
 use Rattle.hprof_items.specs.declared.header.Version.{Version}
 use Rattle.hprof_items.specs.declared.header.Version.TheVariants.{V101, V102}
-use Rattle.hprof_items.specs.Ids.{width_of}
+use Rattle.hprof_values.specs.Ids.{width_of}
 
 -- the text in front, with the zero byte that ends it
 abbrev pub text_of : Version → List ℕ

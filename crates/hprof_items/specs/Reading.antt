@@ -1,17 +1,17 @@
 -- Reading at the front of some bytes: what stands there, or else the first test that fails, from the left.
 use Rattle.std.specs.Prelude.{◌≡◌, ◌==◌, ◌||◌, ◌&&◌, ℕ, ◌^◌, ◌<◌, Bool, true, false, nat_lt, nat_le, List, length, take, drop, slice_index, Result, Ok, Option, Some, None, bytes_eq, if◌then◌else◌}
 use Rattle.byteorder.specs.Endian.{big_number}
-use Rattle.hprof_items.specs.declared.ids.IdSize.{IdSize}
-use Rattle.hprof_items.specs.declared.ids.IdSize.TheVariants.{Four, Eight}
+use Rattle.hprof_values.specs.declared.ids.IdSize.{IdSize}
+use Rattle.hprof_values.specs.declared.ids.IdSize.TheVariants.{Four, Eight}
 use Rattle.hprof_items.specs.declared.header.Header.{Header}
 use Rattle.hprof_items.specs.declared.header.Version.{Version}
 use Rattle.hprof_items.specs.declared.header.Version.TheVariants.{V101, V102}
 use Rattle.hprof_items.specs.declared.head.Head.{Head}
-use Rattle.hprof_items.specs.declared.step.Reason.{Reason}
-use Rattle.hprof_items.specs.declared.step.Reason.TheVariants.{BadMagic, BadIdSize, BadLength, Unsupported}
+use Rattle.hprof_values.specs.declared.reason.Reason.{Reason}
+use Rattle.hprof_values.specs.declared.reason.Reason.TheVariants.{BadMagic, BadIdSize, BadLength, Unsupported}
 use Rattle.hprof_items.specs.declared.step.Step.{Step}
 use Rattle.hprof_items.specs.declared.step.Step.TheVariants.{Whole, Short, TooLong, Fault}
-use Rattle.hprof_items.specs.Ids.{width_of}
+use Rattle.hprof_values.specs.Ids.{width_of}
 use Rattle.hprof_items.specs.Header.{text_of}
 use Rattle.hprof_items.specs.Head.{is_fact_tag}
 use Rattle.hprof_items.specs.FactValue.{FactValue, Name}

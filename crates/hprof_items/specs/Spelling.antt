@@ -1,8 +1,8 @@
 -- Which facts have a spelling, and what it is.
 use Rattle.std.specs.Prelude.{ℕ, ◌+◌, ◌≤◌, List, ◌++◌, length}
 use Rattle.byteorder.specs.Endian.{big_bytes}
-use Rattle.hprof_items.specs.declared.ids.IdSize.{IdSize}
-use Rattle.hprof_items.specs.Ids.{width_of, IsId, IsBytes}
+use Rattle.hprof_values.specs.declared.ids.IdSize.{IdSize}
+use Rattle.hprof_values.specs.Ids.{width_of, IsId, IsBytes}
 use Rattle.hprof_items.specs.Head.{record_bytes}
 use Rattle.hprof_items.specs.FactValue.{FactValue, Name}
 

@@ -1,31 +1,26 @@
 -- Sub-records, from their tag on: heapDumper.cpp, "HPROF binary format", HEAP_DUMP. Roots, instances and arrays are
--- a group of fields behind the tag and at most one further field, whose length the group says.
-use Rattle.std.specs.Prelude.{◌≡◌, ℕ, ◌*◌, ◌/◌, ◌%◌, Bool, true, false, List, [], ◌∷◌, ◌++◌, length, take, drop, slice_index, Option, Some, None, Result, Ok, Err}
-use Rattle.hprof_items.specs.declared.ids.IdSize.{IdSize}
-use Rattle.hprof_items.specs.declared.basic.Basic.{Basic}
-use Rattle.hprof_items.specs.declared.basic.Basic.TheVariants as basics
-use Rattle.hprof_items.specs.declared.root.Root.{Root}
-use Rattle.hprof_items.specs.declared.root.Root.TheVariants as roots
-use Rattle.hprof_items.specs.declared.sub_tag.SubTag.{SubTag}
-use Rattle.hprof_items.specs.declared.sub_tag.SubTag.TheVariants as tags
-use Rattle.hprof_items.specs.declared.sub_fact.SubFact.{SubFact}
-use Rattle.hprof_items.specs.declared.sub_fact.SubFact.TheVariants as facts
-use Rattle.hprof_items.specs.declared.step.Reason.TheVariants.{BadType}
-use Rattle.hprof_items.specs.declared.stop.Stop.{Stop}
-use Rattle.hprof_items.specs.declared.stop.Stop.TheVariants.{Fault}
-use Rattle.hprof_items.specs.Ids.{width_of}
-use Rattle.hprof_items.specs.Basic.{code_of_basic, basic_of_code, width_of_basic}
-use Rattle.hprof_items.specs.Fields.{field_bytes, fields_in, FitFields, Bounds, ◌>>=◌, reached, IsWithin}
-use Rattle.hprof_items.specs.SubTag.{code_of_tag}
-use Rattle.hprof_items.specs.Root.{root_fields, root_bytes, RootFits}
-use Rattle.hprof_items.specs.Lists.{id_widths, ids_in, identifiers_of}
-use Rattle.hprof_items.specs.AnyFact.{AnyFact, Rooted, Instance, ObjArray, PrimArray}
-
-abbrev pub value_of_sub : SubFact → AnyFact
-value_of_sub (facts.Root root) = Rooted root
-value_of_sub (facts.Instance id trace class bytes) = Instance id trace class bytes.now
-value_of_sub (facts.ObjArray id trace class elements) = ObjArray id trace class (identifiers_of elements)
-value_of_sub (facts.PrimArray id trace elem bytes) = PrimArray id trace elem bytes.now
+-- a group of fields behind the tag and at most one further field, whose length the group says; a class has lists there.
+use Rattle.std.specs.Prelude.{◌≡◌, ◌==◌, ℕ, ◌*◌, ◌/◌, ◌%◌, Bool, true, false, List, [], ◌∷◌, ◌++◌, length, take, drop, slice_index, Option, Some, None, Result, Ok, Err, if◌then◌else◌}
+use Rattle.hprof_values.specs.declared.ids.IdSize.{IdSize}
+use Rattle.hprof_values.specs.declared.basic.Basic.{Basic}
+use Rattle.hprof_values.specs.declared.basic.Basic.TheVariants as basics
+use Rattle.hprof_values.specs.declared.root.Root.{Root}
+use Rattle.hprof_values.specs.declared.root.Root.TheVariants as roots
+use Rattle.hprof_values.specs.declared.sub_tag.SubTag.{SubTag}
+use Rattle.hprof_values.specs.declared.sub_tag.SubTag.TheVariants as tags
+use Rattle.hprof_values.specs.declared.reason.Reason.TheVariants.{BadSubTag, BadType}
+use Rattle.hprof_values.specs.declared.stop.Stop.{Stop}
+use Rattle.hprof_values.specs.declared.stop.Stop.TheVariants.{Short, Fault}
+use Rattle.hprof_values.specs.Ids.{width_of, IsBytes}
+use Rattle.hprof_values.specs.Basic.{code_of_basic, basic_of_code, width_of_basic}
+use Rattle.hprof_values.specs.Fields.{field_bytes, fields_in, FitFields, Bounds, ◌>>=◌, reached, IsWithin}
+use Rattle.hprof_values.specs.SubTag.{code_of_tag, tag_of_code}
+use Rattle.hprof_values.specs.Root.{root_fields, root_bytes, RootFits}
+use Rattle.hprof_values.specs.Lists.{id_widths, ids_in, identifiers_of}
+use Rattle.hprof_values.specs.declared.entry.EntryKind.TheVariants as kinds
+use Rattle.hprof_values.specs.Entries.{ListFits}
+use Rattle.hprof_items.specs.ClassDump.{class_widths, class_lists, class_at}
+use Rattle.hprof_items.specs.AnyFact.{AnyFact, Rooted, Class, Instance, ObjArray, PrimArray}
 
 -- ---- the fields behind the tag
 
@@ -94,6 +89,28 @@ prim_array_at ids bounds bytes =
     reached bounds front (slice_index numbers 2 * width_of_basic ids elem ∷ []) >>= λ end.
     Ok (PrimArray (slice_index numbers 0) (slice_index numbers 1) elem (cut (slice_index numbers 2 * width_of_basic ids elem) front bytes), end)
 
+-- ---- reading, from the tag on
+
+-- the sub-record of that tag, behind it
+abbrev pub dump_at : IdSize → SubTag → Bounds → List ℕ → Result (AnyFact × ℕ) Stop
+dump_at ids tags.ClassDump bounds bytes = class_at ids bounds bytes
+dump_at ids tags.InstanceDump bounds bytes = instance_at ids bounds bytes
+dump_at ids tags.ObjArrayDump bounds bytes = obj_array_at ids bounds bytes
+dump_at ids tags.PrimArrayDump bounds bytes = prim_array_at ids bounds bytes
+dump_at ids tag bounds bytes = root_at ids tag bounds bytes
+
+-- a tag that stands for a sub-record
+abbrev pub judged_tag : Option SubTag → Result SubTag Stop
+judged_tag None = Err (Fault BadSubTag)
+judged_tag (Some tag) = Ok tag
+
+-- the sub-record at the front: a first byte is there, then its tests, field by field
+unfoldable pub sub_at : IdSize → Bounds → List ℕ → Result (AnyFact × ℕ) Stop
+sub_at ids bounds bytes =
+    (if bounds.there == 0 then Err Short else reached bounds 0 (1 ∷ [])) >>= λ front.
+    judged_tag (tag_of_code (slice_index bytes 0)) >>= λ tag.
+    dump_at ids tag bounds bytes
+
 -- ---- spelling, with the tag
 
 -- a group of fields behind a tag, and then bytes
@@ -104,15 +121,20 @@ tagged_bytes tag widths numbers raw = code_of_tag tag ∷ (field_bytes widths nu
 abbrev pub instance_numbers : (id trace class : ℕ) → List ℕ → List ℕ
 instance_numbers id trace class bytes = id ∷ trace ∷ class ∷ length bytes ∷ []
 
+abbrev pub class_numbers : (id trace parent loader signers domain reserved1 reserved2 size : ℕ) → List ℕ
+class_numbers id trace parent loader signers domain reserved1 reserved2 size = id ∷ trace ∷ parent ∷ loader ∷ signers ∷ domain ∷ reserved1 ∷ reserved2 ∷ size ∷ []
+
 abbrev pub obj_array_numbers : (id trace class : ℕ) → List ℕ → List ℕ
 obj_array_numbers id trace class elements = id ∷ trace ∷ length elements ∷ class ∷ []
 
 abbrev pub prim_array_numbers : IdSize → (id trace : ℕ) → Basic → List ℕ → List ℕ
 prim_array_numbers ids id trace elem bytes = id ∷ trace ∷ length bytes / width_of_basic ids elem ∷ code_of_basic elem ∷ []
 
--- the sub-record of a root, an instance or an array
+-- the sub-record that states the fact; records state the others
 abbrev pub dump_bytes : IdSize → AnyFact → List ℕ
 dump_bytes ids (Rooted root) = root_bytes ids root
+dump_bytes ids (Class id trace parent loader signers domain reserved1 reserved2 size constants statics fields) =
+    tagged_bytes tags.ClassDump (class_widths ids) (class_numbers id trace parent loader signers domain reserved1 reserved2 size) (class_lists ids constants statics fields)
 dump_bytes ids (Instance id trace class bytes) = tagged_bytes tags.InstanceDump (instance_widths ids) (instance_numbers id trace class bytes) bytes
 dump_bytes ids (ObjArray id trace class elements) =
     tagged_bytes tags.ObjArrayDump (obj_array_widths ids) (obj_array_numbers id trace class elements) (field_bytes (id_widths ids (length elements)) elements)
@@ -122,11 +144,15 @@ dump_bytes ids _ = []
 -- each field lies in its range, and no element is cut
 abbrev pub DumpFits : IdSize → AnyFact → Type 0
 DumpFits ids (Rooted root) = RootFits ids root
-DumpFits ids (Instance id trace class bytes) = FitFields (instance_widths ids) (instance_numbers id trace class bytes)
+DumpFits ids (Class id trace parent loader signers domain reserved1 reserved2 size constants statics fields) =
+    FitFields (class_widths ids) (class_numbers id trace parent loader signers domain reserved1 reserved2 size)
+    × ListFits ids kinds.Constant constants × ListFits ids kinds.Static statics × ListFits ids kinds.Field fields
+DumpFits ids (Instance id trace class bytes) = FitFields (instance_widths ids) (instance_numbers id trace class bytes) × IsBytes bytes
 DumpFits ids (ObjArray id trace class elements) =
     FitFields (obj_array_widths ids) (obj_array_numbers id trace class elements) × FitFields (id_widths ids (length elements)) elements
 DumpFits ids (PrimArray id trace elem bytes) =
-    FitFields (prim_array_widths ids) (prim_array_numbers ids id trace elem bytes) × (length bytes % width_of_basic ids elem ≡ 0) × (element_type (Some elem) ≡ Ok elem)
+    FitFields (prim_array_widths ids) (prim_array_numbers ids id trace elem bytes) × IsBytes bytes × (length bytes % width_of_basic ids elem ≡ 0)
+    × (element_type (Some elem) ≡ Ok elem)
 DumpFits ids _ = ⊥
 
 -- the tags of roots

@@ -2,11 +2,11 @@
 
 ghost use Rattle.std.specs.Prelude.{◌≡◌, ◌↔◌, IsTrue, length};
 ghost use Rattle.hprof_items.specs.FactValue.{value_of};
-ghost use Rattle.hprof_items.specs.Ids.{IsId};
+ghost use Rattle.hprof_values.specs.Ids.{IsId};
 ghost use Rattle.hprof_items.specs.Spelling.{Fits, FitsName, spelling};
 
 use crate::head::HEAD_LEN;
-use crate::ids::IdSize;
+use hprof_values::IdSize;
 
 /// A fact, over the bytes that state it.
 #[derive(Clone, Copy, Debug, PartialEq, Eq)]

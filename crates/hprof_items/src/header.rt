@@ -1,6 +1,6 @@
 //! The header of a dump.
 
-use crate::ids::IdSize;
+use hprof_values::IdSize;
 
 /// Which of the two texts the header begins with. Both versions are read with the same layouts.
 #[derive(Clone, Copy, Debug, PartialEq, Eq)]

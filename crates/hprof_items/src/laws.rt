@@ -3,30 +3,30 @@
 ghost use Rattle.std.specs.Prelude.{◌≡◌, ◌+◌, ◌<◌, ◌≤◌, ◌⊎◌, List, ℕ, ◌++◌, length, drop, sum, true, Ok, Err};
 ghost use Rattle.std.specs.Cmp.Lexicographic.{slice_cmp};
 ghost use Rattle.std.specs.Ordering.{nat_cmp};
-ghost use Rattle.hprof_items.specs.declared.ids.IdSize.{IdSize};
+ghost use Rattle.hprof_values.specs.declared.ids.IdSize.{IdSize};
 ghost use Rattle.hprof_items.specs.declared.header.Header.{Header};
 ghost use Rattle.hprof_items.specs.declared.head.Head.{Head};
-ghost use Rattle.hprof_items.specs.declared.root.Root.{Root};
+ghost use Rattle.hprof_values.specs.declared.root.Root.{Root};
 ghost use Rattle.hprof_items.specs.declared.step.Step.TheVariants.{Whole};
-ghost use Rattle.hprof_items.specs.declared.stop.Stop.TheVariants as stops;
-ghost use Rattle.hprof_items.specs.Ids.{width_of, IsBytes};
+ghost use Rattle.hprof_values.specs.declared.stop.Stop.TheVariants as stops;
+ghost use Rattle.hprof_values.specs.Ids.{width_of, IsBytes};
 ghost use Rattle.hprof_items.specs.Header.{header_bytes, IsMillis};
 ghost use Rattle.hprof_items.specs.Head.{head_bytes};
 ghost use Rattle.hprof_items.specs.FactValue.{FactValue};
 ghost use Rattle.hprof_items.specs.Spelling.{Fits, spelling, tag_of, body_of, longest_body};
-ghost use Rattle.hprof_items.specs.declared.entry.Entry.{Entry};
-ghost use Rattle.hprof_items.specs.declared.entry.EntryKind.{EntryKind};
-ghost use Rattle.hprof_items.specs.Entries.{IsEntryList};
-ghost use Rattle.hprof_items.specs.Lists.{IsIdList};
-ghost use Rattle.hprof_items.specs.declared.basic.Basic.{Basic};
-ghost use Rattle.hprof_items.specs.declared.sub_tag.SubTag.{SubTag};
+ghost use Rattle.hprof_values.specs.declared.entry.Entry.{Entry};
+ghost use Rattle.hprof_values.specs.declared.entry.EntryKind.{EntryKind};
+ghost use Rattle.hprof_values.specs.Entries.{IsEntryList};
+ghost use Rattle.hprof_values.specs.Lists.{IsIdList};
+ghost use Rattle.hprof_values.specs.declared.basic.Basic.{Basic};
+ghost use Rattle.hprof_values.specs.declared.sub_tag.SubTag.{SubTag};
 ghost use Rattle.hprof_items.specs.AnyFact.{AnyFact, Rooted, Instance, ObjArray, PrimArray};
 ghost use Rattle.hprof_items.specs.SubRecord.{root_at, instance_at, obj_array_at, prim_array_at, dump_bytes, DumpFits, is_root_tag, IsDumpOf};
-ghost use Rattle.hprof_items.specs.Fields.{field_bytes, fields_in, FitFields, Bounds, reached, IsWithin, with_more};
-ghost use Rattle.hprof_items.specs.Root.{root_bytes, tag_of_root, RootFits};
+ghost use Rattle.hprof_values.specs.Fields.{field_bytes, fields_in, FitFields, Bounds, reached, IsWithin, with_more};
+ghost use Rattle.hprof_values.specs.Root.{root_bytes, tag_of_root, RootFits};
 ghost use Rattle.hprof_items.specs.Reading.{header_at, head_at, IsRightHead, body_at};
 
-use crate::root::Root;
+use hprof_values::Root;
 
 /// No spelling begins another: bytes that begin with the spellings of two facts begin with those of one fact.
 pub fn one_spelling()
@@ -55,39 +55,6 @@ pub fn bodies_read_back()
         × ((ids : IdSize) (tag : ℕ) (body : List ℕ) (fact : FactValue) → IsBytes body → tag ≡ 1 → width_of ids ≤ length body
         → length body ≤ longest_body → body_at ids tag body ≡ Ok fact
         → (tag_of fact ≡ tag) × (body ≡ body_of ids fact) × Fits ids fact) }
-{}
-
-/// Roots are in the order of the bytes that spell them.
-pub fn roots_in_order()
-    ensures { (ids : IdSize) (root other : Root) → RootFits ids root → RootFits ids other
-        → ⟦<Root as Ord>⟧.cmp root other ≡ slice_cmp nat_cmp (root_bytes ids root) (root_bytes ids other) }
-{}
-
-/// Numbers that are spelled in fields are read, whatever follows, and those that are read are spelled so.
-pub fn fields_read_back()
-    ensures again { (widths numbers rest : List ℕ) → FitFields widths numbers
-        → (fields_in widths (field_bytes widths numbers ++ rest) ≡ numbers) × (drop (sum widths) (field_bytes widths numbers ++ rest) ≡ rest) }
-    ensures found { (widths bytes : List ℕ) → IsBytes bytes → sum widths ≤ length bytes
-        → FitFields widths (fields_in widths bytes) × (bytes ≡ field_bytes widths (fields_in widths bytes) ++ drop (sum widths) bytes) }
-{}
-
-/// Fields that lie within all bounds end where their widths say; of those of which a front is there, more bytes are
-/// needed and nothing is wrong; and with more bytes no other answer changes.
-pub fn fronts_are_short()
-    ensures whole { (bounds : Bounds) (at : ℕ) (widths : List ℕ) → IsWithin bounds (at + sum widths)
-        → reached bounds at widths ≡ Ok (at + sum widths) }
-    ensures front { (bounds : Bounds) (at : ℕ) (widths : List ℕ) → at ≤ bounds.there → bounds.there < at + sum widths
-        → at + sum widths ≤ bounds.room → at + sum widths ≤ bounds.longest → reached bounds at widths ≡ Err stops.Short }
-    ensures more { (bounds : Bounds) (at more : ℕ) (widths : List ℕ)
-        → (reached bounds at widths ≡ Err stops.Short) ⊎ (reached (with_more bounds more) at widths ≡ reached bounds at widths) }
-{}
-
-/// Bytes spell one list of entries of a kind, and one list of identifiers.
-pub fn one_list()
-    ensures entries { (ids : IdSize) (kind : EntryKind) (entries others : List Entry) (bytes : List ℕ)
-        → IsEntryList ids kind entries bytes → IsEntryList ids kind others bytes → entries ≡ others }
-    ensures identifiers { (ids : IdSize) (numbers others bytes : List ℕ)
-        → IsIdList ids numbers bytes → IsIdList ids others bytes → numbers ≡ others }
 {}
 
 /// A root that is spelled behind its tag within all bounds is read, and one that is read is spelled so.

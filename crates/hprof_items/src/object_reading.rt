@@ -1,24 +1,20 @@
 //! Reading an instance or an array behind its tag. Its bytes, or its elements, are not looked at.
 
 ghost use Rattle.std.specs.Prelude.{◌≡◌, Ok, Err, MatchResult};
-ghost use Rattle.hprof_items.specs.Basic.{basic_of_code};
-ghost use Rattle.hprof_items.specs.Item.{bounds_of};
-ghost use Rattle.hprof_items.specs.SubRecord.{element_type, instance_at, obj_array_at, prim_array_at, value_of_sub};
+ghost use Rattle.hprof_values.specs.Basic.{basic_of_code};
+ghost use Rattle.hprof_values.specs.Item.{bounds_of};
+ghost use Rattle.hprof_items.specs.SubRecord.{element_type, instance_at, obj_array_at, prim_array_at};
+ghost use Rattle.hprof_items.specs.FullFact.{value_of_full};
 
-use crate::basic::Basic;
-use crate::ids::IdSize;
-use crate::item::Item;
-use crate::lists::ids::IdList;
-use crate::number::{byte_at, id_at, ids_len, split_id, split_u32, values_len};
-use crate::step::Reason;
-use crate::stop::Stop;
-use crate::sub_fact::SubFact;
+use crate::full_fact::FullFact;
+use hprof_values::number::{byte_at, id_at, ids_len, split_id, split_u32, values_len};
+use hprof_values::{Basic, IdList, IdSize, Item, Reason, Stop};
 
 /// Reads an instance.
 #[tactic(auto, unfolding(crate::specs::SubRecord::instance_at))]
-pub(crate) fn read_instance<'a>(item: &Item<'a>, ids: IdSize) -> Result<(SubFact<'a>, usize), Stop>
+pub(crate) fn read_instance<'a>(item: &Item<'a>, ids: IdSize) -> Result<(FullFact<'a>, usize), Stop>
     ensures { MatchResult result
-        (λ read. instance_at ids (bounds_of item.now) item.now.bytes.now ≡ Ok (value_of_sub read.0, read.1))
+        (λ read. instance_at ids (bounds_of item.now) item.now.bytes.now ≡ Ok (value_of_full read.0, read.1))
         (λ stop. instance_at ids (bounds_of item.now) item.now.bytes.now ≡ Err stop) }
 {
     let front = item.end_of(1, &[ids.width(), 4, ids.width(), 4])?;
@@ -30,7 +26,7 @@ pub(crate) fn read_instance<'a>(item: &Item<'a>, ids: IdSize) -> Result<(SubFact
     let end = item.end_of(front, &[len as usize])?;
     let (_, rest) = item.bytes.split_at(front);
     let (bytes, _) = rest.split_at(len as usize);
-    let fact = SubFact::Instance {
+    let fact = FullFact::Instance {
         id,
         trace,
         class,
@@ -41,9 +37,12 @@ pub(crate) fn read_instance<'a>(item: &Item<'a>, ids: IdSize) -> Result<(SubFact
 
 /// Reads an array of objects.
 #[tactic(auto, unfolding(crate::specs::SubRecord::obj_array_at))]
-pub(crate) fn read_obj_array<'a>(item: &Item<'a>, ids: IdSize) -> Result<(SubFact<'a>, usize), Stop>
+pub(crate) fn read_obj_array<'a>(
+    item: &Item<'a>,
+    ids: IdSize,
+) -> Result<(FullFact<'a>, usize), Stop>
     ensures { MatchResult result
-        (λ read. obj_array_at ids (bounds_of item.now) item.now.bytes.now ≡ Ok (value_of_sub read.0, read.1))
+        (λ read. obj_array_at ids (bounds_of item.now) item.now.bytes.now ≡ Ok (value_of_full read.0, read.1))
         (λ stop. obj_array_at ids (bounds_of item.now) item.now.bytes.now ≡ Err stop) }
 {
     let front = item.end_of(1, &[ids.width(), 4, 4, ids.width()])?;
@@ -56,7 +55,7 @@ pub(crate) fn read_obj_array<'a>(item: &Item<'a>, ids: IdSize) -> Result<(SubFac
     let end = item.end_of(front, &[len])?;
     let (_, rest) = item.bytes.split_at(front);
     let (bytes, _) = rest.split_at(len);
-    let fact = SubFact::ObjArray {
+    let fact = FullFact::ObjArray {
         id,
         trace,
         class,
@@ -80,9 +79,9 @@ fn element_type(code: u8) -> Result<Basic, Stop>
 pub(crate) fn read_prim_array<'a>(
     item: &Item<'a>,
     ids: IdSize,
-) -> Result<(SubFact<'a>, usize), Stop>
+) -> Result<(FullFact<'a>, usize), Stop>
     ensures { MatchResult result
-        (λ read. prim_array_at ids (bounds_of item.now) item.now.bytes.now ≡ Ok (value_of_sub read.0, read.1))
+        (λ read. prim_array_at ids (bounds_of item.now) item.now.bytes.now ≡ Ok (value_of_full read.0, read.1))
         (λ stop. prim_array_at ids (bounds_of item.now) item.now.bytes.now ≡ Err stop) }
 {
     let front = item.end_of(1, &[ids.width(), 4, 4, 1])?;
@@ -95,7 +94,7 @@ pub(crate) fn read_prim_array<'a>(
     let end = item.end_of(front, &[len])?;
     let (_, rest) = item.bytes.split_at(front);
     let (bytes, _) = rest.split_at(len);
-    let fact = SubFact::PrimArray {
+    let fact = FullFact::PrimArray {
         id,
         trace,
         elem,

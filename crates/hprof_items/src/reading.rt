@@ -4,7 +4,7 @@ ghost use Rattle.std.specs.Prelude.{◌≡◌, ℕ, ◌≤◌, ◌++◌, List, l
 ghost use Rattle.byteorder.specs.Endian.{big_number};
 ghost use Rattle.hprof_items.specs.declared.header.Header.{Header};
 ghost use Rattle.hprof_items.specs.declared.head.Head.{Head};
-ghost use Rattle.hprof_items.specs.Ids.{width_of};
+ghost use Rattle.hprof_values.specs.Ids.{width_of};
 ghost use Rattle.hprof_items.specs.Header.{header_bytes, IsMillis};
 ghost use Rattle.hprof_items.specs.Head.{head_bytes, kind_of};
 ghost use Rattle.hprof_items.specs.FactValue.{FactValue, value_of};
@@ -14,10 +14,10 @@ ghost use Rattle.hprof_items.specs.Reading.{version_of, ids_of, header_at, judge
 use crate::fact::Fact;
 use crate::head::{HEAD_LEN, Head, HeadKind};
 use crate::header::{HEADER_LEN, Header, Version};
-use crate::ids::IdSize;
-use crate::step::{Reason, Step};
+use crate::step::Step;
 use crate::tag;
 use byteorder::{BigEndian, ByteOrder};
+use hprof_values::{IdSize, Reason};
 
 /// The text that each version's header begins with, and the zero byte behind it.
 pub(crate) const TEXT_V101: &[u8; 19] = b"JAVA PROFILE 1.0.1\0";

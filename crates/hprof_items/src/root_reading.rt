@@ -1,18 +1,14 @@
 //! Reading a root behind its tag.
 
 ghost use Rattle.std.specs.Prelude.{◌≡◌, ◌≤◌, length, sum, Ok, Err, MatchResult};
-ghost use Rattle.hprof_items.specs.Fields.{fields_in, reached};
-ghost use Rattle.hprof_items.specs.Item.{bounds_of};
-ghost use Rattle.hprof_items.specs.Root.{root_fields};
+ghost use Rattle.hprof_values.specs.Fields.{fields_in, reached};
+ghost use Rattle.hprof_values.specs.Item.{bounds_of};
+ghost use Rattle.hprof_values.specs.Root.{root_fields};
 ghost use Rattle.hprof_items.specs.AnyFact.{Rooted};
 ghost use Rattle.hprof_items.specs.SubRecord.{root_of, root_at};
 
-use crate::ids::IdSize;
-use crate::item::Item;
-use crate::number::{split_id, split_u32};
-use crate::root::Root;
-use crate::stop::Stop;
-use crate::sub_tag::SubTag;
+use hprof_values::number::{split_id, split_u32};
+use hprof_values::{IdSize, Item, Root, Stop, SubTag};
 
 /// Where the fields of a root end, or the first of their tests that fails.
 fn root_end(item: &Item<'_>, tag: SubTag, ids: IdSize) -> Result<usize, Stop>

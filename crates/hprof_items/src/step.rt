@@ -1,5 +1,7 @@
 //! What reading at the front of some bytes comes to.
 
+use hprof_values::Reason;
+
 /// What a reader finds at the front of the bytes that it is given.
 #[derive(Clone, Copy, Debug, PartialEq, Eq)]
 pub enum Step<T> {
@@ -11,25 +13,4 @@ pub enum Step<T> {
     TooLong,
     /// It is wrong, whatever follows.
     Fault(Reason),
-}
-
-/// Why bytes are no dump.
-#[derive(Clone, Copy, Debug, PartialEq, Eq)]
-pub enum Reason {
-    /// The text in front is neither of the two.
-    BadMagic,
-    /// The identifier size is neither 4 nor 8.
-    BadIdSize,
-    /// The bytes end within an item.
-    Truncated,
-    /// A record has a length that its tag does not allow.
-    BadLength,
-    /// A sub-record has a tag that stands for none.
-    BadSubTag,
-    /// A sub-record passes the end of its record.
-    PastEnd,
-    /// A value has a type that stands for none, or that may not stand there.
-    BadType,
-    /// A record that this reader does not know yet.
-    Unsupported,
 }

@@ -3,7 +3,6 @@ ghost use Rattle.hprof_items.specs.Spelling.{longest_body};
 ghost use Rattle.hprof_items.specs.Reading.{IsRightHead};
 
 mod items;
-mod values;
 
 use super::*;
 use std::io;

@@ -3,7 +3,7 @@
 ghost use Rattle.std.specs.Prelude.{◌≡◌, ◌≤◌, ◌++◌, length, take, drop};
 ghost use Rattle.byteorder.specs.Endian.{big_bytes};
 ghost use Rattle.hprof_items.specs.declared.health.Health.TheVariants.{Well};
-ghost use Rattle.hprof_items.specs.Ids.{width_of, IsId};
+ghost use Rattle.hprof_values.specs.Ids.{width_of, IsId};
 ghost use Rattle.hprof_items.specs.Header.{text_of, header_bytes};
 ghost use Rattle.hprof_items.specs.Head.{head_bytes};
 ghost use Rattle.hprof_items.specs.FactValue.{Name, value_of};
@@ -14,11 +14,11 @@ use crate::fact::Fact;
 use crate::head::HEAD_LEN;
 use crate::header::{HEADER_LEN, Header, Version};
 use crate::health::WriteFault;
-use crate::ids::IdSize;
 use crate::reading::{SIZED_LEN, TEXT_LEN, TEXT_V101, TEXT_V102};
 use crate::tag;
 use crate::target::Target;
 use byteorder::{BigEndian, ByteOrder};
+use hprof_values::IdSize;
 
 /// Pushes all of the bytes.
 fn push_all<W: Target>(bytes: &[u8], target: &mut W) -> Result<(), WriteFault>

@@ -2,12 +2,12 @@
 use Rattle.std.proofs.Common.{◌≡◌, inl, inr, ℕ, true, false, eqb, List, [], ◌++◌, length, Some, refl, sym, ap, subst, ◌∙◌, append_assoc}
 use Rattle.std.proofs.lemmas.Bool.{cases_Bool, eqb-true, both_ways, and_right}
 use Rattle.std.proofs.lemmas.List.{nil_from_length}
-use Rattle.hprof_items.specs.declared.step.Reason.{Reason}
-use Rattle.hprof_items.specs.declared.step.Reason.TheVariants.{Truncated}
+use Rattle.hprof_values.specs.declared.reason.Reason.{Reason}
+use Rattle.hprof_values.specs.declared.reason.Reason.TheVariants.{Truncated}
 use Rattle.hprof_items.specs.declared.step.Step.{Step}
 use Rattle.hprof_items.specs.declared.step.Step.TheVariants.{Whole, Short, TooLong, Fault}
 use Rattle.hprof_items.specs.FactValue.{FactValue}
-use Rattle.hprof_items.proofs.Numbers.{same_parts}
+use Rattle.hprof_values.proofs.Numbers.{same_parts}
 use Rattle.hprof_items.proofs.Steps.{whole_parts}
 use Rattle.hprof_stream.specs.declared.part_fault.PartFault.{PartFault}
 use Rattle.hprof_stream.specs.declared.part_fault.PartFault.TheVariants.{Malformed, ItemTooLong}

@@ -7,14 +7,14 @@ use Rattle.hprof_items.specs.declared.header.Version.TheVariants.{V101, V102}
 use Rattle.hprof_items.specs.declared.head.Head.{Head}
 use Rattle.hprof_items.specs.declared.head.HeadKind.{HeadKind}
 use Rattle.hprof_items.specs.declared.head.HeadKind.TheVariants.{FactRecord, DumpEnd}
-use Rattle.hprof_items.specs.declared.ids.IdSize.{IdSize}
-use Rattle.hprof_items.specs.declared.step.Reason.{Reason}
+use Rattle.hprof_values.specs.declared.ids.IdSize.{IdSize}
+use Rattle.hprof_values.specs.declared.reason.Reason.{Reason}
 use Rattle.hprof_items.specs.declared.step.Step.{Step}
 use Rattle.hprof_items.specs.declared.step.Step.TheVariants.{Whole, Short}
 use Rattle.hprof_items.specs.FactValue.{FactValue, Name}
 use Rattle.hprof_items.specs.Head.{kind_of, is_fact_tag, record_bytes}
 use Rattle.hprof_items.specs.Header.{header_bytes}
-use Rattle.hprof_items.specs.Ids.{IsBytes}
+use Rattle.hprof_values.specs.Ids.{IsBytes}
 use Rattle.hprof_items.specs.Reading.{header_at, head_at, body_at, is_known, IsRightHead}
 use Rattle.hprof_items.specs.Spelling.{longest_body, tag_of, body_of}
 use Rattle.hprof_items.proofs.Heads.{head_found}

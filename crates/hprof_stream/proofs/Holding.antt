@@ -6,8 +6,8 @@ use Rattle.hprof_items.specs.declared.header.Version.{Version}
 use Rattle.hprof_items.specs.declared.head.Head.{Head}
 use Rattle.hprof_items.specs.declared.head.HeadKind.{HeadKind}
 use Rattle.hprof_items.specs.declared.head.HeadKind.TheVariants.{FactRecord, HeapDump, DumpEnd, Skipped}
-use Rattle.hprof_items.specs.declared.ids.IdSize.{IdSize}
-use Rattle.hprof_items.specs.declared.step.Reason.{Reason}
+use Rattle.hprof_values.specs.declared.ids.IdSize.{IdSize}
+use Rattle.hprof_values.specs.declared.reason.Reason.{Reason}
 use Rattle.hprof_items.specs.declared.step.Step.{Step}
 use Rattle.hprof_items.specs.declared.step.Step.TheVariants.{Whole, Short, TooLong, Fault}
 use Rattle.hprof_items.specs.FactValue.{FactValue}

@@ -9,18 +9,18 @@ use Rattle.hprof_items.specs.declared.header.Version.{Version}
 use Rattle.hprof_items.specs.declared.header.Version.TheVariants.{V101, V102}
 use Rattle.hprof_items.specs.declared.head.Head.{Head}
 use Rattle.hprof_items.specs.declared.head.HeadKind.TheVariants.{FactRecord}
-use Rattle.hprof_items.specs.declared.ids.IdSize.{IdSize}
-use Rattle.hprof_items.specs.declared.ids.IdSize.TheVariants.{Four, Eight}
-use Rattle.hprof_items.specs.declared.step.Reason.{Reason}
+use Rattle.hprof_values.specs.declared.ids.IdSize.{IdSize}
+use Rattle.hprof_values.specs.declared.ids.IdSize.TheVariants.{Four, Eight}
+use Rattle.hprof_values.specs.declared.reason.Reason.{Reason}
 use Rattle.hprof_items.specs.declared.step.Step.{Step}
 use Rattle.hprof_items.specs.declared.step.Step.TheVariants.{Whole, Short, TooLong, Fault}
 use Rattle.hprof_items.specs.FactValue.{FactValue, Name}
 use Rattle.hprof_items.specs.Header.{header_bytes, IsMillis}
 use Rattle.hprof_items.specs.Head.{kind_of, head_bytes, record_bytes}
-use Rattle.hprof_items.specs.Ids.{width_of, IsBytes}
+use Rattle.hprof_values.specs.Ids.{width_of, IsBytes}
 use Rattle.hprof_items.specs.Reading.{header_at, head_at, body_at, is_known, is_legal, is_too_long, IsRightHead}
 use Rattle.hprof_items.specs.Spelling.{Fits, tag_of, body_of}
-use Rattle.hprof_items.proofs.Numbers.{IsBytes-drop}
+use Rattle.hprof_values.proofs.Numbers.{IsBytes-drop}
 use Rattle.hprof_items.proofs.Steps.{long_enough, whole_parts, short_is_not_whole, too_long_is_not_whole, fault_is_not_whole}
 use Rattle.hprof_items.proofs.Headers.{header_found, header_again}
 use Rattle.hprof_items.proofs.Heads.{head_found, head_again}

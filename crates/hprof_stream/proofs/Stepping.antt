@@ -8,12 +8,12 @@ use Rattle.std.proofs.lemmas.List.{length-take-le, take-append-drop, length-appe
 use Rattle.hprof_items.specs.declared.header.Header.{Header}
 use Rattle.hprof_items.specs.declared.head.Head.{Head}
 use Rattle.hprof_items.specs.declared.head.HeadKind.TheVariants.{FactRecord, DumpEnd}
-use Rattle.hprof_items.specs.declared.step.Reason.{Reason}
+use Rattle.hprof_values.specs.declared.reason.Reason.{Reason}
 use Rattle.hprof_items.specs.declared.step.Step.{Step}
 use Rattle.hprof_items.specs.declared.step.Step.TheVariants.{Whole, Short, TooLong, Fault}
 use Rattle.hprof_items.specs.FactValue.{FactValue}
 use Rattle.hprof_items.specs.Head.{kind_of}
-use Rattle.hprof_items.specs.Ids.{IsBytes}
+use Rattle.hprof_values.specs.Ids.{IsBytes}
 use Rattle.hprof_items.specs.Reading.{header_at, head_at, body_at}
 use Rattle.hprof_stream.specs.declared.part_fault.PartFault.{PartFault}
 use Rattle.hprof_stream.specs.declared.part_fault.PartFault.TheVariants as faults

@@ -5,7 +5,7 @@ use Rattle.hprof_items.specs.declared.header.Header.{Header}
 use Rattle.hprof_items.specs.declared.head.Head.{Head}
 use Rattle.hprof_items.specs.declared.head.HeadKind.{HeadKind}
 use Rattle.hprof_items.specs.declared.head.HeadKind.TheVariants.{FactRecord, HeapDump, DumpEnd, Skipped}
-use Rattle.hprof_items.specs.declared.step.Reason.{Reason}
+use Rattle.hprof_values.specs.declared.reason.Reason.{Reason}
 use Rattle.hprof_items.specs.declared.step.Step.{Step}
 use Rattle.hprof_items.specs.declared.step.Step.TheVariants.{Whole, Short, TooLong, Fault}
 use Rattle.hprof_items.specs.FactValue.{FactValue}

@@ -1,6 +1,6 @@
 -- What a record states: heapDumper.cpp, "HPROF binary format", the records. A record's time may be any number.
 use Rattle.std.specs.Prelude.{◌≡◌, ℕ, ◌^◌, ◌<◌, List, [], ◌∷◌}
-use Rattle.hprof_items.specs.declared.ids.IdSize.{IdSize}
+use Rattle.hprof_values.specs.declared.ids.IdSize.{IdSize}
 use Rattle.hprof_items.specs.FactValue.{FactValue}
 use Rattle.hprof_items.specs.Head.{record_bytes}
 use Rattle.hprof_items.specs.Spelling.{Fits, tag_of, body_of}

@@ -21,7 +21,7 @@ pub enum SinkFault {
 /// `Failed` to every later call.
 pub trait Sink {
     ghost use Rattle.hprof_items.specs.declared.header.Header.{Header};
-    ghost use Rattle.hprof_items.specs.declared.ids.IdSize.{IdSize};
+    ghost use Rattle.hprof_values.specs.declared.ids.IdSize.{IdSize};
     ghost use Rattle.hprof_stream.specs.declared.sink.SinkFault.{SinkFault};
     ghost use Rattle.hprof_stream.specs.Run.{FitsBegun};
 

@@ -1,6 +1,6 @@
 -- A settled fault stays, whatever follows.
 use Rattle.std.proofs.Common.{◌≡◌, ℕ, true, List, ◌++◌, length, Some, refl, sym, ap, ◌∙◌, append_assoc}
-use Rattle.hprof_items.specs.declared.step.Reason.TheVariants.{Truncated}
+use Rattle.hprof_values.specs.declared.reason.Reason.TheVariants.{Truncated}
 use Rattle.hprof_items.specs.declared.step.Step.{Step}
 use Rattle.hprof_items.specs.declared.step.Step.TheVariants.{Whole, Short, TooLong, Fault}
 use Rattle.hprof_stream.specs.declared.part_fault.PartFault.{PartFault}

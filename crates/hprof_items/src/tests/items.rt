@@ -1,7 +1,7 @@
-use super::super::item::Item;
 use super::super::object_reading::{read_instance, read_obj_array, read_prim_array};
 use super::super::root_reading::read_root;
 use super::super::*;
+use hprof_values::Item;
 use std::test::*;
 
 // All bytes, with so much room and so long a longest item.
@@ -44,7 +44,7 @@ fn roots(rt: HostRuntime) {
 #[test]
 fn objects(rt: HostRuntime) -> Result<(), Fail> {
     let instance: &[u8] = b"\x21\0\0\0\x10\0\0\0\x01\0\0\0\x09\0\0\0\x02ab";
-    let fact = SubFact::Instance {
+    let fact = FullFact::Instance {
         id: 16,
         trace: 1,
         class: 9,
@@ -60,7 +60,7 @@ fn objects(rt: HostRuntime) -> Result<(), Fail> {
     );
     let objects: &[u8] = b"\x22\0\0\0\x11\0\0\0\x01\0\0\0\x01\0\0\0\x09\0\0\0\x10";
     let elements = IdList::new(b"\0\0\0\x10", IdSize::Four).ok_or("no list")?;
-    let fact = SubFact::ObjArray {
+    let fact = FullFact::ObjArray {
         id: 17,
         trace: 1,
         class: 9,
@@ -71,7 +71,7 @@ fn objects(rt: HostRuntime) -> Result<(), Fail> {
         Ok((fact, 21))
     );
     let numbers: &[u8] = b"\x23\0\0\0\x12\0\0\0\x01\0\0\0\x01\x05\0A";
-    let fact = SubFact::PrimArray {
+    let fact = FullFact::PrimArray {
         id: 18,
         trace: 1,
         elem: Basic::Char,

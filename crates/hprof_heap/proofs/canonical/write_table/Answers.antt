@@ -1,7 +1,7 @@
 use Rattle.std.proofs.Common.{sym, subst}
 use Rattle.std.specs.List.{flat_map}
 use Rattle.std.proofs.lemmas.Result.{err_from_is_err_and}
-use Rattle.hprof_items.specs.declared.ids.IdSize.{IdSize}
+use Rattle.hprof_values.specs.declared.ids.IdSize.{IdSize}
 use Rattle.hprof_items.specs.FactValue.{value_of}
 use Rattle.hprof_items.specs.Spelling.{spelling}
 use Rattle.hprof_items.specs.Device.{Writes}

@@ -2,7 +2,7 @@ use Rattle.std.proofs.Common.{◌≡◌, ℕ, ◌-◌, List, length, take, drop,
 use Rattle.byteorder.specs.Endian.{big_number}
 use Rattle.hprof_items.specs.declared.step.Step.TheVariants.{Whole}
 use Rattle.hprof_items.specs.Reading.{ids_of}
-use Rattle.hprof_items.proofs.Numbers.{to_the_end}
+use Rattle.hprof_values.proofs.Numbers.{to_the_end}
 use Rattle.hprof_items.proofs.Headers.{header_made}
 use Rattle.hprof_items.proofs.reading.header_step.Goals as goal
 

@@ -1,6 +1,6 @@
 use Rattle.std.proofs.Common.{◌≡◌, ◌+◌, ◌-◌, ℕ, List, take, drop, Result, Ok, Err, sym, ap, ◌∙◌, refl, arith}
-use Rattle.hprof_items.specs.declared.ids.IdSize.{IdSize}
-use Rattle.hprof_items.specs.declared.step.Reason.{Reason}
+use Rattle.hprof_values.specs.declared.ids.IdSize.{IdSize}
+use Rattle.hprof_values.specs.declared.reason.Reason.{Reason}
 use Rattle.hprof_items.specs.FactValue.{FactValue, value_of}
 use Rattle.hprof_items.specs.Reading.{body_at}
 use Rattle.hprof_stream.proofs.Found.{body_is, body_is_short, head_read, right_at_all}

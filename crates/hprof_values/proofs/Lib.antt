@@ -1,0 +1,6 @@
+pub mod Numbers
+pub mod Orders
+pub mod FieldGroups
+pub mod EntryLists
+pub mod Counting
+pub mod IdLists

@@ -1,0 +1,10 @@
+pub mod Ids
+pub mod Basic
+pub mod Fields
+pub mod Item
+pub mod Entries
+pub mod Value
+pub mod Lists
+pub mod SubTag
+pub mod Root
+pub mod RecordTag

@@ -1,0 +1,88 @@
+//! The types of values.
+
+ghost use Rattle.std.specs.Prelude.{◌≡◌, ◌↔◌};
+
+use crate::ids::IdSize;
+
+/// A type of values, by the table of basic types in heapDumper.cpp, "HPROF binary format". Types are ordered by
+/// their codes.
+#[derive(Clone, Copy, Debug, PartialEq, Eq, PartialOrd, Ord)]
+pub enum Basic {
+    /// An array. Its value is an identifier. This type stands for no element of an array; that it may stand for
+    /// constants and fields is this project's own rule.
+    Array,
+    /// An object. Its value is an identifier.
+    Object,
+    /// A truth value: one byte, of any value.
+    Boolean,
+    /// A UTF-16 code unit.
+    Char,
+    /// A floating-point number of 32 bits.
+    Float,
+    /// A floating-point number of 64 bits.
+    Double,
+    /// A signed number of 8 bits.
+    Byte,
+    /// A signed number of 16 bits.
+    Short,
+    /// A signed number of 32 bits.
+    Int,
+    /// A signed number of 64 bits.
+    Long,
+}
+
+impl Basic {
+    ghost use Rattle.hprof_values.specs.declared.basic.Basic.{Basic};
+    ghost use Rattle.hprof_values.specs.Basic.{code_of_basic, basic_of_code, width_of_basic};
+
+    /// The code that stands for the type in a dump.
+    pub fn code(self) -> u8
+        ensures { result ≡ code_of_basic self }
+    {
+        match self {
+            Basic::Array => 1,
+            Basic::Object => 2,
+            Basic::Boolean => 4,
+            Basic::Char => 5,
+            Basic::Float => 6,
+            Basic::Double => 7,
+            Basic::Byte => 8,
+            Basic::Short => 9,
+            Basic::Int => 10,
+            Basic::Long => 11,
+        }
+    }
+
+    /// The type that the code stands for.
+    pub fn from_code(code: u8) -> Option<Basic>
+        ensures exact { result ≡ basic_of_code code }
+        ensures both { (basic : Basic) → (result ≡ Some basic) ↔ (code ≡ code_of_basic basic) }
+    {
+        match code {
+            1 => Some(Basic::Array),
+            2 => Some(Basic::Object),
+            4 => Some(Basic::Boolean),
+            5 => Some(Basic::Char),
+            6 => Some(Basic::Float),
+            7 => Some(Basic::Double),
+            8 => Some(Basic::Byte),
+            9 => Some(Basic::Short),
+            10 => Some(Basic::Int),
+            11 => Some(Basic::Long),
+            _ => None,
+        }
+    }
+
+    /// How many bytes a value of the type has.
+    pub fn width(self, ids: IdSize) -> u32
+        ensures { result ≡ width_of_basic ids self }
+    {
+        match self {
+            Basic::Array | Basic::Object => ids.width() as u32,
+            Basic::Boolean | Basic::Byte => 1,
+            Basic::Char | Basic::Short => 2,
+            Basic::Float | Basic::Int => 4,
+            Basic::Double | Basic::Long => 8,
+        }
+    }
+}

@@ -1,0 +1,27 @@
+//! The width of identifiers.
+
+ghost use Rattle.std.specs.Prelude.{◌≡◌};
+
+/// How many bytes an identifier has. The header of a dump says it; other sizes than these two are refused,
+/// which is this project's own rule.
+#[derive(Clone, Copy, Debug, PartialEq, Eq)]
+pub enum IdSize {
+    /// Four bytes.
+    Four,
+    /// Eight bytes.
+    Eight,
+}
+
+impl IdSize {
+    ghost use Rattle.hprof_values.specs.Ids.{width_of};
+
+    /// The number of bytes, 4 or 8.
+    pub fn width(self) -> usize
+        ensures { result ≡ width_of self }
+    {
+        match self {
+            IdSize::Four => 4,
+            IdSize::Eight => 8,
+        }
+    }
+}

@@ -1,0 +1,50 @@
+//! Laws of the definitions. None of these functions does anything.
+
+ghost use Rattle.std.specs.Prelude.{◌≡◌, ◌+◌, ◌<◌, ◌≤◌, ◌⊎◌, List, ℕ, ◌++◌, length, drop, sum};
+ghost use Rattle.std.specs.Cmp.Lexicographic.{slice_cmp};
+ghost use Rattle.std.specs.Ordering.{nat_cmp};
+ghost use Rattle.hprof_values.specs.declared.ids.IdSize.{IdSize};
+ghost use Rattle.hprof_values.specs.declared.entry.Entry.{Entry};
+ghost use Rattle.hprof_values.specs.declared.entry.EntryKind.{EntryKind};
+ghost use Rattle.hprof_values.specs.declared.root.Root.{Root};
+ghost use Rattle.hprof_values.specs.declared.stop.Stop.TheVariants as stops;
+ghost use Rattle.hprof_values.specs.Ids.{IsBytes};
+ghost use Rattle.hprof_values.specs.Entries.{IsEntryList};
+ghost use Rattle.hprof_values.specs.Lists.{IsIdList};
+ghost use Rattle.hprof_values.specs.Fields.{field_bytes, fields_in, FitFields, Bounds, reached, IsWithin, with_more};
+ghost use Rattle.hprof_values.specs.Root.{root_bytes, RootFits};
+
+use crate::root::Root;
+
+/// Roots are in the order of the bytes that spell them.
+pub fn roots_in_order()
+    ensures { (ids : IdSize) (root other : Root) → RootFits ids root → RootFits ids other
+        → ⟦<Root as Ord>⟧.cmp root other ≡ slice_cmp nat_cmp (root_bytes ids root) (root_bytes ids other) }
+{}
+
+/// Numbers that are spelled in fields are read, whatever follows, and those that are read are spelled so.
+pub fn fields_read_back()
+    ensures again { (widths numbers rest : List ℕ) → FitFields widths numbers
+        → (fields_in widths (field_bytes widths numbers ++ rest) ≡ numbers) × (drop (sum widths) (field_bytes widths numbers ++ rest) ≡ rest) }
+    ensures found { (widths bytes : List ℕ) → IsBytes bytes → sum widths ≤ length bytes
+        → FitFields widths (fields_in widths bytes) × (bytes ≡ field_bytes widths (fields_in widths bytes) ++ drop (sum widths) bytes) }
+{}
+
+/// Fields that lie within all bounds end where their widths say; of those of which a front is there, more bytes are
+/// needed and nothing is wrong; and with more bytes no other answer changes.
+pub fn fronts_are_short()
+    ensures whole { (bounds : Bounds) (at : ℕ) (widths : List ℕ) → IsWithin bounds (at + sum widths)
+        → reached bounds at widths ≡ Ok (at + sum widths) }
+    ensures front { (bounds : Bounds) (at : ℕ) (widths : List ℕ) → at ≤ bounds.there → bounds.there < at + sum widths
+        → at + sum widths ≤ bounds.room → at + sum widths ≤ bounds.longest → reached bounds at widths ≡ Err stops.Short }
+    ensures more { (bounds : Bounds) (at more : ℕ) (widths : List ℕ)
+        → (reached bounds at widths ≡ Err stops.Short) ⊎ (reached (with_more bounds more) at widths ≡ reached bounds at widths) }
+{}
+
+/// Bytes spell one list of entries of a kind, and one list of identifiers.
+pub fn one_list()
+    ensures entries { (ids : IdSize) (kind : EntryKind) (entries others : List Entry) (bytes : List ℕ)
+        → IsEntryList ids kind entries bytes → IsEntryList ids kind others bytes → entries ≡ others }
+    ensures identifiers { (ids : IdSize) (numbers others bytes : List ℕ)
+        → IsIdList ids numbers bytes → IsIdList ids others bytes → numbers ≡ others }
+{}

@@ -1,0 +1,6 @@
+//! Lists of entries and of identifiers, over the bytes that spell them.
+
+pub mod constants;
+pub mod fields;
+pub mod ids;
+pub mod statics;
