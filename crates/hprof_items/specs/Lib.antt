@@ -3,6 +3,7 @@ pub mod Head
 pub mod AnyFact
 pub mod RecordBody
 pub mod ClassDump
+pub mod ClassFront
 pub mod SubRecord
 pub mod FullFact
 pub mod FactValue

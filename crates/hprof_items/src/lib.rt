@@ -3,6 +3,7 @@
 //! heapDumper.cpp. No call of this crate takes memory.
 #![tactic(auto)]
 
+mod class_reading;
 mod device;
 mod fact;
 mod full_fact;

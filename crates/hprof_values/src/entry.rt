@@ -1,6 +1,6 @@
 //! The entries of a class dump: constants, static fields and own instance fields, as what they have in common.
 
-ghost use Rattle.std.specs.Prelude.{◌≡◌, ◌+◌, ◌<◌, ◌≤◌, ◌^◌, List, length};
+ghost use Rattle.std.specs.Prelude.{◌≡◌, ◌+◌, ◌<◌, ◌≤◌, List, length, IfOk};
 ghost use Rattle.hprof_values.specs.Entries.{lead_width, bits_width, entry_len, entry_in, EntryFits, entry_end};
 ghost use Rattle.hprof_values.specs.Item.{bounds_of};
 
@@ -59,8 +59,9 @@ impl EntryKind {
 /// The end of the entry that begins there, or the first of its tests that fails.
 #[tactic(auto, unfolding(crate::specs::Entries::entry_end))]
 pub fn entry_end(item: &Item<'_>, at: usize, kind: EntryKind, ids: IdSize) -> Result<usize, Stop>
-    requires { at < 2 ^ 60 }
-    ensures { result ≡ entry_end ids kind (bounds_of item.now) item.now.bytes.now at }
+    requires { at ≤ length item.now.bytes.now }
+    ensures end { result ≡ entry_end ids kind (bounds_of item.now) item.now.bytes.now at }
+    ensures there { IfOk result (λ end. (at < end) × (end ≤ length item.now.bytes.now)) }
 {
     let lead = kind.lead_width(ids);
     let front = item.end_of(at, &[lead, 1])?;

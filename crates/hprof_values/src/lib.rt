@@ -6,6 +6,7 @@
 mod basic;
 mod entries;
 mod entry;
+mod entry_span;
 mod ids;
 mod item;
 pub mod laws;
@@ -20,6 +21,7 @@ mod value;
 
 pub use basic::Basic;
 pub use entry::{Entry, EntryKind, entry_end};
+pub use entry_span::{EntrySpan, list_at};
 pub use ids::IdSize;
 pub use item::Item;
 pub use lists::constants::{ConstantList, Constants};

@@ -6,6 +6,7 @@ ghost use Rattle.hprof_values.specs.Entries.{entries_bytes, entries_in};
 
 use crate::entries::{count_entries, next_entry, nth_entry};
 use crate::entry::EntryKind;
+use crate::entry_span::EntrySpan;
 use crate::ids::IdSize;
 use crate::value::Constant;
 
@@ -40,6 +41,19 @@ impl<'a> ConstantList<'a> {
             ids,
             len: count as u16,
         })
+    }
+
+    /// The list that was read.
+    pub fn of_span(span: EntrySpan<'a>, ids: IdSize) -> ConstantList<'a>
+        requires { span.bytes.now ≡ entries_bytes ids kinds.Constant (entries_in ids kinds.Constant span.count span.bytes.now) }
+        ensures entries { constants_of result ≡ entries_in ids kinds.Constant span.entry.count span.entry.bytes.now }
+        ensures size { constants_size result ≡ ids }
+    {
+        ConstantList {
+            bytes: span.bytes,
+            ids,
+            len: span.count,
+        }
     }
 
     /// How many there are.

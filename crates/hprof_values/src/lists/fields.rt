@@ -6,6 +6,7 @@ ghost use Rattle.hprof_values.specs.Entries.{entries_bytes, entries_in};
 
 use crate::entries::{count_entries, next_entry, nth_entry};
 use crate::entry::EntryKind;
+use crate::entry_span::EntrySpan;
 use crate::ids::IdSize;
 use crate::value::Field;
 
@@ -40,6 +41,19 @@ impl<'a> FieldList<'a> {
             ids,
             len: count as u16,
         })
+    }
+
+    /// The list that was read.
+    pub fn of_span(span: EntrySpan<'a>, ids: IdSize) -> FieldList<'a>
+        requires { span.bytes.now ≡ entries_bytes ids kinds.Field (entries_in ids kinds.Field span.count span.bytes.now) }
+        ensures entries { fields_of result ≡ entries_in ids kinds.Field span.entry.count span.entry.bytes.now }
+        ensures size { fields_size result ≡ ids }
+    {
+        FieldList {
+            bytes: span.bytes,
+            ids,
+            len: span.count,
+        }
     }
 
     /// How many there are.

@@ -1,0 +1,105 @@
+//! Reading a class behind its tag.
+
+ghost use Rattle.std.specs.Prelude.{◌≡◌, ◌≤◌, length, sum, Ok, Err, IfOk, MatchResult};
+ghost use Rattle.hprof_values.specs.Fields.{fields_in};
+ghost use Rattle.hprof_values.specs.Item.{bounds_of};
+ghost use Rattle.hprof_values.specs.declared.ids.IdSize.{IdSize};
+ghost use Rattle.hprof_values.specs.Lists.{constants_of, constants_size, statics_of, statics_size, fields_of, fields_size};
+ghost use Rattle.hprof_items.specs.ClassDump.{class_widths, class_of, class_at};
+ghost use Rattle.hprof_items.specs.ClassFront.{front_numbers};
+ghost use Rattle.hprof_items.specs.FullFact.{value_of_full, ListsHave};
+
+use crate::full_fact::FullFact;
+use hprof_values::number::{split_id, split_u32};
+use hprof_values::{ConstantList, EntryKind, FieldList, IdSize, Item, StaticList, Stop, list_at};
+
+/// The fields of a class in front of its lists.
+#[derive(Clone, Copy, Debug)]
+struct ClassFront {
+    id: u64,
+    trace: u32,
+    parent: u64,
+    loader: u64,
+    signers: u64,
+    domain: u64,
+    reserved1: u64,
+    reserved2: u64,
+    size: u32,
+}
+
+/// The fields at the front.
+fn class_front(bytes: &[u8], ids: IdSize) -> ClassFront
+    requires { sum (class_widths ids) ≤ length bytes.now }
+    ensures { front_numbers result ≡ fields_in (class_widths ids) bytes.now }
+{
+    let (id, rest) = split_id(bytes, ids);
+    let (trace, rest) = split_u32(rest);
+    let (parent, rest) = split_id(rest, ids);
+    let (loader, rest) = split_id(rest, ids);
+    let (signers, rest) = split_id(rest, ids);
+    let (domain, rest) = split_id(rest, ids);
+    let (reserved1, rest) = split_id(rest, ids);
+    let (reserved2, rest) = split_id(rest, ids);
+    let (size, _) = split_u32(rest);
+    ClassFront {
+        id,
+        trace,
+        parent,
+        loader,
+        signers,
+        domain,
+        reserved1,
+        reserved2,
+        size,
+    }
+}
+
+/// The class with those fields and lists.
+fn class_of<'a>(
+    front: ClassFront,
+    constants: ConstantList<'a>,
+    statics: StaticList<'a>,
+    fields: FieldList<'a>,
+) -> FullFact<'a>
+    ensures fact { value_of_full result ≡ class_of (front_numbers front) (constants_of constants.entry) (statics_of statics.entry) (fields_of fields.entry) }
+    ensures lists { (ids : IdSize) → constants_size constants.entry ≡ ids → statics_size statics.entry ≡ ids → fields_size fields.entry ≡ ids → ListsHave ids result }
+{
+    FullFact::Class {
+        id: front.id,
+        trace: front.trace,
+        parent: front.parent,
+        loader: front.loader,
+        signers: front.signers,
+        domain: front.domain,
+        reserved1: front.reserved1,
+        reserved2: front.reserved2,
+        size: front.size,
+        constants,
+        statics,
+        fields,
+    }
+}
+
+/// Reads a class.
+#[tactic(auto, unfolding(crate::specs::ClassDump::class_at))]
+pub(crate) fn read_class<'a>(item: &Item<'a>, ids: IdSize) -> Result<(FullFact<'a>, usize), Stop>
+    ensures fact { MatchResult result
+        (λ read. class_at ids (bounds_of item.now) item.now.bytes.now ≡ Ok (value_of_full read.0, read.1))
+        (λ stop. class_at ids (bounds_of item.now) item.now.bytes.now ≡ Err stop) }
+    ensures lists { IfOk result (λ read. ListsHave ids read.0) }
+{
+    let id = ids.width();
+    let first = item.end_of(1, &[id, 4, id, id, id, id, id, id, 4])?;
+    let (_, fields) = item.bytes.split_at(1);
+    let front = class_front(fields, ids);
+    let constants = list_at(item, first, EntryKind::Constant, ids)?;
+    let statics = list_at(item, constants.end, EntryKind::Static, ids)?;
+    let fields = list_at(item, statics.end, EntryKind::Field, ids)?;
+    let fact = class_of(
+        front,
+        ConstantList::of_span(constants, ids),
+        StaticList::of_span(statics, ids),
+        FieldList::of_span(fields, ids),
+    );
+    Ok((fact, fields.end))
+}
