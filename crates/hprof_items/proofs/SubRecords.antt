@@ -121,7 +121,7 @@ pub answer_parts : (x y : AnyFact) (m n : ℕ) (r : Result (AnyFact × ℕ) Stop
 answer_parts x y m n r p q = let same : (x, m) ≡ (y, n) = cc in (ap (λ (z : AnyFact × ℕ). z.0) same, ap (λ (z : AnyFact × ℕ). z.1) same)
 
 -- an answer
-abbrev answered : AnyFact → ℕ → Result (AnyFact × ℕ) Stop
+abbrev pub answered : AnyFact → ℕ → Result (AnyFact × ℕ) Stop
 answered fact end = Ok (fact, end)
 
 -- so what holds of an answer holds of the answer that was given
@@ -131,7 +131,7 @@ along_answer ids bounds bytes x fact m n e is =
     subst (λ (k : ℕ). IsDumpOf ids bounds bytes fact k) same.1 (subst (λ (f : AnyFact). IsDumpOf ids bounds bytes f m) same.0 is)
 
 -- the numbers of a root's tag are those of the root
-numbers_same : (ids : IdSize) (tag : SubTag) (bytes : List ℕ) → is_root_tag tag ≡ true
+pub numbers_same : (ids : IdSize) (tag : SubTag) (bytes : List ℕ) → is_root_tag tag ≡ true
     → (root_numbers (root_of tag (fields_in (root_fields ids tag) bytes)) ≡ fields_in (root_fields ids tag) bytes) × (tag_of_root (root_of tag (fields_in (root_fields ids tag) bytes)) ≡ tag)
 numbers_same ids tags.ClassDump bytes e = absurd cc
 numbers_same ids tags.InstanceDump bytes e = absurd cc

@@ -15,7 +15,7 @@ use Rattle.hprof_values.specs.Ids.{width_of, IsBytes}
 use Rattle.hprof_values.specs.Basic.{code_of_basic, basic_of_code, width_of_basic}
 use Rattle.hprof_values.specs.Fields.{field_bytes, fields_in, FitFields, Bounds, ◌>>=◌, reached, IsWithin}
 use Rattle.hprof_values.specs.SubTag.{code_of_tag, tag_of_code}
-use Rattle.hprof_values.specs.Root.{root_fields, root_bytes, RootFits}
+use Rattle.hprof_values.specs.Root.{tag_of_root, root_fields, root_bytes, RootFits}
 use Rattle.hprof_values.specs.Lists.{id_widths, ids_in, identifiers_of}
 use Rattle.hprof_values.specs.declared.entry.EntryKind.TheVariants as kinds
 use Rattle.hprof_values.specs.Entries.{ListFits}
@@ -155,6 +155,15 @@ DumpFits ids (PrimArray id trace elem bytes) =
     × (element_type (Some elem) ≡ Ok elem)
 DumpFits ids _ = ⊥
 
+-- the tag of the sub-record that states the fact; of a record's, no tag is meant
+abbrev pub tag_of_dump : AnyFact → SubTag
+tag_of_dump (Rooted root) = tag_of_root root
+tag_of_dump (Class id trace parent loader signers domain reserved1 reserved2 size constants statics fields) = tags.ClassDump
+tag_of_dump (Instance id trace class bytes) = tags.InstanceDump
+tag_of_dump (ObjArray id trace class elements) = tags.ObjArrayDump
+tag_of_dump (PrimArray id trace elem bytes) = tags.PrimArrayDump
+tag_of_dump _ = tags.RootUnknown
+
 -- the tags of roots
 abbrev pub is_root_tag : SubTag → Bool
 is_root_tag tags.ClassDump = false
@@ -167,5 +176,12 @@ is_root_tag _ = true
 pub record IsDumpOf (ids : IdSize) (bounds : Bounds) (bytes : List ℕ) (fact : AnyFact) (end : ℕ) : Type 0 where
   pub fits : DumpFits ids fact
   pub spelled : drop 1 bytes ≡ drop 1 (dump_bytes ids fact) ++ drop end bytes
+  pub ends : end ≡ length (dump_bytes ids fact)
+  pub within : IsWithin bounds end
+
+-- at the front stands what spells the fact, which has a spelling, within all bounds, and ends there
+pub record IsSubOf (ids : IdSize) (bounds : Bounds) (bytes : List ℕ) (fact : AnyFact) (end : ℕ) : Type 0 where
+  pub fits : DumpFits ids fact
+  pub spelled : bytes ≡ dump_bytes ids fact ++ drop end bytes
   pub ends : end ≡ length (dump_bytes ids fact)
   pub within : IsWithin bounds end

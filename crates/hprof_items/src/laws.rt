@@ -20,8 +20,8 @@ ghost use Rattle.hprof_values.specs.Entries.{IsEntryList};
 ghost use Rattle.hprof_values.specs.Lists.{IsIdList};
 ghost use Rattle.hprof_values.specs.declared.basic.Basic.{Basic};
 ghost use Rattle.hprof_values.specs.declared.sub_tag.SubTag.{SubTag};
-ghost use Rattle.hprof_items.specs.AnyFact.{AnyFact, Rooted, Instance, ObjArray, PrimArray};
-ghost use Rattle.hprof_items.specs.SubRecord.{root_at, instance_at, obj_array_at, prim_array_at, dump_bytes, DumpFits, is_root_tag, IsDumpOf};
+ghost use Rattle.hprof_items.specs.AnyFact.{AnyFact};
+ghost use Rattle.hprof_items.specs.SubRecord.{sub_at, dump_bytes, DumpFits, IsSubOf};
 ghost use Rattle.hprof_values.specs.Fields.{field_bytes, fields_in, FitFields, Bounds, reached, IsWithin, with_more};
 ghost use Rattle.hprof_values.specs.Root.{root_bytes, tag_of_root, RootFits};
 ghost use Rattle.hprof_items.specs.Reading.{header_at, head_at, IsRightHead, body_at};
@@ -57,42 +57,13 @@ pub fn bodies_read_back()
         → (tag_of fact ≡ tag) × (body ≡ body_of ids fact) × Fits ids fact) }
 {}
 
-/// A root that is spelled behind its tag within all bounds is read, and one that is read is spelled so.
-pub fn roots_read_back()
-    ensures again { (ids : IdSize) (bounds : Bounds) (root : Root) (rest bytes : List ℕ) → RootFits ids root
-        → drop 1 bytes ≡ drop 1 (root_bytes ids root) ++ rest → IsWithin bounds (length (root_bytes ids root))
-        → root_at ids (tag_of_root root) bounds bytes ≡ Ok (Rooted root, length (root_bytes ids root)) }
-    ensures found { (ids : IdSize) (tag : SubTag) (bounds : Bounds) (bytes : List ℕ) (fact : AnyFact) (n : ℕ) → IsBytes bytes
-        → bounds.there ≤ length bytes → is_root_tag tag ≡ true → root_at ids tag bounds bytes ≡ Ok (fact, n)
-        → IsDumpOf ids bounds bytes fact n }
-{}
-
-/// An instance that is spelled behind its tag within all bounds is read, and one that is read is spelled so.
-pub fn instances_read_back()
-    ensures again { (ids : IdSize) (bounds : Bounds) (id trace class : ℕ) (raw rest bytes : List ℕ) → DumpFits ids (Instance id trace class raw)
-        → drop 1 bytes ≡ drop 1 (dump_bytes ids (Instance id trace class raw)) ++ rest
-        → IsWithin bounds (length (dump_bytes ids (Instance id trace class raw)))
-        → instance_at ids bounds bytes ≡ Ok (Instance id trace class raw, length (dump_bytes ids (Instance id trace class raw))) }
+/// A sub-record that is spelled within all bounds is read, whatever follows, one that is read is spelled so, and no
+/// spelling of a sub-record begins another.
+pub fn sub_records_read_back()
+    ensures again { (ids : IdSize) (bounds : Bounds) (fact : AnyFact) (rest bytes : List ℕ) → DumpFits ids fact → bytes ≡ dump_bytes ids fact ++ rest
+        → IsWithin bounds (length (dump_bytes ids fact)) → sub_at ids bounds bytes ≡ Ok (fact, length (dump_bytes ids fact)) }
     ensures found { (ids : IdSize) (bounds : Bounds) (bytes : List ℕ) (fact : AnyFact) (n : ℕ) → IsBytes bytes → bounds.there ≤ length bytes
-        → instance_at ids bounds bytes ≡ Ok (fact, n) → IsDumpOf ids bounds bytes fact n }
-{}
-
-/// An array of objects that is spelled behind its tag within all bounds is read, and one that is read is spelled so.
-pub fn obj_arrays_read_back()
-    ensures again { (ids : IdSize) (bounds : Bounds) (id trace class : ℕ) (elements rest bytes : List ℕ) → DumpFits ids (ObjArray id trace class elements)
-        → drop 1 bytes ≡ drop 1 (dump_bytes ids (ObjArray id trace class elements)) ++ rest
-        → IsWithin bounds (length (dump_bytes ids (ObjArray id trace class elements)))
-        → obj_array_at ids bounds bytes ≡ Ok (ObjArray id trace class elements, length (dump_bytes ids (ObjArray id trace class elements))) }
-    ensures found { (ids : IdSize) (bounds : Bounds) (bytes : List ℕ) (fact : AnyFact) (n : ℕ) → IsBytes bytes → bounds.there ≤ length bytes
-        → obj_array_at ids bounds bytes ≡ Ok (fact, n) → IsDumpOf ids bounds bytes fact n }
-{}
-
-/// The same of an array of numbers or truth values.
-pub fn prim_arrays_read_back()
-    ensures again { (ids : IdSize) (bounds : Bounds) (id trace : ℕ) (elem : Basic) (raw rest bytes : List ℕ) → DumpFits ids (PrimArray id trace elem raw)
-        → drop 1 bytes ≡ drop 1 (dump_bytes ids (PrimArray id trace elem raw)) ++ rest
-        → IsWithin bounds (length (dump_bytes ids (PrimArray id trace elem raw)))
-        → prim_array_at ids bounds bytes ≡ Ok (PrimArray id trace elem raw, length (dump_bytes ids (PrimArray id trace elem raw))) }
-    ensures found { (ids : IdSize) (bounds : Bounds) (bytes : List ℕ) (fact : AnyFact) (n : ℕ) → IsBytes bytes → bounds.there ≤ length bytes
-        → prim_array_at ids bounds bytes ≡ Ok (fact, n) → IsDumpOf ids bounds bytes fact n }
+        → sub_at ids bounds bytes ≡ Ok (fact, n) → IsSubOf ids bounds bytes fact n }
+    ensures once { (ids : IdSize) (fact other : AnyFact) (rest more : List ℕ) → DumpFits ids fact → DumpFits ids other
+        → dump_bytes ids fact ++ rest ≡ dump_bytes ids other ++ more → (fact ≡ other) × (rest ≡ more) }
 {}
