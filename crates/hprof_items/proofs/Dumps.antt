@@ -1,5 +1,5 @@
 -- Sub-records of every form, from the tag on: what is read is spelled so, and what is spelled is read.
-use Rattle.std.proofs.Common.{◌≡◌, ℕ, ◌+◌, ◌*◌, ◌<◌, ◌≤◌, Bool, true, false, zero, suc, List, [], ◌∷◌, ◌++◌, length, drop, Option, Some, None, Result, Ok, Err, refl, sym, ap, subst, ◌∙◌, append_assoc, arith}
+use Rattle.std.proofs.Common.{◌≡◌, ℕ, ◌+◌, ◌*◌, ◌^◌, ◌<◌, ◌≤◌, Bool, true, false, zero, suc, List, [], ◌∷◌, ◌++◌, length, drop, Option, Some, None, Result, Ok, Err, refl, sym, ap, subst, ◌∙◌, append_assoc, arith}
 use Rattle.std.proofs.lemmas.Bool.{eqb-true}
 use Rattle.std.proofs.Math.Dec.{eqb-suc-zero}
 use Rattle.std.proofs.lemmas.List.{drop_at, length-append}
@@ -21,10 +21,15 @@ use Rattle.hprof_values.specs.Root.{tag_of_root, root_fields}
 use Rattle.hprof_values.specs.Entries.{list_in, list_end}
 use Rattle.hprof_values.specs.Lists.{ids_in}
 use Rattle.hprof_items.specs.AnyFact.{AnyFact, Name, Load, Unload, Frame, Trace, Start, End, Rooted, Class, Instance, ObjArray, PrimArray}
+use Rattle.hprof_items.specs.declared.full_fact.FullFact.{FullFact}
+use Rattle.hprof_items.specs.Spelling.{longest_body}
+use Rattle.hprof_items.specs.AnySpelling.{AnyFits}
+use Rattle.hprof_items.specs.FullFact.{value_of_full, ListsHave}
+use Rattle.hprof_items.specs.SubReading.{bounds_within, IsSubRead}
 use Rattle.hprof_items.specs.ClassDump.{class_widths, class_of, class_at}
-use Rattle.hprof_items.specs.SubRecord.{cut, instance_widths, instance_at, obj_array_widths, obj_array_at, prim_array_widths, prim_array_at, element_type, root_of, root_at, dump_at, judged_tag, sub_at, dump_bytes, DumpFits, is_root_tag, tag_of_dump, IsDumpOf, IsSubOf}
+use Rattle.hprof_items.specs.SubRecord.{cut, instance_widths, instance_at, obj_array_widths, obj_array_at, prim_array_widths, prim_array_at, element_type, root_of, root_at, dump_at, judged_tag, tag_at, sub_at, dump_bytes, DumpFits, is_root_tag, tag_of_dump, IsDumpOf, IsSubOf}
 use Rattle.hprof_values.proofs.EntryLists.{find_passes}
-use Rattle.hprof_values.proofs.FieldGroups.{sum_widths, then_ok, then_next, within-less, reached_within}
+use Rattle.hprof_values.proofs.FieldGroups.{sum_widths, then_ok, then_next, then_stop, within-less, reached_within}
 use Rattle.hprof_items.proofs.SubRecords.{answer_parts, answered, numbers_same, root_again, root_found, instance_again, instance_found}
 use Rattle.hprof_items.proofs.ArrayRecords.{obj_array_again, obj_array_found, prim_array_again, prim_array_found}
 use Rattle.hprof_items.proofs.ClassDumps.{class_again, class_found}
@@ -259,3 +264,65 @@ dump_once ids fact other rest more fits fits_too e =
       same.0,
       sym (drop_at a rest (length a) refl) ∙ ap (λ (n : ℕ). drop n bytes) same.1 ∙ ap (drop (length b)) e ∙ drop_at b more (length b) refl,
     )
+
+-- ---- by the tag
+
+-- two steps and then a third
+then_both : {A B C : Type 0} (r : Result A Stop) (middle : Result B Stop) (next : B → Result C Stop) → (r >>= λ (x : A). middle >>= next) ≡ ((r >>= λ (x : A). middle) >>= next)
+then_both (Ok x) middle next = refl
+then_both (Err stop) middle next = refl
+
+sub_steps : (ids : IdSize) (bounds : Bounds) (bytes : List ℕ) → sub_at ids bounds bytes ≡ (tag_at bounds bytes >>= λ (tag : SubTag). dump_at ids tag bounds bytes)
+unfolding sub_at tag_at
+sub_steps ids bounds bytes = then_both (first_test bounds) (judged_tag (tag_of_code (slice_index bytes 0))) (λ (tag : SubTag). dump_at ids tag bounds bytes)
+
+-- where the tag is right, the sub-record is what is read behind it
+pub sub_tagged : (ids : IdSize) (bounds : Bounds) (bytes : List ℕ) (tag : SubTag) → tag_at bounds bytes ≡ Ok tag → sub_at ids bounds bytes ≡ dump_at ids tag bounds bytes
+sub_tagged ids bounds bytes tag e = sub_steps ids bounds bytes ∙ then_next (tag_at bounds bytes) (λ (t : SubTag). dump_at ids t bounds bytes) tag e
+
+-- and where not, no more is read
+pub sub_stops : (ids : IdSize) (bounds : Bounds) (bytes : List ℕ) (stop : Stop) → tag_at bounds bytes ≡ Err stop → sub_at ids bounds bytes ≡ Err stop
+sub_stops ids bounds bytes stop e = sub_steps ids bounds bytes ∙ then_stop (tag_at bounds bytes) (λ (t : SubTag). dump_at ids t bounds bytes) stop e
+
+-- ---- what a caller sees
+
+-- a sub-record that fits is a fact that has a spelling
+dump_fits_any : (ids : IdSize) (fact : AnyFact) → DumpFits ids fact → length (dump_bytes ids fact) ≤ longest_body → AnyFits ids fact
+dump_fits_any ids (Rooted root) fits short = (fits, short)
+dump_fits_any ids (Class id trace parent loader signers domain reserved1 reserved2 size constants statics fields) fits short = (fits, short)
+dump_fits_any ids (Instance id trace class raw) fits short = (fits, short)
+dump_fits_any ids (ObjArray id trace class elements) fits short = (fits, short)
+dump_fits_any ids (PrimArray id trace elem raw) fits short = (fits, short)
+dump_fits_any ids (Name id text) fits short = absurd fits
+dump_fits_any ids (Load serial class trace name) fits short = absurd fits
+dump_fits_any ids (Unload serial) fits short = absurd fits
+dump_fits_any ids (Frame id method signature source class_serial line) fits short = absurd fits
+dump_fits_any ids (Trace serial thread frames) fits short = absurd fits
+dump_fits_any ids (Start thread object trace name group parent_group) fits short = absurd fits
+dump_fits_any ids (End thread) fits short = absurd fits
+
+pub sub_read : (ids : IdSize) (room longest : ℕ) (bytes : List ℕ) (fact : FullFact) (n : ℕ) → IsBytes bytes → room < 2 ^ 32 → ListsHave ids fact
+    → sub_at ids (bounds_within room longest bytes) bytes ≡ Ok (value_of_full fact, n) → IsSubRead ids room longest bytes fact n
+sub_read ids room longest bytes fact n are small lists e =
+    let found = sub_found ids (bounds_within room longest bytes) bytes (value_of_full fact) n are (omega arith) e in
+    record {
+      fits = dump_fits_any ids (value_of_full fact) found.fits (omega (arith, found.ends, found.within.room, small));
+      lists = lists;
+      spelled = found.spelled;
+      ends = found.ends;
+      within_room = found.within.room;
+      within_longest = found.within.longest;
+    }
+
+-- what is spelled there is what a reading gives
+pub sub_is : (ids : IdSize) (room longest : ℕ) (bytes : List ℕ) (r : Result (AnyFact × ℕ) Stop) (fact : AnyFact) (rest : List ℕ) → r ≡ sub_at ids (bounds_within room longest bytes) bytes
+    → DumpFits ids fact → bytes ≡ dump_bytes ids fact ++ rest → length (dump_bytes ids fact) ≤ room → length (dump_bytes ids fact) ≤ longest → r ≡ Ok (fact, length (dump_bytes ids fact))
+sub_is ids room longest bytes r fact rest read fits spelled in_room in_longest =
+    let there : length (dump_bytes ids fact) ≤ length bytes = omega (arith, ap length spelled, length-append (dump_bytes ids fact) rest) in
+    read ∙ sub_again ids (bounds_within room longest bytes) fact rest bytes fits spelled (record { room = in_room; longest = in_longest; there = there })
+
+-- so no other answer is given
+pub sub_never : (ids : IdSize) (room longest : ℕ) (bytes : List ℕ) (stop : Stop) → sub_at ids (bounds_within room longest bytes) bytes ≡ Err stop
+    → (fact : AnyFact) (rest : List ℕ) → DumpFits ids fact → bytes ≡ dump_bytes ids fact ++ rest → length (dump_bytes ids fact) ≤ room → length (dump_bytes ids fact) ≤ longest → ⊥
+sub_never ids room longest bytes stop e fact rest fits spelled in_room in_longest =
+    let read = sub_is ids room longest bytes (Err stop) fact rest (sym e) fits spelled in_room in_longest in absurd cc

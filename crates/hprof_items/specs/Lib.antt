@@ -3,11 +3,12 @@ pub mod Head
 pub mod AnyFact
 pub mod RecordBody
 pub mod ClassDump
-pub mod ClassFront
+pub mod Fronts
 pub mod SubRecord
 pub mod FullFact
 pub mod FactValue
 pub mod Spelling
 pub mod AnySpelling
+pub mod SubReading
 pub mod Reading
 pub mod Device

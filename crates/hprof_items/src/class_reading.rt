@@ -6,7 +6,7 @@ ghost use Rattle.hprof_values.specs.Item.{bounds_of};
 ghost use Rattle.hprof_values.specs.declared.ids.IdSize.{IdSize};
 ghost use Rattle.hprof_values.specs.Lists.{constants_of, constants_size, statics_of, statics_size, fields_of, fields_size};
 ghost use Rattle.hprof_items.specs.ClassDump.{class_widths, class_of, class_at};
-ghost use Rattle.hprof_items.specs.ClassFront.{front_numbers};
+ghost use Rattle.hprof_items.specs.Fronts.{class_front};
 ghost use Rattle.hprof_items.specs.FullFact.{value_of_full, ListsHave};
 
 use crate::full_fact::FullFact;
@@ -28,9 +28,9 @@ struct ClassFront {
 }
 
 /// The fields at the front.
-fn class_front(bytes: &[u8], ids: IdSize) -> ClassFront
+fn split_front(bytes: &[u8], ids: IdSize) -> ClassFront
     requires { sum (class_widths ids) ≤ length bytes.now }
-    ensures { front_numbers result ≡ fields_in (class_widths ids) bytes.now }
+    ensures { class_front result ≡ fields_in (class_widths ids) bytes.now }
 {
     let (id, rest) = split_id(bytes, ids);
     let (trace, rest) = split_u32(rest);
@@ -61,7 +61,7 @@ fn class_of<'a>(
     statics: StaticList<'a>,
     fields: FieldList<'a>,
 ) -> FullFact<'a>
-    ensures fact { value_of_full result ≡ class_of (front_numbers front) (constants_of constants.entry) (statics_of statics.entry) (fields_of fields.entry) }
+    ensures fact { value_of_full result ≡ class_of (class_front front) (constants_of constants.entry) (statics_of statics.entry) (fields_of fields.entry) }
     ensures lists { (ids : IdSize) → constants_size constants.entry ≡ ids → statics_size statics.entry ≡ ids → fields_size fields.entry ≡ ids → ListsHave ids result }
 {
     FullFact::Class {
@@ -91,7 +91,7 @@ pub(crate) fn read_class<'a>(item: &Item<'a>, ids: IdSize) -> Result<(FullFact<'
     let id = ids.width();
     let first = item.end_of(1, &[id, 4, id, id, id, id, id, id, 4])?;
     let (_, fields) = item.bytes.split_at(1);
-    let front = class_front(fields, ids);
+    let front = split_front(fields, ids);
     let constants = list_at(item, first, EntryKind::Constant, ids)?;
     let statics = list_at(item, constants.end, EntryKind::Static, ids)?;
     let fields = list_at(item, statics.end, EntryKind::Field, ids)?;

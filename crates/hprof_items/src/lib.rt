@@ -16,6 +16,7 @@ mod reading;
 mod root_reading;
 mod source;
 mod step;
+mod sub_reading;
 pub mod tag;
 mod target;
 mod writing;
@@ -33,6 +34,7 @@ pub use hprof_values::{
 pub use reading::{read_body, read_head, read_header};
 pub use source::Source;
 pub use step::Step;
+pub use sub_reading::read_sub;
 pub use target::Target;
 pub use writing::{write_fact, write_head, write_header};
 

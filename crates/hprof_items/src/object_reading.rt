@@ -1,38 +1,91 @@
 //! Reading an instance or an array behind its tag. Its bytes, or its elements, are not looked at.
 
-ghost use Rattle.std.specs.Prelude.{◌≡◌, Ok, Err, MatchResult};
+ghost use Rattle.std.specs.Prelude.{◌≡◌, ◌≤◌, length, sum, Ok, Err, IfOk, MatchResult};
 ghost use Rattle.hprof_values.specs.Basic.{basic_of_code};
+ghost use Rattle.hprof_values.specs.Fields.{fields_in};
 ghost use Rattle.hprof_values.specs.Item.{bounds_of};
-ghost use Rattle.hprof_items.specs.SubRecord.{element_type, instance_at, obj_array_at, prim_array_at};
-ghost use Rattle.hprof_items.specs.FullFact.{value_of_full};
+ghost use Rattle.hprof_items.specs.SubRecord.{instance_widths, obj_array_widths, prim_array_widths, element_type, instance_at, obj_array_at, prim_array_at};
+ghost use Rattle.hprof_items.specs.Fronts.{instance_front, obj_array_front, prim_array_front};
+ghost use Rattle.hprof_items.specs.FullFact.{value_of_full, ListsHave};
 
 use crate::full_fact::FullFact;
 use hprof_values::number::{byte_at, id_at, ids_len, split_id, split_u32, values_len};
 use hprof_values::{Basic, IdList, IdSize, Item, Reason, Stop};
 
-/// Reads an instance.
-#[tactic(auto, unfolding(crate::specs::SubRecord::instance_at))]
-pub(crate) fn read_instance<'a>(item: &Item<'a>, ids: IdSize) -> Result<(FullFact<'a>, usize), Stop>
-    ensures { MatchResult result
-        (λ read. instance_at ids (bounds_of item.now) item.now.bytes.now ≡ Ok (value_of_full read.0, read.1))
-        (λ stop. instance_at ids (bounds_of item.now) item.now.bytes.now ≡ Err stop) }
+/// The fields of an instance in front of its bytes.
+#[derive(Clone, Copy, Debug)]
+struct InstanceFront {
+    id: u64,
+    trace: u32,
+    class: u64,
+    /// The number of its bytes.
+    len: u32,
+}
+
+/// The fields of an instance at the front.
+fn instance_fields(bytes: &[u8], ids: IdSize) -> InstanceFront
+    requires { sum (instance_widths ids) ≤ length bytes.now }
+    ensures { instance_front result ≡ fields_in (instance_widths ids) bytes.now }
 {
-    let front = item.end_of(1, &[ids.width(), 4, ids.width(), 4])?;
-    let (_, fields) = item.bytes.split_at(1);
-    let (id, fields) = split_id(fields, ids);
-    let (trace, fields) = split_u32(fields);
-    let (class, fields) = split_id(fields, ids);
-    let (len, _) = split_u32(fields);
-    let end = item.end_of(front, &[len as usize])?;
-    let (_, rest) = item.bytes.split_at(front);
-    let (bytes, _) = rest.split_at(len as usize);
-    let fact = FullFact::Instance {
+    let (id, rest) = split_id(bytes, ids);
+    let (trace, rest) = split_u32(rest);
+    let (class, rest) = split_id(rest, ids);
+    let (len, _) = split_u32(rest);
+    InstanceFront {
         id,
         trace,
         class,
+        len,
+    }
+}
+
+/// Reads an instance.
+#[tactic(auto, unfolding(crate::specs::SubRecord::instance_at))]
+pub(crate) fn read_instance<'a>(item: &Item<'a>, ids: IdSize) -> Result<(FullFact<'a>, usize), Stop>
+    ensures fact { MatchResult result
+        (λ read. instance_at ids (bounds_of item.now) item.now.bytes.now ≡ Ok (value_of_full read.0, read.1))
+        (λ stop. instance_at ids (bounds_of item.now) item.now.bytes.now ≡ Err stop) }
+    ensures lists { IfOk result (λ read. ListsHave ids read.0) }
+{
+    let first = item.end_of(1, &[ids.width(), 4, ids.width(), 4])?;
+    let (_, fields) = item.bytes.split_at(1);
+    let front = instance_fields(fields, ids);
+    let end = item.end_of(first, &[front.len as usize])?;
+    let (_, rest) = item.bytes.split_at(first);
+    let (bytes, _) = rest.split_at(front.len as usize);
+    let fact = FullFact::Instance {
+        id: front.id,
+        trace: front.trace,
+        class: front.class,
         bytes,
     };
     Ok((fact, end))
+}
+
+/// The fields of an array of objects in front of its elements.
+#[derive(Clone, Copy, Debug)]
+struct ObjArrayFront {
+    id: u64,
+    trace: u32,
+    /// The number of its elements.
+    count: u32,
+    class: u64,
+}
+
+/// The fields of an array of objects at the front.
+fn obj_array_fields(bytes: &[u8], ids: IdSize) -> ObjArrayFront
+    requires { sum (obj_array_widths ids) ≤ length bytes.now }
+    ensures { obj_array_front result ≡ fields_in (obj_array_widths ids) bytes.now }
+{
+    let (id, rest) = split_id(bytes, ids);
+    let (trace, rest) = split_u32(rest);
+    let (count, rest) = split_u32(rest);
+    ObjArrayFront {
+        id,
+        trace,
+        count,
+        class: id_at(rest, ids),
+    }
 }
 
 /// Reads an array of objects.
@@ -41,27 +94,52 @@ pub(crate) fn read_obj_array<'a>(
     item: &Item<'a>,
     ids: IdSize,
 ) -> Result<(FullFact<'a>, usize), Stop>
-    ensures { MatchResult result
+    ensures fact { MatchResult result
         (λ read. obj_array_at ids (bounds_of item.now) item.now.bytes.now ≡ Ok (value_of_full read.0, read.1))
         (λ stop. obj_array_at ids (bounds_of item.now) item.now.bytes.now ≡ Err stop) }
+    ensures lists { IfOk result (λ read. ListsHave ids read.0) }
 {
-    let front = item.end_of(1, &[ids.width(), 4, 4, ids.width()])?;
+    let first = item.end_of(1, &[ids.width(), 4, 4, ids.width()])?;
     let (_, fields) = item.bytes.split_at(1);
-    let (id, fields) = split_id(fields, ids);
-    let (trace, fields) = split_u32(fields);
-    let (count, fields) = split_u32(fields);
-    let class = id_at(fields, ids);
-    let len = ids_len(count, ids);
-    let end = item.end_of(front, &[len])?;
-    let (_, rest) = item.bytes.split_at(front);
+    let front = obj_array_fields(fields, ids);
+    let len = ids_len(front.count, ids);
+    let end = item.end_of(first, &[len])?;
+    let (_, rest) = item.bytes.split_at(first);
     let (bytes, _) = rest.split_at(len);
     let fact = FullFact::ObjArray {
-        id,
-        trace,
-        class,
+        id: front.id,
+        trace: front.trace,
+        class: front.class,
         elements: IdList::of_whole(bytes, ids),
     };
     Ok((fact, end))
+}
+
+/// The fields of an array of numbers or truth values in front of its elements.
+#[derive(Clone, Copy, Debug)]
+struct PrimArrayFront {
+    id: u64,
+    trace: u32,
+    /// The number of its elements.
+    count: u32,
+    /// The code of their type.
+    code: u8,
+}
+
+/// The fields of an array of numbers or truth values at the front.
+fn prim_array_fields(bytes: &[u8], ids: IdSize) -> PrimArrayFront
+    requires { sum (prim_array_widths ids) ≤ length bytes.now }
+    ensures { prim_array_front result ≡ fields_in (prim_array_widths ids) bytes.now }
+{
+    let (id, rest) = split_id(bytes, ids);
+    let (trace, rest) = split_u32(rest);
+    let (count, rest) = split_u32(rest);
+    PrimArrayFront {
+        id,
+        trace,
+        count,
+        code: byte_at(rest),
+    }
 }
 
 /// The type of an array's elements, by its code.
@@ -80,23 +158,22 @@ pub(crate) fn read_prim_array<'a>(
     item: &Item<'a>,
     ids: IdSize,
 ) -> Result<(FullFact<'a>, usize), Stop>
-    ensures { MatchResult result
+    ensures fact { MatchResult result
         (λ read. prim_array_at ids (bounds_of item.now) item.now.bytes.now ≡ Ok (value_of_full read.0, read.1))
         (λ stop. prim_array_at ids (bounds_of item.now) item.now.bytes.now ≡ Err stop) }
+    ensures lists { IfOk result (λ read. ListsHave ids read.0) }
 {
-    let front = item.end_of(1, &[ids.width(), 4, 4, 1])?;
+    let first = item.end_of(1, &[ids.width(), 4, 4, 1])?;
     let (_, fields) = item.bytes.split_at(1);
-    let (id, fields) = split_id(fields, ids);
-    let (trace, fields) = split_u32(fields);
-    let (count, fields) = split_u32(fields);
-    let elem = element_type(byte_at(fields))?;
-    let len = values_len(count, elem, ids);
-    let end = item.end_of(front, &[len])?;
-    let (_, rest) = item.bytes.split_at(front);
+    let front = prim_array_fields(fields, ids);
+    let elem = element_type(front.code)?;
+    let len = values_len(front.count, elem, ids);
+    let end = item.end_of(first, &[len])?;
+    let (_, rest) = item.bytes.split_at(first);
     let (bytes, _) = rest.split_at(len);
     let fact = FullFact::PrimArray {
-        id,
-        trace,
+        id: front.id,
+        trace: front.trace,
         elem,
         bytes,
     };

@@ -68,7 +68,7 @@ fn root_in(bytes: &[u8], tag: SubTag, ids: IdSize) -> Root
 /// Reads a root behind its tag.
 #[tactic(auto, unfolding(crate::specs::SubRecord::root_at))]
 pub(crate) fn read_root(item: &Item<'_>, tag: SubTag, ids: IdSize) -> Result<(Root, usize), Stop>
-    ensures { MatchResult result
+    ensures fact { MatchResult result
         (λ read. root_at ids tag (bounds_of item.now) item.now.bytes.now ≡ Ok (Rooted read.0, read.1))
         (λ stop. root_at ids tag (bounds_of item.now) item.now.bytes.now ≡ Err stop) }
 {

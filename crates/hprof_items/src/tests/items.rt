@@ -1,16 +1,9 @@
-use super::super::object_reading::{read_instance, read_obj_array, read_prim_array};
-use super::super::root_reading::read_root;
 use super::super::*;
-use hprof_values::Item;
 use std::test::*;
 
-// All bytes, with so much room and so long a longest item.
-fn within(bytes: &[u8], room: usize, longest: usize) -> Item<'_> {
-    Item {
-        bytes,
-        room,
-        longest,
-    }
+// What a heap dump record with much room has at its front.
+fn sub(bytes: &[u8], ids: IdSize) -> Step<FullFact<'_>> {
+    read_sub(bytes, 1000, 1000, ids)
 }
 
 #[test]
@@ -21,28 +14,33 @@ fn roots(rt: HostRuntime) {
         thread: 1,
         trace: 2,
     };
-    let tag = SubTag::RootThreadObject;
+    let ids = IdSize::Four;
+    assert_eq!(rt; sub(bytes, ids), Step::Whole(FullFact::Root(root), 13));
     assert_eq!(rt;
-        read_root(&within(bytes, 13, 13), tag, IdSize::Four),
-        Ok((root, 13))
+        read_sub(bytes, 13, 13, ids),
+        Step::Whole(FullFact::Root(root), 13)
     );
+    assert_eq!(rt; read_sub(bytes, 13, 12, ids), Step::TooLong);
+    assert_eq!(rt; read_sub(bytes, 12, 12, ids), Step::Fault(Reason::PastEnd));
+    assert_eq!(rt; read_sub(bytes, 12, 4, ids), Step::TooLong);
+    assert_eq!(rt; sub(b"\x08\0\0", ids), Step::Short);
+    assert_eq!(rt; read_sub(b"", 1, 0, ids), Step::Short);
+    assert_eq!(rt; read_sub(b"\x08", 1, 0, ids), Step::TooLong);
+    assert_eq!(rt; sub(b"\x09\0\0\0\x01", ids), Step::Fault(Reason::BadSubTag));
+    let global = Root::JniGlobal {
+        id: 16,
+        reference: 17,
+    };
     assert_eq!(rt;
-        read_root(&within(bytes, 12, 4), tag, IdSize::Four),
-        Err(Stop::TooLong)
+        sub(b"\x01\0\0\0\0\0\0\0\x10\0\0\0\0\0\0\0\x11", IdSize::Eight),
+        Step::Whole(FullFact::Root(global), 17)
     );
-    assert_eq!(rt;
-        read_root(&within(bytes, 4, 4), tag, IdSize::Four),
-        Err(Stop::Fault(Reason::PastEnd))
-    );
-    assert_eq!(rt;
-        read_root(&within(b"\x08\0\0", 13, 13), tag, IdSize::Four),
-        Err(Stop::Short)
-    );
-    laws::roots_read_back();
+    laws::sub_records_read_back();
 }
 
 #[test]
 fn objects(rt: HostRuntime) -> Result<(), Fail> {
+    let ids = IdSize::Four;
     let instance: &[u8] = b"\x21\0\0\0\x10\0\0\0\x01\0\0\0\x09\0\0\0\x02ab";
     let fact = FullFact::Instance {
         id: 16,
@@ -50,26 +48,20 @@ fn objects(rt: HostRuntime) -> Result<(), Fail> {
         class: 9,
         bytes: b"ab",
     };
+    assert_eq!(rt; read_sub(instance, 19, 19, ids), Step::Whole(fact, 19));
     assert_eq!(rt;
-        read_instance(&within(instance, 19, 19), IdSize::Four),
-        Ok((fact, 19))
-    );
-    assert_eq!(rt;
-        read_instance(&within(instance, 18, 17), IdSize::Four),
-        Err(Stop::Fault(Reason::PastEnd))
+        read_sub(instance, 18, 17, ids),
+        Step::Fault(Reason::PastEnd)
     );
     let objects: &[u8] = b"\x22\0\0\0\x11\0\0\0\x01\0\0\0\x01\0\0\0\x09\0\0\0\x10";
-    let elements = IdList::new(b"\0\0\0\x10", IdSize::Four).ok_or("no list")?;
+    let elements = IdList::new(b"\0\0\0\x10", ids).ok_or("no list")?;
     let fact = FullFact::ObjArray {
         id: 17,
         trace: 1,
         class: 9,
         elements,
     };
-    assert_eq!(rt;
-        read_obj_array(&within(objects, 21, 21), IdSize::Four),
-        Ok((fact, 21))
-    );
+    assert_eq!(rt; read_sub(objects, 21, 21, ids), Step::Whole(fact, 21));
     let numbers: &[u8] = b"\x23\0\0\0\x12\0\0\0\x01\0\0\0\x01\x05\0A";
     let fact = FullFact::PrimArray {
         id: 18,
@@ -77,15 +69,57 @@ fn objects(rt: HostRuntime) -> Result<(), Fail> {
         elem: Basic::Char,
         bytes: b"\0A",
     };
-    assert_eq!(rt;
-        read_prim_array(&within(numbers, 16, 16), IdSize::Four),
-        Ok((fact, 16))
-    );
+    assert_eq!(rt; read_sub(numbers, 16, 16, ids), Step::Whole(fact, 16));
     let bad: &[u8] = b"\x23\0\0\0\x12\0\0\0\x01\0\0\0\0\x02";
+    assert_eq!(rt; sub(bad, ids), Step::Fault(Reason::BadType));
+    Ok(())
+}
+
+// An array whose elements do not come, and cannot stand in any record.
+#[test]
+fn an_array_of_all_numbers(rt: HostRuntime) {
+    let array: &[u8] = b"\x22\0\0\0\0\0\0\0\x10\0\0\0\x01\xff\xff\xff\xff\0\0\0\0\0\0\0\x09";
     assert_eq!(rt;
-        read_prim_array(&within(bad, 14, 14), IdSize::Four),
-        Err(Stop::Fault(Reason::BadType))
+        read_sub(array, u32::MAX, u32::MAX, IdSize::Eight),
+        Step::Fault(Reason::PastEnd)
     );
-    laws::prim_arrays_read_back();
+}
+
+// A class of size 4: two constants, one static field, one own field.
+const CLASS: &[u8; 68] =
+    b"\x20\0\0\0\x09\0\0\0\x01\0\0\0\x07\0\0\0\x02\0\0\0\x03\0\0\0\x04\0\0\0\x05\0\0\0\x06\0\0\0\x10\
+    \0\x02\0\x01\x0a\0\0\0\x07\0\x02\x02\0\0\0\x10\0\x01\0\0\0\x15\x04\x01\0\x01\0\0\0\x16\x01";
+
+#[test]
+fn a_class(rt: HostRuntime) -> Result<(), Fail> {
+    let ids = IdSize::Four;
+    let constants = ConstantList::new(b"\0\x01\x0a\0\0\0\x07\0\x02\x02\0\0\0\x10", ids).ok_or(
+        "no list",
+    )?;
+    let statics = StaticList::new(b"\0\0\0\x15\x04\x01", ids).ok_or("no list")?;
+    let fields = FieldList::new(b"\0\0\0\x16\x01", ids).ok_or("no list")?;
+    let class = FullFact::Class {
+        id: 9,
+        trace: 1,
+        parent: 7,
+        loader: 2,
+        signers: 3,
+        domain: 4,
+        reserved1: 5,
+        reserved2: 6,
+        size: 16,
+        constants,
+        statics,
+        fields,
+    };
+    assert_eq!(rt; sub(CLASS, ids), Step::Whole(class, 68));
+    assert_eq!(rt; sub(&CLASS[..67], ids), Step::Short);
+    assert_eq!(rt; read_sub(CLASS, 67, 67, ids), Step::Fault(Reason::PastEnd));
+    assert_eq!(rt; read_sub(CLASS, 68, 67, ids), Step::TooLong);
+    // The type of the second constant is 3.
+    let mut wrong = *CLASS;
+    wrong[48] = 3;
+    assert_eq!(rt; sub(&wrong[..48], ids), Step::Short);
+    assert_eq!(rt; sub(&wrong[..49], ids), Step::Fault(Reason::BadType));
     Ok(())
 }
