@@ -1,10 +1,10 @@
 -- Conflicts, which are those of the set.
-use Rattle.std.proofs.Common.{◌≡◌, List, true}
+use Rattle.std.proofs.Common.{◌≡◌, List, true, inl, inr}
 use Rattle.hprof_items.specs.FactValue.{FactValue}
 use Rattle.hprof_heap.specs.declared.key.Key.{Key}
 use Rattle.hprof_heap.specs.Facts.{Has, SameFacts}
 use Rattle.hprof_heap.specs.Conflict.{IsConsistent, HasConflict, IsLeastConflict}
-use Rattle.hprof_heap.proofs.Keys.{key_le-antisym, same_key, same_key-true}
+use Rattle.hprof_heap.proofs.Keys.{key_le-antisym, same_place, same_place-true}
 
 -- some of facts that agree agree
 pub IsConsistent-some : (facts others : List FactValue) → ((fact : FactValue) → Has others fact → Has facts fact) → IsConsistent facts → IsConsistent others
@@ -14,11 +14,13 @@ IsConsistent-some facts others some agree key one other has_one has_other = agre
 pub IsConsistent-same : (facts others : List FactValue) → SameFacts facts others → IsConsistent facts → IsConsistent others
 IsConsistent-same facts others same = IsConsistent-some facts others (λ fact. (same fact).1)
 
--- of facts that agree two with one key are the same
-pub IsConsistent-key : (facts : List FactValue) (one other : FactValue) → IsConsistent facts → Has facts one → Has facts other → same_key one other ≡ true → one ≡ other
+-- of facts that agree two at one place are the same
+pub IsConsistent-key : (facts : List FactValue) (one other : FactValue) → IsConsistent facts → Has facts one → Has facts other → same_place one other ≡ true → one ≡ other
 IsConsistent-key facts one other agree has_one has_other e =
-    let have = same_key-true one other e in
-    agree have.key one other has_one has_other have.key_of_one have.key_of_other
+    elim (same_place-true one other e) [
+      | inl have ↦ agree have.key one other has_one has_other have.key_of_one have.key_of_other
+      | inr same ↦ same
+    ]
 
 -- a conflict of some facts is one of more
 pub HasConflict-more : (facts others : List FactValue) (key : Key) → ((fact : FactValue) → Has facts fact → Has others fact) → HasConflict facts key → HasConflict others key

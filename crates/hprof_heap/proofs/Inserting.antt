@@ -11,7 +11,7 @@ use Rattle.hprof_heap.specs.Gathering.{Adds, StatesInto}
 use Rattle.hprof_heap.specs.HeapValue.{HeapValue, IsHeap}
 use Rattle.hprof_heap.specs.declared.relation.Stated.{Stated}
 use Rattle.hprof_heap.specs.declared.relation.Stated.TheVariants.{New, Same, Differs}
-use Rattle.hprof_heap.proofs.Keys.{same_key, same_key-false, HaveOneKey-sym}
+use Rattle.hprof_heap.proofs.Keys.{same_place, same_place-false, HaveOneKey-sym}
 use Rattle.hprof_heap.proofs.FactSets.{All-has, All-from_has, SameFacts-again}
 use Rattle.hprof_heap.proofs.Order.{IsBefore-trans, is_before, is_before-true, is_before-false}
 use Rattle.hprof_heap.proofs.Conflicts.{IsConsistent-some, IsConsistent-key}
@@ -75,7 +75,7 @@ pub inserted-fit : (ids : IdSize) (facts : List FactValue) (fact : FactValue) �
 inserted-fit ids facts fact fits all = All-inserted (Fits ids) facts fact fits all
 
 -- the same, where no fact that is there passes
-inserted-ordered_by : (facts : List FactValue) (fact : FactValue) → IsCanonicalOrder facts → ((other : FactValue) → Has facts other → same_key fact other ≡ false) → IsCanonicalOrder (inserted facts fact)
+inserted-ordered_by : (facts : List FactValue) (fact : FactValue) → IsCanonicalOrder facts → ((other : FactValue) → Has facts other → same_place fact other ≡ false) → IsCanonicalOrder (inserted facts fact)
 inserted-ordered_by [] fact ordered new = (tt, tt)
 inserted-ordered_by (first ∷ facts) fact ordered new =
     cond_both (is_before fact first) (fact ∷ first ∷ facts) (first ∷ inserted facts fact) IsCanonicalOrder
@@ -88,17 +88,17 @@ inserted-ordered_by (first ∷ facts) fact ordered new =
     ))
 
 -- a fact of a new key, put in its place, leaves facts in order
-pub inserted-ordered : (facts : List FactValue) (fact : FactValue) → IsCanonicalOrder facts → find (same_key fact) facts ≡ None → IsCanonicalOrder (inserted facts fact)
-inserted-ordered facts fact ordered none = inserted-ordered_by facts fact ordered (λ other has. find-None (same_key fact) facts other none has)
+pub inserted-ordered : (facts : List FactValue) (fact : FactValue) → IsCanonicalOrder facts → find (same_place fact) facts ≡ None → IsCanonicalOrder (inserted facts fact)
+inserted-ordered facts fact ordered none = inserted-ordered_by facts fact ordered (λ other has. find-None (same_place fact) facts other none has)
 
 -- they are the new fact and those that were there
 pub inserted-same : (facts : List FactValue) (fact : FactValue) → SameFacts (inserted facts fact) (fact ∷ facts)
 inserted-same facts fact other = (inserted-has facts fact other, has-inserted facts fact other)
 
 -- a fact that fits, put in its place at a new key, is added
-pub inserted-adds : (heap : HeapValue) (fact : FactValue) → find (same_key fact) heap.facts ≡ None → Fits heap.ids fact → IsHeap heap → Adds heap fact (record heap { facts = inserted heap.facts fact })
+pub inserted-adds : (heap : HeapValue) (fact : FactValue) → find (same_place fact) heap.facts ≡ None → Fits heap.ids fact → IsHeap heap → Adds heap fact (record heap { facts = inserted heap.facts fact })
 inserted-adds heap fact none fits sound = record {
-  is_new = λ other has have. same_key-false fact other (find-None (same_key fact) heap.facts other none has) (HaveOneKey-sym other fact have);
+  is_new = λ other has have. same_place-false fact other (find-None (same_place fact) heap.facts other none has) (HaveOneKey-sym other fact have);
   ids = refl;
   millis = refl;
   facts = inserted-same heap.facts fact;
@@ -122,7 +122,7 @@ abbrev pub HasOrder : List FactValue → Type 0
 HasOrder facts = (rows : List FactValue) × IsCanonicalOrder rows × SameFacts rows facts
 
 -- a list in order for one more fact, by whether its key is there
-one_more : (fact : FactValue) (facts rows : List FactValue) (found : Option FactValue) → find (same_key fact) rows ≡ found → IsConsistent (fact ∷ facts)
+one_more : (fact : FactValue) (facts rows : List FactValue) (found : Option FactValue) → find (same_place fact) rows ≡ found → IsConsistent (fact ∷ facts)
     → IsCanonicalOrder rows → SameFacts rows facts → HasOrder (fact ∷ facts)
 one_more fact facts rows None e agree ordered same = (
   inserted rows fact,
@@ -133,7 +133,7 @@ one_more fact facts rows None e agree ordered same = (
   ),
 )
 one_more fact facts rows (Some other) e agree ordered same =
-    let found = find-Some (same_key fact) rows other e in
+    let found = find-Some (same_place fact) rows other e in
     let there : Has facts other = (same other).0 found.0 in
     let one : fact ≡ other = IsConsistent-key (fact ∷ facts) fact other agree (inl refl) (inr there) found.1 in
     (rows, ordered, SameFacts-again rows facts fact same (subst (Has facts) (sym one) there))
@@ -143,4 +143,4 @@ pub agreeing-order : (facts : List FactValue) → IsConsistent facts → HasOrde
 agreeing-order [] agree = ([], tt, λ fact. (λ has. has, λ has. has))
 agreeing-order (fact ∷ facts) agree =
     let rest = agreeing-order facts (IsConsistent-some (fact ∷ facts) facts (λ other has. inr has) agree) in
-    one_more fact facts rest.0 (find (same_key fact) rest.0) refl agree rest.1 rest.2
+    one_more fact facts rest.0 (find (same_place fact) rest.0) refl agree rest.1 rest.2

@@ -1,11 +1,15 @@
 -- The order of keys.
 use Rattle.std.specs.Prelude.{◌==◌}
-use Rattle.std.proofs.Common.{◌≡◌, ℕ, zero, suc, ◌<◌, ◌≤◌, Bool, true, false, cond, Some, refl, sym, ap, ◌∙◌, ◌⊎◌, inl, inr, arith}
+use Rattle.std.proofs.Common.{◌≡◌, ℕ, zero, suc, ◌<◌, ◌≤◌, Bool, true, false, cond, List, [], ◌∷◌, Option, Some, None, refl, sym, ap, ◌∙◌, ◌⊎◌, inl, inr, arith}
 use Rattle.std.proofs.lemmas.Bool.{ltb-true, lt-ltb, eqb-true, eqb-false, eq-eqb, leb-true, le-leb, or_cases, and_parts, and_from, or_left, or_right, cases_order, cases_lt, both_ways}
+use Rattle.std.specs.Prelude.{bytes_eq}
+use Rattle.std.proofs.lemmas.Bool.Decides.{not_from_Decides}
+use Rattle.std.proofs.lemmas.Slice.Eq.{bytes_eq-Decides}
 use Rattle.hprof_items.specs.FactValue.{FactValue, Name}
 use Rattle.hprof_heap.specs.declared.key.Key.{Key}
 use Rattle.hprof_heap.specs.declared.key.Key.TheVariants as keys
-use Rattle.hprof_heap.specs.Key.{HaveOneKey, rank_of, number_of, key_le, lesser_key}
+use Rattle.hprof_heap.specs.Order.{place_of}
+use Rattle.hprof_heap.specs.Key.{HaveOneKey, key_of, rank_of, number_of, key_le, lesser_key}
 
 -- the first number is less, or it is the same and the second is no greater
 abbrev pub IsUpTo : (r n s m : ℕ) → Type 0
@@ -104,22 +108,56 @@ lesser_is key other = lesser_by (key_le key other) key other refl
 
 -- ---- the keys of facts
 
--- whether two facts have one key
-abbrev pub same_key : FactValue → FactValue → Bool
-same_key (Name id text) (Name other more) = id == other
+-- the place of the facts that have a key
+place_of_key : Key → List ℕ
+place_of_key (keys.Name id) = 0 ∷ id ∷ []
+place_of_key _ = []
 
--- facts that the test finds equal have one key
-pub same_key-true : (one other : FactValue) → same_key one other ≡ true → HaveOneKey one other
-same_key-true (Name id text) (Name other more) e =
-    record { key = keys.Name id; key_of_one = refl; key_of_other = ap (λ (n : ℕ). Some (keys.Name n)) (sym (eqb-true _ _ e)) }
+key_place : (fact : FactValue) (key : Key) → key_of fact ≡ Some key → place_of fact ≡ place_of_key key
+unfolding place_of_key
+key_place (Name id text) key e = let same : keys.Name id ≡ key = cc in ap place_of_key same
 
--- others have not
-pub same_key-false : (one other : FactValue) → same_key one other ≡ false → HaveOneKey one other → ⊥
-same_key-false (Name id text) (Name other more) e have =
-    let first = have.key_of_one in
-    let second = have.key_of_other in
-    let same : id ≡ other = cc in
-    eqb-false id other e same
+-- the key of the facts that stand at a place
+key_of_place : List ℕ → Option Key
+key_of_place (zero ∷ id ∷ []) = Some (keys.Name id)
+key_of_place _ = None
+
+place_key : (fact : FactValue) → key_of fact ≡ key_of_place (place_of fact)
+unfolding key_of_place
+place_key (Name id text) = refl
+
+-- the fact without a key that stands at a place
+unkeyed_at : List ℕ → FactValue
+unkeyed_at place = Name 0 []
+
+unkeyed_is : (fact : FactValue) → key_of fact ≡ None → fact ≡ unkeyed_at (place_of fact)
+unkeyed_is (Name id text) e = absurd cc
+
+-- whether two facts stand at one place
+abbrev pub same_place : FactValue → FactValue → Bool
+same_place fact other = bytes_eq (place_of fact) (place_of other)
+
+-- two facts at one place have one key, or are one
+one_place : (one other : FactValue) (key : Option Key) → key_of one ≡ key → place_of one ≡ place_of other → HaveOneKey one other ⊎ (one ≡ other)
+one_place one other None e same =
+    let none : key_of other ≡ None = place_key other ∙ ap key_of_place (sym same) ∙ sym (place_key one) ∙ e in
+    inr (unkeyed_is one e ∙ ap unkeyed_at same ∙ sym (unkeyed_is other none))
+one_place one other (Some key) e same = inl (record {
+  key = key;
+  key_of_one = e;
+  key_of_other = place_key other ∙ ap key_of_place (sym same) ∙ sym (place_key one) ∙ e;
+})
+
+pub same_place-true : (one other : FactValue) → same_place one other ≡ true → HaveOneKey one other ⊎ (one ≡ other)
+same_place-true one other e = one_place one other (key_of one) refl ((bytes_eq-Decides (place_of one) (place_of other)).0 e)
+
+-- facts with one key stand at one place
+pub one_key_place : (one other : FactValue) → HaveOneKey one other → place_of one ≡ place_of other
+one_key_place one other have = key_place one have.key have.key_of_one ∙ sym (key_place other have.key have.key_of_other)
+
+pub same_place-false : (one other : FactValue) → same_place one other ≡ false → HaveOneKey one other → ⊥
+same_place-false one other e have =
+    not_from_Decides (same_place one other) (bytes_eq-Decides (place_of one) (place_of other)) e (one_key_place one other have)
 
 -- the facts have one key either way round
 pub HaveOneKey-sym : (one other : FactValue) → HaveOneKey one other → HaveOneKey other one

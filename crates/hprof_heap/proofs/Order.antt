@@ -1,44 +1,69 @@
 -- The order of facts.
-use Rattle.std.specs.Prelude.{nat_lt}
-use Rattle.std.proofs.Common.{◌≡◌, Bool, true, false, List, [], ◌∷◌, Some, refl, sym, subst, ◌∙◌, inl, inr, arith}
-use Rattle.std.proofs.lemmas.Bool.{ltb-true, ltb-false, eqb-false}
-use Rattle.hprof_items.specs.FactValue.{FactValue, Name}
+use Rattle.std.proofs.Common.{◌≡◌, ℕ, Bool, true, false, List, [], ◌∷◌, Some, refl, sym, ap, subst, ◌∙◌, inl, inr}
+use Rattle.std.specs.Ordering.{nat_cmp, ordering_reverse, is_lt, is_eq}
+use Rattle.std.specs.Cmp.Lexicographic.{slice_cmp}
+use Rattle.std.specs.declared.cmp.Ordering.{Ordering}
+use Rattle.std.specs.declared.cmp.Ordering.TheVariants.{Less, Equal, Greater}
+use Rattle.std.proofs.lemmas.Cmp.{nat_list_cmp_total}
+use Rattle.std.proofs.lemmas.Map.Text.{is_eq-slice_cmp}
+use Rattle.hprof_items.specs.FactValue.{FactValue}
 use Rattle.hprof_heap.specs.declared.key.Key.{Key}
 use Rattle.hprof_heap.specs.Key.{key_of}
 use Rattle.hprof_heap.specs.Facts.{Has, SameFacts}
 use Rattle.hprof_heap.specs.Conflict.{IsConsistent}
-use Rattle.hprof_heap.specs.Order.{IsBefore, IsCanonicalOrder}
-use Rattle.hprof_heap.proofs.Keys.{same_key}
+use Rattle.hprof_heap.specs.Order.{place_of, IsBefore, IsCanonicalOrder}
+use Rattle.hprof_heap.proofs.Keys.{same_place, one_key_place}
 use Rattle.hprof_heap.proofs.FactSets.{All-has, SameFacts-sym}
 
 -- ---- two facts
 
 -- facts stand in one order
 pub IsBefore-trans : (one other more : FactValue) → IsBefore one other → IsBefore other more → IsBefore one more
-IsBefore-trans (Name id text) (Name other more) (Name last end) a b = omega arith
+IsBefore-trans one other more a b = nat_list_cmp_total.trans (place_of one) (place_of other) (place_of more) a b
+
+-- an order that is its own reverse is none of the two
+not_both : (o p : Ordering) → o ≡ Less → p ≡ Less → o ≡ ordering_reverse p → ⊥
+not_both o p a b e = let clash : Less ≡ Greater = sym a ∙ e ∙ ap ordering_reverse b in absurd cc
 
 -- no two facts stand before each other
 pub IsBefore-asym : (one other : FactValue) → IsBefore one other → IsBefore other one → ⊥
-IsBefore-asym (Name id text) (Name other more) a b = omega arith
+IsBefore-asym one other a b =
+    not_both (slice_cmp nat_cmp (place_of one) (place_of other)) (slice_cmp nat_cmp (place_of other) (place_of one)) a b
+    (nat_list_cmp_total.antisymm (place_of one) (place_of other))
+
+-- nor one before itself
+IsBefore-place : (one other : FactValue) → place_of one ≡ place_of other → IsBefore one other → ⊥
+IsBefore-place one other same a =
+    IsBefore-asym one other a
+    (subst (λ (p : List ℕ). slice_cmp nat_cmp p (place_of one) ≡ Less) same (subst (λ (p : List ℕ). slice_cmp nat_cmp (place_of one) p ≡ Less) (sym same) a))
 
 -- a fact stands before none of its key
 pub IsBefore-key : (one other : FactValue) (key : Key) → IsBefore one other → key_of one ≡ Some key → key_of other ≡ Some key → ⊥
-IsBefore-key (Name id text) (Name other more) key lt e f = let same : id ≡ other = cc in omega arith
+IsBefore-key one other key before e f = IsBefore-place one other (one_key_place one other (record { key = key; key_of_one = e; key_of_other = f })) before
 
 -- whether the first fact stands before the second
 abbrev pub is_before : FactValue → FactValue → Bool
-is_before (Name id text) (Name other more) = nat_lt id other
+is_before fact other = is_lt (slice_cmp nat_cmp (place_of fact) (place_of other))
+
+less_by : (o : Ordering) → is_lt o ≡ true → o ≡ Less
+less_by Less e = refl
+less_by Equal e = absurd cc
+less_by Greater e = absurd cc
 
 -- what the test of two facts tells
 pub is_before-true : (one other : FactValue) → is_before one other ≡ true → IsBefore one other
-is_before-true (Name id text) (Name other more) e = ltb-true _ _ e
+is_before-true one other e = less_by (slice_cmp nat_cmp (place_of one) (place_of other)) e
 
--- of two facts with two keys one stands before the other
-pub is_before-false : (one other : FactValue) → is_before one other ≡ false → same_key one other ≡ false → IsBefore other one
-is_before-false (Name id text) (Name other more) e f =
-    let le = ltb-false id other e in
-    let ne = eqb-false id other f in
-    omega arith
+greater_by : (o : Ordering) → is_lt o ≡ false → is_eq o ≡ false → o ≡ Greater
+greater_by Less e f = absurd cc
+greater_by Equal e f = absurd cc
+greater_by Greater e f = refl
+
+-- of two facts at two places one stands before the other
+pub is_before-false : (one other : FactValue) → is_before one other ≡ false → same_place one other ≡ false → IsBefore other one
+is_before-false one other e f =
+    let apart = greater_by (slice_cmp nat_cmp (place_of one) (place_of other)) e (is_eq-slice_cmp (place_of one) (place_of other) ∙ f) in
+    nat_list_cmp_total.antisymm (place_of other) (place_of one) ∙ ap ordering_reverse apart
 
 -- ---- lists in order
 

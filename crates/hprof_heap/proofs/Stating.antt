@@ -9,12 +9,12 @@ use Rattle.hprof_heap.specs.declared.relation.Stated.TheVariants.{New, Same, Dif
 use Rattle.hprof_heap.specs.HeapValue.{HeapValue, IsHeap}
 use Rattle.hprof_heap.specs.Facts.{Has}
 use Rattle.hprof_heap.specs.Gathering.{Adds, HasOther, StatesInto}
-use Rattle.hprof_heap.proofs.Keys.{same_key}
+use Rattle.hprof_heap.proofs.Keys.{same_place}
 use Rattle.hprof_heap.proofs.Inserting.{inserted, inserted-adds, states-sound}
 
 -- one of a new key is put in its place; nothing changes where it is there, or another one with its key
 abbrev pub StatesAmong : List FactValue → FactValue → Stated → List FactValue → Type 0
-StatesAmong old fact New new = (find (same_key fact) old ≡ None) × (new ≡ inserted old fact)
+StatesAmong old fact New new = (find (same_place fact) old ≡ None) × (new ≡ inserted old fact)
 StatesAmong old fact Same new = Has old fact × (new ≡ old)
 StatesAmong old fact Differs new = HasOther old fact × (new ≡ old)
 

@@ -2,6 +2,7 @@
 use Rattle.std.specs.Prelude.{ℕ, List, [], ◌∷◌, map}
 use Rattle.std.specs.Coded.{×_prop, Unit-prop, le_prop}
 use Rattle.std.specs.List.{AllByRecursion}
+use Rattle.std.proofs.Props.{props}
 use Rattle.hprof_values.specs.declared.ids.IdSize.{IdSize}
 use Rattle.hprof_items.specs.FactValue.{FactValue, Name}
 use Rattle.hprof_items.specs.Header.{IsMillis}
@@ -28,7 +29,7 @@ pub Fits-prop : (ids : IdSize) (fact : FactValue) → IsProp (Fits ids fact)
 Fits-prop ids (Name id text) = hlevel le_prop
 
 IsBefore-prop : (fact other : FactValue) → IsProp (IsBefore fact other)
-IsBefore-prop (Name id text) (Name other more) = le_prop
+IsBefore-prop fact other = hlevel props
 
 all_before-prop : (fact : FactValue) (facts : List FactValue) → IsProp (AllByRecursion (IsBefore fact) facts)
 all_before-prop fact [] = Unit-prop
