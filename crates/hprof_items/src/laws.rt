@@ -11,7 +11,7 @@ ghost use Rattle.hprof_items.specs.declared.step.Step.TheVariants.{Whole};
 ghost use Rattle.hprof_values.specs.declared.stop.Stop.TheVariants as stops;
 ghost use Rattle.hprof_values.specs.Ids.{width_of, IsBytes};
 ghost use Rattle.hprof_items.specs.Header.{header_bytes, IsMillis};
-ghost use Rattle.hprof_items.specs.Head.{head_bytes};
+ghost use Rattle.hprof_items.specs.Head.{head_bytes, record_bytes};
 ghost use Rattle.hprof_items.specs.FactValue.{FactValue};
 ghost use Rattle.hprof_items.specs.Spelling.{Fits, spelling, tag_of, body_of, longest_body};
 ghost use Rattle.hprof_values.specs.declared.entry.Entry.{Entry};
@@ -20,6 +20,9 @@ ghost use Rattle.hprof_values.specs.Entries.{IsEntryList};
 ghost use Rattle.hprof_values.specs.Lists.{IsIdList};
 ghost use Rattle.hprof_values.specs.declared.basic.Basic.{Basic};
 ghost use Rattle.hprof_values.specs.declared.sub_tag.SubTag.{SubTag};
+ghost use Rattle.hprof_values.specs.declared.record_tag.RecordTag.{RecordTag};
+ghost use Rattle.hprof_values.specs.RecordTag.{code_of_record};
+ghost use Rattle.hprof_items.specs.RecordBody.{is_legal_body, record_body, record_at, BodyFits};
 ghost use Rattle.hprof_items.specs.AnyFact.{AnyFact, Rooted, Instance, ObjArray, PrimArray};
 ghost use Rattle.hprof_items.specs.SubRecord.{root_at, instance_at, obj_array_at, prim_array_at, dump_bytes, DumpFits, is_root_tag, IsDumpOf};
 ghost use Rattle.hprof_values.specs.Fields.{field_bytes, fields_in, FitFields, Bounds, reached, IsWithin, with_more};
@@ -95,4 +98,23 @@ pub fn prim_arrays_read_back()
         → prim_array_at ids bounds bytes ≡ Ok (PrimArray id trace elem raw, length (dump_bytes ids (PrimArray id trace elem raw))) }
     ensures found { (ids : IdSize) (bounds : Bounds) (bytes : List ℕ) (fact : AnyFact) (n : ℕ) → IsBytes bytes → bounds.there ≤ length bytes
         → prim_array_at ids bounds bytes ≡ Ok (fact, n) → IsDumpOf ids bounds bytes fact n }
+{}
+
+/// The body of a fact of any record is read as that fact, and what is read is spelled so.
+pub fn records_read_back()
+    ensures again { (ids : IdSize) (tag : RecordTag) (fact : AnyFact) → BodyFits ids tag fact
+        → record_at ids tag (record_body ids tag fact) ≡ Ok fact }
+    ensures found { (ids : IdSize) (tag : RecordTag) (body : List ℕ) (fact : AnyFact) → IsBytes body
+        → is_legal_body ids tag (length body) ≡ true → record_at ids tag body ≡ Ok fact
+        → BodyFits ids tag fact × (body ≡ record_body ids tag fact) }
+{}
+
+/// No spelling of a record's fact begins another.
+pub fn one_record_spelling()
+    ensures { (ids : IdSize) (fact other : AnyFact) (tag tag_too : RecordTag) (rest more : List ℕ)
+        → BodyFits ids tag fact → BodyFits ids tag_too other
+        → length (record_body ids tag fact) ≤ longest_body → length (record_body ids tag_too other) ≤ longest_body
+        → record_bytes (code_of_record tag) 0 (record_body ids tag fact) ++ rest
+        ≡ record_bytes (code_of_record tag_too) 0 (record_body ids tag_too other) ++ more
+        → (fact ≡ other) × (rest ≡ more) }
 {}

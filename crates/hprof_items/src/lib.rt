@@ -12,6 +12,7 @@ mod health;
 pub mod laws;
 mod object_reading;
 mod reading;
+mod record_reading;
 mod root_reading;
 mod source;
 mod step;
@@ -30,6 +31,7 @@ pub use hprof_values::{
     IdSize, Ids, Reason, RecordTag, Root, Static, StaticList, Statics, Stop, SubTag, Value,
 };
 pub use reading::{read_body, read_head, read_header};
+pub use record_reading::read_record;
 pub use source::Source;
 pub use step::Step;
 pub use target::Target;
