@@ -7,3 +7,4 @@ pub mod Limits
 pub mod SubRecords
 pub mod ArrayRecords
 pub mod RecordBodies
+pub mod FullHeads

@@ -9,4 +9,5 @@ pub mod FactValue
 pub mod Spelling
 pub mod AnySpelling
 pub mod Reading
+pub mod FullHead
 pub mod Device

@@ -6,6 +6,7 @@
 mod device;
 mod fact;
 mod full_fact;
+mod full_head;
 mod head;
 mod header;
 mod health;
@@ -23,6 +24,7 @@ mod writing;
 pub use device::Device;
 pub use fact::{Fact, fits, spelled_len};
 pub use full_fact::FullFact;
+pub use full_head::read_full_head;
 pub use head::{HEAD_LEN, Head, HeadKind};
 pub use header::{HEADER_LEN, Header, Version};
 pub use health::{Health, ReadFault, WriteFault};
