@@ -15,7 +15,7 @@ fn fact_in<'a>(bytes: &'a [u8], ids: IdSize) -> Option<Result<FullFact<'a>, Reas
 }
 
 #[test]
-fn records_with_short_identifiers(rt: HostRuntime) -> Result<(), Fail> {
+fn records_with_short_identifiers(rt: HostRuntime) {
     let name: &[u8] = b"\x01\0\0\0\x07\0\0\0\x06\0\0\0\x01ab";
     let fact = FullFact::Name { id: 1, text: b"ab" };
     assert_eq!(rt; fact_in(name, IdSize::Four), Some(Ok(fact)));
@@ -44,7 +44,6 @@ fn records_with_short_identifiers(rt: HostRuntime) -> Result<(), Fail> {
     assert_eq!(rt; fact_in(end, IdSize::Four), Some(Ok(fact)));
     laws::records_read_back();
     laws::one_record_spelling();
-    Ok(())
 }
 
 #[test]
