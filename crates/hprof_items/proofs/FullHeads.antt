@@ -55,7 +55,8 @@ full_head_found ids longest bytes head n are e =
       taken = judged.1;
     } in
     subst (λ (x : Head). (bytes ≡ head_bytes x.tag x.time x.length ++ drop n bytes) × (n ≡ 9) × IsFullHead ids longest x) judged.2
-    (subst (λ (m : ℕ). (bytes ≡ head_bytes read.tag read.time read.length ++ drop m bytes) × (m ≡ 9) × IsFullHead ids longest read) judged.3 (fields_found bytes are there.0, refl, right))
+    (subst (λ (m : ℕ). (bytes ≡ head_bytes read.tag read.time read.length ++ drop m bytes) × (m ≡ 9) × IsFullHead ids longest read) judged.3
+    (fields_found bytes are there.0, refl, right))
 
 -- what is spelled so and right is read, whatever follows
 pub full_head_again : (ids : IdSize) (longest : ℕ) (head : Head) (rest : List ℕ) → IsFullHead ids longest head

@@ -93,7 +93,8 @@ pub never_faulty : (fact : AnyFact) (reason : Reason) (r : Result AnyFact Reason
 never_faulty fact reason r p q = cc
 
 -- so what holds of the one that was read holds of the one that was given
-along : (ids : IdSize) (tag : RecordTag) (body : List ℕ) (x fact : AnyFact) (r : Result AnyFact Reason) → r ≡ Ok x → r ≡ Ok fact → IsStated ids tag body x → IsStated ids tag body fact
+along : (ids : IdSize) (tag : RecordTag) (body : List ℕ) (x fact : AnyFact) (r : Result AnyFact Reason) → r ≡ Ok x → r ≡ Ok fact
+    → IsStated ids tag body x → IsStated ids tag body fact
 along ids tag body x fact r p q is = subst (IsStated ids tag body) (given x fact r p q) is
 
 -- a trace that passed its test
@@ -104,7 +105,8 @@ counted a b x fact e =
     (eqb-true a b test.0, (let h = test.1 in cc))
 
 -- a line, whatever its bits are
-line_bits : (body : List ℕ) → IsBytes body → (FitsSigned w32 (cast_signed w32 (big_number 4 body))) × (cast_unsigned w32 (cast_signed w32 (big_number 4 body)) ≡ big_number 4 body)
+line_bits : (body : List ℕ) → IsBytes body
+    → (FitsSigned w32 (cast_signed w32 (big_number 4 body))) × (cast_unsigned w32 (cast_signed w32 (big_number 4 body)) ≡ big_number 4 body)
 line_bits body are =
     let below : big_number 4 body < 256 ^ 4 = big_from-lt 0 4 body are in
     let fits : big_number 4 body < 2 ^ 32 = omega (arith, below) in
@@ -115,14 +117,16 @@ nothing_more : (widths body : List ℕ) → eqb (length body) (sum widths) ≡ t
 nothing_more widths body legal = let same = eqb-true _ _ legal in sym (drop_all (sum widths) body (omega arith))
 
 -- a frame that is read
-frame_stated : (ids : IdSize) (body : List ℕ) (fact : AnyFact) → IsBytes body → is_legal_body ids tags.Frame (length body) ≡ true → record_at ids tags.Frame body ≡ Ok fact
-    → IsStated ids tags.Frame body fact
+frame_stated : (ids : IdSize) (body : List ℕ) (fact : AnyFact) → IsBytes body → is_legal_body ids tags.Frame (length body) ≡ true
+    → record_at ids tags.Frame body ≡ Ok fact → IsStated ids tags.Frame body fact
 unfolding record_at
 frame_stated ids body fact are legal e =
     let widths : List ℕ = record_fields ids tags.Frame in
     let numbers : List ℕ = fields_in widths body in
-    let front : ℕ → List ℕ = λ line. slice_index numbers 0 ∷ slice_index numbers 1 ∷ slice_index numbers 2 ∷ slice_index numbers 3 ∷ slice_index numbers 4 ∷ line ∷ [] in
-    let made : AnyFact = Frame (slice_index numbers 0) (slice_index numbers 1) (slice_index numbers 2) (slice_index numbers 3) (slice_index numbers 4) (cast_signed w32 (slice_index numbers 5)) in
+    let front : ℕ → List ℕ =
+    λ line. slice_index numbers 0 ∷ slice_index numbers 1 ∷ slice_index numbers 2 ∷ slice_index numbers 3 ∷ slice_index numbers 4 ∷ line ∷ [] in
+    let made : AnyFact =
+    Frame (slice_index numbers 0) (slice_index numbers 1) (slice_index numbers 2) (slice_index numbers 3) (slice_index numbers 4) (cast_signed w32 (slice_index numbers 5)) in
     let before : List ℕ = drop 4 (drop (width_of ids) (drop (width_of ids) (drop (width_of ids) (drop (width_of ids) body)))) in
     let are_before : IsBytes before =
     IsBytes-drop 4 _ (IsBytes-drop (width_of ids) _ (IsBytes-drop (width_of ids) _ (IsBytes-drop (width_of ids) _ (IsBytes-drop (width_of ids) body are)))) in
@@ -157,13 +161,14 @@ trace_stated ids body fact are e =
     })
 
 -- any record that is read
-stated_found : (ids : IdSize) (tag : RecordTag) (body : List ℕ) (fact : AnyFact) → IsBytes body → is_legal_body ids tag (length body) ≡ true → record_at ids tag body ≡ Ok fact
-    → IsStated ids tag body fact
+stated_found : (ids : IdSize) (tag : RecordTag) (body : List ℕ) (fact : AnyFact) → IsBytes body → is_legal_body ids tag (length body) ≡ true
+    → record_at ids tag body ≡ Ok fact → IsStated ids tag body fact
 unfolding record_at
 stated_found ids tags.Utf8 body fact are legal e =
     let widths : List ℕ = record_fields ids tags.Utf8 in
     let made : AnyFact = Name (big_number (width_of ids) body) (drop (sum widths) body) in
-    along ids tags.Utf8 body made fact (record_at ids tags.Utf8 body) refl e (record { is = refl; numbers = refl; rest = refl; fits = IsBytes-drop (sum widths) body are })
+    along ids tags.Utf8 body made fact (record_at ids tags.Utf8 body) refl e
+    (record { is = refl; numbers = refl; rest = refl; fits = IsBytes-drop (sum widths) body are })
 stated_found ids tags.LoadClass body fact are legal e =
     let numbers : List ℕ = fields_in (record_fields ids tags.LoadClass) body in
     let made : AnyFact = Load (slice_index numbers 0) (slice_index numbers 1) (slice_index numbers 2) (slice_index numbers 3) in
@@ -176,7 +181,8 @@ stated_found ids tags.Frame body fact are legal e = frame_stated ids body fact a
 stated_found ids tags.Trace body fact are legal e = trace_stated ids body fact are e
 stated_found ids tags.StartThread body fact are legal e =
     let numbers : List ℕ = fields_in (record_fields ids tags.StartThread) body in
-    let made : AnyFact = Start (slice_index numbers 0) (slice_index numbers 1) (slice_index numbers 2) (slice_index numbers 3) (slice_index numbers 4) (slice_index numbers 5) in
+    let made : AnyFact =
+    Start (slice_index numbers 0) (slice_index numbers 1) (slice_index numbers 2) (slice_index numbers 3) (slice_index numbers 4) (slice_index numbers 5) in
     along ids tags.StartThread body made fact (record_at ids tags.StartThread body) refl e
     (record { is = refl; numbers = refl; rest = nothing_more (record_fields ids tags.StartThread) body legal; fits = tt })
 stated_found ids tags.EndThread body fact are legal e =
@@ -190,14 +196,15 @@ has_fields ids tags.Trace len legal = leb-true _ _ legal
 has_fields ids _ len legal = let same = eqb-true _ _ legal in omega arith
 
 -- a fact that is read has its body there
-pub record_found : (ids : IdSize) (tag : RecordTag) (body : List ℕ) (fact : AnyFact) → IsBytes body → is_legal_body ids tag (length body) ≡ true → record_at ids tag body ≡ Ok fact
-    → BodyFits ids tag fact × (body ≡ record_body ids tag fact)
+pub record_found : (ids : IdSize) (tag : RecordTag) (body : List ℕ) (fact : AnyFact) → IsBytes body → is_legal_body ids tag (length body) ≡ true
+    → record_at ids tag body ≡ Ok fact → BodyFits ids tag fact × (body ≡ record_body ids tag fact)
 record_found ids tag body fact are legal e =
     let widths : List ℕ = record_fields ids tag in
     let is = stated_found ids tag body fact are legal e in
     let found = fields_found widths body are (has_fields ids tag (length body) legal) in (
       record { is = is.is; numbers = subst (FitFields widths) (sym is.numbers) (fields_fit widths body are); rest = is.fits },
-      found ∙ ap (λ (ns : List ℕ). field_bytes widths ns ++ drop (sum widths) body) (sym is.numbers) ∙ ap (λ (r : List ℕ). field_bytes widths (record_numbers fact) ++ r) (sym is.rest),
+      found ∙ ap (λ (ns : List ℕ). field_bytes widths ns ++ drop (sum widths) body) (sym is.numbers)
+          ∙ ap (λ (r : List ℕ). field_bytes widths (record_numbers fact) ++ r) (sym is.rest),
     )
 
 -- ---- no spelling begins another

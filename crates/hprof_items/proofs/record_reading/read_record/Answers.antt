@@ -16,14 +16,17 @@ returns-clause-found c =
     let ids = c.args.ids in
     let tag = c.args.tag in
     let body = c.args.body.now in
-    MatchResult-weaker c.fact_in.result c.fact_in.ensures.exact (λ fact e. record_found ids tag body (value_of_full fact) (λ i. omega (arith, c.type_inv.body i)) c.requires e) (λ reason e. tt)
+    MatchResult-weaker c.fact_in.result c.fact_in.ensures.exact
+    (λ fact e. record_found ids tag body (value_of_full fact) (λ i. omega (arith, c.type_inv.body i)) c.requires e) (λ reason e. tt)
 
 -- where one fact is read, that is the answer
 read_is : (ids : IdSize) (tag : RecordTag) (body : List ℕ) (fact : AnyFact) (r : Result FullFact Reason) → record_at ids tag body ≡ Ok fact
-    → MatchResult r (λ read. record_at ids tag body ≡ Ok (value_of_full read)) (λ reason. record_at ids tag body ≡ Err reason) → IsOkAnd r (λ read. value_of_full read ≡ fact)
+    → MatchResult r (λ read. record_at ids tag body ≡ Ok (value_of_full read)) (λ reason. record_at ids tag body ≡ Err reason)
+    → IsOkAnd r (λ read. value_of_full read ≡ fact)
 read_is ids tag body fact (Ok read) again e = given (value_of_full read) fact (record_at ids tag body) e again
 read_is ids tag body fact (Err reason) again e = never_faulty fact reason (record_at ids tag body) again e
 
 pub returns-clause-only : goal.returns-clause-only
 returns-clause-only c = λ fact fits e.
-    read_is c.args.ids c.args.tag c.args.body.now fact c.fact_in.result (ap (record_at c.args.ids c.args.tag) e ∙ record_again c.args.ids c.args.tag fact fits) c.fact_in.ensures.exact
+    read_is c.args.ids c.args.tag c.args.body.now fact c.fact_in.result
+    (ap (record_at c.args.ids c.args.tag) e ∙ record_again c.args.ids c.args.tag fact fits) c.fact_in.ensures.exact
