@@ -17,7 +17,7 @@ use Rattle.hprof_values.proofs.Numbers.{IsBytes-drop, number_parts_at}
 use Rattle.hprof_items.proofs.Steps.{went_on, held, long_enough, fault_is_not_whole, too_long_is_not_whole, whole_parts}
 
 -- the fields at their places
-fields : List ℕ → Head
+unfoldable pub fields : List ℕ → Head
 fields bytes = record { tag = slice_index bytes 0; time = big_number 4 (drop 1 bytes); length = big_number 4 (drop 5 bytes) }
 
 -- the tests that a head passed
@@ -40,7 +40,7 @@ judged_again ids longest head right =
     ∙ cond-false (is_too_long longest head) TooLong (Whole head 9) right.taken
 
 -- bytes with those fields at their places
-fields_found : (bytes : List ℕ) → IsBytes bytes → 9 ≤ length bytes → bytes ≡ head_bytes (fields bytes).tag (fields bytes).time (fields bytes).length ++ drop 9 bytes
+pub fields_found : (bytes : List ℕ) → IsBytes bytes → 9 ≤ length bytes → bytes ≡ head_bytes (fields bytes).tag (fields bytes).time (fields bytes).length ++ drop 9 bytes
 unfolding fields
 fields_found bytes are long =
     let first : bytes ≡ slice_index bytes 0 ∷ drop 1 bytes = drop-cons bytes 0 0 (omega arith) in

@@ -11,4 +11,5 @@ pub mod Spelling
 pub mod AnySpelling
 pub mod SubReading
 pub mod Reading
+pub mod FullHead
 pub mod Device

@@ -1,6 +1,6 @@
 //! Laws of the definitions. None of these functions does anything.
 
-ghost use Rattle.std.specs.Prelude.{◌≡◌, ◌+◌, ◌<◌, ◌≤◌, ◌⊎◌, List, ℕ, ◌++◌, length, drop, sum, true, Ok, Err};
+ghost use Rattle.std.specs.Prelude.{◌≡◌, ◌+◌, ◌<◌, ◌≤◌, ◌⊎◌, List, ℕ, ◌++◌, length, drop, sum, true, Some, Ok, Err};
 ghost use Rattle.std.specs.Cmp.Lexicographic.{slice_cmp};
 ghost use Rattle.std.specs.Ordering.{nat_cmp};
 ghost use Rattle.hprof_values.specs.declared.ids.IdSize.{IdSize};
@@ -11,7 +11,8 @@ ghost use Rattle.hprof_items.specs.declared.step.Step.TheVariants.{Whole};
 ghost use Rattle.hprof_values.specs.declared.stop.Stop.TheVariants as stops;
 ghost use Rattle.hprof_values.specs.Ids.{width_of, IsBytes};
 ghost use Rattle.hprof_items.specs.Header.{header_bytes, IsMillis};
-ghost use Rattle.hprof_items.specs.Head.{head_bytes};
+ghost use Rattle.hprof_items.specs.declared.head.HeadKind.TheVariants as kinds;
+ghost use Rattle.hprof_items.specs.Head.{head_bytes, record_bytes, kind_of};
 ghost use Rattle.hprof_items.specs.FactValue.{FactValue};
 ghost use Rattle.hprof_items.specs.Spelling.{Fits, spelling, tag_of, body_of, longest_body};
 ghost use Rattle.hprof_values.specs.declared.entry.Entry.{Entry};
@@ -22,9 +23,13 @@ ghost use Rattle.hprof_values.specs.declared.basic.Basic.{Basic};
 ghost use Rattle.hprof_values.specs.declared.sub_tag.SubTag.{SubTag};
 ghost use Rattle.hprof_items.specs.AnyFact.{AnyFact};
 ghost use Rattle.hprof_items.specs.SubRecord.{sub_at, dump_bytes, DumpFits, IsSubOf};
+ghost use Rattle.hprof_values.specs.declared.record_tag.RecordTag.{RecordTag};
+ghost use Rattle.hprof_values.specs.RecordTag.{code_of_record, record_of_code};
+ghost use Rattle.hprof_items.specs.RecordBody.{is_legal_body, record_body, record_at, BodyFits};
 ghost use Rattle.hprof_values.specs.Fields.{field_bytes, fields_in, FitFields, Bounds, reached, IsWithin, with_more};
 ghost use Rattle.hprof_values.specs.Root.{root_bytes, tag_of_root, RootFits};
 ghost use Rattle.hprof_items.specs.Reading.{header_at, head_at, IsRightHead, body_at};
+ghost use Rattle.hprof_items.specs.FullHead.{full_head_at, IsFullHead};
 
 use hprof_values::Root;
 
@@ -66,4 +71,35 @@ pub fn sub_records_read_back()
         → sub_at ids bounds bytes ≡ Ok (fact, n) → IsSubOf ids bounds bytes fact n }
     ensures once { (ids : IdSize) (fact other : AnyFact) (rest more : List ℕ) → DumpFits ids fact → DumpFits ids other
         → dump_bytes ids fact ++ rest ≡ dump_bytes ids other ++ more → (fact ≡ other) × (rest ≡ more) }
+{}
+
+/// The body of a fact of any record is read as that fact, and what is read is spelled so.
+pub fn records_read_back()
+    ensures again { (ids : IdSize) (tag : RecordTag) (fact : AnyFact) → BodyFits ids tag fact
+        → record_at ids tag (record_body ids tag fact) ≡ Ok fact }
+    ensures found { (ids : IdSize) (tag : RecordTag) (body : List ℕ) (fact : AnyFact) → IsBytes body
+        → is_legal_body ids tag (length body) ≡ true → record_at ids tag body ≡ Ok fact
+        → BodyFits ids tag fact × (body ≡ record_body ids tag fact) }
+{}
+
+/// No spelling of a record's fact begins another.
+pub fn one_record_spelling()
+    ensures { (ids : IdSize) (fact other : AnyFact) (tag tag_too : RecordTag) (rest more : List ℕ)
+        → BodyFits ids tag fact → BodyFits ids tag_too other
+        → length (record_body ids tag fact) ≤ longest_body → length (record_body ids tag_too other) ≤ longest_body
+        → record_bytes (code_of_record tag) 0 (record_body ids tag fact) ++ rest
+        ≡ record_bytes (code_of_record tag_too) 0 (record_body ids tag_too other) ++ more
+        → (fact ≡ other) × (rest ≡ more) }
+{}
+
+/// A right head of any record that is spelled is read, whatever follows, and one that is read is right and spelled so.
+/// Where the record states one fact, its length is one that its body may have.
+pub fn full_heads_read_back()
+    ensures again { (ids : IdSize) (longest : ℕ) (head : Head) (rest : List ℕ) → IsFullHead ids longest head
+        → full_head_at ids longest (head_bytes head.tag head.time head.length ++ rest) ≡ Whole head 9 }
+    ensures found { (ids : IdSize) (longest : ℕ) (bytes : List ℕ) (head : Head) (n : ℕ) → IsBytes bytes
+        → full_head_at ids longest bytes ≡ Whole head n
+        → (bytes ≡ head_bytes head.tag head.time head.length ++ drop n bytes) × (n ≡ 9) × IsFullHead ids longest head }
+    ensures facts { (ids : IdSize) (longest : ℕ) (head : Head) → IsFullHead ids longest head → kind_of head.tag ≡ kinds.FactRecord
+        → (known : RecordTag) × (record_of_code head.tag ≡ Some known) × (is_legal_body ids known head.length ≡ true) }
 {}

@@ -1,0 +1,146 @@
+//! Reading the body of a record that states one fact.
+
+ghost use Rattle.std.specs.Prelude.{◌≡◌, ◌≤◌, length, sum, true, Ok, Err, IfOk, IsOkAnd, MatchResult};
+ghost use Rattle.hprof_values.specs.RecordTag.{record_fields};
+ghost use Rattle.hprof_items.specs.AnyFact.{AnyFact};
+ghost use Rattle.hprof_items.specs.RecordBody.{is_legal_body, record_body, record_at, BodyFits};
+ghost use Rattle.hprof_items.specs.FullFact.{value_of_full, ListsHave};
+
+use crate::full_fact::FullFact;
+use hprof_values::number::{ids_len, split_id, split_u32};
+use hprof_values::{IdList, IdSize, Reason, RecordTag};
+
+/// Reads a class that was loaded.
+#[tactic(auto, unfolding(crate::specs::RecordBody::record_at))]
+fn read_load<'a>(body: &'a [u8], ids: IdSize) -> FullFact<'a>
+    requires { sum (record_fields ids RecordTag.LoadClass) ≤ length body.now }
+    ensures exact { record_at ids RecordTag.LoadClass body.now ≡ Ok (value_of_full result) }
+    ensures lists { ListsHave ids result }
+{
+    let (serial, rest) = split_u32(body);
+    let (class, rest) = split_id(rest, ids);
+    let (trace, rest) = split_u32(rest);
+    let (name, _) = split_id(rest, ids);
+    FullFact::Load {
+        serial,
+        class,
+        trace,
+        name,
+    }
+}
+
+/// Reads a frame of a stack.
+#[tactic(auto, unfolding(crate::specs::RecordBody::record_at))]
+fn read_frame<'a>(body: &'a [u8], ids: IdSize) -> FullFact<'a>
+    requires { sum (record_fields ids RecordTag.Frame) ≤ length body.now }
+    ensures exact { record_at ids RecordTag.Frame body.now ≡ Ok (value_of_full result) }
+    ensures lists { ListsHave ids result }
+{
+    let (id, rest) = split_id(body, ids);
+    let (method, rest) = split_id(rest, ids);
+    let (signature, rest) = split_id(rest, ids);
+    let (source, rest) = split_id(rest, ids);
+    let (class_serial, rest) = split_u32(rest);
+    let (line, _) = split_u32(rest);
+    FullFact::Frame {
+        id,
+        method,
+        signature,
+        source,
+        class_serial,
+        line: line.cast_signed(),
+    }
+}
+
+/// Reads a stack. It has as many frames as it says.
+#[tactic(auto, unfolding(crate::specs::RecordBody::record_at))]
+fn read_trace<'a>(body: &'a [u8], ids: IdSize) -> Result<FullFact<'a>, Reason>
+    requires { sum (record_fields ids RecordTag.Trace) ≤ length body.now }
+    ensures exact { MatchResult result
+        (λ fact. record_at ids RecordTag.Trace body.now ≡ Ok (value_of_full fact))
+        (λ reason. record_at ids RecordTag.Trace body.now ≡ Err reason) }
+    ensures lists { IfOk result (λ fact. ListsHave ids fact) }
+{
+    let (serial, rest) = split_u32(body);
+    let (thread, rest) = split_u32(rest);
+    let (count, rest) = split_u32(rest);
+    if rest.len() != ids_len(count, ids) {
+        return Err(Reason::BadLength);
+    }
+    Ok(FullFact::Trace {
+        serial,
+        thread,
+        frames: IdList::of_whole(rest, ids),
+    })
+}
+
+/// Reads a thread that was started.
+#[tactic(auto, unfolding(crate::specs::RecordBody::record_at))]
+fn read_start<'a>(body: &'a [u8], ids: IdSize) -> FullFact<'a>
+    requires { sum (record_fields ids RecordTag.StartThread) ≤ length body.now }
+    ensures exact { record_at ids RecordTag.StartThread body.now ≡ Ok (value_of_full result) }
+    ensures lists { ListsHave ids result }
+{
+    let (thread, rest) = split_u32(body);
+    let (object, rest) = split_id(rest, ids);
+    let (trace, rest) = split_u32(rest);
+    let (name, rest) = split_id(rest, ids);
+    let (group, rest) = split_id(rest, ids);
+    let (parent_group, _) = split_id(rest, ids);
+    FullFact::Start {
+        thread,
+        object,
+        trace,
+        name,
+        group,
+        parent_group,
+    }
+}
+
+/// The fact of `read_record`.
+#[tactic(auto, unfolding(crate::specs::RecordBody::record_at))]
+fn fact_in<'a>(tag: RecordTag, body: &'a [u8], ids: IdSize) -> Result<FullFact<'a>, Reason>
+    requires { is_legal_body ids tag (length body.now) ≡ true }
+    ensures exact { MatchResult result
+        (λ fact. record_at ids tag body.now ≡ Ok (value_of_full fact))
+        (λ reason. record_at ids tag body.now ≡ Err reason) }
+    ensures lists { IfOk result (λ fact. ListsHave ids fact) }
+{
+    match tag {
+        RecordTag::Utf8 => {
+            let (id, text) = split_id(body, ids);
+            Ok(FullFact::Name { id, text })
+        }
+        RecordTag::LoadClass => Ok(read_load(body, ids)),
+        RecordTag::UnloadClass => {
+            let (serial, _) = split_u32(body);
+            Ok(FullFact::Unload { serial })
+        }
+        RecordTag::Frame => Ok(read_frame(body, ids)),
+        RecordTag::Trace => read_trace(body, ids),
+        RecordTag::StartThread => Ok(read_start(body, ids)),
+        RecordTag::EndThread => {
+            let (thread, _) = split_u32(body);
+            Ok(FullFact::End { thread })
+        }
+    }
+}
+
+/// Reads the body of a record that states one fact, of a length that it may have.
+pub fn read_record<'a>(tag: RecordTag, body: &'a [u8], ids: IdSize) -> Result<FullFact<'a>, Reason>
+    requires { is_legal_body ids tag (length body.now) ≡ true }
+    // Which fact it is, or which fault.
+    ensures exact { MatchResult result
+        (λ fact. record_at ids tag body.now ≡ Ok (value_of_full fact))
+        (λ reason. record_at ids tag body.now ≡ Err reason) }
+    // What is read is spelled so.
+    ensures found { IfOk result (λ fact. BodyFits ids tag (value_of_full fact)
+        × (body.now ≡ record_body ids tag (value_of_full fact))) }
+    // What is spelled so is read.
+    ensures only { (fact : AnyFact) → BodyFits ids tag fact
+        → body.now ≡ record_body ids tag fact → IsOkAnd result (λ read. value_of_full read ≡ fact) }
+    // Its lists have identifiers of that size.
+    ensures lists { IfOk result (λ fact. ListsHave ids fact) }
+{
+    fact_in(tag, body, ids)
+}
