@@ -9,6 +9,7 @@ pub mod SortedTable
 pub mod Stating
 pub mod RowFacts
 pub mod Names
+pub mod NumberRows
 pub mod Steady
 pub mod Gathering
 pub mod Dump

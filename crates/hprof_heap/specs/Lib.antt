@@ -7,6 +7,7 @@ pub mod State
 pub mod SortedRows
 pub mod SortedTable
 pub mod Relation
+pub mod NumberRows
 pub mod HeapValue
 pub mod Heap
 pub mod Rows

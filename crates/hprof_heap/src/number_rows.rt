@@ -1,0 +1,83 @@
+//! Rows of numbers: loads, frames and starts, and rows that say nothing beside their keys.
+
+ghost use Rattle.hprof_heap.specs.NumberRows.{load_numbers, frame_numbers, start_numbers};
+ghost use Rattle.std.specs.Prelude.{[]};
+
+use crate::content::Content;
+
+/// A class that was loaded, under its serial.
+#[derive(Clone, Copy, Debug, PartialEq, Eq)]
+pub struct LoadRow {
+    /// The class object.
+    pub class: u64,
+    /// The serial of the stack trace.
+    pub trace: u32,
+    /// The identifier of its name.
+    pub name: u64,
+}
+
+impl Content for LoadRow {
+    ghost content = { load_numbers };
+
+    fn agrees(&self, other: &Self) -> bool {
+        self == other
+    }
+}
+
+/// A frame of a stack, under its identifier.
+#[derive(Clone, Copy, Debug, PartialEq, Eq)]
+pub struct FrameRow {
+    /// The identifier of the method's name.
+    pub method: u64,
+    /// The identifier of the method's signature.
+    pub signature: u64,
+    /// The identifier of the source file's name.
+    pub source: u64,
+    /// The serial of the class.
+    pub class_serial: u32,
+    /// The line, above 0; -1 where it is unknown, -2 in a compiled method, -3 in a native one.
+    pub line: i32,
+}
+
+impl Content for FrameRow {
+    ghost content = { frame_numbers };
+
+    fn agrees(&self, other: &Self) -> bool {
+        self == other
+    }
+}
+
+/// A thread that was started, under its serial.
+#[derive(Clone, Copy, Debug, PartialEq, Eq)]
+pub struct StartRow {
+    /// The thread object.
+    pub object: u64,
+    /// The serial of the stack trace.
+    pub trace: u32,
+    /// The identifier of its name.
+    pub name: u64,
+    /// The identifier of its group's name.
+    pub group: u64,
+    /// The identifier of the name of its group's parent.
+    pub parent_group: u64,
+}
+
+impl Content for StartRow {
+    ghost content = { start_numbers };
+
+    fn agrees(&self, other: &Self) -> bool {
+        self == other
+    }
+}
+
+/// A row whose key says all: an unloaded class, a thread that ended.
+#[derive(Clone, Copy, Debug, PartialEq, Eq)]
+pub struct KeyRow;
+
+impl Content for KeyRow {
+    ghost content = { λ row. [] };
+
+    fn agrees(&self, _other: &Self) -> bool {
+        true
+    }
+}
