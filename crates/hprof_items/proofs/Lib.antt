@@ -6,3 +6,7 @@ pub mod Writes
 pub mod Limits
 pub mod SubRecords
 pub mod ArrayRecords
+pub mod WalksMore
+pub mod WalksReads
+pub mod Walks
+pub mod WalksFronts

@@ -21,7 +21,7 @@ ghost use Rattle.hprof_values.specs.Lists.{IsIdList};
 ghost use Rattle.hprof_values.specs.declared.basic.Basic.{Basic};
 ghost use Rattle.hprof_values.specs.declared.sub_tag.SubTag.{SubTag};
 ghost use Rattle.hprof_items.specs.AnyFact.{AnyFact, Rooted, Instance, ObjArray, PrimArray};
-ghost use Rattle.hprof_items.specs.SubRecord.{root_at, instance_at, obj_array_at, prim_array_at, dump_bytes, DumpFits, is_root_tag, IsDumpOf};
+ghost use Rattle.hprof_items.specs.SubRecord.{sub_at, root_at, instance_at, obj_array_at, prim_array_at, dump_bytes, DumpFits, is_root_tag, IsDumpOf};
 ghost use Rattle.hprof_values.specs.Fields.{field_bytes, fields_in, FitFields, Bounds, reached, IsWithin, with_more};
 ghost use Rattle.hprof_values.specs.Root.{root_bytes, tag_of_root, RootFits};
 ghost use Rattle.hprof_items.specs.Reading.{header_at, head_at, IsRightHead, body_at};
@@ -95,4 +95,11 @@ pub fn prim_arrays_read_back()
         → prim_array_at ids bounds bytes ≡ Ok (PrimArray id trace elem raw, length (dump_bytes ids (PrimArray id trace elem raw))) }
     ensures found { (ids : IdSize) (bounds : Bounds) (bytes : List ℕ) (fact : AnyFact) (n : ℕ) → IsBytes bytes → bounds.there ≤ length bytes
         → prim_array_at ids bounds bytes ≡ Ok (fact, n) → IsDumpOf ids bounds bytes fact n }
+{}
+
+/// With more bytes no answer about a sub-record changes but the one that more are needed.
+pub fn fronts_of_sub_records_are_short()
+    ensures more { (ids : IdSize) (bounds : Bounds) (bytes more : List ℕ) → bounds.there ≡ length bytes
+        → (sub_at ids bounds bytes ≡ Err stops.Short)
+        ⊎ (sub_at ids (with_more bounds (length more)) (bytes ++ more) ≡ sub_at ids bounds bytes) }
 {}

@@ -17,6 +17,7 @@ mod source;
 mod step;
 pub mod tag;
 mod target;
+mod walk;
 mod writing;
 
 pub use device::Device;
@@ -33,6 +34,7 @@ pub use reading::{read_body, read_head, read_header};
 pub use source::Source;
 pub use step::Step;
 pub use target::Target;
+pub use walk::{Walk, go_on};
 pub use writing::{write_fact, write_head, write_header};
 
 #[cfg(test)]

@@ -59,7 +59,7 @@ impl EntryKind {
 /// The end of the entry that begins there, or the first of its tests that fails.
 #[tactic(auto, unfolding(crate::specs::Entries::entry_end))]
 pub fn entry_end(item: &Item<'_>, at: usize, kind: EntryKind, ids: IdSize) -> Result<usize, Stop>
-    requires { at < 2 ^ 60 }
+    requires { at < 2 ^ 63 }
     ensures { result ≡ entry_end ids kind (bounds_of item.now) item.now.bytes.now at }
 {
     let lead = kind.lead_width(ids);

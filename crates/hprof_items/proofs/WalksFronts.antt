@@ -1,0 +1,111 @@
+-- A walk from the front of a sub-record, and how it comes to the lists of a class.
+use Rattle.std.proofs.Common.{◌≡◌, ℕ, ◌+◌, ◌≤◌, List, [], ◌∷◌, ◌++◌, length, drop, Result, Ok, Err, refl, sym, ap, ◌∙◌, arith}
+use Rattle.hprof_values.specs.declared.ids.IdSize.{IdSize}
+use Rattle.hprof_values.specs.declared.entry.Entry.{Entry}
+use Rattle.hprof_values.specs.declared.entry.EntryKind.{EntryKind}
+use Rattle.hprof_values.specs.declared.entry.EntryKind.TheVariants as kinds
+use Rattle.hprof_values.specs.declared.item.Item.{Item}
+use Rattle.hprof_values.specs.declared.stop.Stop.{Stop}
+use Rattle.hprof_values.specs.declared.sub_tag.SubTag.{SubTag}
+use Rattle.hprof_values.specs.declared.sub_tag.SubTag.TheVariants as tags
+use Rattle.hprof_values.specs.Fields.{fields_in, Bounds, ◌>>=◌, reached}
+use Rattle.hprof_values.specs.Entries.{list_in, list_end}
+use Rattle.hprof_values.specs.Item.{bounds_of}
+use Rattle.hprof_values.proofs.FieldGroups.{then_ok, then_next, then_stop, reached_more}
+use Rattle.hprof_items.specs.declared.walk.Walk.{Walk}
+use Rattle.hprof_items.specs.declared.walk.Walk.TheVariants.{Front, Entries}
+use Rattle.hprof_items.specs.AnyFact.{AnyFact}
+use Rattle.hprof_items.specs.ClassDump.{class_widths, class_of, class_at}
+use Rattle.hprof_items.specs.SubRecord.{dump_at, sub_at}
+use Rattle.hprof_items.specs.Walk.{end_of_read, behind, walked, FindsSame, tag_at, begun, class_begun}
+use Rattle.hprof_items.proofs.WalksReads.{tag_more, sub_parts}
+use Rattle.hprof_items.proofs.WalksMore.{count_more}
+use Rattle.hprof_items.proofs.Walks.{later, settled_ok, begun_parts, begun_end, list_there, count_stopped}
+
+-- the end of what comes after a step
+end_then : {A : Type 0} (r : Result A Stop) (next : A → Result (AnyFact × ℕ) Stop) → end_of_read (r >>= next) ≡ (r >>= λ (x : A). end_of_read (next x))
+end_then (Ok x) next = refl
+end_then (Err stop) next = refl
+
+-- steps that answer the same
+then_same : {A : Type 0} (r : Result A Stop) (next other : A → Result ℕ Stop) → ((x : A) → next x ≡ other x) → (r >>= next) ≡ (r >>= other)
+then_same (Ok x) next other same = same x
+then_same (Err stop) next other same = refl
+
+-- the end of an answer that has the end of a step
+end_with : (r : Result ℕ Stop) (fact : AnyFact) → end_of_read (r >>= λ (end : ℕ). Ok (fact, end)) ≡ r
+end_with (Ok end) fact = refl
+end_with (Err stop) fact = refl
+
+-- where a class ends: its fields, and then its lists
+class_parts : (ids : IdSize) (bounds : Bounds) (bytes : List ℕ)
+    → end_of_read (class_at ids bounds bytes) ≡ (reached bounds 1 (class_widths ids) >>= λ (front : ℕ). list_end ids kinds.Constant bounds bytes front >>= behind ids kinds.Constant bounds bytes)
+unfolding class_at
+class_parts ids bounds bytes =
+    let ns = fields_in (class_widths ids) (drop 1 bytes) in
+    let entries : EntryKind → ℕ → List Entry = λ kind at. list_in ids kind bytes at in
+    let ends : EntryKind → ℕ → Result ℕ Stop = λ kind at. list_end ids kind bounds bytes at in
+    let fact : ℕ → ℕ → ℕ → AnyFact = λ front statics fields. class_of ns (entries kinds.Constant front) (entries kinds.Static statics) (entries kinds.Field fields) in
+    let third : ℕ → ℕ → ℕ → Result (AnyFact × ℕ) Stop = λ front statics fields. ends kinds.Field fields >>= λ (end : ℕ). Ok (fact front statics fields, end) in
+    let second : ℕ → ℕ → Result (AnyFact × ℕ) Stop = λ front statics. ends kinds.Static statics >>= third front statics in
+    let first : ℕ → Result (AnyFact × ℕ) Stop = λ front. ends kinds.Constant front >>= second front in
+    end_then (reached bounds 1 (class_widths ids)) first
+    ∙ then_same (reached bounds 1 (class_widths ids)) _ _
+    (λ front. end_then (ends kinds.Constant front) (second front) ∙ then_same (ends kinds.Constant front) _ _
+      (λ statics. end_then (ends kinds.Static statics) (third front statics) ∙ then_same (ends kinds.Static statics) _ _
+        (λ fields. end_with (ends kinds.Field fields) (fact front statics fields))))
+
+-- what is found from the front, behind a tag that is there
+pub front_tagged : (ids : IdSize) (tag : SubTag) (bounds : Bounds) (bytes : List ℕ) → tag_at bounds bytes ≡ Ok tag → walked ids bounds bytes Front ≡ end_of_read (dump_at ids tag bounds bytes)
+unfolding walked
+front_tagged ids tag bounds bytes e =
+    ap end_of_read (sub_parts ids bounds bytes ∙ then_next (tag_at bounds bytes) (λ (tag : SubTag). dump_at ids tag bounds bytes) tag e)
+
+-- a tag that is not there, or none, stops the walk
+pub tag_stopped : (ids : IdSize) (bounds : Bounds) (bytes : List ℕ) (stop : Stop) → tag_at bounds bytes ≡ Err stop → walked ids bounds bytes Front ≡ Err stop
+unfolding walked
+tag_stopped ids bounds bytes stop e =
+    ap end_of_read (sub_parts ids bounds bytes ∙ then_stop (tag_at bounds bytes) (λ (tag : SubTag). dump_at ids tag bounds bytes) stop e)
+
+-- ---- a class
+
+-- a class that was begun is walked on from its first constant
+pub class_entered : (ids : IdSize) (item : Item) (left begin : ℕ) → tag_at (bounds_of item) item.bytes.now ≡ Ok tags.ClassDump
+    → class_begun ids (bounds_of item) item.bytes.now ≡ Ok (Entries kinds.Constant left begin) → FindsSame ids item (Entries kinds.Constant left begin) Front
+unfolding walked
+class_entered ids item left begin tagged e = λ more.
+    let bytes = item.bytes.now ++ more in
+    let longer = later item more in
+    let first = then_ok (reached (bounds_of item) 1 (class_widths ids)) (λ (front : ℕ). begun kinds.Constant (bounds_of item) item.bytes.now front) (Entries kinds.Constant left begin) e in
+    let parts = begun_parts kinds.Constant (bounds_of item) item.bytes.now first.0 left begin first.2 in
+    let tag = settled_ok _ _ tags.ClassDump (tag_more (bounds_of item) item.bytes.now more (omega arith)) tagged in
+    let fields = settled_ok _ _ first.0 (reached_more (bounds_of item) 1 (length more) (class_widths ids)) first.1 in
+    let passed = settled_ok _ _ begin (reached_more (bounds_of item) first.0 (length more) (2 ∷ [])) parts.0 in
+    let count = count_more (bounds_of item) item.bytes.now more first.0 begin (omega arith) parts.0 ∙ parts.1 in
+    let lists : ℕ → Result ℕ Stop = λ front. list_end ids kinds.Constant longer bytes front >>= behind ids kinds.Constant longer bytes in
+    sym (front_tagged ids tags.ClassDump longer bytes tag
+    ∙ class_parts ids longer bytes
+    ∙ then_next (reached longer 1 (class_widths ids)) lists first.0 fields
+    ∙ ap (λ (r : Result ℕ Stop). r >>= behind ids kinds.Constant longer bytes) (begun_end ids kinds.Constant longer bytes first.0 left begin passed count))
+
+-- its first constant begins within the bytes
+pub class_there : (ids : IdSize) (item : Item) (left begin : ℕ) → class_begun ids (bounds_of item) item.bytes.now ≡ Ok (Entries kinds.Constant left begin) → begin ≤ length item.bytes.now
+class_there ids item left begin e =
+    let first = then_ok (reached (bounds_of item) 1 (class_widths ids)) (λ (front : ℕ). begun kinds.Constant (bounds_of item) item.bytes.now front) (Entries kinds.Constant left begin) e in
+    list_there kinds.Constant item first.0 left begin first.2
+
+-- steps that stop, by the first or by what comes after it
+then_either : (r : Result ℕ Stop) (next : ℕ → Result Walk Stop) (other : ℕ → Result ℕ Stop) (stop : Stop) → ((x : ℕ) → next x ≡ Err stop → other x ≡ Err stop)
+    → (r >>= next) ≡ Err stop → (r >>= other) ≡ Err stop
+then_either (Ok x) next other stop h e = h x e
+then_either (Err first) next other stop h e = ap Err (cc)
+
+-- fields or a count that are not there stop the walk
+pub class_stopped : (ids : IdSize) (bounds : Bounds) (bytes : List ℕ) (stop : Stop) → tag_at bounds bytes ≡ Ok tags.ClassDump → class_begun ids bounds bytes ≡ Err stop
+    → walked ids bounds bytes Front ≡ Err stop
+class_stopped ids bounds bytes stop tagged e =
+    let lists : ℕ → Result ℕ Stop = λ front. list_end ids kinds.Constant bounds bytes front >>= behind ids kinds.Constant bounds bytes in
+    front_tagged ids tags.ClassDump bounds bytes tagged
+    ∙ class_parts ids bounds bytes
+    ∙ then_either (reached bounds 1 (class_widths ids)) (begun kinds.Constant bounds bytes) lists stop
+    (λ front none. then_stop (list_end ids kinds.Constant bounds bytes front) (behind ids kinds.Constant bounds bytes) stop (count_stopped ids kinds.Constant bounds bytes front stop none)) e

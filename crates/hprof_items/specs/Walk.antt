@@ -1,0 +1,67 @@
+-- The walk over a sub-record that finds where it ends: it can stop where the bytes end, and go on when more have come.
+use Rattle.std.specs.Prelude.{◌≡◌, ◌==◌, ◌≤◌, ℕ, List, [], ◌∷◌, ◌++◌, length, drop, slice_index, Option, Some, None, Result, Ok, Err, ⊤, if◌then◌else◌}
+use Rattle.byteorder.specs.Endian.{big_number}
+use Rattle.hprof_values.specs.declared.ids.IdSize.{IdSize}
+use Rattle.hprof_values.specs.declared.entry.EntryKind.{EntryKind}
+use Rattle.hprof_values.specs.declared.entry.EntryKind.TheVariants as kinds
+use Rattle.hprof_values.specs.declared.item.Item.{Item}
+use Rattle.hprof_values.specs.declared.stop.Stop.{Stop}
+use Rattle.hprof_values.specs.declared.stop.Stop.TheVariants.{Short}
+use Rattle.hprof_values.specs.declared.sub_tag.SubTag.{SubTag}
+use Rattle.hprof_values.specs.Fields.{Bounds, ◌>>=◌, reached, with_more}
+use Rattle.hprof_values.specs.Entries.{entries_end, list_end}
+use Rattle.hprof_values.specs.Item.{bounds_of}
+use Rattle.hprof_values.specs.SubTag.{tag_of_code}
+use Rattle.hprof_items.specs.declared.walk.Walk.{Walk}
+use Rattle.hprof_items.specs.declared.walk.Walk.TheVariants.{Front, Entries}
+use Rattle.hprof_items.specs.AnyFact.{AnyFact}
+use Rattle.hprof_items.specs.ClassDump.{class_widths}
+use Rattle.hprof_items.specs.SubRecord.{judged_tag, sub_at}
+
+-- the end, without the fact
+abbrev pub end_of_read : Result (AnyFact × ℕ) Stop → Result ℕ Stop
+end_of_read (Ok read) = Ok read.1
+end_of_read (Err stop) = Err stop
+
+-- where the lists end that stand behind one of that kind
+abbrev pub behind : IdSize → EntryKind → Bounds → List ℕ → ℕ → Result ℕ Stop
+behind ids kinds.Field bounds bytes at = Ok at
+behind ids kinds.Static bounds bytes at = list_end ids kinds.Field bounds bytes at
+behind ids kinds.Constant bounds bytes at = list_end ids kinds.Static bounds bytes at >>= λ end. list_end ids kinds.Field bounds bytes end
+
+-- where the sub-record ends, from as far as it was walked
+unfoldable pub walked : IdSize → Bounds → List ℕ → Walk → Result ℕ Stop
+walked ids bounds bytes Front = end_of_read (sub_at ids bounds bytes)
+walked ids bounds bytes (Entries kind left at) = entries_end ids kind bounds bytes left at >>= λ end. behind ids kind bounds bytes end
+
+-- it was walked no further than the bytes that are there
+abbrev pub IsPlaced : Item → Walk → Type 0
+IsPlaced item Front = ⊤
+IsPlaced item (Entries kind left at) = at ≤ length item.bytes.now
+
+-- what the walk finds is what another finds, also when more bytes have come
+abbrev pub FindsSame : IdSize → Item → Walk → Walk → Type 0
+FindsSame ids item walk other =
+    (more : List ℕ) → walked ids (with_more (bounds_of item) (length more)) (item.bytes.now ++ more) walk
+    ≡ walked ids (with_more (bounds_of item) (length more)) (item.bytes.now ++ more) other
+
+-- ---- the steps of a walk
+
+-- the tag at the front
+abbrev pub tag_at : Bounds → List ℕ → Result SubTag Stop
+tag_at bounds bytes =
+    (if bounds.there == 0 then Err Short else reached bounds 0 (1 ∷ [])) >>= λ front. judged_tag (tag_of_code (slice_index bytes 0))
+
+-- the list behind one of that kind
+abbrev pub next_kind : EntryKind → Option EntryKind
+next_kind kinds.Constant = Some kinds.Static
+next_kind kinds.Static = Some kinds.Field
+next_kind kinds.Field = None
+
+-- the walk at the first entry of the list whose count stands there
+abbrev pub begun : EntryKind → Bounds → List ℕ → ℕ → Result Walk Stop
+begun kind bounds bytes at = reached bounds at (2 ∷ []) >>= λ begin. Ok (Entries kind (big_number 2 (drop at bytes)) begin)
+
+-- the walk at the first constant of a class, from behind its tag
+abbrev pub class_begun : IdSize → Bounds → List ℕ → Result Walk Stop
+class_begun ids bounds bytes = reached bounds 1 (class_widths ids) >>= λ front. begun kinds.Constant bounds bytes front
