@@ -152,3 +152,29 @@ list_stopped ids kind next bounds bytes at stop behind_it e =
 pub lists_done : (ids : IdSize) (kind : EntryKind) (bounds : Bounds) (bytes : List ℕ) (at : ℕ) → next_kind kind ≡ None → walked ids bounds bytes (Entries kind 0 at) ≡ Ok at
 unfolding walked
 lists_done ids kind bounds bytes at none = behind_none ids kind bounds bytes at none
+
+-- how many lists are behind one
+abbrev pub lists_behind : EntryKind → ℕ
+lists_behind kinds.Constant = 2
+lists_behind kinds.Static = 1
+lists_behind kinds.Field = 0
+
+pub fewer_behind : (kind next : EntryKind) → next_kind kind ≡ Some next → lists_behind next < lists_behind kind
+fewer_behind kinds.Constant next e = let same : kinds.Static ≡ next = cc in rw (← same) (omega arith)
+fewer_behind kinds.Static next e = let same : kinds.Field ≡ next = cc in rw (← same) (omega arith)
+fewer_behind kinds.Field next e = absurd cc
+
+-- ---- one walk after another
+
+-- an answer from as far as was walked, by what was told of that walk
+pub answer_by : (ids : IdSize) (item : Item) (walk told between other : Walk) (answer : Result ℕ Stop) → walk ≡ told → walked ids (bounds_of item) item.bytes.now told ≡ answer
+    → FindsSame ids item walk between → FindsSame ids item between other → answer ≡ walked ids (bounds_of item) item.bytes.now other
+answer_by ids item walk told between other answer is found first second =
+    sym found ∙ ap (walked ids (bounds_of item) item.bytes.now) (sym is) ∙ found_now ids item walk between first ∙ found_now ids item between other second
+
+-- a list that was begun behind the entries that were passed
+pub list_after : (ids : IdSize) (kind next : EntryKind) (item : Item) (at left begin : ℕ) (walk between other : Walk) → next_kind kind ≡ Some next
+    → begun next (bounds_of item) item.bytes.now at ≡ Ok (Entries next left begin) → walk ≡ Entries kind 0 at → FindsSame ids item walk between → FindsSame ids item between other
+    → FindsSame ids item (Entries next left begin) other
+list_after ids kind next item at left begin walk between other behind_it e is first second = λ more.
+    list_begun ids kind next item at left begin behind_it e more ∙ ap (walked ids (later item more) (item.bytes.now ++ more)) (sym is) ∙ first more ∙ second more
