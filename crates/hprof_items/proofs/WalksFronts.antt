@@ -1,5 +1,5 @@
 -- A walk from the front of a sub-record, and how it comes to the lists of a class.
-use Rattle.std.proofs.Common.{◌≡◌, ℕ, ◌+◌, ◌≤◌, List, [], ◌∷◌, ◌++◌, length, drop, Result, Ok, Err, refl, sym, ap, ◌∙◌, arith}
+use Rattle.std.proofs.Common.{◌≡◌, ℕ, ◌+◌, ◌≤◌, List, [], ◌∷◌, ◌++◌, length, drop, Result, Ok, Err, IfErr, refl, sym, ap, ◌∙◌, arith}
 use Rattle.hprof_values.specs.declared.ids.IdSize.{IdSize}
 use Rattle.hprof_values.specs.declared.entry.Entry.{Entry}
 use Rattle.hprof_values.specs.declared.entry.EntryKind.{EntryKind}
@@ -17,10 +17,10 @@ use Rattle.hprof_items.specs.declared.walk.Walk.TheVariants.{Front, Entries}
 use Rattle.hprof_items.specs.AnyFact.{AnyFact}
 use Rattle.hprof_items.specs.ClassDump.{class_widths, class_of, class_at}
 use Rattle.hprof_items.specs.SubRecord.{dump_at, sub_at}
-use Rattle.hprof_items.specs.Walk.{end_of_read, behind, walked, FindsSame, tag_at, begun, class_begun}
+use Rattle.hprof_items.specs.Walk.{end_of_read, behind, walked, FindsSame, StopsAt, tag_at, begun, class_begun}
 use Rattle.hprof_items.proofs.WalksReads.{tag_more, sub_parts}
 use Rattle.hprof_items.proofs.WalksMore.{count_more}
-use Rattle.hprof_items.proofs.Walks.{later, settled_ok, begun_parts, begun_end, list_there, count_stopped}
+use Rattle.hprof_items.proofs.Walks.{later, settled_ok, begun_parts, begun_end, count_stopped}
 
 -- the end of what comes after a step
 end_then : {A : Type 0} (r : Result A Stop) (next : A → Result (AnyFact × ℕ) Stop) → end_of_read (r >>= next) ≡ (r >>= λ (x : A). end_of_read (next x))
@@ -52,8 +52,8 @@ class_parts ids bounds bytes =
     end_then (reached bounds 1 (class_widths ids)) first
     ∙ then_same (reached bounds 1 (class_widths ids)) _ _
     (λ front. end_then (ends kinds.Constant front) (second front) ∙ then_same (ends kinds.Constant front) _ _
-      (λ statics. end_then (ends kinds.Static statics) (third front statics) ∙ then_same (ends kinds.Static statics) _ _
-        (λ fields. end_with (ends kinds.Field fields) (fact front statics fields))))
+    (λ statics. end_then (ends kinds.Static statics) (third front statics) ∙ then_same (ends kinds.Static statics) _ _
+    (λ fields. end_with (ends kinds.Field fields) (fact front statics fields))))
 
 -- what is found from the front, behind a tag that is there
 pub front_tagged : (ids : IdSize) (tag : SubTag) (bounds : Bounds) (bytes : List ℕ) → tag_at bounds bytes ≡ Ok tag → walked ids bounds bytes Front ≡ end_of_read (dump_at ids tag bounds bytes)
@@ -88,12 +88,6 @@ class_entered ids item left begin tagged e = λ more.
     ∙ then_next (reached longer 1 (class_widths ids)) lists first.0 fields
     ∙ ap (λ (r : Result ℕ Stop). r >>= behind ids kinds.Constant longer bytes) (begun_end ids kinds.Constant longer bytes first.0 left begin passed count))
 
--- its first constant begins within the bytes
-pub class_there : (ids : IdSize) (item : Item) (left begin : ℕ) → class_begun ids (bounds_of item) item.bytes.now ≡ Ok (Entries kinds.Constant left begin) → begin ≤ length item.bytes.now
-class_there ids item left begin e =
-    let first = then_ok (reached (bounds_of item) 1 (class_widths ids)) (λ (front : ℕ). begun kinds.Constant (bounds_of item) item.bytes.now front) (Entries kinds.Constant left begin) e in
-    list_there kinds.Constant item first.0 left begin first.2
-
 -- steps that stop, by the first or by what comes after it
 then_either : (r : Result ℕ Stop) (next : ℕ → Result Walk Stop) (other : ℕ → Result ℕ Stop) (stop : Stop) → ((x : ℕ) → next x ≡ Err stop → other x ≡ Err stop)
     → (r >>= next) ≡ Err stop → (r >>= other) ≡ Err stop
@@ -109,3 +103,9 @@ class_stopped ids bounds bytes stop tagged e =
     ∙ class_parts ids bounds bytes
     ∙ then_either (reached bounds 1 (class_widths ids)) (begun kinds.Constant bounds bytes) lists stop
     (λ front none. then_stop (list_end ids kinds.Constant bounds bytes front) (behind ids kinds.Constant bounds bytes) stop (count_stopped ids kinds.Constant bounds bytes front stop none)) e
+
+-- what is no class is tested at once
+pub tested_at_once : (ids : IdSize) (item : Item) (tag : SubTag) (answer : Result ℕ Stop) → tag_at (bounds_of item) item.bytes.now ≡ Ok tag → (tag ≡ tags.ClassDump → ⊥)
+    → IfErr answer (StopsAt ids item Front)
+tested_at_once ids item tag (Ok end) tagged other = tt
+tested_at_once ids item tag (Err stop) tagged other = λ class. let same : tag ≡ tags.ClassDump = cc in absurd (other same)

@@ -77,11 +77,11 @@ entry_more ids kind bounds bytes more at there =
     (λ (front : ℕ). typed bytes >>= valued bounds front) (λ (front : ℕ). typed (bytes ++ more) >>= valued longer front)
     (reached_more bounds at (length more) (lead ∷ 1 ∷ []))
     (λ front passed.
-      let lies = reached_passed bounds at lead (1 ∷ []) front passed in
-      let code = byte_more bytes more (at + lead) (omega (arith, lies.0, lies.1.there, sum_widths lead (1 ∷ []), sum_widths 1 [])) in
-      then_more (typed bytes) (typed (bytes ++ more)) (valued bounds front) (valued longer front)
-      (inr (ap (λ (c : ℕ). judged_type (basic_of_code c)) code))
-      (λ basic. reached_more bounds front (length more) (bits_width ids kind basic ∷ [])))
+    let lies = reached_passed bounds at lead (1 ∷ []) front passed in
+    let code = byte_more bytes more (at + lead) (omega (arith, lies.0, lies.1.there, sum_widths lead (1 ∷ []), sum_widths 1 [])) in
+    then_more (typed bytes) (typed (bytes ++ more)) (valued bounds front) (valued longer front)
+    (inr (ap (λ (c : ℕ). judged_type (basic_of_code c)) code))
+    (λ basic. reached_more bounds front (length more) (bits_width ids kind basic ∷ [])))
 
 -- where so many entries end
 pub entries_more : (ids : IdSize) (kind : EntryKind) (bounds : Bounds) (bytes more : List ℕ) (count at : ℕ) → bounds.there ≤ length bytes
@@ -112,10 +112,10 @@ list_more ids kind bounds bytes more at there =
     (ends bounds bytes (count bytes)) (ends longer (bytes ++ more) (count (bytes ++ more)))
     (reached_more bounds at (length more) (2 ∷ []))
     (λ begin passed.
-      elim (entries_more ids kind bounds bytes more (count bytes) begin there) [
-        | inl short ↦ inl short
-        | inr same ↦ inr (ap (λ (n : ℕ). ends longer (bytes ++ more) n begin) (count_more bounds bytes more at begin there passed) ∙ same)
-      ])
+    elim (entries_more ids kind bounds bytes more (count bytes) begin there) [
+      | inl short ↦ inl short
+      | inr same ↦ inr (ap (λ (n : ℕ). ends longer (bytes ++ more) n begin) (count_more bounds bytes more at begin there passed) ∙ same)
+    ])
 
 -- ---- the entries themselves
 

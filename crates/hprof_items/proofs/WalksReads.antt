@@ -59,8 +59,8 @@ raw_more bounds bytes more len front fact there =
     then_more_at (reached bounds front (len ∷ [])) (reached (with_more bounds (length more)) front (len ∷ []))
     (answer (cut len front bytes)) (answer (cut len front (bytes ++ more))) (reached_more bounds front (length more) (len ∷ []))
     (λ end passed.
-      let lies = reached_passed bounds front len [] end passed in
-      inr (ap (λ (raw : List ℕ). answer raw end) (cut_more len front bytes more (omega (arith, lies.0, lies.1.there, sum_widths len [])))))
+    let lies = reached_passed bounds front len [] end passed in
+    inr (ap (λ (raw : List ℕ). answer raw end) (cut_more len front bytes more (omega (arith, lies.0, lies.1.there, sum_widths len [])))))
 
 -- ---- the sub-records
 
@@ -105,9 +105,9 @@ prim_array_more ids bounds bytes more there =
     front_more bounds (prim_array_widths ids) bytes more
     (λ (ns : List ℕ) (front : ℕ). elem_of ns >>= valued bounds bytes ns front) (λ (ns : List ℕ) (front : ℕ). elem_of ns >>= valued longer (bytes ++ more) ns front) there
     (λ front.
-      let ns = fields_in (prim_array_widths ids) (drop 1 bytes) in
-      then_more (elem_of ns) (elem_of ns) (valued bounds bytes ns front) (valued longer (bytes ++ more) ns front) (inr refl)
-      (λ elem. raw_more bounds bytes more (len ns elem) front (fact ns elem) there))
+    let ns = fields_in (prim_array_widths ids) (drop 1 bytes) in
+    then_more (elem_of ns) (elem_of ns) (valued bounds bytes ns front) (valued longer (bytes ++ more) ns front) (inr refl)
+    (λ elem. raw_more bounds bytes more (len ns elem) front (fact ns elem) there))
 
 -- a list of entries, and what rests on them
 list_step : (ids : IdSize) (kind : EntryKind) (bounds : Bounds) (bytes more : List ℕ) (at : ℕ) (next later : List Entry → ℕ → Result (AnyFact × ℕ) Stop) → bounds.there ≤ length bytes
@@ -133,11 +133,11 @@ class_more ids bounds bytes more there =
     λ limits all ns at. list_end ids kinds.Constant limits all at >>= second limits all ns (list_in ids kinds.Constant all at) in
     front_more bounds (class_widths ids) bytes more (first bounds bytes) (first longer (bytes ++ more)) there
     (λ front.
-      let ns = fields_in (class_widths ids) (drop 1 bytes) in
-      list_step ids kinds.Constant bounds bytes more front (second bounds bytes ns) (second longer (bytes ++ more) ns) there
-      (λ constants statics.
-        list_step ids kinds.Static bounds bytes more statics (third bounds bytes ns constants) (third longer (bytes ++ more) ns constants) there
-        (λ entries fields. list_step ids kinds.Field bounds bytes more fields (last ns constants entries) (last ns constants entries) there (λ own end. inr refl))))
+    let ns = fields_in (class_widths ids) (drop 1 bytes) in
+    list_step ids kinds.Constant bounds bytes more front (second bounds bytes ns) (second longer (bytes ++ more) ns) there
+    (λ constants statics.
+    list_step ids kinds.Static bounds bytes more statics (third bounds bytes ns constants) (third longer (bytes ++ more) ns constants) there
+    (λ entries fields. list_step ids kinds.Field bounds bytes more fields (last ns constants entries) (last ns constants entries) there (λ own end. inr refl))))
 
 dump_more : (ids : IdSize) (tag : SubTag) (bounds : Bounds) (bytes more : List ℕ) → bounds.there ≤ length bytes
     → IsSettled (dump_at ids tag bounds bytes) (dump_at ids tag (with_more bounds (length more)) (bytes ++ more))
@@ -171,9 +171,9 @@ tag_more bounds bytes more there =
     (λ (front : ℕ). tag_of bytes) (λ (front : ℕ). tag_of (bytes ++ more))
     (some_more _ _ _ _ (still_some bounds.there (length more)) (reached_more bounds 0 (length more) (1 ∷ [])))
     (λ front passed.
-      let lies = reached_passed bounds 0 1 [] front (behind_test (bounds.there == 0) _ front passed) in
-      let code = byte_more bytes more 0 (omega (arith, lies.0, lies.1.there, sum_widths 1 [])) in
-      inr (ap (λ (c : ℕ). judged_tag (tag_of_code c)) code))
+    let lies = reached_passed bounds 0 1 [] front (behind_test (bounds.there == 0) _ front passed) in
+    let code = byte_more bytes more 0 (omega (arith, lies.0, lies.1.there, sum_widths 1 [])) in
+    inr (ap (λ (c : ℕ). judged_tag (tag_of_code c)) code))
 
 -- steps may be put together in either way
 then_then : {A B C : Type 0} (r : Result A Stop) (s : Result B Stop) (next : B → Result C Stop) → (r >>= λ (x : A). s >>= next) ≡ ((r >>= λ (x : A). s) >>= next)

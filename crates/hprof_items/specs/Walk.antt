@@ -1,5 +1,5 @@
 -- The walk over a sub-record that finds where it ends: it can stop where the bytes end, and go on when more have come.
-use Rattle.std.specs.Prelude.{◌≡◌, ◌==◌, ◌≤◌, ℕ, List, [], ◌∷◌, ◌++◌, length, drop, slice_index, Option, Some, None, Result, Ok, Err, ⊤, if◌then◌else◌}
+use Rattle.std.specs.Prelude.{◌≡◌, ◌==◌, ◌≤◌, ℕ, zero, suc, List, [], ◌∷◌, ◌++◌, length, drop, slice_index, Option, Some, None, MatchOption, Result, Ok, Err, ⊤, if◌then◌else◌}
 use Rattle.byteorder.specs.Endian.{big_number}
 use Rattle.hprof_values.specs.declared.ids.IdSize.{IdSize}
 use Rattle.hprof_values.specs.declared.entry.EntryKind.{EntryKind}
@@ -8,8 +8,9 @@ use Rattle.hprof_values.specs.declared.item.Item.{Item}
 use Rattle.hprof_values.specs.declared.stop.Stop.{Stop}
 use Rattle.hprof_values.specs.declared.stop.Stop.TheVariants.{Short}
 use Rattle.hprof_values.specs.declared.sub_tag.SubTag.{SubTag}
+use Rattle.hprof_values.specs.declared.sub_tag.SubTag.TheVariants as tags
 use Rattle.hprof_values.specs.Fields.{Bounds, ◌>>=◌, reached, with_more}
-use Rattle.hprof_values.specs.Entries.{entries_end, list_end}
+use Rattle.hprof_values.specs.Entries.{entry_end, entries_end, list_end}
 use Rattle.hprof_values.specs.Item.{bounds_of}
 use Rattle.hprof_values.specs.SubTag.{tag_of_code}
 use Rattle.hprof_items.specs.declared.walk.Walk.{Walk}
@@ -65,3 +66,10 @@ begun kind bounds bytes at = reached bounds at (2 ∷ []) >>= λ begin. Ok (Entr
 -- the walk at the first constant of a class, from behind its tag
 abbrev pub class_begun : IdSize → Bounds → List ℕ → Result Walk Stop
 class_begun ids bounds bytes = reached bounds 1 (class_widths ids) >>= λ front. begun kinds.Constant bounds bytes front
+
+-- what the walk comes to next stops it so: an entry, the count of a list, or the fields of a class with the count of
+-- its constants; what else there may be at the front is tested at once
+abbrev pub StopsAt : IdSize → Item → Walk → Stop → Type 0
+StopsAt ids item Front stop = tag_at (bounds_of item) item.bytes.now ≡ Ok tags.ClassDump → class_begun ids (bounds_of item) item.bytes.now ≡ Err stop
+StopsAt ids item (Entries kind zero at) stop = MatchOption (next_kind kind) ⊥ (λ next. begun next (bounds_of item) item.bytes.now at ≡ Err stop)
+StopsAt ids item (Entries kind (suc left) at) stop = entry_end ids kind (bounds_of item) item.bytes.now at ≡ Err stop

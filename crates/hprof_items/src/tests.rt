@@ -3,6 +3,7 @@ ghost use Rattle.hprof_items.specs.Spelling.{longest_body};
 ghost use Rattle.hprof_items.specs.Reading.{IsRightHead};
 
 mod items;
+mod walks;
 
 use super::*;
 use std::io;

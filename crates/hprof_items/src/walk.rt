@@ -1,11 +1,11 @@
 //! Where a sub-record ends, by a walk that can stop where the bytes end and go on when more have come.
 
-ghost use Rattle.std.specs.Prelude.{◌≡◌, ◌≢◌, ◌≤◌, ◌++◌, ℕ, List, length, MatchResult, Ok, Err};
+ghost use Rattle.std.specs.Prelude.{◌≡◌, ◌≢◌, ◌≤◌, ◌++◌, ℕ, List, length, IfErr, MatchResult, Ok, Err};
 ghost use Rattle.hprof_values.specs.declared.entry.EntryKind.TheVariants as kinds;
 ghost use Rattle.hprof_values.specs.Fields.{with_more};
 ghost use Rattle.hprof_values.specs.Item.{bounds_of};
 ghost use Rattle.hprof_items.specs.SubRecord.{dump_at};
-ghost use Rattle.hprof_items.specs.Walk.{end_of_read, walked, IsPlaced, FindsSame, tag_at, next_kind, begun, class_begun};
+ghost use Rattle.hprof_items.specs.Walk.{end_of_read, walked, IsPlaced, FindsSame, StopsAt, tag_at, next_kind, begun, class_begun};
 
 use crate::object_reading::{read_instance, read_obj_array, read_prim_array};
 use crate::root_reading::read_root;
@@ -41,6 +41,7 @@ fn pass_entries(
     ensures kept { FindsSame ids item.now result.0 (Walk.Entries kind left at) }
     ensures answer { MatchResult result.1 (λ end. result.0 ≡ Walk.Entries kind 0 end)
         (λ stop. walked ids (bounds_of item.now) item.now.bytes.now result.0 ≡ Err stop) }
+    ensures stands { IfErr result.1 (StopsAt ids item.now result.0) }
 {
     while left > 0 {
         match entry_end(item, at, kind, ids) {
@@ -66,11 +67,7 @@ fn next_kind(kind: EntryKind) -> Option<EntryKind>
 }
 
 /// The count of entries that stands there, and where the first of them begins.
-fn begin_list(
-    item: &Item<'_>,
-    kind: EntryKind,
-    at: usize,
-) -> Result<(usize, usize), Stop>
+fn begin_list(item: &Item<'_>, kind: EntryKind, at: usize) -> Result<(usize, usize), Stop>
     requires { at ≤ length item.now.bytes.now }
     ensures { MatchResult result
         (λ list. begun kind (bounds_of item.now) item.now.bytes.now at ≡ Ok (Walk.Entries kind list.0 list.1))
@@ -93,6 +90,7 @@ fn pass_lists(
     ensures placed { IsPlaced item.now result.0 }
     ensures kept { FindsSame ids item.now result.0 (Walk.Entries kind left at) }
     ensures end { result.1 ≡ walked ids (bounds_of item.now) item.now.bytes.now (Walk.Entries kind left at) }
+    ensures stands { IfErr result.1 (StopsAt ids item.now result.0) }
 {
     loop {
         let (walk, passed) = pass_entries(item, ids, kind, left, at);
@@ -155,13 +153,17 @@ fn pass_front(item: &Item<'_>, ids: IdSize) -> (Walk, Result<usize, Stop>)
     ensures placed { IsPlaced item.now result.0 }
     ensures kept { FindsSame ids item.now result.0 Walk.Front }
     ensures end { result.1 ≡ walked ids (bounds_of item.now) item.now.bytes.now Walk.Front }
+    ensures stands { IfErr result.1 (StopsAt ids item.now result.0) }
 {
-    match tag_at(item) {
-        Ok(SubTag::ClassDump) => match begin_class(item, ids) {
-            Ok((left, at)) => pass_lists(item, ids, EntryKind::Constant, left, at),
-            Err(stop) => (Walk::Front, Err(stop)),
-        },
-        Ok(tag) => (Walk::Front, short_end(item, tag, ids)),
+    let tag = match tag_at(item) {
+        Ok(tag) => tag,
+        Err(stop) => return (Walk::Front, Err(stop)),
+    };
+    let SubTag::ClassDump = tag else {
+        return (Walk::Front, short_end(item, tag, ids));
+    };
+    match begin_class(item, ids) {
+        Ok((left, at)) => pass_lists(item, ids, EntryKind::Constant, left, at),
         Err(stop) => (Walk::Front, Err(stop)),
     }
 }
@@ -174,6 +176,7 @@ pub fn go_on(item: &Item<'_>, ids: IdSize, walk: Walk) -> (Walk, Result<usize, S
     ensures placed { IsPlaced item.now result.0 }
     ensures kept { (more : List ℕ) → walked ids (with_more (bounds_of item.now) (length more)) (item.now.bytes.now ++ more) result.0
         ≡ walked ids (with_more (bounds_of item.now) (length more)) (item.now.bytes.now ++ more) walk }
+    ensures stands { IfErr result.1 (StopsAt ids item.now result.0) }
 {
     match walk {
         Walk::Front => pass_front(item, ids),

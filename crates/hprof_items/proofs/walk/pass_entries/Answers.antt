@@ -3,7 +3,7 @@ use Rattle.hprof_items.proofs.Walks.{entry_passed, entry_there, entry_stopped}
 use Rattle.hprof_items.proofs.walk.pass_entries.Goals as goal
 
 pub loop-left-preserved : goal.loop-left-preserved
-loop-left-preserved c = 
+loop-left-preserved c =
     let passed = sym c.in-Ok.ensures in
     record {
       placed = entry_there c.args.ids c.args.kind c.args.item.now c.loop-left.at c.in-Ok.end passed;
