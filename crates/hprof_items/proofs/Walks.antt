@@ -13,8 +13,8 @@ use Rattle.hprof_values.specs.Item.{bounds_of}
 use Rattle.hprof_values.proofs.FieldGroups.{sum_widths, then_ok, then_next, then_stop, reached_passed, reached_more}
 use Rattle.hprof_items.specs.declared.walk.Walk.{Walk}
 use Rattle.hprof_items.specs.declared.walk.Walk.TheVariants.{Front, Entries}
-use Rattle.hprof_items.specs.Walk.{behind, walked, IsPlaced, FindsSame, next_kind, begun, class_begun}
-use Rattle.hprof_items.proofs.WalksMore.{IsSettled, entry_more, entry_lies, count_more}
+use Rattle.hprof_items.specs.Walk.{behind, walked, IsPlaced, FindsSame, next_kind, count_at}
+use Rattle.hprof_items.proofs.WalksMore.{IsSettled, then_more_at, entry_more, entry_lies, count_more}
 
 -- the bounds of the item when so many more bytes have come
 abbrev pub later : Item → List ℕ → Bounds
@@ -24,6 +24,10 @@ later item more = with_more (bounds_of item) (length more)
 pub settled_ok : {A : Type 0} (r s : Result A Stop) (x : A) → IsSettled r s → r ≡ Ok x → s ≡ Ok x
 settled_ok r s x (inl short) e = absurd cc
 settled_ok r s x (inr same) e = same ∙ e
+
+-- an answer that went well is one value
+same_ok : {A : Type 0} (r : Result A Stop) (x y : A) → r ≡ Ok x → r ≡ Ok y → x ≡ y
+same_ok r x y e f = cc
 
 -- what is found when no more bytes have come
 nothing_more : (ids : IdSize) (item : Item) (walk : Walk) → walked ids (later item []) (item.bytes.now ++ []) walk ≡ walked ids (bounds_of item) item.bytes.now walk
@@ -96,57 +100,53 @@ behind_none ids kinds.Constant bounds bytes at e = absurd cc
 behind_none ids kinds.Static bounds bytes at e = absurd cc
 behind_none ids kinds.Field bounds bytes at e = refl
 
--- a list that was begun ends where its entries do
-pub begun_parts : (kind : EntryKind) (bounds : Bounds) (bytes : List ℕ) (at left begin : ℕ) → begun kind bounds bytes at ≡ Ok (Entries kind left begin)
-    → (reached bounds at (2 ∷ []) ≡ Ok begin) × (big_number 2 (drop at bytes) ≡ left)
-begun_parts kind bounds bytes at left begin e =
-    let first = then_ok (reached bounds at (2 ∷ [])) (λ (front : ℕ). Ok (Entries kind (big_number 2 (drop at bytes)) front)) (Entries kind left begin) e in
-    let same : first.0 ≡ begin = (let h = first.2 in cc) in
-    (first.1 ∙ ap Ok same, (let h = first.2 in cc))
+-- what is found from the first entry of a list
+abbrev pub listed : IdSize → EntryKind → Bounds → List ℕ → (ℕ × ℕ) → Result ℕ Stop
+listed ids kind bounds bytes list = entries_end ids kind bounds bytes list.0 list.1 >>= behind ids kind bounds bytes
 
-pub begun_end : (ids : IdSize) (kind : EntryKind) (bounds : Bounds) (bytes : List ℕ) (at left begin : ℕ) → reached bounds at (2 ∷ []) ≡ Ok begin → big_number 2 (drop at bytes) ≡ left
-    → list_end ids kind bounds bytes at ≡ entries_end ids kind bounds bytes left begin
+-- a list ends behind its count where its entries do
+counted : (ids : IdSize) (kind : EntryKind) (bounds : Bounds) (bytes : List ℕ) (count : ℕ) (r : Result ℕ Stop)
+    → ((r >>= λ (begin : ℕ). entries_end ids kind bounds bytes count begin) >>= behind ids kind bounds bytes) ≡ ((r >>= λ (begin : ℕ). Ok (count, begin)) >>= listed ids kind bounds bytes)
+counted ids kind bounds bytes count (Ok begin) = refl
+counted ids kind bounds bytes count (Err stop) = refl
+
+pub list_counted : (ids : IdSize) (kind : EntryKind) (bounds : Bounds) (bytes : List ℕ) (at : ℕ)
+    → (list_end ids kind bounds bytes at >>= behind ids kind bounds bytes) ≡ (count_at bounds bytes at >>= listed ids kind bounds bytes)
 unfolding list_end
-begun_end ids kind bounds bytes at left begin passed count =
-    then_next (reached bounds at (2 ∷ [])) (λ (front : ℕ). entries_end ids kind bounds bytes (big_number 2 (drop at bytes)) front) begin passed
-    ∙ ap (λ (n : ℕ). entries_end ids kind bounds bytes n begin) count
+list_counted ids kind bounds bytes at = counted ids kind bounds bytes (big_number 2 (drop at bytes)) (reached bounds at (2 ∷ []))
 
--- a list that was begun, with a count that is there
-pub list_begun : (ids : IdSize) (kind next : EntryKind) (item : Item) (at left begin : ℕ) → next_kind kind ≡ Some next
-    → begun next (bounds_of item) item.bytes.now at ≡ Ok (Entries next left begin) → FindsSame ids item (Entries next left begin) (Entries kind 0 at)
+-- the count of a list when more bytes have come
+pub count_settled : (bounds : Bounds) (bytes more : List ℕ) (at : ℕ) → bounds.there ≤ length bytes → IsSettled (count_at bounds bytes at) (count_at (with_more bounds (length more)) (bytes ++ more) at)
+count_settled bounds bytes more at there =
+    let answer : ℕ → ℕ → Result (ℕ × ℕ) Stop = λ count begin. Ok (count, begin) in
+    let count : List ℕ → ℕ = λ all. big_number 2 (drop at all) in
+    then_more_at (reached bounds at (2 ∷ [])) (reached (with_more bounds (length more)) at (2 ∷ [])) (answer (count bytes)) (answer (count (bytes ++ more)))
+    (reached_more bounds at (length more) (2 ∷ [])) (λ begin passed. inr (ap (λ (n : ℕ). answer n begin) (count_more bounds bytes more at begin there passed)))
+
+-- a list whose count is there
+list_begun : (ids : IdSize) (kind next : EntryKind) (item : Item) (at left begin : ℕ) → next_kind kind ≡ Some next → count_at (bounds_of item) item.bytes.now at ≡ Ok (left, begin)
+    → FindsSame ids item (Entries next left begin) (Entries kind 0 at)
 unfolding walked
 list_begun ids kind next item at left begin behind_it e = λ more.
     let bytes = item.bytes.now ++ more in
-    let parts = begun_parts next (bounds_of item) item.bytes.now at left begin e in
-    let passed = settled_ok _ _ begin (reached_more (bounds_of item) at (length more) (2 ∷ [])) parts.0 in
-    let count = count_more (bounds_of item) item.bytes.now more at begin (omega arith) parts.0 ∙ parts.1 in
-    sym (behind_next ids kind next (later item more) bytes at behind_it
-    ∙ ap (λ (r : Result ℕ Stop). r >>= behind ids next (later item more) bytes) (begun_end ids next (later item more) bytes at left begin passed count))
+    let count = settled_ok _ _ (left, begin) (count_settled (bounds_of item) item.bytes.now more at (omega arith)) e in
+    sym (behind_next ids kind next (later item more) bytes at behind_it ∙ list_counted ids next (later item more) bytes at
+    ∙ then_next (count_at (later item more) bytes at) (listed ids next (later item more) bytes) (left, begin) count)
 
 -- and its first entry begins within the bytes
-pub list_there : (kind : EntryKind) (item : Item) (at left begin : ℕ) → begun kind (bounds_of item) item.bytes.now at ≡ Ok (Entries kind left begin)
-    → begin ≤ length item.bytes.now
-list_there kind item at left begin e =
-    let parts = begun_parts kind (bounds_of item) item.bytes.now at left begin e in
-    (reached_passed (bounds_of item) at 2 [] begin parts.0).1.there
-
--- a step that stopped, where the next one would have gone well
-then_stopped : {A B : Type 0} (r : Result A Stop) (answer : A → B) (stop : Stop) → (r >>= λ (x : A). Ok (answer x)) ≡ Err stop → r ≡ Err stop
-then_stopped (Ok x) answer stop e = absurd cc
-then_stopped (Err other) answer stop e = ap Err (cc)
+pub list_there : (item : Item) (at left begin : ℕ) → count_at (bounds_of item) item.bytes.now at ≡ Ok (left, begin) → begin ≤ length item.bytes.now
+list_there item at left begin e =
+    let first = then_ok (reached (bounds_of item) at (2 ∷ [])) (λ (front : ℕ). Ok (big_number 2 (drop at item.bytes.now), front)) (left, begin) e in
+    let count = big_number 2 (drop at item.bytes.now) in
+    let is : first.0 ≡ begin = ap (λ (list : ℕ × ℕ). list.1) (same_ok (Ok (count, first.0)) (count, first.0) (left, begin) refl first.2) in
+    omega (arith, is, (reached_passed (bounds_of item) at 2 [] first.0 first.1).1.there)
 
 -- a count that is not there stops the walk
-pub count_stopped : (ids : IdSize) (kind : EntryKind) (bounds : Bounds) (bytes : List ℕ) (at : ℕ) (stop : Stop) → begun kind bounds bytes at ≡ Err stop → list_end ids kind bounds bytes at ≡ Err stop
-unfolding list_end
-count_stopped ids kind bounds bytes at stop e =
-    let first = then_stopped (reached bounds at (2 ∷ [])) (λ (begin : ℕ). Entries kind (big_number 2 (drop at bytes)) begin) stop e in
-    then_stop (reached bounds at (2 ∷ [])) (λ (begin : ℕ). entries_end ids kind bounds bytes (big_number 2 (drop at bytes)) begin) stop first
-
 pub list_stopped : (ids : IdSize) (kind next : EntryKind) (bounds : Bounds) (bytes : List ℕ) (at : ℕ) (stop : Stop) → next_kind kind ≡ Some next
-    → begun next bounds bytes at ≡ Err stop → walked ids bounds bytes (Entries kind 0 at) ≡ Err stop
+    → count_at bounds bytes at ≡ Err stop → walked ids bounds bytes (Entries kind 0 at) ≡ Err stop
 unfolding walked
 list_stopped ids kind next bounds bytes at stop behind_it e =
-    behind_next ids kind next bounds bytes at behind_it ∙ then_stop (list_end ids next bounds bytes at) (behind ids next bounds bytes) stop (count_stopped ids next bounds bytes at stop e)
+    behind_next ids kind next bounds bytes at behind_it ∙ list_counted ids next bounds bytes at ∙ then_stop (count_at bounds bytes at) (listed ids next bounds bytes) stop e
 
 -- behind the last entry of the last list the sub-record ends
 pub lists_done : (ids : IdSize) (kind : EntryKind) (bounds : Bounds) (bytes : List ℕ) (at : ℕ) → next_kind kind ≡ None → walked ids bounds bytes (Entries kind 0 at) ≡ Ok at
@@ -174,7 +174,7 @@ answer_by ids item walk told between other answer is found first second =
 
 -- a list that was begun behind the entries that were passed
 pub list_after : (ids : IdSize) (kind next : EntryKind) (item : Item) (at left begin : ℕ) (walk between other : Walk) → next_kind kind ≡ Some next
-    → begun next (bounds_of item) item.bytes.now at ≡ Ok (Entries next left begin) → walk ≡ Entries kind 0 at → FindsSame ids item walk between → FindsSame ids item between other
+    → count_at (bounds_of item) item.bytes.now at ≡ Ok (left, begin) → walk ≡ Entries kind 0 at → FindsSame ids item walk between → FindsSame ids item between other
     → FindsSame ids item (Entries next left begin) other
 list_after ids kind next item at left begin walk between other behind_it e is first second = λ more.
     list_begun ids kind next item at left begin behind_it e more ∙ ap (walked ids (later item more) (item.bytes.now ++ more)) (sym is) ∙ first more ∙ second more

@@ -11,16 +11,15 @@ use Rattle.hprof_values.specs.declared.sub_tag.SubTag.TheVariants as tags
 use Rattle.hprof_values.specs.Fields.{fields_in, Bounds, ◌>>=◌, reached}
 use Rattle.hprof_values.specs.Entries.{list_in, list_end}
 use Rattle.hprof_values.specs.Item.{bounds_of}
-use Rattle.hprof_values.proofs.FieldGroups.{then_ok, then_next, then_stop, reached_more}
+use Rattle.hprof_values.proofs.FieldGroups.{then_more, then_next, then_stop, reached_more}
 use Rattle.hprof_items.specs.declared.walk.Walk.{Walk}
 use Rattle.hprof_items.specs.declared.walk.Walk.TheVariants.{Front, Entries}
 use Rattle.hprof_items.specs.AnyFact.{AnyFact}
 use Rattle.hprof_items.specs.ClassDump.{class_widths, class_of, class_at}
 use Rattle.hprof_items.specs.SubRecord.{dump_at, sub_at}
-use Rattle.hprof_items.specs.Walk.{end_of_read, behind, walked, FindsSame, StopsAt, tag_at, begun, class_begun}
-use Rattle.hprof_items.proofs.WalksReads.{tag_more, sub_parts}
-use Rattle.hprof_items.proofs.WalksMore.{count_more}
-use Rattle.hprof_items.proofs.Walks.{later, settled_ok, begun_parts, begun_end, count_stopped}
+use Rattle.hprof_items.specs.Walk.{end_of_read, behind, walked, FindsSame, StopsAt, tag_at, count_at, class_count}
+use Rattle.hprof_items.proofs.WalksReads.{tag_more, then_assoc, sub_parts}
+use Rattle.hprof_items.proofs.Walks.{later, settled_ok, listed, list_counted, count_settled}
 
 -- the end of what comes after a step
 end_then : {A : Type 0} (r : Result A Stop) (next : A → Result (AnyFact × ℕ) Stop) → end_of_read (r >>= next) ≡ (r >>= λ (x : A). end_of_read (next x))
@@ -69,40 +68,32 @@ tag_stopped ids bounds bytes stop e =
 
 -- ---- a class
 
--- a class that was begun is walked on from its first constant
-pub class_entered : (ids : IdSize) (item : Item) (left begin : ℕ) → tag_at (bounds_of item) item.bytes.now ≡ Ok tags.ClassDump
-    → class_begun ids (bounds_of item) item.bytes.now ≡ Ok (Entries kinds.Constant left begin) → FindsSame ids item (Entries kinds.Constant left begin) Front
+-- behind its fields, a class ends where its lists do
+class_counted : (ids : IdSize) (bounds : Bounds) (bytes : List ℕ) → end_of_read (class_at ids bounds bytes) ≡ (class_count ids bounds bytes >>= listed ids kinds.Constant bounds bytes)
+class_counted ids bounds bytes =
+    class_parts ids bounds bytes
+    ∙ then_same (reached bounds 1 (class_widths ids)) _ _ (list_counted ids kinds.Constant bounds bytes)
+    ∙ then_assoc (reached bounds 1 (class_widths ids)) (count_at bounds bytes) (listed ids kinds.Constant bounds bytes)
+
+-- a class whose fields and first count are there is walked on from its first constant
+pub class_entered : (ids : IdSize) (item : Item) (left begin : ℕ) → tag_at (bounds_of item) item.bytes.now ≡ Ok tags.ClassDump → class_count ids (bounds_of item) item.bytes.now ≡ Ok (left, begin)
+    → FindsSame ids item (Entries kinds.Constant left begin) Front
 unfolding walked
 class_entered ids item left begin tagged e = λ more.
     let bytes = item.bytes.now ++ more in
     let longer = later item more in
-    let first = then_ok (reached (bounds_of item) 1 (class_widths ids)) (λ (front : ℕ). begun kinds.Constant (bounds_of item) item.bytes.now front) (Entries kinds.Constant left begin) e in
-    let parts = begun_parts kinds.Constant (bounds_of item) item.bytes.now first.0 left begin first.2 in
-    let tag = settled_ok _ _ tags.ClassDump (tag_more (bounds_of item) item.bytes.now more (omega arith)) tagged in
-    let fields = settled_ok _ _ first.0 (reached_more (bounds_of item) 1 (length more) (class_widths ids)) first.1 in
-    let passed = settled_ok _ _ begin (reached_more (bounds_of item) first.0 (length more) (2 ∷ [])) parts.0 in
-    let count = count_more (bounds_of item) item.bytes.now more first.0 begin (omega arith) parts.0 ∙ parts.1 in
-    let lists : ℕ → Result ℕ Stop = λ front. list_end ids kinds.Constant longer bytes front >>= behind ids kinds.Constant longer bytes in
-    sym (front_tagged ids tags.ClassDump longer bytes tag
-    ∙ class_parts ids longer bytes
-    ∙ then_next (reached longer 1 (class_widths ids)) lists first.0 fields
-    ∙ ap (λ (r : Result ℕ Stop). r >>= behind ids kinds.Constant longer bytes) (begun_end ids kinds.Constant longer bytes first.0 left begin passed count))
-
--- steps that stop, by the first or by what comes after it
-then_either : (r : Result ℕ Stop) (next : ℕ → Result Walk Stop) (other : ℕ → Result ℕ Stop) (stop : Stop) → ((x : ℕ) → next x ≡ Err stop → other x ≡ Err stop)
-    → (r >>= next) ≡ Err stop → (r >>= other) ≡ Err stop
-then_either (Ok x) next other stop h e = h x e
-then_either (Err first) next other stop h e = ap Err (cc)
+    let there : (bounds_of item).there ≤ length item.bytes.now = omega arith in
+    let tag = settled_ok _ _ tags.ClassDump (tag_more (bounds_of item) item.bytes.now more there) tagged in
+    let count = settled_ok _ _ (left, begin)
+    (then_more (reached (bounds_of item) 1 (class_widths ids)) (reached longer 1 (class_widths ids)) (count_at (bounds_of item) item.bytes.now) (count_at longer bytes)
+    (reached_more (bounds_of item) 1 (length more) (class_widths ids)) (λ front. count_settled (bounds_of item) item.bytes.now more front there)) e in
+    sym (front_tagged ids tags.ClassDump longer bytes tag ∙ class_counted ids longer bytes ∙ then_next (class_count ids longer bytes) (listed ids kinds.Constant longer bytes) (left, begin) count)
 
 -- fields or a count that are not there stop the walk
-pub class_stopped : (ids : IdSize) (bounds : Bounds) (bytes : List ℕ) (stop : Stop) → tag_at bounds bytes ≡ Ok tags.ClassDump → class_begun ids bounds bytes ≡ Err stop
+pub class_stopped : (ids : IdSize) (bounds : Bounds) (bytes : List ℕ) (stop : Stop) → tag_at bounds bytes ≡ Ok tags.ClassDump → class_count ids bounds bytes ≡ Err stop
     → walked ids bounds bytes Front ≡ Err stop
 class_stopped ids bounds bytes stop tagged e =
-    let lists : ℕ → Result ℕ Stop = λ front. list_end ids kinds.Constant bounds bytes front >>= behind ids kinds.Constant bounds bytes in
-    front_tagged ids tags.ClassDump bounds bytes tagged
-    ∙ class_parts ids bounds bytes
-    ∙ then_either (reached bounds 1 (class_widths ids)) (begun kinds.Constant bounds bytes) lists stop
-    (λ front none. then_stop (list_end ids kinds.Constant bounds bytes front) (behind ids kinds.Constant bounds bytes) stop (count_stopped ids kinds.Constant bounds bytes front stop none)) e
+    front_tagged ids tags.ClassDump bounds bytes tagged ∙ class_counted ids bounds bytes ∙ then_stop (class_count ids bounds bytes) (listed ids kinds.Constant bounds bytes) stop e
 
 -- what is no class is tested at once
 pub tested_at_once : (ids : IdSize) (item : Item) (tag : SubTag) (answer : Result ℕ Stop) → tag_at (bounds_of item) item.bytes.now ≡ Ok tag → (tag ≡ tags.ClassDump → ⊥)

@@ -176,15 +176,15 @@ tag_more bounds bytes more there =
     inr (ap (λ (c : ℕ). judged_tag (tag_of_code c)) code))
 
 -- steps may be put together in either way
-then_then : {A B C : Type 0} (r : Result A Stop) (s : Result B Stop) (next : B → Result C Stop) → (r >>= λ (x : A). s >>= next) ≡ ((r >>= λ (x : A). s) >>= next)
-then_then (Ok x) s next = refl
-then_then (Err stop) s next = refl
+pub then_assoc : {A B C : Type 0} (r : Result A Stop) (next : A → Result B Stop) (last : B → Result C Stop) → (r >>= λ (x : A). next x >>= last) ≡ ((r >>= next) >>= last)
+then_assoc (Ok x) next last = refl
+then_assoc (Err stop) next last = refl
 
 -- a sub-record is its tag, and then what that tag says
 pub sub_parts : (ids : IdSize) (bounds : Bounds) (bytes : List ℕ) → sub_at ids bounds bytes ≡ (tag_at bounds bytes >>= λ (tag : SubTag). dump_at ids tag bounds bytes)
 unfolding sub_at
 sub_parts ids bounds bytes =
-    then_then (cond (bounds.there == 0) (Err Short) (reached bounds 0 (1 ∷ []))) (judged_tag (tag_of_code (slice_index bytes 0))) (λ (tag : SubTag). dump_at ids tag bounds bytes)
+    then_assoc (cond (bounds.there == 0) (Err Short) (reached bounds 0 (1 ∷ []))) (λ (front : ℕ). judged_tag (tag_of_code (slice_index bytes 0))) (λ (tag : SubTag). dump_at ids tag bounds bytes)
 
 pub sub_more : (ids : IdSize) (bounds : Bounds) (bytes more : List ℕ) → bounds.there ≤ length bytes
     → IsSettled (sub_at ids bounds bytes) (sub_at ids (with_more bounds (length more)) (bytes ++ more))

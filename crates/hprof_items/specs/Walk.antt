@@ -1,5 +1,5 @@
 -- The walk over a sub-record that finds where it ends: it can stop where the bytes end, and go on when more have come.
-use Rattle.std.specs.Prelude.{◌≡◌, ◌==◌, ◌≤◌, ℕ, zero, suc, List, [], ◌∷◌, ◌++◌, length, drop, slice_index, Option, Some, None, MatchOption, Result, Ok, Err, ⊤, if◌then◌else◌}
+use Rattle.std.specs.Prelude.{◌≡◌, ◌≢◌, ◌==◌, ◌≤◌, ℕ, zero, suc, List, [], ◌∷◌, ◌++◌, length, drop, slice_index, Option, Some, None, Result, Ok, Err, ⊤, if◌then◌else◌}
 use Rattle.byteorder.specs.Endian.{big_number}
 use Rattle.hprof_values.specs.declared.ids.IdSize.{IdSize}
 use Rattle.hprof_values.specs.declared.entry.EntryKind.{EntryKind}
@@ -59,17 +59,17 @@ next_kind kinds.Constant = Some kinds.Static
 next_kind kinds.Static = Some kinds.Field
 next_kind kinds.Field = None
 
--- the walk at the first entry of the list whose count stands there
-abbrev pub begun : EntryKind → Bounds → List ℕ → ℕ → Result Walk Stop
-begun kind bounds bytes at = reached bounds at (2 ∷ []) >>= λ begin. Ok (Entries kind (big_number 2 (drop at bytes)) begin)
+-- how many entries the list has whose count stands there, and where the first of them begins
+abbrev pub count_at : Bounds → List ℕ → ℕ → Result (ℕ × ℕ) Stop
+count_at bounds bytes at = reached bounds at (2 ∷ []) >>= λ begin. Ok (big_number 2 (drop at bytes), begin)
 
--- the walk at the first constant of a class, from behind its tag
-abbrev pub class_begun : IdSize → Bounds → List ℕ → Result Walk Stop
-class_begun ids bounds bytes = reached bounds 1 (class_widths ids) >>= λ front. begun kinds.Constant bounds bytes front
+-- the same of a class's constants, behind its fields
+abbrev pub class_count : IdSize → Bounds → List ℕ → Result (ℕ × ℕ) Stop
+class_count ids bounds bytes = reached bounds 1 (class_widths ids) >>= λ front. count_at bounds bytes front
 
--- what the walk comes to next stops it so: an entry, the count of a list, or the fields of a class with the count of
--- its constants; what else there may be at the front is tested at once
+-- what the walk comes to next stops it so: an entry, the count of the next list, or the fields of a class with the
+-- count of its constants; what else there may be at the front is tested at once
 abbrev pub StopsAt : IdSize → Item → Walk → Stop → Type 0
-StopsAt ids item Front stop = tag_at (bounds_of item) item.bytes.now ≡ Ok tags.ClassDump → class_begun ids (bounds_of item) item.bytes.now ≡ Err stop
-StopsAt ids item (Entries kind zero at) stop = MatchOption (next_kind kind) ⊥ (λ next. begun next (bounds_of item) item.bytes.now at ≡ Err stop)
+StopsAt ids item Front stop = tag_at (bounds_of item) item.bytes.now ≡ Ok tags.ClassDump → class_count ids (bounds_of item) item.bytes.now ≡ Err stop
+StopsAt ids item (Entries kind zero at) stop = (kind ≢ kinds.Field) × (count_at (bounds_of item) item.bytes.now at ≡ Err stop)
 StopsAt ids item (Entries kind (suc left) at) stop = entry_end ids kind (bounds_of item) item.bytes.now at ≡ Err stop

@@ -1,11 +1,10 @@
 //! Where a sub-record ends, by a walk that can stop where the bytes end and go on when more have come.
 
 ghost use Rattle.std.specs.Prelude.{◌≡◌, ◌≢◌, ◌≤◌, ◌++◌, ℕ, List, length, IfErr, MatchResult, Ok, Err};
-ghost use Rattle.hprof_values.specs.declared.entry.EntryKind.TheVariants as kinds;
 ghost use Rattle.hprof_values.specs.Fields.{with_more};
 ghost use Rattle.hprof_values.specs.Item.{bounds_of};
 ghost use Rattle.hprof_items.specs.SubRecord.{dump_at};
-ghost use Rattle.hprof_items.specs.Walk.{end_of_read, walked, IsPlaced, FindsSame, StopsAt, tag_at, next_kind, begun, class_begun};
+ghost use Rattle.hprof_items.specs.Walk.{end_of_read, walked, IsPlaced, FindsSame, StopsAt, tag_at, next_kind, count_at, class_count};
 
 use crate::object_reading::{read_instance, read_obj_array, read_prim_array};
 use crate::root_reading::read_root;
@@ -66,12 +65,10 @@ fn next_kind(kind: EntryKind) -> Option<EntryKind>
     }
 }
 
-/// The count of entries that stands there, and where the first of them begins.
-fn begin_list(item: &Item<'_>, kind: EntryKind, at: usize) -> Result<(usize, usize), Stop>
+/// How many entries the list has whose count stands there, and where the first of them begins.
+fn count_at(item: &Item<'_>, at: usize) -> Result<(usize, usize), Stop>
     requires { at ≤ length item.now.bytes.now }
-    ensures { MatchResult result
-        (λ list. begun kind (bounds_of item.now) item.now.bytes.now at ≡ Ok (Walk.Entries kind list.0 list.1))
-        (λ stop. begun kind (bounds_of item.now) item.now.bytes.now at ≡ Err stop) }
+    ensures { result ≡ count_at (bounds_of item.now) item.now.bytes.now at }
 {
     let begin = item.end_of(at, &[2])?;
     let (_, rest) = item.bytes.split_at(at);
@@ -101,7 +98,7 @@ fn pass_lists(
         let Some(next) = next_kind(kind) else {
             return (walk, Ok(end));
         };
-        match begin_list(item, next, end) {
+        match count_at(item, end) {
             Ok((count, begin)) => {
                 kind = next;
                 left = count;
@@ -123,19 +120,17 @@ fn tag_at(item: &Item<'_>) -> Result<SubTag, Stop>
     SubTag::from_code(item.bytes[0]).ok_or(Stop::Fault(Reason::BadSubTag))
 }
 
-/// The count of a class's constants, and where the first of them begins.
-fn begin_class(item: &Item<'_>, ids: IdSize) -> Result<(usize, usize), Stop>
-    ensures { MatchResult result
-        (λ list. class_begun ids (bounds_of item.now) item.now.bytes.now ≡ Ok (Walk.Entries kinds.Constant list.0 list.1))
-        (λ stop. class_begun ids (bounds_of item.now) item.now.bytes.now ≡ Err stop) }
+/// How many constants a class has, and where the first of them begins.
+fn class_count(item: &Item<'_>, ids: IdSize) -> Result<(usize, usize), Stop>
+    ensures { result ≡ class_count ids (bounds_of item.now) item.now.bytes.now }
 {
     let id = ids.width();
     let front = item.end_of(1, &[id, 4, id, id, id, id, id, id, 4])?;
-    begin_list(item, EntryKind::Constant, front)
+    count_at(item, front)
 }
 
 /// The end of a sub-record that is no class.
-fn short_end(item: &Item<'_>, tag: SubTag, ids: IdSize) -> Result<usize, Stop>
+fn plain_end(item: &Item<'_>, tag: SubTag, ids: IdSize) -> Result<usize, Stop>
     requires { tag ≢ SubTag.ClassDump }
     ensures { result ≡ end_of_read (dump_at ids tag (bounds_of item.now) item.now.bytes.now) }
 {
@@ -160,9 +155,9 @@ fn pass_front(item: &Item<'_>, ids: IdSize) -> (Walk, Result<usize, Stop>)
         Err(stop) => return (Walk::Front, Err(stop)),
     };
     let SubTag::ClassDump = tag else {
-        return (Walk::Front, short_end(item, tag, ids));
+        return (Walk::Front, plain_end(item, tag, ids));
     };
-    match begin_class(item, ids) {
+    match class_count(item, ids) {
         Ok((left, at)) => pass_lists(item, ids, EntryKind::Constant, left, at),
         Err(stop) => (Walk::Front, Err(stop)),
     }

@@ -17,23 +17,23 @@ returns-in_default c =
     record {
       placed = tt;
       kept = λ more. refl;
-      end = c.short_end.ensures ∙ sym (front_tagged c.args.ids c.in-Ok.tag (bounds_of c.args.item.now) c.args.item.now.bytes.now tagged);
-      stands = tested_at_once c.args.ids c.args.item.now c.in-Ok.tag c.short_end.result tagged c.in_default.not-ClassDump;
+      end = c.plain_end.ensures ∙ sym (front_tagged c.args.ids c.in-Ok.tag (bounds_of c.args.item.now) c.args.item.now.bytes.now tagged);
+      stands = tested_at_once c.args.ids c.args.item.now c.in-Ok.tag c.plain_end.result tagged c.in_default.not-ClassDump;
     }
 
-pub returns-in-Ok-begin_class-clause-kept : goal.returns-in-Ok-begin_class-clause-kept
-returns-in-Ok-begin_class-clause-kept c =
+pub returns-in-Ok-class_count-clause-kept : goal.returns-in-Ok-class_count-clause-kept
+returns-in-Ok-class_count-clause-kept c =
     let tagged : tag_at (bounds_of c.args.item.now) c.args.item.now.bytes.now ≡ Ok tags.ClassDump = sym c.tag_at.ensures ∙ c.in-Ok.is ∙ ap Ok c.in-ClassDump.is in
-    λ more. c.pass_lists.ensures.kept more ∙ class_entered c.args.ids c.args.item.now c.in-Ok-begin_class.left c.in-Ok-begin_class.at tagged c.in-Ok-begin_class.ensures more
+    λ more. c.pass_lists.ensures.kept more ∙ class_entered c.args.ids c.args.item.now c.in-Ok-class_count.left c.in-Ok-class_count.at tagged (sym c.class_count.ensures ∙ c.in-Ok-class_count.is) more
 
-pub returns-in-Ok-begin_class-clause-end : goal.returns-in-Ok-begin_class-clause-end
-returns-in-Ok-begin_class-clause-end c =
+pub returns-in-Ok-class_count-clause-end : goal.returns-in-Ok-class_count-clause-end
+returns-in-Ok-class_count-clause-end c =
     let tagged : tag_at (bounds_of c.args.item.now) c.args.item.now.bytes.now ≡ Ok tags.ClassDump = sym c.tag_at.ensures ∙ c.in-Ok.is ∙ ap Ok c.in-ClassDump.is in
     c.pass_lists.ensures.end
-    ∙ found_now c.args.ids c.args.item.now (Entries kinds.Constant c.in-Ok-begin_class.left c.in-Ok-begin_class.at) Front
-    (class_entered c.args.ids c.args.item.now c.in-Ok-begin_class.left c.in-Ok-begin_class.at tagged c.in-Ok-begin_class.ensures)
+    ∙ found_now c.args.ids c.args.item.now (Entries kinds.Constant c.in-Ok-class_count.left c.in-Ok-class_count.at) Front
+    (class_entered c.args.ids c.args.item.now c.in-Ok-class_count.left c.in-Ok-class_count.at tagged (sym c.class_count.ensures ∙ c.in-Ok-class_count.is))
 
-pub returns-in-Err-begin_class-clause-end : goal.returns-in-Err-begin_class-clause-end
-returns-in-Err-begin_class-clause-end c =
+pub returns-in-Err-class_count-clause-end : goal.returns-in-Err-class_count-clause-end
+returns-in-Err-class_count-clause-end c =
     let tagged : tag_at (bounds_of c.args.item.now) c.args.item.now.bytes.now ≡ Ok tags.ClassDump = sym c.tag_at.ensures ∙ c.in-Ok.is ∙ ap Ok c.in-ClassDump.is in
-    sym (class_stopped c.args.ids (bounds_of c.args.item.now) c.args.item.now.bytes.now c.in-Err-begin_class.stop tagged c.in-Err-begin_class.ensures)
+    sym (class_stopped c.args.ids (bounds_of c.args.item.now) c.args.item.now.bytes.now c.in-Err-class_count.stop tagged (sym c.class_count.ensures ∙ c.in-Err-class_count.is))

@@ -25,17 +25,17 @@ loop-end-preserved c =
     let passed = rw c.in-Ok.is at c.pass_entries-walk.ensures.answer in
     let behind_it : next_kind c.loop-end.kind ≡ Some c.in-Some.next = sym c.next_kind.ensures ∙ c.in-Some.is in
     record {
-      placed = list_there c.in-Some.next c.args.item.now c.in-Ok.end c.in-Ok-begin_list.count c.in-Ok-begin_list.begin c.in-Ok-begin_list.ensures;
-      kept = list_after c.args.ids c.loop-end.kind c.in-Some.next c.args.item.now c.in-Ok.end c.in-Ok-begin_list.count c.in-Ok-begin_list.begin c.pass_entries-walk.result.0
+      placed = list_there c.args.item.now c.in-Ok.end c.in-Ok-count_at.count c.in-Ok-count_at.begin (sym c.count_at.ensures ∙ c.in-Ok-count_at.is);
+      kept = list_after c.args.ids c.loop-end.kind c.in-Some.next c.args.item.now c.in-Ok.end c.in-Ok-count_at.count c.in-Ok-count_at.begin c.pass_entries-walk.result.0
           (Entries c.loop-end.kind c.loop-end.left c.loop-end.at) (Entries c.args.kind c.args.left c.args.at)
-          behind_it c.in-Ok-begin_list.ensures passed c.pass_entries-walk.ensures.kept c.loop-end.invariant.kept;
+          behind_it (sym c.count_at.ensures ∙ c.in-Ok-count_at.is) passed c.pass_entries-walk.ensures.kept c.loop-end.invariant.kept;
     }
 
-pub returns-in-Err-begin_list-clause-end : goal.returns-in-Err-begin_list-clause-end
-returns-in-Err-begin_list-clause-end c =
+pub returns-in-Err-count_at-clause-end : goal.returns-in-Err-count_at-clause-end
+returns-in-Err-count_at-clause-end c =
     let passed = rw c.in-Ok.is at c.pass_entries-walk.ensures.answer in
     let behind_it : next_kind c.loop-end.kind ≡ Some c.in-Some.next = sym c.next_kind.ensures ∙ c.in-Some.is in
-    let stopped = list_stopped c.args.ids c.loop-end.kind c.in-Some.next (bounds_of c.args.item.now) c.args.item.now.bytes.now c.in-Ok.end c.in-Err-begin_list.stop
-    behind_it c.in-Err-begin_list.ensures in
+    let stopped = list_stopped c.args.ids c.loop-end.kind c.in-Some.next (bounds_of c.args.item.now) c.args.item.now.bytes.now c.in-Ok.end c.in-Err-count_at.stop
+    behind_it (sym c.count_at.ensures ∙ c.in-Err-count_at.is) in
     answer_by c.args.ids c.args.item.now c.pass_entries-walk.result.0 (Entries c.loop-end.kind 0 c.in-Ok.end) (Entries c.loop-end.kind c.loop-end.left c.loop-end.at)
-    (Entries c.args.kind c.args.left c.args.at) (Err c.in-Err-begin_list.stop) passed stopped c.pass_entries-walk.ensures.kept c.loop-end.invariant.kept
+    (Entries c.args.kind c.args.left c.args.at) (Err c.in-Err-count_at.stop) passed stopped c.pass_entries-walk.ensures.kept c.loop-end.invariant.kept
