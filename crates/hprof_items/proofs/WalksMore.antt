@@ -31,23 +31,29 @@ fields_more (w ∷ ws) bytes more there =
     let all = sum_widths w ws in
     let first : big_number w (bytes ++ more) ≡ big_number w bytes = big_from-append w bytes more (omega arith) in
     let others : fields_in ws (drop w (bytes ++ more)) ≡ fields_in ws (drop w bytes) =
-    ap (fields_in ws) (drop-append-le w bytes more (omega arith)) ∙ fields_more ws (drop w bytes) more (omega (arith, length-drop w bytes)) in
+    ap (fields_in ws) (drop-append-le w bytes more (omega arith))
+    ∙ fields_more ws (drop w bytes) more (omega (arith, length-drop w bytes)) in
     rw (first, others) refl
 
 -- the numbers in fields at a place
-pub fields_more_at : (widths bytes more : List ℕ) (at : ℕ) → at + sum widths ≤ length bytes → fields_in widths (drop at (bytes ++ more)) ≡ fields_in widths (drop at bytes)
+pub fields_more_at : (widths bytes more : List ℕ) (at : ℕ) → at + sum widths ≤ length bytes
+    → fields_in widths (drop at (bytes ++ more)) ≡ fields_in widths (drop at bytes)
 fields_more_at widths bytes more at there =
-    ap (fields_in widths) (drop-append-le at bytes more (omega arith)) ∙ fields_more widths (drop at bytes) more (omega (arith, length-drop at bytes))
+    ap (fields_in widths) (drop-append-le at bytes more (omega arith))
+    ∙ fields_more widths (drop at bytes) more (omega (arith, length-drop at bytes))
 
 -- a number at a place
-pub number_more : (width at : ℕ) (bytes more : List ℕ) → at + width ≤ length bytes → big_number width (drop at (bytes ++ more)) ≡ big_number width (drop at bytes)
+pub number_more : (width at : ℕ) (bytes more : List ℕ) → at + width ≤ length bytes
+    → big_number width (drop at (bytes ++ more)) ≡ big_number width (drop at bytes)
 number_more width at bytes more there =
-    ap (big_number width) (drop-append-le at bytes more (omega arith)) ∙ big_from-append width (drop at bytes) more (omega (arith, length-drop at bytes))
+    ap (big_number width) (drop-append-le at bytes more (omega arith))
+    ∙ big_from-append width (drop at bytes) more (omega (arith, length-drop at bytes))
 
 -- a field of bytes
 pub cut_more : (len at : ℕ) (bytes more : List ℕ) → at + len ≤ length bytes → take len (drop at (bytes ++ more)) ≡ take len (drop at bytes)
 cut_more len at bytes more there =
-    ap (take len) (drop-append-le at bytes more (omega arith)) ∙ take-append-le len (drop at bytes) more (omega (arith, length-drop at bytes))
+    ap (take len) (drop-append-le at bytes more (omega arith))
+    ∙ take-append-le len (drop at bytes) more (omega (arith, length-drop at bytes))
 
 -- ---- tests, one after the other
 
@@ -56,10 +62,12 @@ abbrev pub IsSettled : {A : Type 0} → Result A Stop → Result A Stop → Type
 IsSettled r s = (r ≡ Err Short) ⊎ (s ≡ r)
 
 -- two steps, the second of which may rest on what the first one answered
-pub then_more_at : {A B : Type 0} (r s : Result A Stop) (next later : A → Result B Stop) → IsSettled r s → ((x : A) → r ≡ Ok x → IsSettled (next x) (later x))
+pub then_more_at : {A B : Type 0} (r s : Result A Stop) (next later : A → Result B Stop) → IsSettled r s
+    → ((x : A) → r ≡ Ok x → IsSettled (next x) (later x))
     → IsSettled (r >>= next) (s >>= later)
 then_more_at r s next later (inl short) h = inl (then_stop r next Short short)
-then_more_at (Ok x) s next later (inr same) h = elim (h x refl) [ inl short ↦ inl short | inr more ↦ inr (ap (λ (r : Result _ Stop). r >>= later) same ∙ more) ]
+then_more_at (Ok x) s next later (inr same) h =
+    elim (h x refl) [ inl short ↦ inl short | inr more ↦ inr (ap (λ (r : Result _ Stop). r >>= later) same ∙ more) ]
 then_more_at (Err stop) s next later (inr same) h = inr (ap (λ (r : Result _ Stop). r >>= later) same)
 
 -- ---- entries
@@ -85,7 +93,8 @@ entry_more ids kind bounds bytes more at there =
 
 -- where so many entries end
 pub entries_more : (ids : IdSize) (kind : EntryKind) (bounds : Bounds) (bytes more : List ℕ) (count at : ℕ) → bounds.there ≤ length bytes
-    → IsSettled (entries_end ids kind bounds bytes count at) (entries_end ids kind (with_more bounds (length more)) (bytes ++ more) count at)
+    → IsSettled (entries_end ids kind bounds bytes count at)
+    (entries_end ids kind (with_more bounds (length more)) (bytes ++ more) count at)
 entries_more ids kind bounds bytes more zero at there = inr refl
 entries_more ids kind bounds bytes more (suc count) at there =
     let longer = with_more bounds (length more) in
@@ -94,7 +103,8 @@ entries_more ids kind bounds bytes more (suc count) at there =
     (entry_more ids kind bounds bytes more at there) (λ end. entries_more ids kind bounds bytes more count end there)
 
 -- a count that is there stays
-pub count_more : (bounds : Bounds) (bytes more : List ℕ) (at begin : ℕ) → bounds.there ≤ length bytes → reached bounds at (2 ∷ []) ≡ Ok begin
+pub count_more : (bounds : Bounds) (bytes more : List ℕ) (at begin : ℕ) → bounds.there ≤ length bytes
+    → reached bounds at (2 ∷ []) ≡ Ok begin
     → big_number 2 (drop at (bytes ++ more)) ≡ big_number 2 (drop at bytes)
 count_more bounds bytes more at begin there passed =
     let lies = reached_passed bounds at 2 [] begin passed in
@@ -129,7 +139,8 @@ type_place : (lead at : ℕ) (bytes : List ℕ) → slice_index (drop lead (drop
 type_place lead at bytes = get_or-drop lead (drop at bytes) 0 0 ∙ get_or-drop at bytes (lead + 0) 0 ∙ ap (slice_index bytes) (omega arith)
 
 -- an entry that passed its tests ends where its bytes do
-pub entry_lies : (ids : IdSize) (kind : EntryKind) (bounds : Bounds) (bytes : List ℕ) (at end : ℕ) → entry_end ids kind bounds bytes at ≡ Ok end
+pub entry_lies : (ids : IdSize) (kind : EntryKind) (bounds : Bounds) (bytes : List ℕ) (at end : ℕ)
+    → entry_end ids kind bounds bytes at ≡ Ok end
     → (end ≡ at + entry_len ids kind (entry_in ids kind (drop at bytes))) × IsWithin bounds end
 unfolding entry_end
 entry_lies ids kind bounds bytes at end e =
@@ -139,7 +150,8 @@ entry_lies ids kind bounds bytes at end e =
     (λ (front : ℕ). judged_type found >>= λ (basic : Basic). reached bounds front (bits_width ids kind basic ∷ [])) end e in
     let second = then_ok (judged_type found) (λ (basic : Basic). reached bounds first.0 (bits_width ids kind basic ∷ [])) end first.2 in
     let basic = second.0 in
-    let typed : basic_of_code (slice_index (drop lead (drop at bytes)) 0) ≡ Some basic = ap basic_of_code (type_place lead at bytes) ∙ judged_ok found basic second.1 in
+    let typed : basic_of_code (slice_index (drop lead (drop at bytes)) 0) ≡ Some basic =
+    ap basic_of_code (type_place lead at bytes) ∙ judged_ok found basic second.1 in
     let is : (entry_in ids kind (drop at bytes)).basic ≡ basic = ap (λ (o : Option Basic). unwrap_or o basics.Array) typed in
     let width : bits_width ids kind (entry_in ids kind (drop at bytes)).basic ≡ bits_width ids kind basic = ap (bits_width ids kind) is in
     let front = reached_passed bounds at lead (1 ∷ []) first.0 first.1 in
@@ -154,30 +166,36 @@ entry_in_more ids kind bytes more there =
     let kept : List ℕ → Basic → Entry = λ all basic. typed_entry ids kind basic all in
     let type_of : List ℕ → Basic = λ all. type_in (drop lead all) in
     let code : slice_index (drop lead (bytes ++ more)) 0 ≡ slice_index (drop lead bytes) 0 =
-    ap (λ (r : List ℕ). slice_index r 0) (drop-append-le lead bytes more (omega arith)) ∙ byte_more (drop lead bytes) more 0 (omega (arith, length-drop lead bytes)) in
+    ap (λ (r : List ℕ). slice_index r 0) (drop-append-le lead bytes more (omega arith))
+    ∙ byte_more (drop lead bytes) more 0 (omega (arith, length-drop lead bytes)) in
     let typed : type_of (bytes ++ more) ≡ type_of bytes = ap (λ (c : ℕ). unwrap_or (basic_of_code c) basics.Array) code in
     let basic = type_of bytes in
     let number : big_number lead (bytes ++ more) ≡ big_number lead bytes = big_from-append lead bytes more (omega arith) in
-    let bits : big_number (bits_width ids kind basic) (drop (lead + 1) (bytes ++ more)) ≡ big_number (bits_width ids kind basic) (drop (lead + 1) bytes) =
-    number_more (bits_width ids kind basic) (lead + 1) bytes more there in
+    let width = bits_width ids kind basic in
+    let bits : big_number width (drop (lead + 1) (bytes ++ more)) ≡ big_number width (drop (lead + 1) bytes) =
+    number_more width (lead + 1) bytes more there in
     ap (kept (bytes ++ more)) typed
-    ∙ ap (λ (n : ℕ). record { number = n; basic = basic; bits = big_number (bits_width ids kind basic) (drop (lead + 1) (bytes ++ more)) }) number
+    ∙ ap (λ (n : ℕ). record { number = n; basic = basic; bits = big_number width (drop (lead + 1) (bytes ++ more)) }) number
     ∙ ap (λ (b : ℕ). record { number = big_number lead bytes; basic = basic; bits = b }) bits
 
 -- the bytes behind an entry that is there
-rest_more : (ids : IdSize) (kind : EntryKind) (count : ℕ) (bytes more : List ℕ) (at end : ℕ) → end ≡ at + entry_len ids kind (entry_in ids kind (drop at bytes)) → end ≤ length bytes
-    → entries_in ids kind (suc count) (drop at (bytes ++ more)) ≡ entry_in ids kind (drop at bytes) ∷ entries_in ids kind count (drop end (bytes ++ more))
+rest_more : (ids : IdSize) (kind : EntryKind) (count : ℕ) (bytes more : List ℕ) (at end : ℕ)
+    → end ≡ at + entry_len ids kind (entry_in ids kind (drop at bytes)) → end ≤ length bytes
+    → entries_in ids kind (suc count) (drop at (bytes ++ more))
+    ≡ entry_in ids kind (drop at bytes) ∷ entries_in ids kind count (drop end (bytes ++ more))
 rest_more ids kind count bytes more at end ends there =
     let len = entry_len ids kind (entry_in ids kind (drop at bytes)) in
     let moved : drop at (bytes ++ more) ≡ drop at bytes ++ more = drop-append-le at bytes more (omega arith) in
     let same : entry_in ids kind (drop at (bytes ++ more)) ≡ entry_in ids kind (drop at bytes) =
     ap (entry_in ids kind) moved ∙ entry_in_more ids kind (drop at bytes) more (omega (arith, length-drop at bytes)) in
     ap (λ (e : Entry). e ∷ entries_in ids kind count (drop (entry_len ids kind e) (drop at (bytes ++ more)))) same
-    ∙ ap (λ (r : List ℕ). entry_in ids kind (drop at bytes) ∷ entries_in ids kind count r) (drop-drop len at (bytes ++ more) ∙ ap (λ (n : ℕ). drop n (bytes ++ more)) (sym ends))
+    ∙ ap (λ (r : List ℕ). entry_in ids kind (drop at bytes) ∷ entries_in ids kind count r)
+    (drop-drop len at (bytes ++ more) ∙ ap (λ (n : ℕ). drop n (bytes ++ more)) (sym ends))
 
 -- entries that are there
 entries_in_more : (ids : IdSize) (kind : EntryKind) (bounds : Bounds) (bytes more : List ℕ) (count at end : ℕ) → bounds.there ≤ length bytes
-    → entries_end ids kind bounds bytes count at ≡ Ok end → entries_in ids kind count (drop at (bytes ++ more)) ≡ entries_in ids kind count (drop at bytes)
+    → entries_end ids kind bounds bytes count at ≡ Ok end
+    → entries_in ids kind count (drop at (bytes ++ more)) ≡ entries_in ids kind count (drop at bytes)
 entries_in_more ids kind bounds bytes more zero at end there e = refl
 entries_in_more ids kind bounds bytes more (suc count) at end there e =
     let len = entry_len ids kind (entry_in ids kind (drop at bytes)) in
@@ -193,7 +211,8 @@ pub list_in_more : (ids : IdSize) (kind : EntryKind) (bounds : Bounds) (bytes mo
     → list_end ids kind bounds bytes at ≡ Ok end → list_in ids kind (bytes ++ more) at ≡ list_in ids kind bytes at
 unfolding list_end
 list_in_more ids kind bounds bytes more at end there e =
-    let first = then_ok (reached bounds at (2 ∷ [])) (λ (begin : ℕ). entries_end ids kind bounds bytes (big_number 2 (drop at bytes)) begin) end e in
+    let first = then_ok (reached bounds at (2 ∷ []))
+    (λ (begin : ℕ). entries_end ids kind bounds bytes (big_number 2 (drop at bytes)) begin) end e in
     let lies = reached_passed bounds at 2 [] first.0 first.1 in
     let begin : first.0 ≡ at + 2 = omega (arith, lies.0, sum_widths 2 []) in
     let ends : entries_end ids kind bounds bytes (big_number 2 (drop at bytes)) (at + 2) ≡ Ok end =

@@ -9,31 +9,41 @@ use Rattle.hprof_items.proofs.WalksFronts.{front_tagged, tag_stopped, class_ente
 use Rattle.hprof_items.proofs.walk.pass_front.Goals as goal
 
 pub returns-in-Err-clause-end : goal.returns-in-Err-clause-end
-returns-in-Err-clause-end c = sym (tag_stopped c.args.ids (bounds_of c.args.item.now) c.args.item.now.bytes.now c.in-Err.stop (sym c.tag_at.ensures ∙ c.in-Err.is))
+returns-in-Err-clause-end c =
+    let item = c.args.item.now in
+    sym (tag_stopped c.args.ids (bounds_of item) item.bytes.now c.in-Err.stop (sym c.tag_at.ensures ∙ c.in-Err.is))
 
 pub returns-in_default : goal.returns-in_default
 returns-in_default c =
-    let tagged : tag_at (bounds_of c.args.item.now) c.args.item.now.bytes.now ≡ Ok c.in-Ok.tag = sym c.tag_at.ensures ∙ c.in-Ok.is in
+    let item = c.args.item.now in
+    let tagged : tag_at (bounds_of item) item.bytes.now ≡ Ok c.in-Ok.tag = sym c.tag_at.ensures ∙ c.in-Ok.is in
     record {
       placed = tt;
       kept = λ more. refl;
-      end = c.plain_end.ensures ∙ sym (front_tagged c.args.ids c.in-Ok.tag (bounds_of c.args.item.now) c.args.item.now.bytes.now tagged);
-      stands = tested_at_once c.args.ids c.args.item.now c.in-Ok.tag c.plain_end.result tagged c.in_default.not-ClassDump;
+      end = c.plain_end.ensures ∙ sym (front_tagged c.args.ids c.in-Ok.tag (bounds_of item) item.bytes.now tagged);
+      stands = tested_at_once c.args.ids item c.in-Ok.tag c.plain_end.result tagged c.in_default.not-ClassDump;
     }
 
 pub returns-in-Ok-class_count-clause-kept : goal.returns-in-Ok-class_count-clause-kept
 returns-in-Ok-class_count-clause-kept c =
-    let tagged : tag_at (bounds_of c.args.item.now) c.args.item.now.bytes.now ≡ Ok tags.ClassDump = sym c.tag_at.ensures ∙ c.in-Ok.is ∙ ap Ok c.in-ClassDump.is in
-    λ more. c.pass_lists.ensures.kept more ∙ class_entered c.args.ids c.args.item.now c.in-Ok-class_count.left c.in-Ok-class_count.at tagged (sym c.class_count.ensures ∙ c.in-Ok-class_count.is) more
+    let item = c.args.item.now in
+    let tagged : tag_at (bounds_of item) item.bytes.now ≡ Ok tags.ClassDump = sym c.tag_at.ensures ∙ c.in-Ok.is ∙ ap Ok c.in-ClassDump.is in
+    let count = sym c.class_count.ensures ∙ c.in-Ok-class_count.is in
+    let entered = class_entered c.args.ids item c.in-Ok-class_count.left c.in-Ok-class_count.at tagged count in
+    λ more. c.pass_lists.ensures.kept more ∙ entered more
 
 pub returns-in-Ok-class_count-clause-end : goal.returns-in-Ok-class_count-clause-end
 returns-in-Ok-class_count-clause-end c =
-    let tagged : tag_at (bounds_of c.args.item.now) c.args.item.now.bytes.now ≡ Ok tags.ClassDump = sym c.tag_at.ensures ∙ c.in-Ok.is ∙ ap Ok c.in-ClassDump.is in
-    c.pass_lists.ensures.end
-    ∙ found_now c.args.ids c.args.item.now (Entries kinds.Constant c.in-Ok-class_count.left c.in-Ok-class_count.at) Front
-    (class_entered c.args.ids c.args.item.now c.in-Ok-class_count.left c.in-Ok-class_count.at tagged (sym c.class_count.ensures ∙ c.in-Ok-class_count.is))
+    let item = c.args.item.now in
+    let left = c.in-Ok-class_count.left in
+    let at = c.in-Ok-class_count.at in
+    let tagged : tag_at (bounds_of item) item.bytes.now ≡ Ok tags.ClassDump = sym c.tag_at.ensures ∙ c.in-Ok.is ∙ ap Ok c.in-ClassDump.is in
+    let entered = class_entered c.args.ids item left at tagged (sym c.class_count.ensures ∙ c.in-Ok-class_count.is) in
+    c.pass_lists.ensures.end ∙ found_now c.args.ids item (Entries kinds.Constant left at) Front entered
 
 pub returns-in-Err-class_count-clause-end : goal.returns-in-Err-class_count-clause-end
 returns-in-Err-class_count-clause-end c =
-    let tagged : tag_at (bounds_of c.args.item.now) c.args.item.now.bytes.now ≡ Ok tags.ClassDump = sym c.tag_at.ensures ∙ c.in-Ok.is ∙ ap Ok c.in-ClassDump.is in
-    sym (class_stopped c.args.ids (bounds_of c.args.item.now) c.args.item.now.bytes.now c.in-Err-class_count.stop tagged (sym c.class_count.ensures ∙ c.in-Err-class_count.is))
+    let item = c.args.item.now in
+    let tagged : tag_at (bounds_of item) item.bytes.now ≡ Ok tags.ClassDump = sym c.tag_at.ensures ∙ c.in-Ok.is ∙ ap Ok c.in-ClassDump.is in
+    let count = sym c.class_count.ensures ∙ c.in-Err-class_count.is in
+    sym (class_stopped c.args.ids (bounds_of item) item.bytes.now c.in-Err-class_count.stop tagged count)
