@@ -10,3 +10,7 @@ pub mod ClassDumps
 pub mod Dumps
 pub mod RecordBodies
 pub mod FullHeads
+pub mod WalksMore
+pub mod WalksReads
+pub mod Walks
+pub mod WalksFronts

@@ -5,6 +5,7 @@ pub mod RecordBody
 pub mod ClassDump
 pub mod Fronts
 pub mod SubRecord
+pub mod Walk
 pub mod FullFact
 pub mod FactValue
 pub mod Spelling

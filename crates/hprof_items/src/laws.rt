@@ -103,3 +103,10 @@ pub fn full_heads_read_back()
     ensures facts { (ids : IdSize) (longest : ℕ) (head : Head) → IsFullHead ids longest head → kind_of head.tag ≡ kinds.FactRecord
         → (known : RecordTag) × (record_of_code head.tag ≡ Some known) × (is_legal_body ids known head.length ≡ true) }
 {}
+
+/// With more bytes no answer about a sub-record changes but the one that more are needed.
+pub fn fronts_of_sub_records_are_short()
+    ensures more { (ids : IdSize) (bounds : Bounds) (bytes more : List ℕ) → bounds.there ≡ length bytes
+        → (sub_at ids bounds bytes ≡ Err stops.Short)
+        ⊎ (sub_at ids (with_more bounds (length more)) (bytes ++ more) ≡ sub_at ids bounds bytes) }
+{}

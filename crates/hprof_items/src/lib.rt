@@ -21,6 +21,7 @@ mod step;
 mod sub_reading;
 pub mod tag;
 mod target;
+mod walk;
 mod writing;
 
 pub use device::Device;
@@ -40,6 +41,7 @@ pub use source::Source;
 pub use step::Step;
 pub use sub_reading::read_sub;
 pub use target::Target;
+pub use walk::{Walk, go_on};
 pub use writing::{write_fact, write_head, write_header};
 
 #[cfg(test)]

@@ -4,6 +4,7 @@ ghost use Rattle.hprof_items.specs.Reading.{IsRightHead};
 
 mod items;
 mod records;
+mod walks;
 
 use super::*;
 use std::io;
