@@ -4,3 +4,4 @@ pub mod FieldGroups
 pub mod EntryLists
 pub mod Counting
 pub mod IdLists
+pub mod NumberWriting

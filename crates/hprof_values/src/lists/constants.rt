@@ -4,6 +4,7 @@ ghost use Rattle.std.specs.Prelude.{◌≡◌};
 ghost use Rattle.hprof_values.specs.declared.entry.EntryKind.TheVariants as kinds;
 ghost use Rattle.hprof_values.specs.Entries.{entries_bytes, entries_in};
 
+use super::in_range;
 use crate::entries::{count_entries, next_entry, nth_entry};
 use crate::entry::EntryKind;
 use crate::ids::IdSize;
@@ -68,6 +69,22 @@ impl<'a> ConstantList<'a> {
             self.ids,
         )?;
         Some(Constant::of(entry))
+    }
+
+    /// The bytes that spell them, without their count.
+    pub fn bytes(&self) -> &'a [u8]
+        ensures spelled { IsEntryList (constants_size self.now) EntryKind.Constant (constants_of self.now) result.now }
+    {
+        // The range of what is read is known.
+        let _count = self.len;
+        in_range(self.bytes)
+    }
+
+    /// The size of identifiers among them.
+    pub fn id_size(&self) -> IdSize
+        ensures { result ≡ constants_size self.now }
+    {
+        self.ids
     }
 
     /// The constants in their order, in one walk over the bytes.
