@@ -6,3 +6,4 @@ pub mod Writes
 pub mod Limits
 pub mod SubRecords
 pub mod ArrayRecords
+pub mod Fronts

@@ -4,6 +4,7 @@ pub mod AnyFact
 pub mod RecordBody
 pub mod ClassDump
 pub mod SubRecord
+pub mod ObjectTag
 pub mod FullFact
 pub mod FactValue
 pub mod Spelling

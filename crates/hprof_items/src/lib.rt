@@ -3,15 +3,20 @@
 //! heapDumper.cpp. No call of this crate takes memory.
 #![tactic(auto)]
 
+mod class_writing;
 mod device;
 mod fact;
+mod front_writing;
 mod full_fact;
+mod full_writing;
 mod head;
 mod header;
 mod health;
 pub mod laws;
 mod object_reading;
+mod object_writing;
 mod reading;
+mod record_writing;
 mod root_reading;
 mod source;
 mod step;
@@ -22,6 +27,7 @@ mod writing;
 pub use device::Device;
 pub use fact::{Fact, fits, spelled_len};
 pub use full_fact::FullFact;
+pub use full_writing::write_full_fact;
 pub use head::{HEAD_LEN, Head, HeadKind};
 pub use header::{HEADER_LEN, Header, Version};
 pub use health::{Health, ReadFault, WriteFault};

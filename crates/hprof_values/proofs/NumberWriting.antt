@@ -1,5 +1,5 @@
 -- Numbers that are put at the front of some bytes, one behind the other.
-use Rattle.std.proofs.Common.{◌≡◌, ℕ, suc, ◌+◌, ◌-◌, ◌<◌, ◌≤◌, List, ◌∷◌, ◌++◌, length, take, drop, get_or, sym, ap, subst, ◌∙◌, append_assoc, append-nil, take-append-drop, arith}
+use Rattle.std.proofs.Common.{◌≡◌, ℕ, suc, ◌+◌, ◌-◌, ◌*◌, ◌<◌, ◌≤◌, List, [], ◌∷◌, ◌++◌, length, take, drop, get_or, sym, ap, subst, ◌∙◌, append_assoc, append-nil, take-append-drop, arith}
 use Rattle.std.proofs.lemmas.List.{drop_all, drop_at, take_at, length-append, length-drop, length-take-le}
 use Rattle.std.proofs.Math.Seq.{drop-cons, drop-drop}
 use Rattle.std.specs.Prelude.{sum}
@@ -7,7 +7,9 @@ use borrow.Rule.Slice.PartMut.{put_mid}
 use Rattle.byteorder.specs.Endian.{big_bytes}
 use Rattle.byteorder.specs.Numbers.{length-bytes_high_first}
 use Rattle.hprof_values.specs.declared.ids.IdSize.{IdSize}
+use Rattle.hprof_values.specs.declared.ids.IdSize.TheVariants.{Four, Eight}
 use Rattle.hprof_values.specs.declared.number_writing.Number.{Number}
+use Rattle.hprof_values.specs.declared.number_writing.Number.TheVariants as numbers
 use Rattle.hprof_values.specs.Fields.{field_bytes, FitFields}
 use Rattle.hprof_values.specs.Numbers.{width_of_number, number_value, number_widths, number_values}
 use Rattle.hprof_values.proofs.Numbers.{to_the_end}
@@ -86,3 +88,17 @@ Put-all ids numbers i old now end le some =
     sym (take-append-drop end now)
     ∙ ap (λ (r : List ℕ). r ++ drop end now) (sym (put.spelled ∙ append-nil (take end now)))
     ∙ ap (λ (r : List ℕ). numbers_bytes ids numbers ++ r) (put.behind ∙ ap (λ (n : ℕ). drop n old) last)
+
+-- no number has more than eight bytes
+width_most : (ids : IdSize) (number : Number) → width_of_number ids number ≤ 8
+width_most Four (numbers.Id id) = omega arith
+width_most Eight (numbers.Id id) = omega arith
+width_most ids (numbers.Four number) = omega arith
+width_most ids (numbers.Two number) = omega arith
+width_most ids (numbers.One number) = omega arith
+
+-- nor so many numbers more than eight each
+pub widths_most : (ids : IdSize) (numbers : List Number) → sum (number_widths ids numbers) ≤ 8 * length numbers
+widths_most ids [] = omega arith
+widths_most ids (number ∷ numbers) =
+    omega (arith, sum_widths (width_of_number ids number) (number_widths ids numbers), width_most ids number, widths_most ids numbers)

@@ -64,7 +64,7 @@ fn put_number(number: Number, ids: IdSize, out: &mut [u8])
 
 /// How many bytes the numbers have.
 pub fn numbers_len(numbers: &[Number], ids: IdSize) -> usize
-    requires { length numbers.now < 2 ^ 32 }
+    requires { sum (number_widths ids numbers.now) < 2 ^ 64 }
     ensures { result ≡ sum (number_widths ids numbers.now) }
 {
     numbers.iter().map(|number| number.width(ids)).sum()
