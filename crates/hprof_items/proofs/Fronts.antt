@@ -1,8 +1,7 @@
 -- Fields that are put behind those of a head, and the records that they begin.
-use Rattle.std.proofs.Common.{◌≡◌, ℕ, ◌+◌, ◌%◌, ◌<◌, ◌≤◌, List, [], ◌∷◌, ◌++◌, length, take, Option, Result, sym, ap, subst, ◌∙◌, append_assoc, arith}
+use Rattle.std.proofs.Common.{◌≡◌, ℕ, ◌+◌, ◌%◌, ◌<◌, List, [], ◌∷◌, ◌++◌, length, take, Option, Result, sym, ap, subst, ◌∙◌, append_assoc, arith}
 use Rattle.std.proofs.lemmas.List.{take_at, length-append}
 use borrow.Rule.Slice.PartMut.{put_mid, post_of}
-use Rattle.std.specs.Prelude.{sum}
 use Rattle.hprof_values.specs.Fields.{field_bytes}
 use Rattle.byteorder.specs.Endian.{big_bytes}
 use Rattle.hprof_values.specs.declared.sub_tag.SubTag.{SubTag}

@@ -7,3 +7,4 @@ pub mod Limits
 pub mod SubRecords
 pub mod ArrayRecords
 pub mod Fronts
+pub mod Lengths

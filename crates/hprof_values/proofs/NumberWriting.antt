@@ -1,5 +1,5 @@
 -- Numbers that are put at the front of some bytes, one behind the other.
-use Rattle.std.proofs.Common.{◌≡◌, ℕ, suc, ◌+◌, ◌-◌, ◌*◌, ◌<◌, ◌≤◌, List, [], ◌∷◌, ◌++◌, length, take, drop, get_or, sym, ap, subst, ◌∙◌, append_assoc, append-nil, take-append-drop, arith}
+use Rattle.std.proofs.Common.{◌≡◌, ℕ, suc, ◌+◌, ◌-◌, ◌*◌, ◌<◌, ◌≤◌, ◌^◌, List, [], ◌∷◌, ◌++◌, length, take, drop, get_or, sym, ap, subst, ◌∙◌, append_assoc, append-nil, take-append-drop, arith}
 use Rattle.std.proofs.lemmas.List.{drop_all, drop_at, take_at, length-append, length-drop, length-take-le}
 use Rattle.std.proofs.Math.Seq.{drop-cons, drop-drop}
 use Rattle.std.specs.Prelude.{sum}
@@ -102,3 +102,30 @@ pub widths_most : (ids : IdSize) (numbers : List Number) → sum (number_widths 
 widths_most ids [] = omega arith
 widths_most ids (number ∷ numbers) =
     omega (arith, sum_widths (width_of_number ids number) (number_widths ids numbers), width_most ids number, widths_most ids numbers)
+
+-- ---- whether they fit
+
+-- all the numbers fit exactly where the rest do
+pub record FitSoFar (ids : IdSize) (numbers rest : List Number) : Type 0 where
+  pub all : FitFields (number_widths ids rest) (number_values rest) → FitFields (number_widths ids numbers) (number_values numbers)
+  pub left : FitFields (number_widths ids numbers) (number_values numbers) → FitFields (number_widths ids rest) (number_values rest)
+
+pub FitSoFar-none : (ids : IdSize) (numbers : List Number) → FitSoFar ids numbers numbers
+FitSoFar-none ids numbers = record { all = λ fits. fits; left = λ fits. fits }
+
+-- the number at a place is the first from there on
+pub FitSoFar-next : (ids : IdSize) (numbers : List Number) (i : ℕ) (d : Number) → i < length numbers → FitSoFar ids numbers (drop i numbers)
+    → FitSoFar ids numbers (get_or numbers i d ∷ drop (i + 1) numbers)
+FitSoFar-next ids numbers i d lt fits =
+    let next : suc i ≡ i + 1 = omega arith in
+    let first : drop i numbers ≡ get_or numbers i d ∷ drop (i + 1) numbers = drop-cons numbers i d lt ∙ ap (λ (n : ℕ). get_or numbers i d ∷ drop n numbers) next in
+    subst (FitSoFar ids numbers) first fits
+
+-- one number more that fits
+pub FitSoFar-more : (ids : IdSize) (numbers : List Number) (number : Number) (rest : List Number) → number_value number < 256 ^ width_of_number ids number
+    → FitSoFar ids numbers (number ∷ rest) → FitSoFar ids numbers rest
+FitSoFar-more ids numbers number rest here fits = record { all = λ others. fits.all (here, others); left = λ all. (fits.left all).1 }
+
+-- all of them
+pub FitSoFar-all : (ids : IdSize) (numbers : List Number) (i : ℕ) → length numbers ≤ i → FitSoFar ids numbers (drop i numbers) → FitFields (number_widths ids numbers) (number_values numbers)
+FitSoFar-all ids numbers i le fits = (subst (FitSoFar ids numbers) (drop_all i numbers le) fits).all tt

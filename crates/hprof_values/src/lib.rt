@@ -27,7 +27,7 @@ pub use lists::constants::{ConstantList, Constants};
 pub use lists::fields::{FieldList, Fields};
 pub use lists::ids::{IdList, Ids};
 pub use lists::statics::{StaticList, Statics};
-pub use number_writing::{Number, numbers_len, put_numbers};
+pub use number_writing::{Number, numbers_fit, numbers_len, put_numbers};
 pub use reason::Reason;
 pub use record_tag::RecordTag;
 pub use root::Root;

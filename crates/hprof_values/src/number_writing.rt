@@ -1,6 +1,6 @@
 //! Numbers put at the front of some bytes, the highest byte first.
 
-ghost use Rattle.std.specs.Prelude.{◌≡◌, ◌<◌, ◌≤◌, ◌^◌, ◌++◌, length, drop, sum};
+ghost use Rattle.std.specs.Prelude.{◌≡◌, ◌↔◌, IsTrue, ◌<◌, ◌≤◌, ◌^◌, ◌++◌, length, drop, sum};
 ghost use Rattle.byteorder.specs.Endian.{big_bytes};
 ghost use Rattle.hprof_values.specs.Ids.{width_of, IsId};
 ghost use Rattle.hprof_values.specs.Fields.{field_bytes, FitFields};
@@ -34,6 +34,28 @@ impl Number {
             Number::One(_) => 1,
         }
     }
+
+    /// Whether the number lies in the range of its field. Only an identifier may be too great.
+    fn fits(self, ids: IdSize) -> bool
+        ensures { IsTrue result ↔ (number_value self < 256 ^ width_of_number ids self) }
+    {
+        match (self, ids) {
+            (Number::Id(id), IdSize::Four) => u32::try_from(id).is_ok(),
+            _ => true,
+        }
+    }
+}
+
+/// Whether each of the numbers lies in the range of its field.
+pub fn numbers_fit(numbers: &[Number], ids: IdSize) -> bool
+    ensures { IsTrue result ↔ FitFields (number_widths ids numbers.now) (number_values numbers.now) }
+{
+    for number in numbers {
+        if !number.fits(ids) {
+            return false;
+        }
+    }
+    true
 }
 
 /// Puts an identifier at the front.

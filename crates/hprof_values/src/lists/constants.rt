@@ -23,7 +23,7 @@ pub struct ConstantList<'a> {
 impl<'a> ConstantList<'a> {
     ghost use Rattle.std.specs.Prelude.{◌↔◌, IsTrue, List, [], length, slice_get, option_map, IfSome, IsSomeAnd};
     ghost use Rattle.hprof_values.specs.declared.entry.Entry.{Entry};
-    ghost use Rattle.hprof_values.specs.Entries.{IsEntryList};
+    ghost use Rattle.hprof_values.specs.Entries.{IsEntryList, ListFits};
     ghost use Rattle.hprof_values.specs.Value.{constant_of};
     ghost use Rattle.hprof_values.specs.Lists.{constants_of, constants_left, constants_size};
 
@@ -80,10 +80,14 @@ impl<'a> ConstantList<'a> {
         in_range(self.bytes)
     }
 
-    /// The size of identifiers among them.
+    /// The size of identifiers among them. They have a spelling under it.
     pub fn id_size(&self) -> IdSize
-        ensures { result ≡ constants_size self.now }
+        ensures size { result ≡ constants_size self.now }
+        ensures fits { ListFits result EntryKind.Constant (constants_of self.now) }
     {
+        // The range of what is read is known.
+        let _count = self.len;
+        let _bytes = in_range(self.bytes);
         self.ids
     }
 

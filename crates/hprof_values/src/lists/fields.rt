@@ -23,7 +23,7 @@ pub struct FieldList<'a> {
 impl<'a> FieldList<'a> {
     ghost use Rattle.std.specs.Prelude.{◌↔◌, IsTrue, List, [], length, slice_get, option_map, IfSome, IsSomeAnd};
     ghost use Rattle.hprof_values.specs.declared.entry.Entry.{Entry};
-    ghost use Rattle.hprof_values.specs.Entries.{IsEntryList};
+    ghost use Rattle.hprof_values.specs.Entries.{IsEntryList, ListFits};
     ghost use Rattle.hprof_values.specs.Value.{field_of};
     ghost use Rattle.hprof_values.specs.Lists.{fields_of, fields_left, fields_size};
 
@@ -80,10 +80,14 @@ impl<'a> FieldList<'a> {
         in_range(self.bytes)
     }
 
-    /// The size of identifiers among them.
+    /// The size of identifiers among them. They have a spelling under it.
     pub fn id_size(&self) -> IdSize
-        ensures { result ≡ fields_size self.now }
+        ensures size { result ≡ fields_size self.now }
+        ensures fits { ListFits result EntryKind.Field (fields_of self.now) }
     {
+        // The range of what is read is known.
+        let _count = self.len;
+        let _bytes = in_range(self.bytes);
         self.ids
     }
 

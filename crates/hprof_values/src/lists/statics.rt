@@ -23,7 +23,7 @@ pub struct StaticList<'a> {
 impl<'a> StaticList<'a> {
     ghost use Rattle.std.specs.Prelude.{◌↔◌, IsTrue, List, [], length, slice_get, option_map, IfSome, IsSomeAnd};
     ghost use Rattle.hprof_values.specs.declared.entry.Entry.{Entry};
-    ghost use Rattle.hprof_values.specs.Entries.{IsEntryList};
+    ghost use Rattle.hprof_values.specs.Entries.{IsEntryList, ListFits};
     ghost use Rattle.hprof_values.specs.Value.{static_of};
     ghost use Rattle.hprof_values.specs.Lists.{statics_of, statics_left, statics_size};
 
@@ -80,10 +80,14 @@ impl<'a> StaticList<'a> {
         in_range(self.bytes)
     }
 
-    /// The size of identifiers among them.
+    /// The size of identifiers among them. They have a spelling under it.
     pub fn id_size(&self) -> IdSize
-        ensures { result ≡ statics_size self.now }
+        ensures size { result ≡ statics_size self.now }
+        ensures fits { ListFits result EntryKind.Static (statics_of self.now) }
     {
+        // The range of what is read is known.
+        let _count = self.len;
+        let _bytes = in_range(self.bytes);
         self.ids
     }
 

@@ -1,4 +1,4 @@
-use Rattle.std.proofs.Common.{◌≡◌, ◌+◌, ◌-◌, ◌++◌, ℕ, List, length, take, drop, ap, subst, sym, ◌∙◌, arith}
+use Rattle.std.proofs.Common.{◌≡◌, ◌+◌, ◌-◌, ◌++◌, ℕ, List, take, subst, sym, ◌∙◌, arith}
 use Rattle.std.proofs.lemmas.Result.{err_from_is_err_and}
 use Rattle.std.specs.Prelude.{sum}
 use borrow.Rule.Slice.PartMut.{put_mid}
@@ -8,7 +8,6 @@ use Rattle.hprof_values.specs.declared.number_writing.Number.{Number}
 use Rattle.hprof_values.specs.Fields.{field_bytes, FitFields}
 use Rattle.hprof_values.specs.Numbers.{number_widths, number_values}
 use Rattle.hprof_values.proofs.FieldGroups.{length-fields}
-use Rattle.hprof_items.specs.Device.{Writes}
 use Rattle.hprof_items.proofs.Fronts.{front_parts}
 use Rattle.hprof_items.proofs.Writes.{WritesFront, Writes-then, Writes-stops}
 use Rattle.hprof_items.proofs.front_writing.write_front.Goals as goal

@@ -1,4 +1,4 @@
-use Rattle.std.proofs.Common.{◌≡◌, ◌++◌, ℕ, List, length, subst, sym, ◌∙◌, arith}
+use Rattle.std.proofs.Common.{ℕ, List, subst, arith}
 use Rattle.std.proofs.lemmas.List.{length-append}
 use Rattle.hprof_values.specs.Fields.{field_bytes}
 use Rattle.hprof_values.specs.Numbers.{number_widths, number_values}

@@ -1,4 +1,4 @@
-use Rattle.std.proofs.Common.{◌≡◌, ℕ, [], ◌∷◌, ◌++◌, List, Option, Result, length, ap, subst, sym, ◌∙◌, arith}
+use Rattle.std.proofs.Common.{◌≡◌, ℕ, [], ◌∷◌, ◌++◌, List, Option, Result, length, ap, subst, arith}
 use Rattle.hprof_values.specs.declared.ids.IdSize.{IdSize}
 use Rattle.hprof_values.specs.declared.lists.ids.IdList.{IdList}
 use Rattle.hprof_values.specs.declared.record_tag.RecordTag.TheVariants as tags
@@ -6,13 +6,10 @@ use Rattle.hprof_values.specs.Fields.{field_bytes}
 use Rattle.hprof_values.specs.Lists.{id_widths, identifiers_of, identifiers_size, IsIdList}
 use Rattle.hprof_values.specs.RecordTag.{record_fields}
 use Rattle.hprof_items.specs.declared.health.WriteFault.{WriteFault}
-use Rattle.hprof_items.specs.declared.full_fact.FullFact.{FullFact}
-use Rattle.hprof_items.specs.declared.full_fact.FullFact.TheVariants as facts
 use Rattle.hprof_items.specs.Head.{record_bytes}
 use Rattle.hprof_items.specs.AnyFact.{Trace}
-use Rattle.hprof_items.specs.AnySpelling.{any_spelling, AnyFits}
+use Rattle.hprof_items.specs.AnySpelling.{any_spelling}
 use Rattle.hprof_items.specs.Device.{Writes}
-use Rattle.hprof_items.specs.FullFact.{value_of_full, ListsHave}
 use Rattle.hprof_items.proofs.Fronts.{writes_form, fits_form, lists_form, ids_bytes}
 use Rattle.hprof_items.proofs.record_writing.write_trace.Goals as goal
 
