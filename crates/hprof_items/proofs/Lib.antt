@@ -14,3 +14,5 @@ pub mod WalksMore
 pub mod WalksReads
 pub mod Walks
 pub mod WalksFronts
+pub mod Fronts
+pub mod Lengths

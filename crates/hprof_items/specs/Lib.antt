@@ -6,6 +6,7 @@ pub mod ClassDump
 pub mod Fronts
 pub mod SubRecord
 pub mod Walk
+pub mod ObjectTag
 pub mod FullFact
 pub mod FactValue
 pub mod Spelling

@@ -4,17 +4,26 @@
 #![tactic(auto)]
 
 mod class_reading;
+mod class_writing;
 mod device;
 mod fact;
+mod front_fitting;
+mod front_writing;
 mod full_fact;
+mod full_fitting;
 mod full_head;
+mod full_writing;
 mod head;
 mod header;
 mod health;
 pub mod laws;
+mod object_fitting;
 mod object_reading;
+mod object_writing;
 mod reading;
+mod record_fitting;
 mod record_reading;
+mod record_writing;
 mod root_reading;
 mod source;
 mod step;
@@ -27,7 +36,9 @@ mod writing;
 pub use device::Device;
 pub use fact::{Fact, fits, spelled_len};
 pub use full_fact::FullFact;
+pub use full_fitting::{full_fits, full_spelled_len};
 pub use full_head::read_full_head;
+pub use full_writing::write_full_fact;
 pub use head::{HEAD_LEN, Head, HeadKind};
 pub use header::{HEADER_LEN, Header, Version};
 pub use health::{Health, ReadFault, WriteFault};

@@ -2,6 +2,7 @@ ghost use Rattle.std.specs.Prelude.{◌≤◌, IfOk, IfSome};
 ghost use Rattle.hprof_items.specs.Spelling.{longest_body};
 ghost use Rattle.hprof_items.specs.Reading.{IsRightHead};
 
+mod full_writing;
 mod items;
 mod records;
 mod walks;
