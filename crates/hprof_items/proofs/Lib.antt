@@ -9,6 +9,7 @@ pub mod ArrayRecords
 pub mod ClassDumps
 pub mod Dumps
 pub mod RecordBodies
+pub mod Families
 pub mod FullHeads
 pub mod WalksMore
 pub mod WalksReads

@@ -1,5 +1,5 @@
--- What any record or sub-record states, as a value over numbers and lists. Only `FactValue` is read and written so far;
--- it is to take these forms.
+-- What any record or sub-record states, as a value over numbers and lists. `FactValue`, which parts are read by so far, is
+-- to take these forms.
 use Rattle.std.specs.Prelude.{ℕ, ℤ, List}
 use Rattle.hprof_values.specs.declared.basic.Basic.{Basic}
 use Rattle.hprof_values.specs.declared.entry.Entry.{Entry}

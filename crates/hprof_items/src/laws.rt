@@ -1,6 +1,6 @@
 //! Laws of the definitions. None of these functions does anything.
 
-ghost use Rattle.std.specs.Prelude.{◌≡◌, ◌+◌, ◌<◌, ◌≤◌, ◌⊎◌, List, ℕ, ◌++◌, length, drop, sum, true, Some, Ok, Err};
+ghost use Rattle.std.specs.Prelude.{is_some, ◌≡◌, ◌+◌, ◌<◌, ◌≤◌, ◌⊎◌, List, ℕ, ◌++◌, length, drop, sum, true, Some, Ok, Err};
 ghost use Rattle.std.specs.Cmp.Lexicographic.{slice_cmp};
 ghost use Rattle.std.specs.Ordering.{nat_cmp};
 ghost use Rattle.hprof_values.specs.declared.ids.IdSize.{IdSize};
@@ -25,7 +25,8 @@ ghost use Rattle.hprof_items.specs.AnyFact.{AnyFact};
 ghost use Rattle.hprof_items.specs.SubRecord.{sub_at, dump_bytes, DumpFits, IsSubOf};
 ghost use Rattle.hprof_values.specs.declared.record_tag.RecordTag.{RecordTag};
 ghost use Rattle.hprof_values.specs.RecordTag.{code_of_record, record_of_code};
-ghost use Rattle.hprof_items.specs.RecordBody.{is_legal_body, record_body, record_at, BodyFits};
+ghost use Rattle.hprof_items.specs.RecordBody.{is_legal_body, record_body, record_at, BodyFits, record_of};
+ghost use Rattle.hprof_items.specs.AnySpelling.{any_spelling, AnyFits};
 ghost use Rattle.hprof_values.specs.Fields.{field_bytes, fields_in, FitFields, Bounds, reached, IsWithin, with_more};
 ghost use Rattle.hprof_values.specs.Root.{root_bytes, tag_of_root, RootFits};
 ghost use Rattle.hprof_items.specs.Reading.{header_at, head_at, IsRightHead, body_at};
@@ -109,4 +110,12 @@ pub fn fronts_of_sub_records_are_short()
     ensures more { (ids : IdSize) (bounds : Bounds) (bytes more : List ℕ) → bounds.there ≡ length bytes
         → (sub_at ids bounds bytes ≡ Err stops.Short)
         ⊎ (sub_at ids (with_more bounds (length more)) (bytes ++ more) ≡ sub_at ids bounds bytes) }
+{}
+
+/// No spelling of a fact begins another of its family: records, or sub-records. Between the two families their tags
+/// overlap.
+pub fn one_spelling_in_each_family()
+    ensures { (ids : IdSize) (fact other : AnyFact) (rest more : List ℕ) → AnyFits ids fact → AnyFits ids other
+        → is_some (record_of fact) ≡ is_some (record_of other)
+        → any_spelling ids fact ++ rest ≡ any_spelling ids other ++ more → (fact ≡ other) × (rest ≡ more) }
 {}
