@@ -1,7 +1,6 @@
 pub mod Steps
 pub mod Headers
 pub mod Heads
-pub mod Bodies
 pub mod Writes
 pub mod Limits
 pub mod SubRecords
@@ -9,4 +8,3 @@ pub mod ArrayRecords
 pub mod ClassDumps
 pub mod Dumps
 pub mod RecordBodies
-pub mod FullHeads

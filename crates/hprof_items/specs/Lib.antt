@@ -1,15 +1,11 @@
 pub mod Header
 pub mod Head
-pub mod AnyFact
+pub mod FactValue
 pub mod RecordBody
 pub mod ClassDump
 pub mod Fronts
 pub mod SubRecord
-pub mod FullFact
-pub mod FactValue
 pub mod Spelling
-pub mod AnySpelling
-pub mod SubReading
 pub mod Reading
-pub mod FullHead
+pub mod SubReading
 pub mod Device

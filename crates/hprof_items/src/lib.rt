@@ -6,14 +6,13 @@
 mod class_reading;
 mod device;
 mod fact;
-mod full_fact;
-mod full_head;
 mod head;
+mod head_reading;
 mod header;
+mod header_reading;
 mod health;
 pub mod laws;
 mod object_reading;
-mod reading;
 mod record_reading;
 mod root_reading;
 mod source;
@@ -24,23 +23,22 @@ mod target;
 mod writing;
 
 pub use device::Device;
-pub use fact::{Fact, fits, spelled_len};
-pub use full_fact::FullFact;
-pub use full_head::read_full_head;
+pub use fact::Fact;
 pub use head::{HEAD_LEN, Head, HeadKind};
+pub use head_reading::read_head;
 pub use header::{HEADER_LEN, Header, Version};
+pub use header_reading::read_header;
 pub use health::{Health, ReadFault, WriteFault};
 pub use hprof_values::{
     Basic, Constant, ConstantList, Constants, Entry, EntryKind, Field, FieldList, Fields, IdList,
     IdSize, Ids, Reason, RecordTag, Root, Static, StaticList, Statics, Stop, SubTag, Value,
 };
-pub use reading::{read_body, read_head, read_header};
-pub use record_reading::read_record;
+pub use record_reading::read_body;
 pub use source::Source;
 pub use step::Step;
 pub use sub_reading::read_sub;
 pub use target::Target;
-pub use writing::{write_fact, write_head, write_header};
+pub use writing::{write_head, write_header};
 
 #[cfg(test)]
 mod tests;

@@ -1,6 +1,6 @@
 use Rattle.std.proofs.Common.{Option, refl, ap, ◌∙◌}
 use Rattle.hprof_values.specs.declared.record_tag.RecordTag.{RecordTag}
-use Rattle.hprof_items.specs.FullHead.{is_legal_as}
+use Rattle.hprof_items.specs.Reading.{is_legal_as}
 use Rattle.hprof_items.specs.RecordBody.{is_legal_body}
 use Rattle.hprof_items.proofs.tests.records.fact_in.Goals as goal
 

@@ -4,7 +4,7 @@ use Rattle.hprof_items.specs.declared.step.Step.TheVariants.{Whole}
 use Rattle.hprof_items.specs.Reading.{ids_of}
 use Rattle.hprof_values.proofs.Numbers.{to_the_end}
 use Rattle.hprof_items.proofs.Headers.{header_made}
-use Rattle.hprof_items.proofs.reading.header_step.Goals as goal
+use Rattle.hprof_items.proofs.header_reading.header_step.Goals as goal
 
 pub returns : goal.returns
 returns c =

@@ -1,7 +1,7 @@
 use Rattle.std.proofs.Common.{sym, ap, ◌∙◌, arith}
 use Rattle.hprof_items.specs.Reading.{header_at}
 use Rattle.hprof_items.proofs.Headers.{header_found, header_again}
-use Rattle.hprof_items.proofs.reading.read_header.Goals as goal
+use Rattle.hprof_items.proofs.header_reading.read_header.Goals as goal
 
 pub returns-clause-found : goal.returns-clause-found
 returns-clause-found c = λ h n e. header_found c.args.bytes.now h n (λ i. omega (arith, c.type_inv.bytes i)) (sym c.header_step.ensures ∙ e)
