@@ -1,12 +1,4 @@
 pub mod Items
 pub mod Refusals
-pub mod Runs
-pub mod Walks
+pub mod ItemLists
 pub mod Faults
-pub mod Found
-pub mod Stepping
-pub mod Holding
-pub mod Feeding
-pub mod Finishing
-pub mod LastItems
-pub mod Sources

@@ -3,5 +3,3 @@ pub mod Part
 pub mod Item
 pub mod Fault
 pub mod Run
-pub mod Reader
-pub mod Walking

@@ -1,22 +1,13 @@
 //! A part of a heap dump, read in pieces: its header and facts are handed to a sink as they become whole.
 #![tactic(auto)]
 
-mod held;
 pub mod laws;
 mod limits;
 mod part_fault;
-mod part_reader;
-mod progress;
-mod reading;
 mod sink;
 mod summary;
 
 pub use limits::Limits;
 pub use part_fault::PartFault;
-pub use part_reader::PartReader;
-pub use reading::read_part;
 pub use sink::{Sink, SinkFault};
 pub use summary::PartSummary;
-
-#[cfg(test)]
-mod tests;
