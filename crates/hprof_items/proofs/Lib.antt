@@ -8,3 +8,5 @@ pub mod ArrayRecords
 pub mod ClassDumps
 pub mod Dumps
 pub mod RecordBodies
+pub mod WalksMore
+pub mod WalksReads

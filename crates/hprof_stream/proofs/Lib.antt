@@ -1,4 +1,3 @@
+pub mod Tags
+pub mod SubFacts
 pub mod Items
-pub mod Refusals
-pub mod ItemLists
-pub mod Faults

@@ -1,6 +1,6 @@
 -- The items of a part: what is judged as one, from the first byte on. An item is wholly there and right, or the
 -- first of its tests that fails says what is wrong.
-use Rattle.std.specs.Prelude.{◌≡◌, ℕ, zero, suc, ◌+◌, ◌-◌, ◌^◌, ◌<◌, ◌≤◌, Bool, true, false, nat_lt, List, [], ◌∷◌, length, take, drop, Result, Ok, Err, Option, Some, None, if◌then◌else◌}
+use Rattle.std.specs.Prelude.{◌≡◌, ℕ, zero, suc, ◌+◌, ◌-◌, ◌^◌, ◌<◌, ◌≤◌, Bool, true, false, nat_lt, List, [], ◌∷◌, length, take, drop, Result, Ok, Err, Option, Some, None, ⊤, if◌then◌else◌}
 use Rattle.hprof_items.specs.declared.header.Header.{Header}
 use Rattle.hprof_items.specs.declared.head.Head.{Head}
 use Rattle.hprof_items.specs.declared.head.HeadKind.{HeadKind}
@@ -44,6 +44,12 @@ place_in header (suc room) = Within header (suc room)
 abbrev pub place_behind : Option Header → ℕ → Place
 place_behind None room = Start
 place_behind (Some header) room = place_in header room
+
+-- a heap dump record has no more bytes left than the length in its head can say
+abbrev pub HasRoom : Place → Type 0
+HasRoom Start = ⊤
+HasRoom (Between header) = ⊤
+HasRoom (Within header room) = room ≤ longest_body
 
 -- a part may end there
 abbrev pub may_end : Place → Bool
