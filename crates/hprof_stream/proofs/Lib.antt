@@ -1,3 +1,5 @@
 pub mod Tags
 pub mod SubFacts
 pub mod Items
+pub mod Stops
+pub mod Refusals
