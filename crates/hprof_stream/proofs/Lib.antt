@@ -3,3 +3,4 @@ pub mod SubFacts
 pub mod Items
 pub mod Stops
 pub mod Refusals
+pub mod ItemLists
