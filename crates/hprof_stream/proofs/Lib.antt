@@ -3,4 +3,5 @@ pub mod SubFacts
 pub mod Items
 pub mod Stops
 pub mod Refusals
+pub mod ItemSteps
 pub mod ItemLists

@@ -1,5 +1,6 @@
 pub mod Record
 pub mod Part
 pub mod Item
+pub mod ItemStep
 pub mod Fault
 pub mod Run

@@ -1,0 +1,29 @@
+-- What the item that was read says of what stands at the front.
+use Rattle.std.specs.Prelude.{◌≡◌, ℕ, ◌-◌, List, [], ◌∷◌}
+use Rattle.hprof_items.specs.declared.header.Header.{Header}
+use Rattle.hprof_items.specs.declared.step.Step.{Step}
+use Rattle.hprof_items.specs.declared.step.Step.TheVariants as steps
+use Rattle.hprof_items.specs.FactValue.{FactValue, value_of}
+use Rattle.hprof_stream.specs.declared.item.Item.{Item}
+use Rattle.hprof_stream.specs.declared.item.Item.TheVariants as items
+use Rattle.hprof_stream.specs.Item.{Place, Start, Between, Within, place_in, Found}
+
+-- the facts that it states
+abbrev pub facts_of : Item → List FactValue
+facts_of (items.Fact fact) = value_of fact ∷ []
+facts_of (items.Sub fact) = value_of fact ∷ []
+facts_of _ = []
+
+-- the place that it leads to from another, by so many bytes
+abbrev pub place_after : Place → Item → ℕ → Place
+place_after place (items.Header header) n = Between header
+place_after (Between header) (items.Dump len) n = place_in header len
+place_after (Within header room) item n = place_in header (room - n)
+place_after place item n = place
+
+-- the step is what was found
+abbrev pub IsFound : Place → Step Item → Step Found → Type 0
+IsFound place (steps.Whole item n) found = found ≡ steps.Whole (record { next = place_after place item n; facts = facts_of item }) n
+IsFound place steps.Short found = found ≡ steps.Short
+IsFound place steps.TooLong found = found ≡ steps.TooLong
+IsFound place (steps.Fault reason) found = found ≡ steps.Fault reason
