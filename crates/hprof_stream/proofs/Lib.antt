@@ -4,3 +4,4 @@ pub mod Items
 pub mod Stops
 pub mod Refusals
 pub mod ItemLists
+pub mod Faults
