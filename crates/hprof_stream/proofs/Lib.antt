@@ -5,3 +5,4 @@ pub mod Stops
 pub mod Refusals
 pub mod ItemSteps
 pub mod ItemLists
+pub mod Faults
