@@ -5,6 +5,7 @@ mod item;
 pub mod laws;
 mod limits;
 mod part_fault;
+mod progress;
 mod sink;
 mod summary;
 
