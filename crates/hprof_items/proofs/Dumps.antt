@@ -169,7 +169,7 @@ read_found ids tag bounds bytes fact n are there e =
 -- ---- from the tag on
 
 -- a spelling begins with its tag
-tag_first : (ids : IdSize) (fact : FactValue) → DumpFits ids fact → dump_bytes ids fact ≡ code_of_tag (tag_of_dump fact) ∷ drop 1 (dump_bytes ids fact)
+pub tag_first : (ids : IdSize) (fact : FactValue) → DumpFits ids fact → dump_bytes ids fact ≡ code_of_tag (tag_of_dump fact) ∷ drop 1 (dump_bytes ids fact)
 tag_first ids (Rooted root) fits = refl
 tag_first ids (Class id trace parent loader signers domain reserved1 reserved2 size constants statics fields) fits = refl
 tag_first ids (Instance id trace class raw) fits = refl

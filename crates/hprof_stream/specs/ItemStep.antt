@@ -1,5 +1,5 @@
 -- What the item that was read says of what stands at the front.
-use Rattle.std.specs.Prelude.{◌≡◌, ℕ, ◌-◌, List, [], ◌∷◌}
+use Rattle.std.specs.Prelude.{◌≡◌, ◌==◌, ℕ, ◌-◌, Bool, true, false, List, [], ◌∷◌, slice_index, ⊤}
 use Rattle.hprof_items.specs.declared.header.Header.{Header}
 use Rattle.hprof_items.specs.declared.step.Step.{Step}
 use Rattle.hprof_items.specs.declared.step.Step.TheVariants as steps
@@ -27,3 +27,32 @@ IsFound place (steps.Whole item n) found = found ≡ steps.Whole (record { next 
 IsFound place steps.Short found = found ≡ steps.Short
 IsFound place steps.TooLong found = found ≡ steps.TooLong
 IsFound place (steps.Fault reason) found = found ≡ steps.Fault reason
+
+-- which items may stand at a place
+abbrev pub Stands : Place → Item → Type 0
+Stands Start (items.Header header) = ⊤
+Stands (Between header) (items.Fact fact) = ⊤
+Stands (Between header) (items.Dump len) = ⊤
+Stands (Between header) items.End = ⊤
+Stands (Between header) items.Skipped = ⊤
+Stands (Within header room) (items.Sub fact) = ⊤
+Stands _ _ = ⊥
+
+-- whether it ends a heap dump
+abbrev pub is_end_item : Item → Bool
+is_end_item items.End = true
+is_end_item _ = false
+
+-- what holds of the item that was read
+abbrev pub IfRead : Step Item → (Item → Type 0) → Type 0
+IfRead (steps.Whole item n) holds = holds item
+IfRead _ holds = ⊤
+
+-- it stands at the place, and ends a heap dump exactly where its first byte says so
+abbrev pub IsOfPlace : Place → List ℕ → Item → Type 0
+IsOfPlace place bytes item = Stands place item × (is_end_item item ≡ (slice_index bytes 0 == 0x2c))
+
+-- a record with a fact
+abbrev pub IsFact : Item → Type 0
+IsFact (items.Fact fact) = ⊤
+IsFact _ = ⊥

@@ -5,7 +5,7 @@ ghost use Rattle.hprof_items.specs.Head.{kind_of};
 ghost use Rattle.hprof_items.specs.Reading.{IsRightHead};
 ghost use Rattle.hprof_items.specs.Spelling.{longest_body};
 ghost use Rattle.hprof_stream.specs.Item.{Start, Between, Within, found_record, item_at};
-ghost use Rattle.hprof_stream.specs.ItemStep.{IsFound};
+ghost use Rattle.hprof_stream.specs.ItemStep.{IsFound, IfRead, IsOfPlace, IsFact};
 
 use hprof_items::{
     Fact, HEAD_LEN, Head, HeadKind, Header, Step, read_body, read_head, read_header, read_sub,
@@ -31,7 +31,8 @@ pub(crate) enum Item<'a> {
 /// The item at the first byte of a part.
 #[tactic(auto, unfolding(crate::specs::Item::item_at))]
 pub(crate) fn first_item(bytes: &[u8], longest: u32) -> Step<Item<'_>>
-    ensures { IsFound Start result (item_at longest Start bytes.now) }
+    ensures found { IsFound Start result (item_at longest Start bytes.now) }
+    ensures place { IfRead result (IsOfPlace Start bytes.now) }
 {
     match read_header(bytes) {
         Step::Whole(header, len) => Step::Whole(Item::Header(header), len),
@@ -45,7 +46,8 @@ pub(crate) fn first_item(bytes: &[u8], longest: u32) -> Step<Item<'_>>
 fn fact_item<'a>(header: &Header, head: &Head, bytes: &'a [u8]) -> Step<Item<'a>>
     requires whole { IsRightHead header.now.ids longest_body head.now }
     requires kind { kind_of head.now.tag ≡ HeadKind.FactRecord }
-    ensures { IsFound (Between header.now) result (found_record header.now HeadKind.FactRecord head.now bytes.now) }
+    ensures found { IsFound (Between header.now) result (found_record header.now HeadKind.FactRecord head.now bytes.now) }
+    ensures fact { IfRead result IsFact }
 {
     let len = HEAD_LEN + head.length as usize;
     if bytes.len() < len {
@@ -59,7 +61,8 @@ fn fact_item<'a>(header: &Header, head: &Head, bytes: &'a [u8]) -> Step<Item<'a>
 
 /// A record that is passed over, of which the head was read.
 fn skipped_item(header: &Header, head: &Head, bytes: &[u8]) -> Step<Item<'static>>
-    ensures { IsFound (Between header.now) result (found_record header.now HeadKind.Skipped head.now bytes.now) }
+    ensures found { IsFound (Between header.now) result (found_record header.now HeadKind.Skipped head.now bytes.now) }
+    ensures skipped { IfRead result (λ item. item ≡ Item.Skipped) }
 {
     let len = HEAD_LEN + head.length as usize;
     if bytes.len() < len {
@@ -71,7 +74,8 @@ fn skipped_item(header: &Header, head: &Head, bytes: &[u8]) -> Step<Item<'static
 /// The item between two records.
 #[tactic(auto, unfolding(crate::specs::Item::item_at))]
 pub(crate) fn record_item<'a>(header: &Header, bytes: &'a [u8], longest: u32) -> Step<Item<'a>>
-    ensures { IsFound (Between header.now) result (item_at longest (Between header.now) bytes.now) }
+    ensures found { IsFound (Between header.now) result (item_at longest (Between header.now) bytes.now) }
+    ensures place { IfRead result (IsOfPlace (Between header.now) bytes.now) }
 {
     let head = match read_head(bytes, header.ids, longest) {
         Step::Whole(head, _) => head,
@@ -96,7 +100,8 @@ pub(crate) fn sub_item<'a>(
     longest: u32,
 ) -> Step<Item<'a>>
     requires { 1 ≤ room }
-    ensures { IsFound (Within header.now room) result (item_at longest (Within header.now room) bytes.now) }
+    ensures found { IsFound (Within header.now room) result (item_at longest (Within header.now room) bytes.now) }
+    ensures place { IfRead result (IsOfPlace (Within header.now room) bytes.now) }
 {
     match read_sub(bytes, room, longest, header.ids) {
         Step::Whole(fact, len) => Step::Whole(Item::Sub(fact), len),

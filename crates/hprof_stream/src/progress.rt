@@ -3,7 +3,7 @@
 ghost use Rattle.std.specs.Prelude.{◌≡◌, ℕ, ◌+◌, ◌≤◌, length, drop, Some, None, IfOk, OnOk, OnErr};
 ghost use Rattle.hprof_items.specs.declared.step.Step.TheVariants.{Whole};
 ghost use Rattle.hprof_stream.specs.Item.{item_at};
-ghost use Rattle.hprof_stream.specs.ItemStep.{IsFound, facts_of, place_after};
+ghost use Rattle.hprof_stream.specs.ItemStep.{IsFound, IfRead, IsOfPlace};
 
 use crate::item::{Item, first_item, record_item, sub_item};
 use crate::limits::Limits;
@@ -49,7 +49,8 @@ impl Progress {
 
     /// The item at the front.
     fn item<'a>(&self, bytes: &'a [u8]) -> Step<Item<'a>>
-        ensures { IsFound (place_of self.now) result (item_at self.now.limits.max_item (place_of self.now) bytes.now) }
+        ensures found { IsFound (place_of self.now) result (item_at self.now.limits.max_item (place_of self.now) bytes.now) }
+        ensures place { IfRead result (IsOfPlace (place_of self.now) bytes.now) }
     {
         let longest = self.limits.max_item;
         match self.header {
@@ -67,7 +68,10 @@ impl Progress {
     {
         self.at += len as u64;
         match *item {
-            Item::Header(header) => self.header = Some(header),
+            Item::Header(header) => {
+                self.header = Some(header);
+                self.room = 0;
+            }
             Item::Fact(_) => {
                 self.records += 1;
                 self.facts += 1;

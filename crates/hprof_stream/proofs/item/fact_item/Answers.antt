@@ -7,8 +7,8 @@ use Rattle.hprof_items.specs.Reading.{body_at}
 use Rattle.hprof_stream.specs.Item.{found_fact}
 use Rattle.hprof_stream.proofs.item.fact_item.Goals as goal
 
-pub returns-in-Ok : goal.returns-in-Ok
-returns-in-Ok c =
+pub returns-in-Ok-clause-found : goal.returns-in-Ok-clause-found
+returns-in-Ok-clause-found c =
     let bytes = c.args.bytes.now in
     let head = c.args.head.now in
     let header = c.args.header.now in
