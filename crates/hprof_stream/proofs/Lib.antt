@@ -5,4 +5,6 @@ pub mod Stops
 pub mod Refusals
 pub mod ItemSteps
 pub mod ItemLists
+pub mod Runs
+pub mod Walks
 pub mod Faults

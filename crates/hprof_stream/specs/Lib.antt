@@ -5,3 +5,4 @@ pub mod ItemStep
 pub mod Progress
 pub mod Fault
 pub mod Run
+pub mod Walking
