@@ -1,14 +1,15 @@
 -- Walks over items, and one step of them.
-use Rattle.std.proofs.Common.{◌≡◌, ℕ, zero, suc, ◌+◌, ◌<◌, ◌≤◌, Bool, true, false, ◌||◌, List, [], ◌∷◌, ◌++◌, length, take, drop, Option, Some, None, refl, sym, ap, subst, ◌∙◌, append_assoc, append-nil, arith}
+use Rattle.std.proofs.Common.{◌≡◌, ℕ, zero, suc, ◌+◌, ◌<◌, ◌≤◌, Bool, true, false, ◌||◌, List, [], ◌∷◌, ◌++◌, length, take, drop, Option, Some, None, refl, sym, ap, subst, ◌∙◌, append_assoc, append-nil, take-append-drop, arith}
 use Rattle.std.proofs.Math.Bool.{or_assoc, or-false}
-use Rattle.std.proofs.lemmas.List.{length-append, length-take-le, take-append-drop}
+use Rattle.std.proofs.lemmas.List.{get_or-take, length-append, length-take-le}
 use Rattle.std.proofs.lemmas.List.Folds.{list_any-append}
 use Rattle.std.specs.List.{list_any}
 use Rattle.std.specs.Prelude.{◌==◌, slice_index}
 use Rattle.hprof_values.specs.Ids.{IsBytes}
 use Rattle.hprof_items.specs.declared.header.Header.{Header}
 use Rattle.hprof_items.specs.declared.step.Step.TheVariants.{Whole}
-use Rattle.hprof_items.specs.FactValue.{FactValue, value_of}
+use Rattle.hprof_items.specs.FactValue.{FactValue}
+use Rattle.hprof_items.specs.Spelling.{longest_body}
 use Rattle.hprof_stream.specs.declared.item.Item.{Item}
 use Rattle.hprof_stream.specs.declared.item.Item.TheVariants as items
 use Rattle.hprof_stream.specs.declared.limits.Limits.{Limits}
@@ -20,7 +21,8 @@ use Rattle.hprof_stream.specs.Progress.{place_of, advanced}
 use Rattle.hprof_stream.specs.Run.{Run, became}
 use Rattle.hprof_stream.specs.Walking.{Gives, Walks}
 use Rattle.hprof_stream.proofs.Items.{item_found}
-use Rattle.hprof_stream.proofs.Runs.{Run-none}
+use Rattle.hprof_stream.proofs.ItemLists.{AreItems-then, all_bytes-then, all_facts-then, records_begun-then, items_headers, room_behind}
+use Rattle.hprof_stream.proofs.Runs.{Run-none, Run-then}
 
 -- ---- behind an item
 
@@ -48,3 +50,169 @@ place_next (Some h) (suc room) (items.Sub fact) n progress e f stands = rw (e, f
 
 pub next_place : (progress : Progress) (item : Item) (n : ℕ) → Stands (place_of progress) item → place_after (place_of progress) item n ≡ place_of (advanced progress item n)
 next_place progress item n stands = place_next progress.header progress.room item n progress refl refl stands
+
+-- how many records it begins
+count_next : (header : Option Header) (room : ℕ) (item : Item) (n : ℕ) (progress : Progress) → Stands (place_behind header room) item
+    → (advanced progress item n).records ≡ progress.records + begun_at (place_behind header room)
+count_next None room (items.Header h) n progress stands = omega arith
+count_next None room (items.Fact fact) n progress stands = absurd stands
+count_next None room (items.Dump len) n progress stands = absurd stands
+count_next None room items.End n progress stands = absurd stands
+count_next None room items.Skipped n progress stands = absurd stands
+count_next None room (items.Sub fact) n progress stands = absurd stands
+count_next (Some h) zero (items.Header other) n progress stands = absurd stands
+count_next (Some h) zero (items.Fact fact) n progress stands = omega arith
+count_next (Some h) zero (items.Dump len) n progress stands = omega arith
+count_next (Some h) zero items.End n progress stands = omega arith
+count_next (Some h) zero items.Skipped n progress stands = omega arith
+count_next (Some h) zero (items.Sub fact) n progress stands = absurd stands
+count_next (Some h) (suc room) (items.Header other) n progress stands = absurd stands
+count_next (Some h) (suc room) (items.Fact fact) n progress stands = absurd stands
+count_next (Some h) (suc room) (items.Dump len) n progress stands = absurd stands
+count_next (Some h) (suc room) items.End n progress stands = absurd stands
+count_next (Some h) (suc room) items.Skipped n progress stands = absurd stands
+count_next (Some h) (suc room) (items.Sub fact) n progress stands = omega arith
+
+-- how many facts, and whether it ends a heap dump
+facts_next : (item : Item) (n : ℕ) (progress : Progress) → (advanced progress item n).facts ≡ progress.facts + length (facts_of item)
+facts_next (items.Header h) n progress = omega arith
+facts_next (items.Fact fact) n progress = omega arith
+facts_next (items.Dump len) n progress = omega arith
+facts_next items.End n progress = omega arith
+facts_next items.Skipped n progress = omega arith
+facts_next (items.Sub fact) n progress = omega arith
+
+or_true : (b : Bool) → true ≡ (b || true)
+or_true true = refl
+or_true false = refl
+
+end_next : (item : Item) (n : ℕ) (progress : Progress) → (advanced progress item n).ended ≡ (progress.ended || is_end_item item)
+end_next (items.Header h) n progress = sym (or-false progress.ended)
+end_next (items.Fact fact) n progress = sym (or-false progress.ended)
+end_next (items.Dump len) n progress = sym (or-false progress.ended)
+end_next items.End n progress = or_true progress.ended
+end_next items.Skipped n progress = sym (or-false progress.ended)
+end_next (items.Sub fact) n progress = sym (or-false progress.ended)
+
+-- where it ends, and the limits
+offset_next : (item : Item) (n : ℕ) (progress : Progress) → (advanced progress item n).at ≡ progress.at + n
+offset_next (items.Header h) n progress = refl
+offset_next (items.Fact fact) n progress = refl
+offset_next (items.Dump len) n progress = refl
+offset_next items.End n progress = refl
+offset_next items.Skipped n progress = refl
+offset_next (items.Sub fact) n progress = refl
+
+limits_next : (item : Item) (n : ℕ) (progress : Progress) → (advanced progress item n).limits ≡ progress.limits
+limits_next (items.Header h) n progress = refl
+limits_next (items.Fact fact) n progress = refl
+limits_next (items.Dump len) n progress = refl
+limits_next items.End n progress = refl
+limits_next items.Skipped n progress = refl
+limits_next (items.Sub fact) n progress = refl
+
+-- a first byte stays first
+first_taken : (n : ℕ) (bytes : List ℕ) → 0 < n → n ≤ length bytes → slice_index (take n bytes) 0 ≡ slice_index bytes 0
+first_taken n bytes some there = get_or-take n bytes 0 0 some
+
+module _ {S : Type 0} (begins : S → Header → S → Type 0) (steps : S → FactValue → S → Type 0) where
+  -- what is handed on is a run
+  run_next : (header : Option Header) (room : ℕ) (item : Item) (n : ℕ) (progress : Progress) (old new : S) → progress.header ≡ header → Stands (place_behind header room) item → Gives begins steps old item new
+      → Run begins steps old (became header (advanced progress item n).header) (facts_of item) new
+  run_next None room (items.Header h) n progress old new e stands gives = (new, gives, refl)
+  run_next None room (items.Fact fact) n progress old new e stands gives = absurd stands
+  run_next None room (items.Dump len) n progress old new e stands gives = absurd stands
+  run_next None room items.End n progress old new e stands gives = absurd stands
+  run_next None room items.Skipped n progress old new e stands gives = absurd stands
+  run_next None room (items.Sub fact) n progress old new e stands gives = absurd stands
+  run_next (Some h) zero (items.Header other) n progress old new e stands gives = absurd stands
+  run_next (Some h) zero (items.Fact fact) n progress old new e stands gives = (new, gives, refl)
+  run_next (Some h) zero (items.Dump len) n progress old new e stands gives = gives
+  run_next (Some h) zero items.End n progress old new e stands gives = gives
+  run_next (Some h) zero items.Skipped n progress old new e stands gives = gives
+  run_next (Some h) zero (items.Sub fact) n progress old new e stands gives = absurd stands
+  run_next (Some h) (suc room) (items.Header other) n progress old new e stands gives = absurd stands
+  run_next (Some h) (suc room) (items.Fact fact) n progress old new e stands gives = absurd stands
+  run_next (Some h) (suc room) (items.Dump len) n progress old new e stands gives = absurd stands
+  run_next (Some h) (suc room) items.End n progress old new e stands gives = absurd stands
+  run_next (Some h) (suc room) items.Skipped n progress old new e stands gives = absurd stands
+  run_next (Some h) (suc room) (items.Sub fact) n progress old new e stands gives = (new, gives, refl)
+
+  -- one item is walked over
+  pub Walks-item : (longest : ℕ) (from : Progress) (bytes : List ℕ) (old new : S) (item : Item) (n : ℕ) → IsBytes bytes → from.room ≤ longest_body
+      → item_at longest (place_of from) bytes ≡ Whole (record { next = place_after (place_of from) item n; facts = facts_of item }) n
+      → IsOfPlace (place_of from) bytes item → Gives begins steps old item new
+      → Walks begins steps longest from bytes old (advanced from item n) (drop n bytes) new × (0 < n) × (n ≤ length bytes)
+  Walks-item longest from bytes old new item n are small e of gives =
+      let place = place_of from in
+      let to : Progress = advanced from item n in
+      let read = item_found longest place bytes (record { next = place_after place item n; facts = facts_of item }) n (room_behind from.header from.room small) are e in
+      let one : Stated = record { bytes = take n bytes; facts = facts_of item } in
+      let is : IsItem longest place one (place_of to) = subst (IsItem longest place one) (next_place from item n of.0) read.2 in
+      let end : is_end one ≡ is_end_item item = ap (λ (b : ℕ). b == 0x2c) (first_taken n bytes read.1 read.0) ∙ sym of.1 in
+      let ran : Run begins steps old (became from.header to.header) (facts_of item) new = run_next from.header from.room item n from old new refl of.0 gives in (
+        record {
+          items = one ∷ [];
+          each = more is none;
+          parts = sym (take-append-drop n bytes) ∙ ap (λ (b : List ℕ). b ++ drop n bytes) (sym (append-nil (take n bytes)));
+          same_limits = limits_next item n from;
+          offset = omega (arith, offset_next item n from, length-take-le n bytes read.0, ap length (append-nil (take n bytes)));
+          record_count = omega (arith, count_next from.header from.room item n from of.0);
+          fact_count = omega (arith, facts_next item n from, ap length (append-nil (facts_of item)));
+          has_end = end_next item n from ∙ ap (λ (b : Bool). from.ended || b) (sym end ∙ sym (or-false (is_end one)));
+          ran = subst (λ (f : List FactValue). Run begins steps old (became from.header to.header) f new) (sym (append-nil (facts_of item))) ran;
+        },
+        read.1,
+        read.0,
+      )
+
+  -- nothing is walked over
+  pub Walks-none : (longest : ℕ) (progress : Progress) (bytes : List ℕ) (sink : S) → Walks begins steps longest progress bytes sink progress bytes sink
+  Walks-none longest progress bytes sink = record {
+    items = [];
+    each = none;
+    parts = refl;
+    same_limits = refl;
+    offset = omega arith;
+    record_count = omega arith;
+    fact_count = omega arith;
+    has_end = sym (or-false progress.ended);
+    ran = Run-none begins steps progress.header sink;
+  }
+
+  -- more bytes behind stay behind
+  pub Walks-more : (longest : ℕ) (from to : Progress) (bytes rest extra : List ℕ) (old new : S) → Walks begins steps longest from bytes old to rest new
+      → Walks begins steps longest from (bytes ++ extra) old to (rest ++ extra) new
+  Walks-more longest from to bytes rest extra old new walk = record {
+    items = walk.items;
+    each = walk.each;
+    parts = ap (λ (b : List ℕ). b ++ extra) walk.parts ∙ append_assoc (all_bytes walk.items) rest extra;
+    same_limits = walk.same_limits;
+    offset = walk.offset;
+    record_count = walk.record_count;
+    fact_count = walk.fact_count;
+    has_end = walk.has_end;
+    ran = walk.ran;
+  }
+
+  -- one walk, and then another
+  pub Walks-then : (longest : ℕ) (from between to : Progress) (bytes left rest : List ℕ) (old mid new : S)
+      → Walks begins steps longest from bytes old between left mid → Walks begins steps longest between left mid to rest new → Walks begins steps longest from bytes old to rest new
+  Walks-then longest from between to bytes left rest old mid new first second =
+      let heads = items_headers longest from.header between.header from.room between.room first.items first.each in
+      let stays = items_headers longest between.header to.header between.room to.room second.items second.each in
+      record {
+        items = first.items ++ second.items;
+        each = AreItems-then longest (place_of from) (place_of between) (place_of to) first.items second.items first.each second.each;
+        parts = first.parts ∙ ap (λ (b : List ℕ). all_bytes first.items ++ b) second.parts ∙ sym (append_assoc (all_bytes first.items) (all_bytes second.items) rest)
+            ∙ ap (λ (b : List ℕ). b ++ rest) (sym (all_bytes-then first.items second.items));
+        same_limits = second.same_limits ∙ first.same_limits;
+        offset = omega (arith, first.offset, second.offset, ap length (all_bytes-then first.items second.items), length-append (all_bytes first.items) (all_bytes second.items));
+        record_count = omega (arith, first.record_count, second.record_count, records_begun-then longest (place_of from) (place_of between) (place_of to) first.items second.items first.each second.each);
+        fact_count = omega (arith, first.fact_count, second.fact_count, ap length (all_facts-then first.items second.items), length-append (all_facts first.items) (all_facts second.items));
+        has_end = second.has_end ∙ ap (λ (b : Bool). b || list_any is_end second.items) first.has_end ∙ or_assoc from.ended (list_any is_end first.items) (list_any is_end second.items)
+            ∙ ap (λ (b : Bool). from.ended || b) (sym (list_any-append is_end first.items second.items));
+        ran = subst (λ (f : List FactValue). Run begins steps old (became from.header to.header) f new) (sym (all_facts-then first.items second.items))
+            (Run-then begins steps old mid new from.header between.header to.header (all_facts first.items) (all_facts second.items)
+            (λ e. let bare = heads.0 e in (bare.0, ap all_facts bare.1)) stays.1 first.ran second.ran);
+      }
