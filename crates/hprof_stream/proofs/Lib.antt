@@ -7,4 +7,5 @@ pub mod ItemSteps
 pub mod ItemLists
 pub mod Runs
 pub mod Walks
+pub mod Stepping
 pub mod Faults

@@ -6,22 +6,23 @@ use Rattle.std.proofs.lemmas.List.Folds.{list_any-append}
 use Rattle.std.specs.List.{list_any}
 use Rattle.std.specs.Prelude.{◌==◌, slice_index}
 use Rattle.hprof_values.specs.Ids.{IsBytes}
+use Rattle.hprof_values.specs.declared.ids.IdSize.{IdSize}
 use Rattle.hprof_items.specs.declared.header.Header.{Header}
 use Rattle.hprof_items.specs.declared.step.Step.TheVariants.{Whole}
-use Rattle.hprof_items.specs.FactValue.{FactValue}
-use Rattle.hprof_items.specs.Spelling.{longest_body}
+use Rattle.hprof_items.specs.FactValue.{FactValue, value_of}
+use Rattle.hprof_items.specs.Spelling.{Fits, longest_body}
 use Rattle.hprof_stream.specs.declared.item.Item.{Item}
 use Rattle.hprof_stream.specs.declared.item.Item.TheVariants as items
 use Rattle.hprof_stream.specs.declared.limits.Limits.{Limits}
 use Rattle.hprof_stream.specs.declared.progress.Progress.{Progress}
 use Rattle.hprof_stream.specs.Part.{Stated, all_bytes, all_facts, is_end}
-use Rattle.hprof_stream.specs.Item.{Place, Start, Between, Within, place_in, place_behind, begun_at, records_begun, Found, IsItem, AreItems, none, more, item_at}
+use Rattle.hprof_stream.specs.Item.{Place, Start, Between, Within, place_in, place_behind, begun_at, records_begun, header_before, Found, IsItem, is_header, is_fact, is_dump_end, is_dump, is_sub, is_skipped, AreItems, none, more, item_at}
 use Rattle.hprof_stream.specs.ItemStep.{facts_of, place_after, Stands, is_end_item, IsOfPlace}
-use Rattle.hprof_stream.specs.Progress.{place_of, advanced}
-use Rattle.hprof_stream.specs.Run.{Run, became}
-use Rattle.hprof_stream.specs.Walking.{Gives, Walks}
+use Rattle.hprof_stream.specs.Progress.{place_of, advanced, IsCounted, IsNext}
+use Rattle.hprof_stream.specs.Run.{Run, became, FitsBegun}
+use Rattle.hprof_stream.specs.Walking.{Gives, GivesFit, IsBegun, Walks}
 use Rattle.hprof_stream.proofs.Items.{item_found}
-use Rattle.hprof_stream.proofs.ItemLists.{AreItems-then, all_bytes-then, all_facts-then, records_begun-then, items_headers, room_behind}
+use Rattle.hprof_stream.proofs.ItemLists.{AreItems-then, all_bytes-then, all_facts-then, records_begun-then, items_size, records_size, items_headers, header_in, room_behind}
 use Rattle.hprof_stream.proofs.Runs.{Run-none, Run-then}
 
 -- ---- behind an item
@@ -110,6 +111,10 @@ limits_next (items.Dump len) n progress = refl
 limits_next items.End n progress = refl
 limits_next items.Skipped n progress = refl
 limits_next (items.Sub fact) n progress = refl
+
+-- where there is room for more there is room for less
+pub IsCounted-less : (progress : Progress) (room less : ℕ) → IsCounted progress room → less ≤ room → IsCounted progress less
+IsCounted-less progress room less counted le = record { limit = counted.limit; room = omega (arith, counted.room); records = counted.records; facts = counted.facts }
 
 -- a first byte stays first
 first_taken : (n : ℕ) (bytes : List ℕ) → 0 < n → n ≤ length bytes → slice_index (take n bytes) 0 ≡ slice_index bytes 0
@@ -216,3 +221,103 @@ module _ {S : Type 0} (begins : S → Header → S → Type 0) (steps : S → Fa
             (Run-then begins steps old mid new from.header between.header to.header (all_facts first.items) (all_facts second.items)
             (λ e. let bare = heads.0 e in (bare.0, ap all_facts bare.1)) stays.1 first.ran second.ran);
       }
+
+-- ---- what an item that was read needs
+
+-- the fact of an item fits the size behind the header
+fits_of : (longest : ℕ) (from : Place) (one : Stated) (to : Place) (fact : FactValue) (header : Header) → IsItem longest from one to → one.facts ≡ fact ∷ [] → header_before from ≡ Some header → Fits header.ids fact
+fits_of longest from one to fact header (is_header fits spelled empty) facts before = absurd cc
+fits_of longest from one to fact header (is_fact {header = h} {fact = f} states short stated) facts before =
+    let same : h ≡ header = cc in
+    let this : f ≡ fact = cc in
+    subst (λ (x : Header). Fits x.ids fact) same (subst (λ (x : FactValue). Fits h.ids x) this states.fits)
+fits_of longest from one to fact header (is_dump_end ends empty) facts before = absurd cc
+fits_of longest from one to fact header (is_dump dump time len spelled empty) facts before = absurd cc
+fits_of longest from one to fact header (is_sub {header = h} {fact = f} sub spelled in_room in_longest stated) facts before =
+    let same : h ≡ header = cc in
+    let this : f ≡ fact = cc in
+    subst (λ (x : Header). Fits x.ids fact) same (subst (λ (x : FactValue). Fits h.ids x) this sub.fits)
+fits_of longest from one to fact header (is_skipped skipped empty) facts before = absurd cc
+
+-- a sub-record has no more bytes than its record has left
+sub_room : (longest : ℕ) (from : Place) (one : Stated) (to : Place) (header : Header) (room : ℕ) → IsItem longest from one to → from ≡ Within header room → length one.bytes ≤ room
+sub_room longest from one to header room (is_header fits spelled empty) e = absurd cc
+sub_room longest from one to header room (is_fact states short stated) e = absurd cc
+sub_room longest from one to header room (is_dump_end ends empty) e = absurd cc
+sub_room longest from one to header room (is_dump dump time len spelled empty) e = absurd cc
+sub_room longest from one to header room (is_sub {room = r} sub spelled in_room in_longest stated) e = let same : r ≡ room = cc in omega (arith, in_room, same)
+sub_room longest from one to header room (is_skipped skipped empty) e = absurd cc
+
+-- what was read at a place
+abbrev pub IsReadAt : ℕ → Progress → List ℕ → Item → ℕ → Type 0
+IsReadAt longest from bytes item n = item_at longest (place_of from) bytes ≡ Whole (record { next = place_after (place_of from) item n; facts = facts_of item }) n
+
+-- it may be handed to the sink
+fit_at : (longest : ℕ) (header : Option Header) (room : ℕ) (bytes : List ℕ) (next : Place) (item : Item) (begun : Option IdSize)
+    → IsItem longest (place_behind header room) (record { bytes = bytes; facts = facts_of item }) next → Stands (place_behind header room) item → IsBegun header begun → GivesFit begun item
+fit_at longest header room bytes next (items.Header h) begun is stands with = tt
+fit_at longest None room bytes next (items.Fact fact) begun is stands with = absurd stands
+fit_at longest (Some h) room bytes next (items.Fact fact) begun is stands with =
+    subst (λ (b : Option IdSize). FitsBegun b (value_of fact)) (sym with)
+    (fits_of longest (place_in h room) (record { bytes = bytes; facts = value_of fact ∷ [] }) next (value_of fact) h is refl (header_in h room))
+fit_at longest header room bytes next (items.Dump len) begun is stands with = tt
+fit_at longest header room bytes next items.End begun is stands with = tt
+fit_at longest header room bytes next items.Skipped begun is stands with = tt
+fit_at longest None room bytes next (items.Sub fact) begun is stands with = absurd stands
+fit_at longest (Some h) room bytes next (items.Sub fact) begun is stands with =
+    subst (λ (b : Option IdSize). FitsBegun b (value_of fact)) (sym with)
+    (fits_of longest (place_in h room) (record { bytes = bytes; facts = value_of fact ∷ [] }) next (value_of fact) h is refl (header_in h room))
+
+pub given_fits : (longest : ℕ) (from : Progress) (bytes : List ℕ) (item : Item) (n : ℕ) (begun : Option IdSize) → IsBytes bytes → from.room ≤ longest_body → IsReadAt longest from bytes item n
+    → IsOfPlace (place_of from) bytes item → IsBegun from.header begun → GivesFit begun item
+given_fits longest from bytes item n begun are small e of with =
+    let read = item_found longest (place_of from) bytes (record { next = place_after (place_of from) item n; facts = facts_of item }) n (room_behind from.header from.room small) are e in
+    fit_at longest from.header from.room (take n bytes) (place_after (place_of from) item n) item begun read.2 of.0 with
+
+-- and counted
+next_at : (longest : ℕ) (header : Option Header) (room n : ℕ) (bytes : List ℕ) (next : Place) (item : Item) (progress : Progress) → progress.room ≡ room → 0 < n → length bytes ≡ n
+    → IsItem longest (place_behind header room) (record { bytes = bytes; facts = facts_of item }) next → Stands (place_behind header room) item → IsNext progress item n
+next_at longest header room n bytes next (items.Header h) progress e some len is stands = some
+next_at longest header room n bytes next (items.Fact fact) progress e some len is stands = some
+next_at longest header room n bytes next (items.Dump size) progress e some len is stands = some
+next_at longest header room n bytes next items.End progress e some len is stands = some
+next_at longest header room n bytes next items.Skipped progress e some len is stands = some
+next_at longest None room n bytes next (items.Sub fact) progress e some len is stands = absurd stands
+next_at longest (Some h) zero n bytes next (items.Sub fact) progress e some len is stands = absurd stands
+next_at longest (Some h) (suc room) n bytes next (items.Sub fact) progress e some len is stands =
+    let within = sub_room longest (Within h (suc room)) (record { bytes = bytes; facts = value_of fact ∷ [] }) next h (suc room) is refl in
+    (some, omega (arith, within, len, e))
+
+pub next_counted : (longest : ℕ) (from : Progress) (bytes : List ℕ) (item : Item) (n : ℕ) → IsBytes bytes → from.room ≤ longest_body → IsReadAt longest from bytes item n
+    → IsOfPlace (place_of from) bytes item → IsCounted from (length bytes) → IsCounted from n × IsNext from item n
+next_counted longest from bytes item n are small e of counted =
+    let read = item_found longest (place_of from) bytes (record { next = place_after (place_of from) item n; facts = facts_of item }) n (room_behind from.header from.room small) are e in (
+      IsCounted-less from (length bytes) n counted read.0,
+      next_at longest from.header from.room n (take n bytes) (place_after (place_of from) item n) item from refl read.1 (length-take-le n bytes read.0) read.2 of.0,
+    )
+
+-- ---- on from a walk
+
+module _ {S : Type 0} (begins : S → Header → S → Type 0) (steps : S → FactValue → S → Type 0) where
+  -- there is room for what is left
+  pub Walks-counted : (longest : ℕ) (from to : Progress) (bytes rest : List ℕ) (old new : S) → Walks begins steps longest from bytes old to rest new → IsCounted from (length bytes) → IsCounted to (length rest)
+  Walks-counted longest from to bytes rest old new walk counted =
+      let size = items_size longest (place_of from) (place_of to) walk.items walk.each in
+      let begun = records_size longest (place_of from) (place_of to) walk.items walk.each in
+      let limit : to.limits.max_bytes ≡ from.limits.max_bytes = ap (λ (l : Limits). l.max_bytes) walk.same_limits in
+      let len : length bytes ≡ length (all_bytes walk.items) + length rest = ap length walk.parts ∙ length-append (all_bytes walk.items) rest in
+      record {
+        limit = omega (arith, counted.limit, limit);
+        room = omega (arith, counted.room, walk.offset, limit, len);
+        records = omega (arith, size, begun, counted.records, walk.record_count, walk.offset);
+        facts = omega (arith, size, counted.facts, walk.fact_count, walk.offset);
+      }
+
+  -- a step from where a walk ended goes under the walk's limit
+  pub Walks-at : (less longest : ℕ) (from to : Progress) (bytes rest : List ℕ) (old new : S) → less ≡ longest → Walks begins steps less from bytes old to rest new → Walks begins steps longest from bytes old to rest new
+  Walks-at less longest from to bytes rest old new same walk = subst (λ (l : ℕ). Walks begins steps l from bytes old to rest new) same walk
+
+-- the limit of items where a walk ended
+pub same_item : {S : Type 0} (begins : S → Header → S → Type 0) (steps : S → FactValue → S → Type 0) (longest : ℕ) (from to : Progress) (bytes rest : List ℕ) (old new : S)
+    → Walks begins steps longest from bytes old to rest new → to.limits.max_item ≡ from.limits.max_item
+same_item begins steps longest from to bytes rest old new walk = ap (λ (l : Limits). l.max_item) walk.same_limits

@@ -15,7 +15,7 @@ use Rattle.hprof_stream.specs.declared.progress.Progress.{Progress}
 use Rattle.hprof_stream.specs.Part.{Stated, all_bytes, all_facts, is_end}
 use Rattle.hprof_stream.specs.Item.{Found, IsItem, AreItems, records_begun, header_before, item_at}
 use Rattle.hprof_stream.specs.Progress.{place_of}
-use Rattle.hprof_stream.specs.Run.{Run, became}
+use Rattle.hprof_stream.specs.Run.{Run, became, FitsBegun}
 
 module _ {S : Type 0} (begins : S → Header → S → Type 0) (steps : S → FactValue → S → Type 0) where
   -- what handing an item to a sink does: a header begins a part, a fact is a step, and others do nothing
@@ -93,3 +93,21 @@ seen (Err fault) = Err fault
 abbrev pub IsBegun : Option Header → Option IdSize → Type 0
 IsBegun None begun = ⊤
 IsBegun (Some header) begun = begun ≡ Some header.ids
+
+-- what the sink is to be given fits the size that was begun last
+abbrev pub GivesFit : Option IdSize → Item → Type 0
+GivesFit begun (items.Fact fact) = FitsBegun begun (value_of fact)
+GivesFit begun (items.Sub fact) = FitsBegun begun (value_of fact)
+GivesFit begun item = ⊤
+
+-- the header that was read once this item was
+abbrev pub told_by : Option Header → Item → Option Header
+told_by before (items.Header header) = Some header
+told_by before item = before
+
+-- it is a header or a fact
+abbrev pub GivesSome : Item → Type 0
+GivesSome (items.Header header) = ⊤
+GivesSome (items.Fact fact) = ⊤
+GivesSome (items.Sub fact) = ⊤
+GivesSome item = ⊥

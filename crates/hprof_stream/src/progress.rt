@@ -1,9 +1,12 @@
 //! How far into a part reading has come, and the step over one item.
 
-ghost use Rattle.std.specs.Prelude.{◌≡◌, ℕ, ◌+◌, ◌≤◌, length, drop, Some, None, IfOk, OnOk, OnErr};
+ghost use Rattle.std.specs.Prelude.{◌≡◌, ℕ, ◌+◌, ◌≤◌, length, drop, Some, None, Option, IfOk, IfErr, OnOk};
 ghost use Rattle.hprof_items.specs.declared.step.Step.TheVariants.{Whole};
 ghost use Rattle.hprof_stream.specs.Item.{item_at};
 ghost use Rattle.hprof_stream.specs.ItemStep.{IsFound, IfRead, IsOfPlace};
+ghost use Rattle.hprof_items.specs.declared.header.Header.{Header};
+ghost use Rattle.hprof_items.specs.Spelling.{longest_body};
+ghost use Rattle.hprof_stream.specs.Walking.{IsBegun, GivesFit, Gives, GivesSome, Refuses, told_by};
 
 use crate::item::{Item, first_item, record_item, sub_item};
 use crate::limits::Limits;
@@ -31,6 +34,7 @@ pub(crate) struct Progress {
 
 impl Progress {
     ghost use Rattle.hprof_stream.specs.Progress.{start_of, place_of, advanced, IsCounted, IsNext};
+    ghost use Rattle.hprof_stream.specs.Walking.{StepsOver, WalksAll, told_by, seen};
 
     /// Nothing was read.
     pub(crate) fn start(limits: Limits) -> Self
@@ -51,12 +55,23 @@ impl Progress {
     fn item<'a>(&self, bytes: &'a [u8]) -> Step<Item<'a>>
         ensures found { IsFound (place_of self.now) result (item_at self.now.limits.max_item (place_of self.now) bytes.now) }
         ensures place { IfRead result (IsOfPlace (place_of self.now) bytes.now) }
+        ensures room { self.now.room ≤ longest_body }
     {
         let longest = self.limits.max_item;
+        let room = self.room;
         match self.header {
             None => first_item(bytes, longest),
-            Some(header) if self.room == 0 => record_item(&header, bytes, longest),
-            Some(header) => sub_item(&header, self.room, bytes, longest),
+            Some(header) if room == 0 => record_item(&header, bytes, longest),
+            Some(header) => sub_item(&header, room, bytes, longest),
+        }
+    }
+
+    /// Tells the header that was read, also where the sink refuses it.
+    fn tell(&mut self, item: &Item<'_>)
+        ensures { self.new ≡ record self.old { header = told_by self.old.header item.now } }
+    {
+        if let Item::Header(header) = *item {
+            self.header = Some(header);
         }
     }
 
@@ -90,5 +105,66 @@ impl Progress {
                 self.room -= len as u32;
             }
         }
+    }
+
+    /// Steps over the item at the front of the bytes and hands it to the sink, and answers how many bytes it has.
+    /// None where it needs more bytes than there are.
+    pub(crate) fn step<S: Sink>(
+        &mut self,
+        bytes: &[u8],
+        sink: &mut S,
+    ) -> Result<Option<usize>, PartFault>
+        requires counted { IsCounted self.old (length bytes.now) }
+        requires begun { IsBegun self.old.header (S.begun sink.old) }
+        ensures step { StepsOver S.begins S.steps S.refuses S.failed self.old bytes.now sink.old result self.new sink.new }
+        ensures begun { OnOk result (IsBegun self.new.header (S.begun sink.new)) }
+    {
+        let at = self.at;
+        match self.item(bytes) {
+            Step::Whole(item, len) => {
+                if let Err(fault) = give(&item, sink) {
+                    self.tell(&item);
+                    return Err(PartFault::Sink(fault));
+                }
+                self.advance(&item, len);
+                Ok(Some(len))
+            }
+            Step::Short => Ok(None),
+            Step::TooLong => Err(PartFault::ItemTooLong { at }),
+            Step::Fault(reason) => Err(PartFault::Malformed { at, reason }),
+        }
+    }
+
+    /// Steps over the whole items at the front of the bytes, and answers what is behind them.
+    pub(crate) fn walk<'a, S: Sink>(
+        &mut self,
+        bytes: &'a [u8],
+        sink: &mut S,
+    ) -> Result<&'a [u8], PartFault>
+        requires counted { IsCounted self.old (length bytes.now) }
+        requires begun { IsBegun self.old.header (S.begun sink.old) }
+        ensures walk { WalksAll S.begins S.steps S.refuses S.failed self.old bytes.now sink.old (seen result) self.new sink.new }
+        ensures shorter { IfOk result (λ rest. length rest.now ≤ length bytes.now) }
+        ensures begun { OnOk result (IsBegun self.new.header (S.begun sink.new)) }
+    {
+        let mut rest = bytes;
+        while let Some(len) = self.step(rest, sink)? {
+            (_, rest) = rest.split_at(len);
+        }
+        Ok(rest)
+    }
+}
+
+/// Hands an item to the sink.
+fn give<S: Sink>(item: &Item<'_>, sink: &mut S) -> Result<(), SinkFault>
+    requires { GivesFit (S.begun sink.old) item.now }
+    ensures gives { OnOk result (Gives S.begins S.steps sink.old item.now sink.new) }
+    ensures begun { OnOk result ((header : Option Header) → IsBegun header (S.begun sink.old) → IsBegun (told_by header item.now) (S.begun sink.new)) }
+    ensures refused { IfErr result (λ fault. GivesSome item.now × Refuses S.refuses S.failed sink.old fault sink.new) }
+{
+    match *item {
+        Item::Header(header) => sink.begin_part(header),
+        Item::Fact(fact) | Item::Sub(fact) => sink.take(fact),
+        Item::Dump(_) | Item::End | Item::Skipped => Ok(()),
     }
 }

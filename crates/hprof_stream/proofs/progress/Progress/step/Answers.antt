@@ -1,0 +1,36 @@
+use Rattle.std.proofs.Common.{◌≡◌, ◌<◌, ◌≤◌, ℕ, length, drop, sym, subst, arith}
+use Rattle.hprof_items.specs.declared.step.Step.TheVariants.{Whole}
+use Rattle.hprof_stream.specs.declared.progress.Progress.{Progress}
+use Rattle.hprof_stream.specs.Item.{Found, item_at}
+use Rattle.hprof_stream.specs.Progress.{place_of}
+use Rattle.hprof_stream.specs.Walking.{Walks}
+use Rattle.hprof_stream.proofs.Walks.{Walks-item, given_fits, next_counted}
+use Rattle.hprof_stream.proofs.progress.Progress.step.Goals as goal
+
+pub give-requires : goal.give-requires
+give-requires g c =
+    given_fits c.args.self.now.limits.max_item c.args.self.now c.args.bytes.now c.in-Whole.item c.in-Whole.len _ (λ i. omega (arith, c.type_inv.bytes i)) c.item.ensures.room
+    c.in-Whole.ensures.found c.in-Whole.ensures.place c.requires.begun
+
+pub advance-requires-clause-counted : goal.advance-requires-clause-counted
+advance-requires-clause-counted g c =
+    (next_counted c.args.self.now.limits.max_item c.args.self.now c.args.bytes.now c.in-Whole.item c.in-Whole.len (λ i. omega (arith, c.type_inv.bytes i)) c.item.ensures.room
+    c.in-Whole.ensures.found c.in-Whole.ensures.place c.requires.counted).0
+
+pub advance-requires-clause-next : goal.advance-requires-clause-next
+advance-requires-clause-next g c =
+    (next_counted c.args.self.now.limits.max_item c.args.self.now c.args.bytes.now c.in-Whole.item c.in-Whole.len (λ i. omega (arith, c.type_inv.bytes i)) c.item.ensures.room
+    c.in-Whole.ensures.found c.in-Whole.ensures.place c.requires.counted).1
+
+pub returns-in_default-clause-step : goal.returns-in_default-clause-step
+returns-in_default-clause-step g c =
+    let from = c.args.self.now in
+    let bytes = c.args.bytes.now in
+    let walk = Walks-item g.S.Sink.begins g.S.Sink.steps from.limits.max_item from bytes c.args.sink.now c.give.new.sink c.in-Whole.item c.in-Whole.len
+    (λ i. omega (arith, c.type_inv.bytes i)) c.item.ensures.room c.in-Whole.ensures.found c.in-Whole.ensures.place c.in_default.ensures.gives in
+    (
+      subst (λ (p : Progress). Walks g.S.Sink.begins g.S.Sink.steps from.limits.max_item from bytes c.args.sink.now p (drop c.in-Whole.len bytes) c.give.new.sink) (sym c.advance.ensures) walk.0,
+      walk.1,
+      walk.2,
+      (_, c.in-Whole.ensures.found),
+    )
