@@ -69,10 +69,10 @@ states_once longest bytes header other facts others one two =
     (sym one.has_header ∙ ap header_before once.1 ∙ two.has_header, sym one.has_facts ∙ ap all_facts once.0 ∙ two.has_facts)
 
 -- items from one place begin one number of records
-pub records_once : (longest : ℕ) (from start to end : Place) (items : List Stated) → from ≡ start → (are : AreItems longest from items to) → (others : AreItems longest start items end)
+pub records_once : (longest : ℕ) (from begin to end : Place) (items : List Stated) → from ≡ begin → (are : AreItems longest from items to) → (others : AreItems longest begin items end)
     → records_begun are ≡ records_begun others
-records_once longest from start to end items same none none = refl
-records_once longest from start to end items same (more {mid = mid} {one = one} {items = behind} first next) (more {mid = other} first_too next_too) =
+records_once longest from begin to end items same none none = refl
+records_once longest from begin to end items same (more {mid = mid} {one = one} {items = behind} first next) (more {mid = other} first_too next_too) =
     let here = (item_once longest from mid other one one [] [] first (subst (λ (p : Place). IsItem longest p one other) (sym same) first_too) refl).0 in
     let later = records_once longest mid other to end behind here next next_too in
     omega (arith, ap begun_at same, later)

@@ -1,8 +1,9 @@
 -- What a reading finds at the front of some bytes is the item that stands there, and the item that stands there is
 -- found.
-use Rattle.std.proofs.Common.{◌≡◌, ℕ, ◌+◌, ◌-◌, ◌^◌, ◌<◌, ◌≤◌, true, cond, ltb, List, [], ◌∷◌, ◌++◌, length, take, drop, Option, Some, None, Result, Ok, Err, refl, sym, ap, subst, ◌∙◌, append_assoc, append-nil, arith}
+use Rattle.std.proofs.Common.{◌≡◌, ℕ, ◌+◌, ◌-◌, ◌^◌, ◌<◌, ◌≤◌, true, false, cond, ltb, List, [], ◌∷◌, ◌++◌, length, take, drop, Option, Some, None, Result, Ok, Err, refl, sym, ap, subst, ◌∙◌, append_assoc, append-nil, arith}
 use Rattle.std.proofs.lemmas.Bool.{cond-false, le-ltb}
 use Rattle.std.proofs.lemmas.List.{take_at, length-append, length-take, length-drop}
+use Rattle.std.specs.Prelude.{◌==◌, slice_index}
 use Rattle.std.proofs.Math.Seq.{take-append-add}
 use Rattle.hprof_values.specs.declared.ids.IdSize.{IdSize}
 use Rattle.hprof_values.specs.declared.record_tag.RecordTag.{RecordTag}
@@ -54,6 +55,14 @@ length_of_version V102 ids millis = refl
 -- a header has 31 bytes
 pub length-header : (header : Header) → length (header_bytes header) ≡ 31
 length-header header = length_of_version header.version header.ids header.millis
+
+-- a header begins otherwise than a HEAP_DUMP_END
+version_no_end : (version : Version) (ids : IdSize) (millis : ℕ) → (slice_index (header_bytes (record { version = version; ids = ids; millis = millis })) 0 == 0x2c) ≡ false
+version_no_end V101 ids millis = refl
+version_no_end V102 ids millis = refl
+
+pub header_no_end : (header : Header) → (slice_index (header_bytes header) 0 == 0x2c) ≡ false
+header_no_end header = version_no_end header.version header.ids header.millis
 
 -- ---- what is found is the item
 

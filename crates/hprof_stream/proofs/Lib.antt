@@ -5,3 +5,4 @@ pub mod Stops
 pub mod Refusals
 pub mod ItemLists
 pub mod Faults
+pub mod Grammar
