@@ -6,3 +6,4 @@ pub mod Refusals
 pub mod ItemLists
 pub mod Faults
 pub mod Grammar
+pub mod Parts
