@@ -89,11 +89,11 @@ fact_step header (Ok fact) m found n e = (fact, refl, cc, cc)
 fact_step header (Err reason) m found n e = absurd (fault_is_not_whole reason found n e)
 
 -- what a sub-record leads to
-abbrev behind_sub : Header → ℕ → FactValue → ℕ → Found
+abbrev pub behind_sub : Header → ℕ → FactValue → ℕ → Found
 behind_sub header room fact n = record { next = place_in header (room - n); facts = fact ∷ [] }
 
 -- a sub-record that was found
-sub_step : (header : Header) (room : ℕ) (read : Result (FactValue × ℕ) Stop) (found : Found) (n : ℕ) → found_sub header room read ≡ Whole found n
+pub sub_step : (header : Header) (room : ℕ) (read : Result (FactValue × ℕ) Stop) (found : Found) (n : ℕ) → found_sub header room read ≡ Whole found n
     → (fact : FactValue) × (read ≡ Ok (fact, n)) × (behind_sub header room fact n ≡ found)
 sub_step header room (Ok read) found n e =
     let same = whole_parts (behind_sub header room read.0 read.1) found read.1 n e in

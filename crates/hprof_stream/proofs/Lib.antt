@@ -7,3 +7,6 @@ pub mod ItemLists
 pub mod Faults
 pub mod Grammar
 pub mod Parts
+pub mod Longer
+pub mod SubLimits
+pub mod Smaller

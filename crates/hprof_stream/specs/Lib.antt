@@ -3,3 +3,4 @@ pub mod Part
 pub mod Item
 pub mod Fault
 pub mod Run
+pub mod Offset
