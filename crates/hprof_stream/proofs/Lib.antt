@@ -8,5 +8,6 @@ pub mod Faults
 pub mod Grammar
 pub mod Parts
 pub mod Longer
+pub mod SubEnds
 pub mod SubLimits
 pub mod Smaller

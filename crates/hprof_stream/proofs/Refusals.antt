@@ -1,4 +1,4 @@
--- What is refused stays refused, whatever bytes follow, and what is short of bytes is short itself.
+-- What is found or refused stays so, whatever bytes follow, and what is short of bytes is short itself.
 use Rattle.std.proofs.Common.{◌≡◌, ◌⊎◌, ℕ, ◌+◌, ◌^◌, ◌<◌, ◌≤◌, max, Bool, true, false, cond, ltb, List, [], ◌++◌, length, take, drop, slice_index, Option, Some, None, Result, Ok, Err, refl, inl, inr, sym, ap, subst, ◌∙◌, arith}
 use Rattle.std.proofs.lemmas.Bool.{cond-false, cond_both, le-ltb, ltb-false, ltb-true}
 use Rattle.std.proofs.lemmas.List.{take-append-le, drop-append-le, length-append, length-drop}
@@ -33,50 +33,39 @@ use Rattle.hprof_stream.specs.Fault.{is_lasting}
 use Rattle.hprof_stream.proofs.Stops.{number, StopsIn, sub_stops}
 use Rattle.hprof_stream.proofs.Tags.{fact_taken}
 
--- ---- steps
-
--- a header that is refused
-abbrev refused : Reason → Step Header
-refused reason = Fault reason
-
--- what is short is not refused
-short_is_no_fault : (reason : Reason) → Short ≡ refused reason → ⊥
-short_is_no_fault reason e = cc
-
--- what lacks no more than bytes is not refused
-whole_or_short : (t : Bool) (header : Header) (n : ℕ) (reason : Reason) → cond t Short (Whole header n) ≡ Fault reason → ⊥
-whole_or_short true header n reason e = cc
-whole_or_short false header n reason e = cc
-
 -- ---- bytes behind what is judged
 
 -- a header whose text and size were judged
-timed_stays : (version : Version) (size : Option IdSize) (bytes more : List ℕ) (reason : Reason) → timed_header version size bytes ≡ Fault reason → timed_header version size (bytes ++ more) ≡ Fault reason
-timed_stays version None bytes more reason e = e
-timed_stays version (Some ids) bytes more reason e =
-    absurd (whole_or_short (ltb (length bytes) 31) _ 31 reason e)
+timed_stays : (version : Version) (size : Option IdSize) (bytes more : List ℕ) (step : Step Header) → (Short ≡ step → ⊥) → timed_header version size bytes ≡ step → timed_header version size (bytes ++ more) ≡ step
+timed_stays version None bytes more step never e = e
+timed_stays version (Some ids) bytes more step never e =
+    let made : ℕ → Step Header = λ millis. Whole (record { version = version; ids = ids; millis = millis }) 31 in
+    let g = went_on (ltb (length bytes) 31) Short (made (number 8 (drop 23 bytes))) step never e in
+    let long : 31 ≤ length bytes = ltb-false (length bytes) 31 g.0 in
+    cond-false (ltb (length (bytes ++ more)) 31) Short (made (number 8 (drop 23 (bytes ++ more)))) (le-ltb _ _ (omega (arith, length-append bytes more)))
+    ∙ ap made (number_more 8 23 bytes more long) ∙ g.1
 
 -- a header whose text was judged
-sized_stays : (text : Option Version) (bytes more : List ℕ) (reason : Reason) → sized_header text bytes ≡ Fault reason → sized_header text (bytes ++ more) ≡ Fault reason
-sized_stays None bytes more reason e = e
-sized_stays (Some version) bytes more reason e =
+sized_stays : (text : Option Version) (bytes more : List ℕ) (step : Step Header) → (Short ≡ step → ⊥) → sized_header text bytes ≡ step → sized_header text (bytes ++ more) ≡ step
+sized_stays None bytes more step never e = e
+sized_stays (Some version) bytes more step never e =
     let size : Option IdSize = ids_of (number 4 (drop 19 bytes)) in
     let size_more : Option IdSize = ids_of (number 4 (drop 19 (bytes ++ more))) in
-    let g = went_on (ltb (length bytes) 23) Short (timed_header version size bytes) (Fault reason) (short_is_no_fault reason) e in
+    let g = went_on (ltb (length bytes) 23) Short (timed_header version size bytes) step never e in
     let long : 23 ≤ length bytes = ltb-false (length bytes) 23 g.0 in
     cond-false (ltb (length (bytes ++ more)) 23) Short (timed_header version size_more (bytes ++ more)) (le-ltb _ _ (omega (arith, length-append bytes more)))
     ∙ ap (λ (k : ℕ). timed_header version (ids_of k) (bytes ++ more)) (number_more 4 19 bytes more long)
-    ∙ timed_stays version size bytes more reason g.1
+    ∙ timed_stays version size bytes more step never g.1
 
--- a header that is refused
-header_stays : (bytes more : List ℕ) (reason : Reason) → header_at bytes ≡ Fault reason → header_at (bytes ++ more) ≡ Fault reason
+-- a header
+pub header_stays : (bytes more : List ℕ) (step : Step Header) → (Short ≡ step → ⊥) → header_at bytes ≡ step → header_at (bytes ++ more) ≡ step
 unfolding header_at
-header_stays bytes more reason e =
-    let g = went_on (ltb (length bytes) 19) Short (sized_header (version_of (take 19 bytes)) bytes) (Fault reason) (short_is_no_fault reason) e in
+header_stays bytes more step never e =
+    let g = went_on (ltb (length bytes) 19) Short (sized_header (version_of (take 19 bytes)) bytes) step never e in
     let long : 19 ≤ length bytes = ltb-false (length bytes) 19 g.0 in
     cond-false (ltb (length (bytes ++ more)) 19) Short (sized_header (version_of (take 19 (bytes ++ more))) (bytes ++ more)) (le-ltb _ _ (omega (arith, length-append bytes more)))
     ∙ ap (λ (t : List ℕ). sized_header (version_of t) (bytes ++ more)) (take-append-le 19 bytes more long)
-    ∙ sized_stays (version_of (take 19 bytes)) bytes more reason g.1
+    ∙ sized_stays (version_of (take 19 bytes)) bytes more step never g.1
 
 -- a head that is judged
 pub head_stays : (ids : IdSize) (longest : ℕ) (bytes more : List ℕ) (step : Step Head) → (Short ≡ step → ⊥) → head_at ids longest bytes ≡ step → head_at ids longest (bytes ++ more) ≡ step
@@ -93,7 +82,7 @@ head_stays ids longest bytes more step never e =
     ∙ g.1
 
 -- a record whose head was read
-record_stays : (header : Header) (kind : HeadKind) (head : Head) (bytes more : List ℕ) (step : Step Found) → (Short ≡ step → ⊥) → found_record header kind head bytes ≡ step → found_record header kind head (bytes ++ more) ≡ step
+pub record_stays : (header : Header) (kind : HeadKind) (head : Head) (bytes more : List ℕ) (step : Step Found) → (Short ≡ step → ⊥) → found_record header kind head bytes ≡ step → found_record header kind head (bytes ++ more) ≡ step
 record_stays header FactRecord head bytes more step never e =
     let all : List ℕ = bytes ++ more in
     let len : ℕ = head.length in
@@ -131,19 +120,19 @@ head_cases longest header bytes more step TooLong never is e =
 head_cases longest header bytes more step (Fault reason) never is e =
     ap (λ (r : Step Head). found_behind header r (bytes ++ more)) (head_stays header.ids longest bytes more (Fault reason) (λ q. cc) is) ∙ e
 
--- a header that is refused
-start_refused : (step : Step Header) (reason : Reason) → found_header step ≡ Fault reason → step ≡ Fault reason
-start_refused (Whole header n) reason e = absurd cc
-start_refused Short reason e = absurd cc
-start_refused TooLong reason e = absurd cc
-start_refused (Fault why) reason e = cc
+-- what stands at the first byte, by what its header is
+start_cases : (bytes more : List ℕ) (step : Step Found) (read : Step Header) → (Short ≡ step → ⊥) → header_at bytes ≡ read → found_header read ≡ step → found_header (header_at (bytes ++ more)) ≡ step
+start_cases bytes more step (Whole header n) never is e = ap found_header (header_stays bytes more (Whole header n) (λ q. cc) is) ∙ e
+start_cases bytes more step Short never is e = absurd (never e)
+start_cases bytes more step TooLong never is e = ap found_header (header_stays bytes more TooLong (λ q. cc) is) ∙ e
+start_cases bytes more step (Fault reason) never is e = ap found_header (header_stays bytes more (Fault reason) (λ q. cc) is) ∙ e
 
 -- a sub-record
 settled_stays : (header : Header) (room : ℕ) (r s : Result (FactValue × ℕ) Stop) (step : Step Found) → IsSettled r s → (Short ≡ step → ⊥) → found_sub header room r ≡ step → found_sub header room s ≡ step
 settled_stays header room r s step (inl short) never e = absurd (never (sym (ap (found_sub header room) short) ∙ e))
 settled_stays header room r s step (inr same) never e = ap (found_sub header room) same ∙ e
 
-sub_stays : (longest : ℕ) (header : Header) (room : ℕ) (bytes more : List ℕ) (step : Step Found) → (Short ≡ step → ⊥)
+pub sub_stays : (longest : ℕ) (header : Header) (room : ℕ) (bytes more : List ℕ) (step : Step Found) → (Short ≡ step → ⊥)
     → found_sub header room (sub_at header.ids (bounds_within room longest bytes) bytes) ≡ step
     → found_sub header room (sub_at header.ids (bounds_within room longest (bytes ++ more)) (bytes ++ more)) ≡ step
 sub_stays longest header room bytes more step never e =
@@ -153,20 +142,20 @@ sub_stays longest header room bytes more step never e =
     ∙ settled_stays header room (sub_at header.ids (bounds_within room longest bytes) bytes) (longer (length bytes + length more)) step
     (sub_more header.ids (bounds_within room longest bytes) bytes more (omega arith)) never e
 
--- an item that is there or refused stays so, but for what a header that is refused says
-item_stays_as : (longest : ℕ) (place : Place) (bytes more : List ℕ) (step : Step Found) → (Short ≡ step → ⊥) → (place ≡ Start → ⊥) → item_at longest place bytes ≡ step
-    → item_at longest place (bytes ++ more) ≡ step
+-- what is found stays, whatever follows, but that bytes are lacking
+pub item_settled : (longest : ℕ) (place : Place) (bytes more : List ℕ) (step : Step Found) → (Short ≡ step → ⊥) → item_at longest place bytes ≡ step → item_at longest place (bytes ++ more) ≡ step
 unfolding item_at
-item_stays_as longest Start bytes more step never behind e = absurd (behind refl)
-item_stays_as longest (Between header) bytes more step never behind e = head_cases longest header bytes more step (head_at header.ids longest bytes) never refl e
-item_stays_as longest (Within header room) bytes more step never behind e = sub_stays longest header room bytes more step never e
+item_settled longest Start bytes more step never e = start_cases bytes more step (header_at bytes) never refl e
+item_settled longest (Between header) bytes more step never e = head_cases longest header bytes more step (head_at header.ids longest bytes) never refl e
+item_settled longest (Within header room) bytes more step never e = sub_stays longest header room bytes more step never e
 
--- a fault stays, whatever follows
+-- so does a fault
 pub item_stays : (longest : ℕ) (place : Place) (bytes more : List ℕ) (reason : Reason) → item_at longest place bytes ≡ Fault reason → item_at longest place (bytes ++ more) ≡ Fault reason
-unfolding item_at
-item_stays longest Start bytes more reason e = ap found_header (header_stays bytes more reason (start_refused (header_at bytes) reason e))
-item_stays longest (Between header) bytes more reason e = item_stays_as longest (Between header) bytes more (Fault reason) (λ q. cc) (λ q. cc) e
-item_stays longest (Within header room) bytes more reason e = item_stays_as longest (Within header room) bytes more (Fault reason) (λ q. cc) (λ q. cc) e
+item_stays longest place bytes more reason e = item_settled longest place bytes more (Fault reason) (λ q. cc) e
+
+-- and an item that is too long
+pub item_stays_long : (longest : ℕ) (place : Place) (bytes more : List ℕ) → item_at longest place bytes ≡ TooLong → item_at longest place (bytes ++ more) ≡ TooLong
+item_stays_long longest place bytes more e = item_settled longest place bytes more TooLong (λ q. cc) e
 
 -- ---- what each step tells
 
@@ -178,25 +167,25 @@ Tells whole short long TooLong = long
 Tells whole short long (Fault reason) = is_lasting reason ≡ true
 
 -- a header whose text and size were judged is whole, or there are too few bytes
-timed_tells : (version : Version) (size : Option IdSize) (bytes : List ℕ) → Tells (λ _. Unit {0}) (length bytes < 31) ⊥ (timed_header version size bytes)
+timed_tells : (version : Version) (size : Option IdSize) (bytes : List ℕ) → Tells (λ _. Unit {0}) (length bytes < 31) (Unit {0}) (timed_header version size bytes)
 timed_tells version None bytes = refl
 timed_tells version (Some ids) bytes =
-    cond_both (ltb (length bytes) 31) Short _ (Tells (λ _. Unit {0}) (length bytes < 31) ⊥) (λ t. ltb-true (length bytes) 31 t) (λ f. tt)
+    cond_both (ltb (length bytes) 31) Short _ (Tells (λ _. Unit {0}) (length bytes < 31) (Unit {0})) (λ t. ltb-true (length bytes) 31 t) (λ f. tt)
 
 -- a header whose text was judged
-sized_tells : (text : Option Version) (bytes : List ℕ) → Tells (λ _. Unit {0}) (length bytes < 31) ⊥ (sized_header text bytes)
+sized_tells : (text : Option Version) (bytes : List ℕ) → Tells (λ _. Unit {0}) (length bytes < 31) (Unit {0}) (sized_header text bytes)
 sized_tells None bytes = refl
 sized_tells (Some version) bytes =
-    cond_both (ltb (length bytes) 23) Short _ (Tells (λ _. Unit {0}) (length bytes < 31) ⊥) (λ t. omega (arith, ltb-true (length bytes) 23 t)) (λ f. timed_tells version _ bytes)
+    cond_both (ltb (length bytes) 23) Short _ (Tells (λ _. Unit {0}) (length bytes < 31) (Unit {0})) (λ t. omega (arith, ltb-true (length bytes) 23 t)) (λ f. timed_tells version _ bytes)
 
--- a header is never too long, and short where there are too few bytes
-header_tells : (bytes : List ℕ) → Tells (λ _. Unit {0}) (length bytes < 31) ⊥ (header_at bytes)
+-- a header is short where there are too few bytes
+header_tells : (bytes : List ℕ) → Tells (λ _. Unit {0}) (length bytes < 31) (Unit {0}) (header_at bytes)
 unfolding header_at
 header_tells bytes =
-    cond_both (ltb (length bytes) 19) Short _ (Tells (λ _. Unit {0}) (length bytes < 31) ⊥) (λ t. omega (arith, ltb-true (length bytes) 19 t)) (λ f. sized_tells (version_of (take 19 bytes)) bytes)
+    cond_both (ltb (length bytes) 19) Short _ (Tells (λ _. Unit {0}) (length bytes < 31) (Unit {0})) (λ t. omega (arith, ltb-true (length bytes) 19 t)) (λ f. sized_tells (version_of (take 19 bytes)) bytes)
 
 pub header_short : (bytes : List ℕ) → header_at bytes ≡ Short → length bytes < 31
-header_short bytes e = subst (Tells (λ _. Unit {0}) (length bytes < 31) ⊥) e (header_tells bytes)
+header_short bytes e = subst (Tells (λ _. Unit {0}) (length bytes < 31) (Unit {0})) e (header_tells bytes)
 
 -- a head that is there is no longer than the longest, or refused
 judged_tells : (ids : IdSize) (longest : ℕ) (head : Head) (few : Type 0) → Tells (λ h. is_too_long longest h ≡ false) few (Unit {0}) (judged_head ids longest head)
@@ -274,34 +263,19 @@ sub_tells longest header room bytes (Err stops.TooLong) told = tt
 sub_tells longest header room bytes (Err (stops.Fault reason)) told = told
 
 -- what stands at the first byte
-start_tells : (longest : ℕ) (read : Step Header) (bytes : List ℕ) → Tells (λ _. Unit {0}) (length bytes < 31) ⊥ read
-    → Tells (λ _. Unit {0}) (length bytes < max 31 (9 + longest)) ⊥ (found_header read)
+start_tells : (longest : ℕ) (read : Step Header) (bytes : List ℕ) → Tells (λ _. Unit {0}) (length bytes < 31) (Unit {0}) read → FoundTells longest bytes (found_header read)
 start_tells longest (Whole header n) bytes told = tt
 start_tells longest Short bytes told = omega arith
 start_tells longest TooLong bytes told = told
 start_tells longest (Fault reason) bytes told = told
 
--- a header is never too long
-loose_tells : (longest : ℕ) (bytes : List ℕ) (step : Step Found) → Tells (λ _. Unit {0}) (length bytes < max 31 (9 + longest)) ⊥ step → FoundTells longest bytes step
-loose_tells longest bytes (Whole found n) told = tt
-loose_tells longest bytes Short told = told
-loose_tells longest bytes TooLong told = tt
-loose_tells longest bytes (Fault reason) told = told
-
 -- what stands at any place
 item_tells : (longest : ℕ) (place : Place) (bytes : List ℕ) → FoundTells longest (held_of longest place bytes) (item_at longest place bytes)
 unfolding item_at
-item_tells longest Start bytes = loose_tells longest bytes (found_header (header_at bytes)) (start_tells longest (header_at bytes) bytes (header_tells bytes))
+item_tells longest Start bytes = start_tells longest (header_at bytes) bytes (header_tells bytes)
 item_tells longest (Between header) bytes = behind_tells longest header (head_at header.ids longest bytes) bytes (head_tells header.ids longest bytes)
 item_tells longest (Within header room) bytes =
     sub_tells longest header room bytes (sub_at header.ids (bounds_within room longest bytes) bytes) (sub_stops header.ids (bounds_within room longest bytes) bytes)
-
--- an item that is too long stays so, whatever follows
-pub item_stays_long : (longest : ℕ) (place : Place) (bytes more : List ℕ) → item_at longest place bytes ≡ TooLong → item_at longest place (bytes ++ more) ≡ TooLong
-unfolding item_at
-item_stays_long longest Start bytes more e = absurd (subst (Tells (λ _. Unit {0}) (length bytes < max 31 (9 + longest)) ⊥) e (start_tells longest (header_at bytes) bytes (header_tells bytes)))
-item_stays_long longest (Between header) bytes more e = item_stays_as longest (Between header) bytes more TooLong (λ q. cc) (λ q. cc) e
-item_stays_long longest (Within header room) bytes more e = item_stays_as longest (Within header room) bytes more TooLong (λ q. cc) (λ q. cc) e
 
 -- of an item that lacks bytes less is held than a header or the longest item
 pub item_short : (longest : ℕ) (place : Place) (bytes : List ℕ) → item_at longest place bytes ≡ Short → length (held_of longest place bytes) < max 31 (9 + longest)
