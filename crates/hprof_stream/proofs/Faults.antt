@@ -1,5 +1,5 @@
 -- Bytes are split into items in one way, so the fault with which they are refused is one.
-use Rattle.std.proofs.Common.{◌≡◌, inl, inr, ℕ, ◌+◌, true, false, eqb, List, [], ◌++◌, length, Option, Some, refl, sym, ap, subst, ◌∙◌, append_assoc, arith}
+use Rattle.std.proofs.Common.{◌≡◌, inl, inr, ℕ, true, false, eqb, List, [], ◌++◌, length, Option, Some, refl, sym, ap, subst, ◌∙◌, append_assoc, arith}
 use Rattle.std.proofs.lemmas.Bool.{cases_Bool, eqb-true, both_ways, and_right}
 use Rattle.std.proofs.lemmas.List.{nil_from_length}
 use Rattle.hprof_values.specs.declared.reason.Reason.{Reason}

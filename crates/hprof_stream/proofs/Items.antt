@@ -1,6 +1,6 @@
 -- What a reading finds at the front of some bytes is the item that stands there, and the item that stands there is
 -- found.
-use Rattle.std.proofs.Common.{◌≡◌, ℕ, ◌+◌, ◌-◌, ◌^◌, ◌<◌, ◌≤◌, true, false, cond, ltb, List, [], ◌∷◌, ◌++◌, length, take, drop, Option, Some, None, Result, Ok, Err, refl, sym, ap, subst, ◌∙◌, append_assoc, append-nil, arith}
+use Rattle.std.proofs.Common.{◌≡◌, ℕ, ◌+◌, ◌-◌, ◌^◌, ◌<◌, ◌≤◌, true, false, ltb, List, [], ◌∷◌, ◌++◌, length, take, drop, Option, Some, Result, Ok, Err, refl, sym, ap, subst, ◌∙◌, append_assoc, append-nil, arith}
 use Rattle.std.proofs.lemmas.Bool.{cond-false, le-ltb}
 use Rattle.std.proofs.lemmas.List.{take_at, length-append, length-take, length-drop}
 use Rattle.std.specs.Prelude.{◌==◌, slice_index}
@@ -24,9 +24,9 @@ use Rattle.hprof_items.specs.declared.step.Step.{Step}
 use Rattle.hprof_items.specs.declared.step.Step.TheVariants.{Whole, Short, TooLong, Fault}
 use Rattle.hprof_items.specs.FactValue.{FactValue}
 use Rattle.hprof_items.specs.Header.{header_bytes, IsMillis}
-use Rattle.hprof_items.specs.Head.{kind_of, head_bytes, record_bytes, is_dump_tag, is_end_tag}
-use Rattle.hprof_items.specs.Reading.{header_at, head_at, body_at, body_as, is_legal, is_too_long, IsRightHead}
-use Rattle.hprof_items.specs.RecordBody.{is_legal_body, record_of, record_body, record_at, BodyFits}
+use Rattle.hprof_items.specs.Head.{kind_of, head_bytes, record_bytes, is_dump_tag}
+use Rattle.hprof_items.specs.Reading.{header_at, head_at, body_at, body_as, IsRightHead}
+use Rattle.hprof_items.specs.RecordBody.{is_legal_body, record_body, record_at, BodyFits}
 use Rattle.hprof_items.specs.Spelling.{longest_body}
 use Rattle.hprof_items.specs.SubRecord.{dump_bytes, sub_at, IsSubOf}
 use Rattle.hprof_items.specs.SubReading.{bounds_within}

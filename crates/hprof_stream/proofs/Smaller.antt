@@ -1,6 +1,6 @@
 -- A smaller limit changes the answer only to an item that is too long.
-use Rattle.std.proofs.Common.{◌≡◌, ◌⊎◌, inl, inr, ℕ, ◌+◌, ◌-◌, ◌≤◌, Bool, true, false, cond, ltb, ◌&&◌, List, [], ◌∷◌, ◌++◌, length, drop, take, Result, Ok, Err, Some, refl, sym, ap, ◌∙◌, append_assoc, arith}
-use Rattle.std.proofs.lemmas.Bool.{cases_lt, ltb-false}
+use Rattle.std.proofs.Common.{◌≡◌, ◌⊎◌, inl, inr, ℕ, ◌+◌, ◌-◌, ◌≤◌, false, List, [], ◌∷◌, ◌++◌, length, drop, take, Result, Ok, Err, Some, refl, sym, ap, ◌∙◌, append_assoc, arith}
+use Rattle.std.proofs.lemmas.Bool.{cases_lt}
 use Rattle.std.proofs.lemmas.List.{length-append}
 use Rattle.hprof_items.specs.declared.header.Header.{Header}
 use Rattle.hprof_items.specs.declared.head.Head.{Head}
@@ -117,8 +117,8 @@ fact_or_long less longest header one fact le is short facts =
     elim (cases_lt (9 + less) (length one.bytes)) [
       | inr within ↦ inl (is_fact is within facts)
       | inl above ↦ inr (λ extra. long_by less longest (Between header) (Between header) one extra le (is_fact is short facts) (λ found.
-        let stated = found ∙ ap (λ (f : List FactValue). Whole (record { next = Between header; facts = f }) (length one.bytes)) facts in
-        let within = item_within less header (one.bytes ++ extra) fact (Between header) (length one.bytes) stated in omega (arith, within, above)))
+          let stated = found ∙ ap (λ (f : List FactValue). Whole (record { next = Between header; facts = f }) (length one.bytes)) facts in
+          let within = item_within less header (one.bytes ++ extra) fact (Between header) (length one.bytes) stated in omega (arith, within, above)))
     ]
 
 -- a sub-record
@@ -130,7 +130,7 @@ sub_or_long less longest header room one fact le is spelled in_room in_longest f
     elim (cases_lt less (length one.bytes)) [
       | inr within ↦ inl (is_sub is spelled in_room within facts)
       | inl above ↦ inr (λ extra. long_by less longest (Within header room) next one extra le (is_sub is spelled in_room in_longest facts) (λ found.
-        let within = sub_within less header room (one.bytes ++ extra) (record { next = next; facts = one.facts }) (length one.bytes) found in omega (arith, within, above)))
+          let within = sub_within less header room (one.bytes ++ extra) (record { next = next; facts = one.facts }) (length one.bytes) found in omega (arith, within, above)))
     ]
 
 -- an item is one for the smaller limit too, or too long for it, whatever follows

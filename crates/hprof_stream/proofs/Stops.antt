@@ -1,5 +1,5 @@
 -- What the tests of a sub-record stop with: more bytes are wanted only of an item that may be longer, and a fault lasts.
-use Rattle.std.proofs.Common.{◌≡◌, ℕ, zero, suc, ◌+◌, ◌*◌, ◌≤◌, Bool, true, cond, ltb, List, [], ◌∷◌, length, drop, Option, Some, None, Result, Ok, Err, refl, arith}
+use Rattle.std.proofs.Common.{◌≡◌, ℕ, zero, suc, ◌+◌, ◌*◌, ◌≤◌, true, cond, ltb, List, [], ◌∷◌, drop, Option, Some, None, Result, Ok, Err, refl, arith}
 use Rattle.std.proofs.lemmas.Bool.{cond_both, ltb-false, ltb-true, eqb-true}
 use Rattle.std.specs.Prelude.{◌==◌, slice_index}
 use Rattle.hprof_values.specs.declared.ids.IdSize.{IdSize}

@@ -1,19 +1,17 @@
 -- A sub-record that is read ends within the longest item.
-use Rattle.std.proofs.Common.{◌≡◌, ◌⊎◌, inl, inr, ℕ, zero, suc, ◌+◌, ◌*◌, ◌≤◌, Bool, true, false, cond, ltb, List, [], ◌∷◌, length, drop, Option, Result, Ok, Err, refl, sym, ap, ◌∙◌, arith}
-use Rattle.std.proofs.lemmas.Bool.{le-ltb, ltb-false}
+use Rattle.std.proofs.Common.{◌≡◌, ℕ, zero, suc, ◌*◌, ◌≤◌, Bool, true, false, cond, List, [], ◌∷◌, drop, Result, Ok, Err, refl, arith}
 use Rattle.std.specs.Prelude.{◌==◌, slice_index}
 use Rattle.hprof_values.specs.declared.ids.IdSize.{IdSize}
 use Rattle.hprof_values.specs.declared.basic.Basic.{Basic}
 use Rattle.hprof_values.specs.declared.entry.EntryKind.{EntryKind}
 use Rattle.hprof_values.specs.declared.entry.EntryKind.TheVariants as kinds
-use Rattle.hprof_values.specs.declared.reason.Reason.TheVariants.{PastEnd}
 use Rattle.hprof_values.specs.declared.stop.Stop.{Stop}
-use Rattle.hprof_values.specs.declared.stop.Stop.TheVariants.{Short, TooLong, Fault}
+use Rattle.hprof_values.specs.declared.stop.Stop.TheVariants.{Short}
 use Rattle.hprof_values.specs.declared.sub_tag.SubTag.{SubTag}
 use Rattle.hprof_values.specs.declared.sub_tag.SubTag.TheVariants as tags
 use Rattle.hprof_values.specs.Basic.{basic_of_code, width_of_basic}
-use Rattle.hprof_values.specs.Entries.{lead_width, bits_width, judged_type, entry_end, entries_end, list_in, list_end}
-use Rattle.hprof_values.specs.Fields.{Bounds, ◌>>=◌, field_end, fields_in, reached}
+use Rattle.hprof_values.specs.Entries.{entry_end, entries_end, list_in, list_end}
+use Rattle.hprof_values.specs.Fields.{Bounds, ◌>>=◌, fields_in, reached}
 use Rattle.hprof_values.specs.Ids.{width_of}
 use Rattle.hprof_values.specs.Lists.{ids_in}
 use Rattle.hprof_values.specs.Root.{root_fields}

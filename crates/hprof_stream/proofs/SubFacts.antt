@@ -1,5 +1,5 @@
 -- Facts that have a spelling: those of records and those of sub-records.
-use Rattle.std.proofs.Common.{◌≡◌, ℕ, ◌<◌, ◌≤◌, false, length, Option, Some, None, refl, sym, subst, arith}
+use Rattle.std.proofs.Common.{◌≡◌, ◌<◌, ◌≤◌, false, length, Option, Some, None, refl, sym, subst, arith}
 use Rattle.std.specs.Prelude.{◌==◌, slice_index}
 use Rattle.hprof_values.specs.declared.ids.IdSize.{IdSize}
 use Rattle.hprof_values.specs.declared.root.Root.{Root}

@@ -1,6 +1,6 @@
 -- What the tag of a record says of its head.
-use Rattle.std.proofs.Common.{◌≡◌, ◌⊎◌, inl, inr, ℕ, ◌+◌, ◌^◌, ◌<◌, ◌≤◌, Bool, true, false, cond, ltb, leb, eqb, List, length, Option, Some, None, refl, sym, ap, subst, ◌∙◌, arith}
-use Rattle.std.proofs.lemmas.Bool.{cond-true, cond-false, or_cases, and_cases, and_right, both_ways, ltb-false, eqb-true, eq-eqb, leb-true, le-leb, le-ltb}
+use Rattle.std.proofs.Common.{◌≡◌, inl, inr, ℕ, ◌+◌, ◌^◌, ◌<◌, ◌≤◌, Bool, true, false, cond, ltb, leb, eqb, List, length, Option, Some, None, refl, sym, ap, subst, ◌∙◌, arith}
+use Rattle.std.proofs.lemmas.Bool.{cond-true, cond-false, or_cases, and_cases, and_right, both_ways, ltb-false, eqb-true, eq-eqb, le-leb, le-ltb}
 use Rattle.std.proofs.lemmas.List.{length-append}
 use Rattle.std.specs.Prelude.{◌==◌, ◌&&◌, sum}
 use Rattle.hprof_values.specs.declared.ids.IdSize.{IdSize}
@@ -13,7 +13,7 @@ use Rattle.hprof_values.proofs.FieldGroups.{length-fields}
 use Rattle.hprof_items.specs.declared.head.Head.{Head}
 use Rattle.hprof_items.specs.declared.head.HeadKind.{HeadKind}
 use Rattle.hprof_items.specs.declared.head.HeadKind.TheVariants.{FactRecord, HeapDump, DumpEnd, Skipped}
-use Rattle.hprof_items.specs.FactValue.{FactValue, Name, Load, Unload, Frame, Trace, Start, End}
+use Rattle.hprof_items.specs.FactValue.{FactValue, Name, Trace}
 use Rattle.hprof_items.specs.Head.{is_fact_tag, is_dump_tag, is_end_tag, kind_of}
 use Rattle.hprof_items.specs.Reading.{is_legal, is_legal_as, is_too_long, IsRightHead}
 use Rattle.hprof_items.specs.RecordBody.{is_legal_body, record_of, record_numbers, record_rest, record_body, BodyFits}
