@@ -34,7 +34,8 @@ use Rattle.hprof_stream.specs.Offset.{offset_of}
 -- ---- one item
 
 -- the item is the same, or too long for the smaller limit
-pub same_or_long : (less longest : ℕ) (place : Place) (bytes : List ℕ) → less ≤ longest → (item_at less place bytes ≡ item_at longest place bytes) ⊎ (item_at less place bytes ≡ TooLong)
+pub same_or_long : (less longest : ℕ) (place : Place) (bytes : List ℕ) → less ≤ longest
+    → (item_at less place bytes ≡ item_at longest place bytes) ⊎ (item_at less place bytes ≡ TooLong)
 unfolding item_at
 same_or_long less longest Start bytes le = inl refl
 same_or_long less longest (Between header) bytes le =
@@ -49,7 +50,8 @@ same_or_long less longest (Within header room) bytes le =
     ]
 
 -- a fact that is found takes the bytes that were given
-fact_size : (header : Header) (read : Result FactValue Reason) (m : ℕ) (found : Found) (n : ℕ) → found_fact header read m ≡ Whole found n → m ≡ n
+fact_size : (header : Header) (read : Result FactValue Reason) (m : ℕ) (found : Found) (n : ℕ) → found_fact header read m ≡ Whole found n
+    → m ≡ n
 fact_size header (Ok fact) m found n e = (whole_parts (record { next = Between header; facts = fact ∷ [] }) found m n e).1
 fact_size header (Err reason) m found n e = absurd (fault_is_not_whole reason found n e)
 
@@ -58,17 +60,22 @@ none_is_one : (fact : FactValue) → ◌≡◌ {A = List FactValue} [] (fact ∷
 none_is_one fact e = cc
 
 -- what states nothing states no fact
-states_none : (place : Place) (fact : FactValue) (next : Place) (m n : ℕ) → ◌≡◌ {A = Step Found} (Whole (record { next = place; facts = [] }) m) (Whole (record { next = next; facts = fact ∷ [] }) n) → ⊥
+states_none : (place : Place) (fact : FactValue) (next : Place) (m n : ℕ)
+    → ◌≡◌ {A = Step Found} (Whole (record { next = place; facts = [] }) m) (Whole (record { next = next; facts = fact ∷ [] }) n) → ⊥
 states_none place fact next m n e =
     let same = whole_parts (record { next = place; facts = [] }) (record { next = next; facts = fact ∷ [] }) m n e in
     none_is_one fact (ap (λ (f : Found). f.facts) same.0)
 
 -- a whole record with a fact is no longer than the longest item
-record_within : (less : ℕ) (header : Header) (kind : HeadKind) (head : Head) (bytes : List ℕ) (fact : FactValue) (next : Place) (n : ℕ) → kind_of head.tag ≡ kind → is_too_long less head ≡ false
+record_within : (less : ℕ) (header : Header) (kind : HeadKind) (head : Head) (bytes : List ℕ) (fact : FactValue) (next : Place) (n : ℕ)
+    → kind_of head.tag ≡ kind → is_too_long less head ≡ false
     → found_record header kind head bytes ≡ Whole (record { next = next; facts = fact ∷ [] }) n → n ≤ 9 + less
 record_within less header FactRecord head bytes fact next n kind taken e =
-    let long = long_enough (length bytes) (9 + head.length) (found_fact header (body_at header.ids head.tag (take head.length (drop 9 bytes))) (9 + head.length)) (record { next = next; facts = fact ∷ [] }) n e in
-    let size = fact_size header (body_at header.ids head.tag (take head.length (drop 9 bytes))) (9 + head.length) (record { next = next; facts = fact ∷ [] }) n long.1 in
+    let long = long_enough (length bytes) (9 + head.length)
+    (found_fact header (body_at header.ids head.tag (take head.length (drop 9 bytes))) (9 + head.length))
+    (record { next = next; facts = fact ∷ [] }) n e in
+    let size = fact_size header (body_at header.ids head.tag (take head.length (drop 9 bytes))) (9 + head.length)
+    (record { next = next; facts = fact ∷ [] }) n long.1 in
     let within = fact_taken less head kind taken in
     omega (arith, size, within)
 record_within less header HeapDump head bytes fact next n kind taken e = absurd (states_none (place_in header head.length) fact next 9 n e)
@@ -79,7 +86,8 @@ record_within less header Skipped head bytes fact next n kind taken e =
     absurd (states_none (Between header) fact next (9 + head.length) n long.1)
 
 -- the same of what is found behind the header
-behind_within : (less : ℕ) (header : Header) (step : Step Head) (bytes : List ℕ) (fact : FactValue) (next : Place) (n : ℕ) → head_at header.ids less bytes ≡ step
+behind_within : (less : ℕ) (header : Header) (step : Step Head) (bytes : List ℕ) (fact : FactValue) (next : Place) (n : ℕ)
+    → head_at header.ids less bytes ≡ step
     → found_behind header step bytes ≡ Whole (record { next = next; facts = fact ∷ [] }) n → n ≤ 9 + less
 behind_within less header (Whole head m) bytes fact next n is e =
     record_within less header (kind_of head.tag) head bytes fact next n refl (head_taken header.ids less bytes head m is) e
@@ -87,14 +95,16 @@ behind_within less header Short bytes fact next n is e = absurd (short_is_not_wh
 behind_within less header TooLong bytes fact next n is e = absurd (too_long_is_not_whole _ n e)
 behind_within less header (Fault reason) bytes fact next n is e = absurd (fault_is_not_whole reason _ n e)
 
-item_within : (less : ℕ) (header : Header) (bytes : List ℕ) (fact : FactValue) (next : Place) (n : ℕ) → item_at less (Between header) bytes ≡ Whole (record { next = next; facts = fact ∷ [] }) n → n ≤ 9 + less
+item_within : (less : ℕ) (header : Header) (bytes : List ℕ) (fact : FactValue) (next : Place) (n : ℕ)
+    → item_at less (Between header) bytes ≡ Whole (record { next = next; facts = fact ∷ [] }) n → n ≤ 9 + less
 unfolding item_at
 item_within less header bytes fact next n e = behind_within less header (head_at header.ids less bytes) bytes fact next n refl e
 
 -- ---- items
 
 -- a whole sub-record is no longer than the longest item
-sub_within : (less : ℕ) (header : Header) (room : ℕ) (bytes : List ℕ) (found : Found) (n : ℕ) → item_at less (Within header room) bytes ≡ Whole found n → n ≤ less
+sub_within : (less : ℕ) (header : Header) (room : ℕ) (bytes : List ℕ) (found : Found) (n : ℕ)
+    → item_at less (Within header room) bytes ≡ Whole found n → n ≤ less
 unfolding item_at
 sub_within less header room bytes found n e =
     let bounds : Bounds = bounds_within room less bytes in
@@ -103,7 +113,8 @@ sub_within less header room bytes found n e =
 
 -- what is not whole for the smaller limit is too long for it
 long_by : (less longest : ℕ) (from next : Place) (one : Stated) (extra : List ℕ) → less ≤ longest → IsItem longest from one next
-    → (item_at less from (one.bytes ++ extra) ≡ Whole (record { next = next; facts = one.facts }) (length one.bytes) → ⊥) → item_at less from (one.bytes ++ extra) ≡ TooLong
+    → (item_at less from (one.bytes ++ extra) ≡ Whole (record { next = next; facts = one.facts }) (length one.bytes) → ⊥)
+    → item_at less from (one.bytes ++ extra) ≡ TooLong
 long_by less longest from next one extra le is never =
     elim (same_or_long less longest from (one.bytes ++ extra) le) [
       | inr long ↦ long
@@ -111,26 +122,32 @@ long_by less longest from next one extra le is never =
     ]
 
 -- a record that states a fact
-fact_or_long : (less longest : ℕ) (header : Header) (one : Stated) (fact : FactValue) → less ≤ longest → IsFactRecord header.ids one.bytes fact → length one.bytes ≤ 9 + longest → one.facts ≡ fact ∷ []
+fact_or_long : (less longest : ℕ) (header : Header) (one : Stated) (fact : FactValue) → less ≤ longest
+    → IsFactRecord header.ids one.bytes fact → length one.bytes ≤ 9 + longest → one.facts ≡ fact ∷ []
     → IsItem less (Between header) one (Between header) ⊎ ((extra : List ℕ) → item_at less (Between header) (one.bytes ++ extra) ≡ TooLong)
 fact_or_long less longest header one fact le is short facts =
     elim (cases_lt (9 + less) (length one.bytes)) [
       | inr within ↦ inl (is_fact is within facts)
       | inl above ↦ inr (λ extra. long_by less longest (Between header) (Between header) one extra le (is_fact is short facts) (λ found.
           let stated = found ∙ ap (λ (f : List FactValue). Whole (record { next = Between header; facts = f }) (length one.bytes)) facts in
-          let within = item_within less header (one.bytes ++ extra) fact (Between header) (length one.bytes) stated in omega (arith, within, above)))
+          let within = item_within less header (one.bytes ++ extra) fact (Between header) (length one.bytes) stated in omega
+          (arith, within, above)))
     ]
 
 -- a sub-record
-sub_or_long : (less longest : ℕ) (header : Header) (room : ℕ) (one : Stated) (fact : FactValue) → less ≤ longest → IsSubFact header.ids fact → one.bytes ≡ dump_bytes header.ids fact
+sub_or_long : (less longest : ℕ) (header : Header) (room : ℕ) (one : Stated) (fact : FactValue) → less ≤ longest → IsSubFact header.ids fact
+    → one.bytes ≡ dump_bytes header.ids fact
     → length one.bytes ≤ room → length one.bytes ≤ longest → one.facts ≡ fact ∷ []
-    → IsItem less (Within header room) one (place_in header (room - length one.bytes)) ⊎ ((extra : List ℕ) → item_at less (Within header room) (one.bytes ++ extra) ≡ TooLong)
+    → IsItem less (Within header room) one (place_in header (room - length one.bytes)) ⊎
+    ((extra : List ℕ) → item_at less (Within header room) (one.bytes ++ extra) ≡ TooLong)
 sub_or_long less longest header room one fact le is spelled in_room in_longest facts =
     let next : Place = place_in header (room - length one.bytes) in
     elim (cases_lt less (length one.bytes)) [
       | inr within ↦ inl (is_sub is spelled in_room within facts)
-      | inl above ↦ inr (λ extra. long_by less longest (Within header room) next one extra le (is_sub is spelled in_room in_longest facts) (λ found.
-          let within = sub_within less header room (one.bytes ++ extra) (record { next = next; facts = one.facts }) (length one.bytes) found in omega (arith, within, above)))
+      | inl above ↦ inr (λ extra. long_by less longest (Within header room) next one extra le (is_sub is spelled in_room in_longest facts)
+          (λ found.
+          let within = sub_within less header room (one.bytes ++ extra) (record { next = next; facts = one.facts })
+          (length one.bytes) found in omega (arith, within, above)))
     ]
 
 -- an item is one for the smaller limit too, or too long for it, whatever follows
@@ -140,7 +157,8 @@ item_or_long less longest from one to le (is_header fits spelled facts) = inl (i
 item_or_long less longest from one to le (is_dump_end is facts) = inl (is_dump_end is facts)
 item_or_long less longest from one to le (is_dump is is_time small spelled facts) = inl (is_dump is is_time small spelled facts)
 item_or_long less longest from one to le (is_skipped is facts) = inl (is_skipped is facts)
-item_or_long less longest from one to le (is_fact {header = header} {fact = fact} is short facts) = fact_or_long less longest header one fact le is short facts
+item_or_long less longest from one to le (is_fact {header = header} {fact = fact} is short facts) =
+    fact_or_long less longest header one fact le is short facts
 item_or_long less longest from one to le (is_sub {header = header} {room = room} {fact = fact} is spelled in_room in_longest facts) =
     sub_or_long less longest header room one fact le is spelled in_room in_longest facts
 
@@ -153,7 +171,8 @@ pub record IsCut (less : ℕ) (from : Place) (items : List Stated) : Type 0 wher
   pub parts : all_bytes items ≡ all_bytes front ++ behind
   pub long : (extra : List ℕ) → item_at less place (behind ++ extra) ≡ TooLong
 
-items_or_cut : (less longest : ℕ) (from to : Place) (items : List Stated) → less ≤ longest → AreItems longest from items to → AreItems less from items to ⊎ IsCut less from items
+items_or_cut : (less longest : ℕ) (from to : Place) (items : List Stated) → less ≤ longest → AreItems longest from items to
+    → AreItems less from items to ⊎ IsCut less from items
 items_or_cut less longest from to items le none = inl none
 items_or_cut less longest from to items le (more {mid = mid} {one = one} {items = others} first next) =
     elim (item_or_long less longest from one mid le first) [
@@ -185,16 +204,26 @@ cut_is_first less bytes items rest e cut = (
   length (all_bytes cut.front),
   omega (arith, ap length cut.parts, length-append (all_bytes cut.front) cut.behind),
   too_long_is_first less bytes cut.front cut.place (cut.behind ++ rest)
-      (record { each = cut.each; parts = e ∙ ap (λ (b : List ℕ). b ++ rest) cut.parts ∙ append_assoc (all_bytes cut.front) cut.behind rest })
+      (record {
+        each = cut.each;
+        parts = e ∙ ap (λ (b : List ℕ). b ++ rest) cut.parts
+            ∙ append_assoc (all_bytes cut.front) cut.behind rest;
+      })
       (cut.long rest),
 )
 
 -- ---- the law
 
-pub smaller_sound : (less longest : ℕ) (bytes : List ℕ) → less ≤ longest → HasNoFault longest bytes → HasNoFault less bytes ⊎ ((at : ℕ) × IsFirstFault less bytes (ItemTooLong at))
+pub smaller_sound : (less longest : ℕ) (bytes : List ℕ) → less ≤ longest → HasNoFault longest bytes
+    → HasNoFault less bytes ⊎ ((at : ℕ) × IsFirstFault less bytes (ItemTooLong at))
 smaller_sound less longest bytes le sound =
     elim (items_or_cut less longest Start sound.place sound.items le sound.splits.each) [
-      | inl each ↦ inl (record { items = sound.items; place = sound.place; splits = record { each = each; parts = sound.splits.parts }; at_end = sound.at_end })
+      | inl each ↦ inl (record {
+        items = sound.items;
+        place = sound.place;
+        splits = record { each = each; parts = sound.splits.parts };
+        at_end = sound.at_end;
+      })
       | inr cut ↦ let first = cut_is_first less bytes sound.items [] sound.splits.parts cut in inr (first.0, first.2)
     ]
 
@@ -210,11 +239,23 @@ pub smaller_faulty : (less longest : ℕ) (bytes : List ℕ) (fault : PartFault)
 smaller_faulty less longest bytes fault le first =
     let offset = offset_at (length (all_bytes first.items)) (item_at longest first.place first.rest) fault first.fails in
     elim (items_or_cut less longest Start first.place first.items le first.splits.each) [
-      | inr cut ↦ let long = cut_is_first less bytes first.items first.rest first.splits.parts cut in inr (long.0, omega (arith, long.1, offset), long.2)
+      | inr cut ↦ let long =
+          cut_is_first less bytes first.items first.rest first.splits.parts cut in inr (long.0, omega (arith, long.1, offset), long.2)
       | inl each ↦
           let splits : Splits less bytes first.items first.place first.rest = record { each = each; parts = first.splits.parts } in
           elim (same_or_long less longest first.place first.rest le) [
-            | inl same ↦ inl (record { items = first.items; place = first.place; rest = first.rest; splits = splits; undone = first.undone; fails = ap (fault_at (length (all_bytes first.items))) same ∙ first.fails })
-            | inr long ↦ inr (length (all_bytes first.items), omega (arith, offset), too_long_is_first less bytes first.items first.place first.rest splits long)
+            | inl same ↦ inl (record {
+              items = first.items;
+              place = first.place;
+              rest = first.rest;
+              splits = splits;
+              undone = first.undone;
+              fails = ap (fault_at (length (all_bytes first.items))) same ∙ first.fails;
+            })
+            | inr long ↦ inr (
+              length (all_bytes first.items),
+              omega (arith, offset),
+              too_long_is_first less bytes first.items first.place first.rest splits long,
+            )
           ]
     ]

@@ -42,7 +42,8 @@ pub sub_fits : (ids : IdSize) (fact : FactValue) → IsSubFact ids fact → Dump
 sub_fits ids fact sub = subst (λ (o : Option RecordTag). FitsAs ids o fact) sub.is sub.fits
 
 -- what fits the body of a record has a spelling, where it is short enough
-pub record_fact : (ids : IdSize) (tag : RecordTag) (fact : FactValue) → BodyFits ids tag fact → length (record_body ids tag fact) ≤ longest_body → Fits ids fact
+pub record_fact : (ids : IdSize) (tag : RecordTag) (fact : FactValue) → BodyFits ids tag fact
+    → length (record_body ids tag fact) ≤ longest_body → Fits ids fact
 record_fact ids tag fact fits short = subst (λ (o : Option RecordTag). FitsAs ids o fact) (sym fits.is) (fits, short)
 
 -- and a fact of a record that has a spelling fits its body
