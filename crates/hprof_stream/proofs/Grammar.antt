@@ -17,7 +17,7 @@ use Rattle.hprof_stream.specs.Part.{Stated, all_bytes, all_facts, is_end, IsWrit
 use Rattle.hprof_stream.specs.Item.{Place, Start, Between, Within, header_before, place_in, may_end, IsItem, is_header, is_fact, is_dump_end, is_dump, is_sub, is_skipped, AreItems, none, more, begun_at, records_begun}
 use Rattle.hprof_stream.specs.Fault.{HasNoFault}
 use Rattle.hprof_stream.proofs.SubFacts.{sub_no_end, sub_fits}
-use Rattle.hprof_stream.proofs.Items.{header_no_end}
+use Rattle.hprof_stream.proofs.Lengths.{header_no_end}
 
 -- ---- what items at a place are
 

@@ -1,5 +1,7 @@
 pub mod Tags
 pub mod SubFacts
+pub mod Lengths
+pub mod FoundItems
 pub mod Items
 pub mod Stops
 pub mod Refusals

@@ -15,7 +15,7 @@ use Rattle.hprof_stream.specs.Record.{IsFactRecord, IsDumpRecord, IsSubFact, IsR
 use Rattle.hprof_stream.specs.Part.{Stated, all_bytes, all_facts, IsWritten, IsPart}
 use Rattle.hprof_stream.specs.Item.{Place, Start, Between, Within, header_before, place_in, IsItem, is_header, is_fact, is_dump_end, is_dump, is_sub, is_skipped, AreItems, none, more, begun_at, records_begun}
 use Rattle.hprof_stream.specs.Fault.{HasNoFault}
-use Rattle.hprof_stream.proofs.Items.{length-record}
+use Rattle.hprof_stream.proofs.Lengths.{length-record}
 use Rattle.hprof_stream.proofs.ItemLists.{AreItems-then, all_bytes-then, all_facts-then, records_begun-then}
 use Rattle.hprof_stream.proofs.Faults.{items_once, none_stops}
 use Rattle.hprof_stream.proofs.SubFacts.{sub_some, sub_fits, record_fits}

@@ -24,7 +24,8 @@ use Rattle.hprof_stream.specs.Record.{IsFactRecord, IsSubFact}
 use Rattle.hprof_stream.specs.Part.{Stated, all_bytes}
 use Rattle.hprof_stream.specs.Item.{Place, Start, Between, Within, place_in, Found, IsItem, is_header, is_fact, is_dump_end, is_dump, is_sub, is_skipped, AreItems, none, more, found_behind, found_record, found_fact, found_sub, item_at}
 use Rattle.hprof_stream.specs.Fault.{Splits, fault_at, HasNoFault, IsFirstFault}
-use Rattle.hprof_stream.proofs.Items.{item_again, sub_step}
+use Rattle.hprof_stream.proofs.FoundItems.{sub_step}
+use Rattle.hprof_stream.proofs.Items.{item_again}
 use Rattle.hprof_stream.proofs.SubEnds.{sub_ends}
 use Rattle.hprof_stream.proofs.SubLimits.{sub_cut}
 use Rattle.hprof_stream.proofs.Tags.{fact_taken}
