@@ -1,5 +1,7 @@
 pub mod Tags
 pub mod SubFacts
+pub mod Lengths
+pub mod FoundItems
 pub mod Items
 pub mod Stops
 pub mod Refusals
@@ -9,3 +11,9 @@ pub mod Runs
 pub mod Walks
 pub mod Stepping
 pub mod Faults
+pub mod Grammar
+pub mod Parts
+pub mod Longer
+pub mod SubEnds
+pub mod SubLimits
+pub mod Smaller

@@ -1,6 +1,10 @@
 -- Facts that have a spelling: those of records and those of sub-records.
-use Rattle.std.proofs.Common.{◌≡◌, ℕ, ◌<◌, ◌≤◌, length, Option, Some, None, refl, sym, subst, arith}
+use Rattle.std.proofs.Common.{◌≡◌, ◌<◌, ◌≤◌, false, length, Option, Some, None, refl, sym, subst, arith}
+use Rattle.std.specs.Prelude.{◌==◌, slice_index}
 use Rattle.hprof_values.specs.declared.ids.IdSize.{IdSize}
+use Rattle.hprof_values.specs.declared.root.Root.{Root}
+use Rattle.hprof_values.specs.declared.root.Root.TheVariants as roots
+use Rattle.hprof_values.specs.Root.{root_bytes}
 use Rattle.hprof_values.specs.declared.record_tag.RecordTag.{RecordTag}
 use Rattle.hprof_items.specs.FactValue.{FactValue, Name, Load, Unload, Frame, Trace, Start, End, Rooted, Class, Instance, ObjArray, PrimArray}
 use Rattle.hprof_items.specs.RecordBody.{record_of, record_body, BodyFits}
@@ -38,10 +42,40 @@ pub sub_fits : (ids : IdSize) (fact : FactValue) → IsSubFact ids fact → Dump
 sub_fits ids fact sub = subst (λ (o : Option RecordTag). FitsAs ids o fact) sub.is sub.fits
 
 -- what fits the body of a record has a spelling, where it is short enough
-pub record_fact : (ids : IdSize) (tag : RecordTag) (fact : FactValue) → BodyFits ids tag fact → length (record_body ids tag fact) ≤ longest_body → Fits ids fact
+pub record_fact : (ids : IdSize) (tag : RecordTag) (fact : FactValue) → BodyFits ids tag fact
+    → length (record_body ids tag fact) ≤ longest_body → Fits ids fact
 record_fact ids tag fact fits short = subst (λ (o : Option RecordTag). FitsAs ids o fact) (sym fits.is) (fits, short)
 
 -- and a fact of a record that has a spelling fits its body
 pub record_fits : (ids : IdSize) (tag : RecordTag) (fact : FactValue) → record_of fact ≡ Some tag → Fits ids fact
     → BodyFits ids tag fact × (length (record_body ids tag fact) ≤ longest_body)
 record_fits ids tag fact is fits = subst (λ (o : Option RecordTag). FitsAs ids o fact) is fits
+
+-- ---- first bytes
+
+-- no root begins as a HEAP_DUMP_END
+root_no_end : (ids : IdSize) (root : Root) → (slice_index (root_bytes ids root) 0 == 0x2c) ≡ false
+root_no_end ids (roots.Unknown id) = refl
+root_no_end ids (roots.JniGlobal id reference) = refl
+root_no_end ids (roots.JniLocal id thread frame) = refl
+root_no_end ids (roots.JavaFrame id thread frame) = refl
+root_no_end ids (roots.NativeStack id thread) = refl
+root_no_end ids (roots.Sticky id) = refl
+root_no_end ids (roots.Block id thread) = refl
+root_no_end ids (roots.Monitor id) = refl
+root_no_end ids (roots.ThreadObject id thread trace) = refl
+
+-- nor does any sub-record
+pub sub_no_end : (ids : IdSize) (fact : FactValue) → DumpFits ids fact → (slice_index (dump_bytes ids fact) 0 == 0x2c) ≡ false
+sub_no_end ids (Rooted root) fits = root_no_end ids root
+sub_no_end ids (Class id trace parent loader signers domain reserved1 reserved2 size constants statics fields) fits = refl
+sub_no_end ids (Instance id trace class raw) fits = refl
+sub_no_end ids (ObjArray id trace class elements) fits = refl
+sub_no_end ids (PrimArray id trace elem raw) fits = refl
+sub_no_end ids (Name id text) fits = absurd fits
+sub_no_end ids (Load serial class trace name) fits = absurd fits
+sub_no_end ids (Unload serial) fits = absurd fits
+sub_no_end ids (Frame id method signature source class_serial line) fits = absurd fits
+sub_no_end ids (Trace serial thread frames) fits = absurd fits
+sub_no_end ids (Start thread object trace name group parent_group) fits = absurd fits
+sub_no_end ids (End thread) fits = absurd fits

@@ -1,6 +1,6 @@
 -- What the tag of a record says of its head.
-use Rattle.std.proofs.Common.{◌≡◌, ◌⊎◌, inl, inr, ℕ, ◌+◌, ◌^◌, ◌<◌, ◌≤◌, Bool, true, false, cond, ltb, leb, eqb, List, length, Option, Some, None, refl, sym, ap, subst, ◌∙◌, arith}
-use Rattle.std.proofs.lemmas.Bool.{cond-true, cond-false, or_cases, and_cases, and_right, both_ways, ltb-false, eqb-true, eq-eqb, leb-true, le-leb, le-ltb}
+use Rattle.std.proofs.Common.{◌≡◌, inl, inr, ℕ, ◌+◌, ◌^◌, ◌<◌, ◌≤◌, Bool, true, false, cond, ltb, leb, eqb, List, length, Option, Some, None, refl, sym, ap, subst, ◌∙◌, arith}
+use Rattle.std.proofs.lemmas.Bool.{cond-true, cond-false, or_cases, and_cases, and_right, both_ways, ltb-false, eqb-true, eq-eqb, le-leb, le-ltb}
 use Rattle.std.proofs.lemmas.List.{length-append}
 use Rattle.std.specs.Prelude.{◌==◌, ◌&&◌, sum}
 use Rattle.hprof_values.specs.declared.ids.IdSize.{IdSize}
@@ -13,7 +13,7 @@ use Rattle.hprof_values.proofs.FieldGroups.{length-fields}
 use Rattle.hprof_items.specs.declared.head.Head.{Head}
 use Rattle.hprof_items.specs.declared.head.HeadKind.{HeadKind}
 use Rattle.hprof_items.specs.declared.head.HeadKind.TheVariants.{FactRecord, HeapDump, DumpEnd, Skipped}
-use Rattle.hprof_items.specs.FactValue.{FactValue, Name, Load, Unload, Frame, Trace, Start, End}
+use Rattle.hprof_items.specs.FactValue.{FactValue, Name, Trace}
 use Rattle.hprof_items.specs.Head.{is_fact_tag, is_dump_tag, is_end_tag, kind_of}
 use Rattle.hprof_items.specs.Reading.{is_legal, is_legal_as, is_too_long, IsRightHead}
 use Rattle.hprof_items.specs.RecordBody.{is_legal_body, record_of, record_numbers, record_rest, record_body, BodyFits}
@@ -23,7 +23,8 @@ use Rattle.hprof_items.proofs.RecordBodies.{record_code_again}
 
 -- a code that stands for a tag is the code of that tag
 pub code_is : (code : ℕ) (known : RecordTag) → record_of_code code ≡ Some known → code ≡ code_of_record known
-code_is code known e = sym (eqb-true (code_of_record known) code (find_passes (λ (tag : RecordTag). code_of_record tag == code) all_records known e))
+code_is code known e =
+    sym (eqb-true (code_of_record known) code (find_passes (λ (tag : RecordTag). code_of_record tag == code) all_records known e))
 
 -- such a record states a fact
 pub kind_of_fact : (known : RecordTag) → kind_of (code_of_record known) ≡ FactRecord
@@ -128,26 +129,37 @@ skipped_is_no_fact tag e = other_kind tag Skipped e (λ is. cc)
 -- ---- heads that are right
 
 -- where bytes may follow the fields any number of them may, and none elsewhere
-legal_by : (more_may : Bool) (width more : ℕ) → (more_may ≡ false → more ≡ 0) → cond more_may (leb width (width + more)) (width + more == width) ≡ true
+legal_by : (more_may : Bool) (width more : ℕ) → (more_may ≡ false → more ≡ 0)
+    → cond more_may (leb width (width + more)) (width + more == width) ≡ true
 legal_by true width more none = le-leb width (width + more) (omega arith)
 legal_by false width more none = let no = none refl in eq-eqb (width + more) width (omega arith)
 
 -- and none does
-rest_none : (ids : IdSize) (known : RecordTag) (fact : FactValue) → record_of fact ≡ Some known → has_more known ≡ false → length (record_rest ids fact) ≡ 0
-rest_none ids known (Name id text) e none = let same : tags.Utf8 ≡ known = cc in let no : true ≡ false = ap has_more same ∙ none in absurd cc
-rest_none ids known (Trace serial thread frames) e none = let same : tags.Trace ≡ known = cc in let no : true ≡ false = ap has_more same ∙ none in absurd cc
+rest_none : (ids : IdSize) (known : RecordTag) (fact : FactValue) → record_of fact ≡ Some known → has_more known ≡ false
+    → length (record_rest ids fact) ≡ 0
+rest_none ids known (Name id text) e none =
+    let same : tags.Utf8 ≡ known = cc in let no : true ≡ false = ap has_more same ∙ none in absurd cc
+rest_none ids known (Trace serial thread frames) e none =
+    let same : tags.Trace ≡ known = cc in let no : true ≡ false = ap has_more same ∙ none in absurd cc
 rest_none ids known _ e none = refl
 
 -- the body of a fact has such a length
-pub body_legal : (ids : IdSize) (known : RecordTag) (fact : FactValue) → BodyFits ids known fact → is_legal_body ids known (length (record_body ids known fact)) ≡ true
+pub body_legal : (ids : IdSize) (known : RecordTag) (fact : FactValue) → BodyFits ids known fact
+    → is_legal_body ids known (length (record_body ids known fact)) ≡ true
 body_legal ids known fact fits =
     let widths : List ℕ = record_fields ids known in
     let len : length (record_body ids known fact) ≡ sum widths + length (record_rest ids fact) =
-    omega (arith, length-fields widths (record_numbers fact) fits.numbers, length-append (field_bytes widths (record_numbers fact)) (record_rest ids fact)) in
-    ap (is_legal_body ids known) len ∙ legal_by (has_more known) (sum widths) (length (record_rest ids fact)) (rest_none ids known fact fits.is)
+    omega (
+      arith,
+      length-fields widths (record_numbers fact) fits.numbers,
+      length-append (field_bytes widths (record_numbers fact)) (record_rest ids fact),
+    ) in
+    ap (is_legal_body ids known) len ∙ legal_by (has_more known) (sum widths) (length (record_rest ids fact))
+    (rest_none ids known fact fits.is)
 
 -- the head of a record of a fact
-pub fact_head_right : (ids : IdSize) (longest : ℕ) (known : RecordTag) (time len : ℕ) → time < 256 ^ 4 → len < 256 ^ 4 → is_legal_body ids known len ≡ true → len ≤ longest
+pub fact_head_right : (ids : IdSize) (longest : ℕ) (known : RecordTag) (time len : ℕ) → time < 256 ^ 4 → len < 256 ^ 4
+    → is_legal_body ids known len ≡ true → len ≤ longest
     → IsRightHead ids longest (record { tag = code_of_record known; time = time; length = len })
 fact_head_right ids longest known time len is_time below legal short = record {
   tag = code_below known;
@@ -158,7 +170,8 @@ fact_head_right ids longest known time len is_time below legal short = record {
 }
 
 -- the head of a record that is none of a fact, where it is legal
-pub other_head_right : (ids : IdSize) (longest tag time len : ℕ) → NoFact tag → tag < 256 → time < 256 ^ 4 → len < 256 ^ 4 → cond (is_end_tag tag) (len == 0) true ≡ true
+pub other_head_right : (ids : IdSize) (longest tag time len : ℕ) → NoFact tag → tag < 256 → time < 256 ^ 4 → len < 256 ^ 4
+    → cond (is_end_tag tag) (len == 0) true ≡ true
     → IsRightHead ids longest (record { tag = tag; time = time; length = len })
 other_head_right ids longest tag time len never is_tag is_time below legal = record {
   tag = is_tag;
@@ -196,5 +209,6 @@ pub end_is_empty : (ids : IdSize) (longest : ℕ) (head : Head) → kind_of head
 end_is_empty ids longest head kind right =
     let tag : head.tag ≡ 0x2c = end_tag head.tag kind in
     let legal : (head.length == 0) ≡ true =
-    sym (cond-true (is_end_tag head.tag) (head.length == 0) true (eq-eqb _ _ tag)) ∙ sym (legal_none ids head.tag head.length (end_is_no_fact head.tag kind)) ∙ right.legal in
+    sym (cond-true (is_end_tag head.tag) (head.length == 0) true (eq-eqb _ _ tag))
+    ∙ sym (legal_none ids head.tag head.length (end_is_no_fact head.tag kind)) ∙ right.legal in
     eqb-true head.length 0 legal

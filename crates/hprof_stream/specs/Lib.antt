@@ -5,4 +5,5 @@ pub mod ItemStep
 pub mod Progress
 pub mod Fault
 pub mod Run
+pub mod Offset
 pub mod Walking
