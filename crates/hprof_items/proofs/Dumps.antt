@@ -271,7 +271,7 @@ then_both (Ok x) middle next = refl
 then_both (Err stop) middle next = refl
 
 sub_steps : (ids : IdSize) (bounds : Bounds) (bytes : List ℕ) → sub_at ids bounds bytes ≡ (tag_at bounds bytes >>= λ (tag : SubTag). dump_at ids tag bounds bytes)
-unfolding sub_at tag_at
+unfolding sub_at
 sub_steps ids bounds bytes = then_both (first_test bounds) (judged_tag (tag_of_code (slice_index bytes 0))) (λ (tag : SubTag). dump_at ids tag bounds bytes)
 
 -- where the tag is right, the sub-record is what is read behind it

@@ -1,5 +1,6 @@
 pub mod Steps
 pub mod Headers
+pub mod RecordBodies
 pub mod Heads
 pub mod Writes
 pub mod Limits
@@ -7,6 +8,9 @@ pub mod SubRecords
 pub mod ArrayRecords
 pub mod ClassDumps
 pub mod Dumps
-pub mod RecordBodies
 pub mod WalksMore
 pub mod WalksReads
+pub mod Walks
+pub mod WalksFronts
+pub mod Fronts
+pub mod Lengths

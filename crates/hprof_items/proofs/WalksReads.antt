@@ -179,7 +179,6 @@ behind_test false r x e = e
 
 pub tag_more : (bounds : Bounds) (bytes more : List ℕ) → bounds.there ≤ length bytes
     → IsSettled (tag_at bounds bytes) (tag_at (with_more bounds (length more)) (bytes ++ more))
-unfolding tag_at
 tag_more bounds bytes more there =
     let longer = with_more bounds (length more) in
     let tag_of : List ℕ → Result SubTag Stop = λ all. judged_tag (tag_of_code (slice_index all 0)) in
@@ -201,7 +200,7 @@ then_assoc (Err stop) next last = refl
 -- a sub-record is its tag, and then what that tag says
 pub sub_parts : (ids : IdSize) (bounds : Bounds) (bytes : List ℕ)
     → sub_at ids bounds bytes ≡ (tag_at bounds bytes >>= λ (tag : SubTag). dump_at ids tag bounds bytes)
-unfolding sub_at tag_at
+unfolding sub_at
 sub_parts ids bounds bytes =
     then_assoc (cond (bounds.there == 0) (Err Short) (reached bounds 0 (1 ∷ [])))
     (λ (front : ℕ). judged_tag (tag_of_code (slice_index bytes 0))) (λ (tag : SubTag). dump_at ids tag bounds bytes)

@@ -5,6 +5,8 @@ pub mod RecordBody
 pub mod ClassDump
 pub mod Fronts
 pub mod SubRecord
+pub mod Walk
+pub mod ObjectTag
 pub mod Spelling
 pub mod Reading
 pub mod SubReading

@@ -112,7 +112,7 @@ sub_at ids bounds bytes =
     dump_at ids tag bounds bytes
 
 -- its tag
-unfoldable pub tag_at : Bounds → List ℕ → Result SubTag Stop
+abbrev pub tag_at : Bounds → List ℕ → Result SubTag Stop
 tag_at bounds bytes =
     (if bounds.there == 0 then Err Short else reached bounds 0 (1 ∷ [])) >>= λ front.
     judged_tag (tag_of_code (slice_index bytes 0))

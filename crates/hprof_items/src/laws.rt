@@ -1,11 +1,12 @@
 //! Laws of the definitions. None of these functions does anything.
 
-ghost use Rattle.std.specs.Prelude.{◌≡◌, ◌≤◌, List, ℕ, ◌++◌, length, drop, true, Some, Ok};
+ghost use Rattle.std.specs.Prelude.{◌≡◌, ◌≤◌, List, ℕ, ◌++◌, length, drop, true, Some, Ok, Err, ◌⊎◌};
 ghost use Rattle.hprof_values.specs.declared.ids.IdSize.{IdSize};
 ghost use Rattle.hprof_values.specs.declared.record_tag.RecordTag.{RecordTag};
 ghost use Rattle.hprof_values.specs.Ids.{IsBytes};
 ghost use Rattle.hprof_values.specs.RecordTag.{code_of_record, record_of_code};
-ghost use Rattle.hprof_values.specs.Fields.{Bounds, IsWithin};
+ghost use Rattle.hprof_values.specs.declared.stop.Stop.TheVariants as stops;
+ghost use Rattle.hprof_values.specs.Fields.{Bounds, IsWithin, with_more};
 ghost use Rattle.hprof_items.specs.declared.header.Header.{Header};
 ghost use Rattle.hprof_items.specs.declared.head.Head.{Head};
 ghost use Rattle.hprof_items.specs.declared.head.HeadKind.TheVariants as kinds;
@@ -65,4 +66,11 @@ pub fn heads_read_back()
         → (bytes ≡ head_bytes head.tag head.time head.length ++ drop n bytes) × (n ≡ 9) × IsRightHead ids longest head }
     ensures facts { (ids : IdSize) (longest : ℕ) (head : Head) → IsRightHead ids longest head → kind_of head.tag ≡ kinds.FactRecord
         → (known : RecordTag) × (record_of_code head.tag ≡ Some known) × (is_legal_body ids known head.length ≡ true) }
+{}
+
+/// With more bytes no answer about a sub-record changes but the one that more are needed.
+pub fn fronts_of_sub_records_are_short()
+    ensures more { (ids : IdSize) (bounds : Bounds) (bytes more : List ℕ) → bounds.there ≡ length bytes
+        → (sub_at ids bounds bytes ≡ Err stops.Short)
+        ⊎ (sub_at ids (with_more bounds (length more)) (bytes ++ more) ≡ sub_at ids bounds bytes) }
 {}

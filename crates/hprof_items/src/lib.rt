@@ -4,26 +4,38 @@
 #![tactic(auto)]
 
 mod class_reading;
+mod class_writing;
 mod device;
 mod fact;
+mod fact_writing;
+mod fitting;
+mod front_fitting;
+mod front_writing;
 mod head;
 mod head_reading;
 mod header;
 mod header_reading;
 mod health;
 pub mod laws;
+mod object_fitting;
 mod object_reading;
+mod object_writing;
+mod record_fitting;
 mod record_reading;
+mod record_writing;
 mod root_reading;
 mod source;
 mod step;
 mod sub_reading;
 pub mod tag;
 mod target;
+mod walk;
 mod writing;
 
 pub use device::Device;
 pub use fact::Fact;
+pub use fact_writing::write_fact;
+pub use fitting::{fits, spelled_len};
 pub use head::{HEAD_LEN, Head, HeadKind};
 pub use head_reading::read_head;
 pub use header::{HEADER_LEN, Header, Version};
@@ -38,6 +50,7 @@ pub use source::Source;
 pub use step::Step;
 pub use sub_reading::read_sub;
 pub use target::Target;
+pub use walk::{Walk, go_on};
 pub use writing::{write_head, write_header};
 
 #[cfg(test)]

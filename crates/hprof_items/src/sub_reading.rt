@@ -33,8 +33,7 @@ fn read_behind<'a>(item: &Item<'a>, tag: SubTag, ids: IdSize) -> Result<(Fact<'a
 }
 
 /// The tag at the front.
-#[tactic(auto, unfolding(crate::specs::SubRecord::tag_at))]
-fn read_tag(item: &Item<'_>) -> Result<SubTag, Stop>
+pub(crate) fn read_tag(item: &Item<'_>) -> Result<SubTag, Stop>
     ensures { result ≡ tag_at (bounds_of item.now) item.now.bytes.now }
 {
     if item.bytes.is_empty() {

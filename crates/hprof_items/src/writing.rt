@@ -21,7 +21,7 @@ use byteorder::{BigEndian, ByteOrder};
 use hprof_values::IdSize;
 
 /// Pushes all of the bytes.
-fn push_all<W: Target>(bytes: &[u8], target: &mut W) -> Result<(), WriteFault>
+pub(crate) fn push_all<W: Target>(bytes: &[u8], target: &mut W) -> Result<(), WriteFault>
     requires { W.health target.old ≡ Well }
     ensures bytes { Writes (W.written target.old) (W.written target.new) result bytes.now }
     ensures health { LeavesHealth result (W.health target.new) }

@@ -1,5 +1,5 @@
 -- Entries, one behind the other, and the bytes that spell them.
-use Rattle.std.proofs.Common.{◌≡◌, ℕ, zero, suc, ◌+◌, ◌<◌, ◌≤◌, Bool, true, false, cond, List, [], ◌∷◌, ◌++◌, length, drop, Option, Some, None, Ok, refl, sym, ap, ◌∙◌, append_assoc, arith}
+use Rattle.std.proofs.Common.{◌≡◌, ℕ, zero, suc, ◌+◌, ◌*◌, ◌<◌, ◌≤◌, Bool, true, false, cond, List, [], ◌∷◌, ◌++◌, length, drop, Option, Some, None, Ok, refl, sym, ap, ◌∙◌, append_assoc, arith}
 use Rattle.std.proofs.lemmas.Bool.{eqb-true}
 use Rattle.std.proofs.lemmas.List.{drop_at, length-append, length-drop, get_or-drop}
 use Rattle.std.proofs.Math.Seq.{drop-drop}
@@ -7,12 +7,14 @@ use Rattle.std.specs.Prelude.{◌==◌, sum, slice_index, unwrap_or, find}
 use Rattle.byteorder.specs.Endian.{big_bytes, big_number}
 use Rattle.byteorder.specs.Numbers.{big_from-lt, length-bytes_high_first}
 use Rattle.hprof_values.specs.declared.ids.IdSize.{IdSize}
+use Rattle.hprof_values.specs.declared.ids.IdSize.TheVariants.{Four, Eight}
 use Rattle.hprof_values.specs.declared.basic.Basic.{Basic}
 use Rattle.hprof_values.specs.declared.basic.Basic.TheVariants as basics
 use Rattle.hprof_values.specs.declared.entry.Entry.{Entry}
 use Rattle.hprof_values.specs.declared.entry.EntryKind.{EntryKind}
+use Rattle.hprof_values.specs.declared.entry.EntryKind.TheVariants as kinds
 use Rattle.hprof_values.specs.Ids.{IsBytes}
-use Rattle.hprof_values.specs.Basic.{code_of_basic, all_basics, basic_of_code}
+use Rattle.hprof_values.specs.Basic.{code_of_basic, all_basics, basic_of_code, width_of_basic}
 use Rattle.hprof_values.specs.Fields.{field_bytes, fields_in, Bounds, ◌>>=◌, reached, IsWithin}
 use Rattle.hprof_values.specs.Entries.{lead_width, bits_width, entry_widths, entry_numbers, entry_len, entry_bytes, EntryFits, entries_bytes, EntriesFit, typed_entry, entry_in, entries_in, judged_type, entry_end}
 use Rattle.hprof_values.proofs.Numbers.{IsBytes-drop}
@@ -207,3 +209,38 @@ entries_again ids kind (entry ∷ entries) rest fits =
     ∙ ap (λ (e : Entry). e ∷ entries_in ids kind (length entries) (drop (entry_len ids kind e) (entry_bytes ids kind entry ++ back))) again.1
     ∙ ap (λ (r : List ℕ). entry ∷ entries_in ids kind (length entries) r) again.2
     ∙ ap (λ (es : List Entry). entry ∷ es) (entries_again ids kind entries rest fits.1)
+
+-- ---- how long they are
+
+lead_most : (ids : IdSize) (kind : EntryKind) → lead_width ids kind ≤ 8
+lead_most Four kinds.Constant = omega arith
+lead_most Eight kinds.Constant = omega arith
+lead_most Four kinds.Static = omega arith
+lead_most Eight kinds.Static = omega arith
+lead_most Four kinds.Field = omega arith
+lead_most Eight kinds.Field = omega arith
+
+value_most : (ids : IdSize) (basic : Basic) → width_of_basic ids basic ≤ 8
+value_most Four basics.Array = omega arith
+value_most Eight basics.Array = omega arith
+value_most Four basics.Object = omega arith
+value_most Eight basics.Object = omega arith
+value_most ids basics.Boolean = omega arith
+value_most ids basics.Char = omega arith
+value_most ids basics.Float = omega arith
+value_most ids basics.Double = omega arith
+value_most ids basics.Byte = omega arith
+value_most ids basics.Short = omega arith
+value_most ids basics.Int = omega arith
+value_most ids basics.Long = omega arith
+
+bits_most : (ids : IdSize) (kind : EntryKind) (basic : Basic) → bits_width ids kind basic ≤ 8
+bits_most ids kinds.Constant basic = value_most ids basic
+bits_most ids kinds.Static basic = value_most ids basic
+bits_most ids kinds.Field basic = omega arith
+
+-- no entry has more than 17 bytes
+pub entries_most : (ids : IdSize) (kind : EntryKind) (entries : List Entry) → length (entries_bytes ids kind entries) ≤ 17 * length entries
+entries_most ids kind [] = omega arith
+entries_most ids kind (entry ∷ entries) =
+    omega (arith, length-append (entry_bytes ids kind entry) (entries_bytes ids kind entries), length-entry ids kind entry, lead_most ids kind, bits_most ids kind entry.basic, entries_most ids kind entries)

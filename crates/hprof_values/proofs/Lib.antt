@@ -5,3 +5,4 @@ pub mod EntryLists
 pub mod Counting
 pub mod IdLists
 pub mod ListEnds
+pub mod NumberWriting

@@ -5,6 +5,7 @@ pub mod Item
 pub mod Entries
 pub mod Value
 pub mod Lists
+pub mod Numbers
 pub mod SubTag
 pub mod Root
 pub mod RecordTag

@@ -78,3 +78,19 @@ fn identifiers(rt: HostRuntime) -> Result<(), Fail> {
     assert_eq!(rt; IdList::new(b"\0\0\0\x01\xff", IdSize::Four), None);
     Ok(())
 }
+
+#[test]
+fn numbers(rt: HostRuntime) {
+    let numbers = [
+        Number::One(0x21),
+        Number::Id(0x0102),
+        Number::Four(0x03040506),
+        Number::Two(0x0708),
+    ];
+    let mut out = [0xff; 12];
+    put_numbers(&numbers, IdSize::Four, &mut out);
+    assert_eq!(rt; out, *b"\x21\0\0\x01\x02\x03\x04\x05\x06\x07\x08\xff");
+    assert_eq!(rt; numbers_len(&numbers, IdSize::Four), 11);
+    assert_eq!(rt; numbers_len(&numbers, IdSize::Eight), 15);
+    assert_eq!(rt; Number::Id(1).width(IdSize::Eight), 8);
+}

@@ -4,6 +4,7 @@ ghost use Rattle.std.specs.Prelude.{◌≡◌};
 ghost use Rattle.hprof_values.specs.declared.entry.EntryKind.TheVariants as kinds;
 ghost use Rattle.hprof_values.specs.Entries.{entries_bytes, entries_in};
 
+use super::in_range;
 use crate::entries::{count_entries, next_entry, nth_entry};
 use crate::entry::EntryKind;
 use crate::entry_span::EntrySpan;
@@ -23,7 +24,7 @@ pub struct ConstantList<'a> {
 impl<'a> ConstantList<'a> {
     ghost use Rattle.std.specs.Prelude.{◌↔◌, IsTrue, List, [], length, slice_get, option_map, IfSome, IsSomeAnd};
     ghost use Rattle.hprof_values.specs.declared.entry.Entry.{Entry};
-    ghost use Rattle.hprof_values.specs.Entries.{IsEntryList};
+    ghost use Rattle.hprof_values.specs.Entries.{IsEntryList, ListFits};
     ghost use Rattle.hprof_values.specs.Value.{constant_of};
     ghost use Rattle.hprof_values.specs.Lists.{constants_of, constants_left, constants_size};
 
@@ -82,6 +83,26 @@ impl<'a> ConstantList<'a> {
             self.ids,
         )?;
         Some(Constant::of(entry))
+    }
+
+    /// The bytes that spell them, without their count.
+    pub fn bytes(&self) -> &'a [u8]
+        ensures spelled { IsEntryList (constants_size self.now) EntryKind.Constant (constants_of self.now) result.now }
+    {
+        // The range of what is read is known.
+        let _count = self.len;
+        in_range(self.bytes)
+    }
+
+    /// The size of identifiers among them. They have a spelling under it.
+    pub fn id_size(&self) -> IdSize
+        ensures size { result ≡ constants_size self.now }
+        ensures fits { ListFits result EntryKind.Constant (constants_of self.now) }
+    {
+        // The range of what is read is known.
+        let _count = self.len;
+        let _bytes = in_range(self.bytes);
+        self.ids
     }
 
     /// The constants in their order, in one walk over the bytes.

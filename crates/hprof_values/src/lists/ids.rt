@@ -3,6 +3,7 @@
 ghost use Rattle.std.specs.Prelude.{◌≡◌, ◌%◌, length};
 ghost use Rattle.hprof_values.specs.Ids.{width_of};
 
+use super::in_range;
 use crate::ids::IdSize;
 use crate::number::id_at;
 
@@ -65,6 +66,20 @@ impl<'a> IdList<'a> {
         }
         let (_, rest) = self.bytes.split_at(place * width);
         Some(id_at(rest, self.ids))
+    }
+
+    /// The bytes that spell them.
+    pub fn bytes(&self) -> &'a [u8]
+        ensures spelled { IsIdList (identifiers_size self.now) (identifiers_of self.now) result.now }
+    {
+        in_range(self.bytes)
+    }
+
+    /// The size of the identifiers.
+    pub fn id_size(&self) -> IdSize
+        ensures { result ≡ identifiers_size self.now }
+    {
+        self.ids
     }
 
     /// The identifiers in their order.

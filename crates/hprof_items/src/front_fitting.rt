@@ -1,0 +1,20 @@
+//! Whether fields, and the bytes behind them, can be spelled.
+
+ghost use Rattle.std.specs.Prelude.{◌↔◌, IsTrue, ◌+◌, ◌≤◌, length, sum};
+ghost use Rattle.hprof_values.specs.Fields.{FitFields};
+ghost use Rattle.hprof_values.specs.Numbers.{number_widths, number_values};
+ghost use Rattle.hprof_items.specs.Spelling.{longest_body};
+
+use hprof_values::{IdSize, Number, numbers_fit, numbers_len};
+
+/// The greatest length that its field can say.
+const LONGEST: usize = 4294967295;
+
+/// Whether each field lies in its range, and the fields with so many bytes more are not too long.
+pub(crate) fn front_fits(fields: &[Number], more: usize, ids: IdSize) -> bool
+    requires { length fields.now ≤ 10 }
+    ensures { IsTrue result ↔ (FitFields (number_widths ids fields.now) (number_values fields.now)
+        × (sum (number_widths ids fields.now) + more ≤ longest_body)) }
+{
+    numbers_fit(fields, ids) && more <= LONGEST - numbers_len(fields, ids)
+}

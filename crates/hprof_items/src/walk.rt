@@ -1,0 +1,170 @@
+//! Where a sub-record ends, by a walk that can stop where the bytes end and go on when more have come.
+
+ghost use Rattle.std.specs.Prelude.{◌≡◌, ◌≢◌, ◌≤◌, ◌++◌, ℕ, List, length, IfErr, MatchResult, Ok, Err};
+ghost use Rattle.hprof_values.specs.Fields.{with_more};
+ghost use Rattle.hprof_values.specs.Item.{bounds_of};
+ghost use Rattle.hprof_items.specs.SubRecord.{dump_at};
+ghost use Rattle.hprof_items.specs.Walk.{end_of_read, walked, IsPlaced, FindsSame, StopsAt, next_kind, count_at, class_count};
+
+use crate::object_reading::{read_instance, read_obj_array, read_prim_array};
+use crate::root_reading::read_root;
+use crate::sub_reading::read_tag;
+use byteorder::{BigEndian, ByteOrder};
+use hprof_values::{EntryKind, IdSize, Item, Stop, SubTag, entry_end};
+
+/// How far a sub-record was walked.
+#[derive(Clone, Copy, Debug, PartialEq, Eq)]
+pub enum Walk {
+    /// Nothing is known yet.
+    Front,
+    /// The fields of a class were tested, and of one of its lists so many entries are left.
+    Entries {
+        /// The list.
+        kind: EntryKind,
+        /// How many entries are left.
+        left: usize,
+        /// Where the next of them begins.
+        at: usize,
+    },
+}
+
+/// Passes the entries that are there, and tells where the last of the list ends.
+fn pass_entries(
+    item: &Item<'_>,
+    ids: IdSize,
+    kind: EntryKind,
+    mut left: usize,
+    mut at: usize,
+) -> (Walk, Result<usize, Stop>)
+    requires { at ≤ length item.now.bytes.now }
+    ensures placed { IsPlaced item.now result.0 }
+    ensures kept { FindsSame ids item.now result.0 (Walk.Entries kind left at) }
+    ensures answer { MatchResult result.1 (λ end. result.0 ≡ Walk.Entries kind 0 end)
+        (λ stop. walked ids (bounds_of item.now) item.now.bytes.now result.0 ≡ Err stop) }
+    ensures stands { IfErr result.1 (StopsAt ids item.now result.0) }
+{
+    while left > 0 {
+        match entry_end(item, at, kind, ids) {
+            Err(stop) => return (Walk::Entries { kind, left, at }, Err(stop)),
+            Ok(end) => {
+                at = end;
+                left -= 1;
+            }
+        }
+    }
+    (Walk::Entries { kind, left, at }, Ok(at))
+}
+
+/// The list behind one of that kind.
+fn next_kind(kind: EntryKind) -> Option<EntryKind>
+    ensures { result ≡ next_kind kind }
+{
+    match kind {
+        EntryKind::Constant => Some(EntryKind::Static),
+        EntryKind::Static => Some(EntryKind::Field),
+        EntryKind::Field => None,
+    }
+}
+
+/// How many entries the list has whose count stands there, and where the first of them begins.
+fn count_at(item: &Item<'_>, at: usize) -> Result<(usize, usize), Stop>
+    requires { at ≤ length item.now.bytes.now }
+    ensures { result ≡ count_at (bounds_of item.now) item.now.bytes.now at }
+{
+    let begin = item.end_of(at, &[2])?;
+    let (_, rest) = item.bytes.split_at(at);
+    Ok((usize::from(BigEndian::read_u16(rest)), begin))
+}
+
+/// Goes on with a list and those behind it.
+fn pass_lists(
+    item: &Item<'_>,
+    ids: IdSize,
+    mut kind: EntryKind,
+    mut left: usize,
+    mut at: usize,
+) -> (Walk, Result<usize, Stop>)
+    requires { at ≤ length item.now.bytes.now }
+    ensures placed { IsPlaced item.now result.0 }
+    ensures kept { FindsSame ids item.now result.0 (Walk.Entries kind left at) }
+    ensures end { result.1 ≡ walked ids (bounds_of item.now) item.now.bytes.now (Walk.Entries kind left at) }
+    ensures stands { IfErr result.1 (StopsAt ids item.now result.0) }
+{
+    loop {
+        let (walk, passed) = pass_entries(item, ids, kind, left, at);
+        let end = match passed {
+            Ok(end) => end,
+            Err(stop) => return (walk, Err(stop)),
+        };
+        let Some(next) = next_kind(kind) else {
+            return (walk, Ok(end));
+        };
+        match count_at(item, end) {
+            Ok((count, begin)) => {
+                kind = next;
+                left = count;
+                at = begin;
+            }
+            Err(stop) => return (walk, Err(stop)),
+        }
+    }
+}
+
+/// How many constants a class has, and where the first of them begins.
+fn class_count(item: &Item<'_>, ids: IdSize) -> Result<(usize, usize), Stop>
+    ensures { result ≡ class_count ids (bounds_of item.now) item.now.bytes.now }
+{
+    let id = ids.width();
+    let front = item.end_of(1, &[id, 4, id, id, id, id, id, id, 4])?;
+    count_at(item, front)
+}
+
+/// The end of a sub-record that is no class.
+fn plain_end(item: &Item<'_>, tag: SubTag, ids: IdSize) -> Result<usize, Stop>
+    requires { tag ≢ SubTag.ClassDump }
+    ensures { result ≡ end_of_read (dump_at ids tag (bounds_of item.now) item.now.bytes.now) }
+{
+    let end = match tag {
+        SubTag::InstanceDump => read_instance(item, ids)?.1,
+        SubTag::ObjArrayDump => read_obj_array(item, ids)?.1,
+        SubTag::PrimArrayDump => read_prim_array(item, ids)?.1,
+        _ => read_root(item, tag, ids)?.1,
+    };
+    Ok(end)
+}
+
+/// Walks from the front of a sub-record.
+fn pass_front(item: &Item<'_>, ids: IdSize) -> (Walk, Result<usize, Stop>)
+    ensures placed { IsPlaced item.now result.0 }
+    ensures kept { FindsSame ids item.now result.0 Walk.Front }
+    ensures end { result.1 ≡ walked ids (bounds_of item.now) item.now.bytes.now Walk.Front }
+    ensures stands { IfErr result.1 (StopsAt ids item.now result.0) }
+{
+    let tag = match read_tag(item) {
+        Ok(tag) => tag,
+        Err(stop) => return (Walk::Front, Err(stop)),
+    };
+    let SubTag::ClassDump = tag else {
+        return (Walk::Front, plain_end(item, tag, ids));
+    };
+    match class_count(item, ids) {
+        Ok((left, at)) => pass_lists(item, ids, EntryKind::Constant, left, at),
+        Err(stop) => (Walk::Front, Err(stop)),
+    }
+}
+
+/// Goes on with a walk as far as there are bytes: where the sub-record ends, or what stopped the walk, and how far it
+/// has come then. An entry that was passed is not tested again.
+pub fn go_on(item: &Item<'_>, ids: IdSize, walk: Walk) -> (Walk, Result<usize, Stop>)
+    requires { IsPlaced item.now walk }
+    ensures end { result.1 ≡ walked ids (bounds_of item.now) item.now.bytes.now walk }
+    ensures placed { IsPlaced item.now result.0 }
+    ensures kept { (more : List ℕ) → walked ids (with_more (bounds_of item.now) (length more)) (item.now.bytes.now ++ more) result.0
+        ≡ walked ids (with_more (bounds_of item.now) (length more)) (item.now.bytes.now ++ more) walk }
+    ensures stands { IfErr result.1 (StopsAt ids item.now result.0) }
+{
+    match walk {
+        Walk::Front => pass_front(item, ids),
+        Walk::Entries { kind, left, at } => pass_lists(item, ids, kind, left, at),
+    }
+}
