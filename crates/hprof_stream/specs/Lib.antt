@@ -7,3 +7,4 @@ pub mod Fault
 pub mod Run
 pub mod Offset
 pub mod Walking
+pub mod Rest

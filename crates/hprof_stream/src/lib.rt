@@ -6,6 +6,7 @@ pub mod laws;
 mod limits;
 mod part_fault;
 mod progress;
+mod rest;
 mod sink;
 mod summary;
 

@@ -27,8 +27,7 @@ returns-in_default-clause-step g c =
     let from = c.args.self.now in
     let bytes = c.args.bytes.now in
     let walk = Walks-item g.S.Sink.begins g.S.Sink.steps from.limits.max_item from bytes c.args.sink.now c.give.new.sink c.in-Whole.item c.in-Whole.len
-    (λ i. omega (arith, c.type_inv.bytes i)) c.item.ensures.room c.in-Whole.ensures.found c.in-Whole.ensures.place c.in_default.ensures.gives in
-    (
+    (λ i. omega (arith, c.type_inv.bytes i)) c.item.ensures.room c.in-Whole.ensures.found c.in-Whole.ensures.place c.in_default.ensures.gives in (
       subst (λ (p : Progress). Walks g.S.Sink.begins g.S.Sink.steps from.limits.max_item from bytes c.args.sink.now p (drop c.in-Whole.len bytes) c.give.new.sink) (sym c.advance.ensures) walk.0,
       walk.1,
       walk.2,

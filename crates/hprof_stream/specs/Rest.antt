@@ -1,0 +1,46 @@
+-- What a reader keeps of an item that is not whole yet.
+use Rattle.std.specs.Prelude.{◌≡◌, ℕ, ◌+◌, ◌-◌, ◌≤◌, List, ◌++◌, length, Option, Some, None, Result, ⊤, if◌then◌else◌}
+use Rattle.hprof_values.specs.declared.ids.IdSize.{IdSize}
+use Rattle.hprof_values.specs.Fields.{Bounds}
+use Rattle.hprof_items.specs.declared.header.Header.{Header}
+use Rattle.hprof_items.specs.declared.head.Head.{Head}
+use Rattle.hprof_items.specs.declared.step.Step.{Step}
+use Rattle.hprof_items.specs.declared.step.Step.TheVariants.{Whole, Short, TooLong, Fault}
+use Rattle.hprof_items.specs.declared.walk.Walk.{Walk}
+use Rattle.hprof_items.specs.declared.walk.Walk.TheVariants.{Front, Entries}
+use Rattle.hprof_items.specs.Head.{kind_of}
+use Rattle.hprof_items.specs.Reading.{head_at}
+use Rattle.hprof_items.specs.SubReading.{bounds_within}
+use Rattle.hprof_items.specs.Walk.{walked}
+use Rattle.hprof_stream.specs.declared.rest.Passing.{Passing}
+use Rattle.hprof_stream.specs.declared.rest.Rest.{Rest}
+use Rattle.hprof_stream.specs.Item.{Place, Start, Between, Within, is_skipped_kind, held_of, item_at}
+
+-- how much was seen of a record that is passed over, once its head is there
+abbrev pub passing_by : Step Head → ℕ → Option Passing
+passing_by (Whole head n) seen = if is_skipped_kind (kind_of head.tag) then Some (record { seen = seen; left = 9 + head.length - seen }) else None
+passing_by _ seen = None
+
+abbrev pub passing_of : ℕ → Place → List ℕ → Option Passing
+passing_of longest (Between header) bytes = passing_by (head_at header.ids longest bytes) (length bytes)
+passing_of longest place bytes = None
+
+-- a sub-record was walked no further than its bytes that are there, and from there on, whatever comes, it ends where it does
+abbrev pub IsWalkAt : Walk → ℕ → Type 0
+IsWalkAt Front there = ⊤
+IsWalkAt (Entries kind left at) there = at ≤ there
+
+pub record IsWalked (ids : IdSize) (room longest : ℕ) (bytes : List ℕ) (walk : Walk) : Type 0 where
+  pub placed : IsWalkAt walk (length bytes)
+  pub same : (more : List ℕ) → walked ids (bounds_within room longest (bytes ++ more)) (bytes ++ more) walk ≡ walked ids (bounds_within room longest (bytes ++ more)) (bytes ++ more) Front
+
+abbrev pub IsWalkOf : ℕ → Place → List ℕ → Walk → Type 0
+IsWalkOf longest (Within header room) bytes walk = IsWalked header.ids room longest bytes walk
+IsWalkOf longest place bytes walk = ⊤
+
+-- these bytes are there of an item at that place that is not whole yet, and this is what is kept of them
+pub record IsRest (longest : ℕ) (place : Place) (bytes : List ℕ) (rest : Rest) : Type 0 where
+  pub short : item_at longest place bytes ≡ Short
+  pub held : rest.held.items ≡ held_of longest place bytes
+  pub passing : rest.passing ≡ passing_of longest place bytes
+  pub walk : IsWalkOf longest place bytes rest.walk
