@@ -1,5 +1,5 @@
 -- What a reader keeps of an item that is not whole yet.
-use Rattle.std.specs.Prelude.{◌≡◌, ℕ, ◌+◌, ◌-◌, ◌≤◌, List, ◌++◌, length, Option, Some, None, Result, ⊤, if◌then◌else◌}
+use Rattle.std.specs.Prelude.{◌≡◌, ℕ, ◌+◌, ◌-◌, ◌<◌, ◌≤◌, ◌⊎◌, List, [], ◌++◌, length, drop, Option, Some, None, Result, ⊤, if◌then◌else◌}
 use Rattle.hprof_values.specs.declared.ids.IdSize.{IdSize}
 use Rattle.hprof_values.specs.Fields.{Bounds}
 use Rattle.hprof_items.specs.declared.header.Header.{Header}
@@ -14,6 +14,10 @@ use Rattle.hprof_items.specs.SubReading.{bounds_within}
 use Rattle.hprof_items.specs.Walk.{walked}
 use Rattle.hprof_stream.specs.declared.rest.Passing.{Passing}
 use Rattle.hprof_stream.specs.declared.rest.Rest.{Rest}
+use Rattle.hprof_stream.specs.declared.item.Item.TheVariants as items
+use Rattle.hprof_stream.specs.declared.progress.Progress.{Progress}
+use Rattle.hprof_stream.specs.ItemStep.{Stands}
+use Rattle.hprof_stream.specs.Progress.{place_of, advanced}
 use Rattle.hprof_stream.specs.Item.{Place, Start, Between, Within, is_skipped_kind, held_of, item_at}
 
 -- how much was seen of a record that is passed over, once its head is there
@@ -44,3 +48,25 @@ pub record IsRest (longest : ℕ) (place : Place) (bytes : List ℕ) (rest : Res
   pub held : rest.held.items ≡ held_of longest place bytes
   pub passing : rest.passing ≡ passing_of longest place bytes
   pub walk : IsWalkOf longest place bytes rest.walk
+
+-- ---- over a record that is passed over
+
+-- its last bytes came, and nothing is there of the next item; or its bytes are still to come, and none were left
+abbrev pub PassesOver : Progress → (front bytes : List ℕ) → Progress → List ℕ → Rest → Type 0
+PassesOver from front bytes to left rest =
+    ((n : ℕ) × (item_at from.limits.max_item (place_of from) (front ++ bytes) ≡ Whole (record { next = place_of from; facts = [] }) n) × (to ≡ advanced from items.Skipped n)
+    × (left ≡ drop n (front ++ bytes)) × Stands (place_of from) items.Skipped × IsRest from.limits.max_item (place_of from) [] rest)
+    ⊎ ((to ≡ from) × (left ≡ []) × IsRest from.limits.max_item (place_of from) (front ++ bytes) rest)
+
+-- what a reader keeps has this many bytes of the part behind it
+abbrev pub passed_len : Option Passing → ℕ
+passed_len None = 0
+passed_len (Some passing) = passing.seen
+
+abbrev pub rest_len : Rest → ℕ
+rest_len rest = passed_len rest.passing + length rest.held.items
+
+-- a record that is passed over has bytes to come, and its head came
+abbrev pub IsPassing : Option Passing → Type 0
+IsPassing None = ⊤
+IsPassing (Some passing) = (9 ≤ passing.seen) × (0 < passing.left)

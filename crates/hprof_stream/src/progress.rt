@@ -76,7 +76,7 @@ impl Progress {
     }
 
     /// Counts an item that was read.
-    fn advance(&mut self, item: &Item<'_>, len: usize)
+    pub(crate) fn advance(&mut self, item: &Item<'_>, len: usize)
         requires counted { IsCounted self.old len }
         requires next { IsNext self.old item.now len }
         ensures { self.new ≡ advanced self.old item.now len }

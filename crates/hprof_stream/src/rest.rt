@@ -1,5 +1,12 @@
 //! What is there of an item that is not whole yet.
 
+ghost use Rattle.std.specs.Prelude.{◌≡◌, ◌+◌, ◌≤◌, ℕ, List, length, Some, None};
+ghost use Rattle.hprof_stream.specs.declared.rest.Passing.{Passing};
+ghost use Rattle.hprof_stream.specs.Progress.{place_of, IsCounted};
+ghost use Rattle.hprof_stream.specs.Rest.{IsRest, IsPassing, PassesOver, rest_len};
+
+use crate::item::Item;
+use crate::progress::Progress;
 use hprof_items::Walk;
 
 /// How much of a record that is passed over was seen. Nothing of it is held.
@@ -18,4 +25,31 @@ pub(crate) struct Rest {
     /// How far a sub-record was walked.
     pub(crate) walk: Walk,
     pub(crate) passing: Option<Passing>,
+}
+
+/// Passes over as many bytes as the record that is passed over has left, and answers what is behind them.
+fn pass_over<'a>(progress: &mut Progress, rest: &mut Rest, bytes: &'a [u8]) -> &'a [u8]
+    requires counted { IsCounted progress.old (rest_len rest.old + length bytes.now) }
+    requires passing { IsPassing rest.old.passing }
+    ensures passed { (front : List ℕ) (p : Passing) → rest.old.passing ≡ Some p → IsRest progress.old.limits.max_item (place_of progress.old) front rest.old
+        → PassesOver progress.old front bytes.now progress.new result.now rest.new }
+    ensures none { rest.old.passing ≡ None → (progress.new ≡ progress.old) × (rest.new ≡ rest.old) × (result.now ≡ bytes.now) }
+    ensures passing { IsPassing rest.new.passing }
+    ensures shorter { length result.now ≤ length bytes.now }
+    ensures counted { IsCounted progress.new (rest_len rest.new + length result.now) }
+{
+    let Some(Passing { seen, left }) = rest.passing else {
+        return bytes;
+    };
+    let count = bytes.len().min(left as usize);
+    let (_, behind) = bytes.split_at(count);
+    let seen = seen + count as u64;
+    if count == left as usize {
+        rest.passing = None;
+        progress.advance(&Item::Skipped, seen as usize);
+    } else {
+        let left = left - count as u32;
+        rest.passing = Some(Passing { seen, left });
+    }
+    behind
 }
