@@ -1,5 +1,5 @@
 -- Walks over items, and one step of them.
-use Rattle.std.proofs.Common.{◌≡◌, ℕ, zero, suc, ◌+◌, ◌<◌, ◌≤◌, Bool, true, false, ◌||◌, List, [], ◌∷◌, ◌++◌, length, take, drop, Option, Some, None, refl, sym, ap, subst, ◌∙◌, append_assoc, append-nil, take-append-drop, arith}
+use Rattle.std.proofs.Common.{◌≡◌, ℕ, zero, suc, ◌+◌, ◌-◌, ◌<◌, ◌≤◌, Bool, true, false, ◌||◌, List, [], ◌∷◌, ◌++◌, length, take, drop, Option, Some, None, refl, sym, ap, subst, ◌∙◌, append_assoc, append-nil, take-append-drop, arith}
 use Rattle.std.proofs.Math.Bool.{or_assoc, or-false}
 use Rattle.std.proofs.lemmas.List.{get_or-take, length-append, length-take-le}
 use Rattle.std.proofs.lemmas.List.Folds.{list_any-append}
@@ -9,18 +9,21 @@ use Rattle.hprof_values.specs.Ids.{IsBytes}
 use Rattle.hprof_values.specs.declared.ids.IdSize.{IdSize}
 use Rattle.hprof_items.specs.declared.header.Header.{Header}
 use Rattle.hprof_items.specs.declared.step.Step.TheVariants.{Whole}
-use Rattle.hprof_items.specs.FactValue.{FactValue, value_of}
+use Rattle.hprof_items.specs.declared.fact.Fact.{Fact}
+use Rattle.hprof_items.specs.FactValue.{FactValue, value_of, ListsHave}
 use Rattle.hprof_items.specs.Spelling.{Fits, longest_body}
 use Rattle.hprof_stream.specs.declared.item.Item.{Item}
 use Rattle.hprof_stream.specs.declared.item.Item.TheVariants as items
 use Rattle.hprof_stream.specs.declared.limits.Limits.{Limits}
+use Rattle.hprof_stream.specs.declared.part_fault.PartFault.TheVariants as faults
+use Rattle.hprof_stream.specs.declared.sink.SinkFault.{SinkFault}
 use Rattle.hprof_stream.specs.declared.progress.Progress.{Progress}
 use Rattle.hprof_stream.specs.Part.{Stated, all_bytes, all_facts, is_end}
 use Rattle.hprof_stream.specs.Item.{Place, Start, Between, Within, place_in, place_behind, begun_at, records_begun, header_before, Found, IsItem, is_header, is_fact, is_dump_end, is_dump, is_sub, is_skipped, AreItems, none, more, item_at}
-use Rattle.hprof_stream.specs.ItemStep.{facts_of, place_after, Stands, is_end_item, IsOfPlace}
+use Rattle.hprof_stream.specs.ItemStep.{facts_of, place_after, Stands, is_end_item, IsOfPlace, ItemLists}
 use Rattle.hprof_stream.specs.Progress.{place_of, advanced, IsCounted, IsNext}
-use Rattle.hprof_stream.specs.Run.{Run, became, FitsBegun}
-use Rattle.hprof_stream.specs.Walking.{Gives, GivesFit, IsBegun, Walks}
+use Rattle.hprof_stream.specs.Run.{Run, became, FitsBegun, ListsHaveBegun}
+use Rattle.hprof_stream.specs.Walking.{Gives, GivesFit, GivesSome, IsBegun, told_by, Walks, Refuses, Stops}
 use Rattle.hprof_stream.proofs.Items.{item_found}
 use Rattle.hprof_stream.proofs.ItemLists.{AreItems-then, all_bytes-then, all_facts-then, records_begun-then, items_size, records_size, items_headers, header_in, room_behind}
 use Rattle.hprof_stream.proofs.Runs.{Run-none, Run-then}
@@ -253,26 +256,81 @@ abbrev pub IsReadAt : ℕ → Progress → List ℕ → Item → ℕ → Type 0
 IsReadAt longest from bytes item n = item_at longest (place_of from) bytes ≡ Whole (record { next = place_after (place_of from) item n; facts = facts_of item }) n
 
 -- it may be handed to the sink
+fact_fits : (longest : ℕ) (place next : Place) (header : Header) (bytes : List ℕ) (fact : Fact) (begun : Option IdSize) → header_before place ≡ Some header
+    → IsItem longest place (record { bytes = bytes; facts = value_of fact ∷ [] }) next → ListsHave header.ids fact → begun ≡ Some header.ids
+    → FitsBegun begun (value_of fact) × ListsHaveBegun begun fact
+fact_fits longest place next header bytes fact begun before is lists with =
+    subst (λ (b : Option IdSize). FitsBegun b (value_of fact) × ListsHaveBegun b fact) (sym with)
+    (fits_of longest place (record { bytes = bytes; facts = value_of fact ∷ [] }) next (value_of fact) header is refl before, lists)
+
 fit_at : (longest : ℕ) (header : Option Header) (room : ℕ) (bytes : List ℕ) (next : Place) (item : Item) (begun : Option IdSize)
-    → IsItem longest (place_behind header room) (record { bytes = bytes; facts = facts_of item }) next → Stands (place_behind header room) item → IsBegun header begun → GivesFit begun item
-fit_at longest header room bytes next (items.Header h) begun is stands with = tt
-fit_at longest None room bytes next (items.Fact fact) begun is stands with = absurd stands
-fit_at longest (Some h) room bytes next (items.Fact fact) begun is stands with =
-    subst (λ (b : Option IdSize). FitsBegun b (value_of fact)) (sym with)
-    (fits_of longest (place_in h room) (record { bytes = bytes; facts = value_of fact ∷ [] }) next (value_of fact) h is refl (header_in h room))
-fit_at longest header room bytes next (items.Dump len) begun is stands with = tt
-fit_at longest header room bytes next items.End begun is stands with = tt
-fit_at longest header room bytes next items.Skipped begun is stands with = tt
-fit_at longest None room bytes next (items.Sub fact) begun is stands with = absurd stands
-fit_at longest (Some h) room bytes next (items.Sub fact) begun is stands with =
-    subst (λ (b : Option IdSize). FitsBegun b (value_of fact)) (sym with)
-    (fits_of longest (place_in h room) (record { bytes = bytes; facts = value_of fact ∷ [] }) next (value_of fact) h is refl (header_in h room))
+    → IsItem longest (place_behind header room) (record { bytes = bytes; facts = facts_of item }) next → Stands (place_behind header room) item → ItemLists header item
+    → IsBegun header begun → GivesFit begun item
+fit_at longest header room bytes next (items.Header h) begun is stands lists with = tt
+fit_at longest None room bytes next (items.Fact fact) begun is stands lists with = absurd stands
+fit_at longest (Some h) room bytes next (items.Fact fact) begun is stands lists with =
+    fact_fits longest (place_in h room) next h bytes fact begun (header_in h room) is lists with
+fit_at longest header room bytes next (items.Dump len) begun is stands lists with = tt
+fit_at longest header room bytes next items.End begun is stands lists with = tt
+fit_at longest header room bytes next items.Skipped begun is stands lists with = tt
+fit_at longest None room bytes next (items.Sub fact) begun is stands lists with = absurd stands
+fit_at longest (Some h) room bytes next (items.Sub fact) begun is stands lists with =
+    fact_fits longest (place_in h room) next h bytes fact begun (header_in h room) is lists with
 
 pub given_fits : (longest : ℕ) (from : Progress) (bytes : List ℕ) (item : Item) (n : ℕ) (begun : Option IdSize) → IsBytes bytes → from.room ≤ longest_body → IsReadAt longest from bytes item n
-    → IsOfPlace (place_of from) bytes item → IsBegun from.header begun → GivesFit begun item
-given_fits longest from bytes item n begun are small e of with =
+    → IsOfPlace (place_of from) bytes item → ItemLists from.header item → IsBegun from.header begun → GivesFit begun item
+given_fits longest from bytes item n begun are small e of lists with =
     let read = item_found longest (place_of from) bytes (record { next = place_after (place_of from) item n; facts = facts_of item }) n (room_behind from.header from.room small) are e in
-    fit_at longest from.header from.room (take n bytes) (place_after (place_of from) item n) item begun read.2 of.0 with
+    fit_at longest from.header from.room (take n bytes) (place_after (place_of from) item n) item begun read.2 of.0 lists with
+
+-- the item that was read
+told_next : (header : Option Header) (room : ℕ) (item : Item) (n : ℕ) → Stands (place_behind header room) item → header_before (place_after (place_behind header room) item n) ≡ told_by header item
+told_next None room (items.Header h) n stands = refl
+told_next None room (items.Fact fact) n stands = absurd stands
+told_next None room (items.Dump len) n stands = absurd stands
+told_next None room items.End n stands = absurd stands
+told_next None room items.Skipped n stands = absurd stands
+told_next None room (items.Sub fact) n stands = absurd stands
+told_next (Some h) zero (items.Header other) n stands = absurd stands
+told_next (Some h) zero (items.Fact fact) n stands = refl
+told_next (Some h) zero (items.Dump len) n stands = header_in h len
+told_next (Some h) zero items.End n stands = refl
+told_next (Some h) zero items.Skipped n stands = refl
+told_next (Some h) zero (items.Sub fact) n stands = absurd stands
+told_next (Some h) (suc room) (items.Header other) n stands = absurd stands
+told_next (Some h) (suc room) (items.Fact fact) n stands = absurd stands
+told_next (Some h) (suc room) (items.Dump len) n stands = absurd stands
+told_next (Some h) (suc room) items.End n stands = absurd stands
+told_next (Some h) (suc room) items.Skipped n stands = absurd stands
+told_next (Some h) (suc room) (items.Sub fact) n stands = header_in h (suc room - n)
+
+given_none : (header : Option Header) (room : ℕ) (item : Item) → Stands (place_behind header room) item → GivesSome item → facts_of item ≡ [] → header ≡ None
+given_none None room item stands some nothing = refl
+given_none (Some h) zero (items.Header other) stands some nothing = absurd stands
+given_none (Some h) (suc room) (items.Header other) stands some nothing = absurd stands
+given_none (Some h) room (items.Fact fact) stands some nothing = absurd cc
+given_none (Some h) room (items.Dump len) stands some nothing = absurd some
+given_none (Some h) room items.End stands some nothing = absurd some
+given_none (Some h) room items.Skipped stands some nothing = absurd some
+given_none (Some h) room (items.Sub fact) stands some nothing = absurd cc
+
+-- a whole item that the sink refuses
+pub Stops-refused : {S : Type 0} (refuses : S → SinkFault → Type 0) (failed : S → Bool) (from : Progress) (bytes : List ℕ) (item : Item) (n : ℕ) (old new : S) (fault : SinkFault)
+    → IsBytes bytes → from.room ≤ longest_body → IsReadAt from.limits.max_item from bytes item n → IsOfPlace (place_of from) bytes item → GivesSome item → Refuses refuses failed old fault new
+    → Stops refuses failed from bytes old (faults.Sink fault) (told_by from.header item) new
+Stops-refused refuses failed from bytes item n old new fault are small e of some refused =
+    let place = place_of from in
+    let next = place_after place item n in
+    let read = item_found from.limits.max_item place bytes (record { next = next; facts = facts_of item }) n (room_behind from.header from.room small) are e in (
+      record { bytes = take n bytes; facts = facts_of item },
+      next,
+      drop n bytes,
+      read.2,
+      told_next from.header from.room item n of.0,
+      given_none from.header from.room item of.0 some,
+      sym (take-append-drop n bytes),
+      refused,
+    )
 
 -- and counted
 next_at : (longest : ℕ) (header : Option Header) (room n : ℕ) (bytes : List ℕ) (next : Place) (item : Item) (progress : Progress) → progress.room ≡ room → 0 < n → length bytes ≡ n

@@ -1,9 +1,9 @@
 -- What the item that was read says of what stands at the front.
-use Rattle.std.specs.Prelude.{◌≡◌, ◌==◌, ℕ, ◌-◌, Bool, true, false, List, [], ◌∷◌, slice_index, ⊤}
+use Rattle.std.specs.Prelude.{◌≡◌, ◌==◌, ℕ, ◌-◌, Bool, true, false, List, [], ◌∷◌, slice_index, Option, Some, ⊤}
 use Rattle.hprof_items.specs.declared.header.Header.{Header}
 use Rattle.hprof_items.specs.declared.step.Step.{Step}
 use Rattle.hprof_items.specs.declared.step.Step.TheVariants as steps
-use Rattle.hprof_items.specs.FactValue.{FactValue, value_of}
+use Rattle.hprof_items.specs.FactValue.{FactValue, value_of, ListsHave}
 use Rattle.hprof_stream.specs.declared.item.Item.{Item}
 use Rattle.hprof_stream.specs.declared.item.Item.TheVariants as items
 use Rattle.hprof_stream.specs.Item.{Place, Start, Between, Within, place_in, Found}
@@ -51,6 +51,12 @@ IfRead _ holds = ⊤
 -- it stands at the place, and ends a heap dump exactly where its first byte says so
 abbrev pub IsOfPlace : Place → List ℕ → Item → Type 0
 IsOfPlace place bytes item = Stands place item × (is_end_item item ≡ (slice_index bytes 0 == 0x2c))
+
+-- its lists have identifiers of the header's size
+abbrev pub ItemLists : Option Header → Item → Type 0
+ItemLists (Some header) (items.Fact fact) = ListsHave header.ids fact
+ItemLists (Some header) (items.Sub fact) = ListsHave header.ids fact
+ItemLists _ _ = ⊤
 
 -- a record with a fact
 abbrev pub IsFact : Item → Type 0

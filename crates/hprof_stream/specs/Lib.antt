@@ -6,5 +6,5 @@ pub mod Progress
 pub mod Fault
 pub mod Run
 pub mod Offset
-pub mod Walking
 pub mod Rest
+pub mod Walking

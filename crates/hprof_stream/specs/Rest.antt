@@ -29,13 +29,14 @@ abbrev pub passing_of : ℕ → Place → List ℕ → Option Passing
 passing_of longest (Between header) bytes = passing_by (head_at header.ids longest bytes) (length bytes)
 passing_of longest place bytes = None
 
--- a sub-record was walked no further than its bytes that are there, and from there on, whatever comes, it ends where it does
-abbrev pub IsWalkAt : Walk → ℕ → Type 0
-IsWalkAt Front there = ⊤
-IsWalkAt (Entries kind left at) there = at ≤ there
+-- how far a sub-record was walked
+abbrev pub walk_at : Walk → ℕ
+walk_at Front = 0
+walk_at (Entries kind left at) = at
 
+-- a sub-record was walked no further than its bytes that are there, and from there on, whatever comes, it ends where it does
 pub record IsWalked (ids : IdSize) (room longest : ℕ) (bytes : List ℕ) (walk : Walk) : Type 0 where
-  pub placed : IsWalkAt walk (length bytes)
+  pub placed : walk_at walk ≤ length bytes
   pub same : (more : List ℕ) → walked ids (bounds_within room longest (bytes ++ more)) (bytes ++ more) walk ≡ walked ids (bounds_within room longest (bytes ++ more)) (bytes ++ more) Front
 
 abbrev pub IsWalkOf : ℕ → Place → List ℕ → Walk → Type 0
@@ -66,7 +67,12 @@ passed_len (Some passing) = passing.seen
 abbrev pub rest_len : Rest → ℕ
 rest_len rest = passed_len rest.passing + length rest.held.items
 
--- a record that is passed over has bytes to come, and its head came
-abbrev pub IsPassing : Option Passing → Type 0
-IsPassing None = ⊤
-IsPassing (Some passing) = (9 ≤ passing.seen) × (0 < passing.left)
+-- with its head, of a record that is passed over
+abbrev pub seen_of : Option Passing → ℕ
+seen_of None = 9
+seen_of (Some passing) = passing.seen
+
+-- the head of what is passed over came, and what is held was walked no further than it goes
+pub record IsSound (rest : Rest) : Type 0 where
+  pub passing : 9 ≤ seen_of rest.passing
+  pub placed : walk_at rest.walk ≤ length rest.held.items

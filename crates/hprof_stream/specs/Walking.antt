@@ -1,5 +1,5 @@
 -- How a reader goes over bytes: what its functions that are not public do.
-use Rattle.std.specs.Prelude.{◌≡◌, ◌||◌, ℕ, ◌+◌, ◌≤◌, ◌<◌, Bool, List, ◌++◌, length, drop, [], Option, Some, None, Result, Ok, Err, true, ⊤}
+use Rattle.std.specs.Prelude.{◌≡◌, ◌||◌, ℕ, ◌+◌, ◌≤◌, ◌<◌, ◌⊎◌, Bool, List, ◌++◌, length, drop, [], Option, Some, None, Result, Ok, Err, true, ⊤}
 use Rattle.std.specs.List.{list_any}
 use Rattle.std.specs.Borrow.{Bor}
 use Rattle.hprof_values.specs.declared.ids.IdSize.{IdSize}
@@ -13,9 +13,11 @@ use Rattle.hprof_stream.specs.declared.part_fault.PartFault.TheVariants as fault
 use Rattle.hprof_stream.specs.declared.sink.SinkFault.{SinkFault}
 use Rattle.hprof_stream.specs.declared.progress.Progress.{Progress}
 use Rattle.hprof_stream.specs.Part.{Stated, all_bytes, all_facts, is_end}
-use Rattle.hprof_stream.specs.Item.{Found, IsItem, AreItems, records_begun, header_before, item_at}
+use Rattle.hprof_stream.specs.declared.rest.Rest.{Rest}
+use Rattle.hprof_stream.specs.Item.{Place, Found, IsItem, AreItems, records_begun, header_before, held_of, item_at}
 use Rattle.hprof_stream.specs.Progress.{place_of}
-use Rattle.hprof_stream.specs.Run.{Run, became, FitsBegun}
+use Rattle.hprof_stream.specs.Rest.{IsRest}
+use Rattle.hprof_stream.specs.Run.{Run, became, FitsBegun, ListsHaveBegun}
 
 module _ {S : Type 0} (begins : S → Header → S → Type 0) (steps : S → FactValue → S → Type 0) where
   -- what handing an item to a sink does: a header begins a part, a fact is a step, and others do nothing
@@ -50,8 +52,8 @@ module _ {S : Type 0} (refuses : S → SinkFault → Type 0) (failed : S → Boo
   Stops progress bytes old (faults.ItemTooLong at) told new =
       (item_at progress.limits.max_item (place_of progress) bytes ≡ TooLong) × (at ≡ progress.at) × (told ≡ progress.header) × (old ≡ new)
   Stops progress bytes old (faults.Sink fault) told new =
-      (found : Found) × (n : ℕ) × (item_at progress.limits.max_item (place_of progress) bytes ≡ Whole found n) × (header_before found.next ≡ told)
-      × (found.facts ≡ [] → progress.header ≡ None) × Refuses old fault new
+      (one : Stated) × (next : Place) × (back : List ℕ) × IsItem progress.limits.max_item (place_of progress) one next × (header_before next ≡ told)
+      × (one.facts ≡ [] → progress.header ≡ None) × (bytes ≡ one.bytes ++ back) × Refuses old fault new
   Stops progress bytes old faults.OutOfMemory told new = ⊥
   Stops progress bytes old faults.Failed told new = ⊥
   Stops progress bytes old faults.Read told new = ⊥
@@ -84,6 +86,35 @@ module _ {S : Type 0} (begins : S → Header → S → Type 0) (steps : S → Fa
       Walks begins steps from.limits.max_item from bytes old to rest new × (item_at to.limits.max_item (place_of to) rest ≡ Short)
   WalksAll from bytes old (Err fault) to new = Halts from bytes old fault to new
 
+  -- bytes came behind those that were there of an item: it is whole now, it was handed on, and behind it these are left;
+  -- or it needs more still, and these are not yet added to it
+  abbrev pub GoesOn : Progress → (front bytes : List ℕ) → S → Progress → (left : List ℕ) → Rest → S → Type 0
+  GoesOn from front bytes old to left rest new =
+      (Walks begins steps from.limits.max_item from (front ++ bytes) old to left new × IsRest from.limits.max_item (place_of to) [] rest)
+      ⊎ ((to ≡ from) × (old ≡ new) × ((still : List ℕ) × (front ++ bytes ≡ still ++ left) × IsRest from.limits.max_item (place_of from) still rest))
+
+  -- memory was wanted for an item of which bytes are held, when more came, before anything was handed on
+  pub record WantsMemory (from : Progress) (front bytes : List ℕ) (old : S) (to : Progress) (new : S) : Type 0 where
+    pub stands : to ≡ from
+    pub same : old ≡ new
+    pub holds : 0 < length (held_of from.limits.max_item (place_of from) front)
+    pub some : 0 < length bytes
+
+  -- going on with the item that is held: as above, or memory was wanted, or it was refused
+  abbrev pub FinishesHeld : Progress → (front bytes : List ℕ) → S → Result (List ℕ) PartFault → Progress → Rest → S → Type 0
+  FinishesHeld from front bytes old (Ok left) to rest new = GoesOn from front bytes old to left rest new
+  FinishesHeld from front bytes old (Err faults.OutOfMemory) to rest new = WantsMemory from front bytes old to new
+  FinishesHeld from front bytes old (Err fault) to rest new = Halts from (front ++ bytes) old fault to new
+
+  -- whole items were walked over up to one that needs more bytes: of these some are kept, or the others are left; or up to
+  -- one that is refused; or memory was wanted
+  abbrev pub ReadsOn : Progress → (front bytes : List ℕ) → S → Result (List ℕ) PartFault → Progress → Rest → S → Type 0
+  ReadsOn from front bytes old (Ok left) to rest new =
+      (still : List ℕ) × Walks begins steps from.limits.max_item from (front ++ bytes) old to (still ++ left) new × IsRest from.limits.max_item (place_of to) still rest
+      × (item_at from.limits.max_item (place_of to) (still ++ left) ≡ Short) × ((still ≡ []) ⊎ (left ≡ []))
+  ReadsOn from front bytes old (Err faults.OutOfMemory) to rest new = WantsMemory from front bytes old to new
+  ReadsOn from front bytes old (Err fault) to rest new = Halts from (front ++ bytes) old fault to new
+
 -- the bytes behind the reference
 abbrev pub seen : Result (Bor (List ℕ)) PartFault → Result (List ℕ) PartFault
 seen (Ok rest) = Ok rest.now
@@ -94,10 +125,10 @@ abbrev pub IsBegun : Option Header → Option IdSize → Type 0
 IsBegun None begun = ⊤
 IsBegun (Some header) begun = begun ≡ Some header.ids
 
--- what the sink is to be given fits the size that was begun last
+-- what the sink is to be given fits the size that was begun last, and so do its lists
 abbrev pub GivesFit : Option IdSize → Item → Type 0
-GivesFit begun (items.Fact fact) = FitsBegun begun (value_of fact)
-GivesFit begun (items.Sub fact) = FitsBegun begun (value_of fact)
+GivesFit begun (items.Fact fact) = FitsBegun begun (value_of fact) × ListsHaveBegun begun fact
+GivesFit begun (items.Sub fact) = FitsBegun begun (value_of fact) × ListsHaveBegun begun fact
 GivesFit begun item = ⊤
 
 -- the header that was read once this item was

@@ -1,11 +1,11 @@
 //! Reading the item at the front of some bytes.
 
-ghost use Rattle.std.specs.Prelude.{◌≡◌, ◌≤◌, length};
+ghost use Rattle.std.specs.Prelude.{◌≡◌, ◌≤◌, length, Some, None};
 ghost use Rattle.hprof_items.specs.Head.{kind_of};
 ghost use Rattle.hprof_items.specs.Reading.{IsRightHead};
 ghost use Rattle.hprof_items.specs.Spelling.{longest_body};
 ghost use Rattle.hprof_stream.specs.Item.{Start, Between, Within, found_record, item_at};
-ghost use Rattle.hprof_stream.specs.ItemStep.{IsFound, IfRead, IsOfPlace, IsFact};
+ghost use Rattle.hprof_stream.specs.ItemStep.{IsFound, IfRead, IsOfPlace, ItemLists, IsFact};
 
 use hprof_items::{
     Fact, HEAD_LEN, Head, HeadKind, Header, Step, read_body, read_head, read_header, read_sub,
@@ -33,6 +33,7 @@ pub(crate) enum Item<'a> {
 pub(crate) fn first_item(bytes: &[u8], longest: u32) -> Step<Item<'_>>
     ensures found { IsFound Start result (item_at longest Start bytes.now) }
     ensures place { IfRead result (IsOfPlace Start bytes.now) }
+    ensures lists { IfRead result (ItemLists None) }
 {
     match read_header(bytes) {
         Step::Whole(header, len) => Step::Whole(Item::Header(header), len),
@@ -48,6 +49,7 @@ fn fact_item<'a>(header: &Header, head: &Head, bytes: &'a [u8]) -> Step<Item<'a>
     requires kind { kind_of head.now.tag ≡ HeadKind.FactRecord }
     ensures found { IsFound (Between header.now) result (found_record header.now HeadKind.FactRecord head.now bytes.now) }
     ensures fact { IfRead result IsFact }
+    ensures lists { IfRead result (ItemLists (Some header.now)) }
 {
     let len = HEAD_LEN + head.length as usize;
     if bytes.len() < len {
@@ -76,6 +78,7 @@ fn skipped_item(header: &Header, head: &Head, bytes: &[u8]) -> Step<Item<'static
 pub(crate) fn record_item<'a>(header: &Header, bytes: &'a [u8], longest: u32) -> Step<Item<'a>>
     ensures found { IsFound (Between header.now) result (item_at longest (Between header.now) bytes.now) }
     ensures place { IfRead result (IsOfPlace (Between header.now) bytes.now) }
+    ensures lists { IfRead result (ItemLists (Some header.now)) }
 {
     let head = match read_head(bytes, header.ids, longest) {
         Step::Whole(head, _) => head,
@@ -102,6 +105,7 @@ pub(crate) fn sub_item<'a>(
     requires { 1 ≤ room }
     ensures found { IsFound (Within header.now room) result (item_at longest (Within header.now room) bytes.now) }
     ensures place { IfRead result (IsOfPlace (Within header.now room) bytes.now) }
+    ensures lists { IfRead result (ItemLists (Some header.now)) }
 {
     match read_sub(bytes, room, longest, header.ids) {
         Step::Whole(fact, len) => Step::Whole(Item::Sub(fact), len),

@@ -1,6 +1,7 @@
 //! A part of a heap dump, read in pieces: its header and facts are handed to a sink as they become whole.
 #![tactic(auto)]
 
+mod held;
 mod item;
 pub mod laws;
 mod limits;

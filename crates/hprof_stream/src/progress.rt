@@ -3,7 +3,7 @@
 ghost use Rattle.std.specs.Prelude.{◌≡◌, ℕ, ◌+◌, ◌≤◌, length, drop, Some, None, Option, IfOk, IfErr, OnOk};
 ghost use Rattle.hprof_items.specs.declared.step.Step.TheVariants.{Whole};
 ghost use Rattle.hprof_stream.specs.Item.{item_at};
-ghost use Rattle.hprof_stream.specs.ItemStep.{IsFound, IfRead, IsOfPlace};
+ghost use Rattle.hprof_stream.specs.ItemStep.{IsFound, IfRead, IsOfPlace, ItemLists};
 ghost use Rattle.hprof_items.specs.declared.header.Header.{Header};
 ghost use Rattle.hprof_items.specs.Spelling.{longest_body};
 ghost use Rattle.hprof_stream.specs.Walking.{IsBegun, GivesFit, Gives, GivesSome, Refuses, told_by};
@@ -55,6 +55,7 @@ impl Progress {
     fn item<'a>(&self, bytes: &'a [u8]) -> Step<Item<'a>>
         ensures found { IsFound (place_of self.now) result (item_at self.now.limits.max_item (place_of self.now) bytes.now) }
         ensures place { IfRead result (IsOfPlace (place_of self.now) bytes.now) }
+        ensures lists { IfRead result (ItemLists self.now.header) }
         ensures room { self.now.room ≤ longest_body }
     {
         let longest = self.limits.max_item;

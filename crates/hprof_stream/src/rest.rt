@@ -1,13 +1,15 @@
 //! What is there of an item that is not whole yet.
 
-ghost use Rattle.std.specs.Prelude.{◌≡◌, ◌+◌, ◌≤◌, ℕ, List, length, Some, None};
+ghost use Rattle.std.specs.Prelude.{◌≡◌, ◌+◌, ◌≤◌, ℕ, List, [], length, Some, None};
 ghost use Rattle.hprof_stream.specs.declared.rest.Passing.{Passing};
 ghost use Rattle.hprof_stream.specs.Progress.{place_of, IsCounted};
-ghost use Rattle.hprof_stream.specs.Rest.{IsRest, IsPassing, PassesOver, rest_len};
+ghost use Rattle.hprof_items.specs.declared.walk.Walk.{Walk};
+ghost use Rattle.hprof_stream.specs.Rest.{IsRest, IsSound, PassesOver, rest_len};
 
 use crate::item::Item;
 use crate::progress::Progress;
 use hprof_items::Walk;
+use std::alloc::Global;
 
 /// How much of a record that is passed over was seen. Nothing of it is held.
 #[derive(Clone, Copy, Debug, PartialEq, Eq)]
@@ -27,14 +29,39 @@ pub(crate) struct Rest {
     pub(crate) passing: Option<Passing>,
 }
 
+impl Rest {
+    /// Nothing is there.
+    pub(crate) fn new(alloc: Global) -> Self
+        ensures held { result.held.items ≡ [] }
+        ensures walk { result.walk ≡ Walk.Front }
+        ensures passing { result.passing ≡ None }
+    {
+        Rest {
+            held: Vec::new(alloc),
+            walk: Walk::Front,
+            passing: None,
+        }
+    }
+
+    /// Forgets what is held.
+    pub(crate) fn clear(&mut self)
+        ensures held { self.new.held.items ≡ [] }
+        ensures walk { self.new.walk ≡ Walk.Front }
+        ensures passing { self.new.passing ≡ self.old.passing }
+    {
+        self.held.clear();
+        self.walk = Walk::Front;
+    }
+}
+
 /// Passes over as many bytes as the record that is passed over has left, and answers what is behind them.
-fn pass_over<'a>(progress: &mut Progress, rest: &mut Rest, bytes: &'a [u8]) -> &'a [u8]
+pub(crate) fn pass_over<'a>(progress: &mut Progress, rest: &mut Rest, bytes: &'a [u8]) -> &'a [u8]
     requires counted { IsCounted progress.old (rest_len rest.old + length bytes.now) }
-    requires passing { IsPassing rest.old.passing }
+    requires sound { IsSound rest.old }
     ensures passed { (front : List ℕ) (p : Passing) → rest.old.passing ≡ Some p → IsRest progress.old.limits.max_item (place_of progress.old) front rest.old
         → PassesOver progress.old front bytes.now progress.new result.now rest.new }
     ensures none { rest.old.passing ≡ None → (progress.new ≡ progress.old) × (rest.new ≡ rest.old) × (result.now ≡ bytes.now) }
-    ensures passing { IsPassing rest.new.passing }
+    ensures sound { IsSound rest.new }
     ensures shorter { length result.now ≤ length bytes.now }
     ensures counted { IsCounted progress.new (rest_len rest.new + length result.now) }
 {

@@ -1,16 +1,16 @@
-use Rattle.std.proofs.Common.{◌≡◌, ◌<◌, ◌≤◌, ℕ, length, drop, sym, subst, arith}
+use Rattle.std.proofs.Common.{◌≡◌, ◌<◌, ◌≤◌, ℕ, length, drop, refl, sym, subst, arith}
 use Rattle.hprof_items.specs.declared.step.Step.TheVariants.{Whole}
 use Rattle.hprof_stream.specs.declared.progress.Progress.{Progress}
 use Rattle.hprof_stream.specs.Item.{Found, item_at}
 use Rattle.hprof_stream.specs.Progress.{place_of}
 use Rattle.hprof_stream.specs.Walking.{Walks}
-use Rattle.hprof_stream.proofs.Walks.{Walks-item, given_fits, next_counted}
+use Rattle.hprof_stream.proofs.Walks.{Walks-item, given_fits, next_counted, Stops-refused}
 use Rattle.hprof_stream.proofs.progress.Progress.step.Goals as goal
 
 pub give-requires : goal.give-requires
 give-requires g c =
     given_fits c.args.self.now.limits.max_item c.args.self.now c.args.bytes.now c.in-Whole.item c.in-Whole.len _ (λ i. omega (arith, c.type_inv.bytes i)) c.item.ensures.room
-    c.in-Whole.ensures.found c.in-Whole.ensures.place c.requires.begun
+    c.in-Whole.ensures.found c.in-Whole.ensures.place c.in-Whole.ensures.lists c.requires.begun
 
 pub advance-requires-clause-counted : goal.advance-requires-clause-counted
 advance-requires-clause-counted g c =
@@ -32,4 +32,12 @@ returns-in_default-clause-step g c =
       walk.1,
       walk.2,
       (_, c.in-Whole.ensures.found),
+    )
+
+pub returns-in-Err-clause-step : goal.returns-in-Err-clause-step
+returns-in-Err-clause-step g c =
+    rw c.tell.ensures (
+      Stops-refused g.S.Sink.refuses g.S.Sink.failed c.args.self.now c.args.bytes.now c.in-Whole.item c.in-Whole.len c.args.sink.now c.give.new.sink c.in-Err.fault
+      (λ i. omega (arith, c.type_inv.bytes i)) c.item.ensures.room c.in-Whole.ensures.found c.in-Whole.ensures.place c.in-Err.ensures.refused.0 c.in-Err.ensures.refused.1,
+      refl,
     )
