@@ -8,3 +8,5 @@ pub mod Run
 pub mod Offset
 pub mod Rest
 pub mod Walking
+pub mod Reader
+pub mod Feeding

@@ -6,12 +6,16 @@ mod item;
 pub mod laws;
 mod limits;
 mod part_fault;
+mod part_reader;
 mod progress;
+mod reading;
 mod rest;
 mod sink;
 mod summary;
 
 pub use limits::Limits;
 pub use part_fault::PartFault;
+pub use part_reader::PartReader;
+pub use reading::read_part;
 pub use sink::{Sink, SinkFault};
 pub use summary::PartSummary;

@@ -1,6 +1,6 @@
 //! What is there of an item that is not whole yet.
 
-ghost use Rattle.std.specs.Prelude.{◌≡◌, ◌+◌, ◌≤◌, ℕ, List, [], length, Some, None};
+ghost use Rattle.std.specs.Prelude.{◌≡◌, ◌==◌, ◌+◌, ◌^◌, ◌<◌, ◌≤◌, ℕ, List, [], length, Some, None};
 ghost use Rattle.hprof_stream.specs.declared.rest.Passing.{Passing};
 ghost use Rattle.hprof_stream.specs.Progress.{place_of, IsCounted};
 ghost use Rattle.hprof_items.specs.declared.walk.Walk.{Walk};
@@ -41,6 +41,23 @@ impl Rest {
             walk: Walk::Front,
             passing: None,
         }
+    }
+
+    /// How many bytes of the part it stands for.
+    pub(crate) fn len(&self) -> u64
+        requires { rest_len self.now < 2 ^ 64 }
+        ensures { result ≡ rest_len self.now }
+    {
+        let passed = self.passing.map_or(0, |passing| passing.seen);
+        passed + self.held.len() as u64
+    }
+
+    /// Whether nothing is there.
+    pub(crate) fn is_empty(&self) -> bool
+        requires { IsSound self.now }
+        ensures { result ≡ (rest_len self.now == 0) }
+    {
+        self.passing.is_none() && self.held.is_empty()
     }
 
     /// Forgets what is held.

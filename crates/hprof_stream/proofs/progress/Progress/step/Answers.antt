@@ -38,6 +38,6 @@ pub returns-in-Err-clause-step : goal.returns-in-Err-clause-step
 returns-in-Err-clause-step g c =
     rw c.tell.ensures (
       Stops-refused g.S.Sink.refuses g.S.Sink.failed c.args.self.now c.args.bytes.now c.in-Whole.item c.in-Whole.len c.args.sink.now c.give.new.sink c.in-Err.fault
-      (λ i. omega (arith, c.type_inv.bytes i)) c.item.ensures.room c.in-Whole.ensures.found c.in-Whole.ensures.place c.in-Err.ensures.refused.0 c.in-Err.ensures.refused.1,
+          (λ i. omega (arith, c.type_inv.bytes i)) c.item.ensures.room c.in-Whole.ensures.found c.in-Whole.ensures.place c.in-Err.ensures.refused.0 c.in-Err.ensures.refused.1,
       refl,
     )

@@ -4,12 +4,14 @@ ghost use Rattle.std.specs.Prelude.{◌≡◌, ℕ, ◌+◌, ◌≤◌, List, []
 ghost use Rattle.hprof_items.specs.declared.header.Header.{Header};
 ghost use Rattle.hprof_values.specs.declared.ids.IdSize.{IdSize};
 ghost use Rattle.hprof_items.specs.FactValue.{FactValue};
-ghost use Rattle.hprof_stream.specs.Item.{place_behind, is_short, item_at};
+ghost use Rattle.hprof_stream.specs.Rest.{rest_len, seen_of, walk_at};
+ghost use Rattle.hprof_stream.specs.Walking.{IsBegun};
 
-use crate::held::{hold, read_on};
+use crate::held::{keep, read_on};
 use crate::limits::Limits;
 use crate::part_fault::PartFault;
 use crate::progress::Progress;
+use crate::rest::Rest;
 use crate::sink::Sink;
 use crate::summary::PartSummary;
 use hprof_items::{Header, Reason};
@@ -19,17 +21,18 @@ use std::alloc::Global;
 #[derive(Drop)]
 pub struct PartReader {
     progress: Progress,
-    held: Vec<u8>,
+    rest: Rest,
     failed: bool,
-    ghost within: { progress.at + length held.items ≤ progress.limits.max_bytes },
+    ghost within: { progress.at + rest_len rest ≤ progress.limits.max_bytes },
     ghost counted: { progress.records ≤ progress.at },
     ghost stated: { progress.facts ≤ progress.at },
-    ghost emptied: { failed ≡ true → length held.items ≡ 0 },
-    ghost short: { is_short (item_at progress.limits.max_item (place_behind progress.header) held.items) ≡ true },
+    ghost emptied: { failed ≡ true → length rest.held.items ≡ 0 },
+    ghost headed: { 9 ≤ seen_of rest.passing },
+    ghost placed: { walk_at rest.walk ≤ length rest.held.items },
 }
 
 impl PartReader {
-    ghost use Rattle.hprof_stream.specs.Reader.{HasRead, header_of, has_failed, IsReady, IsBegun, IsUnfinished, longest_held, Feeds, Finishes};
+    ghost use Rattle.hprof_stream.specs.Reader.{HasRead, header_of, has_failed, IsReady, IsUnfinished, longest_held, Feeds, Finishes};
     ghost use Rattle.hprof_stream.specs.declared.limits.Limits.{Limits};
 
     /// A reader that was fed nothing. It takes no memory yet.
@@ -39,7 +42,7 @@ impl PartReader {
     {
         PartReader {
             progress: Progress::start(limits),
-            held: Vec::new(alloc),
+            rest: Rest::new(alloc),
             failed: false,
         }
     }
@@ -66,7 +69,7 @@ impl PartReader {
         let outcome = self.take_piece(piece, sink);
         if outcome.is_err() {
             self.failed = true;
-            self.held.clear();
+            self.rest.clear();
         }
         outcome
     }
@@ -84,7 +87,7 @@ impl PartReader {
             → IsUnfinished limits.max_item bytes result × (result ≤ length bytes) × (result ≤ longest_held limits.max_item) }
         ensures failed { has_failed self.now ≡ true → result ≡ 0 }
     {
-        self.held.len()
+        self.rest.held.len()
     }
 
     /// The end of the part: what was read of it, where the bytes end behind an item and a header is there. Else they
@@ -99,7 +102,7 @@ impl PartReader {
         }
         let progress = self.progress;
         match progress.header {
-            Some(header) if self.held.is_empty() => Ok(PartSummary {
+            Some(header) if self.rest.is_empty() && progress.room == 0 => Ok(PartSummary {
                 header,
                 records: progress.records,
                 facts: progress.facts,
@@ -122,16 +125,13 @@ impl PartReader {
         ensures begun { OnOk result (IsBegun (header_of self.new) (S.begun sink.new)) }
     {
         let progress = &mut self.progress;
-        let held = &mut self.held;
-        let room = progress.limits.max_bytes - progress.at - held.len() as u64;
+        let rest = &mut self.rest;
+        let room = progress.limits.max_bytes - progress.at - rest.len();
         let (taken, excess) = piece.split_at(room.min(piece.len() as u64) as usize);
-        let rest = read_on(progress, held, taken, sink)?;
+        let left = read_on(progress, rest, taken, sink)?;
         if !excess.is_empty() {
             return Err(PartFault::BytesExceeded);
         }
-        hold(held, rest)
+        keep(progress, rest, left)
     }
 }
-
-#[cfg(test)]
-mod tests;
