@@ -84,12 +84,12 @@ fn walks_short(progress: &Progress, rest: &mut Rest) -> bool
 /// Counts what is held, where it is the head of a record that is passed over.
 fn count_passed(progress: &Progress, rest: &mut Rest)
     requires sound { IsSound rest.old }
-    requires none { rest.old.passing ≡ None }
     ensures sound { IsSound rest.new }
-    ensures len { rest_len rest.new ≡ rest_len rest.old }
+    ensures len { rest_len rest.new ≤ rest_len rest.old }
     ensures shorter { length rest.new.held.items ≤ length rest.old.held.items }
     ensures rest { item_at progress.now.limits.max_item (place_of progress.now) rest.old.held.items ≡ Short
         → IsWalkOf progress.now.limits.max_item (place_of progress.now) rest.old.held.items rest.old.walk
+        → rest.old.passing ≡ None
         → IsRest progress.now.limits.max_item (place_of progress.now) rest.old.held.items rest.new }
 {
     if let Some(passing) = passing_at(progress, &rest.held) {
@@ -109,13 +109,11 @@ fn finish_once<'a, S: Sink>(
     requires counted { IsCounted progress.old (rest_len rest.old + length bytes.now) }
     requires begun { IsBegun progress.old.header (S.begun sink.old) }
     requires sound { IsSound rest.old }
-    requires passing { rest.old.passing ≡ None }
     requires holds { 0 < length rest.old.held.items }
     requires some { 0 < length bytes.now }
     ensures finished { (front : List ℕ) → IsRest progress.old.limits.max_item (place_of progress.old) front rest.old
         → FinishesHeld S.begins S.steps S.refuses S.failed progress.old front bytes.now sink.old (seen result) progress.new rest.new sink.new }
     ensures sound { OnOk result (IsSound rest.new) }
-    ensures passing { OnOk result (rest.new.passing ≡ None ⊎ length rest.new.held.items ≡ 0) }
     ensures shorter { IfOk result (λ left. length left.now + min 1 (length rest.new.held.items) < length bytes.now + min 1 (length rest.old.held.items)) }
     ensures less { IfOk result (λ left. length left.now ≤ length bytes.now) }
     ensures counted { IfOk result (λ left. IsCounted progress.new (rest_len rest.new + length left.now)) }
@@ -156,7 +154,7 @@ fn finish_held<'a, S: Sink>(
     ensures begun { OnOk result (IsBegun progress.new.header (S.begun sink.new)) }
 {
     let mut left = bytes;
-    while rest.passing.is_none() && !rest.held.is_empty() && !left.is_empty() {
+    while !rest.held.is_empty() && !left.is_empty() {
         left = finish_once(progress, rest, left, sink)?;
     }
     Ok(left)
