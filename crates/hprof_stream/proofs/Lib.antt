@@ -5,6 +5,7 @@ pub mod FoundItems
 pub mod Items
 pub mod Stops
 pub mod Refusals
+pub mod Rests
 pub mod ItemSteps
 pub mod ItemLists
 pub mod Runs

@@ -79,6 +79,7 @@ pub(crate) fn pass_over<'a>(progress: &mut Progress, rest: &mut Rest, bytes: &'a
         → PassesOver progress.old front bytes.now progress.new result.now rest.new }
     ensures none { rest.old.passing ≡ None → (progress.new ≡ progress.old) × (rest.new ≡ rest.old) × (result.now ≡ bytes.now) }
     ensures sound { IsSound rest.new }
+    ensures header { progress.new.header ≡ progress.old.header }
     ensures shorter { length result.now ≤ length bytes.now }
     ensures counted { IsCounted progress.new (rest_len rest.new + length result.now) }
 {
