@@ -1,4 +1,0 @@
-pub mod Items
-pub mod Refusals
-pub mod ItemLists
-pub mod Faults

@@ -1,7 +1,7 @@
 //! A part of a heap dump, read in pieces: its header and facts are handed to a sink as they become whole.
 #![tactic(auto)]
 
-pub mod laws;
+
 mod limits;
 mod part_fault;
 mod sink;
