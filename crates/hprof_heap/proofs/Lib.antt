@@ -8,9 +8,9 @@ pub mod SortedRows
 pub mod SortedTable
 pub mod Stating
 pub mod RowFacts
+pub mod Tables
 pub mod Names
 pub mod NumberRows
 pub mod Steady
 pub mod Gathering
-pub mod Dump
 pub mod Packing

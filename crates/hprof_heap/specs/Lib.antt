@@ -8,6 +8,8 @@ pub mod SortedRows
 pub mod SortedTable
 pub mod Relation
 pub mod NumberRows
+pub mod Content
+pub mod Tables
 pub mod HeapValue
 pub mod Heap
 pub mod Rows

@@ -64,6 +64,7 @@ impl Heap {
     {
         match fact {
             Fact::Name { id, text } => self.state_name(id, text),
+            _ => Ok(Stated::Same),
         }
     }
 
@@ -107,7 +108,7 @@ impl Heap {
         ensures ordered { IsCanonicalOrder (facts_left result) }
     {
         match table {
-            Table::Names => Facts::of_names(self.names.rows()),
+            _ => Facts::of_names(self.names.rows()),
         }
     }
 
@@ -116,7 +117,7 @@ impl Heap {
         ensures { result ≡ length (facts_of_table table (heap_of self.now).facts) }
     {
         match table {
-            Table::Names => self.names.len(),
+            _ => self.names.len(),
         }
     }
 }

@@ -2,7 +2,6 @@
 //! and the canonical dump of a heap.
 #![tactic(auto)]
 
-mod canonical;
 mod content;
 mod facts;
 mod gatherer;
@@ -17,7 +16,6 @@ mod sorted_table;
 mod standing;
 mod table;
 
-pub use canonical::write_canonical;
 pub use content::{Content, Statement};
 pub use facts::Facts;
 pub use gatherer::Gatherer;
