@@ -9,7 +9,6 @@ pub mod SortedTable
 pub mod Stating
 pub mod RowFacts
 pub mod Tables
-pub mod Names
 pub mod NumberRows
 pub mod Steady
 pub mod Gathering

@@ -5,12 +5,32 @@ use Rattle.hprof_items.specs.FactValue.{FactValue, Name}
 use Rattle.hprof_heap.specs.declared.heap.Heap.{Heap}
 use Rattle.hprof_heap.specs.declared.table.Table.{Table}
 use Rattle.hprof_heap.specs.declared.table.Table.TheVariants as tables
-use Rattle.hprof_heap.specs.HeapValue.{HeapValue, name_facts}
+use Rattle.hprof_heap.specs.HeapRows.{HeapRows, heap_of_rows}
+use Rattle.hprof_heap.specs.HeapValue.{HeapValue}
+use Rattle.hprof_heap.specs.RootSet.{roots_of}
 use Rattle.hprof_heap.specs.Order.{place_of}
 use Rattle.hprof_heap.specs.Relation.{rows_of}
 
+-- the rows of its tables
+abbrev pub rows_in : Heap → HeapRows
+rows_in heap = record {
+  ids = heap.ids;
+  millis = heap.millis;
+  names = rows_of heap.names;
+  loads = rows_of heap.loads;
+  unloads = rows_of heap.unloads;
+  frames = rows_of heap.frames;
+  traces = rows_of heap.traces;
+  starts = rows_of heap.starts;
+  ends = rows_of heap.ends;
+  roots = roots_of heap.roots;
+  classes = rows_of heap.classes;
+  objects = rows_of heap.objects;
+}
+
+-- a heap as a value: its size, its time, and the facts of its tables, one after the other
 abbrev pub heap_of : Heap → HeapValue
-heap_of heap = record { ids = heap.ids; millis = heap.millis; facts = name_facts (rows_of heap.names) }
+heap_of heap = heap_of_rows (rows_in heap)
 
 -- the place of a table among the tables
 abbrev pub number_of_table : Table → ℕ
