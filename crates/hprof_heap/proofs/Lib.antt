@@ -9,6 +9,7 @@ pub mod SortedTable
 pub mod Stating
 pub mod RowFacts
 pub mod Tables
+pub mod HeapRows
 pub mod NumberRows
 pub mod Steady
 pub mod Gathering

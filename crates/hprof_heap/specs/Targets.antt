@@ -1,7 +1,5 @@
 -- What is written to the targets of spelled rows.
-use Rattle.std.specs.Prelude.{◌≡◌, ◌≢◌, ◌≤◌, ℕ, Bool, true, false, List, [], ◌∷◌, ◌++◌, length, take, drop, Option, Some, None, ⊤, is_some, if◌then◌else◌}
-use Rattle.std.specs.Coded.{×_prop, Unit-prop, le_prop}
-use Rattle.std.proofs.Props.{props}
+use Rattle.std.specs.Prelude.{ℕ, Bool, List, [], ◌∷◌, ◌++◌, take, Option, Some, None, if◌then◌else◌}
 use Rattle.hprof_items.specs.declared.health.Health.{Health}
 use Rattle.hprof_items.specs.declared.health.Health.TheVariants.{Well, Failed}
 use Rattle.hprof_heap.specs.declared.appending.Appending.{Appending}
@@ -31,19 +29,3 @@ comparing_health target = failed_health target.failed
 
 abbrev pub expected_bytes : Comparing → List ℕ
 expected_bytes target = target.expected.now
-
--- the other byte is not the one that is expected there, or none is
-abbrev pub Differs : List ℕ → ℕ → Option ℕ → Bool → Type 0
-Differs expected same None failed = failed ≡ false
-Differs expected same (Some byte) failed = take 1 (drop same expected) ≢ byte ∷ []
-
--- what a target that compares keeps: so many bytes are the same; it has failed only behind a byte that is another one
-abbrev pub IsComparing : List ℕ → ℕ → Option ℕ → Bool → Type 0
-IsComparing expected same other failed = (same ≤ length expected) × Differs expected same other failed
-
-Differs-prop : (expected : List ℕ) (same : ℕ) (other : Option ℕ) (failed : Bool) → IsProp (Differs expected same other failed)
-Differs-prop expected same None failed = hlevel props
-Differs-prop expected same (Some byte) failed = hlevel props
-
-pub IsComparing-prop : (expected : List ℕ) (same : ℕ) (other : Option ℕ) (failed : Bool) → IsProp (IsComparing expected same other failed)
-IsComparing-prop expected same other failed = ×_prop le_prop (Differs-prop expected same other failed)

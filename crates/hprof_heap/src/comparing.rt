@@ -2,7 +2,7 @@
 
 ghost use Rattle.std.specs.Prelude.{◌≡◌, ◌≢◌, ◌↔◌, ◌≤◌, ◌<◌, ◌∷◌, [], Some, IsTrue, length, take, drop, slice_index};
 ghost use Rattle.hprof_items.specs.declared.health.Health.TheVariants.{Well};
-ghost use Rattle.hprof_heap.specs.Targets.{compared, comparing_health, expected_bytes, IsComparing, IsComparing-prop};
+ghost use Rattle.hprof_heap.specs.Differing.{IsComparing, IsComparing-prop};
 
 use hprof_items::{Target, WriteFault};
 
@@ -34,6 +34,8 @@ fn common_len(bytes: &[u8], others: &[u8]) -> usize
 }
 
 impl<'a> Comparing<'a> {
+    ghost use Rattle.hprof_heap.specs.Targets.{compared, comparing_health, expected_bytes};
+
     /// A target that expects these bytes.
     pub(crate) fn new(expected: &'a [u8]) -> Self
         ensures empty { compared result ≡ [] }
@@ -57,6 +59,8 @@ impl<'a> Comparing<'a> {
 }
 
 impl Target for Comparing<'_> {
+    ghost use Rattle.hprof_heap.specs.Targets.{compared, comparing_health};
+
     ghost written = { λ target. Some (compared target) };
 
     ghost health = { comparing_health };

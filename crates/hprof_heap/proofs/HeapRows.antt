@@ -1,0 +1,123 @@
+-- The rows of a heap: each table has facts of its own, and stating one into a table states it into the heap.
+use Rattle.std.proofs.Common.{◌≡◌, ℕ, zero, suc, ◌<◌, List, [], ◌∷◌, length, Result, Ok, Err, refl, sym, ap, subst, ◌∙◌, arith}
+use Rattle.std.specs.Prelude.{ℤ, pos, negsuc, IfOk, OnErr, slice_index}
+use Rattle.hprof_values.specs.declared.ids.IdSize.{IdSize}
+use Rattle.hprof_values.specs.declared.root.Root.{Root}
+use Rattle.hprof_values.specs.Root.{tag_of_root, root_numbers}
+use Rattle.hprof_values.specs.SubTag.{code_of_tag}
+use Rattle.hprof_items.specs.FactValue.{FactValue, Name}
+use Rattle.hprof_items.specs.Spelling.{Fits}
+use Rattle.hprof_heap.specs.declared.name_row.NameRow.{NameRow}
+use Rattle.hprof_heap.specs.declared.number_rows.LoadRow.{LoadRow}
+use Rattle.hprof_heap.specs.declared.number_rows.FrameRow.{FrameRow}
+use Rattle.hprof_heap.specs.declared.number_rows.StartRow.{StartRow}
+use Rattle.hprof_heap.specs.declared.number_rows.KeyRow.{KeyRow}
+use Rattle.hprof_heap.specs.declared.relation.Stated.{Stated}
+use Rattle.hprof_heap.specs.Content.{content_of, load_fact, unload_fact, frame_fact, trace_fact, start_fact, end_fact, spelled_fact, line_with, facts_of_rows, AreRight}
+use Rattle.hprof_heap.specs.Gathering.{StatesInto}
+use Rattle.hprof_heap.specs.HeapRows.{HeapRows, AreHeap, tables_of, heap_of_rows, name_text, no_content, root_facts}
+use Rattle.hprof_heap.specs.HeapValue.{IsHeap}
+use Rattle.hprof_heap.specs.Order.{place_of}
+use Rattle.hprof_heap.specs.NumberRows.{line_numbers, load_numbers, frame_numbers, start_numbers}
+use Rattle.hprof_heap.specs.Relation.{States}
+use Rattle.hprof_heap.specs.SpelledRow.{spelled_bytes}
+use Rattle.hprof_heap.specs.Tables.{joined}
+use Rattle.hprof_heap.specs.TraceRow.{trace_content}
+use Rattle.hprof_heap.proofs.RowFacts.{IsOfTable, right_by, rows_tried, rows_kept}
+use Rattle.hprof_heap.proofs.Stating.{StatesAmong, with_facts, tried_among, tried_among-sound}
+use Rattle.hprof_heap.proofs.Tables.{IsOf, AllOf, AreTables, table_at, with_table, states_tables}
+
+-- ---- the rows of numbers are right
+
+-- a line is known by its numbers
+pub line_again : (line : ℤ) → line_with (slice_index (line_numbers line) 0) (slice_index (line_numbers line) 1) ≡ line
+line_again (pos n) = refl
+line_again (negsuc n) = refl
+
+pub names_right : (ids : IdSize) (rows : List (ℕ × NameRow)) → AreRight ids 0 Name name_text rows
+names_right ids rows = right_by ids 0 Name name_text rows (λ key row. (refl, refl))
+
+pub loads_right : (ids : IdSize) (rows : List (ℕ × LoadRow)) → AreRight ids 1 load_fact load_numbers rows
+loads_right ids rows = right_by ids 1 load_fact load_numbers rows (λ key row. (refl, refl))
+
+pub unloads_right : (ids : IdSize) (rows : List (ℕ × KeyRow)) → AreRight ids 2 unload_fact no_content rows
+unloads_right ids rows = right_by ids 2 unload_fact no_content rows (λ key row. (refl, refl))
+
+pub frames_right : (ids : IdSize) (rows : List (ℕ × FrameRow)) → AreRight ids 3 frame_fact frame_numbers rows
+frames_right ids rows = right_by ids 3 frame_fact frame_numbers rows
+    (λ key row. (refl, ap (λ (line : ℤ). row.method ∷ row.signature ∷ row.source ∷ row.class_serial ∷ line_numbers line) (line_again row.line)))
+
+pub starts_right : (ids : IdSize) (rows : List (ℕ × StartRow)) → AreRight ids 5 start_fact start_numbers rows
+starts_right ids rows = right_by ids 5 start_fact start_numbers rows (λ key row. (refl, refl))
+
+pub ends_right : (ids : IdSize) (rows : List (ℕ × KeyRow)) → AreRight ids 6 end_fact no_content rows
+ends_right ids rows = right_by ids 6 end_fact no_content rows (λ key row. (refl, refl))
+
+-- ---- the tables
+
+all_of_rows : {V : Type 0} (ids : IdSize) (table : ℕ) (fact : ℕ → List ℕ → FactValue) (content : V → List ℕ) (rows : List (ℕ × V))
+    → AreRight ids table fact content rows → AllOf table (facts_of_rows fact content rows)
+all_of_rows ids table fact content [] right = tt
+all_of_rows ids table fact content (row ∷ rows) right =
+    (record { more = row.0 ∷ []; stands = right.0.0 }, all_of_rows ids table fact content rows right.1)
+
+all_of_roots : (roots : List Root) → AllOf 7 (root_facts roots)
+all_of_roots [] = tt
+all_of_roots (root ∷ roots) = (record { more = code_of_tag (tag_of_root root) ∷ root_numbers root; stands = refl }, all_of_roots roots)
+
+-- the facts of each table stand in it
+pub heap_tables : (rows : HeapRows) → AreHeap rows → AreTables 0 (tables_of rows)
+heap_tables rows are =
+    (all_of_rows rows.ids 0 Name name_text rows.names (names_right rows.ids rows.names),
+    (all_of_rows rows.ids 1 load_fact load_numbers rows.loads (loads_right rows.ids rows.loads),
+    (all_of_rows rows.ids 2 unload_fact no_content rows.unloads (unloads_right rows.ids rows.unloads),
+    (all_of_rows rows.ids 3 frame_fact frame_numbers rows.frames (frames_right rows.ids rows.frames),
+    (all_of_rows rows.ids 4 (trace_fact rows.ids) trace_content rows.traces are.traces,
+    (all_of_rows rows.ids 5 start_fact start_numbers rows.starts (starts_right rows.ids rows.starts),
+    (all_of_rows rows.ids 6 end_fact no_content rows.ends (ends_right rows.ids rows.ends),
+    (all_of_roots rows.roots,
+    (all_of_rows rows.ids 8 (spelled_fact rows.ids) spelled_bytes rows.classes are.classes,
+    (all_of_rows rows.ids 9 (spelled_fact rows.ids) spelled_bytes rows.objects are.objects, tt))))))))))
+
+-- ---- stating into one table
+
+-- tables with one of them as it was
+with_same : (tables : List (List FactValue)) (place : ℕ) → with_table tables place (table_at tables place) ≡ tables
+with_same [] place = refl
+with_same (facts ∷ tables) zero = refl
+with_same (facts ∷ tables) (suc place) = ap (λ (l : List (List FactValue)). facts ∷ l) (with_same tables place)
+
+kept_joined : {E : Type 0} (r : Result Stated E) (tables : List (List FactValue)) (place : ℕ) (new : List FactValue) → OnErr r (new ≡ table_at tables place)
+    → OnErr r (joined (with_table tables place new) ≡ joined tables)
+kept_joined (Ok answer) tables place new kept = tt
+kept_joined (Err e) tables place new kept = ap (λ (l : List FactValue). joined (with_table tables place l)) kept ∙ ap joined (with_same tables place)
+
+module _ {E : Type 0} (r : Result Stated E) (rows : HeapRows) (are : AreHeap rows) (place : ℕ) (new : List FactValue) (fact : FactValue)
+    (of : IsOf place fact) (within : place < length (tables_of rows)) (fits : Fits rows.ids fact)
+    (among : IfOk r (λ stated. StatesAmong (table_at (tables_of rows) place) fact stated new)) where
+  -- what was stated among the facts of a table was stated into the heap
+  pub into_heap : IfOk r (λ stated. StatesInto (heap_of_rows rows) fact stated
+      (with_facts rows.ids rows.millis (joined (with_table (tables_of rows) place new))))
+  into_heap = tried_among r rows.ids rows.millis (joined (tables_of rows)) (joined (with_table (tables_of rows) place new)) fact
+      (states_tables r (tables_of rows) place new fact (heap_tables rows are) of within among) fits are.heap
+
+  -- and it is still a heap
+  pub into_heap-sound : OnErr r (new ≡ table_at (tables_of rows) place)
+      → IsHeap (with_facts rows.ids rows.millis (joined (with_table (tables_of rows) place new)))
+  into_heap-sound kept = tried_among-sound r rows.ids rows.millis (joined (tables_of rows)) (joined (with_table (tables_of rows) place new)) fact
+      (states_tables r (tables_of rows) place new fact (heap_tables rows are) of within among)
+      (kept_joined r (tables_of rows) place new kept) fits are.heap
+
+  -- where memory was refused the heap is as it was
+  pub into_heap-kept : OnErr r (new ≡ table_at (tables_of rows) place)
+      → OnErr r (with_facts rows.ids rows.millis (joined (with_table (tables_of rows) place new)) ≡ heap_of_rows rows)
+  into_heap-kept kept = kept_heap r (kept_joined r (tables_of rows) place new kept)
+    where
+    kept_heap : (q : Result Stated E) → OnErr q (joined (with_table (tables_of rows) place new) ≡ joined (tables_of rows))
+        → OnErr q (with_facts rows.ids rows.millis (joined (with_table (tables_of rows) place new)) ≡ heap_of_rows rows)
+    kept_heap (Ok answer) kept = tt
+    kept_heap (Err e) kept = ap (with_facts rows.ids rows.millis) kept
+
+-- a fact under a key of a table stands in the table
+pub of_key : (table key : ℕ) (fact : FactValue) → place_of fact ≡ table ∷ key ∷ [] → IsOf table fact
+of_key table key fact at = record { more = key ∷ []; stands = at }
