@@ -1,31 +1,43 @@
 -- The rows of a heap: each table has facts of its own, and stating one into a table states it into the heap.
-use Rattle.std.proofs.Common.{◌≡◌, ℕ, zero, suc, ◌<◌, List, [], ◌∷◌, length, Result, Ok, Err, refl, sym, ap, subst, ◌∙◌, arith}
+use Rattle.std.proofs.Common.{◌≡◌, ℕ, zero, suc, ◌<◌, ◌≤◌, List, [], ◌∷◌, length, Option, None, Result, Ok, Err, refl, sym, ap, subst, ◌∙◌, arith}
 use Rattle.std.specs.Prelude.{ℤ, pos, negsuc, IfOk, OnErr, slice_index}
+use Rattle.std.proofs.lemmas.List.{append-nil}
 use Rattle.hprof_values.specs.declared.ids.IdSize.{IdSize}
 use Rattle.hprof_values.specs.declared.root.Root.{Root}
 use Rattle.hprof_values.specs.Root.{tag_of_root, root_numbers}
 use Rattle.hprof_values.specs.SubTag.{code_of_tag}
-use Rattle.hprof_items.specs.FactValue.{FactValue, Name}
-use Rattle.hprof_items.specs.Spelling.{Fits}
+use Rattle.hprof_values.specs.declared.record_tag.RecordTag.{RecordTag}
+use Rattle.hprof_values.specs.Fields.{exactly, field_bytes}
+use Rattle.hprof_values.specs.Lists.{id_widths}
+use Rattle.hprof_values.proofs.IdLists.{ids_again}
+use Rattle.hprof_items.specs.FactValue.{FactValue, Name, Load, Unload, Frame, Trace, Start, End, Rooted, Class, Instance, ObjArray, PrimArray}
+use Rattle.hprof_items.specs.RecordBody.{record_of}
+use Rattle.hprof_items.specs.SubRecord.{dump_bytes}
+use Rattle.hprof_items.proofs.Dumps.{sub_again}
+use Rattle.hprof_items.specs.Spelling.{Fits, FitsAs}
 use Rattle.hprof_heap.specs.declared.name_row.NameRow.{NameRow}
 use Rattle.hprof_heap.specs.declared.number_rows.LoadRow.{LoadRow}
 use Rattle.hprof_heap.specs.declared.number_rows.FrameRow.{FrameRow}
 use Rattle.hprof_heap.specs.declared.number_rows.StartRow.{StartRow}
 use Rattle.hprof_heap.specs.declared.number_rows.KeyRow.{KeyRow}
 use Rattle.hprof_heap.specs.declared.relation.Stated.{Stated}
-use Rattle.hprof_heap.specs.Content.{content_of, load_fact, unload_fact, frame_fact, trace_fact, start_fact, end_fact, spelled_fact, line_with, facts_of_rows, AreRight}
+use Rattle.hprof_heap.specs.declared.spelled_row.SpelledRow.{SpelledRow}
+use Rattle.hprof_heap.specs.Content.{content_of, load_fact, unload_fact, frame_fact, trace_fact, start_fact, end_fact, spelled_fact, line_with, read_fact, facts_of_rows, AreRight}
 use Rattle.hprof_heap.specs.Gathering.{StatesInto}
+use Rattle.hprof_heap.specs.declared.table.Table.{Table}
+use Rattle.hprof_heap.specs.Heap.{facts_of_table, number_of_table}
 use Rattle.hprof_heap.specs.HeapRows.{HeapRows, AreHeap, tables_of, heap_of_rows, name_text, no_content, root_facts}
 use Rattle.hprof_heap.specs.HeapValue.{IsHeap}
 use Rattle.hprof_heap.specs.Order.{place_of}
 use Rattle.hprof_heap.specs.NumberRows.{line_numbers, load_numbers, frame_numbers, start_numbers}
 use Rattle.hprof_heap.specs.Relation.{States}
+use Rattle.hprof_heap.specs.Spelled.{Spells}
 use Rattle.hprof_heap.specs.SpelledRow.{spelled_bytes}
 use Rattle.hprof_heap.specs.Tables.{joined}
 use Rattle.hprof_heap.specs.TraceRow.{trace_content}
 use Rattle.hprof_heap.proofs.RowFacts.{IsOfTable, right_by, rows_tried, rows_kept}
 use Rattle.hprof_heap.proofs.Stating.{StatesAmong, with_facts, tried_among, tried_among-sound}
-use Rattle.hprof_heap.proofs.Tables.{IsOf, AllOf, AreTables, table_at, with_table, states_tables}
+use Rattle.hprof_heap.proofs.Tables.{IsOf, AllOf, AreTables, table_at, with_table, states_tables, facts_in}
 
 -- ---- the rows of numbers are right
 
@@ -121,3 +133,89 @@ module _ {E : Type 0} (r : Result Stated E) (rows : HeapRows) (are : AreHeap row
 -- a fact under a key of a table stands in the table
 pub of_key : (table key : ℕ) (fact : FactValue) → place_of fact ≡ table ∷ key ∷ [] → IsOf table fact
 of_key table key fact at = record { more = key ∷ []; stands = at }
+
+-- ---- the number of facts
+
+pub length_rows : {V : Type 0} (fact : ℕ → List ℕ → FactValue) (content : V → List ℕ) (rows : List (ℕ × V)) → length rows ≡ length (facts_of_rows fact content rows)
+length_rows fact content [] = refl
+length_rows fact content (row ∷ rows) = ap suc (length_rows fact content rows)
+
+pub length_roots : (roots : List Root) → length roots ≡ length (root_facts roots)
+length_roots [] = refl
+length_roots (root ∷ roots) = ap suc (length_roots roots)
+
+-- the facts of a table among those of the heap
+pub table_facts : (rows : HeapRows) (table : Table) → AreHeap rows
+    → facts_of_table table (joined (tables_of rows)) ≡ table_at (tables_of rows) (number_of_table table)
+table_facts rows table are = facts_in (tables_of rows) (number_of_table table) (heap_tables rows are)
+
+pub table_length : (rows : HeapRows) (table : Table) (n : ℕ) → AreHeap rows → n ≡ length (table_at (tables_of rows) (number_of_table table))
+    → n ≡ length (facts_of_table table (joined (tables_of rows)))
+table_length rows table n are e = e ∙ sym (ap length (table_facts rows table are))
+
+-- ---- traces
+
+-- a trace is that of its thread and of the bytes of its frames
+pub trace_again : (ids : IdSize) (serial thread : ℕ) (frames : List ℕ) → Fits ids (Trace serial thread frames)
+    → trace_fact ids serial (content_of ids (Trace serial thread frames)) ≡ Trace serial thread frames
+trace_again ids serial thread frames fits =
+    ap (Trace serial thread) (ids_again ids frames (field_bytes (id_widths ids (length frames)) frames) (record { fits = fits.0.rest; spelled = refl })).1
+
+-- ---- classes and objects
+
+-- the facts from the table of roots on are sub-records
+pub sub_of_place : (fact : FactValue) → 7 ≤ slice_index (place_of fact) 0 → record_of fact ≡ None
+sub_of_place (Name id text) le = absurd (omega arith)
+sub_of_place (Load serial class trace name) le = absurd (omega arith)
+sub_of_place (Unload serial) le = absurd (omega arith)
+sub_of_place (Frame id method signature source class_serial line) le = absurd (omega arith)
+sub_of_place (Trace serial thread frames) le = absurd (omega arith)
+sub_of_place (Start thread object trace name group parent_group) le = absurd (omega arith)
+sub_of_place (End thread) le = absurd (omega arith)
+sub_of_place (Rooted root) le = refl
+sub_of_place (Class id trace parent loader signers domain reserved1 reserved2 size constants statics fields) le = refl
+sub_of_place (Instance id trace class bytes) le = refl
+sub_of_place (ObjArray id trace class elements) le = refl
+sub_of_place (PrimArray id trace elem bytes) le = refl
+
+pub sub_at_place : (fact : FactValue) (table key : ℕ) → place_of fact ≡ table ∷ key ∷ [] → 7 ≤ table → record_of fact ≡ None
+sub_at_place fact table key at le = let first : slice_index (place_of fact) 0 ≡ table = ap (λ (ns : List ℕ). slice_index ns 0) at in sub_of_place fact (omega arith)
+
+-- their content is their spelling
+pub sub_content : (ids : IdSize) (fact : FactValue) → record_of fact ≡ None → content_of ids fact ≡ dump_bytes ids fact
+sub_content ids (Name id text) e = absurd cc
+sub_content ids (Load serial class trace name) e = absurd cc
+sub_content ids (Unload serial) e = absurd cc
+sub_content ids (Frame id method signature source class_serial line) e = absurd cc
+sub_content ids (Trace serial thread frames) e = absurd cc
+sub_content ids (Start thread object trace name group parent_group) e = absurd cc
+sub_content ids (End thread) e = absurd cc
+sub_content ids (Rooted root) e = refl
+sub_content ids (Class id trace parent loader signers domain reserved1 reserved2 size constants statics fields) e = refl
+sub_content ids (Instance id trace class bytes) e = refl
+sub_content ids (ObjArray id trace class elements) e = refl
+sub_content ids (PrimArray id trace elem bytes) e = refl
+
+-- a sub-record that has a spelling is spelled by it
+pub sub_spells : (ids : IdSize) (fact : FactValue) → record_of fact ≡ None → Fits ids fact → Spells ids fact (dump_bytes ids fact)
+sub_spells ids fact e fits =
+    let sub : FitsAs ids None fact = subst (λ (tag : Option RecordTag). FitsAs ids tag fact) e fits in
+    record { fits = sub.0; spelled = refl; short = sub.1 }
+
+-- and read back from it
+pub spelled_read : (ids : IdSize) (key : ℕ) (fact : FactValue) (bytes : List ℕ) → Spells ids fact bytes → spelled_fact ids key bytes ≡ fact
+spelled_read ids key fact bytes spells =
+    let len : length (dump_bytes ids fact) ≤ length bytes = omega (arith, ap length spells.spelled) in
+    ap read_fact (sub_again ids (exactly bytes) fact [] bytes spells.fits (spells.spelled ∙ sym (append-nil (dump_bytes ids fact)))
+    (record { room = len; longest = len; there = len }))
+
+pub spelled_again : (ids : IdSize) (key : ℕ) (fact : FactValue) → record_of fact ≡ None → Fits ids fact → spelled_fact ids key (content_of ids fact) ≡ fact
+spelled_again ids key fact e fits =
+    ap (spelled_fact ids key) (sub_content ids fact e) ∙ spelled_read ids key fact (dump_bytes ids fact) (sub_spells ids fact e fits)
+
+-- what was stated of the spelling was stated of the content
+pub spelled_stated : {E : Type 0} (r : Result Stated E) (ids : IdSize) (key : ℕ) (fact : FactValue) (old new : List (ℕ × SpelledRow)) → record_of fact ≡ None
+    → IfOk r (λ answer. States spelled_bytes old key (dump_bytes ids fact) answer new)
+    → IfOk r (λ answer. States spelled_bytes old key (content_of ids fact) answer new)
+spelled_stated r ids key fact old new e ok =
+    subst (λ (content : List ℕ). IfOk r (λ answer. States spelled_bytes old key content answer new)) (sym (sub_content ids fact e)) ok

@@ -10,6 +10,7 @@ pub mod Stating
 pub mod RowFacts
 pub mod Tables
 pub mod HeapRows
+pub mod Roots
 pub mod NumberRows
 pub mod Steady
 pub mod Gathering
