@@ -1,6 +1,9 @@
 -- The rows of a heap: each table has facts of its own, and stating one into a table states it into the heap.
-use Rattle.std.proofs.Common.{◌≡◌, ℕ, zero, suc, ◌<◌, ◌≤◌, List, [], ◌∷◌, length, Option, None, Result, Ok, Err, refl, sym, ap, subst, ◌∙◌, arith}
-use Rattle.std.specs.Prelude.{ℤ, pos, negsuc, IfOk, OnErr, slice_index}
+use Rattle.std.proofs.Common.{◌≡◌, ℕ, zero, suc, ◌<◌, ◌≤◌, List, [], ◌∷◌, length, drop, ◌%◌, Bool, cond, find, Option, Some, None, Result, Ok, Err, refl, sym, ap, subst, ◌∙◌, arith}
+use Rattle.std.specs.Prelude.{ℤ, pos, negsuc, IfOk, OnErr, slice_index, bytes_eq}
+use Rattle.std.specs.Option.{option_map}
+use Rattle.std.proofs.lemmas.Bool.{false_from_ne_true}
+use Rattle.std.proofs.lemmas.Slice.Eq.{bytes_eq-Decides}
 use Rattle.std.proofs.lemmas.List.{append-nil}
 use Rattle.hprof_values.specs.declared.ids.IdSize.{IdSize}
 use Rattle.hprof_values.specs.declared.root.Root.{Root}
@@ -8,21 +11,26 @@ use Rattle.hprof_values.specs.Root.{tag_of_root, root_numbers}
 use Rattle.hprof_values.specs.SubTag.{code_of_tag}
 use Rattle.hprof_values.specs.declared.record_tag.RecordTag.{RecordTag}
 use Rattle.hprof_values.specs.Fields.{exactly, field_bytes}
-use Rattle.hprof_values.specs.Lists.{id_widths}
+use Rattle.hprof_values.specs.Lists.{id_widths, ids_in}
+use Rattle.hprof_values.specs.Ids.{width_of}
 use Rattle.hprof_values.proofs.IdLists.{ids_again}
 use Rattle.hprof_items.specs.FactValue.{FactValue, Name, Load, Unload, Frame, Trace, Start, End, Rooted, Class, Instance, ObjArray, PrimArray}
 use Rattle.hprof_items.specs.RecordBody.{record_of}
 use Rattle.hprof_items.specs.SubRecord.{dump_bytes}
 use Rattle.hprof_items.proofs.Dumps.{sub_again}
-use Rattle.hprof_items.specs.Spelling.{Fits, FitsAs}
+use Rattle.hprof_items.specs.Spelling.{Fits, FitsAs, longest_body}
 use Rattle.hprof_heap.specs.declared.name_row.NameRow.{NameRow}
 use Rattle.hprof_heap.specs.declared.number_rows.LoadRow.{LoadRow}
 use Rattle.hprof_heap.specs.declared.number_rows.FrameRow.{FrameRow}
 use Rattle.hprof_heap.specs.declared.number_rows.StartRow.{StartRow}
 use Rattle.hprof_heap.specs.declared.number_rows.KeyRow.{KeyRow}
+use Rattle.hprof_heap.specs.declared.key.Key.{Key}
 use Rattle.hprof_heap.specs.declared.relation.Stated.{Stated}
+use Rattle.hprof_heap.specs.Key.{has_key}
+use Rattle.hprof_heap.specs.SortedRows.{row_at}
+use Rattle.hprof_heap.proofs.Keys.{place_of_key, stands_at, has_key_at, same_place}
 use Rattle.hprof_heap.specs.declared.spelled_row.SpelledRow.{SpelledRow}
-use Rattle.hprof_heap.specs.Content.{content_of, load_fact, unload_fact, frame_fact, trace_fact, start_fact, end_fact, spelled_fact, line_with, read_fact, facts_of_rows, AreRight}
+use Rattle.hprof_heap.specs.Content.{content_of, load_fact, unload_fact, frame_fact, trace_fact, start_fact, end_fact, spelled_fact, line_with, read_fact, facts_of_rows, IsRight, AreRight}
 use Rattle.hprof_heap.specs.Gathering.{StatesInto}
 use Rattle.hprof_heap.specs.declared.table.Table.{Table}
 use Rattle.hprof_heap.specs.Heap.{facts_of_table, number_of_table}
@@ -35,9 +43,10 @@ use Rattle.hprof_heap.specs.Spelled.{Spells}
 use Rattle.hprof_heap.specs.SpelledRow.{spelled_bytes}
 use Rattle.hprof_heap.specs.Tables.{joined}
 use Rattle.hprof_heap.specs.TraceRow.{trace_content}
-use Rattle.hprof_heap.proofs.RowFacts.{IsOfTable, right_by, rows_tried, rows_kept}
+use Rattle.hprof_heap.proofs.Inserting.{find-Some}
+use Rattle.hprof_heap.proofs.RowFacts.{right_by, find_rows}
 use Rattle.hprof_heap.proofs.Stating.{StatesAmong, with_facts, tried_among, tried_among-sound}
-use Rattle.hprof_heap.proofs.Tables.{IsOf, AllOf, AreTables, table_at, with_table, states_tables, facts_in}
+use Rattle.hprof_heap.proofs.Tables.{IsOf, AllOf, AreTables, table_at, with_table, states_tables, facts_in, find_from}
 
 -- ---- the rows of numbers are right
 
@@ -219,3 +228,55 @@ pub spelled_stated : {E : Type 0} (r : Result Stated E) (ids : IdSize) (key : �
     → IfOk r (λ answer. States spelled_bytes old key (content_of ids fact) answer new)
 spelled_stated r ids key fact old new e ok =
     subst (λ (content : List ℕ). IfOk r (λ answer. States spelled_bytes old key content answer new)) (sym (sub_content ids fact e)) ok
+
+-- ---- looking up
+
+find_alike : (p q : FactValue → Bool) (facts : List FactValue) → ((fact : FactValue) → p fact ≡ q fact) → find p facts ≡ find q facts
+find_alike p q [] same = refl
+find_alike p q (first ∷ facts) same =
+    ap (λ (t : Bool). cond t (Some first) (find p facts)) (same first)
+    ∙ ap (λ (rest : Option FactValue). cond (q first) (Some first) rest) (find_alike p q facts same)
+
+-- the fact of a key is found in the key's table
+pub look_up : (rows : HeapRows) (table number : ℕ) (key : Key) → AreHeap rows → place_of_key key ≡ table ∷ number ∷ []
+    → find (has_key key) (joined (tables_of rows)) ≡ find (stands_at (table ∷ number ∷ [])) (table_at (tables_of rows) table)
+look_up rows table number key are at =
+    find_alike (has_key key) (stands_at (table ∷ number ∷ [])) (joined (tables_of rows)) (λ fact. has_key_at key (table ∷ number ∷ []) fact at)
+    ∙ find_from (stands_at (table ∷ number ∷ [])) (tables_of rows) table 0 table
+    (λ n fact of differ. false_from_ne_true (stands_at (table ∷ number ∷ []) fact) (λ yes.
+        let same : table ∷ number ∷ [] ≡ n ∷ of.more = (bytes_eq-Decides (table ∷ number ∷ []) (place_of fact)).0 yes ∙ of.stands in
+        differ (sym (ap (λ (ns : List ℕ). slice_index ns 0) same))))
+    (omega arith) (heap_tables rows are)
+
+-- and is that of the key's row
+pub look_up_row : {V : Type 0} (rows : HeapRows) (table number : ℕ) (key : Key) (fact : ℕ → List ℕ → FactValue) (content : V → List ℕ) (of_table : List (ℕ × V))
+    (any : FactValue) (found : Option V) → AreHeap rows → place_of_key key ≡ table ∷ number ∷ [] → place_of any ≡ table ∷ number ∷ []
+    → AreRight rows.ids table fact content of_table → table_at (tables_of rows) table ≡ facts_of_rows fact content of_table → row_at number of_table ≡ found
+    → find (has_key key) (joined (tables_of rows)) ≡ option_map (λ row. fact number (content row)) found
+look_up_row rows table number key fact content of_table any found are at at_any right facts e =
+    look_up rows table number key are at ∙ ap (find (stands_at (table ∷ number ∷ []))) facts
+    ∙ find_alike (stands_at (table ∷ number ∷ [])) (same_place any) (facts_of_rows fact content of_table)
+    (λ other. ap (λ (place : List ℕ). bytes_eq place (place_of other)) (sym at_any))
+    ∙ find_rows rows.ids table fact content of_table number any at_any right ∙ ap (option_map (λ row. fact number (content row))) e
+
+-- ---- rows that are found
+
+-- what is found among the facts of a heap fits
+pub found_fits : (rows : HeapRows) (p : FactValue → Bool) (fact : FactValue) → AreHeap rows → find p (joined (tables_of rows)) ≡ Some fact → Fits rows.ids fact
+found_fits rows p fact are e = are.heap.fit fact (find-Some p (joined (tables_of rows)) fact e).0
+
+-- the row of a class or an object spells its fact
+pub row_spells : (ids : IdSize) (table key : ℕ) (bytes : List ℕ) → 7 ≤ table → IsRight ids table (spelled_fact ids) key bytes
+    → Fits ids (spelled_fact ids key bytes) → Spells ids (spelled_fact ids key bytes) bytes
+row_spells ids table key bytes le right fits =
+    let fact : FactValue = spelled_fact ids key bytes in
+    let sub = sub_at_place fact table key right.0 le in
+    let spells = sub_spells ids fact sub fits in
+    let same : bytes ≡ dump_bytes ids fact = sym right.1 ∙ sub_content ids fact sub in
+    record { fits = spells.fits; spelled = same; short = subst (λ (b : List ℕ). length b ≤ longest_body) (sym same) spells.short }
+
+-- no identifier of a trace's row is cut
+pub row_whole : (ids : IdSize) (key thread : ℕ) (bytes : List ℕ) → IsRight ids 4 (trace_fact ids) key (thread ∷ bytes)
+    → Fits ids (trace_fact ids key (thread ∷ bytes)) → length bytes % width_of ids ≡ 0
+row_whole ids key thread bytes right fits =
+    (ids_again ids (ids_in ids bytes) bytes (record { fits = fits.0.rest; spelled = sym (ap (drop 1) right.1) })).0

@@ -15,7 +15,7 @@ use Rattle.hprof_items.specs.SubRecord.{root_of}
 use Rattle.hprof_heap.specs.declared.key.Key.{Key}
 use Rattle.hprof_heap.specs.declared.key.Key.TheVariants as keys
 use Rattle.hprof_heap.specs.Order.{place_of}
-use Rattle.hprof_heap.specs.Key.{HaveOneKey, key_of, rank_of, number_of, key_le, lesser_key}
+use Rattle.hprof_heap.specs.Key.{HaveOneKey, key_of, rank_of, number_of, key_le, lesser_key, is_key, has_key}
 
 -- the first number is less, or it is the same and the second is no greater
 abbrev pub IsUpTo : (r n s m : ℕ) → Type 0
@@ -115,7 +115,7 @@ lesser_is key other = lesser_by (key_le key other) key other refl
 -- ---- the keys of facts
 
 -- the place of the facts that have a key
-place_of_key : Key → List ℕ
+abbrev pub place_of_key : Key → List ℕ
 place_of_key (keys.Name id) = 0 ∷ id ∷ []
 place_of_key (keys.Load serial) = 1 ∷ serial ∷ []
 place_of_key (keys.Frame id) = 3 ∷ id ∷ []
@@ -129,7 +129,6 @@ keyed_place : (place : List ℕ) (known key : Key) → place ≡ place_of_key kn
 keyed_place place known key at e = let same : known ≡ key = cc in at ∙ ap place_of_key same
 
 key_place : (fact : FactValue) (key : Key) → key_of fact ≡ Some key → place_of fact ≡ place_of_key key
-unfolding place_of_key
 key_place (Name id text) key e = keyed_place _ (keys.Name id) key refl e
 key_place (Load serial class trace name) key e = keyed_place _ (keys.Load serial) key refl e
 key_place (Unload serial) key e = absurd cc
@@ -237,3 +236,42 @@ same_place-false one other e have =
 -- the facts have one key either way round
 pub HaveOneKey-sym : (one other : FactValue) → HaveOneKey one other → HaveOneKey other one
 HaveOneKey-sym one other have = record { key = have.key; key_of_one = have.key_of_other; key_of_other = have.key_of_one }
+
+-- ---- the facts of a key
+
+key_of_its_place : (key : Key) → key_of_place (place_of_key key) ≡ Some key
+unfolding key_of_place
+key_of_its_place (keys.Name id) = refl
+key_of_its_place (keys.Load serial) = refl
+key_of_its_place (keys.Frame id) = refl
+key_of_its_place (keys.Trace serial) = refl
+key_of_its_place (keys.Thread serial) = refl
+key_of_its_place (keys.Class id) = refl
+key_of_its_place (keys.Object id) = refl
+
+is_key-true : (key : Key) (found : Option Key) → is_key key found ≡ true → found ≡ Some key
+is_key-true key None e = absurd cc
+is_key-true key (Some other) e =
+    let p = and_parts _ _ e in
+    ap (λ (k : Key). Some k) (sym (key_is other) ∙ ap (λ (r : ℕ). key_at r (number_of other)) (sym (eqb-true _ _ p.0))
+    ∙ ap (λ (n : ℕ). key_at (rank_of key) n) (sym (eqb-true _ _ p.1)) ∙ key_is key)
+
+true-is_key : (key : Key) (found : Option Key) → found ≡ Some key → is_key key found ≡ true
+true-is_key key found e = rw e (and_from _ _ (eq-eqb (rank_of key) (rank_of key) refl) (eq-eqb (number_of key) (number_of key) refl))
+
+same_tests : (a b : Bool) → (a ≡ true → b ≡ true) → (b ≡ true → a ≡ true) → a ≡ b
+same_tests true true f g = refl
+same_tests true false f g = let e : false ≡ true = f refl in absurd cc
+same_tests false true f g = let e : false ≡ true = g refl in absurd cc
+same_tests false false f g = refl
+
+-- whether a fact stands at that place
+abbrev pub stands_at : List ℕ → FactValue → Bool
+stands_at place fact = bytes_eq place (place_of fact)
+
+-- a fact has a key where it stands at the key's place
+pub has_key_at : (key : Key) (place : List ℕ) (fact : FactValue) → place_of_key key ≡ place → has_key key fact ≡ stands_at place fact
+has_key_at key place fact at = same_tests (has_key key fact) (stands_at place fact)
+    (λ yes. (bytes_eq-Decides place (place_of fact)).1 (sym at ∙ sym (key_place fact key (is_key-true key (key_of fact) yes))))
+    (λ yes. true-is_key key (key_of fact)
+    (place_key fact ∙ ap key_of_place (sym ((bytes_eq-Decides place (place_of fact)).0 yes) ∙ sym at) ∙ key_of_its_place key))

@@ -11,6 +11,7 @@ pub mod RowFacts
 pub mod Tables
 pub mod HeapRows
 pub mod Roots
+pub mod Differences
 pub mod NumberRows
 pub mod Steady
 pub mod Gathering

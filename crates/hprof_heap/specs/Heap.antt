@@ -1,5 +1,5 @@
 -- What a heap shows.
-use Rattle.std.specs.Prelude.{◌==◌, ℕ, Bool, false, List, slice_index}
+use Rattle.std.specs.Prelude.{◌==◌, ℕ, Bool, List, slice_index}
 use Rattle.std.specs.List.{filter}
 use Rattle.hprof_items.specs.FactValue.{FactValue, Name}
 use Rattle.hprof_heap.specs.declared.heap.Heap.{Heap}
@@ -52,8 +52,3 @@ stands_in table fact = slice_index (place_of fact) 0 == table
 -- the facts of a table, in canonical order: those whose place begins with the table's number
 abbrev pub facts_of_table : Table → List FactValue → List FactValue
 facts_of_table table facts = filter (stands_in (number_of_table table)) facts
-
--- whether the fact is the name with that identifier
-abbrev pub is_name : ℕ → FactValue → Bool
-is_name id (Name other text) = id == other
-is_name id _ = false

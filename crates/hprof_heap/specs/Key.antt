@@ -1,6 +1,6 @@
 -- Keys: what two facts may not both be about. A key has one content, which is the form of its fact and every field
 -- but the key itself.
-use Rattle.std.specs.Prelude.{◌≡◌, ◌==◌, ◌||◌, ◌&&◌, ℕ, Bool, nat_lt, nat_le, Option, Some, None, if◌then◌else◌}
+use Rattle.std.specs.Prelude.{◌≡◌, ◌==◌, ◌||◌, ◌&&◌, ℕ, Bool, false, nat_lt, nat_le, Option, Some, None, if◌then◌else◌}
 use Rattle.hprof_items.specs.FactValue.{FactValue, Name, Load, Unload, Frame, Trace, Start, End, Rooted, Class, Instance, ObjArray, PrimArray}
 use Rattle.hprof_heap.specs.declared.key.Key.{Key}
 use Rattle.hprof_heap.specs.declared.key.Key.TheVariants as keys
@@ -51,3 +51,12 @@ key_le key other = nat_lt (rank_of key) (rank_of other) || ((rank_of key == rank
 
 abbrev pub lesser_key : Key → Key → Key
 lesser_key key other = if key_le key other then key else other
+
+-- whether that is the key
+abbrev pub is_key : Key → Option Key → Bool
+is_key key None = false
+is_key key (Some other) = (rank_of key == rank_of other) && (number_of key == number_of other)
+
+-- whether the fact has that key
+abbrev pub has_key : Key → FactValue → Bool
+has_key key fact = is_key key (key_of fact)

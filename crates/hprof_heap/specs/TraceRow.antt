@@ -9,6 +9,10 @@ use Rattle.hprof_heap.specs.declared.trace_row.TraceFrames.{TraceFrames}
 abbrev pub trace_content : TraceRow → List ℕ
 trace_content row = row.thread ∷ row.frames.items
 
+-- the bytes of the frames
+abbrev pub frames_bytes : TraceRow → List ℕ
+frames_bytes row = row.frames.items
+
 abbrev pub frames_content : TraceFrames → List ℕ
 frames_content trace =
     trace.thread ∷ field_bytes (id_widths (identifiers_size trace.frames) (length (identifiers_of trace.frames))) (identifiers_of trace.frames)

@@ -1,6 +1,6 @@
 //! A target that keeps what is written to it.
 
-ghost use Rattle.std.specs.Prelude.{◌≡◌, [], Some, true};
+ghost use Rattle.std.specs.Prelude.{◌≡◌, Some};
 
 use hprof_items::{Target, WriteFault};
 
@@ -12,11 +12,13 @@ pub(crate) struct Appending {
 }
 
 impl Appending {
-    ghost use Rattle.hprof_heap.specs.Targets.{appended};
+    ghost use Rattle.hprof_items.specs.declared.health.Health.TheVariants.{Well};
+    ghost use Rattle.hprof_heap.specs.Targets.{appended, appending_health};
 
     /// A target that has these bytes, and takes more behind them.
     pub(crate) fn new(bytes: Vec<u8>) -> Self
-        ensures { appended result ≡ bytes.items }
+        ensures bytes { appended result ≡ bytes.items }
+        ensures well { appending_health result ≡ Well }
     {
         Appending {
             bytes,

@@ -59,9 +59,9 @@ impl<'a> Comparing<'a> {
 }
 
 impl Target for Comparing<'_> {
-    ghost use Rattle.hprof_heap.specs.Targets.{compared, comparing_health};
+    ghost use Rattle.hprof_heap.specs.Targets.{held, comparing_health};
 
-    ghost written = { λ target. Some (compared target) };
+    ghost written = { λ target. Some (held target) };
 
     ghost health = { comparing_health };
 

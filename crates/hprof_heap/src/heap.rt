@@ -1,9 +1,12 @@
 //! A heap: one size of identifiers, one time, and facts that agree.
 
-ghost use Rattle.std.specs.Prelude.{◌≡◌, [], ◌∷◌, length, min, OnErr, IfOk};
+ghost use Rattle.std.specs.Prelude.{◌≡◌, [], ◌∷◌, length, find, min, OnErr, IfOk, IfSome};
+ghost use Rattle.std.specs.Option.{option_map};
 ghost use Rattle.hprof_values.specs.Lists.{identifiers_of, identifiers_size};
 ghost use Rattle.hprof_items.specs.FactValue.{Name, Load, Unload, Frame, Trace, Start, End, Rooted, ListsHave, value_of};
 ghost use Rattle.hprof_items.specs.Spelling.{Fits};
+ghost use Rattle.hprof_heap.specs.declared.key.Key.TheVariants as keys;
+ghost use Rattle.hprof_heap.specs.Key.{has_key};
 ghost use Rattle.hprof_heap.specs.HeapRows.{AreHeap, AreHeap-prop};
 ghost use Rattle.hprof_heap.specs.HeapValue.{IsHeap};
 ghost use Rattle.hprof_heap.specs.Order.{place_of};
@@ -250,6 +253,87 @@ impl Heap {
         ensures { result ≡ (heap_of self.now).millis }
     {
         self.millis
+    }
+
+    /// The name with that identifier.
+    pub fn name(&self, id: u64) -> Option<Fact<'_>>
+        ensures { option_map value_of result ≡ find (has_key (keys.Name id)) (heap_of self.now).facts }
+    {
+        let row = self.names.get(id)?;
+        Some(Fact::Name {
+            id,
+            text: &row.text,
+        })
+    }
+
+    /// The class that was loaded under that serial.
+    pub fn load(&self, serial: u32) -> Option<Fact<'_>>
+        ensures { option_map value_of result ≡ find (has_key (keys.Load serial)) (heap_of self.now).facts }
+    {
+        let row = self.loads.get(serial as u64)?;
+        Some(Fact::Load {
+            serial,
+            class: row.class,
+            trace: row.trace,
+            name: row.name,
+        })
+    }
+
+    /// The frame with that identifier.
+    pub fn frame(&self, id: u64) -> Option<Fact<'_>>
+        ensures { option_map value_of result ≡ find (has_key (keys.Frame id)) (heap_of self.now).facts }
+    {
+        let row = self.frames.get(id)?;
+        Some(Fact::Frame {
+            id,
+            method: row.method,
+            signature: row.signature,
+            source: row.source,
+            class_serial: row.class_serial,
+            line: row.line,
+        })
+    }
+
+    /// The thread that was started under that serial.
+    pub fn thread(&self, serial: u32) -> Option<Fact<'_>>
+        ensures { option_map value_of result ≡ find (has_key (keys.Thread serial)) (heap_of self.now).facts }
+    {
+        let row = self.starts.get(serial as u64)?;
+        Some(Fact::Start {
+            thread: serial,
+            object: row.object,
+            trace: row.trace,
+            name: row.name,
+            group: row.group,
+            parent_group: row.parent_group,
+        })
+    }
+
+    /// The stack with that serial.
+    pub fn trace(&self, serial: u32) -> Option<Fact<'_>>
+        ensures value { option_map value_of result ≡ find (has_key (keys.Trace serial)) (heap_of self.now).facts }
+        ensures lists { IfSome result (ListsHave (heap_of self.now).ids) }
+    {
+        let row = self.traces.get(serial as u64)?;
+        Some(row.fact(serial, self.ids))
+    }
+
+    /// The class with that identifier.
+    pub fn class(&self, id: u64) -> Option<Fact<'_>>
+        ensures value { option_map value_of result ≡ find (has_key (keys.Class id)) (heap_of self.now).facts }
+        ensures lists { IfSome result (ListsHave (heap_of self.now).ids) }
+    {
+        let row = self.classes.get(id)?;
+        Some(row.fact(self.ids))
+    }
+
+    /// The instance or the array with that identifier.
+    pub fn object(&self, id: u64) -> Option<Fact<'_>>
+        ensures value { option_map value_of result ≡ find (has_key (keys.Object id)) (heap_of self.now).facts }
+        ensures lists { IfSome result (ListsHave (heap_of self.now).ids) }
+    {
+        let row = self.objects.get(id)?;
+        Some(row.fact(self.ids))
     }
 
     /// The number of facts in a table.
