@@ -1,4 +1,4 @@
-use Rattle.std.proofs.Common.{ap, refl, sym, ◌∙◌}
+use Rattle.std.proofs.Common.{Some, ap, refl, sym, ◌∙◌}
 use Rattle.std.specs.Option.{option_map}
 use Rattle.hprof_items.specs.FactValue.{value_of, Frame}
 use Rattle.hprof_heap.specs.declared.key.Key.TheVariants as keys
@@ -22,4 +22,5 @@ returns c =
     let heap = c.args.self.now in
     let found = look_up_row (rows_in heap) 3 c.args.id (keys.Frame c.args.id) frame_fact frame_numbers (rows_of heap.frames) (Frame c.args.id 0 0 0 0 (pos 0)) _ heap.sound refl refl (frames_right heap.ids (rows_of heap.frames)) refl
         (sym c.in_ok-row.ensures) in
-    sym found
+    let row = c.in_ok-row.row.now in
+    ap (λ (line : ℤ). Some (Frame c.args.id row.method row.signature row.source row.class_serial line)) (sym (line_again row.line)) ∙ sym found
