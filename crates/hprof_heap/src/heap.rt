@@ -284,14 +284,7 @@ impl Heap {
         ensures { option_map value_of result ≡ find (has_key (keys.Frame id)) (heap_of self.now).facts }
     {
         let row = self.frames.get(id)?;
-        Some(Fact::Frame {
-            id,
-            method: row.method,
-            signature: row.signature,
-            source: row.source,
-            class_serial: row.class_serial,
-            line: row.line,
-        })
+        Some(row.fact(id))
     }
 
     /// The thread that was started under that serial.
