@@ -55,7 +55,7 @@ pub wrote_all : {A : Type 0} (r : Result A WriteFault) (old new : Comparing) (by
 wrote_all (Err fault) old new bytes ok none wrote = absurd cc
 wrote_all (Ok a) old new bytes ok none wrote =
     let both = held_same (expected_bytes new) (expected_bytes old) (compared new) (compared old ++ bytes)
-        (wrote ∙ append_more (length (expected_bytes old)) (expected_bytes old) (compared old) bytes) in
+    (wrote ∙ append_more (length (expected_bytes old)) (expected_bytes old) (compared old) bytes) in
     (both.0, both.1 ∙ ap (λ (l : List ℕ). l ++ bytes) none)
 
 -- a target that failed has another byte
@@ -76,7 +76,7 @@ pub wrote_some : {A : Type 0} (r : Result A WriteFault) (old new : Comparing) (b
 wrote_some (Ok a) old new bytes bad none wrote health is = absurd cc
 wrote_some (Err fault) old new bytes bad none wrote health is =
     let both = held_same (expected_bytes new) (expected_bytes old) (compared new) (compared old ++ take wrote.0 bytes)
-        (wrote.2 ∙ append_more (length (expected_bytes old)) (expected_bytes old) (compared old) (take wrote.0 bytes)) in
+    (wrote.2 ∙ append_more (length (expected_bytes old)) (expected_bytes old) (compared old) (take wrote.0 bytes)) in
     failed_other (expected_bytes new) bytes new.same wrote.0 new.other new.failed new.sound (well_by new.failed fault health)
     (both.1 ∙ ap (λ (l : List ℕ). l ++ take wrote.0 bytes) none) (both.0 ∙ is)
 

@@ -88,17 +88,34 @@ all_of_roots (root ∷ roots) = (record { more = code_of_tag (tag_of_root root) 
 
 -- the facts of each table stand in it
 pub heap_tables : (rows : HeapRows) → AreHeap rows → AreTables 0 (tables_of rows)
-heap_tables rows are =
-    (all_of_rows rows.ids 0 Name name_text rows.names (names_right rows.ids rows.names),
-    (all_of_rows rows.ids 1 load_fact load_numbers rows.loads (loads_right rows.ids rows.loads),
-    (all_of_rows rows.ids 2 unload_fact no_content rows.unloads (unloads_right rows.ids rows.unloads),
-    (all_of_rows rows.ids 3 frame_fact frame_numbers rows.frames (frames_right rows.ids rows.frames),
-    (all_of_rows rows.ids 4 (trace_fact rows.ids) trace_content rows.traces are.traces,
-    (all_of_rows rows.ids 5 start_fact start_numbers rows.starts (starts_right rows.ids rows.starts),
-    (all_of_rows rows.ids 6 end_fact no_content rows.ends (ends_right rows.ids rows.ends),
-    (all_of_roots rows.roots,
-    (all_of_rows rows.ids 8 (spelled_fact rows.ids) spelled_bytes rows.classes are.classes,
-    (all_of_rows rows.ids 9 (spelled_fact rows.ids) spelled_bytes rows.objects are.objects, tt))))))))))
+heap_tables rows are = (
+  all_of_rows rows.ids 0 Name name_text rows.names (names_right rows.ids rows.names),
+  (
+    all_of_rows rows.ids 1 load_fact load_numbers rows.loads (loads_right rows.ids rows.loads),
+    (
+      all_of_rows rows.ids 2 unload_fact no_content rows.unloads (unloads_right rows.ids rows.unloads),
+      (
+        all_of_rows rows.ids 3 frame_fact frame_numbers rows.frames (frames_right rows.ids rows.frames),
+        (
+          all_of_rows rows.ids 4 (trace_fact rows.ids) trace_content rows.traces are.traces,
+          (
+            all_of_rows rows.ids 5 start_fact start_numbers rows.starts (starts_right rows.ids rows.starts),
+            (
+              all_of_rows rows.ids 6 end_fact no_content rows.ends (ends_right rows.ids rows.ends),
+              (
+                all_of_roots rows.roots,
+                (
+                  all_of_rows rows.ids 8 (spelled_fact rows.ids) spelled_bytes rows.classes are.classes,
+                  (all_of_rows rows.ids 9 (spelled_fact rows.ids) spelled_bytes rows.objects are.objects, tt),
+                ),
+              ),
+            ),
+          ),
+        ),
+      ),
+    ),
+  ),
+)
 
 -- ---- stating into one table
 
@@ -134,10 +151,10 @@ module _ {E : Type 0} (r : Result Stated E) (rows : HeapRows) (are : AreHeap row
       → OnErr r (with_facts rows.ids rows.millis (joined (with_table (tables_of rows) place new)) ≡ heap_of_rows rows)
   into_heap-kept kept = kept_heap r (kept_joined r (tables_of rows) place new kept)
     where
-    kept_heap : (q : Result Stated E) → OnErr q (joined (with_table (tables_of rows) place new) ≡ joined (tables_of rows))
-        → OnErr q (with_facts rows.ids rows.millis (joined (with_table (tables_of rows) place new)) ≡ heap_of_rows rows)
-    kept_heap (Ok answer) kept = tt
-    kept_heap (Err e) kept = ap (with_facts rows.ids rows.millis) kept
+      kept_heap : (q : Result Stated E) → OnErr q (joined (with_table (tables_of rows) place new) ≡ joined (tables_of rows))
+          → OnErr q (with_facts rows.ids rows.millis (joined (with_table (tables_of rows) place new)) ≡ heap_of_rows rows)
+      kept_heap (Ok answer) kept = tt
+      kept_heap (Err e) kept = ap (with_facts rows.ids rows.millis) kept
 
 -- a fact under a key of a table stands in the table
 pub of_key : (table key : ℕ) (fact : FactValue) → place_of fact ≡ table ∷ key ∷ [] → IsOf table fact
@@ -244,8 +261,8 @@ look_up rows table number key are at =
     find_alike (has_key key) (stands_at (table ∷ number ∷ [])) (joined (tables_of rows)) (λ fact. has_key_at key (table ∷ number ∷ []) fact at)
     ∙ find_from (stands_at (table ∷ number ∷ [])) (tables_of rows) table 0 table
     (λ n fact of differ. false_from_ne_true (stands_at (table ∷ number ∷ []) fact) (λ yes.
-        let same : table ∷ number ∷ [] ≡ n ∷ of.more = (bytes_eq-Decides (table ∷ number ∷ []) (place_of fact)).0 yes ∙ of.stands in
-        differ (sym (ap (λ (ns : List ℕ). slice_index ns 0) same))))
+    let same : table ∷ number ∷ [] ≡ n ∷ of.more = (bytes_eq-Decides (table ∷ number ∷ []) (place_of fact)).0 yes ∙ of.stands in
+    differ (sym (ap (λ (ns : List ℕ). slice_index ns 0) same))))
     (omega arith) (heap_tables rows are)
 
 -- and is that of the key's row

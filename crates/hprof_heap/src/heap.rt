@@ -39,9 +39,20 @@ pub struct Heap {
     roots: RootSet,
     classes: Relation<SpelledRow>,
     objects: Relation<SpelledRow>,
-    ghost sound: { AreHeap (record { ids = ids; millis = millis; names = rows_of names; loads = rows_of loads; unloads = rows_of unloads;
-        frames = rows_of frames; traces = rows_of traces; starts = rows_of starts; ends = rows_of ends; roots = roots_of roots;
-        classes = rows_of classes; objects = rows_of objects }) } by { AreHeap-prop _ },
+    ghost sound: { AreHeap (record {
+      ids = ids;
+      millis = millis;
+      names = rows_of names;
+      loads = rows_of loads;
+      unloads = rows_of unloads;
+      frames = rows_of frames;
+      traces = rows_of traces;
+      starts = rows_of starts;
+      ends = rows_of ends;
+      roots = roots_of roots;
+      classes = rows_of classes;
+      objects = rows_of objects;
+    }) } by { AreHeap-prop _ },
 }
 
 impl Heap {
@@ -113,7 +124,12 @@ impl Heap {
     }
 
     /// States a stack.
-    fn state_trace(&mut self, serial: u32, thread: u32, frames: IdList<'_>) -> Result<Stated, AllocError>
+    fn state_trace(
+        &mut self,
+        serial: u32,
+        thread: u32,
+        frames: IdList<'_>,
+    ) -> Result<Stated, AllocError>
         requires fits { Fits (heap_of self.old).ids (Trace serial thread (identifiers_of frames)) }
         requires size { identifiers_size frames ≡ (heap_of self.old).ids }
         ensures ok { IfOk result (λ stated. StatesInto (heap_of self.old) (Trace serial thread (identifiers_of frames.entry)) stated (heap_of self.new)) }

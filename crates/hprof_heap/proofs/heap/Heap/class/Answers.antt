@@ -15,7 +15,7 @@ pub returns-in_err-row-clause-value : goal.returns-in_err-row-clause-value
 returns-in_err-row-clause-value c =
     let heap = c.args.self.now in
     let found = look_up_row (rows_in heap) 8 c.args.id (keys.Class c.args.id) (spelled_fact heap.ids) spelled_bytes (rows_of heap.classes) (Class c.args.id 0 0 0 0 0 0 0 0 [] [] []) _
-        heap.sound refl refl heap.sound.classes refl (sym c.in_err-row.ensures) in
+    heap.sound refl refl heap.sound.classes refl (sym c.in_err-row.ensures) in
     ap (option_map value_of) c.from_residual.ensures ∙ sym found
 
 pub fact-requires : goal.fact-requires
@@ -23,10 +23,9 @@ fact-requires c =
     let heap = c.args.self.now in
     let bytes = spelled_bytes c.in_ok-row.row.now in
     let found = look_up_row (rows_in heap) 8 c.args.id (keys.Class c.args.id) (spelled_fact heap.ids) spelled_bytes (rows_of heap.classes) (Class c.args.id 0 0 0 0 0 0 0 0 [] [] []) _
-        heap.sound refl refl heap.sound.classes refl (sym c.in_ok-row.ensures) in
+    heap.sound refl refl heap.sound.classes refl (sym c.in_ok-row.ensures) in
     let right = right_found heap.ids 8 (spelled_fact heap.ids) spelled_bytes (rows_of heap.classes) c.args.id c.in_ok-row.row.now heap.sound.classes
-        (sym c.in_ok-row.ensures) in
-    (
+    (sym c.in_ok-row.ensures) in (
       spelled_fact heap.ids c.args.id bytes,
       row_spells heap.ids 8 c.args.id bytes (omega arith) right
           (found_fits (rows_in heap) (has_key (keys.Class c.args.id)) (spelled_fact heap.ids c.args.id bytes) heap.sound found),
@@ -37,9 +36,9 @@ returns-clause-value c =
     let heap = c.args.self.now in
     let bytes = spelled_bytes c.in_ok-row.row.now in
     let found = look_up_row (rows_in heap) 8 c.args.id (keys.Class c.args.id) (spelled_fact heap.ids) spelled_bytes (rows_of heap.classes) (Class c.args.id 0 0 0 0 0 0 0 0 [] [] []) _
-        heap.sound refl refl heap.sound.classes refl (sym c.in_ok-row.ensures) in
+    heap.sound refl refl heap.sound.classes refl (sym c.in_ok-row.ensures) in
     let right = right_found heap.ids 8 (spelled_fact heap.ids) spelled_bytes (rows_of heap.classes) c.args.id c.in_ok-row.row.now heap.sound.classes
-        (sym c.in_ok-row.ensures) in
+    (sym c.in_ok-row.ensures) in
     let spells = row_spells heap.ids 8 c.args.id bytes (omega arith) right
-        (found_fits (rows_in heap) (has_key (keys.Class c.args.id)) (spelled_fact heap.ids c.args.id bytes) heap.sound found) in
+    (found_fits (rows_in heap) (has_key (keys.Class c.args.id)) (spelled_fact heap.ids c.args.id bytes) heap.sound found) in
     ap (λ (fact : FactValue). Some fact) (c.fact.ensures.fact (spelled_fact heap.ids c.args.id bytes) spells) ∙ sym found

@@ -13,12 +13,12 @@ pub returns-in_err-row : goal.returns-in_err-row
 returns-in_err-row c =
     let heap = c.args.self.now in
     let found = look_up_row (rows_in heap) 1 c.args.serial (keys.Load c.args.serial) load_fact load_numbers (rows_of heap.loads) (Load c.args.serial 0 0 0) _ heap.sound refl refl (loads_right heap.ids (rows_of heap.loads)) refl
-        (sym c.in_err-row.ensures) in
+    (sym c.in_err-row.ensures) in
     ap (option_map value_of) c.from_residual.ensures ∙ sym found
 
 pub returns : goal.returns
 returns c =
     let heap = c.args.self.now in
     let found = look_up_row (rows_in heap) 1 c.args.serial (keys.Load c.args.serial) load_fact load_numbers (rows_of heap.loads) (Load c.args.serial 0 0 0) _ heap.sound refl refl (loads_right heap.ids (rows_of heap.loads)) refl
-        (sym c.in_ok-row.ensures) in
+    (sym c.in_ok-row.ensures) in
     sym found
