@@ -1,4 +1,4 @@
-use Rattle.std.proofs.Common.{ℕ, List, take, sym, ap, ◌∙◌, ◌+◌, arith}
+use Rattle.std.proofs.Common.{take, sym, ap, ◌∙◌, ◌+◌, arith}
 use Rattle.hprof_heap.specs.Targets.{compared}
 use Rattle.hprof_heap.proofs.Differences.{held_more, pushed_same, pushed_other}
 use Rattle.hprof_heap.proofs.comparing.ComparingTarget.push.Goals as goal

@@ -1,7 +1,5 @@
-use Rattle.std.proofs.Common.{ℕ, List, [], ◌∷◌, Result, sym, subst, arith}
-use Rattle.std.specs.Prelude.{IfOk}
-use Rattle.hprof_values.specs.declared.ids.IdSize.{IdSize}
-use Rattle.hprof_items.specs.FactValue.{FactValue, value_of}
+use Rattle.std.proofs.Common.{arith}
+use Rattle.hprof_items.specs.FactValue.{value_of}
 use Rattle.hprof_heap.specs.Content.{spelled_fact}
 use Rattle.hprof_heap.specs.Heap.{rows_in}
 use Rattle.hprof_heap.specs.HeapRows.{spelled_facts}

@@ -1,4 +1,4 @@
-use Rattle.std.proofs.Common.{[], ◌∷◌, Some, ap, refl, sym, ◌∙◌}
+use Rattle.std.proofs.Common.{[], Some, ap, refl, sym, ◌∙◌}
 use Rattle.std.specs.Option.{option_map}
 use Rattle.hprof_items.specs.FactValue.{FactValue, value_of, Trace}
 use Rattle.hprof_heap.specs.declared.key.Key.TheVariants as keys
