@@ -1,6 +1,6 @@
 -- The items of a part: what is judged as one, from the first byte on. An item is wholly there and right, or the
 -- first of its tests that fails says what is wrong.
-use Rattle.std.specs.Prelude.{◌≡◌, ℕ, zero, suc, ◌+◌, ◌-◌, ◌^◌, ◌<◌, ◌≤◌, Bool, true, false, nat_lt, List, [], ◌∷◌, length, take, drop, Result, Ok, Err, Option, Some, None, if◌then◌else◌}
+use Rattle.std.specs.Prelude.{◌≡◌, ℕ, zero, suc, ◌+◌, ◌-◌, ◌^◌, ◌<◌, ◌≤◌, Bool, true, false, nat_lt, List, [], ◌∷◌, length, take, drop, Result, Ok, Err, Option, Some, None, ⊤, if◌then◌else◌}
 use Rattle.hprof_items.specs.declared.header.Header.{Header}
 use Rattle.hprof_items.specs.declared.head.Head.{Head}
 use Rattle.hprof_items.specs.declared.head.HeadKind.{HeadKind}
@@ -44,6 +44,12 @@ place_in header (suc room) = Within header (suc room)
 abbrev pub place_behind : Option Header → ℕ → Place
 place_behind None room = Start
 place_behind (Some header) room = place_in header room
+
+-- a heap dump record has no more bytes left than the length in its head can say
+abbrev pub HasRoom : Place → Type 0
+HasRoom Start = ⊤
+HasRoom (Between header) = ⊤
+HasRoom (Within header room) = room ≤ longest_body
 
 -- a part may end there
 abbrev pub may_end : Place → Bool
@@ -135,3 +141,28 @@ unfoldable pub item_at : ℕ → Place → List ℕ → Step Found
 item_at longest Start bytes = found_header (header_at bytes)
 item_at longest (Between header) bytes = found_behind header (head_at header.ids longest bytes) bytes
 item_at longest (Within header room) bytes = found_sub header room (sub_at header.ids (bounds_within room longest bytes) bytes)
+
+-- ---- what is held of an item that is not yet there
+
+abbrev pub is_skipped_kind : HeadKind → Bool
+is_skipped_kind FactRecord = false
+is_skipped_kind HeapDump = false
+is_skipped_kind DumpEnd = false
+is_skipped_kind Skipped = true
+
+-- the head of a record that is passed over was read
+abbrev pub is_skipped_head : Step Head → Bool
+is_skipped_head (Whole head n) = is_skipped_kind (kind_of head.tag)
+is_skipped_head Short = false
+is_skipped_head TooLong = false
+is_skipped_head (Fault reason) = false
+
+-- at the front stands a record that is passed over
+abbrev pub is_passed_over : ℕ → Place → List ℕ → Bool
+is_passed_over longest Start bytes = false
+is_passed_over longest (Between header) bytes = is_skipped_head (head_at header.ids longest bytes)
+is_passed_over longest (Within header room) bytes = false
+
+-- the bytes that are held of such an item: all, but of a record that is passed over none
+abbrev pub held_of : ℕ → Place → List ℕ → List ℕ
+held_of longest place rest = if is_passed_over longest place rest then [] else rest

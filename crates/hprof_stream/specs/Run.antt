@@ -2,7 +2,8 @@
 use Rattle.std.specs.Prelude.{◌≡◌, List, [], ◌∷◌, Option, Some, None}
 use Rattle.hprof_items.specs.declared.header.Header.{Header}
 use Rattle.hprof_values.specs.declared.ids.IdSize.{IdSize}
-use Rattle.hprof_items.specs.FactValue.{FactValue}
+use Rattle.hprof_items.specs.declared.fact.Fact.{Fact}
+use Rattle.hprof_items.specs.FactValue.{FactValue, ListsHave}
 use Rattle.hprof_items.specs.Spelling.{Fits}
 
 module _ {S : Type 0} (begins : S → Header → S → Type 0) (steps : S → FactValue → S → Type 0) where
@@ -20,6 +21,11 @@ module _ {S : Type 0} (begins : S → Header → S → Type 0) (steps : S → Fa
 abbrev pub FitsBegun : Option IdSize → FactValue → Type 0
 FitsBegun None fact = ⊥
 FitsBegun (Some ids) fact = Fits ids fact
+
+-- its lists have identifiers of that size
+abbrev pub ListsHaveBegun : Option IdSize → Fact → Type 0
+ListsHaveBegun None fact = ⊥
+ListsHaveBegun (Some ids) fact = ListsHave ids fact
 
 -- the header that a run is given, where these were read before it and after it
 abbrev pub became : Option Header → Option Header → Option Header
