@@ -8,9 +8,11 @@ pub mod SortedRows
 pub mod SortedTable
 pub mod Stating
 pub mod RowFacts
-pub mod Names
+pub mod Tables
+pub mod HeapRows
+pub mod Roots
+pub mod Differences
 pub mod NumberRows
 pub mod Steady
 pub mod Gathering
-pub mod Dump
 pub mod Packing

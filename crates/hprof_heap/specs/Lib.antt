@@ -8,7 +8,17 @@ pub mod SortedRows
 pub mod SortedTable
 pub mod Relation
 pub mod NumberRows
+pub mod Content
+pub mod Tables
+pub mod TraceRow
+pub mod Spelled
+pub mod SpelledRow
+pub mod Differing
+pub mod Targets
+pub mod Fitting
 pub mod HeapValue
+pub mod HeapRows
+pub mod RootSet
 pub mod Heap
 pub mod Rows
 pub mod Steady

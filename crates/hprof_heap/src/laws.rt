@@ -1,16 +1,12 @@
 //! Laws of the definitions. None of these functions does anything.
 
 ghost use Rattle.std.specs.Prelude.{◌≡◌, ℕ, List};
-ghost use Rattle.hprof_values.specs.declared.ids.IdSize.{IdSize};
 ghost use Rattle.hprof_items.specs.FactValue.{FactValue};
-ghost use Rattle.hprof_stream.specs.Part.{IsPart};
 ghost use Rattle.hprof_heap.specs.declared.gatherer.Gatherer.{Gatherer};
 ghost use Rattle.hprof_heap.specs.declared.key.Key.{Key};
 ghost use Rattle.hprof_heap.specs.Conflict.{IsConsistent, IsLeastConflict};
-ghost use Rattle.hprof_heap.specs.Dump.{canonical_dump};
 ghost use Rattle.hprof_heap.specs.Facts.{SameFacts};
 ghost use Rattle.hprof_heap.specs.Gathering.{Given, Gathers, Tells, answer_of, gathered, nothing_gathered};
-ghost use Rattle.hprof_heap.specs.HeapValue.{HeapValue, IsHeap};
 ghost use Rattle.hprof_heap.specs.Order.{IsCanonicalOrder};
 ghost use Rattle.hprof_heap.specs.Segments.{IsPacked, packed};
 
@@ -43,12 +39,6 @@ pub fn conflicts_are_of_the_set()
 pub fn answers_tell_of_the_parts()
     ensures { (parts : List Given) (gatherer : Gatherer) → Gathers nothing_gathered parts (gathered gatherer)
         → Tells parts (answer_of (gathered gatherer)) }
-{}
-
-/// The canonical dump of a heap is a part, and states the heap's facts, each once.
-pub fn dump_reads_back()
-    ensures { (ids : IdSize) (millis : ℕ) (rows : List FactValue) → IsHeap (record { ids = ids; millis = millis; facts = rows })
-        → IsPart (canonical_dump ids millis rows) ids millis rows }
 {}
 
 /// There is one way to divide sub-records among segments that are as full as they can be, whatever their sizes and

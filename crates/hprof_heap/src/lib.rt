@@ -2,9 +2,9 @@
 //! and the canonical dump of a heap.
 #![tactic(auto)]
 
-mod canonical;
+mod appending;
+mod comparing;
 mod content;
-mod facts;
 mod gatherer;
 mod heap;
 mod key;
@@ -12,14 +12,15 @@ pub mod laws;
 mod name_row;
 mod number_rows;
 mod relation;
+mod root_set;
 mod rows;
 mod sorted_table;
+mod spelled_row;
 mod standing;
 mod table;
+mod trace_row;
 
-pub use canonical::write_canonical;
 pub use content::{Content, Statement};
-pub use facts::Facts;
 pub use gatherer::Gatherer;
 pub use heap::Heap;
 pub use key::Key;
@@ -27,8 +28,10 @@ pub use name_row::NameRow;
 pub use number_rows::{FrameRow, KeyRow, LoadRow, StartRow};
 pub use relation::{Relation, Stated};
 pub use rows::Rows;
+pub use spelled_row::SpelledRow;
 pub use standing::{Refusal, Standing};
 pub use table::Table;
+pub use trace_row::TraceRow;
 
 #[cfg(test)]
 mod tests;

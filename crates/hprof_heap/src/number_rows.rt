@@ -4,6 +4,7 @@ ghost use Rattle.hprof_heap.specs.NumberRows.{load_numbers, frame_numbers, start
 ghost use Rattle.std.specs.Prelude.{[]};
 
 use crate::content::Content;
+use hprof_items::Fact;
 
 /// A class that was loaded, under its serial.
 #[derive(Clone, Copy, Debug, PartialEq, Eq)]
@@ -37,6 +38,25 @@ pub struct FrameRow {
     pub class_serial: u32,
     /// The line, above 0; -1 where it is unknown, -2 in a compiled method, -3 in a native one.
     pub line: i32,
+}
+
+impl FrameRow {
+    ghost use Rattle.std.specs.Prelude.{◌≡◌};
+    ghost use Rattle.hprof_items.specs.FactValue.{Frame, value_of};
+
+    /// The fact of the row under an identifier.
+    pub(crate) fn fact<'a>(self, id: u64) -> Fact<'a>
+        ensures { value_of result ≡ Frame id self.method self.signature self.source self.class_serial self.line }
+    {
+        Fact::Frame {
+            id,
+            method: self.method,
+            signature: self.signature,
+            source: self.source,
+            class_serial: self.class_serial,
+            line: self.line,
+        }
+    }
 }
 
 impl Content for FrameRow {

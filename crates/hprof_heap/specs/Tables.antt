@@ -1,0 +1,9 @@
+-- The tables of a heap as lists of facts, one behind the other.
+use Rattle.std.specs.Prelude.{ℕ, zero, suc, List, [], ◌∷◌, ◌++◌, ⊤}
+use Rattle.std.specs.List.{AllByRecursion}
+use Rattle.hprof_items.specs.FactValue.{FactValue}
+
+-- the facts of all tables, in order
+abbrev pub joined : List (List FactValue) → List FactValue
+joined [] = []
+joined (facts ∷ tables) = facts ++ joined tables
