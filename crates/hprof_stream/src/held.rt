@@ -1,7 +1,8 @@
 //! The bytes of an item that is not whole yet.
 
-ghost use Rattle.std.specs.Prelude.{◌≡◌, ◌⊎◌, ◌+◌, ◌<◌, ◌≤◌, ◌++◌, ℕ, List, [], length, min, true, None, Err, IfOk, OnOk, OnErr, IfSome};
+ghost use Rattle.std.specs.Prelude.{◌≡◌, ◌⊎◌, ◌+◌, ◌<◌, ◌≤◌, ◌++◌, ℕ, List, [], length, min, true, None, Some, Err, IfOk, OnOk, OnErr, IfSome};
 ghost use Rattle.hprof_items.specs.declared.step.Step.TheVariants.{Short};
+ghost use Rattle.hprof_items.specs.declared.header.Header.{Header};
 ghost use Rattle.hprof_stream.specs.Item.{held_of, item_at};
 ghost use Rattle.hprof_stream.specs.Progress.{place_of, IsCounted};
 ghost use Rattle.hprof_stream.specs.Rest.{passing_of, walk_at, IsWalkOf, IsRest, IsSound, rest_len};
@@ -118,6 +119,7 @@ fn finish_once<'a, S: Sink>(
     ensures less { IfOk result (λ left. length left.now ≤ length bytes.now) }
     ensures counted { IfOk result (λ left. IsCounted progress.new (rest_len rest.new + length left.now)) }
     ensures begun { OnOk result (IsBegun progress.new.header (S.begun sink.new)) }
+    ensures kept { (header : Header) → progress.old.header ≡ Some header → progress.new.header ≡ Some header }
 {
     let before = rest.held.len();
     let count = portion(before, progress.limits.max_item).min(bytes.len());
@@ -152,6 +154,7 @@ fn finish_held<'a, S: Sink>(
     ensures less { IfOk result (λ left. length left.now ≤ length bytes.now) }
     ensures counted { IfOk result (λ left. IsCounted progress.new (rest_len rest.new + length left.now)) }
     ensures begun { OnOk result (IsBegun progress.new.header (S.begun sink.new)) }
+    ensures kept { (header : Header) → progress.old.header ≡ Some header → progress.new.header ≡ Some header }
 {
     let mut left = bytes;
     while !rest.held.is_empty() && !left.is_empty() {
@@ -176,6 +179,7 @@ pub(crate) fn read_on<'a, S: Sink>(
     ensures less { IfOk result (λ left. length left.now ≤ length bytes.now) }
     ensures counted { IfOk result (λ left. IsCounted progress.new (rest_len rest.new + length left.now)) }
     ensures begun { OnOk result (IsBegun progress.new.header (S.begun sink.new)) }
+    ensures kept { (header : Header) → progress.old.header ≡ Some header → progress.new.header ≡ Some header }
 {
     let left = finish_held(progress, rest, bytes, sink)?;
     let left = pass_over(progress, rest, left);
