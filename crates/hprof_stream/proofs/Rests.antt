@@ -112,12 +112,12 @@ passed_stands longest place front passing is = subst (λ (p : Place). Stands p i
 
 -- ---- nothing is there
 
-same_branches : (test : Bool) → cond test [] [] ≡ the (List ℕ) []
-same_branches true = refl
-same_branches false = refl
+same_branches : (test : Bool) (both : List ℕ) → cond test both both ≡ both
+same_branches true both = refl
+same_branches false both = refl
 
 pub held_none : (longest : ℕ) (place : Place) → held_of longest place [] ≡ []
-held_none longest place = same_branches (is_passed_over longest place [])
+held_none longest place = same_branches (is_passed_over longest place []) []
 
 pub passing_none : (longest : ℕ) (place : Place) → passing_of longest place [] ≡ None
 unfolding head_at
