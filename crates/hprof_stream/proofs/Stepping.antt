@@ -41,3 +41,8 @@ module _ {S : Type 0} (begins : S → Header → S → Type 0) (steps : S → Fa
         stops = halts.stops;
         stands = halts.stands;
       }
+
+  -- of the same bytes
+  pub Halts-same : (from to : Progress) (bytes others : List ℕ) (old new : S) (fault : PartFault) → bytes ≡ others → Halts begins steps refuses failed from bytes old fault to new
+      → Halts begins steps refuses failed from others old fault to new
+  Halts-same from to bytes others old new fault same halts = subst (λ (b : List ℕ). Halts begins steps refuses failed from b old fault to new) same halts
