@@ -1,5 +1,5 @@
 -- Going on with what is held of an item.
-use Rattle.std.proofs.Common.{◌≡◌, ℕ, zero, suc, ◌+◌, ◌-◌, ◌<◌, ◌≤◌, ◌⊎◌, inl, inr, min, ltb, Bool, true, false, cond, List, [], ◌∷◌, ◌++◌, length, take, drop, Option, Some, None, Ok, Err, refl, sym, ap, subst, ◌∙◌, append_assoc, append-nil, take-append-drop, arith}
+use Rattle.std.proofs.Common.{◌≡◌, ℕ, zero, suc, ◌+◌, ◌-◌, ◌<◌, ◌≤◌, ◌⊎◌, inl, inr, min, ltb, Bool, true, false, cond, List, [], ◌∷◌, ◌++◌, length, take, drop, Option, Some, None, OnOk, Ok, Err, refl, sym, ap, subst, ◌∙◌, append_assoc, append-nil, take-append-drop, arith}
 use Rattle.std.proofs.lemmas.Bool.{ltb-true, ltb-false}
 use Rattle.std.proofs.lemmas.List.{length-append, take-append-le, drop-append-le, nil_from_length}
 use Rattle.std.proofs.Math.Seq.{drop-append-add}
@@ -15,12 +15,13 @@ use Rattle.hprof_items.specs.declared.step.Step.TheVariants.{Whole, Short, TooLo
 use Rattle.hprof_items.specs.declared.walk.Walk.{Walk}
 use Rattle.hprof_items.specs.declared.walk.Walk.TheVariants.{Front, Entries}
 use Rattle.hprof_items.specs.FactValue.{FactValue}
-use Rattle.hprof_items.specs.Head.{kind_of}
+use Rattle.hprof_items.specs.Head.{head_bytes, kind_of}
 use Rattle.hprof_items.specs.Reading.{head_at}
 use Rattle.hprof_items.specs.SubReading.{bounds_within}
 use Rattle.hprof_items.specs.SubRecord.{sub_at}
-use Rattle.hprof_items.specs.Walk.{walked, end_of_read}
-use Rattle.std.specs.Prelude.{Result}
+use Rattle.hprof_items.specs.Walk.{walked, end_of_read, IsPlaced}
+use Rattle.hprof_values.specs.declared.item.Item as values
+use Rattle.std.specs.Prelude.{Result, ◌==◌}
 use Rattle.hprof_stream.specs.declared.part_fault.PartFault.{PartFault}
 use Rattle.hprof_stream.specs.declared.part_fault.PartFault.TheVariants as faults
 use Rattle.hprof_stream.specs.declared.progress.Progress.{Progress}
@@ -86,11 +87,26 @@ module _ (longest : ℕ) (header : Header) (room : ℕ) (bytes : List ℕ) (from
       sym (subst (λ (b : List ℕ). walked header.ids (bounds_within room longest b) b from ≡ walked header.ids (bounds_within room longest b) b Front) (append-nil bytes) (is.same [])) ∙ e in
       ap (found_sub header room) (no_end (sub_at header.ids (bounds_within room longest bytes) bytes) stops.Short whole)
 
+-- it was walked no further than its bytes
+pub placed_at : (item : values.Item) (walk : Walk) → IsPlaced item walk → walk_at walk ≤ length item.bytes.now
+placed_at item Front placed = omega arith
+placed_at item (Entries kind left at) placed = placed
+
+pub some_room : (room : ℕ) → (room ≡ 0 → ⊥) → 0 < room
+some_room zero never = absurd (never refl)
+some_room (suc room) never = omega arith
+
 -- within a heap dump record
 pub place_within : (before : Option Header) (room : ℕ) (header : Header) → before ≡ Some header → 0 < room → place_behind before room ≡ Within header room
 place_within None room header e some = absurd cc
 place_within (Some h) zero header e some = absurd (omega (arith, some))
 place_within (Some h) (suc room) header e some = cc
+
+-- the head of a record is there
+pub head_there : (tag time len : ℕ) (bytes rest : List ℕ) → bytes ≡ head_bytes tag time len ++ rest → 9 ≤ length bytes
+head_there tag time len bytes rest e =
+    let nine : length (head_bytes tag time len) ≡ 9 = refl in
+    omega (arith, nine, ap length e, length-append (head_bytes tag time len) rest)
 
 -- ---- what is held
 
@@ -169,6 +185,31 @@ module _ (longest : ℕ) (place : Place) (bytes : List ℕ) (rest : Rest) where
   pub IsRest-empty : IsRest longest place bytes rest → length rest.held.items ≡ 0 → rest.passing ≡ None → bytes ≡ []
   IsRest-empty is empty none =
       nil_from_length bytes (omega (arith, empty, ap length is.held, ap length (held_all longest place bytes (sym is.passing ∙ none))))
+
+pub not_empty : {A : Type 0} (xs : List A) → false ≡ (length xs == 0) → xs ≡ [] → ⊥
+not_empty [] some e = absurd cc
+not_empty (x ∷ xs) some e = absurd cc
+
+pub not_some : {A : Type 0} (one : Option A) → ((x : A) → one ≡ Some x → ⊥) → one ≡ None
+not_some None never = refl
+not_some (Some x) never = absurd (never x refl)
+
+pub on_ok : {A E P Q : Type 0} (result : Result A E) → (P → Q) → OnOk result P → OnOk result Q
+on_ok (Ok x) follows holds = follows holds
+on_ok (Err e) follows holds = tt
+
+-- what is left, and nothing was kept before it, is kept
+pub kept_behind : (longest : ℕ) (place : Place) (still left : List ℕ) (kept rest : Rest) → IsRest longest place still kept → item_at longest place (still ++ left) ≡ Short → (still ≡ []) ⊎ (left ≡ [])
+    → (left ≡ [] → ⊥) → IsBytes left → passing_of longest place left ≡ None → rest.held.items ≡ kept.held.items ++ left → rest.walk ≡ kept.walk → rest.passing ≡ kept.passing
+    → IsRest longest place (still ++ left) rest
+kept_behind longest place still left kept rest is short (inr none) some are whole held walk passing = absurd (some none)
+kept_behind longest place still left kept rest is short (inl none) some are whole held walk passing =
+    let was : kept.held.items ≡ [] = is.held ∙ ap (held_of longest place) none ∙ held_none longest place in
+    let passed : kept.passing ≡ None = is.passing ∙ ap (passing_of longest place) none ∙ passing_none longest place in
+    let all : still ++ left ≡ left = ap (λ (b : List ℕ). b ++ left) none in
+    let walked = IsWalkOf-more longest place still left kept.walk is.walk in
+    IsRest-held longest place (still ++ left) rest (IsBytes-append still left is.are_bytes are) short (held ∙ ap (λ (b : List ℕ). b ++ left) was ∙ sym all) (passing ∙ passed)
+    (ap (passing_of longest place) all ∙ whole) (subst (IsWalkOf longest place (still ++ left)) (sym walk) walked)
 
 -- ---- an item that is whole with the bytes that came
 
@@ -290,7 +331,7 @@ module _ {S : Type 0} (begins : S → Header → S → Type 0) (steps : S → Fa
       ((front : List ℕ) (p : Passing) → kept.passing ≡ Some p → IsRest mid.limits.max_item (place_of mid) front kept → PassesOver mid front bytes to left rest)
       × (kept.passing ≡ None → (to ≡ mid) × (rest ≡ kept) × (left ≡ bytes))
 
-  skipped_to : Place → ℕ → Step Found
+  abbrev skipped_to : Place → ℕ → Step Found
   skipped_to place n = Whole (record { next = place; facts = [] }) n
 
   skipped_after : (place : Place) (n : ℕ) → Stands place items.Skipped → place_after place items.Skipped n ≡ place
