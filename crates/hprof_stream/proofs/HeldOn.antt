@@ -211,6 +211,31 @@ kept_behind longest place still left kept rest is short (inl none) some are whol
     IsRest-held longest place (still ++ left) rest (IsBytes-append still left is.are_bytes are) short (held ∙ ap (λ (b : List ℕ). b ++ left) was ∙ sym all) (passing ∙ passed)
     (ap (passing_of longest place) all ∙ whole) (subst (IsWalkOf longest place (still ++ left)) (sym walk) walked)
 
+-- bytes that were cut in two
+pub cut_bytes : (n : ℕ) (bytes front back : List ℕ) → front ≡ take n bytes → back ≡ drop n bytes → front ++ back ≡ bytes
+cut_bytes n bytes front back e f = ap (λ (b : List ℕ). b ++ back) e ∙ ap (λ (b : List ℕ). take n bytes ++ b) f ∙ take-append-drop n bytes
+
+-- what is held once more bytes were added
+pub record Held (longest : ℕ) (place : Place) (front more held : List ℕ) (rest : Rest) : Type 0 where
+  pub all : held ≡ front ++ more
+  pub size : length rest.held.items ≡ length front
+  pub none : rest.passing ≡ None
+  pub walk : IsWalkOf longest place held rest.walk
+  pub are_bytes : IsBytes (front ++ more)
+
+pub held_more : (longest : ℕ) (place : Place) (front more held : List ℕ) (rest : Rest) → IsRest longest place front rest → 0 < length rest.held.items → held ≡ rest.held.items ++ more → IsBytes more
+    → Held longest place front more held rest
+held_more longest place front more held rest is some added are =
+    let was = IsRest-all longest place front rest is some in
+    let all : held ≡ front ++ more = added ∙ ap (λ (b : List ℕ). b ++ more) was.0 in
+    record {
+      all = all;
+      size = ap length was.0;
+      none = was.1;
+      walk = subst (λ (b : List ℕ). IsWalkOf longest place b rest.walk) (sym all) (IsWalkOf-more longest place front more rest.walk is.walk);
+      are_bytes = IsBytes-append front more is.are_bytes are;
+    }
+
 -- ---- an item that is whole with the bytes that came
 
 -- it is longer than what was there of it
@@ -334,6 +359,11 @@ module _ {S : Type 0} (begins : S → Header → S → Type 0) (steps : S → Fa
   abbrev skipped_to : Place → ℕ → Step Found
   skipped_to place n = Whole (record { next = place; facts = [] }) n
 
+  skipped_room : (header : Option Header) (room : ℕ) → Stands (place_behind header room) items.Skipped → room ≤ longest_body
+  skipped_room None room stands = absurd stands
+  skipped_room (Some header) zero stands = omega arith
+  skipped_room (Some header) (suc room) stands = absurd stands
+
   skipped_after : (place : Place) (n : ℕ) → Stands place items.Skipped → place_after place items.Skipped n ≡ place
   skipped_after Start n stands = absurd stands
   skipped_after (Between header) n stands = refl
@@ -343,12 +373,13 @@ module _ {S : Type 0} (begins : S → Header → S → Type 0) (steps : S → Fa
   IsLeft-none left behind kept rest e same all (inl empty) = inr (ap (λ (r : Rest). length r.held.items) same ∙ empty, ap (λ (r : Rest). r.passing) same ∙ e)
   IsLeft-none left behind kept rest e same all (inr none) = inl (all ∙ none)
 
-  behind_over : (from mid to : Progress) (bytes left behind : List ℕ) (old new : S) (kept rest : Rest) → (is : Behind from bytes old mid left kept new) → IsBytes left → mid.room ≤ longest_body
+  behind_over : (from mid to : Progress) (bytes left behind : List ℕ) (old new : S) (kept rest : Rest) → (is : Behind from bytes old mid left kept new) → IsBytes left
       → PassesOver mid is.still left to behind rest → Behind from bytes old to behind rest new × IsLeft rest behind
-  behind_over from mid to bytes left behind old new kept rest is are small (inl over) =
+  behind_over from mid to bytes left behind old new kept rest is are (inl over) =
       let same = same_item begins steps from.limits.max_item from mid bytes (is.still ++ left) old new is.walked in
       let all = IsBytes-append is.still left is.keeps.are_bytes are in
       let found = over.1 ∙ ap (λ (p : Place). skipped_to p over.0) (sym (skipped_after (place_of mid) over.0 over.4.0)) in
+      let small = skipped_room mid.header mid.room over.4.0 in
       let item = Walks-item begins steps mid.limits.max_item mid (is.still ++ left) new new items.Skipped over.0 all small found over.4 refl in
       let next : Progress = advanced mid items.Skipped over.0 in
       let on = Walks-at begins steps mid.limits.max_item from.limits.max_item mid next (is.still ++ left) (drop over.0 (is.still ++ left)) new new same item.0 in
@@ -358,7 +389,7 @@ module _ {S : Type 0} (begins : S → Header → S → Type 0) (steps : S → Fa
         (subst (λ (b : List ℕ). Behind from bytes old next b rest new) (sym over.3) (record { still = []; walked = walk; keeps = keeps })),
         inr (ap length keeps.held ∙ ap length (held_none from.limits.max_item (place_of mid)), keeps.passing ∙ passing_none from.limits.max_item (place_of mid)),
       )
-  behind_over from mid to bytes left behind old new kept rest is are small (inr on) =
+  behind_over from mid to bytes left behind old new kept rest is are (inr on) =
       let same = same_item begins steps from.limits.max_item from mid bytes (is.still ++ left) old new is.walked in
       let walk = subst (λ (b : List ℕ). Walks begins steps from.limits.max_item from bytes old mid b new) (sym (append-nil (is.still ++ left))) is.walked in
       let keeps = subst (λ (l : ℕ). IsRest l (place_of mid) (is.still ++ left) rest) same on.2 in (
@@ -368,12 +399,12 @@ module _ {S : Type 0} (begins : S → Header → S → Type 0) (steps : S → Fa
       )
 
   behind_by : (passing : Option Passing) (from mid to : Progress) (bytes left behind : List ℕ) (old new : S) (kept rest : Rest) → kept.passing ≡ passing → Behind from bytes old mid left kept new → IsBytes left
-      → mid.room ≤ longest_body → (length kept.held.items ≡ 0) ⊎ (left ≡ []) → Passes mid left kept to behind rest → Behind from bytes old to behind rest new × IsLeft rest behind
-  behind_by (Some p) from mid to bytes left behind old new kept rest e is are small done passes =
+      → (length kept.held.items ≡ 0) ⊎ (left ≡ []) → Passes mid left kept to behind rest → Behind from bytes old to behind rest new × IsLeft rest behind
+  behind_by (Some p) from mid to bytes left behind old new kept rest e is are done passes =
       let same = same_item begins steps from.limits.max_item from mid bytes (is.still ++ left) old new is.walked in
       let keeps = subst (λ (l : ℕ). IsRest l (place_of mid) is.still kept) (sym same) is.keeps in
-      behind_over from mid to bytes left behind old new kept rest is are small (passes.0 is.still p e keeps)
-  behind_by None from mid to bytes left behind old new kept rest e is are small done passes =
+      behind_over from mid to bytes left behind old new kept rest is are (passes.0 is.still p e keeps)
+  behind_by None from mid to bytes left behind old new kept rest e is are done passes =
       let stays = passes.1 e in (
         subst (λ (p : Progress). Behind from bytes old p behind rest new) (sym stays.0)
         (subst (λ (r : Rest). Behind from bytes old mid behind r new) (sym stays.1)
@@ -382,10 +413,10 @@ module _ {S : Type 0} (begins : S → Header → S → Type 0) (steps : S → Fa
       )
 
   -- behind what is passed over
-  pub Behind-over : (from mid to : Progress) (bytes left behind : List ℕ) (old new : S) (kept rest : Rest) → Behind from bytes old mid left kept new → IsBytes left → mid.room ≤ longest_body
+  pub Behind-over : (from mid to : Progress) (bytes left behind : List ℕ) (old new : S) (kept rest : Rest) → Behind from bytes old mid left kept new → IsBytes left
       → (length kept.held.items ≡ 0) ⊎ (left ≡ []) → Passes mid left kept to behind rest → Behind from bytes old to behind rest new × IsLeft rest behind
-  Behind-over from mid to bytes left behind old new kept rest is are small done passes =
-      behind_by kept.passing from mid to bytes left behind old new kept rest refl is are small done passes
+  Behind-over from mid to bytes left behind old new kept rest is are done passes =
+      behind_by kept.passing from mid to bytes left behind old new kept rest refl is are done passes
 
   -- an item is begun, and nothing is left
   pub ReadsOn-kept : (from to : Progress) (front bytes left : List ℕ) (old new : S) (rest : Rest) → Behind from (front ++ bytes) old to left rest new → left ≡ []
