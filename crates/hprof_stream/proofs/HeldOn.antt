@@ -186,6 +186,10 @@ module _ (longest : ℕ) (place : Place) (bytes : List ℕ) (rest : Rest) where
   IsRest-empty is empty none =
       nil_from_length bytes (omega (arith, empty, ap length is.held, ap length (held_all longest place bytes (sym is.passing ∙ none))))
 
+pub some_len : (n : ℕ) → false ≡ (n == 0) → 0 < n
+some_len zero e = absurd cc
+some_len (suc n) e = omega arith
+
 pub not_empty : {A : Type 0} (xs : List A) → false ≡ (length xs == 0) → xs ≡ [] → ⊥
 not_empty [] some e = absurd cc
 not_empty (x ∷ xs) some e = absurd cc
@@ -323,6 +327,26 @@ module _ {S : Type 0} (begins : S → Header → S → Type 0) (steps : S → Fa
   IsHalted-same from to front bytes still more old new faults.Read same holds some halts = Halts-same begins steps refuses failed from to (still ++ more) (front ++ bytes) old new faults.Read (sym same) halts
   IsHalted-same from to front bytes still more old new faults.ReadsExceeded same holds some halts = Halts-same begins steps refuses failed from to (still ++ more) (front ++ bytes) old new faults.ReadsExceeded (sym same) halts
   IsHalted-same from to front bytes still more old new faults.BytesExceeded same holds some halts = Halts-same begins steps refuses failed from to (still ++ more) (front ++ bytes) old new faults.BytesExceeded (sym same) halts
+
+  module _ (from mid to : Progress) (front bytes left : List ℕ) (old between new : S) (kept rest : Rest) (was : GoesOn begins steps refuses failed from front bytes old mid left kept between)
+      (some : 0 < length kept.held.items) where
+    -- it goes on
+    pub GoesOn-then : (behind : List ℕ) → ((still : List ℕ) → IsRest mid.limits.max_item (place_of mid) still kept → GoesOn begins steps refuses failed mid still left between to behind rest new)
+        → GoesOn begins steps refuses failed from front bytes old to behind rest new
+    GoesOn-then behind next =
+        let on = GoesOn-held from mid front bytes left old between kept was some in
+        let here = subst (λ (p : Progress). (still : List ℕ) → IsRest p.limits.max_item (place_of p) still kept → GoesOn begins steps refuses failed p still left between to behind rest new) on.0 next in
+        let now = subst (λ (s : S). GoesOn begins steps refuses failed from on.2.0 left s to behind rest new) (sym on.1) (here on.2.0 on.2.2) in
+        GoesOn-same from to front bytes on.2.0 left behind old new rest on.2.1 now
+
+    -- or is halted
+    pub GoesOn-halted : (fault : PartFault) → ((still : List ℕ) → IsRest mid.limits.max_item (place_of mid) still kept → IsHalted begins steps refuses failed mid still left between fault to new)
+        → 0 < length (held_of from.limits.max_item (place_of from) front) → 0 < length bytes → IsHalted begins steps refuses failed from front bytes old fault to new
+    GoesOn-halted fault next holds any =
+        let on = GoesOn-held from mid front bytes left old between kept was some in
+        let here = subst (λ (p : Progress). (still : List ℕ) → IsRest p.limits.max_item (place_of p) still kept → IsHalted begins steps refuses failed p still left between fault to new) on.0 next in
+        let now = subst (λ (s : S). IsHalted begins steps refuses failed from on.2.0 left s fault to new) (sym on.1) (here on.2.0 on.2.2) in
+        IsHalted-same from to front bytes on.2.0 left old new fault on.2.1 holds any now
 
   -- ---- what is passed over, and the walk behind it
 
