@@ -1,6 +1,6 @@
 -- Going on with what is held of an item.
-use Rattle.std.proofs.Common.{◌≡◌, ℕ, zero, suc, ◌+◌, ◌-◌, ◌<◌, ◌≤◌, ◌⊎◌, inl, inr, min, ltb, Bool, true, false, cond, List, [], ◌∷◌, ◌++◌, length, take, drop, Option, Some, None, OnOk, Ok, Err, refl, sym, ap, subst, ◌∙◌, append_assoc, append-nil, take-append-drop, arith}
-use Rattle.std.proofs.lemmas.Bool.{ltb-true, ltb-false}
+use Rattle.std.proofs.Common.{◌≡◌, ℕ, zero, suc, ◌+◌, ◌-◌, ◌<◌, ◌≤◌, ◌⊎◌, inl, inr, min, ltb, Bool, true, false, cond, List, [], ◌∷◌, ◌++◌, length, take, drop, Option, Some, None, OnOk, IfOk, Bor, is_some, Ok, Err, refl, sym, ap, subst, ◌∙◌, append_assoc, append-nil, take-append-drop, arith}
+use Rattle.std.proofs.lemmas.Bool.{eqb-true, ltb-true, ltb-false}
 use Rattle.std.proofs.lemmas.List.{length-append, take-append-le, drop-append-le, nil_from_length}
 use Rattle.std.proofs.Math.Seq.{drop-append-add}
 use Rattle.hprof_values.specs.Ids.{IsBytes}
@@ -30,16 +30,16 @@ use Rattle.hprof_stream.specs.declared.rest.Rest.{Rest}
 use Rattle.hprof_stream.specs.declared.sink.SinkFault.{SinkFault}
 use Rattle.hprof_stream.specs.Part.{Stated}
 use Rattle.hprof_stream.specs.Item.{Place, Start, Between, Within, HasRoom, Found, found_sub, place_behind, is_skipped_kind, is_skipped_head, is_passed_over, held_of, item_at}
-use Rattle.hprof_stream.specs.Progress.{place_of, advanced}
+use Rattle.hprof_stream.specs.Progress.{place_of, advanced, IsCounted}
 use Rattle.hprof_stream.specs.ItemStep.{Stands, IsOfPlace, place_after}
 use Rattle.hprof_stream.specs.declared.item.Item.TheVariants as items
 use Rattle.hprof_items.specs.Spelling.{longest_body}
-use Rattle.hprof_stream.specs.Rest.{passing_by, passing_of, walk_at, IsWalked, IsWalkOf, IsRest, PassesOver}
-use Rattle.hprof_stream.specs.Walking.{Walks, StepsOver, Halts, GoesOn, WantsMemory, IsHalted, FinishesHeld, ReadsOn, WalksAll}
+use Rattle.hprof_stream.specs.Rest.{passing_by, passing_of, walk_at, IsWalked, IsWalkOf, IsRest, PassesOver, passed_len, rest_len}
+use Rattle.hprof_stream.specs.Walking.{Walks, StepsOver, Halts, GoesOn, WantsMemory, IsHalted, FinishesHeld, ReadsOn, WalksAll, seen}
 use Rattle.hprof_stream.proofs.Items.{item_found, item_again}
 use Rattle.hprof_stream.proofs.Rests.{IsPassed, passed_of, passed_none_held, passed_walk, held_none, passing_none, IsBytes-append, IsRest-none}
 use Rattle.hprof_stream.proofs.Stepping.{Halts-step, Halts-then, Halts-same}
-use Rattle.hprof_stream.proofs.Walks.{Walks-none, Walks-item, Walks-more, Walks-then, Walks-at, same_item}
+use Rattle.hprof_stream.proofs.Walks.{Walks-none, Walks-item, Walks-more, Walks-then, Walks-at, Walks-counted, same_item}
 
 -- ---- how far a sub-record was walked
 
@@ -189,6 +189,16 @@ module _ (longest : ℕ) (place : Place) (bytes : List ℕ) (rest : Rest) where
 pub some_len : (n : ℕ) → false ≡ (n == 0) → 0 < n
 some_len zero e = absurd cc
 some_len (suc n) e = omega arith
+
+some_not_none : true ≡ false → ⊥
+some_not_none e = absurd cc
+
+pub none_is : {A : Type 0} (one : Option A) → is_some one ≡ false → one ≡ None
+none_is None e = refl
+none_is (Some x) e = absurd cc
+
+pub no_len : (n : ℕ) → true ≡ (n == 0) → n ≡ 0
+no_len n e = eqb-true n 0 (sym e)
 
 pub not_empty : {A : Type 0} (xs : List A) → false ≡ (length xs == 0) → xs ≡ [] → ⊥
 not_empty [] some e = absurd cc
@@ -472,3 +482,23 @@ module _ {S : Type 0} (begins : S → Header → S → Type 0) (steps : S → Fa
     -- or refused
     pub ReadsOn-refused : (fault : PartFault) → Halts begins steps refuses failed mid left between fault to new → IsHalted begins steps refuses failed from front bytes old fault to new
     ReadsOn-refused fault halts = Halts-held from to front bytes old new fault (Halts-then begins steps refuses failed from mid to (front ++ bytes) left old between new fault first halts)
+
+    -- in either case
+    pub ReadsOn-walk : (result : Result (Bor (List ℕ)) PartFault) → WalksAll begins steps refuses failed mid left between (seen result) to new → rest.held.items ≡ [] → rest.passing ≡ None → rest.walk ≡ Front
+        → ReadsOn begins steps refuses failed from front bytes old (seen result) to rest new
+    ReadsOn-walk (Ok last) walk held passing front_walk = ReadsOn-walked last.now walk held passing front_walk
+    ReadsOn-walk (Err fault) halts held passing front_walk = ReadsOn-refused fault halts
+
+  -- where something is kept nothing is left
+  pub none_left : (rest : Rest) (left : List ℕ) → IsLeft rest left → (is_some rest.passing ≡ true) ⊎ (0 < length rest.held.items) → left ≡ []
+  none_left rest left (inl none) keeps = none
+  none_left rest left (inr nothing) (inl passes) = let no_passing = nothing.1 in absurd (some_not_none (sym passes ∙ ap is_some no_passing))
+  none_left rest left (inr nothing) (inr holds) = absurd (omega (arith, holds, nothing.0))
+
+  -- there is room for what a walk left
+  pub counted_behind : (mid to : Progress) (left : List ℕ) (between new : S) (rest : Rest) (result : Result (Bor (List ℕ)) PartFault) → WalksAll begins steps refuses failed mid left between (seen result) to new
+      → IsCounted mid (length left) → rest.held.items ≡ [] → rest.passing ≡ None → IfOk result (λ last. IsCounted to (rest_len rest + length last.now))
+  counted_behind mid to left between new rest (Ok last) walk counted held passing =
+      let room = Walks-counted begins steps mid.limits.max_item mid to left last.now between new walk.0 counted in
+      subst (IsCounted to) (omega (arith, ap length held, ap passed_len passing)) room
+  counted_behind mid to left between new rest (Err fault) walk counted held passing = tt
