@@ -1,17 +1,14 @@
 -- What a reader that was fed all of a part knows: the part is a header and then records, or it is cut short.
-use Rattle.std.proofs.Common.{◌≡◌, ◌≢◌, ◌==◌, ℕ, zero, suc, ◌<◌, ◌≤◌, Bool, true, false, eqb, List, [], ◌++◌, length, Option, Some, None, Ok, Err, refl, sym, ap, subst, ◌∙◌, append-nil, arith}
-use Rattle.std.proofs.lemmas.Bool.{eqb-true, eqb-false, and_right}
+use Rattle.std.proofs.Common.{◌≡◌, ◌==◌, ℕ, ◌≤◌, true, List, [], ◌++◌, length, Option, Some, Ok, refl, sym, ap, subst, ◌∙◌, append-nil, arith}
+use Rattle.std.proofs.lemmas.Bool.{eqb-true}
 use Rattle.std.proofs.lemmas.List.{length-append, nil_from_length}
-use Rattle.hprof_values.specs.declared.reason.Reason.TheVariants.{Truncated}
 use Rattle.hprof_items.specs.declared.header.Header.{Header}
 use Rattle.hprof_items.specs.FactValue.{FactValue}
 use Rattle.hprof_stream.specs.declared.limits.Limits.{Limits}
-use Rattle.hprof_stream.specs.declared.part_fault.PartFault.{PartFault}
-use Rattle.hprof_stream.specs.declared.part_fault.PartFault.TheVariants.{Malformed}
 use Rattle.hprof_stream.specs.declared.part_reader.PartReader.{PartReader}
 use Rattle.hprof_stream.specs.Part.{all_bytes, IsWritten}
 use Rattle.hprof_stream.specs.Item.{Place, Between, header_before, place_behind, may_end, held_of}
-use Rattle.hprof_stream.specs.Fault.{Splits, fault_at, is_done, IsFirstFault, is_settled}
+use Rattle.hprof_stream.specs.Fault.{Splits}
 use Rattle.hprof_stream.specs.Progress.{place_of}
 use Rattle.hprof_stream.specs.Rest.{rest_len}
 use Rattle.hprof_stream.specs.Reader.{header_of, HasRead, IsUnfinished, longest_held, Finishes}
