@@ -19,3 +19,7 @@ pub mod Longer
 pub mod SubEnds
 pub mod SubLimits
 pub mod Smaller
+pub mod Feeding
+pub mod Finishing
+pub mod LastItems
+pub mod Sources

@@ -4,8 +4,8 @@ ghost use Rattle.std.specs.Prelude.{◌≡◌, ℕ, ◌+◌, ◌≤◌, List, []
 ghost use Rattle.hprof_items.specs.declared.header.Header.{Header};
 ghost use Rattle.hprof_values.specs.declared.ids.IdSize.{IdSize};
 ghost use Rattle.hprof_items.specs.FactValue.{FactValue};
-ghost use Rattle.hprof_stream.specs.Rest.{rest_len, seen_of, walk_at};
-ghost use Rattle.hprof_stream.specs.Walking.{IsBegun};
+ghost use Rattle.hprof_stream.specs.Progress.{IsCounted};
+ghost use Rattle.hprof_stream.specs.Rest.{IsSound, rest_len};
 
 use crate::held::{keep, read_on};
 use crate::limits::Limits;
@@ -23,12 +23,9 @@ pub struct PartReader {
     progress: Progress,
     rest: Rest,
     failed: bool,
-    ghost within: { progress.at + rest_len rest ≤ progress.limits.max_bytes },
-    ghost counted: { progress.records ≤ progress.at },
-    ghost stated: { progress.facts ≤ progress.at },
+    ghost counted: { failed ≡ false → IsCounted progress (rest_len rest) },
+    ghost sound: { failed ≡ false → IsSound rest },
     ghost emptied: { failed ≡ true → length rest.held.items ≡ 0 },
-    ghost headed: { 9 ≤ seen_of rest.passing },
-    ghost placed: { walk_at rest.walk ≤ length rest.held.items },
 }
 
 impl PartReader {
@@ -66,7 +63,15 @@ impl PartReader {
         if self.failed {
             return Err(PartFault::Failed);
         }
-        let outcome = self.take_piece(piece, sink);
+        let progress = &mut self.progress;
+        let rest = &mut self.rest;
+        let room = progress.limits.max_bytes - progress.at - rest.len();
+        let (taken, excess) = piece.split_at(room.min(piece.len() as u64) as usize);
+        let outcome = match read_on(progress, rest, taken, sink) {
+            Ok(left) if excess.is_empty() => keep(progress, rest, left),
+            Ok(_) => Err(PartFault::BytesExceeded),
+            Err(fault) => Err(fault),
+        };
         if outcome.is_err() {
             self.failed = true;
             self.rest.clear();
@@ -113,25 +118,5 @@ impl PartReader {
                 reason: Reason::Truncated,
             }),
         }
-    }
-
-    fn take_piece<S: Sink>(&mut self, piece: &[u8], sink: &mut S) -> Result<(), PartFault>
-        requires sound { has_failed self.old ≡ false }
-        requires begun { IsBegun (header_of self.old) (S.begun sink.old) }
-        ensures fed { (limits : Limits) (bytes : List ℕ) (facts : List FactValue) → HasRead limits bytes facts self.old
-            → Feeds S.begins S.steps S.refuses S.failed limits bytes facts self.old piece.now sink.old result self.new sink.new }
-        ensures sound { has_failed self.new ≡ false }
-        ensures kept { (header : Header) → header_of self.old ≡ Some header → header_of self.new ≡ Some header }
-        ensures begun { OnOk result (IsBegun (header_of self.new) (S.begun sink.new)) }
-    {
-        let progress = &mut self.progress;
-        let rest = &mut self.rest;
-        let room = progress.limits.max_bytes - progress.at - rest.len();
-        let (taken, excess) = piece.split_at(room.min(piece.len() as u64) as usize);
-        let left = read_on(progress, rest, taken, sink)?;
-        if !excess.is_empty() {
-            return Err(PartFault::BytesExceeded);
-        }
-        keep(progress, rest, left)
     }
 }

@@ -1,12 +1,12 @@
 -- Reading a part from a source: what the reader was fed so far, and what that comes to.
-use Rattle.std.proofs.Common.{◌≡◌, ℕ, Bool, true, false, ◌+◌, ◌-◌, ◌^◌, ◌<◌, ◌≤◌, min, List, [], ◌++◌, length, take, Option, Some, None, Result, Ok, Err, inl, inr, refl, sym, ap, subst, ◌∙◌, append-nil, arith}
-use Rattle.std.proofs.KnownBytes.{Consumes-nil, Consumes-trans, Consumes-kept}
-use Rattle.std.proofs.lemmas.List.{length-append}
-use Rattle.std.specs.Io.KnownBytes.{Keeps, Consumes, IsAtEnd}
+use Rattle.std.proofs.Common.{◌≡◌, ℕ, Bool, true, false, ◌+◌, ◌-◌, ◌<◌, List, [], ◌++◌, length, take, Option, Some, None, Result, Ok, Err, inl, inr, refl, sym, ap, subst, ◌∙◌, append-nil, arith}
+use Rattle.std.proofs.KnownBytes.{Consumes-nil, Consumes-trans}
+use Rattle.std.proofs.lemmas.List.{length-append, nil_from_length}
+use Rattle.std.specs.Io.KnownBytes.{Consumes, IsAtEnd}
 use Rattle.hprof_items.specs.declared.header.Header.{Header}
 use Rattle.hprof_items.specs.declared.health.Health.{Health}
 use Rattle.hprof_items.specs.declared.health.Health.TheVariants as healths
-use Rattle.hprof_values.specs.declared.reason.Reason.TheVariants.{BadMagic, BadIdSize, Truncated, BadLength, BadSubTag, PastEnd, BadType, Unsupported}
+use Rattle.hprof_values.specs.declared.reason.Reason.TheVariants.{BadMagic, BadIdSize, Truncated, BadLength, BadSubTag, PastEnd, BadType}
 use Rattle.hprof_items.specs.FactValue.{FactValue}
 use Rattle.hprof_stream.specs.declared.limits.Limits.{Limits}
 use Rattle.hprof_stream.specs.declared.part_fault.PartFault.{PartFault}
@@ -14,47 +14,59 @@ use Rattle.hprof_stream.specs.declared.part_fault.PartFault.TheVariants as fault
 use Rattle.hprof_stream.specs.declared.part_reader.PartReader.{PartReader}
 use Rattle.hprof_stream.specs.declared.sink.SinkFault.{SinkFault}
 use Rattle.hprof_stream.specs.declared.summary.PartSummary.{PartSummary}
-use Rattle.hprof_stream.specs.Part.{all_bytes, all_facts}
-use Rattle.hprof_stream.specs.Item.{Start, place_behind, header_before}
+use Rattle.hprof_stream.specs.Part.{Stated, all_bytes, all_facts}
+use Rattle.hprof_stream.specs.Item.{Place, Start, header_before, AreItems, none, more}
 use Rattle.hprof_stream.specs.Fault.{is_whole, is_settled, IsFirstFault, StatesSoFar}
+use Rattle.hprof_stream.specs.Progress.{place_of}
 use Rattle.hprof_stream.specs.Run.{Run}
-use Rattle.hprof_stream.specs.Reader.{header_of, header_count, HasRead, RanOver, RanUpTo, IsFeedFault, Feeds, Finishes, IsPull, Pulled, none, once_more, PulledOut, CameLast, IsJudged, RefusesAtLast, ReadsPart}
-use Rattle.hprof_stream.specs.Walking.{FeedsAll}
+use Rattle.hprof_stream.specs.Feeding.{FeedsAll}
+use Rattle.hprof_stream.specs.Reader.{header_of, HasRead, RanOver, RanUpTo, IsFeedFault, Feeds, Finishes, IsPull, Pulled, none, once_more, PulledOut, CameLast, IsJudged, RefusesAtLast, ReadsPart}
 use Rattle.hprof_stream.proofs.Runs.{Run-then}
-use Rattle.hprof_stream.proofs.Walks.{items_headers, items_size}
-use Rattle.hprof_stream.proofs.Faults.{short_unsettled, splits_once}
-use Rattle.hprof_stream.proofs.Feeding.{header_at_place}
+use Rattle.hprof_stream.proofs.Faults.{short_unsettled}
+use Rattle.hprof_stream.proofs.ItemLists.{items_headers, items_size, header_at_place, header_behind}
 use Rattle.hprof_stream.proofs.LastItems.{ends_behind}
 
 -- ---- what a reader knows of the facts
 
 -- where no header was read no fact was
-pub no_header_no_fact : (limits : Limits) (bytes : List ℕ) (facts : List FactValue) (reader : PartReader) → HasRead limits bytes facts reader → header_of reader ≡ None → facts ≡ []
+pub no_header_no_fact : (limits : Limits) (bytes : List ℕ) (facts : List FactValue) (reader : PartReader) → HasRead limits bytes facts reader
+    → header_of reader ≡ None → facts ≡ []
 no_header_no_fact limits bytes facts reader read bare =
-    sym read.has_facts ∙ ap all_facts ((items_headers limits.max_item None (header_of reader) read.items read.splits.each).0 bare).1
+    sym read.has_facts
+    ∙ ap all_facts ((items_headers limits.max_item None (header_of reader) 0 reader.progress.room read.items read.splits.each).0 bare).1
+
+-- no items lead nowhere else
+no_items_stay : (longest : ℕ) (from to : Place) (items : List Stated) → AreItems longest from items to → items ≡ [] → from ≡ to
+no_items_stay longest from to items none e = refl
+no_items_stay longest from to items (more first behind) e = absurd cc
 
 -- of no bytes no header was read
-pub no_bytes_no_header : (limits : Limits) (facts : List FactValue) (reader : PartReader) → HasRead limits [] facts reader → header_of reader ≡ None
-no_bytes_no_header limits facts reader read = by (header_of reader) refl
-  where
-    by : (header : Option Header) → header_of reader ≡ header → header_of reader ≡ None
-    by None e = e
-    by (Some header) e =
-        let one : header_count (header_of reader) ≡ 1 = ap header_count e in
-        let size = items_size limits.max_item Start (place_behind (header_of reader)) read.items read.splits.each in
-        absurd (omega (arith, one, read.record_count, size.0, ap length read.splits.parts, length-append (all_bytes read.items) reader.held.items))
+pub no_bytes_no_header : (limits : Limits) (facts : List FactValue) (reader : PartReader) → HasRead limits [] facts reader
+    → header_of reader ≡ None
+no_bytes_no_header limits facts reader read =
+    let place : Place = place_of reader.progress in
+    let size = items_size limits.max_item Start place read.items read.splits.each in
+    let nothing : read.items ≡ [] = nil_from_length read.items (omega (
+      arith,
+      size.0,
+      ap length read.splits.parts,
+      length-append (all_bytes read.items) read.unfinished,
+    )) in
+    sym (header_behind None (header_of reader) 0 reader.progress.room
+    (no_items_stay limits.max_item Start place read.items read.splits.each nothing))
 
 -- what a reader has read is what the bytes state so far
-pub StatesSoFar-read : (limits : Limits) (bytes : List ℕ) (facts : List FactValue) (reader : PartReader) → HasRead limits bytes facts reader → StatesSoFar limits.max_item bytes (header_of reader) facts
-StatesSoFar-read limits bytes facts reader read =
-    record { items = read.items; place = place_behind (header_of reader); rest = reader.held.items; splits = read.splits; ends = ap is_whole read.unfinished; has_header = header_at_place (header_of reader); has_facts = read.has_facts }
-
--- and that is one thing
-pub states_once : (longest : ℕ) (bytes : List ℕ) (header other : Option Header) (facts others : List FactValue) → StatesSoFar longest bytes header facts → StatesSoFar longest bytes other others
-    → (header ≡ other) × (facts ≡ others)
-states_once longest bytes header other facts others one two =
-    let once = splits_once longest bytes one.items two.items one.place two.place one.rest two.rest one.splits two.splits one.ends two.ends in
-    (sym one.has_header ∙ ap header_before once.1 ∙ two.has_header, sym one.has_facts ∙ ap all_facts once.0 ∙ two.has_facts)
+pub StatesSoFar-read : (limits : Limits) (bytes : List ℕ) (facts : List FactValue) (reader : PartReader) → HasRead limits bytes facts reader
+    → StatesSoFar limits.max_item bytes (header_of reader) facts
+StatesSoFar-read limits bytes facts reader read = record {
+  items = read.items;
+  place = place_of reader.progress;
+  rest = read.unfinished;
+  splits = read.splits;
+  ends = ap is_whole read.keeps.short;
+  has_header = header_at_place (header_of reader) reader.progress.room;
+  has_facts = read.has_facts;
+}
 
 -- ---- runs from where reading began
 
@@ -76,7 +88,7 @@ module _ {S : Type 0} (begins : S → Header → S → Type 0) (steps : S → Fa
     stays = λ header e. absurd cc;
     handed = facts ++ over.handed;
     has_facts = over.has_facts;
-    ran = Run-then begins steps old mid new None before over.whole.header facts over.handed (λ e. (refl, bare e)) over.stays first over.ran;
+    ran = Run-then begins steps old mid new None before (header_before over.whole.before) facts over.handed (λ e. (refl, bare e)) over.stays first over.ran;
   }
 
   -- what a reader has read, the sink ran over
@@ -123,7 +135,7 @@ module _ {S : Type 0} (begins : S → Header → S → Type 0) (steps : S → Fa
       → IsJudged begins steps refuses failed limits bytes old new
   IsJudged-read limits bytes facts reader old new read ran = (
     read.within,
-    short_unsettled limits.max_item bytes read.items (place_behind (header_of reader)) reader.held.items read.splits read.unfinished,
+    short_unsettled limits.max_item bytes read.items (place_of reader.progress) read.unfinished read.splits read.keeps.short,
     (header_of reader, RanOver-read begins steps limits bytes facts reader old new read ran),
   )
 
@@ -148,7 +160,7 @@ module _ {R : Type 0} (left : R → Option (List ℕ)) (pulls : R → ℕ) where
     last = last;
     some = some;
     within = read.within;
-    unsettled = short_unsettled limits.max_item bytes read.items (place_behind (header_of reader)) reader.held.items read.splits read.unfinished;
+    unsettled = short_unsettled limits.max_item bytes read.items (place_of reader.progress) read.unfinished read.splits read.keeps.short;
   }
 
 -- the faults that judging what came gives
@@ -203,7 +215,6 @@ module _ {R : Type 0} (left : R → Option (List ℕ)) (health : R → Health) (
   ReadsPart-fed limits was came is header old new (faults.Malformed at BadSubTag) judged last well why = (last, well, (header, why))
   ReadsPart-fed limits was came is header old new (faults.Malformed at PastEnd) judged last well why = (last, well, (header, why))
   ReadsPart-fed limits was came is header old new (faults.Malformed at BadType) judged last well why = (last, well, (header, why))
-  ReadsPart-fed limits was came is header old new (faults.Malformed at Unsupported) judged last well why = (last, well, (header, why))
   ReadsPart-fed limits was came is header old new (faults.ItemTooLong at) judged last well why = (last, well, (header, why))
   ReadsPart-fed limits was came is header old new faults.OutOfMemory judged last well why = absurd why
   ReadsPart-fed limits was came is header old new (faults.Sink fault) judged last well why = absurd cc
@@ -305,7 +316,6 @@ module _ {R : Type 0} (left : R → Option (List ℕ)) (health : R → Health) (
   ReadsPart-cut limits was came is reader facts old new (faults.Malformed at BadSubTag) out end well read ran first unsettled = absurd cc
   ReadsPart-cut limits was came is reader facts old new (faults.Malformed at PastEnd) out end well read ran first unsettled = absurd cc
   ReadsPart-cut limits was came is reader facts old new (faults.Malformed at BadType) out end well read ran first unsettled = absurd cc
-  ReadsPart-cut limits was came is reader facts old new (faults.Malformed at Unsupported) out end well read ran first unsettled = absurd cc
   ReadsPart-cut limits was came is reader facts old new (faults.ItemTooLong at) out end well read ran first unsettled = absurd cc
   ReadsPart-cut limits was came is reader facts old new faults.OutOfMemory out end well read ran first unsettled = absurd cc
   ReadsPart-cut limits was came is reader facts old new (faults.Sink fault) out end well read ran first unsettled = absurd cc

@@ -1,9 +1,8 @@
-use Rattle.std.proofs.Common.{◌≡◌, ◌<◌, ◌≤◌, [], ℕ, length, take, subst, ap, arith}
+use Rattle.std.proofs.Common.{◌<◌, ◌≤◌, [], ℕ, length, take, subst, arith}
 use Rattle.std.proofs.KnownBytes.{Consumes-nil, Consumes-kept}
 use Rattle.std.proofs.lemmas.List.{length-take-le}
 use Rattle.std.proofs.lemmas.Result.{err_from_is_err_and}
 use Rattle.std.specs.Io.KnownBytes.{Consumes}
-use Rattle.hprof_stream.specs.Reader.{IsPull}
 use Rattle.hprof_stream.proofs.Sources.{no_bytes_no_header, HasFed-none, HasFed-more, HasFed-fault, HasFed-end, HasFed-failed, HasFed-spent}
 use Rattle.hprof_stream.proofs.reading.feed_all.Goals as goal
 

@@ -1,5 +1,5 @@
 -- Where items end that were read behind others.
-use Rattle.std.proofs.Common.{◌≡◌, ◌⊎◌, ℕ, ◌+◌, ◌-◌, ◌<◌, ◌≤◌, inl, inr, List, [], ◌∷◌, ◌++◌, length, take, drop, Option, Some, None, refl, sym, ap, subst, ◌∙◌, append_assoc, append-nil, arith}
+use Rattle.std.proofs.Common.{◌≡◌, ◌⊎◌, ℕ, ◌+◌, ◌-◌, ◌<◌, inl, inr, List, [], ◌∷◌, ◌++◌, length, take, drop, Option, Some, None, refl, sym, ap, subst, ◌∙◌, append_assoc, append-nil, arith}
 use Rattle.std.proofs.Math.Seq.{take-append_seam}
 use Rattle.std.proofs.lemmas.Bool.{cases_lt}
 use Rattle.std.proofs.lemmas.List.{length-append, take-append-drop, take-append-le, nil_from_length}
@@ -10,10 +10,11 @@ use Rattle.hprof_items.specs.FactValue.{FactValue}
 use Rattle.hprof_stream.specs.declared.limits.Limits.{Limits}
 use Rattle.hprof_stream.specs.declared.part_reader.PartReader.{PartReader}
 use Rattle.hprof_stream.specs.Part.{Stated, all_bytes, all_facts}
-use Rattle.hprof_stream.specs.Item.{Place, Start, Found, place_behind, IsItem, AreItems, none, more, item_at}
+use Rattle.hprof_stream.specs.Item.{Place, Start, Found, header_before, IsItem, AreItems, none, more, item_at}
+use Rattle.hprof_stream.specs.Progress.{place_of}
 use Rattle.hprof_stream.specs.Reader.{header_of, HasRead, RanUpTo, whole_len}
 use Rattle.hprof_stream.proofs.Items.{item_again}
-use Rattle.hprof_stream.proofs.Walks.{AreItems-then, all_bytes-then, all_facts-then, items_headers}
+use Rattle.hprof_stream.proofs.ItemLists.{AreItems-then, all_bytes-then, all_facts-then, items_headers}
 use Rattle.hprof_stream.proofs.Faults.{item_once}
 use Rattle.hprof_stream.proofs.Feeding.{taken_is}
 
@@ -57,37 +58,57 @@ among_ends : (facts handed last others : List FactValue) → facts ≡ ((facts +
 among_ends facts handed last others e =
     nil_from_length last (omega (arith, ap length e, length-append ((facts ++ handed) ++ last) others, length-append (facts ++ handed) last, length-append facts handed))
 
-module _ {S : Type 0} (begins : S → Header → S → Type 0) (steps : S → FactValue → S → Type 0) where
-  -- an item that the sink was given while a piece was fed ends behind what was fed before
-  pub ends_behind : (limits : Limits) (bytes : List ℕ) (facts : List FactValue) (reader : PartReader) (piece : List ℕ) (told : Option Header) (old new : S) → HasRead limits bytes facts reader
-      → (ran : RanUpTo begins steps limits.max_item (take limits.max_bytes (bytes ++ piece)) facts (header_of reader) told old new) → length bytes < whole_len ran.whole
-  ends_behind limits bytes facts reader piece told old new read ran =
+module _ {S : Type 0} (begins : S → Header → S → Type 0) (steps : S → FactValue → S → Type 0) (limits : Limits) (bytes : List ℕ)
+    (facts : List FactValue) (reader : PartReader) (piece : List ℕ) (told : Option Header) (old new : S)
+    (read : HasRead limits bytes facts reader)
+    (ran : RanUpTo begins steps limits.max_item (take limits.max_bytes (bytes ++ piece)) facts (header_of reader) told old new) where
+  -- the item that the sink was given is not among those that were read before
+  header_stays : (before : Option Header) → before ≡ header_of reader → header_before ran.whole.before ≡ None → (read.items ≡ [] → ⊥) → ⊥
+  header_stays None e bare some =
+      some ((items_headers limits.max_item None (header_of reader) 0 reader.progress.room read.items read.splits.each).0 (sym e)).1
+  header_stays (Some header) e bare some = let kept : header_before ran.whole.before ≡ Some header = ran.stays header (sym e) in cc
+
+  not_among : (behind : List Stated) → read.items ≡ (ran.whole.items ++ ran.whole.last ∷ []) ++ behind → ⊥
+  not_among behind e =
       let whole = ran.whole in
+      let one : all_facts (whole.last ∷ []) ≡ whole.last.facts = append-nil whole.last.facts in
+      let stated : facts ≡ ((facts ++ ran.handed) ++ whole.last.facts) ++ all_facts behind =
+      sym read.has_facts ∙ ap all_facts e ∙ all_facts-then (whole.items ++ whole.last ∷ []) behind
+      ∙ ap (λ (f : List FactValue). f ++ all_facts behind)
+      (all_facts-then whole.items (whole.last ∷ []) ∙ ap (λ (f : List FactValue). all_facts whole.items ++ f) one
+      ∙ ap (λ (f : List FactValue). f ++ whole.last.facts) ran.has_facts) in
+      let bare : header_before whole.before ≡ None = whole.given (among_ends facts ran.handed whole.last.facts (all_facts behind) stated) in
+      let some : read.items ≡ [] → ⊥ = λ nothing.
+      omega (
+        arith,
+        ap length (sym nothing ∙ e),
+        length-append (whole.items ++ whole.last ∷ []) behind,
+        length-append whole.items (whole.last ∷ []),
+      ) in
+      header_stays (header_of reader) refl bare some
+
+  -- an item that the sink was given while a piece was fed ends behind what was fed before
+  pub ends_behind : length bytes < whole_len ran.whole
+  ends_behind =
+      let whole = ran.whole in
+      let place : Place = place_of reader.progress in
       let others : List Stated = whole.items ++ whole.last ∷ [] in
-      let are = AreItems-then limits.max_item Start (place_behind whole.header) (place_behind told) whole.items (whole.last ∷ []) whole.each (more whole.item none) in
+      let are = AreItems-then limits.max_item Start whole.before whole.next whole.items (whole.last ∷ []) whole.each (more whole.item none) in
       let taken : List ℕ = take (limits.max_bytes - length bytes) piece in
       let one : all_bytes (whole.last ∷ []) ≡ whole.last.bytes = append-nil whole.last.bytes in
-      let all : all_bytes others ≡ all_bytes whole.items ++ whole.last.bytes = all_bytes-then whole.items (whole.last ∷ []) ∙ ap (λ (b : List ℕ). all_bytes whole.items ++ b) one in
-      let parts : (all_bytes read.items ++ reader.held.items) ++ taken ≡ all_bytes others ++ whole.back =
+      let all : all_bytes others ≡ all_bytes whole.items ++ whole.last.bytes =
+      all_bytes-then whole.items (whole.last ∷ []) ∙ ap (λ (b : List ℕ). all_bytes whole.items ++ b) one in
+      let parts : (all_bytes read.items ++ read.unfinished) ++ taken ≡ all_bytes others ++ whole.back =
       ap (λ (b : List ℕ). b ++ taken) (sym read.splits.parts) ∙ sym (taken_is limits.max_bytes bytes piece read.within) ∙ whole.parts
       ∙ sym (append_assoc (all_bytes whole.items) whole.last.bytes whole.back) ∙ ap (λ (b : List ℕ). b ++ whole.back) (sym all) in
-      elim (reach_or_among limits.max_item Start (place_behind (header_of reader)) (place_behind told) read.items others reader.held.items taken whole.back read.splits.each read.unfinished are parts) [
-        | inl beyond ↦ omega (arith, beyond, ap length read.splits.parts, ap length all, length-append (all_bytes whole.items) whole.last.bytes)
+      elim (reach_or_among limits.max_item Start place whole.next read.items others read.unfinished taken whole.back read.splits.each
+      read.keeps.short are parts) [
+        | inl beyond ↦ omega (
+          arith,
+          beyond,
+          ap length read.splits.parts,
+          ap length all,
+          length-append (all_bytes whole.items) whole.last.bytes,
+        )
         | inr among ↦ absurd (not_among among.0 among.1)
       ]
-    where
-      header_stays : (before : Option Header) → before ≡ header_of reader → ran.whole.header ≡ None → (read.items ≡ [] → ⊥) → ⊥
-      header_stays None e bare some = some ((items_headers limits.max_item None (header_of reader) read.items read.splits.each).0 (sym e)).1
-      header_stays (Some header) e bare some = let kept : ran.whole.header ≡ Some header = ran.stays header (sym e) in cc
-
-      not_among : (behind : List Stated) → read.items ≡ (ran.whole.items ++ ran.whole.last ∷ []) ++ behind → ⊥
-      not_among behind e =
-          let whole = ran.whole in
-          let one : all_facts (whole.last ∷ []) ≡ whole.last.facts = append-nil whole.last.facts in
-          let stated : facts ≡ ((facts ++ ran.handed) ++ whole.last.facts) ++ all_facts behind =
-          sym read.has_facts ∙ ap all_facts e ∙ all_facts-then (whole.items ++ whole.last ∷ []) behind
-          ∙ ap (λ (f : List FactValue). f ++ all_facts behind) (all_facts-then whole.items (whole.last ∷ []) ∙ ap (λ (f : List FactValue). all_facts whole.items ++ f) one
-          ∙ ap (λ (f : List FactValue). f ++ whole.last.facts) ran.has_facts) in
-          let bare : whole.header ≡ None = whole.given (among_ends facts ran.handed whole.last.facts (all_facts behind) stated) in
-          let some : read.items ≡ [] → ⊥ = λ none. omega (arith, ap length (sym none ∙ e), length-append (whole.items ++ whole.last ∷ []) behind, length-append whole.items (whole.last ∷ [])) in
-          header_stays (header_of reader) refl bare some
