@@ -85,20 +85,24 @@ none_left P new e = rw e tt
 
 -- ---- order
 
--- what holds of each fact holds of those that pass a test
-all_passed : (P : FactValue → Type 0) (p : FactValue → Bool) (facts : List FactValue) → AllByRecursion P facts → AllByRecursion P (filter p facts)
-all_passed P p [] all = tt
-all_passed P p (fact ∷ facts) all = by_test (p fact)
-  where
-    by_test : (t : Bool) → AllByRecursion P (cond t (fact ∷ filter p facts) (filter p facts))
-    by_test true = (all.0, all_passed P p facts all.1)
-    by_test false = all_passed P p facts all.1
+module _ (p : FactValue → Bool) where
+  -- what holds of each fact holds of those that pass a test
+  all_step : (P : FactValue → Type 0) (t : Bool) (fact : FactValue) (passed : List FactValue) → P fact → AllByRecursion P passed
+      → AllByRecursion P (cond t (fact ∷ passed) passed)
+  all_step P true fact passed first all = (first, all)
+  all_step P false fact passed first all = all
 
--- facts that pass a test stand in the order of all
-pub passed_ordered : (p : FactValue → Bool) (facts : List FactValue) → IsCanonicalOrder facts → IsCanonicalOrder (filter p facts)
-passed_ordered p [] ordered = tt
-passed_ordered p (fact ∷ facts) ordered = by_test (p fact)
-  where
-    by_test : (t : Bool) → IsCanonicalOrder (cond t (fact ∷ filter p facts) (filter p facts))
-    by_test true = (all_passed (IsBefore fact) p facts ordered.0, passed_ordered p facts ordered.1)
-    by_test false = passed_ordered p facts ordered.1
+  all_passed : (P : FactValue → Type 0) (facts : List FactValue) → AllByRecursion P facts → AllByRecursion P (filter p facts)
+  all_passed P [] all = tt
+  all_passed P (fact ∷ facts) all = all_step P (p fact) fact (filter p facts) all.0 (all_passed P facts all.1)
+
+  -- facts that pass a test stand in the order of all
+  ordered_step : (t : Bool) (fact : FactValue) (passed : List FactValue) → AllByRecursion (IsBefore fact) passed → IsCanonicalOrder passed
+      → IsCanonicalOrder (cond t (fact ∷ passed) passed)
+  ordered_step true fact passed before ordered = (before, ordered)
+  ordered_step false fact passed before ordered = ordered
+
+  pub passed_ordered : (facts : List FactValue) → IsCanonicalOrder facts → IsCanonicalOrder (filter p facts)
+  passed_ordered [] ordered = tt
+  passed_ordered (fact ∷ facts) ordered =
+      ordered_step (p fact) fact (filter p facts) (all_passed (IsBefore fact) facts ordered.0) (passed_ordered facts ordered.1)
