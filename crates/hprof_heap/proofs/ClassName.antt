@@ -1,13 +1,13 @@
 -- The name of a class: going over the loads, the first of the class is the one of least serial.
-use Rattle.std.proofs.Common.{◌≡◌, ◌≢◌, ℕ, ◌<◌, ◌≤◌, ◌↔◌, Bool, true, false, cond, List, [], ◌∷◌, Option, Some, None, refl, sym, ap, subst, ◌∙◌, ◌⊎◌, inl, inr, arith}
+use Rattle.std.proofs.Common.{◌≡◌, ◌≢◌, ℕ, ◌<◌, Bool, true, false, cond, List, [], ◌∷◌, Option, Some, None, refl, sym, ap, subst, ◌⊎◌, inl, inr, arith}
 use Rattle.std.specs.Prelude.{slice_index}
 use Rattle.std.specs.List.{filter}
 use Rattle.hprof_items.specs.FactValue.{FactValue, Load}
 use Rattle.hprof_heap.specs.declared.number_rows.LoadRow.{LoadRow}
 use Rattle.hprof_heap.specs.declared.table.Table.TheVariants as tables
-use Rattle.hprof_heap.specs.ClassName.{IsNamedFirst, NamesClass}
+use Rattle.hprof_heap.specs.ClassName.{NamesClass}
 use Rattle.hprof_heap.specs.Facts.{Has}
-use Rattle.hprof_heap.specs.Heap.{facts_of_table, stands_in}
+use Rattle.hprof_heap.specs.Heap.{stands_in}
 use Rattle.hprof_heap.specs.HeapRows.{HeapRows, AreHeap, heap_of_rows, load_facts, tables_of}
 use Rattle.hprof_heap.specs.Order.{place_of}
 use Rattle.hprof_heap.specs.SortedRows.{IsAscending}
