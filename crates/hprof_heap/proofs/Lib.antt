@@ -16,3 +16,5 @@ pub mod NumberRows
 pub mod Steady
 pub mod Gathering
 pub mod Packing
+pub mod DumpOrder
+pub mod Dump
