@@ -10,6 +10,7 @@ pub mod Stating
 pub mod RowFacts
 pub mod Tables
 pub mod HeapRows
+pub mod TableRows
 pub mod Roots
 pub mod Differences
 pub mod NumberRows

@@ -5,6 +5,7 @@
 mod appending;
 mod comparing;
 mod content;
+mod facts;
 mod gatherer;
 mod heap;
 mod key;
@@ -18,9 +19,11 @@ mod sorted_table;
 mod spelled_row;
 mod standing;
 mod table;
+mod table_rows;
 mod trace_row;
 
 pub use content::{Content, Statement};
+pub use facts::Facts;
 pub use gatherer::Gatherer;
 pub use heap::Heap;
 pub use key::Key;
