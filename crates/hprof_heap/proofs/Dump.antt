@@ -17,12 +17,12 @@ use Rattle.hprof_items.specs.Spelling.{Fits, FitsAs, spelling, spelled_as, longe
 use Rattle.hprof_items.specs.SubRecord.{dump_bytes}
 use Rattle.hprof_stream.specs.Record.{IsRecord, IsFactRecord, IsSubFact, IsDumpRecord, states, ends, dumps}
 use Rattle.hprof_stream.specs.Part.{Stated, all_bytes, all_facts, IsPart}
-use Rattle.hprof_heap.specs.Dump.{canonical_dump, is_record_fact, most_in_segment, segments_of, segment_bytes, record_facts_bytes, sub_facts_bytes}
+use Rattle.hprof_heap.specs.Dump.{canonical_dump, is_record_fact, is_sub_fact, most_in_segment, segments_of, segment_bytes, record_facts_bytes, sub_facts_bytes}
 use Rattle.hprof_heap.specs.Facts.{Has, AllFit}
 use Rattle.hprof_heap.specs.HeapValue.{IsHeap}
 use Rattle.hprof_heap.specs.Order.{IsCanonicalOrder}
 use Rattle.hprof_heap.specs.Segments.{IsSegment, IsPacked}
-use Rattle.hprof_heap.proofs.DumpOrder.{is_sub_fact, parts_in_order}
+use Rattle.hprof_heap.proofs.DumpOrder.{parts_in_order}
 use Rattle.hprof_heap.proofs.FactSets.{All-from_has}
 use Rattle.hprof_heap.proofs.Packing.{packed_is}
 

@@ -23,6 +23,8 @@ pub mod Heap
 pub mod Rows
 pub mod TableRows
 pub mod FactsLeft
+pub mod SubRow
+pub mod SubRows
 pub mod ClassName
 pub mod Steady
 pub mod Gathering

@@ -71,7 +71,7 @@ facts_in_rows ids (tables.Objects rows) = spelled_facts ids (rows_left rows)
 
 -- ---- there is at most one proof that they can be read back
 
-all-prop : {A : Type 0} (P : A → Type 0) → ((a : A) → IsProp (P a)) → (rows : List A) → IsProp (AllByRecursion P rows)
+pub all-prop : {A : Type 0} (P : A → Type 0) → ((a : A) → IsProp (P a)) → (rows : List A) → IsProp (AllByRecursion P rows)
 all-prop P each [] = Unit-prop
 all-prop P each (row ∷ rows) = ×_prop (each row) (all-prop P each rows)
 
@@ -84,6 +84,9 @@ IsWhole-prop ids row = hlevel (props, le_prop)
 IsSpelled-prop : (ids : IdSize) (row : ℕ × SpelledRow) → IsProp (IsSpelled ids row)
 IsSpelled-prop ids row = hlevel (props, le_prop, DumpFits-prop)
 
+pub AreSpelled-prop : (ids : IdSize) (rows : List (ℕ × SpelledRow)) → IsProp (AreSpelled ids rows)
+AreSpelled-prop ids rows = all-prop (IsSpelled ids) (IsSpelled-prop ids) rows
+
 pub AreReadable-prop : (ids : IdSize) (rows : TableRows) → IsProp (AreReadable ids rows)
 AreReadable-prop ids (tables.Names rows) = Unit-prop
 AreReadable-prop ids (tables.Loads rows) = AreSerials-prop (rows_left rows)
@@ -93,5 +96,5 @@ AreReadable-prop ids (tables.Traces rows) = all-prop (IsWhole ids) (IsWhole-prop
 AreReadable-prop ids (tables.Starts rows) = AreSerials-prop (rows_left rows)
 AreReadable-prop ids (tables.Ends rows) = AreSerials-prop (rows_left rows)
 AreReadable-prop ids (tables.Roots roots) = Unit-prop
-AreReadable-prop ids (tables.Classes rows) = all-prop (IsSpelled ids) (IsSpelled-prop ids) (rows_left rows)
-AreReadable-prop ids (tables.Objects rows) = all-prop (IsSpelled ids) (IsSpelled-prop ids) (rows_left rows)
+AreReadable-prop ids (tables.Classes rows) = AreSpelled-prop ids (rows_left rows)
+AreReadable-prop ids (tables.Objects rows) = AreSpelled-prop ids (rows_left rows)

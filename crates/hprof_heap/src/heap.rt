@@ -19,6 +19,7 @@ use crate::number_rows::{FrameRow, KeyRow, LoadRow, StartRow};
 use crate::relation::{Relation, Stated};
 use crate::root_set::RootSet;
 use crate::spelled_row::{SpelledFact, SpelledRow};
+use crate::sub_rows::SubRows;
 use crate::table::Table;
 use crate::table_rows::TableRows;
 use crate::trace_row::{TraceFrames, TraceRow};
@@ -62,6 +63,8 @@ impl Heap {
     ghost use Rattle.hprof_heap.specs.Gathering.{StatesInto};
     ghost use Rattle.hprof_heap.specs.TableRows.{AreReadable, facts_in_rows};
     ghost use Rattle.hprof_heap.specs.FactsLeft.{facts_left, facts_ids};
+    ghost use Rattle.hprof_heap.specs.Dump.{sub_facts};
+    ghost use Rattle.hprof_heap.specs.SubRows.{subs_left, subs_ids};
 
     /// A heap without facts. It takes no memory yet.
     pub(crate) fn new(alloc: Global, ids: IdSize, millis: u64) -> Self
@@ -363,6 +366,19 @@ impl Heap {
         ensures ids { facts_ids result ≡ (heap_of self.now).ids }
     {
         Facts::new(self.ids, self.table_rows(table))
+    }
+
+    /// The sub-records, in canonical order, as they are kept.
+    pub(crate) fn sub_rows(&self) -> SubRows<'_>
+        ensures all { subs_left result ≡ sub_facts (heap_of self.now).facts }
+        ensures ids { subs_ids result ≡ (heap_of self.now).ids }
+    {
+        SubRows::new(
+            self.ids,
+            self.roots.iter(),
+            self.classes.rows(),
+            self.objects.rows(),
+        )
     }
 
     /// The number of facts in a table.

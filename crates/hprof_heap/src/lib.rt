@@ -3,6 +3,7 @@
 #![tactic(auto)]
 
 mod appending;
+mod canonical;
 mod comparing;
 mod content;
 mod facts;
@@ -15,13 +16,17 @@ mod number_rows;
 mod relation;
 mod root_set;
 mod rows;
+mod segments;
 mod sorted_table;
 mod spelled_row;
 mod standing;
+mod sub_row;
+mod sub_rows;
 mod table;
 mod table_rows;
 mod trace_row;
 
+pub use canonical::write_canonical;
 pub use content::{Content, Statement};
 pub use facts::Facts;
 pub use gatherer::Gatherer;
