@@ -14,7 +14,7 @@ use Rattle.hprof_heap.proofs.Order.{is_before}
 use Rattle.hprof_heap.proofs.Tables.{IsOf, later, filter_none, all_weaker}
 
 -- the first seven tables are those of records
-by_place : (fact : FactValue) → is_record_fact fact ≡ nat_lt (slice_index (place_of fact) 0) 7
+pub by_place : (fact : FactValue) → is_record_fact fact ≡ nat_lt (slice_index (place_of fact) 0) 7
 by_place (Name id text) = refl
 by_place fact = refl
 

@@ -19,3 +19,4 @@ pub mod Gathering
 pub mod Packing
 pub mod DumpOrder
 pub mod Dump
+pub mod DumpTables

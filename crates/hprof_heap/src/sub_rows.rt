@@ -32,7 +32,7 @@ impl<'a> SubRows<'a> {
         classes: Rows<'a, SpelledRow>,
         objects: Rows<'a, SpelledRow>,
     ) -> Self
-        requires { AreWritable ids roots.entry (rows_left classes.entry) (rows_left objects.entry) }
+        requires { AreWritable ids roots (rows_left classes) (rows_left objects) }
         ensures all { subs_left result ≡ facts_of_subs ids roots.entry (rows_left classes.entry) (rows_left objects.entry) }
         ensures ids { subs_ids result ≡ ids }
     {
