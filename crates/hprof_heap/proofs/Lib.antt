@@ -20,3 +20,5 @@ pub mod Packing
 pub mod DumpOrder
 pub mod Dump
 pub mod DumpTables
+pub mod Writing
+pub mod Counting
