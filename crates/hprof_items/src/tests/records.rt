@@ -11,7 +11,7 @@ fn fact_in<'a>(bytes: &'a [u8], ids: IdSize) -> Option<Result<Fact<'a>, Reason>>
     if body.len() != head.length as usize {
         return None;
     }
-    Some(read_record(tag, body, ids))
+    Some(read_body(tag, body, ids))
 }
 
 #[test]
