@@ -1,5 +1,5 @@
 -- Counting a segment by a walk over sub-records.
-use Rattle.std.proofs.Common.{◌≡◌, ℕ, suc, ◌+◌, ◌<◌, ◌≤◌, Bool, true, false, cond, leb, List, [], ◌∷◌, ◌++◌, length, take, drop, refl, sym, ap, subst, ◌∙◌, append_assoc, append-nil, arith}
+use Rattle.std.proofs.Common.{◌≡◌, ℕ, suc, ◌+◌, ◌<◌, ◌≤◌, Bool, true, false, cond, leb, List, [], ◌∷◌, ◌++◌, length, take, drop, Option, Some, None, refl, sym, ap, subst, ◌∙◌, append_assoc, append-nil, arith}
 use Rattle.std.specs.Prelude.{sum_by}
 use Rattle.std.proofs.Math.Seq.{take-append_seam, drop-append_seam}
 use Rattle.std.specs.List.{flat_map}
@@ -11,9 +11,12 @@ use Rattle.hprof_values.specs.declared.ids.IdSize.{IdSize}
 use Rattle.hprof_items.specs.FactValue.{FactValue}
 use Rattle.hprof_items.specs.Spelling.{longest_body}
 use Rattle.hprof_items.specs.SubRecord.{dump_bytes}
+use Rattle.hprof_heap.specs.declared.sub_row.SubRow.{SubRow}
+use Rattle.hprof_heap.specs.declared.sub_rows.SubRows.{SubRows}
 use Rattle.hprof_heap.specs.Dump.{segments_of, most_in_segment}
 use Rattle.hprof_heap.specs.Segments.{packed_behind}
-use Rattle.hprof_heap.specs.SubRows.{IsCounted}
+use Rattle.hprof_heap.specs.SubRow.{sub_fact}
+use Rattle.hprof_heap.specs.SubRows.{IsCounted, YieldsSub, subs_ids, subs_left, with_taken}
 
 abbrev size_of : IdSize → FactValue → ℕ
 size_of ids fact = length (dump_bytes ids fact)
@@ -89,12 +92,34 @@ Counts-all ids subs count len c = counted ids subs count len [] c c.behind
 -- ---- a segment that was counted
 
 -- it is what stands at the front
-pub counted-take : (ids : IdSize) (subs rest : List FactValue) (count len : ℕ) → (c : IsCounted ids subs count len rest) → take count subs ≡ c.segment
+counted-take : (ids : IdSize) (subs rest : List FactValue) (count len : ℕ) → (c : IsCounted ids subs count len rest) → take count subs ≡ c.segment
 counted-take ids subs rest count len c = rw (c.has_count, c.parts) (take-append_seam c.segment rest)
 
 pub counted-drop : (ids : IdSize) (subs rest : List FactValue) (count len : ℕ) → IsCounted ids subs count len rest → drop count subs ≡ rest
 counted-drop ids subs rest count len c = rw (c.has_count, c.parts) (drop-append_seam c.segment rest)
 
+pub counted-first : (ids : IdSize) (subs rest : List FactValue) (count len : ℕ) → IsCounted ids subs count len rest → segments_of ids subs ≡ take count subs ∷ segments_of ids rest
+counted-first ids subs rest count len c = c.first ∙ ap (λ (segment : List FactValue). segment ∷ segments_of ids rest) (sym (counted-take ids subs rest count len c))
+
+pub counted-len : (ids : IdSize) (subs rest : List FactValue) (count len : ℕ) → IsCounted ids subs count len rest → len ≡ length (flat_map (dump_bytes ids) (take count subs))
+counted-len ids subs rest count len c =
+    c.has_len ∙ ap (λ (segment : List FactValue). length (flat_map (dump_bytes ids) segment)) (sym (counted-take ids subs rest count len c))
+
 -- fewer are left behind it
 pub counted-fewer : (ids : IdSize) (subs rest : List FactValue) (count len : ℕ) → IsCounted ids subs count len rest → length rest < length subs
 counted-fewer ids subs rest count len c = omega (arith, c.has_count, c.some, ap length c.parts, length-append c.segment rest)
+
+-- ---- the walk ahead
+
+-- the first that was taken, and those behind it, are all
+pub taken_all : (old : SubRows) (taken : Option SubRow) (new : SubRows) → YieldsSub old taken new → with_taken (subs_ids old) taken (subs_left new) ≡ subs_left old
+taken_all old None new yields = sym yields.first.0
+taken_all old (Some row) new yields = sym yields.first
+
+-- a segment was counted of what is left to write
+pub counted_left : (walked ids : IdSize) (taken : Option SubRow) (first : SubRow) (next : Option SubRow) (ahead left after : List FactValue) (count len : ℕ)
+    → taken ≡ Some first → walked ≡ ids → with_taken ids taken ahead ≡ left → IsCounted walked (sub_fact walked first ∷ ahead) count len (with_taken walked next after)
+    → IsCounted ids left count len (with_taken ids next after)
+counted_left walked ids taken first next ahead left after count len is same pending c =
+    subst (λ (subs : List FactValue). IsCounted ids subs count len (with_taken ids next after)) (subst (λ (t : Option SubRow). with_taken ids t ahead ≡ left) is pending)
+    (subst (λ (i : IdSize). IsCounted i (sub_fact i first ∷ ahead) count len (with_taken i next after)) same c)
