@@ -11,6 +11,7 @@ pub mod RowFacts
 pub mod Tables
 pub mod HeapRows
 pub mod TableRows
+pub mod ClassName
 pub mod Roots
 pub mod Differences
 pub mod NumberRows

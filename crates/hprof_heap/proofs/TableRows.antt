@@ -1,14 +1,9 @@
 -- The rows of a heap's tables can be read back, and stay so while they are gone over; the facts of a table stand in order.
-use Rattle.std.proofs.Common.{◌≡◌, ℕ, zero, suc, ◌<◌, ◌^◌, Bool, true, false, cond, List, [], ◌∷◌, Option, Some, refl, sym, ap, subst, inl, inr, arith}
+use Rattle.std.proofs.Common.{◌≡◌, ℕ, zero, suc, Bool, true, false, cond, List, [], ◌∷◌, refl, subst, inl, inr, arith}
 use Rattle.std.specs.List.{AllByRecursion, filter}
 use Rattle.hprof_values.specs.declared.ids.IdSize.{IdSize}
-use Rattle.hprof_items.specs.FactValue.{FactValue, Name, Load, Unload, Frame, Trace, Start, End}
+use Rattle.hprof_items.specs.FactValue.{FactValue}
 use Rattle.hprof_items.specs.Spelling.{Fits}
-use Rattle.hprof_heap.specs.declared.number_rows.LoadRow.{LoadRow}
-use Rattle.hprof_heap.specs.declared.number_rows.StartRow.{StartRow}
-use Rattle.hprof_heap.specs.declared.number_rows.KeyRow.{KeyRow}
-use Rattle.hprof_heap.specs.declared.spelled_row.SpelledRow.{SpelledRow}
-use Rattle.hprof_heap.specs.declared.trace_row.TraceRow.{TraceRow}
 use Rattle.hprof_heap.specs.Content.{facts_of_rows, load_fact, unload_fact, trace_fact, start_fact, end_fact, spelled_fact, IsRight, AreRight}
 use Rattle.hprof_heap.specs.Facts.{Has, AllFit}
 use Rattle.hprof_heap.specs.HeapRows.{HeapRows, AreHeap, tables_of, no_content}

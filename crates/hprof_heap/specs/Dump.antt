@@ -1,5 +1,5 @@
 -- The canonical dump.
-use Rattle.std.specs.Prelude.{ℕ, Bool, not, List, ◌++◌, length, map, is_some}
+use Rattle.std.specs.Prelude.{ℕ, Bool, not, List, ◌++◌, length, is_some}
 use Rattle.std.specs.List.{filter, flat_map}
 use Rattle.hprof_values.specs.declared.ids.IdSize.{IdSize}
 use Rattle.hprof_items.specs.declared.header.Version.TheVariants.{V102}

@@ -62,6 +62,7 @@ impl Heap {
     ghost use Rattle.hprof_heap.specs.Heap.{heap_of, facts_of_table};
     ghost use Rattle.hprof_heap.specs.Gathering.{StatesInto};
     ghost use Rattle.hprof_heap.specs.TableRows.{AreReadable, facts_in_rows};
+    ghost use Rattle.hprof_heap.specs.ClassName.{NamesClass};
     ghost use Rattle.hprof_heap.specs.FactsLeft.{facts_left, facts_ids};
     ghost use Rattle.hprof_heap.specs.Dump.{sub_facts};
     ghost use Rattle.hprof_heap.specs.SubRows.{subs_left, subs_ids};
@@ -295,6 +296,18 @@ impl Heap {
     {
         let row = self.loads.get(serial as u64)?;
         Some(row.fact(serial))
+    }
+
+    /// The name of a class: that which it has in the fact of least serial that loads it.
+    pub fn class_name(&self, class: u64) -> Option<u64>
+        ensures { NamesClass (heap_of self.now).facts class result }
+    {
+        for (_serial, row) in self.loads.rows() {
+            if row.class == class {
+                return Some(row.name);
+            }
+        }
+        None
     }
 
     /// The frame with that identifier.
