@@ -1,3 +1,5 @@
+mod lent_facts;
+
 use super::*;
 use crate::name_row::NameText;
 use hprof_items::{Fact, Header, IdSize, Version, fits};
