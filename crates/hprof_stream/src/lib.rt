@@ -19,3 +19,6 @@ pub use part_reader::PartReader;
 pub use reading::read_part;
 pub use sink::{Sink, SinkFault};
 pub use summary::PartSummary;
+
+#[cfg(test)]
+mod tests;

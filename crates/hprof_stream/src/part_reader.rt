@@ -120,3 +120,6 @@ impl PartReader {
         }
     }
 }
+
+#[cfg(test)]
+mod tests;

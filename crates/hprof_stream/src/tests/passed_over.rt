@@ -1,0 +1,64 @@
+use super::*;
+
+// The body of a record that is passed over.
+const BODY: [u8; 100_000] = [0; 100_000];
+
+#[test]
+fn a_record_that_is_passed_over(rt: HostRuntime) {
+    let summary = PartSummary {
+        header: HEADER,
+        records: 1,
+        facts: 0,
+        ended: false,
+    };
+    let truncated = PartFault::Malformed {
+        at: 31,
+        reason: Reason::Truncated,
+    };
+    for (len, want) in [(100_000, Ok(summary)), (99_999, Err(truncated))] {
+        let mut sink = Seen::new(rt.alloc(), 0);
+        let mut reader = PartReader::new(rt.alloc(), Limits::usual());
+        assert_eq!(rt;
+            feed_in(&mut reader, &PART[..31], 31, &mut sink),
+            Ok(0),
+            "{len}"
+        );
+        // Its head: nothing is held from its last byte on.
+        assert_eq!(rt;
+            feed_in(&mut reader, b"\x7f\0\0\0\0\0\x01\x86", 1, &mut sink),
+            Ok(8),
+            "{len}"
+        );
+        assert_eq!(rt; feed_in(&mut reader, b"\xa0", 1, &mut sink), Ok(0), "{len}");
+        assert_eq!(rt;
+            feed_in(&mut reader, &BODY[..len], 1, &mut sink),
+            Ok(0),
+            "{len}"
+        );
+        assert_eq!(rt; reader.finish(), want, "{len}");
+    }
+}
+
+#[test]
+fn passed_over_between_others(rt: HostRuntime) {
+    // Two such records, of three bytes and of none, and an end behind them.
+    let part = b"\x7f\0\0\0\0\0\0\0\x03\xaa\xbb\xcc\x06\0\0\0\0\0\0\0\0\x2c\0\0\0\0\0\0\0\0";
+    let want = PartSummary {
+        header: HEADER,
+        records: 3,
+        facts: 0,
+        ended: true,
+    };
+    for len in [65_536, 7, 3, 1] {
+        let mut sink = Seen::new(rt.alloc(), 0);
+        let mut reader = PartReader::new(rt.alloc(), Limits::usual());
+        assert_eq!(rt;
+            feed_in(&mut reader, &PART[..31], 31, &mut sink),
+            Ok(0),
+            "{len}"
+        );
+        let fed = feed_in(&mut reader, part, len, &mut sink);
+        assert!(rt; fed.is_ok_and(|held| held <= 8), "{len}");
+        assert_eq!(rt; reader.finish(), Ok(want), "{len}");
+    }
+}
