@@ -8,6 +8,7 @@ use Rattle.std.proofs.lemmas.List.Concat.{length-flat_map}
 use Rattle.std.proofs.lemmas.List.Folds.{flat_map-map}
 use Rattle.hprof_values.specs.declared.ids.IdSize.{IdSize}
 use Rattle.hprof_values.specs.declared.record_tag.RecordTag.{RecordTag}
+use Rattle.hprof_items.specs.declared.header.Header.{Header}
 use Rattle.hprof_items.specs.declared.header.Version.TheVariants.{V102}
 use Rattle.hprof_items.specs.FactValue.{FactValue}
 use Rattle.hprof_items.specs.Head.{head_bytes}
@@ -165,15 +166,19 @@ dump_states ids rows ordered =
     let packed = packed_is (size_of ids) most_in_segment (filter is_sub_fact rows) in
     simp (flat_map-append, flat_map-map, each_alone, packed.in_order, append-nil) (parts_in_order rows ordered)
 
+-- the header of a dump
+abbrev pub dump_header : IdSize → ℕ → Header
+dump_header ids millis = record { version = V102; ids = ids; millis = millis }
+
 -- the canonical dump of a heap is a part, and states the heap's facts
 pub dump_is_part : (ids : IdSize) (millis : ℕ) (rows : List FactValue) → IsHeap (record { ids = ids; millis = millis; facts = rows }) → IsPart (canonical_dump ids millis rows) ids millis rows
 dump_is_part ids millis rows heap = record {
-  header = record { version = V102; ids = ids; millis = millis };
+  header = dump_header ids millis;
   records = dump_records ids rows;
   written = record {
     is_millis = heap.is_millis;
     each = dump_each ids rows (All-from_has (Fits ids) rows heap.fit);
-    spelled = ap (λ (l : List ℕ). header_bytes (record { version = V102; ids = ids; millis = millis }) ++ l) (dump_spelled ids rows);
+    spelled = ap (λ (l : List ℕ). header_bytes (dump_header ids millis) ++ l) (dump_spelled ids rows);
   };
   has_ids = refl;
   has_millis = refl;

@@ -1,5 +1,5 @@
 -- Writing what has bytes, one after the other.
-use Rattle.std.proofs.Common.{◌≡◌, ℕ, zero, suc, ◌-◌, ◌<◌, List, [], ◌∷◌, ◌++◌, Option, Result, Ok, Err, refl, sym, ap, subst, ◌∙◌, append_assoc, append-nil, take, drop, arith}
+use Rattle.std.proofs.Common.{◌≡◌, ℕ, zero, suc, ◌-◌, ◌<◌, List, [], ◌∷◌, ◌++◌, Option, Result, Ok, Err, refl, sym, ap, subst, ◌∙◌, append_assoc, append-nil, length, get_or, take, drop, add-one, drop-cons, ◌+◌, arith}
 use Rattle.std.specs.List.{flat_map}
 use Rattle.std.specs.Io.KnownBytes.{Appends}
 use Rattle.std.proofs.KnownBytes.{Appends-nil, Appends-trans}
@@ -20,6 +20,9 @@ drop_next (suc left) one rest some = let less : suc left - 1 ≡ left = omega ar
 
 pub drop_first : {A : Type 0} (left : ℕ) (one : A) (others rest : List A) → 0 < left → others ≡ one ∷ rest → drop left others ≡ drop (left - 1) rest
 drop_first left one others rest some e = ap (drop left) e ∙ drop_next left one rest some
+
+pub drop_from : {A : Type 0} (all : List A) (place : ℕ) (one : A) → place < length all → drop place all ≡ get_or all place one ∷ drop (place + 1) all
+drop_from all place one within = rw (add-one, drop-cons all place one) refl
 
 -- ---- what was written
 
