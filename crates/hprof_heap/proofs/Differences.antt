@@ -1,5 +1,5 @@
 -- What was written to a target that compares is what was expected, or it stopped at a byte that is another one.
-use Rattle.std.proofs.Common.{◌≡◌, ◌≢◌, ℕ, zero, suc, ◌+◌, ◌<◌, ◌≤◌, Bool, true, false, List, [], ◌∷◌, ◌++◌, length, take, drop, Option, Some, None, Result, Ok, Err, refl, sym, ap, ◌∙◌, append_assoc, arith}
+use Rattle.std.proofs.Common.{◌≡◌, ℕ, zero, suc, ◌+◌, ◌<◌, ◌≤◌, Bool, true, false, List, [], ◌∷◌, ◌++◌, length, take, drop, Option, Some, None, Result, Ok, Err, refl, sym, ap, ◌∙◌, append_assoc, arith}
 use Rattle.std.specs.Prelude.{slice_index, is_some}
 use Rattle.std.proofs.Math.Seq.{take-add}
 use Rattle.std.proofs.lemmas.List.{append-nil}
@@ -10,7 +10,6 @@ use Rattle.hprof_items.specs.FactValue.{FactValue}
 use Rattle.hprof_items.specs.RecordBody.{record_of}
 use Rattle.hprof_items.specs.Spelling.{spelling, spelled_as}
 use Rattle.hprof_items.specs.SubRecord.{dump_bytes}
-use Rattle.hprof_items.specs.declared.health.Health.TheVariants.{Well, Failed}
 use Rattle.hprof_items.specs.declared.health.WriteFault.{WriteFault}
 use Rattle.hprof_items.specs.declared.health.WriteFault.TheVariants as faults
 use Rattle.hprof_items.specs.Device.{Writes, LeavesHealth, health_after}

@@ -10,9 +10,16 @@ pub mod Stating
 pub mod RowFacts
 pub mod Tables
 pub mod HeapRows
+pub mod TableRows
+pub mod ClassName
 pub mod Roots
 pub mod Differences
 pub mod NumberRows
 pub mod Steady
 pub mod Gathering
 pub mod Packing
+pub mod DumpOrder
+pub mod Dump
+pub mod DumpTables
+pub mod Writing
+pub mod Counting

@@ -1,5 +1,5 @@
 -- Frames are compared by their numbers.
-use Rattle.std.proofs.Common.{◌≡◌, ℕ, Bool, true, eqb, ◌&&◌, List, [], ◌∷◌, drop, refl, sym, ap, ◌∙◌}
+use Rattle.std.proofs.Common.{◌≡◌, ℕ, eqb, ◌&&◌, List, ◌∷◌, drop, ap, ◌∙◌}
 use Rattle.std.specs.Prelude.{ℤ, pos, negsuc, slice_index}
 use Rattle.std.specs.Cmp.{signed_Decides}
 use Rattle.std.specs.Ordering.{int_eq}

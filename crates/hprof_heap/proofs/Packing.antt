@@ -1,10 +1,10 @@
 -- Sub-records are divided among segments in one way.
-use Rattle.std.proofs.Common.{◌≡◌, ◌⊎◌, inl, inr, ℕ, ◌+◌, ◌≤◌, ◌<◌, Bool, true, false, cond, leb, List, [], ◌∷◌, ◌++◌, length, refl, sym, ap, subst, ◌∙◌, append_assoc, append-nil, arith}
+use Rattle.std.proofs.Common.{◌≡◌, ℕ, ◌+◌, ◌≤◌, ◌<◌, leb, List, [], ◌∷◌, ◌++◌, refl, sym, ap, subst, ◌∙◌, append_assoc, arith}
 use Rattle.std.specs.Prelude.{sum_by}
 use Rattle.std.specs.List.{AllByRecursion, flat_map}
 use Rattle.std.proofs.lemmas.Bool.{leb-true, leb-false, cond_both}
 use Rattle.std.proofs.lemmas.List.Sums.{sum_by-append, sum_by-cons}
-use Rattle.hprof_heap.specs.Segments.{IsSegment, HasNoRoomFor, AreFull, IsPacked, packed_behind, packed}
+use Rattle.hprof_heap.specs.Segments.{IsSegment, AreFull, IsPacked, packed_behind, packed}
 
 -- two fronts of one list: they are the same, or one goes on behind the other
 pub data Fronts {A : Type 0} (front other rest left : List A) : Type 0 where

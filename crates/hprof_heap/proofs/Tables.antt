@@ -1,11 +1,9 @@
 -- Facts of tables, one behind the other: what is stated into one of the tables is stated into all of the facts.
-use Rattle.std.proofs.Common.{◌≡◌, ℕ, zero, suc, ◌+◌, ◌<◌, Bool, true, false, cond, List, [], ◌∷◌, ◌++◌, length, find, Option, Some, None, Result, Ok, Err, refl, sym, ap, subst, ◌∙◌, inl, inr, arith}
-use Rattle.std.specs.Prelude.{IfOk, slice_index, bytes_eq, ⊤}
+use Rattle.std.proofs.Common.{◌≡◌, ℕ, zero, suc, ◌+◌, ◌<◌, Bool, true, false, cond, List, [], ◌∷◌, ◌++◌, length, find, Option, Some, None, Result, Ok, Err, refl, sym, ap, subst, ◌∙◌, arith}
+use Rattle.std.specs.Prelude.{IfOk, slice_index, ⊤}
 use Rattle.std.specs.List.{AllByRecursion, filter}
 use Rattle.std.specs.Option.{option_or}
 use Rattle.std.specs.Cmp.{nat_cmp_is}
-use Rattle.std.specs.Cmp.Lexicographic.{slice_cmp}
-use Rattle.std.specs.Ordering.{nat_cmp, is_lt}
 use Rattle.std.specs.declared.cmp.Ordering.TheVariants.{Less, Greater}
 use Rattle.std.proofs.lemmas.Bool.{eq-eqb, eqb-true, false_from_ne_true}
 use Rattle.std.proofs.lemmas.List.{append-nil}
@@ -15,7 +13,6 @@ use Rattle.std.proofs.lemmas.Slice.Eq.{bytes_eq-Decides}
 use Rattle.hprof_items.specs.FactValue.{FactValue}
 use Rattle.hprof_heap.specs.declared.relation.Stated.{Stated}
 use Rattle.hprof_heap.specs.declared.relation.Stated.TheVariants.{New, Same, Differs}
-use Rattle.hprof_heap.specs.Gathering.{HasOther}
 use Rattle.hprof_heap.specs.Heap.{stands_in}
 use Rattle.hprof_heap.specs.Order.{place_of}
 use Rattle.hprof_heap.specs.Tables.{joined}
@@ -62,7 +59,7 @@ apart m n fact other of of_other differ = false_from_ne_true (same_place fact ot
 earlier : (m n : ℕ) (fact other : FactValue) → IsOf m fact → IsOf n other → m < n → is_before fact other ≡ true
 earlier m n fact other of of_other lt = rw (of.stands, of_other.stands, ← nat_cmp_is m n Less lt) refl
 
-later : (m n : ℕ) (fact other : FactValue) → IsOf m fact → IsOf n other → n < m → is_before fact other ≡ false
+pub later : (m n : ℕ) (fact other : FactValue) → IsOf m fact → IsOf n other → n < m → is_before fact other ≡ false
 later m n fact other of of_other lt = rw (of.stands, of_other.stands, ← nat_cmp_is m n Greater lt) refl
 
 -- ---- facts that all fail a test
@@ -85,17 +82,17 @@ find_front : (p : FactValue → Bool) (facts others : List FactValue) → AllFai
 find_front p facts others fail =
     find-append p facts others ∙ ap (option_or (find p facts)) (find_none p others fail) ∙ or_none (find p facts)
 
-filter_none : (p : FactValue → Bool) (facts : List FactValue) → AllFail p facts → filter p facts ≡ []
+pub filter_none : (p : FactValue → Bool) (facts : List FactValue) → AllFail p facts → filter p facts ≡ []
 filter_none p [] fail = refl
 filter_none p (first ∷ facts) fail = ap (λ (t : Bool). cond t (first ∷ filter p facts) (filter p facts)) fail.0 ∙ filter_none p facts fail.1
 
-filter_all : (p : FactValue → Bool) (facts : List FactValue) → AllByRecursion (λ fact. p fact ≡ true) facts → filter p facts ≡ facts
+pub filter_all : (p : FactValue → Bool) (facts : List FactValue) → AllByRecursion (λ fact. p fact ≡ true) facts → filter p facts ≡ facts
 filter_all p [] pass = refl
 filter_all p (first ∷ facts) pass =
     ap (λ (t : Bool). cond t (first ∷ filter p facts) (filter p facts)) pass.0 ∙ ap (λ (l : List FactValue). first ∷ l) (filter_all p facts pass.1)
 
 -- what follows for each fact
-all_weaker : (P Q : FactValue → Type 0) (facts : List FactValue) → ((fact : FactValue) → P fact → Q fact) → AllByRecursion P facts → AllByRecursion Q facts
+pub all_weaker : (P Q : FactValue → Type 0) (facts : List FactValue) → ((fact : FactValue) → P fact → Q fact) → AllByRecursion P facts → AllByRecursion Q facts
 all_weaker P Q [] more all = tt
 all_weaker P Q (first ∷ facts) more all = (more first all.0, all_weaker P Q facts more all.1)
 

@@ -1,5 +1,5 @@
 -- The canonical dump.
-use Rattle.std.specs.Prelude.{ℕ, Bool, not, List, ◌++◌, length, map, is_some}
+use Rattle.std.specs.Prelude.{ℕ, Bool, not, List, ◌++◌, length, is_some}
 use Rattle.std.specs.List.{filter, flat_map}
 use Rattle.hprof_values.specs.declared.ids.IdSize.{IdSize}
 use Rattle.hprof_items.specs.declared.header.Version.TheVariants.{V102}
@@ -14,6 +14,13 @@ use Rattle.hprof_heap.specs.Segments.{packed}
 -- whether a record states the fact; sub-records state the others
 abbrev pub is_record_fact : FactValue → Bool
 is_record_fact fact = is_some (record_of fact)
+
+abbrev pub is_sub_fact : FactValue → Bool
+is_sub_fact fact = not (is_record_fact fact)
+
+-- those that sub-records state
+abbrev pub sub_facts : List FactValue → List FactValue
+sub_facts rows = filter is_sub_fact rows
 
 -- the most bytes that a segment of more than one sub-record has
 abbrev pub most_in_segment : ℕ
@@ -33,7 +40,7 @@ record_facts_bytes ids rows = flat_map (spelling ids) (filter is_record_fact row
 
 -- the others, in segments
 abbrev pub sub_facts_bytes : IdSize → List FactValue → List ℕ
-sub_facts_bytes ids rows = flat_map (segment_bytes ids) (segments_of ids (filter (λ fact. not (is_record_fact fact)) rows))
+sub_facts_bytes ids rows = flat_map (segment_bytes ids) (segments_of ids (sub_facts rows))
 
 -- the header of version 1.0.2, the spelling of each fact that a record states, the others in packed segments, one
 -- HEAP_DUMP_END; rows are the facts in canonical order

@@ -38,7 +38,7 @@ RestFits-prop ids (Frame id method signature source class_serial line) = hlevel 
 RestFits-prop ids (Trace serial thread frames) = FitFields-prop (id_widths ids (length frames)) frames
 RestFits-prop ids _ = Unit-prop
 
-DumpFits-prop : (ids : IdSize) (fact : FactValue) → IsProp (DumpFits ids fact)
+pub DumpFits-prop : (ids : IdSize) (fact : FactValue) → IsProp (DumpFits ids fact)
 DumpFits-prop ids (Rooted root) = FitFields-prop (root_widths ids root) (root_numbers root)
 DumpFits-prop ids (Class id trace parent loader signers domain reserved1 reserved2 size constants statics fields) =
     hlevel (FitFields-prop, ListFits-prop)

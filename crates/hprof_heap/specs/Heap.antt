@@ -1,7 +1,7 @@
 -- What a heap shows.
 use Rattle.std.specs.Prelude.{◌==◌, ℕ, Bool, List, slice_index}
 use Rattle.std.specs.List.{filter}
-use Rattle.hprof_items.specs.FactValue.{FactValue, Name}
+use Rattle.hprof_items.specs.FactValue.{FactValue}
 use Rattle.hprof_heap.specs.declared.heap.Heap.{Heap}
 use Rattle.hprof_heap.specs.declared.table.Table.{Table}
 use Rattle.hprof_heap.specs.declared.table.Table.TheVariants as tables

@@ -21,6 +21,11 @@ pub mod HeapRows
 pub mod RootSet
 pub mod Heap
 pub mod Rows
+pub mod TableRows
+pub mod FactsLeft
+pub mod SubRow
+pub mod SubRows
+pub mod ClassName
 pub mod Steady
 pub mod Gathering
 pub mod Segments

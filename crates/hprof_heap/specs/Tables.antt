@@ -1,6 +1,5 @@
 -- The tables of a heap as lists of facts, one behind the other.
-use Rattle.std.specs.Prelude.{ℕ, zero, suc, List, [], ◌∷◌, ◌++◌, ⊤}
-use Rattle.std.specs.List.{AllByRecursion}
+use Rattle.std.specs.Prelude.{List, [], ◌∷◌, ◌++◌}
 use Rattle.hprof_items.specs.FactValue.{FactValue}
 
 -- the facts of all tables, in order

@@ -9,16 +9,19 @@ ghost use Rattle.hprof_heap.specs.declared.key.Key.TheVariants as keys;
 ghost use Rattle.hprof_heap.specs.Key.{has_key};
 ghost use Rattle.hprof_heap.specs.HeapRows.{AreHeap, AreHeap-prop};
 ghost use Rattle.hprof_heap.specs.HeapValue.{IsHeap};
-ghost use Rattle.hprof_heap.specs.Order.{place_of};
+ghost use Rattle.hprof_heap.specs.Order.{IsCanonicalOrder, place_of};
 ghost use Rattle.hprof_heap.specs.Relation.{rows_of};
 ghost use Rattle.hprof_heap.specs.RootSet.{roots_of};
 
+use crate::facts::Facts;
 use crate::name_row::{NameRow, NameText};
 use crate::number_rows::{FrameRow, KeyRow, LoadRow, StartRow};
 use crate::relation::{Relation, Stated};
 use crate::root_set::RootSet;
 use crate::spelled_row::{SpelledFact, SpelledRow};
+use crate::sub_rows::SubRows;
 use crate::table::Table;
+use crate::table_rows::TableRows;
 use crate::trace_row::{TraceFrames, TraceRow};
 use hprof_items::Fact;
 use hprof_values::{IdList, IdSize, Root};
@@ -58,6 +61,11 @@ pub struct Heap {
 impl Heap {
     ghost use Rattle.hprof_heap.specs.Heap.{heap_of, facts_of_table};
     ghost use Rattle.hprof_heap.specs.Gathering.{StatesInto};
+    ghost use Rattle.hprof_heap.specs.TableRows.{AreReadable, facts_in_rows};
+    ghost use Rattle.hprof_heap.specs.ClassName.{NamesClass};
+    ghost use Rattle.hprof_heap.specs.FactsLeft.{facts_left, facts_ids};
+    ghost use Rattle.hprof_heap.specs.Dump.{sub_facts};
+    ghost use Rattle.hprof_heap.specs.SubRows.{subs_left, subs_ids};
 
     /// A heap without facts. It takes no memory yet.
     pub(crate) fn new(alloc: Global, ids: IdSize, millis: u64) -> Self
@@ -287,12 +295,19 @@ impl Heap {
         ensures { option_map value_of result ≡ find (has_key (keys.Load serial)) (heap_of self.now).facts }
     {
         let row = self.loads.get(serial as u64)?;
-        Some(Fact::Load {
-            serial,
-            class: row.class,
-            trace: row.trace,
-            name: row.name,
-        })
+        Some(row.fact(serial))
+    }
+
+    /// The name of a class: that which it has in the fact of least serial that loads it.
+    pub fn class_name(&self, class: u64) -> Option<u64>
+        ensures { NamesClass (heap_of self.now).facts class result }
+    {
+        for (_serial, row) in self.loads.rows() {
+            if row.class == class {
+                return Some(row.name);
+            }
+        }
+        None
     }
 
     /// The frame with that identifier.
@@ -308,14 +323,7 @@ impl Heap {
         ensures { option_map value_of result ≡ find (has_key (keys.Thread serial)) (heap_of self.now).facts }
     {
         let row = self.starts.get(serial as u64)?;
-        Some(Fact::Start {
-            thread: serial,
-            object: row.object,
-            trace: row.trace,
-            name: row.name,
-            group: row.group,
-            parent_group: row.parent_group,
-        })
+        Some(row.fact(serial))
     }
 
     /// The stack with that serial.
@@ -343,6 +351,47 @@ impl Heap {
     {
         let row = self.objects.get(id)?;
         Some(row.fact(self.ids))
+    }
+
+    /// The rows of a table.
+    fn table_rows(&self, table: Table) -> TableRows<'_>
+        ensures all { facts_in_rows (heap_of self.now).ids result ≡ facts_of_table table (heap_of self.now).facts }
+        ensures readable { AreReadable (heap_of self.now).ids result }
+    {
+        match table {
+            Table::Names => TableRows::Names(self.names.rows()),
+            Table::Loads => TableRows::Loads(self.loads.rows()),
+            Table::Unloads => TableRows::Unloads(self.unloads.rows()),
+            Table::Frames => TableRows::Frames(self.frames.rows()),
+            Table::Traces => TableRows::Traces(self.traces.rows()),
+            Table::Starts => TableRows::Starts(self.starts.rows()),
+            Table::Ends => TableRows::Ends(self.ends.rows()),
+            Table::Roots => TableRows::Roots(self.roots.iter()),
+            Table::Classes => TableRows::Classes(self.classes.rows()),
+            Table::Objects => TableRows::Objects(self.objects.rows()),
+        }
+    }
+
+    /// The facts of a table, in canonical order, each borrowed from the heap.
+    pub fn rows(&self, table: Table) -> Facts<'_>
+        ensures all { facts_left result ≡ facts_of_table table (heap_of self.now).facts }
+        ensures ordered { IsCanonicalOrder (facts_left result) }
+        ensures ids { facts_ids result ≡ (heap_of self.now).ids }
+    {
+        Facts::new(self.ids, self.table_rows(table))
+    }
+
+    /// The sub-records, in canonical order, as they are kept.
+    pub(crate) fn sub_rows(&self) -> SubRows<'_>
+        ensures all { subs_left result ≡ sub_facts (heap_of self.now).facts }
+        ensures ids { subs_ids result ≡ (heap_of self.now).ids }
+    {
+        SubRows::new(
+            self.ids,
+            self.roots.iter(),
+            self.classes.rows(),
+            self.objects.rows(),
+        )
     }
 
     /// The number of facts in a table.

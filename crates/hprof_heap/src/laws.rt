@@ -1,12 +1,16 @@
 //! Laws of the definitions. None of these functions does anything.
 
 ghost use Rattle.std.specs.Prelude.{◌≡◌, ℕ, List};
+ghost use Rattle.hprof_values.specs.declared.ids.IdSize.{IdSize};
 ghost use Rattle.hprof_items.specs.FactValue.{FactValue};
+ghost use Rattle.hprof_stream.specs.Part.{IsPart};
 ghost use Rattle.hprof_heap.specs.declared.gatherer.Gatherer.{Gatherer};
 ghost use Rattle.hprof_heap.specs.declared.key.Key.{Key};
 ghost use Rattle.hprof_heap.specs.Conflict.{IsConsistent, IsLeastConflict};
+ghost use Rattle.hprof_heap.specs.Dump.{canonical_dump};
 ghost use Rattle.hprof_heap.specs.Facts.{SameFacts};
 ghost use Rattle.hprof_heap.specs.Gathering.{Given, Gathers, Tells, answer_of, gathered, nothing_gathered};
+ghost use Rattle.hprof_heap.specs.HeapValue.{HeapValue, IsHeap};
 ghost use Rattle.hprof_heap.specs.Order.{IsCanonicalOrder};
 ghost use Rattle.hprof_heap.specs.Segments.{IsPacked, packed};
 
@@ -47,4 +51,10 @@ pub fn sub_records_are_packed_in_one_way()
     ensures once { (size : FactValue → ℕ) (most : ℕ) (subs : List FactValue) (segments others : List (List FactValue))
         → IsPacked size most subs segments → IsPacked size most subs others → segments ≡ others }
     ensures greedy { (size : FactValue → ℕ) (most : ℕ) (subs : List FactValue) → IsPacked size most subs (packed size most subs) }
+{}
+
+/// The canonical dump of a heap is a part, and states the heap's facts, each once.
+pub fn dump_reads_back()
+    ensures { (ids : IdSize) (millis : ℕ) (rows : List FactValue) → IsHeap (record { ids = ids; millis = millis; facts = rows })
+        → IsPart (canonical_dump ids millis rows) ids millis rows }
 {}

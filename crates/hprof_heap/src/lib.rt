@@ -3,8 +3,10 @@
 #![tactic(auto)]
 
 mod appending;
+mod canonical;
 mod comparing;
 mod content;
+mod facts;
 mod gatherer;
 mod heap;
 mod key;
@@ -14,13 +16,19 @@ mod number_rows;
 mod relation;
 mod root_set;
 mod rows;
+mod segments;
 mod sorted_table;
 mod spelled_row;
 mod standing;
+mod sub_row;
+mod sub_rows;
 mod table;
+mod table_rows;
 mod trace_row;
 
+pub use canonical::write_canonical;
 pub use content::{Content, Statement};
+pub use facts::Facts;
 pub use gatherer::Gatherer;
 pub use heap::Heap;
 pub use key::Key;

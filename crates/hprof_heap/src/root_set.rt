@@ -5,7 +5,7 @@ ghost use Rattle.std.specs.Prelude.{◌≡◌, [], length, IfOk, OnErr};
 use crate::relation::Stated;
 use hprof_values::Root;
 use std::alloc::{AllocError, Global};
-use std::collections::BTreeSet;
+use std::collections::{BTreeSet, btree_set};
 
 /// Roots, each once, in the order of their spellings.
 #[derive(Drop)]
@@ -42,5 +42,12 @@ impl RootSet {
         ensures { result ≡ length (roots_of self.now) }
     {
         self.roots.len()
+    }
+
+    /// The roots, in order.
+    pub(crate) fn iter(&self) -> btree_set::Iter<'_, Root>
+        ensures { result ≡ roots_of self.now }
+    {
+        self.roots.iter()
     }
 }

@@ -1,3 +1,5 @@
+mod lent_facts;
+
 use super::*;
 use crate::name_row::NameText;
 use hprof_items::{Fact, Header, IdSize, Version, fits};
@@ -40,6 +42,62 @@ fn stating_names(rt: HostRuntime) -> Result<(), Fail> {
     assert_eq!(rt; key, 1);
     assert!(rt; row.agrees(&first));
     assert!(rt; rows.next().is_none());
+    Ok(())
+}
+
+#[test]
+fn stating_numbers(rt: HostRuntime) -> Result<(), Fail> {
+    let load = LoadRow {
+        class: 9,
+        trace: 1,
+        name: 2,
+    };
+    let mut loads = Relation::new(rt.alloc());
+    assert_eq!(rt; loads.state(1, load)?, Stated::New);
+    assert_eq!(rt; loads.state(1, load)?, Stated::Same);
+    assert_eq!(rt;
+        loads.state(1, LoadRow { trace: 2, ..load })?,
+        Stated::Differs
+    );
+    let frame = FrameRow {
+        method: 1,
+        signature: 2,
+        source: 3,
+        class_serial: 4,
+        line: 1,
+    };
+    let mut frames = Relation::new(rt.alloc());
+    assert_eq!(rt; frames.state(7, frame)?, Stated::New);
+    assert_eq!(rt; frames.state(7, frame)?, Stated::Same);
+    for line in [-1, 2, -2] {
+        assert_eq!(rt;
+            frames.state(7, FrameRow { line, ..frame })?,
+            Stated::Differs
+        );
+    }
+    let start = StartRow {
+        object: 1,
+        trace: 2,
+        name: 3,
+        group: 4,
+        parent_group: 5,
+    };
+    let mut starts = Relation::new(rt.alloc());
+    assert_eq!(rt; starts.state(0, start)?, Stated::New);
+    assert_eq!(rt;
+        starts.state(
+            0,
+            StartRow {
+                parent_group: 6,
+                ..start
+            }
+        )?,
+        Stated::Differs
+    );
+    let mut ends = Relation::new(rt.alloc());
+    assert_eq!(rt; ends.state(3, KeyRow)?, Stated::New);
+    assert_eq!(rt; ends.state(3, KeyRow)?, Stated::Same);
+    assert_eq!(rt; ends.len(), 1);
     Ok(())
 }
 

@@ -1,6 +1,6 @@
 -- The sub-record of a class: what is read is spelled so, and what is spelled is read.
-use Rattle.std.proofs.Common.{◌≡◌, ℕ, ◌+◌, ◌≤◌, List, [], ◌∷◌, ◌++◌, length, drop, Result, Ok, refl, sym, ap, subst, ◌∙◌, append_assoc, arith}
-use Rattle.std.proofs.lemmas.List.{drop_at, length-append, length-drop}
+use Rattle.std.proofs.Common.{◌≡◌, ℕ, ◌+◌, ◌≤◌, List, [], ◌∷◌, ◌++◌, length, drop, Result, Ok, sym, ap, ◌∙◌, append_assoc, arith}
+use Rattle.std.proofs.lemmas.List.{length-append, length-drop}
 use Rattle.std.proofs.Math.Seq.{drop-drop}
 use Rattle.std.specs.Prelude.{sum}
 use Rattle.hprof_values.specs.declared.ids.IdSize.{IdSize}
@@ -8,7 +8,7 @@ use Rattle.hprof_values.specs.declared.entry.Entry.{Entry}
 use Rattle.hprof_values.specs.declared.entry.EntryKind.TheVariants as kinds
 use Rattle.hprof_values.specs.declared.stop.Stop.{Stop}
 use Rattle.hprof_values.specs.Ids.{width_of, IsBytes}
-use Rattle.hprof_values.specs.Fields.{field_bytes, fields_in, FitFields, Bounds, ◌>>=◌, reached, IsWithin}
+use Rattle.hprof_values.specs.Fields.{field_bytes, fields_in, Bounds, ◌>>=◌, reached, IsWithin}
 use Rattle.hprof_values.specs.Entries.{list_bytes, ListFits, list_in, list_end}
 use Rattle.hprof_items.specs.FactValue.{FactValue, Class}
 use Rattle.hprof_items.specs.ClassDump.{class_widths, class_lists, class_of, class_at}

@@ -8,6 +8,7 @@ pub mod SubRecords
 pub mod ArrayRecords
 pub mod ClassDumps
 pub mod Dumps
+pub mod Families
 pub mod WalksMore
 pub mod WalksReads
 pub mod Walks

@@ -1,5 +1,5 @@
 -- The bodies of records that state one fact: heapDumper.cpp, "HPROF binary format", the records.
-use Rattle.std.specs.Prelude.{◌≡◌, ◌==◌, ℕ, ◌*◌, Bool, ℤ, FitsSigned, List, [], ◌∷◌, ◌++◌, length, drop, sum, slice_index, nat_le, Option, Some, None, Result, Ok, Err, ⊤, if◌then◌else◌}
+use Rattle.std.specs.Prelude.{◌≡◌, ◌==◌, ℕ, ◌*◌, Bool, FitsSigned, List, [], ◌∷◌, ◌++◌, length, drop, sum, slice_index, nat_le, Option, Some, None, Result, Ok, Err, ⊤, if◌then◌else◌}
 use Rattle.std.specs.Int.{w32, cast_signed, cast_unsigned}
 use Rattle.hprof_values.specs.declared.ids.IdSize.{IdSize}
 use Rattle.hprof_values.specs.declared.record_tag.RecordTag.{RecordTag}

@@ -1,6 +1,6 @@
 //! Laws of the definitions. None of these functions does anything.
 
-ghost use Rattle.std.specs.Prelude.{◌≡◌, ◌≤◌, List, ℕ, ◌++◌, length, drop, true, Some, Ok, Err, ◌⊎◌};
+ghost use Rattle.std.specs.Prelude.{is_some, ◌≡◌, ◌≤◌, List, ℕ, ◌++◌, length, drop, true, Some, Ok, Err, ◌⊎◌};
 ghost use Rattle.hprof_values.specs.declared.ids.IdSize.{IdSize};
 ghost use Rattle.hprof_values.specs.declared.record_tag.RecordTag.{RecordTag};
 ghost use Rattle.hprof_values.specs.Ids.{IsBytes};
@@ -14,8 +14,8 @@ ghost use Rattle.hprof_items.specs.declared.step.Step.TheVariants.{Whole};
 ghost use Rattle.hprof_items.specs.Header.{header_bytes, IsMillis};
 ghost use Rattle.hprof_items.specs.Head.{head_bytes, record_bytes, kind_of};
 ghost use Rattle.hprof_items.specs.FactValue.{FactValue};
-ghost use Rattle.hprof_items.specs.Spelling.{longest_body};
-ghost use Rattle.hprof_items.specs.RecordBody.{is_legal_body, record_body, record_at, BodyFits};
+ghost use Rattle.hprof_items.specs.Spelling.{longest_body, Fits, spelling};
+ghost use Rattle.hprof_items.specs.RecordBody.{is_legal_body, record_body, record_at, record_of, BodyFits};
 ghost use Rattle.hprof_items.specs.SubRecord.{sub_at, dump_bytes, DumpFits, IsSubOf};
 ghost use Rattle.hprof_items.specs.Reading.{header_at, head_at, IsRightHead};
 
@@ -54,6 +54,14 @@ pub fn one_record_spelling()
         → record_bytes (code_of_record tag) 0 (record_body ids tag fact) ++ rest
         ≡ record_bytes (code_of_record tag_too) 0 (record_body ids tag_too other) ++ more
         → (fact ≡ other) × (rest ≡ more) }
+{}
+
+/// No spelling of a fact begins another of its family: records, or sub-records. Between the two families their tags
+/// overlap.
+pub fn one_spelling_in_each_family()
+    ensures { (ids : IdSize) (fact other : FactValue) (rest more : List ℕ) → Fits ids fact → Fits ids other
+        → is_some (record_of fact) ≡ is_some (record_of other)
+        → spelling ids fact ++ rest ≡ spelling ids other ++ more → (fact ≡ other) × (rest ≡ more) }
 {}
 
 /// A right head of any record that is spelled is read, whatever follows, and one that is read is right and spelled so.

@@ -29,3 +29,10 @@ pub const HEAP_DUMP_SEGMENT: u8 = 0x1c;
 
 /// The end of a heap dump that comes in segments.
 pub const HEAP_DUMP_END: u8 = 0x2c;
+
+// Each is the byte of the format.
+const _: () = prove!(UTF8 == 0x01 && LOAD_CLASS == 0x02 && UNLOAD_CLASS == 0x03 && FRAME == 0x04);
+
+const _: () = prove!(TRACE == 0x05 && START_THREAD == 0x0a && END_THREAD == 0x0b);
+
+const _: () = prove!(HEAP_DUMP == 0x0c && HEAP_DUMP_SEGMENT == 0x1c && HEAP_DUMP_END == 0x2c);

@@ -154,7 +154,7 @@ fn pass_front(item: &Item<'_>, ids: IdSize) -> (Walk, Result<usize, Stop>)
 }
 
 /// Goes on with a walk as far as there are bytes: where the sub-record ends, or what stopped the walk, and how far it
-/// has come then. An entry that was passed is not tested again.
+/// had come where it was stopped. An entry that was passed is not tested again.
 pub fn go_on(item: &Item<'_>, ids: IdSize, walk: Walk) -> (Walk, Result<usize, Stop>)
     requires { IsPlaced item.now walk }
     ensures end { result.1 ≡ walked ids (bounds_of item.now) item.now.bytes.now walk }

@@ -5,12 +5,13 @@ pub mod FoundItems
 pub mod Items
 pub mod Stops
 pub mod Refusals
-pub mod Rests
 pub mod ItemSteps
+pub mod Rests
 pub mod ItemLists
 pub mod Runs
 pub mod Walks
 pub mod Stepping
+pub mod HeldOn
 pub mod Faults
 pub mod Grammar
 pub mod Parts

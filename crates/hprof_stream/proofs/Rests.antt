@@ -1,7 +1,9 @@
 -- What is kept of an item that is not whole yet.
-use Rattle.std.proofs.Common.{◌≡◌, ℕ, ◌+◌, ◌-◌, ◌<◌, ◌≤◌, ltb, Bool, true, false, cond, List, [], ◌++◌, length, drop, Option, Some, None, refl, sym, ap, subst, ◌∙◌, append-nil, arith}
+use Rattle.std.proofs.Common.{◌≡◌, ℕ, zero, suc, ◌∷◌, ◌+◌, ◌-◌, ◌<◌, ◌≤◌, ltb, Bool, true, false, cond, List, [], ◌++◌, length, drop, Option, Some, None, refl, sym, ap, subst, ◌∙◌, append-nil, arith}
 use Rattle.std.proofs.lemmas.Bool.{cond-true, cond-false, ltb-true, ltb-false, lt-ltb, le-ltb}
 use Rattle.std.proofs.lemmas.List.{length-append}
+use Rattle.hprof_values.specs.Ids.{IsBytes}
+use Rattle.hprof_values.proofs.Numbers.{IsBytes-tail}
 use Rattle.hprof_items.specs.declared.header.Header.{Header}
 use Rattle.hprof_items.specs.declared.head.Head.{Head}
 use Rattle.hprof_items.specs.declared.head.HeadKind.{HeadKind}
@@ -10,13 +12,22 @@ use Rattle.hprof_items.specs.declared.step.Step.{Step}
 use Rattle.hprof_items.specs.declared.step.Step.TheVariants.{Whole, Short, TooLong, Fault}
 use Rattle.hprof_items.specs.Head.{kind_of}
 use Rattle.hprof_items.specs.Reading.{head_at}
+use Rattle.hprof_items.proofs.Heads.{head_found}
 use Rattle.hprof_stream.specs.declared.item.Item.TheVariants as items
 use Rattle.hprof_stream.specs.declared.rest.Passing.{Passing}
 use Rattle.hprof_stream.specs.declared.rest.Rest.{Rest}
+use Rattle.hprof_items.specs.declared.walk.Walk.{Walk}
 use Rattle.hprof_stream.specs.Item.{Place, Start, Between, Within, Found, found_record, found_behind, is_skipped_kind, is_skipped_head, is_passed_over, held_of, item_at}
-use Rattle.hprof_stream.specs.ItemStep.{Stands}
+use Rattle.hprof_stream.specs.ItemStep.{Stands, IsOfPlace}
 use Rattle.hprof_stream.specs.Rest.{passing_by, passing_of, IsWalkOf, IsRest}
 use Rattle.hprof_stream.proofs.Refusals.{head_stays, item_none}
+use Rattle.hprof_stream.proofs.ItemSteps.{record_ends}
+
+-- bytes, and more of them
+pub IsBytes-append : (bytes more : List ℕ) → IsBytes bytes → IsBytes more → IsBytes (bytes ++ more)
+IsBytes-append [] more are others i = others i
+IsBytes-append (b ∷ bytes) more are others zero = are 0
+IsBytes-append (b ∷ bytes) more are others (suc i) = IsBytes-append bytes more (IsBytes-tail b bytes are) others i
 
 -- ---- a record that is passed over
 
@@ -90,25 +101,33 @@ module _ (longest : ℕ) (place : Place) (front : List ℕ) (passing : Passing) 
       ∙ ap (λ (r : Step Head). passing_by r (length (front ++ more))) head_on
       ∙ cond-true (is_skipped_kind (kind_of is.head.tag)) (Some (record { seen = length (front ++ more); left = 9 + is.head.length - length (front ++ more) })) None is.kind
 
-  pub passed_walk : (rest : Rest) → IsWalkOf longest place (front ++ more) rest.walk
-  passed_walk rest = subst (λ (p : Place). IsWalkOf longest p (front ++ more) rest.walk) (sym is.between) tt
+-- nothing of it is walked
+pub passed_walk : (longest : ℕ) (place : Place) (front : List ℕ) (passing : Passing) → IsPassed longest place front passing → (bytes : List ℕ) (walk : Walk) → IsWalkOf longest place bytes walk
+passed_walk longest place front passing is bytes walk = subst (λ (p : Place). IsWalkOf longest p bytes walk) (sym is.between) tt
+
+-- nor held
+pub passed_none_held : (longest : ℕ) (place : Place) (front : List ℕ) (passing : Passing) → IsPassed longest place front passing → held_of longest place front ≡ []
+passed_none_held longest place front passing is = ap (held_of longest place) (sym (append-nil front)) ∙ passed_held longest place front passing is []
 
 -- while it is short there are bytes to come
-pub passed_fewer : (longest : ℕ) (place : Place) (front : List ℕ) (passing : Passing) (is : IsPassed longest place front passing) → item_at longest place front ≡ Short → length front < 9 + is.head.length
-passed_fewer longest place front passing is short =
-    let few : Bool = ltb (length front) (9 + is.head.length) in
-    elim few refl [
-      | true e ↦ ltb-true (length front) (9 + is.head.length) e
-      | false e ↦
-        let all : 9 + is.head.length ≤ length (front ++ []) = omega (arith, ltb-false (length front) (9 + is.head.length) e, ap length (append-nil front)) in
-        let whole = passed_whole longest place front passing is [] all in
-        let now : item_at longest place (front ++ []) ≡ Short = ap (item_at longest place) (append-nil front) ∙ short in
-        absurd cc
-    ]
+fewer_if : (longest : ℕ) (place : Place) (front : List ℕ) (passing : Passing) (is : IsPassed longest place front passing) → item_at longest place front ≡ Short
+    → (few : Bool) → ltb (length front) (9 + is.head.length) ≡ few → length front < 9 + is.head.length
+fewer_if longest place front passing is short true e = ltb-true (length front) (9 + is.head.length) e
+fewer_if longest place front passing is short false e =
+    let all : 9 + is.head.length ≤ length (front ++ []) = omega (arith, ltb-false (length front) (9 + is.head.length) e, ap length (append-nil front)) in
+    let whole = passed_whole longest place front passing is [] all in
+    let now : item_at longest place (front ++ []) ≡ Short = ap (item_at longest place) (append-nil front) ∙ short in
+    absurd cc
 
--- a record that is passed over stands between records
-pub passed_stands : (longest : ℕ) (place : Place) (front : List ℕ) (passing : Passing) → IsPassed longest place front passing → Stands place items.Skipped
-passed_stands longest place front passing is = subst (λ (p : Place). Stands p items.Skipped) (sym is.between) tt
+pub passed_fewer : (longest : ℕ) (place : Place) (front : List ℕ) (passing : Passing) (is : IsPassed longest place front passing) → item_at longest place front ≡ Short → length front < 9 + is.head.length
+passed_fewer longest place front passing is short = fewer_if longest place front passing is short (ltb (length front) (9 + is.head.length)) refl
+
+-- a record that is passed over stands between records, and does not end a heap dump
+pub passed_stands : (longest : ℕ) (place : Place) (front more : List ℕ) (passing : Passing) → IsPassed longest place front passing → IsBytes (front ++ more) → IsOfPlace place (front ++ more) items.Skipped
+passed_stands longest place front more passing is are =
+    let read = head_found is.header.ids longest (front ++ more) is.head is.taken are (head_on longest place front passing is more) in
+    let none = record_ends is.head (front ++ more) (drop is.taken (front ++ more)) Skipped read.0 (sym (skipped_kind (kind_of is.head.tag) is.kind)) in
+    (subst (λ (p : Place). Stands p items.Skipped) (sym is.between) tt, none)
 
 -- ---- nothing is there
 
@@ -125,8 +144,12 @@ passing_none longest Start = refl
 passing_none longest (Between header) = refl
 passing_none longest (Within header room) = refl
 
+none_are : IsBytes []
+none_are i = omega arith
+
 pub IsRest-none : (longest : ℕ) (place : Place) (rest : Rest) → rest.held.items ≡ [] → rest.passing ≡ None → IsWalkOf longest place [] rest.walk → IsRest longest place [] rest
 IsRest-none longest place rest held passing walk = record {
+  are_bytes = none_are;
   short = item_none longest place;
   held = held ∙ sym (held_none longest place);
   passing = passing ∙ sym (passing_none longest place);

@@ -371,6 +371,20 @@ module _ {S : Type 0} (begins : S → Header → S → Type 0) (steps : S → Fa
         facts = omega (arith, size, counted.facts, walk.fact_count, walk.offset);
       }
 
+  -- and for others, where they are no more than what was left of more
+  pub Walks-counted-less : (longest : ℕ) (from to : Progress) (bytes rest : List ℕ) (old new : S) (extra left : ℕ) → Walks begins steps longest from bytes old to rest new → IsCounted from extra → length bytes + left ≤ extra + length rest → IsCounted to left
+  Walks-counted-less longest from to bytes rest old new extra left walk counted few =
+      let size = items_size longest (place_of from) (place_of to) walk.items walk.each in
+      let begun = records_size longest (place_of from) (place_of to) walk.items walk.each in
+      let limit : to.limits.max_bytes ≡ from.limits.max_bytes = ap (λ (l : Limits). l.max_bytes) walk.same_limits in
+      let len : length bytes ≡ length (all_bytes walk.items) + length rest = ap length walk.parts ∙ length-append (all_bytes walk.items) rest in
+      record {
+        limit = omega (arith, counted.limit, limit);
+        room = omega (arith, counted.room, walk.offset, limit, len, few);
+        records = omega (arith, size, begun, counted.records, walk.record_count, walk.offset);
+        facts = omega (arith, size, counted.facts, walk.fact_count, walk.offset);
+      }
+
   -- a step from where a walk ended goes under the walk's limit
   pub Walks-at : (less longest : ℕ) (from to : Progress) (bytes rest : List ℕ) (old new : S) → less ≡ longest → Walks begins steps less from bytes old to rest new → Walks begins steps longest from bytes old to rest new
   Walks-at less longest from to bytes rest old new same walk = subst (λ (l : ℕ). Walks begins steps l from bytes old to rest new) same walk

@@ -2,6 +2,7 @@
 use Rattle.std.specs.Prelude.{◌≡◌, ℕ, ◌+◌, ◌-◌, ◌<◌, ◌≤◌, ◌⊎◌, List, [], ◌++◌, length, drop, Option, Some, None, Result, ⊤, if◌then◌else◌}
 use Rattle.hprof_values.specs.declared.ids.IdSize.{IdSize}
 use Rattle.hprof_values.specs.Fields.{Bounds}
+use Rattle.hprof_values.specs.Ids.{IsBytes}
 use Rattle.hprof_items.specs.declared.header.Header.{Header}
 use Rattle.hprof_items.specs.declared.head.Head.{Head}
 use Rattle.hprof_items.specs.declared.step.Step.{Step}
@@ -16,7 +17,7 @@ use Rattle.hprof_stream.specs.declared.rest.Passing.{Passing}
 use Rattle.hprof_stream.specs.declared.rest.Rest.{Rest}
 use Rattle.hprof_stream.specs.declared.item.Item.TheVariants as items
 use Rattle.hprof_stream.specs.declared.progress.Progress.{Progress}
-use Rattle.hprof_stream.specs.ItemStep.{Stands}
+use Rattle.hprof_stream.specs.ItemStep.{IsOfPlace}
 use Rattle.hprof_stream.specs.Progress.{place_of, advanced}
 use Rattle.hprof_stream.specs.Item.{Place, Start, Between, Within, is_skipped_kind, held_of, item_at}
 
@@ -45,6 +46,7 @@ IsWalkOf longest place bytes walk = ⊤
 
 -- these bytes are there of an item at that place that is not whole yet, and this is what is kept of them
 pub record IsRest (longest : ℕ) (place : Place) (bytes : List ℕ) (rest : Rest) : Type 0 where
+  pub are_bytes : IsBytes bytes
   pub short : item_at longest place bytes ≡ Short
   pub held : rest.held.items ≡ held_of longest place bytes
   pub passing : rest.passing ≡ passing_of longest place bytes
@@ -56,7 +58,7 @@ pub record IsRest (longest : ℕ) (place : Place) (bytes : List ℕ) (rest : Res
 abbrev pub PassesOver : Progress → (front bytes : List ℕ) → Progress → List ℕ → Rest → Type 0
 PassesOver from front bytes to left rest =
     ((n : ℕ) × (item_at from.limits.max_item (place_of from) (front ++ bytes) ≡ Whole (record { next = place_of from; facts = [] }) n) × (to ≡ advanced from items.Skipped n)
-    × (left ≡ drop n (front ++ bytes)) × Stands (place_of from) items.Skipped × IsRest from.limits.max_item (place_of from) [] rest)
+    × (left ≡ drop n (front ++ bytes)) × IsOfPlace (place_of from) (front ++ bytes) items.Skipped × IsRest from.limits.max_item (place_of from) [] rest)
     ⊎ ((to ≡ from) × (left ≡ []) × IsRest from.limits.max_item (place_of from) (front ++ bytes) rest)
 
 -- what a reader keeps has this many bytes of the part behind it

@@ -100,20 +100,23 @@ module _ {S : Type 0} (begins : S → Header → S → Type 0) (steps : S → Fa
     pub holds : 0 < length (held_of from.limits.max_item (place_of from) front)
     pub some : 0 < length bytes
 
-  -- going on with the item that is held: as above, or memory was wanted, or it was refused
+  -- what stopped it: memory was wanted, or an item was refused
+  abbrev pub IsHalted : Progress → (front bytes : List ℕ) → S → PartFault → Progress → S → Type 0
+  IsHalted from front bytes old faults.OutOfMemory to new = WantsMemory from front bytes old to new
+  IsHalted from front bytes old fault to new = Halts from (front ++ bytes) old fault to new
+
+  -- going on with the item that is held: as above, or stopped
   abbrev pub FinishesHeld : Progress → (front bytes : List ℕ) → S → Result (List ℕ) PartFault → Progress → Rest → S → Type 0
   FinishesHeld from front bytes old (Ok left) to rest new = GoesOn from front bytes old to left rest new
-  FinishesHeld from front bytes old (Err faults.OutOfMemory) to rest new = WantsMemory from front bytes old to new
-  FinishesHeld from front bytes old (Err fault) to rest new = Halts from (front ++ bytes) old fault to new
+  FinishesHeld from front bytes old (Err fault) to rest new = IsHalted from front bytes old fault to new
 
-  -- whole items were walked over up to one that needs more bytes: of these some are kept, or the others are left; or up to
-  -- one that is refused; or memory was wanted
+  -- whole items were walked over up to one that needs more bytes: of these some are kept, or the others are left; or it was
+  -- stopped
   abbrev pub ReadsOn : Progress → (front bytes : List ℕ) → S → Result (List ℕ) PartFault → Progress → Rest → S → Type 0
   ReadsOn from front bytes old (Ok left) to rest new =
       (still : List ℕ) × Walks begins steps from.limits.max_item from (front ++ bytes) old to (still ++ left) new × IsRest from.limits.max_item (place_of to) still rest
       × (item_at from.limits.max_item (place_of to) (still ++ left) ≡ Short) × ((still ≡ []) ⊎ (left ≡ []))
-  ReadsOn from front bytes old (Err faults.OutOfMemory) to rest new = WantsMemory from front bytes old to new
-  ReadsOn from front bytes old (Err fault) to rest new = Halts from (front ++ bytes) old fault to new
+  ReadsOn from front bytes old (Err fault) to rest new = IsHalted from front bytes old fault to new
 
 -- the bytes behind the reference
 abbrev pub seen : Result (Bor (List ℕ)) PartFault → Result (List ℕ) PartFault

@@ -2,6 +2,7 @@
 
 ghost use Rattle.std.specs.Prelude.{◌≡◌, ◌⊎◌, ◌+◌, ◌<◌, ◌≤◌, ◌++◌, ℕ, List, [], length, min, true, None, Some, Err, IfOk, OnOk, OnErr, IfSome};
 ghost use Rattle.hprof_items.specs.declared.step.Step.TheVariants.{Short};
+ghost use Rattle.hprof_values.specs.Ids.{IsBytes};
 ghost use Rattle.hprof_items.specs.declared.header.Header.{Header};
 ghost use Rattle.hprof_stream.specs.Item.{held_of, item_at};
 ghost use Rattle.hprof_stream.specs.Progress.{place_of, IsCounted};
@@ -37,6 +38,7 @@ fn portion(held: usize, longest: u32) -> usize
 /// How much was seen of the record at the front, if it is one that is passed over and its head is there.
 fn passing_at(progress: &Progress, bytes: &[u8]) -> Option<Passing>
     ensures passing { result ≡ passing_of progress.now.limits.max_item (place_of progress.now) bytes.now }
+    ensures bytes { IsBytes bytes.now }
     ensures head { IfSome result (λ passing. (passing.seen ≡ length bytes.now) × (9 ≤ length bytes.now)) }
 {
     let header = progress.header?;
@@ -65,6 +67,7 @@ fn walks_short(progress: &Progress, rest: &mut Rest) -> bool
     ensures walk { IsWalkOf progress.now.limits.max_item (place_of progress.now) rest.old.held.items rest.old.walk
         → IsWalkOf progress.now.limits.max_item (place_of progress.now) rest.old.held.items rest.new.walk
         × (result ≡ true → item_at progress.now.limits.max_item (place_of progress.now) rest.old.held.items ≡ Short) }
+    ensures held_whole { result ≡ true → passing_of progress.now.limits.max_item (place_of progress.now) rest.old.held.items ≡ None }
 {
     let Some(header) = progress.header else {
         return false;
@@ -186,6 +189,7 @@ pub(crate) fn read_on<'a, S: Sink>(
     if rest.passing.is_some() || !rest.held.is_empty() {
         return Ok(left);
     }
+    rest.clear();
     progress.walk(left, sink)
 }
 

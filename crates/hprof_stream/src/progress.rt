@@ -6,6 +6,7 @@ ghost use Rattle.hprof_stream.specs.Item.{item_at};
 ghost use Rattle.hprof_stream.specs.ItemStep.{IsFound, IfRead, IsOfPlace, ItemLists};
 ghost use Rattle.hprof_items.specs.declared.header.Header.{Header};
 ghost use Rattle.hprof_items.specs.Spelling.{longest_body};
+ghost use Rattle.hprof_values.specs.Ids.{IsBytes};
 ghost use Rattle.hprof_stream.specs.Walking.{IsBegun, GivesFit, Gives, GivesSome, Refuses, told_by};
 
 use crate::item::{Item, first_item, record_item, sub_item};
@@ -119,6 +120,8 @@ impl Progress {
         requires begun { IsBegun self.old.header (S.begun sink.old) }
         ensures step { StepsOver S.begins S.steps S.refuses S.failed self.old bytes.now sink.old result self.new sink.new }
         ensures begun { OnOk result (IsBegun self.new.header (S.begun sink.new)) }
+        ensures room { self.old.room ≤ longest_body }
+        ensures bytes { IsBytes bytes.now }
     {
         let at = self.at;
         match self.item(bytes) {

@@ -3,6 +3,7 @@
 ghost use Rattle.std.specs.Prelude.{◌≡◌, ◌==◌, ◌+◌, ◌^◌, ◌<◌, ◌≤◌, ℕ, List, [], length, Some, None};
 ghost use Rattle.hprof_stream.specs.declared.rest.Passing.{Passing};
 ghost use Rattle.hprof_stream.specs.Progress.{place_of, IsCounted};
+ghost use Rattle.hprof_values.specs.Ids.{IsBytes};
 ghost use Rattle.hprof_items.specs.declared.walk.Walk.{Walk};
 ghost use Rattle.hprof_stream.specs.Rest.{IsRest, IsSound, PassesOver, rest_len};
 
@@ -80,6 +81,7 @@ pub(crate) fn pass_over<'a>(progress: &mut Progress, rest: &mut Rest, bytes: &'a
     ensures none { rest.old.passing ≡ None → (progress.new ≡ progress.old) × (rest.new ≡ rest.old) × (result.now ≡ bytes.now) }
     ensures sound { IsSound rest.new }
     ensures header { progress.new.header ≡ progress.old.header }
+    ensures bytes { IsBytes bytes.now }
     ensures shorter { length result.now ≤ length bytes.now }
     ensures counted { IsCounted progress.new (rest_len rest.new + length result.now) }
 {

@@ -1,5 +1,5 @@
 -- Lists of entries behind their counts: what passes its tests is spelled there, and what is spelled passes them.
-use Rattle.std.proofs.Common.{◌≡◌, ℕ, zero, suc, ◌+◌, ◌-◌, ◌^◌, ◌<◌, ◌≤◌, List, [], ◌∷◌, ◌++◌, length, take, drop, Result, Ok, Err, refl, sym, ap, subst, ◌∙◌, append_assoc, append-nil, arith}
+use Rattle.std.proofs.Common.{◌≡◌, ℕ, zero, suc, ◌+◌, ◌-◌, ◌^◌, ◌<◌, ◌≤◌, List, [], ◌∷◌, ◌++◌, length, take, drop, Ok, Err, refl, sym, ap, subst, ◌∙◌, append_assoc, append-nil, arith}
 use Rattle.std.proofs.lemmas.List.{take_at, drop_at, length-append, length-drop}
 use Rattle.std.proofs.Math.Seq.{drop-drop}
 use Rattle.std.specs.Prelude.{sum}
@@ -10,8 +10,8 @@ use Rattle.hprof_values.specs.declared.stop.Stop.{Stop}
 use Rattle.hprof_values.specs.declared.entry.Entry.{Entry}
 use Rattle.hprof_values.specs.declared.entry.EntryKind.{EntryKind}
 use Rattle.hprof_values.specs.Ids.{IsBytes}
-use Rattle.hprof_values.specs.Fields.{Bounds, ◌>>=◌, reached, IsWithin}
-use Rattle.hprof_values.specs.Entries.{entry_len, entry_in, entry_bytes, entries_bytes, EntriesFit, entries_in, entry_end, entries_end, most_entries, list_bytes, ListFits, list_in, list_end}
+use Rattle.hprof_values.specs.Fields.{Bounds, reached, IsWithin}
+use Rattle.hprof_values.specs.Entries.{entry_len, entry_in, entry_bytes, entries_bytes, EntriesFit, entries_in, entry_end, entries_end, list_bytes, ListFits, list_in, list_end}
 use Rattle.hprof_values.proofs.Numbers.{IsBytes-drop, number_parts}
 use Rattle.hprof_values.proofs.FieldGroups.{sum_widths, then_ok, then_next, then_stop, within-less, reached_within, reached_passed}
 use Rattle.hprof_values.proofs.EntryLists.{length-entry, entry_passed, entry_passes, length-entries, entries_again}

@@ -4,6 +4,8 @@ ghost use Rattle.std.specs.Prelude.{◌≡◌, ◌+◌, ◌<◌, ◌≤◌, ◌�
 ghost use Rattle.std.specs.Cmp.Lexicographic.{slice_cmp};
 ghost use Rattle.std.specs.Ordering.{nat_cmp};
 ghost use Rattle.hprof_values.specs.declared.ids.IdSize.{IdSize};
+ghost use Rattle.hprof_values.specs.declared.basic.Basic.{Basic};
+ghost use Rattle.hprof_values.specs.Basic.{code_of_basic};
 ghost use Rattle.hprof_values.specs.declared.entry.Entry.{Entry};
 ghost use Rattle.hprof_values.specs.declared.entry.EntryKind.{EntryKind};
 ghost use Rattle.hprof_values.specs.declared.root.Root.{Root};
@@ -14,12 +16,18 @@ ghost use Rattle.hprof_values.specs.Lists.{IsIdList};
 ghost use Rattle.hprof_values.specs.Fields.{field_bytes, fields_in, FitFields, Bounds, reached, IsWithin, with_more};
 ghost use Rattle.hprof_values.specs.Root.{root_bytes, RootFits};
 
+use crate::basic::Basic;
 use crate::root::Root;
 
 /// Roots are in the order of the bytes that spell them.
 pub fn roots_in_order()
     ensures { (ids : IdSize) (root other : Root) → RootFits ids root → RootFits ids other
         → ⟦<Root as Ord>⟧.cmp root other ≡ slice_cmp nat_cmp (root_bytes ids root) (root_bytes ids other) }
+{}
+
+/// Types of values are in the order of their codes.
+pub fn types_in_order()
+    ensures { (basic other : Basic) → ⟦<Basic as Ord>⟧.cmp basic other ≡ nat_cmp (code_of_basic basic) (code_of_basic other) }
 {}
 
 /// Numbers that are spelled in fields are read, whatever follows, and those that are read are spelled so.

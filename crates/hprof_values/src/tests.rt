@@ -45,6 +45,8 @@ fn entries(rt: HostRuntime) -> Result<(), Fail> {
     assert_eq!(rt; ConstantList::new(bytes, IdSize::Eight), None);
     let own: &[u8] = b"\0\0\0\x09\x04\0\0\0\x08\x01";
     let list = FieldList::new(own, IdSize::Four).ok_or("no list")?;
+    assert_eq!(rt; list.bytes(), own);
+    assert_eq!(rt; list.id_size(), IdSize::Four);
     assert_eq!(rt;
         list.get(1),
         Some(Field {
@@ -90,6 +92,8 @@ fn numbers(rt: HostRuntime) {
     let mut out = [0xff; 12];
     put_numbers(&numbers, IdSize::Four, &mut out);
     assert_eq!(rt; out, *b"\x21\0\0\x01\x02\x03\x04\x05\x06\x07\x08\xff");
+    assert!(rt; numbers_fit(&numbers, IdSize::Four));
+    assert!(rt; !numbers_fit(&[Number::Id(4294967296)], IdSize::Four));
     assert_eq!(rt; numbers_len(&numbers, IdSize::Four), 11);
     assert_eq!(rt; numbers_len(&numbers, IdSize::Eight), 15);
     assert_eq!(rt; Number::Id(1).width(IdSize::Eight), 8);

@@ -1,7 +1,49 @@
 use super::super::*;
 use std::alloc::Global;
+use std::io;
+use std::io::Write;
 use std::process::Abort;
 use std::test::*;
+
+// A writer that takes all, and counts its calls.
+#[derive(Drop)]
+struct Counting {
+    writes: u64,
+    flushes: u64,
+}
+
+impl Write for Counting {
+    fn write(&mut self, buf: &[u8]) -> io::Result<usize> {
+        self.writes = self.writes.saturating_add(1);
+        Ok(buf.len())
+    }
+
+    fn flush(&mut self) -> io::Result<()> {
+        self.flushes = self.flushes.saturating_add(1);
+        Ok(())
+    }
+}
+
+// A front is one push, the bytes behind it another, and bytes that are none no push; nothing is flushed.
+#[test]
+fn pushes_of_a_fact(rt: HostRuntime) {
+    for (bytes, writes) in [(b"ab".as_slice(), 2), (b"".as_slice(), 1)] {
+        let fact = Fact::Instance {
+            id: 1,
+            trace: 2,
+            class: 3,
+            bytes,
+        };
+        let mut device = Device::new(Counting {
+            writes: 0,
+            flushes: 0,
+        });
+        assert_eq!(rt; write_fact(&fact, IdSize::Four, &mut device), Ok(()));
+        let counting = device.into_inner();
+        assert_eq!(rt; (counting.writes, counting.flushes), (writes, 0));
+    }
+    laws::one_spelling_in_each_family();
+}
 
 // That the fact fits, and that it is written as these bytes.
 fn check(rt: &impl Abort, alloc: Global, fact: &Fact<'_>, ids: IdSize, want: &[u8]) {

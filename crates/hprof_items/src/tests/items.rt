@@ -38,6 +38,63 @@ fn roots(rt: HostRuntime) {
     laws::sub_records_read_back();
 }
 
+// Every root, with numbers that differ, behind its tag.
+#[test]
+fn each_root(rt: HostRuntime) {
+    let (id, thread) = (16, 1);
+    let threes: [(&[u8], Root); 3] = [
+        (
+            b"\x02\0\0\0\x10\0\0\0\x01\0\0\0\x02",
+            Root::JniLocal {
+                id,
+                thread,
+                frame: 2,
+            },
+        ),
+        (
+            b"\x03\0\0\0\x10\0\0\0\x01\xff\xff\xff\xff",
+            Root::JavaFrame {
+                id,
+                thread,
+                frame: 4294967295,
+            },
+        ),
+        (
+            b"\x08\0\0\0\x10\0\0\0\x01\0\0\0\x03",
+            Root::ThreadObject {
+                id,
+                thread,
+                trace: 3,
+            },
+        ),
+    ];
+    let twos: [(&[u8], Root); 3] = [
+        (
+            b"\x01\0\0\0\x10\0\0\0\x11",
+            Root::JniGlobal { id, reference: 17 },
+        ),
+        (
+            b"\x04\0\0\0\x10\0\0\0\x01",
+            Root::NativeStack { id, thread },
+        ),
+        (b"\x06\0\0\0\x10\0\0\0\x01", Root::Block { id, thread }),
+    ];
+    let ones: [(&[u8], Root); 3] = [
+        (b"\x05\0\0\0\x10", Root::Sticky { id }),
+        (b"\x07\0\0\0\x10", Root::Monitor { id }),
+        (b"\xff\0\0\0\x10", Root::Unknown { id }),
+    ];
+    for (bytes, root) in threes.into_iter().chain(twos).chain(ones) {
+        let fact = Fact::Root(root);
+        let ids = IdSize::Four;
+        assert_eq!(rt; sub(bytes, ids), Step::Whole(fact, bytes.len()));
+        assert!(rt; fits(&fact, ids));
+        let mut device = Device::new(Vec::new(rt.alloc()));
+        assert_eq!(rt; write_fact(&fact, ids, &mut device), Ok(()));
+        assert_eq!(rt; device.into_inner().as_slice(), bytes);
+    }
+}
+
 #[test]
 fn objects(rt: HostRuntime) -> Result<(), Fail> {
     let ids = IdSize::Four;

@@ -6,12 +6,14 @@ fn fact_in<'a>(bytes: &'a [u8], ids: IdSize) -> Option<Result<Fact<'a>, Reason>>
     let Step::Whole(head, _) = read_head(bytes, ids, u32::MAX) else {
         return None;
     };
-    let tag = RecordTag::from_code(head.tag)?;
+    let HeadKind::FactRecord = head.kind() else {
+        return None;
+    };
     let body = bytes.get(HEAD_LEN..)?;
     if body.len() != head.length as usize {
         return None;
     }
-    Some(read_record(tag, body, ids))
+    Some(read_body(&head, body, ids))
 }
 
 #[test]

@@ -1,4 +1,4 @@
-use Rattle.std.proofs.Common.{Ok, refl, ap, sym, ◌∙◌, arith}
+use Rattle.std.proofs.Common.{refl, sym, ◌∙◌, arith}
 use Rattle.hprof_items.proofs.SubRecords.{answer_parts}
 use Rattle.hprof_items.proofs.Dumps.{sub_read, sub_is, sub_never}
 use Rattle.hprof_items.proofs.sub_reading.read_sub.Goals as goal

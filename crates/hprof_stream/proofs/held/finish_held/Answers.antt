@@ -1,55 +1,79 @@
-use Rattle.std.proofs.Common.{rules, ◌≡◌, ◌⊎◌, ◌+◌, ◌<◌, ◌≤◌, ◌++◌, ℕ, List, [], length, min, true, None, Err, IfOk, OnOk, OnErr, IfSome, ◌-◌, ◌*◌, ◌/◌, ◌%◌, Bool, false, nat_eq, nat_lt, ◌∷◌, slice_index_or, slice_set, bit_and, bit_or, Fits, w8, w32, w64, Bor, MutBor}
-use Rattle.hprof_items.specs.declared.step.Step.TheVariants.{Short}
-use Rattle.hprof_stream.specs.Item.{held_of, item_at}
-use Rattle.hprof_stream.specs.Progress.{place_of, IsCounted}
-use Rattle.hprof_stream.specs.Rest.{passing_of, walk_at, IsWalkOf, IsRest, IsSound, rest_len}
-use Rattle.hprof_stream.specs.Walking.{IsBegun, FinishesHeld, ReadsOn, seen}
+use Rattle.std.proofs.Common.{◌≡◌, ◌+◌, ◌<◌, ◌≤◌, ℕ, List, length, refl, sym, ap, inr, ◌∙◌, arith}
+use Rattle.std.proofs.lemmas.Result.{err_from_is_err_and}
+use Rattle.std.specs.Vec.{vec_len}
+use Rattle.hprof_stream.proofs.HeldOn.{some_len, GoesOn-then, GoesOn-halted}
 use Rattle.hprof_stream.proofs.held.finish_held.Goals as goal
 
--- src/held.rt:157:5
 pub loop-progress-init : goal.loop-progress-init
-loop-progress-init g c = ?
+loop-progress-init g c = record {
+  on = λ front is. inr (refl, refl, (front, refl, is));
+  held = λ some. some;
+  counted = c.requires.counted;
+  sound = c.requires.sound;
+  begun = c.requires.begun;
+  less = omega arith;
+  kept = λ header e. e;
+}
 
--- src/held.rt:158:16
 pub finish_once-requires-clause-counted : goal.finish_once-requires-clause-counted
-finish_once-requires-clause-counted g c = ?
+finish_once-requires-clause-counted g c = c.loop-progress.invariant.counted
 
--- src/held.rt:158:16
 pub finish_once-requires-clause-begun : goal.finish_once-requires-clause-begun
-finish_once-requires-clause-begun g c = ?
+finish_once-requires-clause-begun g c = c.loop-progress.invariant.begun
 
--- src/held.rt:158:16
 pub finish_once-requires-clause-sound : goal.finish_once-requires-clause-sound
-finish_once-requires-clause-sound g c = ?
+finish_once-requires-clause-sound g c = c.loop-progress.invariant.sound
 
--- src/held.rt:158:16
 pub returns-in_err-left-clause-finished : goal.returns-in_err-left-clause-finished
-returns-in_err-left-clause-finished g c = ?
+returns-in_err-left-clause-finished g c front is =
+    let inv = c.loop-progress.invariant in
+    let mid = c.loop-progress in
+    let fault = c.in_err-left.field-0.0 in
+    let some : 0 < length mid.rest.held.items = let n = some_len (vec_len mid.rest.held) c.loop-progress-test.ensures in omega (arith, n, mid.rest.held.ok) in
+    let any = some_len (length mid.left.now) c.if-not-is_empty.ensures in
+    let p = err_from_is_err_and c.from_residual.result c.from_residual.ensures.1 in
+    rw (p.1, p.2) (
+      GoesOn-halted g.S.Sink.begins g.S.Sink.steps g.S.Sink.refuses g.S.Sink.failed c.args.progress.now mid.progress c.finish_once.new.progress front c.args.bytes.now mid.left.now c.args.sink.now mid.sink
+        c.finish_once.new.sink mid.rest c.finish_once.new.rest (inv.on front is) some fault c.in_err-left.ensures.finished (omega (arith, inv.held some, ap length is.held)) (omega (arith, any, inv.less))
+    )
 
--- src/held.rt:157:5
 pub loop-progress-smaller : goal.loop-progress-smaller
-loop-progress-smaller g c = ?
+loop-progress-smaller g c = c.in_ok-left.ensures.shorter
 
--- src/held.rt:157:5
 pub loop-progress-preserved : goal.loop-progress-preserved
-loop-progress-preserved g c = ?
+loop-progress-preserved g c =
+    let inv = c.loop-progress.invariant in
+    let mid = c.loop-progress in
+    let some : 0 < length mid.rest.held.items = let n = some_len (vec_len mid.rest.held) c.loop-progress-test.ensures in omega (arith, n, mid.rest.held.ok) in
+    record {
+      on = λ front is.
+          GoesOn-then g.S.Sink.begins g.S.Sink.steps g.S.Sink.refuses g.S.Sink.failed c.args.progress.now mid.progress c.finish_once.new.progress front c.args.bytes.now mid.left.now c.args.sink.now mid.sink
+          c.finish_once.new.sink mid.rest c.finish_once.new.rest (inv.on front is) some c.in_ok-left.left.now c.in_ok-left.ensures.finished;
+      held = λ still. inv.held some;
+      counted = c.in_ok-left.ensures.counted;
+      sound = c.in_ok-left.ensures.sound;
+      begun = c.in_ok-left.ensures.begun;
+      less = omega (arith, c.in_ok-left.ensures.less, inv.less);
+      kept = λ header e. c.in_ok-left.ensures.kept header (inv.kept header e);
+    }
 
--- src/held.rt:139:1
 pub returns-clause-finished : goal.returns-clause-finished
-returns-clause-finished g c = ?
+returns-clause-finished g c front is = c.loop-progress.invariant.on front is
 
--- src/held.rt:139:1
 pub returns-clause-sound : goal.returns-clause-sound
-returns-clause-sound g c = ?
+returns-clause-sound g c = c.loop-progress.invariant.sound
 
--- src/held.rt:139:1
 pub returns-clause-less : goal.returns-clause-less
-returns-clause-less g c = ?
+returns-clause-less g c = c.loop-progress.invariant.less
 
--- src/held.rt:139:1
 pub returns-clause-counted : goal.returns-clause-counted
-returns-clause-counted g c = ?
+returns-clause-counted g c = c.loop-progress.invariant.counted
 
--- src/held.rt:139:1
 pub returns-clause-begun : goal.returns-clause-begun
-returns-clause-begun g c = ?
+returns-clause-begun g c = c.loop-progress.invariant.begun
+
+pub returns-clause-kept : goal.returns-clause-kept
+returns-clause-kept g c = c.loop-progress.invariant.kept
+
+pub returns-in_err-left-clause-kept : goal.returns-in_err-left-clause-kept
+returns-in_err-left-clause-kept g c header e = c.in_err-left.ensures.kept header (c.loop-progress.invariant.kept header e)

@@ -1,11 +1,13 @@
-use Rattle.std.proofs.Common.{rules, ◌≡◌, ◌⊎◌, ◌+◌, ◌<◌, ◌≤◌, ◌++◌, ℕ, List, [], length, min, true, None, Err, IfOk, OnOk, OnErr, IfSome, ◌-◌, ◌*◌, ◌/◌, ◌%◌, Bool, false, nat_eq, nat_lt, ◌∷◌, slice_index_or, slice_set, bit_and, bit_or, Fits, w8, w32, w64, Bor, MutBor}
+use Rattle.std.proofs.Common.{◌≡◌, ◌⊎◌, ◌+◌, ◌++◌, ℕ, List, [], length, true, Some, None, Err, OnOk, inl, inr, refl, sym, ap, subst, ◌∙◌, append-nil, arith}
 use Rattle.hprof_items.specs.declared.step.Step.TheVariants.{Short}
-use Rattle.hprof_stream.specs.Item.{held_of, item_at}
-use Rattle.hprof_stream.specs.Progress.{place_of, IsCounted}
-use Rattle.hprof_stream.specs.Rest.{passing_of, walk_at, IsWalkOf, IsRest, IsSound, rest_len}
-use Rattle.hprof_stream.specs.Walking.{IsBegun, FinishesHeld, ReadsOn, seen}
+use Rattle.hprof_stream.specs.Item.{item_at}
+use Rattle.hprof_stream.specs.Progress.{place_of}
+use Rattle.hprof_stream.specs.Rest.{IsRest}
+use Rattle.hprof_stream.proofs.HeldOn.{kept_behind, on_ok, not_some, not_empty}
 use Rattle.hprof_stream.proofs.held.keep.Goals as goal
 
--- src/held.rt:191:1
 pub returns-clause-ok : goal.returns-clause-ok
-returns-clause-ok c = ?
+returns-clause-ok c =
+    on_ok c.hold.result (λ held still keeps short cut.
+      kept_behind c.args.progress.now.limits.max_item (place_of c.args.progress.now) still c.args.left.now c.args.rest.now _ keeps short cut (not_empty c.args.left.now c.if-is_empty.ensures) (λ i. omega (arith, c.type_inv.left i))
+      (sym c.passing_at.ensures.passing ∙ not_some c.passing_at.result c.in_default.not-Some) held refl refl) c.hold.ensures.ok

@@ -1,15 +1,15 @@
-use Rattle.std.proofs.Common.{rules, ◌≡◌, ◌⊎◌, ◌+◌, ◌<◌, ◌≤◌, ◌++◌, ℕ, List, [], length, min, true, None, Err, IfOk, OnOk, OnErr, IfSome, ◌-◌, ◌*◌, ◌/◌, ◌%◌, Bool, false, nat_eq, nat_lt, ◌∷◌, slice_index_or, slice_set, bit_and, bit_or, Fits, w8, w32, w64, Bor, MutBor}
-use Rattle.hprof_items.specs.declared.step.Step.TheVariants.{Short}
-use Rattle.hprof_stream.specs.Item.{held_of, item_at}
-use Rattle.hprof_stream.specs.Progress.{place_of, IsCounted}
-use Rattle.hprof_stream.specs.Rest.{passing_of, walk_at, IsWalkOf, IsRest, IsSound, rest_len}
-use Rattle.hprof_stream.specs.Walking.{IsBegun, FinishesHeld, ReadsOn, seen}
+use Rattle.std.proofs.Common.{◌≡◌, ◌≤◌, ℕ, length, refl, arith}
+use Rattle.hprof_stream.proofs.HeldOn.{head_there}
 use Rattle.hprof_stream.proofs.held.passing_at.Goals as goal
 
--- src/held.rt:54:15
 pub overflow_cast-result : goal.overflow_cast-result
-overflow_cast-result c = ?
+overflow_cast-result c =
+    let head = c.in-Whole.head in
+    let read = c.read_head.ensures.found head c.in-Whole.field-1 c.in-Whole.is in
+    omega (arith, c.saturating_sub-left.ensures, head_there head.tag head.time head.length c.args.bytes.now _ read.0, read.2.length)
 
--- src/held.rt:37:1
 pub returns-clause-head : goal.returns-clause-head
-returns-clause-head c = ?
+returns-clause-head c =
+    let head = c.in-Whole.head in
+    let read = c.read_head.ensures.found head c.in-Whole.field-1 c.in-Whole.is in
+    (refl, head_there head.tag head.time head.length c.args.bytes.now _ read.0)

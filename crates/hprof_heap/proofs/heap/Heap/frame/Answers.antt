@@ -23,5 +23,5 @@ returns c =
     let found = look_up_row (rows_in heap) 3 c.args.id (keys.Frame c.args.id) frame_fact frame_numbers (rows_of heap.frames) (Frame c.args.id 0 0 0 0 (pos 0)) _ heap.sound refl refl (frames_right heap.ids (rows_of heap.frames)) refl
     (sym c.in_ok-row.ensures) in
     let row = c.in_ok-row.row.now in
-    ap (λ (fact : FactValue). Some fact) c.fact.ensures
+    ap (λ (fact : FactValue). Some fact) c.fact.ensures.value
     ∙ ap (λ (line : ℤ). Some (Frame c.args.id row.method row.signature row.source row.class_serial line)) (sym (line_again row.line)) ∙ sym found
