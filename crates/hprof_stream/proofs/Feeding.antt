@@ -1,7 +1,7 @@
 -- What a reader has read once it went on over more bytes.
-use Rattle.std.proofs.Common.{◌≡◌, ◌⊎◌, ℕ, ◌+◌, ◌-◌, ◌<◌, ◌≤◌, min, Bool, true, false, cond, ◌||◌, List, [], ◌++◌, length, take, Option, Some, None, Result, Ok, Err, inl, inr, refl, sym, ap, subst, ◌∙◌, append_assoc, arith}
+use Rattle.std.proofs.Common.{◌≡◌, ◌⊎◌, ℕ, ◌+◌, ◌-◌, ◌<◌, ◌≤◌, min, Bool, true, false, cond, ◌||◌, List, [], ◌++◌, length, take, drop, Option, Some, None, Result, Ok, Err, inl, inr, refl, sym, ap, subst, ◌∙◌, append_assoc, arith}
 use Rattle.std.proofs.Math.Seq.{take-append-add}
-use Rattle.std.proofs.lemmas.List.{length-append, length-take, take_min}
+use Rattle.std.proofs.lemmas.List.{length-append, length-take, length-drop, take_min, take_all}
 use Rattle.std.proofs.lemmas.List.Folds.{list_any-append}
 use Rattle.std.specs.Prelude.{OnOk, OnErr}
 use Rattle.std.specs.List.{list_any}
@@ -49,13 +49,15 @@ kept_behind Short bytes = omega arith
 kept_behind TooLong bytes = omega arith
 kept_behind (Fault reason) bytes = omega arith
 
-kept_at : (longest : ℕ) (place : Place) (bytes : List ℕ) → passed_len (passing_of longest place bytes) + length (held_of longest place bytes) ≡ length bytes
+kept_at : (longest : ℕ) (place : Place) (bytes : List ℕ) → passed_len (passing_of longest place bytes) + length
+    (held_of longest place bytes) ≡ length bytes
 kept_at longest Start bytes = omega arith
 kept_at longest (Between header) bytes = kept_behind (head_at header.ids longest bytes) bytes
 kept_at longest (Within header room) bytes = omega arith
 
 -- what is kept stands for as many bytes as are there
-pub rest_len_is : (longest : ℕ) (place : Place) (bytes : List ℕ) (rest : Rest) → IsRest longest place bytes rest → rest_len rest ≡ length bytes
+pub rest_len_is : (longest : ℕ) (place : Place) (bytes : List ℕ) (rest : Rest) → IsRest longest place bytes rest
+    → rest_len rest ≡ length bytes
 rest_len_is longest place bytes rest is = omega (arith, ap passed_len is.passing, ap length is.held, kept_at longest place bytes)
 
 -- ---- a reader that was fed nothing
@@ -86,7 +88,8 @@ HasRead-none limits reader begun held passing sound =
     }
 
 -- what it keeps, under its own limits
-pub front_kept : (limits : Limits) (bytes : List ℕ) (facts : List FactValue) (reader : PartReader) → (read : HasRead limits bytes facts reader)
+pub front_kept : (limits : Limits) (bytes : List ℕ) (facts : List FactValue) (reader : PartReader)
+    → (read : HasRead limits bytes facts reader)
     → IsRest reader.progress.limits.max_item (place_of reader.progress) read.unfinished reader.rest
 front_kept limits bytes facts reader read =
     subst (λ (l : Limits). IsRest l.max_item (place_of reader.progress) read.unfinished reader.rest) (sym read.has_limits) read.keeps
@@ -171,6 +174,13 @@ taken_all limits bytes piece facts reader count read is le =
       length-append bytes piece,
     )
 
+-- and then it takes the whole piece
+pub takes_all : (piece taken excess : List ℕ) (count : ℕ) → taken ≡ take count piece → excess ≡ drop count piece → excess ≡ []
+    → (length piece ≤ count) × (taken ≡ piece)
+takes_all piece taken excess count front back nothing =
+    let le : length piece ≤ count = omega (arith, ap length nothing, ap length back, length-drop count piece) in
+    (le, front ∙ take_all count piece le)
+
 -- ---- what a walk read
 
 module _ {S : Type 0} (begins : S → Header → S → Type 0) (steps : S → FactValue → S → Type 0) where
@@ -231,7 +241,8 @@ module _ {S : Type 0} (begins : S → Header → S → Type 0) (steps : S → Fa
         ran = on.ran;
       }
 
-  module _ (limits : Limits) (bytes : List ℕ) (facts : List FactValue) (before : Option Header) (to : Progress) (rest : List ℕ) (old new : S)
+  module _ (limits : Limits) (bytes : List ℕ) (facts : List FactValue) (before : Option Header) (to : Progress) (rest : List ℕ)
+      (old new : S)
       (walked : HasWalked limits bytes facts before to rest old new) where
     -- a rest that does not begin with an item: the sink ran over all that is whole
     pub RanOver-walked : is_whole (item_at limits.max_item (place_of to) rest) ≡ false
@@ -384,7 +395,8 @@ module _ {S : Type 0} (begins : S → Header → S → Type 0) (steps : S → Fa
   IsFeedFault-stopped limits bytes whole facts before told at rest old mid new (faults.Sink fault) taken walked stays stop =
       let is : IsItem limits.max_item (place_of at) stop.0 stop.1 =
       subst (λ (l : Limits). IsItem l.max_item (place_of at) stop.0 stop.1) walked.has_limits stop.3 in
-      let ran = RanUpTo-walked begins steps limits whole facts before at rest old mid walked stop.0 stop.1 stop.2 told stays is stop.4 stop.5 stop.6 in
+      let ran = RanUpTo-walked begins steps limits whole facts before at rest old mid walked stop.0 stop.1 stop.2 told stays is stop.4
+      stop.5 stop.6 in
       (mid, subst (λ (b : List ℕ). RanUpTo begins steps limits.max_item b facts before told old mid) taken ran, stop.7)
   IsFeedFault-stopped limits bytes whole facts before told at rest old mid new faults.OutOfMemory taken walked stays stop = absurd stop
   IsFeedFault-stopped limits bytes whole facts before told at rest old mid new faults.Failed taken walked stays stop = absurd stop
@@ -483,9 +495,13 @@ CannotHold progress left result =
     → 0 < length (held_of progress.limits.max_item (place_of progress) (still ++ left)))
 
 module _ {S : Type 0} (begins : S → Header → S → Type 0) (steps : S → FactValue → S → Type 0) (refuses : S → SinkFault → Type 0)
-    (failed : S → Bool) (limits : Limits) (bytes piece left : List ℕ) (facts : List FactValue) (from to : PartReader) (at : Progress)
+    (failed : S → Bool) (limits : Limits) (bytes piece taken left : List ℕ) (facts : List FactValue) (from to : PartReader) (at : Progress)
     (rest : Rest) (old new : S) (read : HasRead limits bytes facts from) (within : length (bytes ++ piece) ≤ limits.max_bytes)
-    (on : ReadsOn begins steps refuses failed from.progress read.unfinished piece old (Ok left) at rest new) where
+    (all : taken ≡ piece) (reads : ReadsOn begins steps refuses failed from.progress read.unfinished taken old (Ok left) at rest new) where
+  on : ReadsOn begins steps refuses failed from.progress read.unfinished piece old (Ok left) at rest new
+  on =
+      subst (λ (t : List ℕ). ReadsOn begins steps refuses failed from.progress read.unfinished t old (Ok left) at rest new) all reads
+
   -- what was read before what is left
   walked : HasWalked begins steps limits (bytes ++ piece) facts (header_of from) at (on.0 ++ left) old new
   walked = HasWalked-on begins steps limits bytes piece facts from at (on.0 ++ left) old new read on.1
@@ -533,10 +549,10 @@ module _ {S : Type 0} (begins : S → Header → S → Type 0) (steps : S → Fa
         ),
       )
 
-  pub Feeds-unheld : (result : Result (Unit {0}) PartFault) → is_err result ≡ true → header_of to ≡ at.header → length left ≤ length piece
+  pub Feeds-unheld : (result : Result (Unit {0}) PartFault) → is_err result ≡ true → header_of to ≡ at.header → length left ≤ length taken
       → OnErr result (CannotHold at left result) → Feeds begins steps refuses failed limits bytes facts from piece old result to new
   Feeds-unheld (Ok done) wrong tells shorter lacks = absurd cc
   Feeds-unheld (Err fault) wrong tells shorter lacks =
       let same : faults.OutOfMemory ≡ fault = out_of_memory fault lacks.0 in
       subst (λ (f : PartFault). Feeds begins steps refuses failed limits bytes facts from piece old (Err f) to new) same
-      (lacks_memory tells shorter (refl, lacks.1, lacks.2))
+      (lacks_memory tells (omega (arith, shorter, ap length all)) (refl, lacks.1, lacks.2))

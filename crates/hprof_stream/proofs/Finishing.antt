@@ -28,7 +28,8 @@ module _ (limits : Limits) (bytes : List ℕ) (facts : List FactValue) (reader :
       → Finishes limits bytes facts (header_of reader)
       (Ok (record { header = header; records = reader.progress.records; facts = reader.progress.facts; ended = reader.progress.ended }))
   Finishes-read header tells empty filled =
-      let nothing : read.unfinished ≡ [] = nil_from_length read.unfinished (omega (arith, kept_is, eqb-true (rest_len reader.rest) 0 empty)) in
+      let nothing : read.unfinished ≡ [] = nil_from_length read.unfinished (omega (arith, kept_is, eqb-true (rest_len reader.rest) 0 empty))
+      in
       let at : place_of reader.progress ≡ Between header =
       ap (λ (h : Option Header). place_behind h reader.progress.room) tells ∙ ap (place_behind (Some header)) filled in
       let ends : may_end (place_of reader.progress) ≡ true = ap may_end at in
@@ -38,7 +39,8 @@ module _ (limits : Limits) (bytes : List ℕ) (facts : List FactValue) (reader :
       let whole : all_bytes read.items ≡ bytes =
       sym (append-nil (all_bytes read.items)) ∙ ap (λ (r : List ℕ). all_bytes read.items ++ r) (sym nothing) ∙ sym read.splits.parts in
       let written : IsWritten bytes header is.records =
-      subst (λ (h : Header). IsWritten bytes h is.records) same (subst (λ (b : List ℕ). IsWritten b is.header is.records) whole is.written) in (
+      subst (λ (h : Header). IsWritten bytes h is.records) same (subst (λ (b : List ℕ). IsWritten b is.header is.records) whole is.written)
+      in (
         record {
           items = read.items;
           place = place_of reader.progress;

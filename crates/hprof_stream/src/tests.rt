@@ -141,6 +141,11 @@ fn a_part_in_pieces(rt: HostRuntime) {
         };
         assert_eq!(rt; reader.finish(), Ok(want), "{len}");
     }
+    laws::bytes_state_one_thing();
+    laws::one_first_fault();
+    laws::no_fault_exactly_in_the_grammar();
+    laws::a_longer_input();
+    laws::a_smaller_limit();
 }
 
 // Refuses each header.

@@ -127,17 +127,18 @@ fn the_longest_item(rt: HostRuntime) {
     let too_long = Err(PartFault::ItemTooLong { at: 40 });
     comes_to(&rt, rt.alloc(), 4, root, too_long);
     comes_to(&rt, rt.alloc(), 4, &root[..10], too_long);
+    let (_, records) = PART.split_at(31);
     let whole = Ok(PartSummary {
         header: HEADER,
         records: 3,
         facts: 4,
         ended: false,
     });
-    comes_to(&rt, rt.alloc(), 16, &PART[31..], whole);
+    comes_to(&rt, rt.alloc(), 16, records, whole);
     let array = Err(PartFault::ItemTooLong { at: 68 });
-    comes_to(&rt, rt.alloc(), 15, &PART[31..], array);
+    comes_to(&rt, rt.alloc(), 15, records, array);
     let name = Err(PartFault::ItemTooLong { at: 31 });
-    comes_to(&rt, rt.alloc(), 4, &PART[31..], name);
+    comes_to(&rt, rt.alloc(), 4, records, name);
 }
 
 #[test]
