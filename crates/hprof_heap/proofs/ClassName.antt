@@ -28,7 +28,8 @@ class_in fact = 0
 -- ---- the first load
 
 -- the serial of a load is the key of a row
-has_serial : (P : ℕ → Type 0) (rows : List (ℕ × LoadRow)) (serial class trace name : ℕ) → AllKeys P rows → Has (load_facts rows) (Load serial class trace name) → P serial
+has_serial : (P : ℕ → Type 0) (rows : List (ℕ × LoadRow)) (serial class trace name : ℕ) → AllKeys P rows
+    → Has (load_facts rows) (Load serial class trace name) → P serial
 has_serial P [] serial class trace name all has = absurd has
 has_serial P (row ∷ rows) serial class trace name all (inl e) =
     subst P (sym (same_serial (Load serial class trace name) (Load row.0 row.1.class row.1.trace row.1.name) e)) all.0
@@ -60,12 +61,14 @@ not_here class row rows serial trace name other (inr has) = has
 -- what the loads behind a load of another class name, all of them name
 pub named_behind : (class : ℕ) (row : ℕ × LoadRow) (rows : List (ℕ × LoadRow)) (answer : Option ℕ) → row.1.class ≢ class
     → NamesClass (load_facts rows) class answer → NamesClass (load_facts (row ∷ rows)) class answer
-named_behind class row rows None other none = λ serial trace name has. none serial trace name (not_here class row rows serial trace name other has)
+named_behind class row rows None other none = λ serial trace name has. none serial trace name
+    (not_here class row rows serial trace name other has)
 named_behind class row rows (Some name) other first = record {
   serial = first.serial;
   trace = first.trace;
   loaded = inr first.loaded;
-  least = λ serial trace_too name_too has. first.least serial trace_too name_too (not_here class row rows serial trace_too name_too other has);
+  least = λ serial trace_too name_too has. first.least serial trace_too name_too
+      (not_here class row rows serial trace_too name_too other has);
 }
 
 -- ---- going over the loads
@@ -78,14 +81,19 @@ pub record Passed (class : ℕ) (all left : List (ℕ × LoadRow)) : Type 0 wher
 -- nothing was passed so far
 pub passed_nothing : (class : ℕ) (all left : List (ℕ × LoadRow)) → left ≡ all → IsAscending left → Passed class all left
 passed_nothing class all left e ascends =
-    record { ascends = ascends; names = λ answer named. subst (λ (rows : List (ℕ × LoadRow)). NamesClass (load_facts rows) class answer) e named }
+    let same = λ (answer : Option ℕ) (named : NamesClass (load_facts left) class answer).
+    subst (λ (rows : List (ℕ × LoadRow)). NamesClass (load_facts rows) class answer) e named in
+    record { ascends = ascends; names = same }
 
-module _ (class : ℕ) (all left : List (ℕ × LoadRow)) (row : ℕ × LoadRow) (rows : List (ℕ × LoadRow)) (e : left ≡ row ∷ rows) (passed : Passed class all left) where
+module _ (class : ℕ) (all left : List (ℕ × LoadRow)) (row : ℕ × LoadRow) (rows : List (ℕ × LoadRow)) (e : left ≡ row ∷ rows)
+    (passed : Passed class all left) where
   -- one that is of another class was passed
   pub passed_one : row.1.class ≢ class → Passed class all rows
   passed_one other =
       let first : Passed class all (row ∷ rows) = subst (Passed class all) e passed in
-      record { ascends = ascending_tail row rows first.ascends; names = λ answer named. first.names answer (named_behind class row rows answer other named) }
+      let behind = λ (answer : Option ℕ) (named : NamesClass (load_facts rows) class answer).
+      first.names answer (named_behind class row rows answer other named) in
+      record { ascends = ascending_tail row rows first.ascends; names = behind }
 
   -- the first of the class names it
   pub passed_named : row.1.class ≡ class → NamesClass (load_facts all) class (Some row.1.name)
@@ -102,7 +110,8 @@ passed_all class all left e passed =
 -- ---- among all facts
 
 module _ (p : FactValue → Bool) where
-  passed_step : (t : Bool) (first : FactValue) (passed : List FactValue) (fact : FactValue) → ((fact ≡ first) × (t ≡ true)) ⊎ Has passed fact
+  passed_step : (t : Bool) (first : FactValue) (passed : List FactValue) (fact : FactValue)
+      → ((fact ≡ first) × (t ≡ true)) ⊎ Has passed fact
       → Has (cond t (first ∷ passed) passed) fact
   passed_step true first passed fact (inl is) = inl is.0
   passed_step true first passed fact (inr has) = inr has

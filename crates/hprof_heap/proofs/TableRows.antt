@@ -20,7 +20,8 @@ use Rattle.hprof_heap.proofs.Tables.{table_at}
 -- ---- the facts of a table
 
 -- a fact of one of the tables is one of all
-pub has_joined : (tables : List (List FactValue)) (place : ℕ) (fact : FactValue) → Has (table_at tables place) fact → Has (joined tables) fact
+pub has_joined : (tables : List (List FactValue)) (place : ℕ) (fact : FactValue) → Has (table_at tables place) fact
+    → Has (joined tables) fact
 has_joined [] place fact has = absurd has
 has_joined (facts ∷ tables) zero fact has = Has-front facts (joined tables) fact has
 has_joined (facts ∷ tables) (suc place) fact has = Has-back facts (joined tables) fact (has_joined tables place fact has)
@@ -41,31 +42,38 @@ module _ {V : Type 0} (ids : IdSize) (table : ℕ) (fact : ℕ → List ℕ → 
 
 pub load_serials : (rows : HeapRows) → AreHeap rows → AreSerials rows.loads
 load_serials rows are =
-    each_row rows.ids 1 load_fact load_numbers HasSerial (λ row right fits. fits.0.numbers.0) rows.loads (loads_right rows.ids rows.loads) (table_fits rows 1 are)
+    each_row rows.ids 1 load_fact load_numbers HasSerial (λ row right fits. fits.0.numbers.0) rows.loads (loads_right rows.ids rows.loads)
+    (table_fits rows 1 are)
 
 pub unload_serials : (rows : HeapRows) → AreHeap rows → AreSerials rows.unloads
 unload_serials rows are =
-    each_row rows.ids 2 unload_fact no_content HasSerial (λ row right fits. fits.0.numbers.0) rows.unloads (unloads_right rows.ids rows.unloads) (table_fits rows 2 are)
+    each_row rows.ids 2 unload_fact no_content HasSerial (λ row right fits. fits.0.numbers.0) rows.unloads
+    (unloads_right rows.ids rows.unloads) (table_fits rows 2 are)
 
 pub traces_whole : (rows : HeapRows) → AreHeap rows → AreWhole rows.ids rows.traces
 traces_whole rows are = each_row rows.ids 4 (trace_fact rows.ids) trace_content (IsWhole rows.ids)
-    (λ row right fits. (fits.0.numbers.0, row_whole rows.ids row.0 row.1.thread (frames_bytes row.1) right fits)) rows.traces are.traces (table_fits rows 4 are)
+    (λ row right fits. (fits.0.numbers.0, row_whole rows.ids row.0 row.1.thread (frames_bytes row.1) right fits)) rows.traces are.traces
+    (table_fits rows 4 are)
 
 pub start_serials : (rows : HeapRows) → AreHeap rows → AreSerials rows.starts
 start_serials rows are =
-    each_row rows.ids 5 start_fact start_numbers HasSerial (λ row right fits. fits.0.numbers.0) rows.starts (starts_right rows.ids rows.starts) (table_fits rows 5 are)
+    each_row rows.ids 5 start_fact start_numbers HasSerial (λ row right fits. fits.0.numbers.0) rows.starts
+    (starts_right rows.ids rows.starts) (table_fits rows 5 are)
 
 pub end_serials : (rows : HeapRows) → AreHeap rows → AreSerials rows.ends
 end_serials rows are =
-    each_row rows.ids 6 end_fact no_content HasSerial (λ row right fits. fits.0.numbers.0) rows.ends (ends_right rows.ids rows.ends) (table_fits rows 6 are)
+    each_row rows.ids 6 end_fact no_content HasSerial (λ row right fits. fits.0.numbers.0) rows.ends (ends_right rows.ids rows.ends)
+    (table_fits rows 6 are)
 
 pub classes_spelled : (rows : HeapRows) → AreHeap rows → AreSpelled rows.ids rows.classes
 classes_spelled rows are = each_row rows.ids 8 (spelled_fact rows.ids) spelled_bytes (IsSpelled rows.ids)
-    (λ row right fits. row_spells rows.ids 8 row.0 (spelled_bytes row.1) (omega arith) right fits) rows.classes are.classes (table_fits rows 8 are)
+    (λ row right fits. row_spells rows.ids 8 row.0 (spelled_bytes row.1) (omega arith) right fits) rows.classes are.classes
+    (table_fits rows 8 are)
 
 pub objects_spelled : (rows : HeapRows) → AreHeap rows → AreSpelled rows.ids rows.objects
 objects_spelled rows are = each_row rows.ids 9 (spelled_fact rows.ids) spelled_bytes (IsSpelled rows.ids)
-    (λ row right fits. row_spells rows.ids 9 row.0 (spelled_bytes row.1) (omega arith) right fits) rows.objects are.objects (table_fits rows 9 are)
+    (λ row right fits. row_spells rows.ids 9 row.0 (spelled_bytes row.1) (omega arith) right fits) rows.objects are.objects
+    (table_fits rows 9 are)
 
 -- ---- going over rows
 

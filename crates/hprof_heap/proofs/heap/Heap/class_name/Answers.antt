@@ -13,7 +13,8 @@ loop-serial-init c = rw c.into_iter-serial-iterator.ensures.into_iter_gives
 
 pub loop-serial-preserved : goal.loop-serial-preserved
 loop-serial-preserved c =
-    passed_one c.args.class (rows_of c.args.self.now.loads) _ (c.in-Some._serial, c.in-Some.row.now) (rows_left c.next.new.self) c.in-Some.ensures.steps
+    passed_one c.args.class (rows_of c.args.self.now.loads) _ (c.in-Some._serial, c.in-Some.row.now) (rows_left c.next.new.self)
+    c.in-Some.ensures.steps
     c.loop-serial.invariant c.if-row-class.false
 
 pub returns-then-row-class : goal.returns-then-row-class
@@ -21,10 +22,12 @@ returns-then-row-class c =
     let heap = c.args.self.now in
     let row : ℕ × LoadRow = (c.in-Some._serial, c.in-Some.row.now) in
     named_among (rows_in heap) c.args.class (Some row.1.name) heap.sound
-    (passed_named c.args.class (rows_of heap.loads) _ row (rows_left c.next.new.self) c.in-Some.ensures.steps c.loop-serial.invariant c.if-row-class.true)
+    (passed_named c.args.class (rows_of heap.loads) _ row (rows_left c.next.new.self) c.in-Some.ensures.steps c.loop-serial.invariant
+    c.if-row-class.true)
 
 pub returns : goal.returns
 returns c =
     let heap = c.args.self.now in
     named_among (rows_in heap) c.args.class None heap.sound
-    (passed_all c.args.class (rows_of heap.loads) (rows_left c.loop-serial._serial-iterator) c.in-None.ensures.steps.0 c.loop-serial.invariant)
+    (passed_all c.args.class (rows_of heap.loads) (rows_left c.loop-serial._serial-iterator) c.in-None.ensures.steps.0
+    c.loop-serial.invariant)

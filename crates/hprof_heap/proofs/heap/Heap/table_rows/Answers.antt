@@ -75,7 +75,8 @@ returns-in-Roots-clause-all c =
 pub returns-in-Classes-clause-all : goal.returns-in-Classes-clause-all
 returns-in-Classes-clause-all c =
     let heap = c.args.self.now in
-    rw c.in-Classes.is (ap (spelled_facts heap.ids) c.rows-in-Classes.ensures.all ∙ sym (table_facts (rows_in heap) tables.Classes heap.sound))
+    rw c.in-Classes.is (ap (spelled_facts heap.ids) c.rows-in-Classes.ensures.all
+    ∙ sym (table_facts (rows_in heap) tables.Classes heap.sound))
 
 pub returns-in-Classes-clause-readable : goal.returns-in-Classes-clause-readable
 returns-in-Classes-clause-readable c =
@@ -85,7 +86,8 @@ returns-in-Classes-clause-readable c =
 pub returns-in-Objects-clause-all : goal.returns-in-Objects-clause-all
 returns-in-Objects-clause-all c =
     let heap = c.args.self.now in
-    rw c.in-Objects.is (ap (spelled_facts heap.ids) c.rows-in-Objects.ensures.all ∙ sym (table_facts (rows_in heap) tables.Objects heap.sound))
+    rw c.in-Objects.is (ap (spelled_facts heap.ids) c.rows-in-Objects.ensures.all
+    ∙ sym (table_facts (rows_in heap) tables.Objects heap.sound))
 
 pub returns-in-Objects-clause-readable : goal.returns-in-Objects-clause-readable
 returns-in-Objects-clause-readable c =
