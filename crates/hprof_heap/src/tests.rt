@@ -1,3 +1,4 @@
+mod dumps;
 mod lent_facts;
 
 use super::*;

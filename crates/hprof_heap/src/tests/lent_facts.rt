@@ -4,7 +4,11 @@ use super::*;
 use hprof_values::{ConstantList, FieldList, StaticList};
 
 // States these facts, which are new.
-fn state_all(rt: &impl Abort, heap: &mut Heap, facts: &[Fact<'_>]) -> Result<(), AllocError> {
+pub(crate) fn state_all(
+    rt: &impl Abort,
+    heap: &mut Heap,
+    facts: &[Fact<'_>],
+) -> Result<(), AllocError> {
     for &fact in facts {
         assert_eq!(rt; state_fact(heap, fact)?, Some(Stated::New));
     }
@@ -39,7 +43,7 @@ fn instance(id: u64, class: u64, bytes: &[u8]) -> Fact<'_> {
     }
 }
 
-fn array(id: u64, elem: Basic, bytes: &[u8]) -> Fact<'_> {
+pub(crate) fn array(id: u64, elem: Basic, bytes: &[u8]) -> Fact<'_> {
     Fact::PrimArray {
         id,
         trace: 1,
