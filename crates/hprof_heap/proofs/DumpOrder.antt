@@ -31,18 +31,21 @@ sub_behind fact other sub before =
     elim (cases_Bool (is_record_fact other)) [
       | inl recorded ↦
           let high : place_too < 7 = ltb-true place_too 7 (sym (by_place other) ∙ recorded) in
-          let clash : true ≡ false = sym (ap is_lt before) ∙ later place place_too fact other (stands_first fact) (stands_first other) (omega arith) in
+          let clash : true ≡ false = sym (ap is_lt before) ∙ later place place_too fact other (stands_first fact) (stands_first other)
+          (omega arith) in
           absurd cc
       | inr sub_too ↦ sub_too
     ]
 
 -- the facts of records, and then the others
 parts_by : (fact : FactValue) (rows : List FactValue) (first : Bool) → is_record_fact fact ≡ first → IsCanonicalOrder (fact ∷ rows)
-    → filter is_record_fact rows ++ filter is_sub_fact rows ≡ rows → filter is_record_fact (fact ∷ rows) ++ filter is_sub_fact (fact ∷ rows) ≡ fact ∷ rows
+    → filter is_record_fact rows ++ filter is_sub_fact rows ≡ rows → filter is_record_fact (fact ∷ rows) ++ filter is_sub_fact
+    (fact ∷ rows) ≡ fact ∷ rows
 parts_by fact rows true is ordered rest = rw is (ap (λ (l : List FactValue). fact ∷ l) rest)
 parts_by fact rows false is ordered rest =
     let none : filter is_record_fact rows ≡ [] =
-    filter_none is_record_fact rows (all_weaker (IsBefore fact) (λ other. is_record_fact other ≡ false) rows (λ other before. sub_behind fact other is before) ordered.0) in
+    filter_none is_record_fact rows
+    (all_weaker (IsBefore fact) (λ other. is_record_fact other ≡ false) rows (λ other before. sub_behind fact other is before) ordered.0) in
     rw (is, none) (ap (λ (l : List FactValue). fact ∷ l) (rw none at rest))
 
 pub parts_in_order : (rows : List FactValue) → IsCanonicalOrder rows → filter is_record_fact rows ++ filter is_sub_fact rows ≡ rows

@@ -36,7 +36,8 @@ AllRootsFit ids roots = AllByRecursion (λ root. Fits ids (Rooted root)) roots
 abbrev pub AreWritable : IdSize → List Root → List (ℕ × SpelledRow) → List (ℕ × SpelledRow) → Type 0
 AreWritable ids roots classes objects = AllRootsFit ids roots × AreSpelled ids classes × AreSpelled ids objects
 
-pub AreWritable-prop : (ids : IdSize) (roots : List Root) (classes objects : List (ℕ × SpelledRow)) → IsProp (AreWritable ids roots classes objects)
+pub AreWritable-prop : (ids : IdSize) (roots : List Root) (classes objects : List (ℕ × SpelledRow))
+    → IsProp (AreWritable ids roots classes objects)
 AreWritable-prop ids roots classes objects =
     hlevel (all-prop (λ root. Fits ids (Rooted root)) (λ root. Fits-prop ids (Rooted root)) roots, AreSpelled-prop)
 
