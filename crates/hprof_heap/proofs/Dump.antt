@@ -1,6 +1,6 @@
 -- The canonical dump is a part: its records, and what they state.
-use Rattle.std.proofs.Common.{◌≡◌, ℕ, ◌≤◌, Bool, true, false, List, [], ◌∷◌, ◌++◌, length, Option, Some, None, map, refl, sym, ap, subst, ◌∙◌, append-nil, arith}
-use Rattle.std.specs.Prelude.{not, sum_by}
+use Rattle.std.proofs.Common.{◌≡◌, ℕ, ◌≤◌, Bool, true, false, List, [], ◌∷◌, ◌++◌, length, Option, Some, None, map, refl, sym, ap, subst, append-nil, arith}
+use Rattle.std.specs.Prelude.{not}
 use Rattle.std.specs.List.{AllByRecursion, filter, flat_map}
 use Rattle.std.specs.Option.{is_some}
 use Rattle.std.proofs.lemmas.Grind.{flat_map-append}
@@ -16,13 +16,12 @@ use Rattle.hprof_items.specs.Header.{header_bytes}
 use Rattle.hprof_items.specs.RecordBody.{record_of}
 use Rattle.hprof_items.specs.Spelling.{Fits, FitsAs, spelling, spelled_as, longest_body}
 use Rattle.hprof_items.specs.SubRecord.{dump_bytes}
-use Rattle.hprof_stream.specs.Record.{IsRecord, IsFactRecord, IsSubFact, IsDumpRecord, states, ends, dumps}
+use Rattle.hprof_stream.specs.Record.{IsRecord, IsSubFact, states, ends, dumps}
 use Rattle.hprof_stream.specs.Part.{Stated, all_bytes, all_facts, IsPart}
 use Rattle.hprof_heap.specs.Dump.{canonical_dump, is_record_fact, is_sub_fact, most_in_segment, segments_of, segment_bytes, record_facts_bytes, sub_facts_bytes}
-use Rattle.hprof_heap.specs.Facts.{Has, AllFit}
 use Rattle.hprof_heap.specs.HeapValue.{IsHeap}
 use Rattle.hprof_heap.specs.Order.{IsCanonicalOrder}
-use Rattle.hprof_heap.specs.Segments.{IsSegment, IsPacked}
+use Rattle.hprof_heap.specs.Segments.{IsSegment}
 use Rattle.hprof_heap.proofs.DumpOrder.{parts_in_order}
 use Rattle.hprof_heap.proofs.FactSets.{All-from_has}
 use Rattle.hprof_heap.proofs.Packing.{packed_is}

@@ -1,16 +1,12 @@
 -- In canonical order the facts of records stand before those of sub-records.
-use Rattle.std.proofs.Common.{◌≡◌, ℕ, ◌<◌, ◌≤◌, Bool, true, false, List, [], ◌∷◌, ◌++◌, drop, Option, Some, None, refl, sym, ap, subst, ◌∙◌, inl, inr, arith}
+use Rattle.std.proofs.Common.{◌≡◌, ◌<◌, ◌≤◌, Bool, true, false, List, [], ◌∷◌, ◌++◌, drop, refl, sym, ap, ◌∙◌, inl, inr, arith}
 use Rattle.std.specs.Prelude.{nat_lt, slice_index}
-use Rattle.std.specs.List.{AllByRecursion, filter}
-use Rattle.std.specs.Option.{is_some}
+use Rattle.std.specs.List.{filter}
 use Rattle.std.specs.Ordering.{is_lt}
 use Rattle.std.proofs.lemmas.Bool.{cases_Bool, ltb-true, ltb-false}
-use Rattle.hprof_values.specs.declared.record_tag.RecordTag.{RecordTag}
 use Rattle.hprof_items.specs.FactValue.{FactValue, Name}
-use Rattle.hprof_items.specs.RecordBody.{record_of}
 use Rattle.hprof_heap.specs.Dump.{is_record_fact, is_sub_fact}
 use Rattle.hprof_heap.specs.Order.{place_of, IsBefore, IsCanonicalOrder}
-use Rattle.hprof_heap.proofs.Order.{is_before}
 use Rattle.hprof_heap.proofs.Tables.{IsOf, later, filter_none, all_weaker}
 
 -- the first seven tables are those of records

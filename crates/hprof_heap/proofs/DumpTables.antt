@@ -15,7 +15,6 @@ use Rattle.hprof_heap.specs.Dump.{is_record_fact, is_sub_fact, sub_facts, record
 use Rattle.hprof_heap.specs.Facts.{Has, AllFit}
 use Rattle.hprof_heap.specs.Heap.{facts_of_table, number_of_table}
 use Rattle.hprof_heap.specs.HeapRows.{HeapRows, AreHeap, tables_of, root_facts, spelled_facts}
-use Rattle.hprof_heap.specs.Order.{place_of}
 use Rattle.hprof_heap.specs.SubRow.{AllRootsFit, AreWritable, facts_of_subs}
 use Rattle.hprof_heap.specs.Tables.{joined}
 use Rattle.hprof_heap.proofs.DumpOrder.{by_place}

@@ -1,11 +1,11 @@
-use Rattle.std.proofs.Common.{◌≡◌, ◌∷◌, ◌++◌, List, sym, subst, ◌∙◌}
+use Rattle.std.proofs.Common.{◌≡◌, ◌++◌, List, sym, subst, ◌∙◌}
 use Rattle.std.specs.Io.KnownBytes.{Appends}
 use Rattle.std.proofs.lemmas.Result.{err_from_is_err_and}
 use Rattle.hprof_values.specs.declared.ids.IdSize.{IdSize}
 use Rattle.hprof_items.specs.FactValue.{FactValue, value_of}
 use Rattle.hprof_items.specs.Spelling.{Fits, spelling}
 use Rattle.hprof_items.proofs.Writes.{WritesFront}
-use Rattle.hprof_heap.specs.FactsLeft.{facts_left, facts_ids}
+use Rattle.hprof_heap.specs.FactsLeft.{facts_left}
 use Rattle.hprof_heap.specs.Heap.{heap_of, rows_in, facts_of_table}
 use Rattle.hprof_heap.proofs.DumpTables.{table_fact_fits}
 use Rattle.hprof_heap.proofs.Writing.{Wrote, Wrote-none, Wrote-more, Wrote-stops}

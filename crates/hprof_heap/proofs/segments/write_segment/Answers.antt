@@ -1,4 +1,4 @@
-use Rattle.std.proofs.Common.{◌≡◌, ◌++◌, List, ℕ, zero, length, take, subst, sym}
+use Rattle.std.proofs.Common.{◌++◌, ℕ, zero, take, subst}
 use Rattle.std.specs.List.{flat_map}
 use Rattle.std.proofs.lemmas.Result.{err_from_is_err_and}
 use Rattle.hprof_items.specs.Device.{Writes}

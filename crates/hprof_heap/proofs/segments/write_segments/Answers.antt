@@ -1,4 +1,4 @@
-use Rattle.std.proofs.Common.{◌≡◌, ◌∷◌, ◌++◌, [], List, ℕ, length, take, drop, Option, refl, subst, sym, ap, ◌∙◌}
+use Rattle.std.proofs.Common.{◌≡◌, List, length, take, subst, sym, ◌∙◌}
 use Rattle.std.specs.Prelude.{IfSome}
 use Rattle.std.specs.Io.KnownBytes.{Appends}
 use Rattle.std.specs.List.{flat_map}
@@ -7,13 +7,12 @@ use Rattle.hprof_values.specs.declared.ids.IdSize.{IdSize}
 use Rattle.hprof_items.specs.FactValue.{FactValue}
 use Rattle.hprof_items.specs.SubRecord.{dump_bytes}
 use Rattle.hprof_items.proofs.Writes.{WritesFront}
-use Rattle.hprof_heap.specs.declared.sub_row.SubRow.{SubRow}
 use Rattle.hprof_heap.specs.Dump.{segments_of, segment_bytes, sub_facts}
 use Rattle.hprof_heap.specs.Heap.{heap_of}
-use Rattle.hprof_heap.specs.SubRow.{sub_fact, IsWritable}
-use Rattle.hprof_heap.specs.SubRows.{subs_left, subs_ids, with_taken, IsCounted}
-use Rattle.hprof_heap.proofs.Counting.{counted-drop, counted-first, counted-len, counted-fewer, taken_all, counted_left}
-use Rattle.hprof_heap.proofs.Writing.{Wrote, Wrote-none, Wrote-more, Wrote-stops, Wrote-all}
+use Rattle.hprof_heap.specs.SubRow.{IsWritable}
+use Rattle.hprof_heap.specs.SubRows.{subs_left, subs_ids, with_taken}
+use Rattle.hprof_heap.proofs.Counting.{counted-drop, counted-first, counted-len, taken_all, counted_left}
+use Rattle.hprof_heap.proofs.Writing.{Wrote, Wrote-none, Wrote-more, Wrote-stops}
 use Rattle.hprof_heap.proofs.segments.write_segments.Goals as goal
 
 pub loop-next-init : goal.loop-next-init
