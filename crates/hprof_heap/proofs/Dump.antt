@@ -1,6 +1,6 @@
 -- The canonical dump is a part: its records, and what they state.
-use Rattle.std.proofs.Common.{◌≡◌, ℕ, ◌≤◌, Bool, true, false, List, [], ◌∷◌, ◌++◌, length, Option, Some, None, map, refl, sym, ap, subst, ◌∙◌, append-nil, arith}
-use Rattle.std.specs.Prelude.{not, sum_by}
+use Rattle.std.proofs.Common.{◌≡◌, ℕ, ◌≤◌, Bool, true, false, List, [], ◌∷◌, ◌++◌, length, Option, Some, None, map, refl, sym, ap, subst, append-nil, arith}
+use Rattle.std.specs.Prelude.{not}
 use Rattle.std.specs.List.{AllByRecursion, filter, flat_map}
 use Rattle.std.specs.Option.{is_some}
 use Rattle.std.proofs.lemmas.Grind.{flat_map-append}
@@ -16,13 +16,12 @@ use Rattle.hprof_items.specs.Header.{header_bytes}
 use Rattle.hprof_items.specs.RecordBody.{record_of}
 use Rattle.hprof_items.specs.Spelling.{Fits, FitsAs, spelling, spelled_as, longest_body}
 use Rattle.hprof_items.specs.SubRecord.{dump_bytes}
-use Rattle.hprof_stream.specs.Record.{IsRecord, IsFactRecord, IsSubFact, IsDumpRecord, states, ends, dumps}
+use Rattle.hprof_stream.specs.Record.{IsRecord, IsSubFact, states, ends, dumps}
 use Rattle.hprof_stream.specs.Part.{Stated, all_bytes, all_facts, IsPart}
 use Rattle.hprof_heap.specs.Dump.{canonical_dump, is_record_fact, is_sub_fact, most_in_segment, segments_of, segment_bytes, record_facts_bytes, sub_facts_bytes}
-use Rattle.hprof_heap.specs.Facts.{Has, AllFit}
 use Rattle.hprof_heap.specs.HeapValue.{IsHeap}
 use Rattle.hprof_heap.specs.Order.{IsCanonicalOrder}
-use Rattle.hprof_heap.specs.Segments.{IsSegment, IsPacked}
+use Rattle.hprof_heap.specs.Segments.{IsSegment}
 use Rattle.hprof_heap.proofs.DumpOrder.{parts_in_order}
 use Rattle.hprof_heap.proofs.FactSets.{All-from_has}
 use Rattle.hprof_heap.proofs.Packing.{packed_is}
@@ -41,22 +40,26 @@ all_joined : {A : Type 0} (P : A → Type 0) (xs ys : List A) → AllByRecursion
 all_joined P [] ys all too = too
 all_joined P (x ∷ xs) ys all too = (all.0, all_joined P xs ys all.1 too)
 
-all_map : {A B : Type 0} (P : B → Type 0) (Q : A → Type 0) (f : A → B) (xs : List A) → ((x : A) → Q x → P (f x)) → AllByRecursion Q xs → AllByRecursion P (map f xs)
+all_map : {A B : Type 0} (P : B → Type 0) (Q : A → Type 0) (f : A → B) (xs : List A) → ((x : A) → Q x → P (f x)) → AllByRecursion Q xs
+    → AllByRecursion P (map f xs)
 all_map P Q f [] each all = tt
 all_map P Q f (x ∷ xs) each all = (each x all.0, all_map P Q f xs each all.1)
 
 -- those that pass a test
-passes : {A : Type 0} (P Q : A → Type 0) (test : A → Bool) (x : A) (xs : List A) (yes : Bool) → test x ≡ yes → P x → ((y : A) → P y → test y ≡ true → Q y) → AllByRecursion Q (filter test xs)
+passes : {A : Type 0} (P Q : A → Type 0) (test : A → Bool) (x : A) (xs : List A) (yes : Bool) → test x ≡ yes → P x
+    → ((y : A) → P y → test y ≡ true → Q y) → AllByRecursion Q (filter test xs)
     → AllByRecursion Q (filter test (x ∷ xs))
 passes P Q test x xs true is has each rest = rw is (each x has is, rest)
 passes P Q test x xs false is has each rest = rw is rest
 
-all_filter : {A : Type 0} (P Q : A → Type 0) (test : A → Bool) (xs : List A) → ((y : A) → P y → test y ≡ true → Q y) → AllByRecursion P xs → AllByRecursion Q (filter test xs)
+all_filter : {A : Type 0} (P Q : A → Type 0) (test : A → Bool) (xs : List A) → ((y : A) → P y → test y ≡ true → Q y) → AllByRecursion P xs
+    → AllByRecursion Q (filter test xs)
 all_filter P Q test [] each all = tt
 all_filter P Q test (x ∷ xs) each all = passes P Q test x xs (test x) refl all.0 each (all_filter P Q test xs each all.1)
 
 -- each element of each list is one of all that they have
-all_within : {A : Type 0} (P : A → Type 0) (lists : List (List A)) → AllByRecursion P (flat_map (λ list. list) lists) → AllByRecursion (AllByRecursion P) lists
+all_within : {A : Type 0} (P : A → Type 0) (lists : List (List A)) → AllByRecursion P (flat_map (λ list. list) lists)
+    → AllByRecursion (AllByRecursion P) lists
 all_within P [] all = tt
 all_within P (list ∷ lists) all =
     (all_front P list (flat_map (λ l. l) lists) all, all_within P lists (all_back P list (flat_map (λ l. l) lists) all))
@@ -79,7 +82,8 @@ end_record = record { bytes = head_bytes 0x2c 0 0; facts = [] }
 
 dump_records : IdSize → List FactValue → List Stated
 dump_records ids rows =
-    map (fact_record ids) (filter is_record_fact rows) ++ (map (segment_record ids) (segments_of ids (filter is_sub_fact rows)) ++ end_record ∷ [])
+    map (fact_record ids) (filter is_record_fact rows)
+    ++ (map (segment_record ids) (segments_of ids (filter is_sub_fact rows)) ++ end_record ∷ [])
 
 -- how long a sub-record is
 abbrev size_of : IdSize → FactValue → ℕ
@@ -95,12 +99,21 @@ IsOne ids one = IsRecord ids one.bytes one.facts
 -- ---- each is a record
 
 -- a fact that a record states
-states_by : (ids : IdSize) (fact : FactValue) (tag : Option RecordTag) → record_of fact ≡ tag → is_some tag ≡ true → Fits ids fact → IsRecord ids (spelling ids fact) (fact ∷ [])
+states_by : (ids : IdSize) (fact : FactValue) (tag : Option RecordTag) → record_of fact ≡ tag → is_some tag ≡ true → Fits ids fact
+    → IsRecord ids (spelling ids fact) (fact ∷ [])
 states_by ids fact None is some fits = absurd cc
-states_by ids fact (Some tag) is some fits = states (record { tag = tag; is = is; fits = fits; time = 0; is_time = omega arith; spelled = ap (λ (t : Option RecordTag). spelled_as ids t fact) is })
+states_by ids fact (Some tag) is some fits = states (record {
+  tag = tag;
+  is = is;
+  fits = fits;
+  time = 0;
+  is_time = omega arith;
+  spelled = ap (λ (t : Option RecordTag). spelled_as ids t fact) is;
+})
 
 -- a fact that a sub-record states
-sub_by : (ids : IdSize) (fact : FactValue) (tag : Option RecordTag) → record_of fact ≡ tag → is_some tag ≡ false → Fits ids fact → IsSubFact ids fact
+sub_by : (ids : IdSize) (fact : FactValue) (tag : Option RecordTag) → record_of fact ≡ tag → is_some tag ≡ false → Fits ids fact
+    → IsSubFact ids fact
 sub_by ids fact None is none fits = record { is = is; fits = fits }
 sub_by ids fact (Some tag) is none fits = absurd cc
 
@@ -108,7 +121,8 @@ sub_short : (ids : IdSize) (fact : FactValue) → IsSubFact ids fact → length 
 sub_short ids fact sub = let fits : FitsAs ids None fact = subst (λ (t : Option RecordTag). FitsAs ids t fact) sub.is sub.fits in fits.1
 
 -- a segment is no longer than the length in its head can say
-segment_short : (ids : IdSize) (segment : List FactValue) → IsSegment (size_of ids) most_in_segment segment → AllByRecursion (IsSubFact ids) segment
+segment_short : (ids : IdSize) (segment : List FactValue) → IsSegment (size_of ids) most_in_segment segment
+    → AllByRecursion (IsSubFact ids) segment
     → length (flat_map (dump_bytes ids) segment) ≤ longest_body
 segment_short ids [] is subs = absurd is
 segment_short ids (only ∷ []) is subs = let short = sub_short ids only subs.0 in rw length-flat_map (omega arith)
@@ -118,7 +132,8 @@ segment_is : (ids : IdSize) (segment : List FactValue) → AreSegment ids segmen
 segment_is ids segment are =
     dumps (record { tag = 0x1c; is_dump = refl; time = 0; is_time = omega arith; each = are.1; short = segment_short ids segment are.0 are.1; spelled = refl })
 
-segments_are : (ids : IdSize) (subs : List FactValue) → AllByRecursion (IsSubFact ids) subs → AllByRecursion (AreSegment ids) (segments_of ids subs)
+segments_are : (ids : IdSize) (subs : List FactValue) → AllByRecursion (IsSubFact ids) subs
+    → AllByRecursion (AreSegment ids) (segments_of ids subs)
 segments_are ids subs all =
     let packed = packed_is (size_of ids) most_in_segment subs in
     both (IsSegment (size_of ids) most_in_segment) (AllByRecursion (IsSubFact ids)) (segments_of ids subs) packed.each
@@ -128,13 +143,17 @@ not_true : (b : Bool) → not b ≡ true → b ≡ false
 not_true true e = absurd cc
 not_true false e = refl
 
-facts_are : (ids : IdSize) (rows : List FactValue) → AllByRecursion (Fits ids) rows → AllByRecursion (λ fact. IsOne ids (fact_record ids fact)) (filter is_record_fact rows)
+facts_are : (ids : IdSize) (rows : List FactValue) → AllByRecursion (Fits ids) rows
+    → AllByRecursion (λ fact. IsOne ids (fact_record ids fact)) (filter is_record_fact rows)
 facts_are ids rows fit =
-    all_filter (Fits ids) (λ fact. IsOne ids (fact_record ids fact)) is_record_fact rows (λ fact fits passed. states_by ids fact (record_of fact) refl passed fits) fit
+    all_filter (Fits ids) (λ fact. IsOne ids (fact_record ids fact)) is_record_fact rows
+    (λ fact fits passed. states_by ids fact (record_of fact) refl passed fits) fit
 
-subs_are : (ids : IdSize) (rows : List FactValue) → AllByRecursion (Fits ids) rows → AllByRecursion (IsSubFact ids) (filter is_sub_fact rows)
+subs_are : (ids : IdSize) (rows : List FactValue) → AllByRecursion (Fits ids) rows
+    → AllByRecursion (IsSubFact ids) (filter is_sub_fact rows)
 subs_are ids rows fit =
-    all_filter (Fits ids) (IsSubFact ids) is_sub_fact rows (λ fact fits passed. sub_by ids fact (record_of fact) refl (not_true (is_record_fact fact) passed) fits) fit
+    all_filter (Fits ids) (IsSubFact ids) is_sub_fact rows
+    (λ fact fits passed. sub_by ids fact (record_of fact) refl (not_true (is_record_fact fact) passed) fits) fit
 
 dump_each : (ids : IdSize) (rows : List FactValue) → AllByRecursion (Fits ids) rows → AllByRecursion (IsOne ids) (dump_records ids rows)
 unfolding dump_records
@@ -144,13 +163,15 @@ dump_each ids rows fit =
     all_joined (IsOne ids) (map (fact_record ids) facts) (map (segment_record ids) segments ++ end_record ∷ [])
     (all_map (IsOne ids) (λ fact. IsOne ids (fact_record ids fact)) (fact_record ids) facts (λ fact is. is) (facts_are ids rows fit))
     (all_joined (IsOne ids) (map (segment_record ids) segments) (end_record ∷ [])
-    (all_map (IsOne ids) (AreSegment ids) (segment_record ids) segments (segment_is ids) (segments_are ids (filter is_sub_fact rows) (subs_are ids rows fit)))
+    (all_map (IsOne ids) (AreSegment ids) (segment_record ids) segments (segment_is ids)
+    (segments_are ids (filter is_sub_fact rows) (subs_are ids rows fit)))
     (ends (record { time = 0; is_time = omega arith; spelled = refl }), tt))
 
 -- ---- their bytes and their facts
 
 -- the bytes are those of the dump behind its header
-dump_spelled : (ids : IdSize) (rows : List FactValue) → record_facts_bytes ids rows ++ (sub_facts_bytes ids rows ++ head_bytes 0x2c 0 0) ≡ all_bytes (dump_records ids rows)
+dump_spelled : (ids : IdSize) (rows : List FactValue)
+    → record_facts_bytes ids rows ++ (sub_facts_bytes ids rows ++ head_bytes 0x2c 0 0) ≡ all_bytes (dump_records ids rows)
 unfolding dump_records
 dump_spelled ids rows = simp (flat_map-append, flat_map-map)
 
@@ -171,7 +192,8 @@ abbrev pub dump_header : IdSize → ℕ → Header
 dump_header ids millis = record { version = V102; ids = ids; millis = millis }
 
 -- the canonical dump of a heap is a part, and states the heap's facts
-pub dump_is_part : (ids : IdSize) (millis : ℕ) (rows : List FactValue) → IsHeap (record { ids = ids; millis = millis; facts = rows }) → IsPart (canonical_dump ids millis rows) ids millis rows
+pub dump_is_part : (ids : IdSize) (millis : ℕ) (rows : List FactValue) → IsHeap (record { ids = ids; millis = millis; facts = rows })
+    → IsPart (canonical_dump ids millis rows) ids millis rows
 dump_is_part ids millis rows heap = record {
   header = dump_header ids millis;
   records = dump_records ids rows;

@@ -1,6 +1,5 @@
 -- Sub-records, as a heap keeps them.
-use Rattle.std.specs.Prelude.{ℕ, List, [], ◌∷◌, ◌++◌}
-use Rattle.std.specs.Coded.{×_prop}
+use Rattle.std.specs.Prelude.{ℕ, List, ◌++◌}
 use Rattle.std.specs.List.{AllByRecursion}
 use Rattle.hprof_values.specs.declared.ids.IdSize.{IdSize}
 use Rattle.hprof_values.specs.declared.root.Root.{Root}
@@ -36,7 +35,8 @@ AllRootsFit ids roots = AllByRecursion (λ root. Fits ids (Rooted root)) roots
 abbrev pub AreWritable : IdSize → List Root → List (ℕ × SpelledRow) → List (ℕ × SpelledRow) → Type 0
 AreWritable ids roots classes objects = AllRootsFit ids roots × AreSpelled ids classes × AreSpelled ids objects
 
-pub AreWritable-prop : (ids : IdSize) (roots : List Root) (classes objects : List (ℕ × SpelledRow)) → IsProp (AreWritable ids roots classes objects)
+pub AreWritable-prop : (ids : IdSize) (roots : List Root) (classes objects : List (ℕ × SpelledRow))
+    → IsProp (AreWritable ids roots classes objects)
 AreWritable-prop ids roots classes objects =
     hlevel (all-prop (λ root. Fits ids (Rooted root)) (λ root. Fits-prop ids (Rooted root)) roots, AreSpelled-prop)
 

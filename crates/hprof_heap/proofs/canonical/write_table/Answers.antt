@@ -1,11 +1,11 @@
-use Rattle.std.proofs.Common.{◌≡◌, ◌∷◌, ◌++◌, List, sym, subst, ◌∙◌}
+use Rattle.std.proofs.Common.{◌≡◌, ◌++◌, List, sym, subst, ◌∙◌}
 use Rattle.std.specs.Io.KnownBytes.{Appends}
 use Rattle.std.proofs.lemmas.Result.{err_from_is_err_and}
 use Rattle.hprof_values.specs.declared.ids.IdSize.{IdSize}
 use Rattle.hprof_items.specs.FactValue.{FactValue, value_of}
 use Rattle.hprof_items.specs.Spelling.{Fits, spelling}
 use Rattle.hprof_items.proofs.Writes.{WritesFront}
-use Rattle.hprof_heap.specs.FactsLeft.{facts_left, facts_ids}
+use Rattle.hprof_heap.specs.FactsLeft.{facts_left}
 use Rattle.hprof_heap.specs.Heap.{heap_of, rows_in, facts_of_table}
 use Rattle.hprof_heap.proofs.DumpTables.{table_fact_fits}
 use Rattle.hprof_heap.proofs.Writing.{Wrote, Wrote-none, Wrote-more, Wrote-stops}
@@ -29,19 +29,22 @@ write_fact-requires-clause-fits g c =
     let w = c.loop-fact.invariant.wrote in
     subst (λ (ids : IdSize). Fits ids fact) (sym c.ids-ids.ensures.value)
     (table_fact_fits (rows_in c.args.heap.now) c.args.table w.front (facts_left c.next.new.self) fact c.args.heap.now.sound
-    (subst (λ (rest : List FactValue). facts_of_table c.args.table (heap_of c.args.heap.now).facts ≡ w.front ++ rest) c.in-Some.ensures.steps.0 w.parts))
+    (subst (λ (rest : List FactValue). facts_of_table c.args.table
+    (heap_of c.args.heap.now).facts ≡ w.front ++ rest) c.in-Some.ensures.steps.0 w.parts))
 
 pub loop-fact-preserved : goal.loop-fact-preserved
 loop-fact-preserved g c =
     let heap = heap_of c.args.heap.now in
-    let written = g.W.Target.written in
     let all = facts_of_table c.args.table heap.facts in
     let fact = value_of c.in-Some.fact in
     let loop = c.loop-fact in
+    let old = g.W.Target.written c.args.target.now in
+    let mid = g.W.Target.written loop.target in
+    let new = g.W.Target.written c.write_fact.new.target in
     record {
-      wrote = Wrote-more (spelling heap.ids) (written c.args.target.now) (written loop.target) (written c.write_fact.new.target) all fact (facts_left c.next.new.self)
-          (subst (Wrote (spelling heap.ids) (written c.args.target.now) (written loop.target) all) c.in-Some.ensures.steps.0 loop.invariant.wrote)
-          (subst (λ (ids : IdSize). Appends (written loop.target) (written c.write_fact.new.target) (spelling ids fact)) c.ids-ids.ensures.value c.in_ok-write_fact.ensures.bytes);
+      wrote = Wrote-more (spelling heap.ids) old mid new all fact (facts_left c.next.new.self)
+          (subst (Wrote (spelling heap.ids) old mid all) c.in-Some.ensures.steps.0 loop.invariant.wrote)
+          (subst (λ (ids : IdSize). Appends mid new (spelling ids fact)) c.ids-ids.ensures.value c.in_ok-write_fact.ensures.bytes);
       has_ids = c.in-Some.ensures.steps.2 ∙ loop.invariant.has_ids;
       well = c.in_ok-write_fact.ensures.health;
     }
@@ -49,11 +52,14 @@ loop-fact-preserved g c =
 pub returns-in_err-write_fact-clause-bytes : goal.returns-in_err-write_fact-clause-bytes
 returns-in_err-write_fact-clause-bytes g c =
     let heap = heap_of c.args.heap.now in
-    let written = g.W.Target.written in
     let all = facts_of_table c.args.table heap.facts in
     let fact = value_of c.in-Some.fact in
     let loop = c.loop-fact in
-    let p = err_from_is_err_and c.from_residual.result c.from_residual.ensures.1 in
-    Wrote-stops (spelling heap.ids) (written c.args.target.now) (written loop.target) (written c.write_fact.new.target) c.from_residual.result p.0 all fact (facts_left c.next.new.self) p.1
-    (subst (Wrote (spelling heap.ids) (written c.args.target.now) (written loop.target) all) c.in-Some.ensures.steps.0 loop.invariant.wrote)
-    (subst (λ (ids : IdSize). WritesFront (written loop.target) (written c.write_fact.new.target) (spelling ids fact)) c.ids-ids.ensures.value c.in_err-write_fact.ensures.bytes)
+    let old = g.W.Target.written c.args.target.now in
+    let mid = g.W.Target.written loop.target in
+    let new = g.W.Target.written c.write_fact.new.target in
+    let r = c.from_residual.result in
+    let p = err_from_is_err_and r c.from_residual.ensures.1 in
+    Wrote-stops (spelling heap.ids) old mid new r p.0 all fact (facts_left c.next.new.self) p.1
+    (subst (Wrote (spelling heap.ids) old mid all) c.in-Some.ensures.steps.0 loop.invariant.wrote)
+    (subst (λ (ids : IdSize). WritesFront mid new (spelling ids fact)) c.ids-ids.ensures.value c.in_err-write_fact.ensures.bytes)

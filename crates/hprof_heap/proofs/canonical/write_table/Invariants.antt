@@ -10,7 +10,8 @@ abbrev pub invariant-loop-fact : goal.invariant-loop-fact
 invariant-loop-fact g l =
     let heap = heap_of l.heap in
     record {
-      wrote : Wrote (spelling heap.ids) (g.W.Target.written l.fn.target) (g.W.Target.written l.target) (facts_of_table l.fn.table heap.facts)
+      wrote : Wrote (spelling heap.ids) (g.W.Target.written l.fn.target) (g.W.Target.written l.target)
+          (facts_of_table l.fn.table heap.facts)
           (facts_left l.fact-iterator);
       has_ids : facts_ids l.fact-iterator ≡ heap.ids;
       well : g.W.Target.health l.target ≡ Well;

@@ -1,4 +1,4 @@
-use Rattle.std.proofs.Common.{◌≡◌, ◌∷◌, length, refl, subst, sym, ◌∙◌}
+use Rattle.std.proofs.Common.{◌≡◌, ◌∷◌, length, refl, subst, ◌∙◌}
 use Rattle.hprof_values.specs.declared.ids.IdSize.{IdSize}
 use Rattle.hprof_items.specs.SubRecord.{dump_bytes}
 use Rattle.hprof_heap.specs.SubRow.{sub_fact}
@@ -10,9 +10,10 @@ pub loop-row-init : goal.loop-row-init
 loop-row-init c =
     let ids = subs_ids c.args.ahead.now in
     let first = c.args.first in
-    let size = subst (λ (i : IdSize). c.len-len.result ≡ length (dump_bytes i (sub_fact i first))) c.ids-ids.ensures c.len-len.ensures.value in
+    let len = c.len-len.result in
+    let size = subst (λ (i : IdSize). len ≡ length (dump_bytes i (sub_fact i first))) c.ids-ids.ensures c.len-len.ensures.value in
     record {
-      counts = Counts-first ids (sub_fact ids first) (subs_left c.args.ahead.now) c.len-len.result size c.len-len.ensures.some c.len-len.ensures.short;
+      counts = Counts-first ids (sub_fact ids first) (subs_left c.args.ahead.now) len size c.len-len.ensures.some c.len-len.ensures.short;
       has_ids = refl;
     }
 
@@ -25,7 +26,8 @@ returns-then-longer-gt-MOST_IN_SEGMENT-clause-counted c =
     let subs = sub_fact ids c.args.first ∷ subs_left c.args.ahead.now in
     let next = subst (λ (i : IdSize). subs_left loop.ahead ≡ sub_fact i row ∷ rest) loop.invariant.has_ids c.in-Some.ensures.first in
     let size = subst (λ (i : IdSize). c.len.result ≡ length (dump_bytes i (sub_fact i row))) c.ids-ids.ensures c.len.ensures.value in
-    Counts-full ids subs loop.count loop.len c.len.result (sub_fact ids row) rest (subst (Counts ids subs loop.count loop.len) next loop.invariant.counts) size
+    Counts-full ids subs loop.count loop.len c.len.result (sub_fact ids row) rest
+    (subst (Counts ids subs loop.count loop.len) next loop.invariant.counts) size
     c.if-longer-gt-MOST_IN_SEGMENT.true
 
 pub loop-row-preserved : goal.loop-row-preserved
@@ -38,7 +40,9 @@ loop-row-preserved c =
     let next = subst (λ (i : IdSize). subs_left loop.ahead ≡ sub_fact i row ∷ rest) loop.invariant.has_ids c.in-Some.ensures.first in
     let size = subst (λ (i : IdSize). c.len.result ≡ length (dump_bytes i (sub_fact i row))) c.ids-ids.ensures c.len.ensures.value in
     record {
-      counts = Counts-more ids subs loop.count loop.len c.len.result (sub_fact ids row) rest (subst (Counts ids subs loop.count loop.len) next loop.invariant.counts) size
+      counts =
+          Counts-more ids subs loop.count loop.len c.len.result (sub_fact ids row) rest
+          (subst (Counts ids subs loop.count loop.len) next loop.invariant.counts) size
           c.len.ensures.some c.if-longer-gt-MOST_IN_SEGMENT.false;
       has_ids = c.next.ensures.has_ids ∙ loop.invariant.has_ids;
     }

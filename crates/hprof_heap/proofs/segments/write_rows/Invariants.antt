@@ -7,7 +7,8 @@ use Rattle.hprof_heap.proofs.segments.write_rows.Given as goal
 
 abbrev pub invariant-loop-left : goal.invariant-loop-left
 invariant-loop-left g l = record {
-  wrote : Wrote (dump_bytes (subs_ids l.fn.rows)) (g.W.Target.written l.fn.target) (g.W.Target.written l.target) (take l.count (subs_left l.fn.rows))
+  wrote : Wrote (dump_bytes (subs_ids l.fn.rows)) (g.W.Target.written l.fn.target) (g.W.Target.written l.target)
+      (take l.count (subs_left l.fn.rows))
       (take l.left (subs_left l.rows));
   behind : drop l.count (subs_left l.fn.rows) ≡ drop l.left (subs_left l.rows);
   has_ids : subs_ids l.rows ≡ subs_ids l.fn.rows;

@@ -12,7 +12,8 @@ abbrev pub invariant-loop-next : goal.invariant-loop-next
 invariant-loop-next g l =
     let heap = heap_of l.heap in
     record {
-      wrote : Wrote (segment_bytes heap.ids) (g.W.Target.written l.fn.target) (g.W.Target.written l.target) (segments_of heap.ids (sub_facts heap.facts))
+      wrote : Wrote (segment_bytes heap.ids) (g.W.Target.written l.fn.target) (g.W.Target.written l.target)
+          (segments_of heap.ids (sub_facts heap.facts))
           (segments_of heap.ids (subs_left l.rows));
       ahead : with_taken heap.ids l.next (subs_left l.ahead) ≡ subs_left l.rows;
       writable : IfSome l.next (IsWritable heap.ids);

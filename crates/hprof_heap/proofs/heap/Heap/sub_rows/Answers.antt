@@ -1,9 +1,5 @@
-use Rattle.std.proofs.Common.{◌≡◌, List, ℕ, ap, sym, subst, ◌∙◌}
-use Rattle.hprof_items.specs.FactValue.{FactValue}
-use Rattle.hprof_heap.specs.declared.spelled_row.SpelledRow.{SpelledRow}
+use Rattle.std.proofs.Common.{◌∙◌}
 use Rattle.hprof_heap.specs.Heap.{rows_in}
-use Rattle.hprof_heap.specs.Relation.{rows_of}
-use Rattle.hprof_heap.specs.SubRow.{AreWritable, facts_of_subs}
 use Rattle.hprof_heap.proofs.DumpTables.{heap_subs, subs_writable}
 use Rattle.hprof_heap.proofs.heap.Heap.sub_rows.Goals as goal
 
