@@ -5,8 +5,7 @@ use std::alloc::{AllocError, Global};
 use std::test::Fail;
 
 /// An instance 200 of class 100 with nine bytes of fields.
-const INSTANCE_200: &[u8] =
-    b"\x21\0\0\0\xc8\0\0\0\x01\0\0\0\x64\0\0\0\x09\0\0\0\x07\0\0\0\xc9\xff";
+const INSTANCE_200: &[u8] = b"\x21\0\0\0\xc8\0\0\0\x01\0\0\0\x64\0\0\0\x09\0\0\0\x07\0\0\0\xc9\xff";
 
 /// A class dump of that identifier and superclass, with trace serial 1 and this behind its six identifiers.
 fn class_dump(alloc: Global, id: u8, parent: u8, behind: &[u8]) -> Result<Vec<u8>, AllocError> {
@@ -28,7 +27,10 @@ fn class_99(alloc: Global) -> Result<Vec<u8>, AllocError> {
 #[test]
 fn classes_that_come_late(rt: HostRuntime) -> Result<(), Fail> {
     let (upper, lower) = (class_99(rt.alloc())?, class_100(rt.alloc())?);
-    assert_eq!(rt; (upper.len(), lower.len(), INSTANCE_200.len()), (48, 53, 26));
+    assert_eq!(rt;
+        (upper.len(), lower.len(), INSTANCE_200.len()),
+        (48, 53, 26)
+    );
     let part = |sub: &[u8]| {
         let segment = record(rt.alloc(), 0x1c, &[sub])?;
         bytes_of(rt.alloc(), &[HEADER, &segment])
@@ -63,7 +65,8 @@ fn a_class_and_an_instance_of_one_identifier(rt: HostRuntime) -> Result<(), Fail
 
 #[test]
 fn a_class_with_constants_and_static_fields(rt: HostRuntime) -> Result<(), Fail> {
-    let behind = b"\0\0\0\0\0\x01\0\x03\x02\0\0\0\xc8\0\x02\0\0\0\x05\x01\0\0\0\xc9\0\0\0\x06\x0a\0\0\0\x07\0\0";
+    let behind =
+        b"\0\0\0\0\0\x01\0\x03\x02\0\0\0\xc8\0\x02\0\0\0\x05\x01\0\0\0\xc9\0\0\0\x06\x0a\0\0\0\x07\0\0";
     let class = class_dump(rt.alloc(), 100, 0, behind)?;
     assert_eq!(rt; class.len(), 68);
     let segment = record(rt.alloc(), 0x0c, &[&class])?;

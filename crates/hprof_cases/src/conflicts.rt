@@ -1,8 +1,6 @@
 //! Parts that do not go together.
 
-use crate::samples::{
-    HEADER, NAME_1_A, NAME_1_B, WIDE_HEADER, bytes_of, expect_refused, record,
-};
+use crate::samples::{HEADER, NAME_1_A, NAME_1_B, WIDE_HEADER, bytes_of, expect_refused, record};
 use hprof_heap::Key;
 use hprof_items::Reason;
 use hprof_stream::PartFault;
@@ -34,9 +32,7 @@ fn least_of_two_conflicts(rt: HostRuntime) -> Result<(), Fail> {
 #[test]
 fn the_least_of_two_kinds(rt: HostRuntime) -> Result<(), Fail> {
     let array = |alloc, byte: u8| {
-        let sub = [
-            0x23, 0, 0, 0, 16, 0, 0, 0, 1, 0, 0, 0, 1, 8, byte,
-        ];
+        let sub = [0x23, 0, 0, 0, 16, 0, 0, 0, 1, 0, 0, 0, 1, 8, byte];
         record(alloc, 0x1c, &[&sub])
     };
     let one = bytes_of(rt.alloc(), &[HEADER, NAME_1_A, &array(rt.alloc(), 1)?])?;

@@ -147,7 +147,11 @@ fn failed_read(rt: HostRuntime) -> Result<(), Fail> {
 fn failed_read_at_each_byte(rt: HostRuntime) -> Result<(), Fail> {
     let part = plain_part(rt.alloc())?;
     for len in 0..90usize {
-        expect_fault(&rt, broken_answer(rt.alloc(), &part[..len]), PartFault::Read);
+        expect_fault(
+            &rt,
+            broken_answer(rt.alloc(), &part[..len]),
+            PartFault::Read,
+        );
     }
     let root = b"\x05\0\0\0".as_slice();
     let part = bytes_of(rt.alloc(), &[HEADER, &record(rt.alloc(), 0x1c, &[root])?])?;

@@ -36,7 +36,8 @@ fn a_root_stated_twice(rt: HostRuntime) -> Result<(), Fail> {
 #[test]
 fn identifiers_of_eight_bytes(rt: HostRuntime) -> Result<(), Fail> {
     let name = b"\xff\xff\xff\xff\xff\xff\xff\xffA".as_slice();
-    let frame = b"\0\0\0\0\0\0\0\x01\xff\xff\xff\xff\xff\xff\xff\xff\0\0\0\0\0\0\0\0\0\0\0\0\0\0\0\0\0\0\0\0\xff\xff\xff\xfd";
+    let frame =
+        b"\0\0\0\0\0\0\0\x01\xff\xff\xff\xff\xff\xff\xff\xff\0\0\0\0\0\0\0\0\0\0\0\0\0\0\0\0\0\0\0\0\xff\xff\xff\xfd";
     let root = b"\x02\0\0\0\0\0\0\0\x07\0\0\0\x01\xff\xff\xff\xff".as_slice();
     let name = record(rt.alloc(), 0x01, &[name])?;
     let frame = record(rt.alloc(), 0x04, &[frame.as_slice()])?;

@@ -99,7 +99,8 @@ fn bad_lengths(rt: HostRuntime) -> Result<(), Fail> {
 
 #[test]
 fn a_declared_length_that_does_not_come(rt: HostRuntime) -> Result<(), Fail> {
-    let records = b"\x1c\0\0\0\0\xff\xff\xff\xff\x23\0\0\0\x10\0\0\0\x01\xff\xff\xff\0\x08\0\0\0\0\0\0";
+    let records =
+        b"\x1c\0\0\0\0\xff\xff\xff\xff\x23\0\0\0\x10\0\0\0\x01\xff\xff\xff\0\x08\0\0\0\0\0\0";
     expect_malformed_behind(&rt, rt.alloc(), records, 40, Reason::Truncated)
 }
 

@@ -48,7 +48,7 @@ IsWalked-more : (ids : IdSize) (room longest : ℕ) (bytes more : List ℕ) (wal
 IsWalked-more ids room longest bytes more walk is = record {
   placed = omega (arith, is.placed, length-append bytes more);
   same = λ extra. subst (λ (b : List ℕ). walked ids (bounds_within room longest b) b walk ≡ walked ids (bounds_within room longest b) b Front)
-    (sym (append_assoc bytes more extra)) (is.same (more ++ extra));
+      (sym (append_assoc bytes more extra)) (is.same (more ++ extra));
 }
 
 pub IsWalkOf-more : (longest : ℕ) (place : Place) (bytes more : List ℕ) (walk : Walk) → IsWalkOf longest place bytes walk → IsWalkOf longest place (bytes ++ more) walk
@@ -77,7 +77,7 @@ module _ (longest : ℕ) (header : Header) (room : ℕ) (bytes : List ℕ) (from
       record {
         placed = placed;
         same = λ more. subst (λ (n : ℕ). walked header.ids (bounds n) (bytes ++ more) to ≡ walked header.ids (bounds n) (bytes ++ more) from)
-          (sym (length-append bytes more)) (on more) ∙ is.same more;
+            (sym (length-append bytes more)) (on more) ∙ is.same more;
       }
 
   pub walked_short : walked header.ids (bounds_within room longest bytes) bytes from ≡ Err stops.Short → item_at longest (Within header room) bytes ≡ Short
@@ -420,7 +420,7 @@ module _ {S : Type 0} (begins : S → Header → S → Type 0) (steps : S → Fa
       let walk = Walks-then begins steps from.limits.max_item from mid next bytes (is.still ++ left) (drop over.0 (is.still ++ left)) old new new is.walked on in
       let keeps = subst (λ (l : ℕ). IsRest l (place_of mid) [] rest) same over.5 in (
         subst (λ (p : Progress). Behind from bytes old p behind rest new) (sym over.2)
-        (subst (λ (b : List ℕ). Behind from bytes old next b rest new) (sym over.3) (record { still = []; walked = walk; keeps = keeps })),
+            (subst (λ (b : List ℕ). Behind from bytes old next b rest new) (sym over.3) (record { still = []; walked = walk; keeps = keeps })),
         inr (ap length keeps.held ∙ ap length (held_none from.limits.max_item (place_of mid)), keeps.passing ∙ passing_none from.limits.max_item (place_of mid)),
       )
   behind_over from mid to bytes left behind old new kept rest is are (inr on) =
@@ -428,7 +428,7 @@ module _ {S : Type 0} (begins : S → Header → S → Type 0) (steps : S → Fa
       let walk = subst (λ (b : List ℕ). Walks begins steps from.limits.max_item from bytes old mid b new) (sym (append-nil (is.still ++ left))) is.walked in
       let keeps = subst (λ (l : ℕ). IsRest l (place_of mid) (is.still ++ left) rest) same on.2 in (
         subst (λ (p : Progress). Behind from bytes old p behind rest new) (sym on.0)
-        (subst (λ (b : List ℕ). Behind from bytes old mid b rest new) (sym on.1) (record { still = is.still ++ left; walked = walk; keeps = keeps })),
+            (subst (λ (b : List ℕ). Behind from bytes old mid b rest new) (sym on.1) (record { still = is.still ++ left; walked = walk; keeps = keeps })),
         inl on.1,
       )
 
@@ -441,8 +441,8 @@ module _ {S : Type 0} (begins : S → Header → S → Type 0) (steps : S → Fa
   behind_by None from mid to bytes left behind old new kept rest e is are done passes =
       let stays = passes.1 e in (
         subst (λ (p : Progress). Behind from bytes old p behind rest new) (sym stays.0)
-        (subst (λ (r : Rest). Behind from bytes old mid behind r new) (sym stays.1)
-        (subst (λ (b : List ℕ). Behind from bytes old mid b kept new) (sym stays.2) is)),
+            (subst (λ (r : Rest). Behind from bytes old mid behind r new) (sym stays.1)
+            (subst (λ (b : List ℕ). Behind from bytes old mid b kept new) (sym stays.2) is)),
         IsLeft-none left behind kept rest e stays.1 stays.2 done,
       )
 

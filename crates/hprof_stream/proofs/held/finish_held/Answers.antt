@@ -33,8 +33,8 @@ returns-in_err-left-clause-finished g c front is =
     let any = some_len (length mid.left.now) c.if-not-is_empty.ensures in
     let p = err_from_is_err_and c.from_residual.result c.from_residual.ensures.1 in
     rw (p.1, p.2) (
-      GoesOn-halted g.S.Sink.begins g.S.Sink.steps g.S.Sink.refuses g.S.Sink.failed c.args.progress.now mid.progress c.finish_once.new.progress front c.args.bytes.now mid.left.now c.args.sink.now mid.sink
-        c.finish_once.new.sink mid.rest c.finish_once.new.rest (inv.on front is) some fault c.in_err-left.ensures.finished (omega (arith, inv.held some, ap length is.held)) (omega (arith, any, inv.less))
+    GoesOn-halted g.S.Sink.begins g.S.Sink.steps g.S.Sink.refuses g.S.Sink.failed c.args.progress.now mid.progress c.finish_once.new.progress front c.args.bytes.now mid.left.now c.args.sink.now mid.sink
+    c.finish_once.new.sink mid.rest c.finish_once.new.rest (inv.on front is) some fault c.in_err-left.ensures.finished (omega (arith, inv.held some, ap length is.held)) (omega (arith, any, inv.less))
     )
 
 pub loop-progress-smaller : goal.loop-progress-smaller

@@ -95,8 +95,20 @@ returns-in-Some-clause-counted g c =
     let passing = c.clear.ensures.passing ∙ c.if-walks_short.ensures.passing in
     Walks-counted-less g.S.Sink.begins g.S.Sink.steps from.limits.max_item from c.step.new.self shown (drop c.in-Some.len shown) c.args.sink.now c.step.new.sink
     (rest_len c.args.rest.now + length c.args.bytes.now) (rest_len c.clear.new.self + length c.split_at-in-Some.result.1.now) step.0 c.requires.counted
-    (omega (arith, step.2, size, added, length-drop c.in-Some.len shown, ap passed_len passing, ap length c.clear.ensures.held, c.split_at.ensures.front_len, c.split_at-in-Some.ensures.back_len,
-    c.saturating_sub.ensures, c.len-before.ensures, c.min-count.ensures))
+    (omega (
+      arith,
+      step.2,
+      size,
+      added,
+      length-drop c.in-Some.len shown,
+      ap passed_len passing,
+      ap length c.clear.ensures.held,
+      c.split_at.ensures.front_len,
+      c.split_at-in-Some.ensures.back_len,
+      c.saturating_sub.ensures,
+      c.len-before.ensures,
+      c.min-count.ensures,
+    ))
 
 pub returns-clause-finished : goal.returns-clause-finished
 returns-clause-finished g c front is =
@@ -120,7 +132,6 @@ returns-clause-finished g c front is =
     let counts = rw (c.if-walks_short.ensures.held, held.all) at c.count_passed.ensures.rest in
     let keeps = subst (λ (p : Progress). IsRest p.limits.max_item (place_of p) (front ++ more) rest) (sym step.1) (counts short on (c.if-walks_short.ensures.passing ∙ held.none)) in
     inr (sym step.1, step.2, (front ++ more, ap (λ (b : List ℕ). front ++ b) (sym cut) ∙ sym (append_assoc front more behind), keeps))
-
 
 pub returns-in_err-len-clause-kept : goal.returns-in_err-len-clause-kept
 returns-in_err-len-clause-kept g c header e =

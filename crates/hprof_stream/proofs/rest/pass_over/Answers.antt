@@ -52,10 +52,14 @@ returns-else-count-left-clause-passed c front p e keeps =
     let all : c.min-count.result ≡ length bytes = omega (arith, c.min-count.ensures, c.if-count-left.false) in
     let count = length-append front bytes in
     let few : length (front ++ bytes) < 9 + is.head.length = omega (arith, left, seen, fewer, all, count, c.min-count.ensures, c.if-count-left.false) in
-    inr (refl, c.split_at.ensures.back ∙ drop_of_length-le bytes (omega (arith, all)), record {
-      are_bytes = IsBytes-append front bytes keeps.are_bytes (λ i. omega (arith, c.type_inv.bytes i));
-      short = passed_short longest place front p is bytes few;
-      held = keeps.held ∙ passed_none_held longest place front p is ∙ sym (passed_held longest place front p is bytes);
-      passing = rw e (same_passing (p.seen + c.min-count.result) _ _ _ (omega (arith, was, all, count)) (omega (arith, was_left, all, count)) ∙ sym (passed_on longest place front p is bytes));
-      walk = passed_walk longest place front p is (front ++ bytes) c.args.rest.now.walk;
-    })
+    inr (
+      refl,
+      c.split_at.ensures.back ∙ drop_of_length-le bytes (omega (arith, all)),
+      record {
+        are_bytes = IsBytes-append front bytes keeps.are_bytes (λ i. omega (arith, c.type_inv.bytes i));
+        short = passed_short longest place front p is bytes few;
+        held = keeps.held ∙ passed_none_held longest place front p is ∙ sym (passed_held longest place front p is bytes);
+        passing = rw e (same_passing (p.seen + c.min-count.result) _ _ _ (omega (arith, was, all, count)) (omega (arith, was_left, all, count)) ∙ sym (passed_on longest place front p is bytes));
+        walk = passed_walk longest place front p is (front ++ bytes) c.args.rest.now.walk;
+      },
+    )
