@@ -24,41 +24,39 @@ fn class_99(alloc: Global) -> Result<Vec<u8>, AllocError> {
     class_dump(alloc, 99, 0, b"\0\0\0\x01\0\0\0\0\0\x01\0\0\0\x07\x08")
 }
 
+/// A part with one segment of this sub-record.
+fn part_of(alloc: Global, sub: &[u8]) -> Result<Vec<u8>, AllocError> {
+    let segment = record(alloc, 0x1c, &[sub])?;
+    bytes_of(alloc, &[HEADER, &segment])
+}
+
 #[test]
 fn classes_that_come_late(rt: HostRuntime) -> Result<(), Fail> {
-    let (upper, lower) = (class_99(rt.alloc())?, class_100(rt.alloc())?);
-    assert_eq!(rt;
-        (upper.len(), lower.len(), INSTANCE_200.len()),
-        (48, 53, 26)
-    );
-    let part = |sub: &[u8]| {
-        let segment = record(rt.alloc(), 0x1c, &[sub])?;
-        bytes_of(rt.alloc(), &[HEADER, &segment])
-    };
-    let [one, two, three] = [part(INSTANCE_200)?, part(&lower)?, part(&upper)?];
-    let [one, two, three] = [one.as_slice(), two.as_slice(), three.as_slice()];
+    let upper = class_99(rt.alloc())?;
+    let lower = class_100(rt.alloc())?;
+    assert_eq!(rt; (upper.len(), lower.len()), (48, 53));
+    let one = part_of(rt.alloc(), INSTANCE_200)?;
+    let two = part_of(rt.alloc(), &lower)?;
+    let three = part_of(rt.alloc(), &upper)?;
     let all = record(rt.alloc(), 0x1c, &[&upper, &lower, INSTANCE_200])?;
-    let texts = [HEADER, &all, END];
-    assert_eq!(rt; bytes_of(rt.alloc(), &texts)?.len(), 176);
-    for parts in [
-        [one, two, three],
-        [one, three, two],
-        [two, one, three],
-        [two, three, one],
-        [three, one, two],
-        [three, two, one],
-    ] {
-        expect_joined(&rt, rt.alloc(), &parts, &texts, 3)?;
-    }
-    Ok(())
+    let dump = bytes_of(rt.alloc(), &[HEADER, &all, END])?;
+    assert_eq!(rt; dump.len(), 176);
+    expect_joined(&rt, rt.alloc(), &[&one, &two, &three], &[&dump], 3)?;
+    expect_joined(&rt, rt.alloc(), &[&one, &three, &two], &[&dump], 3)?;
+    expect_joined(&rt, rt.alloc(), &[&two, &one, &three], &[&dump], 3)?;
+    expect_joined(&rt, rt.alloc(), &[&two, &three, &one], &[&dump], 3)?;
+    expect_joined(&rt, rt.alloc(), &[&three, &one, &two], &[&dump], 3)?;
+    expect_joined(&rt, rt.alloc(), &[&three, &two, &one], &[&dump], 3)
 }
+
+/// An instance 16 of class 16 without fields.
+const INSTANCE_16: &[u8] = b"\x21\0\0\0\x10\0\0\0\x01\0\0\0\x10\0\0\0\0";
 
 #[test]
 fn a_class_and_an_instance_of_one_identifier(rt: HostRuntime) -> Result<(), Fail> {
     let class = class_dump(rt.alloc(), 16, 0, &[0; 10])?;
-    let instance = b"\x21\0\0\0\x10\0\0\0\x01\0\0\0\x10\0\0\0\0".as_slice();
-    let came = record(rt.alloc(), 0x1c, &[instance, &class])?;
-    let ordered = record(rt.alloc(), 0x1c, &[&class, instance])?;
+    let came = record(rt.alloc(), 0x1c, &[INSTANCE_16, &class])?;
+    let ordered = record(rt.alloc(), 0x1c, &[&class, INSTANCE_16])?;
     let part = bytes_of(rt.alloc(), &[HEADER, &came])?;
     expect_joined(&rt, rt.alloc(), &[&part], &[HEADER, &ordered, END], 2)
 }

@@ -5,6 +5,7 @@ use hprof_heap::Key;
 use hprof_items::Reason;
 use hprof_stream::PartFault;
 use hprof_tool::ToolFault;
+use std::alloc::{AllocError, Global};
 use std::test::Fail;
 
 #[test]
@@ -29,14 +30,18 @@ fn least_of_two_conflicts(rt: HostRuntime) -> Result<(), Fail> {
     expect_refused(&rt, rt.alloc(), &[&part], ToolFault::Conflict(Key::Name(3)))
 }
 
+/// A segment with the byte array 16 of that one byte.
+fn array_of(alloc: Global, byte: u8) -> Result<Vec<u8>, AllocError> {
+    let sub = [0x23, 0, 0, 0, 16, 0, 0, 0, 1, 0, 0, 0, 1, 8, byte];
+    record(alloc, 0x1c, &[&sub])
+}
+
 #[test]
 fn the_least_of_two_kinds(rt: HostRuntime) -> Result<(), Fail> {
-    let array = |alloc, byte: u8| {
-        let sub = [0x23, 0, 0, 0, 16, 0, 0, 0, 1, 0, 0, 0, 1, 8, byte];
-        record(alloc, 0x1c, &[&sub])
-    };
-    let one = bytes_of(rt.alloc(), &[HEADER, NAME_1_A, &array(rt.alloc(), 1)?])?;
-    let other = bytes_of(rt.alloc(), &[HEADER, NAME_1_B, &array(rt.alloc(), 2)?])?;
+    let first = array_of(rt.alloc(), 1)?;
+    let second = array_of(rt.alloc(), 2)?;
+    let one = bytes_of(rt.alloc(), &[HEADER, NAME_1_A, &first])?;
+    let other = bytes_of(rt.alloc(), &[HEADER, NAME_1_B, &second])?;
     let fault = ToolFault::Conflict(Key::Name(1));
     expect_refused(&rt, rt.alloc(), &[&one, &other], fault)?;
     expect_refused(&rt, rt.alloc(), &[&other, &one], fault)

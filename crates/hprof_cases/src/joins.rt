@@ -1,8 +1,8 @@
 //! Parts that are joined.
 
 use crate::samples::{
-    ARRAY_16, END, HEADER, NAME_1_A, NAME_2_B, STICKY_16, WIDE_HEADER, bytes_of, expect_joined,
-    joined, joined_and_kept, plain_dump, plain_part, record,
+    ARRAY_16, END, HEADER, NAME_1_A, NAME_2_B, OLD_HEADER, STICKY_16, WIDE_HEADER, bytes_of,
+    expect_joined, joined, joined_and_kept, plain_dump, plain_part, record,
 };
 use hprof_tool::{Joined, ToolFault, laws};
 use std::test::Fail;
@@ -68,8 +68,7 @@ fn the_heap_is_handed_back(rt: HostRuntime) -> Result<(), Fail> {
 
 #[test]
 fn first_version_is_written_as_the_second(rt: HostRuntime) -> Result<(), Fail> {
-    let old = b"JAVA PROFILE 1.0.1\0\0\0\0\x04\0\0\0\0\0\0\0\x01".as_slice();
-    expect_joined(&rt, rt.alloc(), &[old], &[HEADER, END], 0)
+    expect_joined(&rt, rt.alloc(), &[OLD_HEADER], &[HEADER, END], 0)
 }
 
 #[test]
@@ -92,10 +91,9 @@ fn the_plain_part(rt: HostRuntime) -> Result<(), Fail> {
 
 #[test]
 fn the_plain_part_in_two_heap_dumps(rt: HostRuntime) -> Result<(), Fail> {
-    let old = b"JAVA PROFILE 1.0.1\0\0\0\0\x04\0\0\0\0\0\0\0\x01".as_slice();
     let array = record(rt.alloc(), 0x0c, &[ARRAY_16])?;
     let root = record(rt.alloc(), 0x1c, &[STICKY_16])?;
-    let part = bytes_of(rt.alloc(), &[old, NAME_2_B, NAME_1_A, &array, &root])?;
+    let part = bytes_of(rt.alloc(), &[OLD_HEADER, NAME_2_B, NAME_1_A, &array, &root])?;
     let dump = plain_dump(rt.alloc())?;
     expect_joined(&rt, rt.alloc(), &[&part], &[&dump], 4)
 }

@@ -146,6 +146,7 @@ fn failed_read(rt: HostRuntime) -> Result<(), Fail> {
 #[test]
 fn failed_read_at_each_byte(rt: HostRuntime) -> Result<(), Fail> {
     let part = plain_part(rt.alloc())?;
+    assert_eq!(rt; part.len(), 89);
     for len in 0..90usize {
         expect_fault(
             &rt,
@@ -154,7 +155,9 @@ fn failed_read_at_each_byte(rt: HostRuntime) -> Result<(), Fail> {
         );
     }
     let root = b"\x05\0\0\0".as_slice();
-    let part = bytes_of(rt.alloc(), &[HEADER, &record(rt.alloc(), 0x1c, &[root])?])?;
+    let segment = record(rt.alloc(), 0x1c, &[root])?;
+    let part = bytes_of(rt.alloc(), &[HEADER, &segment])?;
+    assert_eq!(rt; part.len(), 44);
     let past_end = PartFault::Malformed {
         at: 40,
         reason: Reason::PastEnd,
@@ -195,14 +198,17 @@ fn longest_item_of_the_plain_part(rt: HostRuntime) -> Result<(), Fail> {
 #[test]
 fn past_the_end_before_too_long(rt: HostRuntime) -> Result<(), Fail> {
     let root = b"\x05\0\0\0".as_slice();
-    let part = bytes_of(rt.alloc(), &[HEADER, &record(rt.alloc(), 0x1c, &[root])?])?;
+    let segment = record(rt.alloc(), 0x1c, &[root])?;
+    let part = bytes_of(rt.alloc(), &[HEADER, &segment])?;
     let fault = PartFault::Malformed {
         at: 40,
         reason: Reason::PastEnd,
     };
     expect_fault(&rt, answer(rt.alloc(), &part, longest(3))?, fault);
     let root = b"\x05\0\0\0\x10".as_slice();
-    let part = bytes_of(rt.alloc(), &[HEADER, &record(rt.alloc(), 0x1c, &[root])?])?;
+    let segment = record(rt.alloc(), 0x1c, &[root])?;
+    let part = bytes_of(rt.alloc(), &[HEADER, &segment])?;
+    assert_eq!(rt; part.len(), 45);
     let long = PartFault::ItemTooLong { at: 40 };
     expect_fault(&rt, answer(rt.alloc(), &part, longest(4))?, long);
     expect_fault(&rt, answer(rt.alloc(), &part[..41], longest(4))?, long);

@@ -15,7 +15,10 @@ use std::test::Fail;
 /// The header of version 1.0.2 with identifiers of four bytes and time 1.
 pub(crate) const HEADER: &[u8] = b"JAVA PROFILE 1.0.2\0\0\0\0\x04\0\0\0\0\0\0\0\x01";
 
-/// The same with identifiers of eight bytes.
+/// The same of version 1.0.1.
+pub(crate) const OLD_HEADER: &[u8] = b"JAVA PROFILE 1.0.1\0\0\0\0\x04\0\0\0\0\0\0\0\x01";
+
+/// That of version 1.0.2 with identifiers of eight bytes.
 pub(crate) const WIDE_HEADER: &[u8] = b"JAVA PROFILE 1.0.2\0\0\0\0\x08\0\0\0\0\0\0\0\x01";
 
 /// Name 1 is `A`, and name 2 is `B`.

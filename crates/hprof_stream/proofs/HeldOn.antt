@@ -1,5 +1,5 @@
 -- Going on with what is held of an item.
-use Rattle.std.proofs.Common.{◌≡◌, ℕ, zero, suc, ◌+◌, ◌-◌, ◌<◌, ◌≤◌, ◌⊎◌, inl, inr, min, ltb, Bool, true, false, cond, List, [], ◌∷◌, ◌++◌, length, take, drop, Option, Some, None, OnOk, IfOk, Bor, is_some, Ok, Err, refl, sym, ap, subst, ◌∙◌, append_assoc, append-nil, take-append-drop, arith}
+use Rattle.std.proofs.Common.{◌≡◌, ℕ, zero, suc, ◌+◌, ◌-◌, ◌<◌, ◌≤◌, ◌⊎◌, inl, inr, ltb, Bool, true, false, cond, List, [], ◌∷◌, ◌++◌, length, take, drop, Option, Some, None, OnOk, IfOk, Bor, is_some, Ok, Err, refl, sym, ap, subst, ◌∙◌, append_assoc, append-nil, take-append-drop, arith}
 use Rattle.std.proofs.lemmas.Bool.{eqb-true, ltb-true, ltb-false}
 use Rattle.std.proofs.lemmas.List.{length-append, take-append-le, drop-append-le, nil_from_length}
 use Rattle.std.proofs.Math.Seq.{drop-append-add}
@@ -31,13 +31,13 @@ use Rattle.hprof_stream.specs.declared.sink.SinkFault.{SinkFault}
 use Rattle.hprof_stream.specs.Part.{Stated}
 use Rattle.hprof_stream.specs.Item.{Place, Start, Between, Within, HasRoom, Found, found_sub, place_behind, is_skipped_kind, is_skipped_head, is_passed_over, held_of, item_at}
 use Rattle.hprof_stream.specs.Progress.{place_of, advanced, IsCounted}
-use Rattle.hprof_stream.specs.ItemStep.{Stands, IsOfPlace, place_after}
+use Rattle.hprof_stream.specs.ItemStep.{Stands, place_after}
 use Rattle.hprof_stream.specs.declared.item.Item.TheVariants as items
 use Rattle.hprof_items.specs.Spelling.{longest_body}
 use Rattle.hprof_stream.specs.Rest.{passing_by, passing_of, walk_at, IsWalked, IsWalkOf, IsRest, PassesOver, passed_len, rest_len}
-use Rattle.hprof_stream.specs.Walking.{Walks, StepsOver, Halts, GoesOn, WantsMemory, IsHalted, FinishesHeld, ReadsOn, WalksAll, seen}
+use Rattle.hprof_stream.specs.Walking.{Walks, StepsOver, Halts, GoesOn, IsHalted, ReadsOn, WalksAll, seen}
 use Rattle.hprof_stream.proofs.Items.{item_found, item_again}
-use Rattle.hprof_stream.proofs.Rests.{IsPassed, passed_of, passed_none_held, passed_walk, held_none, passing_none, IsBytes-append, IsRest-none}
+use Rattle.hprof_stream.proofs.Rests.{passed_of, passed_none_held, passed_walk, held_none, passing_none, IsBytes-append, IsRest-none}
 use Rattle.hprof_stream.proofs.Stepping.{Halts-step, Halts-then, Halts-same}
 use Rattle.hprof_stream.proofs.Walks.{Walks-none, Walks-item, Walks-more, Walks-then, Walks-at, Walks-counted, same_item}
 

@@ -1,5 +1,5 @@
 -- What was read of an item.
-use Rattle.std.proofs.Common.{◌≡◌, ℕ, ◌^◌, ◌<◌, ◌≤◌, Bool, true, false, cond, eqb, ltb, List, ◌++◌, length, drop, Ok, refl, sym, ap, subst, ◌∙◌, arith}
+use Rattle.std.proofs.Common.{◌≡◌, ℕ, Bool, true, false, cond, ltb, List, ◌++◌, drop, Ok, refl, sym, ap, subst, ◌∙◌, arith}
 use Rattle.std.proofs.lemmas.Bool.{le-ltb, and_right, eqb-true}
 use Rattle.std.specs.Prelude.{◌==◌, slice_index}
 use Rattle.hprof_items.specs.declared.header.Header.{Header}
@@ -14,11 +14,11 @@ use Rattle.hprof_values.specs.declared.sub_tag.SubTag.TheVariants as tags
 use Rattle.hprof_values.specs.Ids.{IsBytes}
 use Rattle.hprof_values.specs.SubTag.{code_of_tag}
 use Rattle.hprof_items.specs.Header.{header_bytes}
-use Rattle.hprof_items.specs.Head.{head_bytes, is_fact_tag, is_dump_tag, is_end_tag, kind_of}
+use Rattle.hprof_items.specs.Head.{head_bytes, is_fact_tag, is_dump_tag, kind_of}
 use Rattle.hprof_items.specs.FactValue.{FactValue}
 use Rattle.hprof_items.specs.Reading.{IsRightHead}
 use Rattle.hprof_items.specs.Spelling.{longest_body}
-use Rattle.hprof_items.specs.SubRecord.{sub_at, dump_bytes, tag_of_dump}
+use Rattle.hprof_items.specs.SubRecord.{sub_at, tag_of_dump}
 use Rattle.hprof_items.specs.SubReading.{bounds_within}
 use Rattle.hprof_items.proofs.Dumps.{tag_first, sub_found}
 use Rattle.hprof_items.specs.declared.step.Step.{Step}

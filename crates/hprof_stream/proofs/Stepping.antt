@@ -1,5 +1,5 @@
 -- Walks that were stopped.
-use Rattle.std.proofs.Common.{◌≡◌, ℕ, List, [], ◌++◌, drop, Option, Some, None, Result, Ok, Err, refl, sym, ap, subst, ◌∙◌, append-nil}
+use Rattle.std.proofs.Common.{◌≡◌, ℕ, List, [], ◌++◌, drop, Option, Some, None, Result, Ok, Err, sym, ap, subst, ◌∙◌, append-nil}
 use Rattle.hprof_items.specs.declared.header.Header.{Header}
 use Rattle.hprof_items.specs.FactValue.{FactValue}
 use Rattle.hprof_stream.specs.declared.part_fault.PartFault.{PartFault}

@@ -19,7 +19,7 @@ use Rattle.hprof_stream.specs.declared.part_fault.PartFault.TheVariants as fault
 use Rattle.hprof_stream.specs.declared.sink.SinkFault.{SinkFault}
 use Rattle.hprof_stream.specs.declared.progress.Progress.{Progress}
 use Rattle.hprof_stream.specs.Part.{Stated, all_bytes, all_facts, is_end}
-use Rattle.hprof_stream.specs.Item.{Place, Start, Between, Within, place_in, place_behind, begun_at, records_begun, header_before, Found, IsItem, is_header, is_fact, is_dump_end, is_dump, is_sub, is_skipped, AreItems, none, more, item_at}
+use Rattle.hprof_stream.specs.Item.{Place, Within, place_in, place_behind, begun_at, header_before, IsItem, is_header, is_fact, is_dump_end, is_dump, is_sub, is_skipped, none, more, item_at}
 use Rattle.hprof_stream.specs.ItemStep.{facts_of, place_after, Stands, is_end_item, IsOfPlace, ItemLists}
 use Rattle.hprof_stream.specs.Progress.{place_of, advanced, IsCounted, IsNext}
 use Rattle.hprof_stream.specs.Run.{Run, became, FitsBegun, ListsHaveBegun}

@@ -1,12 +1,10 @@
 -- What a reader keeps of an item that is not whole yet.
-use Rattle.std.specs.Prelude.{◌≡◌, ℕ, ◌+◌, ◌-◌, ◌<◌, ◌≤◌, ◌⊎◌, List, [], ◌++◌, length, drop, Option, Some, None, Result, ⊤, if◌then◌else◌}
+use Rattle.std.specs.Prelude.{◌≡◌, ℕ, ◌+◌, ◌-◌, ◌≤◌, ◌⊎◌, List, [], ◌++◌, length, drop, Option, Some, None, ⊤, if◌then◌else◌}
 use Rattle.hprof_values.specs.declared.ids.IdSize.{IdSize}
-use Rattle.hprof_values.specs.Fields.{Bounds}
 use Rattle.hprof_values.specs.Ids.{IsBytes}
-use Rattle.hprof_items.specs.declared.header.Header.{Header}
 use Rattle.hprof_items.specs.declared.head.Head.{Head}
 use Rattle.hprof_items.specs.declared.step.Step.{Step}
-use Rattle.hprof_items.specs.declared.step.Step.TheVariants.{Whole, Short, TooLong, Fault}
+use Rattle.hprof_items.specs.declared.step.Step.TheVariants.{Whole, Short}
 use Rattle.hprof_items.specs.declared.walk.Walk.{Walk}
 use Rattle.hprof_items.specs.declared.walk.Walk.TheVariants.{Front, Entries}
 use Rattle.hprof_items.specs.Head.{kind_of}
@@ -19,7 +17,7 @@ use Rattle.hprof_stream.specs.declared.item.Item.TheVariants as items
 use Rattle.hprof_stream.specs.declared.progress.Progress.{Progress}
 use Rattle.hprof_stream.specs.ItemStep.{IsOfPlace}
 use Rattle.hprof_stream.specs.Progress.{place_of, advanced}
-use Rattle.hprof_stream.specs.Item.{Place, Start, Between, Within, is_skipped_kind, held_of, item_at}
+use Rattle.hprof_stream.specs.Item.{Place, Between, Within, is_skipped_kind, held_of, item_at}
 
 -- how much was seen of a record that is passed over, once its head is there
 abbrev pub passing_by : Step Head → ℕ → Option Passing

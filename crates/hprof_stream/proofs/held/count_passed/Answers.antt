@@ -1,4 +1,4 @@
-use Rattle.std.proofs.Common.{◌≡◌, ℕ, List, Some, None, refl, sym, ap, ◌∙◌, arith}
+use Rattle.std.proofs.Common.{refl, sym, ◌∙◌}
 use Rattle.hprof_stream.specs.Progress.{place_of}
 use Rattle.hprof_stream.proofs.HeldOn.{IsRest-held, IsRest-passing, not_some}
 use Rattle.hprof_stream.proofs.held.count_passed.Goals as goal

@@ -1,4 +1,4 @@
-use Rattle.std.proofs.Common.{◌≡◌, ◌+◌, ◌<◌, ◌≤◌, ℕ, List, length, refl, sym, ap, inr, ◌∙◌, arith}
+use Rattle.std.proofs.Common.{◌<◌, length, refl, ap, inr, arith}
 use Rattle.std.proofs.lemmas.Result.{err_from_is_err_and}
 use Rattle.std.specs.Vec.{vec_len}
 use Rattle.hprof_stream.proofs.HeldOn.{some_len, GoesOn-then, GoesOn-halted}

@@ -1,4 +1,4 @@
-use Rattle.std.proofs.Common.{◌≡◌, ◌+◌, ◌-◌, ◌<◌, ◌≤◌, ◌++◌, ℕ, List, [], length, take, drop, Some, None, Ok, Err, refl, sym, ap, subst, ◌∙◌, inr, append_assoc, arith}
+use Rattle.std.proofs.Common.{◌≡◌, ◌+◌, ◌-◌, ◌++◌, ℕ, List, [], length, drop, Some, Ok, Err, refl, sym, ap, subst, ◌∙◌, inr, append_assoc, arith}
 use Rattle.std.proofs.lemmas.List.{length-append, length-drop}
 use Rattle.std.proofs.lemmas.Result.{err_from_is_err_and}
 use Rattle.hprof_items.specs.declared.walk.Walk.{Walk}
@@ -10,7 +10,7 @@ use Rattle.hprof_stream.specs.Progress.{place_of}
 use Rattle.hprof_stream.specs.Item.{item_at}
 use Rattle.hprof_stream.specs.Rest.{IsRest, IsWalkOf, passing_of, passed_len, rest_len}
 use Rattle.hprof_stream.specs.Walking.{GoesOn, IsHalted, StepsOver}
-use Rattle.hprof_stream.proofs.HeldOn.{cut_bytes, held_more, Held, IsRest-held, GoesOn-still, GoesOn-whole, FinishesHeld-refused, IsWalkOf-front, item_longer}
+use Rattle.hprof_stream.proofs.HeldOn.{cut_bytes, held_more, IsRest-held, GoesOn-still, GoesOn-whole, FinishesHeld-refused, IsWalkOf-front, item_longer}
 use Rattle.hprof_stream.proofs.ItemLists.{room_behind}
 use Rattle.hprof_stream.proofs.Rests.{IsRest-none}
 use Rattle.hprof_stream.proofs.Stepping.{step_keeps}

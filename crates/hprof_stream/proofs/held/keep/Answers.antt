@@ -1,8 +1,5 @@
-use Rattle.std.proofs.Common.{◌≡◌, ◌⊎◌, ◌+◌, ◌++◌, ℕ, List, [], length, true, Some, None, Err, OnOk, inl, inr, refl, sym, ap, subst, ◌∙◌, append-nil, arith}
-use Rattle.hprof_items.specs.declared.step.Step.TheVariants.{Short}
-use Rattle.hprof_stream.specs.Item.{item_at}
+use Rattle.std.proofs.Common.{refl, sym, ◌∙◌, arith}
 use Rattle.hprof_stream.specs.Progress.{place_of}
-use Rattle.hprof_stream.specs.Rest.{IsRest}
 use Rattle.hprof_stream.proofs.HeldOn.{kept_behind, on_ok, not_some, not_empty}
 use Rattle.hprof_stream.proofs.held.keep.Goals as goal
 

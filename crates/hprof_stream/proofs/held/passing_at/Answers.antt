@@ -1,4 +1,4 @@
-use Rattle.std.proofs.Common.{◌≡◌, ◌≤◌, ℕ, length, refl, arith}
+use Rattle.std.proofs.Common.{refl, arith}
 use Rattle.hprof_stream.proofs.HeldOn.{head_there}
 use Rattle.hprof_stream.proofs.held.passing_at.Goals as goal
 

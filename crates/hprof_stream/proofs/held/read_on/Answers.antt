@@ -1,4 +1,4 @@
-use Rattle.std.proofs.Common.{◌≡◌, ◌⊎◌, ◌+◌, ◌<◌, ◌≤◌, ◌++◌, ℕ, List, [], length, Option, None, true, is_some, inl, inr, refl, sym, ap, subst, ◌∙◌, arith}
+use Rattle.std.proofs.Common.{◌≡◌, ◌⊎◌, ◌<◌, ◌++◌, length, Option, None, true, is_some, inl, inr, sym, subst, ◌∙◌, arith}
 use Rattle.std.specs.Vec.{vec_len}
 use Rattle.hprof_items.specs.declared.header.Header.{Header}
 use Rattle.hprof_stream.specs.Walking.{IsBegun, seen}

@@ -1,4 +1,4 @@
-use Rattle.std.proofs.Common.{◌≡◌, ◌≤◌, ℕ, List, length, Err, refl, sym, ap, subst, ◌∙◌, arith}
+use Rattle.std.proofs.Common.{length, Err, sym, ap, subst, ◌∙◌, arith}
 use Rattle.hprof_stream.specs.Item.{Place, item_at}
 use Rattle.hprof_stream.specs.Rest.{IsWalkOf, passing_of}
 use Rattle.hprof_stream.proofs.HeldOn.{IsWalkOf-on, walked_short, placed_at, some_room, place_within}

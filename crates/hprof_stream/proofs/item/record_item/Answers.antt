@@ -1,7 +1,5 @@
-use Rattle.std.proofs.Common.{◌≡◌, sym, ap, ◌∙◌}
+use Rattle.std.proofs.Common.{sym, ◌∙◌}
 use Rattle.hprof_items.specs.declared.head.HeadKind.TheVariants.{FactRecord, HeapDump, DumpEnd, Skipped}
-use Rattle.hprof_stream.specs.Item.{Between}
-use Rattle.hprof_stream.specs.ItemStep.{IsOfPlace}
 use Rattle.hprof_stream.proofs.ItemSteps.{right_at_all, record_ends, fact_place, skipped_place}
 use Rattle.hprof_stream.proofs.item.record_item.Goals as goal
 

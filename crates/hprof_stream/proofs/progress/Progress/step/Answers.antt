@@ -1,8 +1,5 @@
-use Rattle.std.proofs.Common.{◌≡◌, ◌<◌, ◌≤◌, ℕ, length, drop, refl, sym, subst, arith}
-use Rattle.hprof_items.specs.declared.step.Step.TheVariants.{Whole}
+use Rattle.std.proofs.Common.{drop, refl, sym, subst, arith}
 use Rattle.hprof_stream.specs.declared.progress.Progress.{Progress}
-use Rattle.hprof_stream.specs.Item.{Found, item_at}
-use Rattle.hprof_stream.specs.Progress.{place_of}
 use Rattle.hprof_stream.specs.Walking.{Walks}
 use Rattle.hprof_stream.proofs.Walks.{Walks-item, given_fits, next_counted, Stops-refused}
 use Rattle.hprof_stream.proofs.progress.Progress.step.Goals as goal
