@@ -12,6 +12,7 @@ use Rattle.hprof_heap.specs.Dump.{segments_of}
 use Rattle.hprof_heap.specs.Rows.{rows_left}
 use Rattle.hprof_heap.specs.SubRow.{sub_fact, IsWritable, facts_of_subs}
 
+-- the facts of those that are still to come
 abbrev pub subs_left : SubRows → List FactValue
 subs_left subs = facts_of_subs subs.ids subs.roots (rows_left subs.classes) (rows_left subs.objects)
 
