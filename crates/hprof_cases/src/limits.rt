@@ -205,6 +205,11 @@ fn past_the_end_before_too_long(rt: HostRuntime) -> Result<(), Fail> {
         reason: Reason::PastEnd,
     };
     expect_fault(&rt, answer(rt.alloc(), &part, longest(3))?, fault);
+    Ok(())
+}
+
+#[test]
+fn too_long_before_truncated(rt: HostRuntime) -> Result<(), Fail> {
     let root = b"\x05\0\0\0\x10".as_slice();
     let segment = record(rt.alloc(), 0x1c, &[root])?;
     let part = bytes_of(rt.alloc(), &[HEADER, &segment])?;
