@@ -233,6 +233,10 @@ pub same_place-false : (one other : FactValue) → same_place one other ≡ fals
 same_place-false one other e have =
     not_from_Decides (same_place one other) (bytes_eq-Decides (place_of one) (place_of other)) e (one_key_place one other have)
 
+-- a fact stands in its own place
+pub same_place-same : (fact : FactValue) → same_place fact fact ≡ false → ⊥
+same_place-same fact e = not_from_Decides (same_place fact fact) (bytes_eq-Decides (place_of fact) (place_of fact)) e refl
+
 -- the facts have one key either way round
 pub HaveOneKey-sym : (one other : FactValue) → HaveOneKey one other → HaveOneKey other one
 HaveOneKey-sym one other have = record { key = have.key; key_of_one = have.key_of_other; key_of_other = have.key_of_one }

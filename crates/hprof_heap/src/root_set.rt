@@ -1,6 +1,9 @@
 //! The set of roots.
 
-ghost use Rattle.std.specs.Prelude.{◌≡◌, [], length, IfOk, OnErr};
+ghost use Rattle.std.specs.Prelude.{◌≡◌, [], length, false, IfOk, OnErr};
+ghost use Rattle.std.specs.List.{list_any};
+ghost use Rattle.std.specs.BTreeMap.{is_at};
+ghost use Rattle.hprof_heap.specs.RootSet.{root_cmp};
 
 use crate::relation::Stated;
 use hprof_values::Root;
@@ -29,6 +32,7 @@ impl RootSet {
     pub(crate) fn state(&mut self, root: Root) -> Result<Stated, AllocError>
         ensures ok { IfOk result (λ stated. StatesRoot (roots_of self.old) root stated (roots_of self.new)) }
         ensures err { OnErr result (roots_of self.new ≡ roots_of self.old) }
+        ensures absent { OnErr result (list_any (is_at (root_cmp root)) (roots_of self.old) ≡ false) }
     {
         match self.roots.insert(root) {
             Ok(true) => Ok(Stated::New),

@@ -1,6 +1,6 @@
 //! The bytes of an item that is not whole yet.
 
-ghost use Rattle.std.specs.Prelude.{◌≡◌, ◌⊎◌, ◌+◌, ◌<◌, ◌≤◌, ◌++◌, ℕ, List, [], length, min, true, None, Some, Err, IfOk, OnOk, OnErr, IfSome};
+ghost use Rattle.std.specs.Prelude.{◌≡◌, ◌⊎◌, ◌+◌, ◌<◌, ◌≤◌, ◌++◌, ℕ, List, [], length, vec_len, vec_capacity, min, max, true, None, Some, Err, IfOk, OnOk, OnErr, IfSome};
 ghost use Rattle.hprof_items.specs.declared.step.Step.TheVariants.{Short};
 ghost use Rattle.hprof_values.specs.Ids.{IsBytes};
 ghost use Rattle.hprof_items.specs.declared.header.Header.{Header};
@@ -8,6 +8,8 @@ ghost use Rattle.hprof_stream.specs.Item.{held_of, item_at};
 ghost use Rattle.hprof_stream.specs.Progress.{place_of, IsCounted};
 ghost use Rattle.hprof_stream.specs.Rest.{passing_of, walk_at, IsWalkOf, IsRest, IsSound, rest_len};
 ghost use Rattle.hprof_stream.specs.Walking.{IsBegun, FinishesHeld, ReadsOn, seen};
+
+ghost use Rattle.hprof_stream.specs.Reader.{longest_held};
 
 use crate::part_fault::PartFault;
 use crate::progress::Progress;
@@ -20,6 +22,8 @@ use hprof_values::Item;
 fn hold(held: &mut Vec<u8>, bytes: &[u8]) -> Result<(), PartFault>
     ensures ok { OnOk result (held.new.items ≡ held.old.items ++ bytes.now) }
     ensures err { OnErr result ((result ≡ Err PartFault.OutOfMemory) × (held.new.items ≡ held.old.items) × (0 < length bytes.now)) }
+    ensures full { OnErr result (vec_capacity held.old < vec_len held.old + length bytes.now) }
+    ensures grows { vec_capacity held.old ≤ vec_capacity held.new }
 {
     match held.extend_from_slice(bytes) {
         Ok(()) => Ok(()),
@@ -29,7 +33,8 @@ fn hold(held: &mut Vec<u8>, bytes: &[u8]) -> Result<(), PartFault>
 
 /// How many bytes are added to those that are held at once: as many again, and no more than an item may still have.
 fn portion(held: usize, longest: u32) -> usize
-    ensures { 0 < result }
+    ensures some { 0 < result }
+    ensures within { held + result ≤ max (longest_held longest) (held + 1) }
 {
     let bound = HEADER_LEN.max(HEAD_LEN + longest as usize);
     bound.saturating_sub(held).min(held.max(4_096)).max(1)
@@ -118,6 +123,7 @@ fn finish_once<'a, S: Sink>(
     ensures finished { (front : List ℕ) → IsRest progress.old.limits.max_item (place_of progress.old) front rest.old
         → FinishesHeld S.begins S.steps S.refuses S.failed progress.old front bytes.now sink.old (seen result) progress.new rest.new sink.new }
     ensures sound { OnOk result (IsSound rest.new) }
+    ensures full { result ≡ Err PartFault.OutOfMemory → vec_capacity rest.old.held < vec_len rest.old.held + length bytes.now }
     ensures shorter { IfOk result (λ left. length left.now + min 1 (length rest.new.held.items) < length bytes.now + min 1 (length rest.old.held.items)) }
     ensures less { IfOk result (λ left. length left.now ≤ length bytes.now) }
     ensures counted { IfOk result (λ left. IsCounted progress.new (rest_len rest.new + length left.now)) }

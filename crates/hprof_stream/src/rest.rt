@@ -1,6 +1,6 @@
 //! What is there of an item that is not whole yet.
 
-ghost use Rattle.std.specs.Prelude.{◌≡◌, ◌==◌, ◌+◌, ◌^◌, ◌<◌, ◌≤◌, ℕ, List, [], length, Some, None};
+ghost use Rattle.std.specs.Prelude.{◌≡◌, ◌==◌, ◌+◌, ◌^◌, ◌<◌, ◌≤◌, ℕ, List, [], length, vec_capacity, Some, None};
 ghost use Rattle.hprof_stream.specs.declared.rest.Passing.{Passing};
 ghost use Rattle.hprof_stream.specs.Progress.{place_of, IsCounted};
 ghost use Rattle.hprof_values.specs.Ids.{IsBytes};
@@ -35,6 +35,7 @@ impl Rest {
     pub(crate) fn new(alloc: Global) -> Self
         ensures held { result.held.items ≡ [] }
         ensures walk { result.walk ≡ Walk.Front }
+        ensures no_memory { vec_capacity result.held ≡ 0 }
         ensures passing { result.passing ≡ None }
     {
         Rest {
