@@ -1,8 +1,49 @@
 //! Records and sub-records of all kinds, joined.
 
-use crate::samples::{END, HEADER, WIDE_HEADER, bytes_of, expect_joined, record};
+use crate::samples::{
+    ARRAY_16, END, HEADER, NAME_1_A, STICKY_16, WIDE_HEADER, bytes_of, expect_joined, record,
+};
 use std::alloc::{AllocError, Global};
 use std::test::Fail;
+
+// A load, an unload, a frame, a trace, a start and an end of threads.
+const RECORDS: &[u8] = b"\x02\0\0\0\0\0\0\0\x10\0\0\0\x01\0\0\0\x64\0\0\0\x01\0\0\0\x01\
+    \x03\0\0\0\0\0\0\0\x04\0\0\0\x02\
+    \x04\0\0\0\0\0\0\0\x18\0\0\0\x07\0\0\0\x01\0\0\0\x01\0\0\0\x01\0\0\0\x01\xff\xff\xff\xfd\
+    \x05\0\0\0\0\0\0\0\x10\0\0\0\x01\0\0\0\x03\0\0\0\x01\0\0\0\x07\
+    \x0a\0\0\0\0\0\0\0\x18\0\0\0\x03\0\0\0\xc8\0\0\0\x01\0\0\0\x01\0\0\0\x01\0\0\0\x01\
+    \x0b\0\0\0\0\0\0\0\x04\0\0\0\x03";
+
+// A class with a constant, two static fields and no field of its own.
+const CLASS_100: &[u8] =
+    b"\x20\0\0\0\x64\0\0\0\x01\0\0\0\0\0\0\0\0\0\0\0\0\0\0\0\0\0\0\0\0\0\0\0\0\0\0\0\0\
+    \0\x01\0\x03\x02\0\0\0\xc8\0\x02\0\0\0\x05\x01\0\0\0\xc9\0\0\0\x06\x0a\0\0\0\x07\0\0";
+
+// An array of two objects, and an instance with nine bytes.
+const OBJECTS: &[u8] = b"\x22\0\0\0\x11\0\0\0\x01\0\0\0\x02\0\0\0\x64\0\0\0\x10\0\0\0\0\
+    \x21\0\0\0\xc8\0\0\0\x01\0\0\0\x64\0\0\0\x09\0\0\0\x07\0\0\0\xc9\xff";
+
+#[test]
+fn facts_of_all_forms_twice(rt: HostRuntime) -> Result<(), Fail> {
+    let dumped = record(rt.alloc(), 0x1c, &[STICKY_16, CLASS_100, ARRAY_16, OBJECTS])?;
+    let texts = [HEADER, NAME_1_A, RECORDS, &dumped, END];
+    let dump = bytes_of(rt.alloc(), &texts)?;
+    // In another order, each sub-record twice.
+    let mixed = record(
+        rt.alloc(),
+        0x0c,
+        &[
+            OBJECTS, ARRAY_16, CLASS_100, STICKY_16, CLASS_100, OBJECTS, STICKY_16, ARRAY_16,
+        ],
+    )?;
+    let part = bytes_of(
+        rt.alloc(),
+        &[HEADER, &mixed, RECORDS, NAME_1_A, RECORDS, NAME_1_A],
+    )?;
+    expect_joined(&rt, rt.alloc(), &[&dump], &texts, 12)?;
+    expect_joined(&rt, rt.alloc(), &[&part], &texts, 12)?;
+    expect_joined(&rt, rt.alloc(), &[&part, &dump, &part], &texts, 12)
+}
 
 #[test]
 fn an_unloaded_class(rt: HostRuntime) -> Result<(), Fail> {

@@ -240,11 +240,11 @@ spelled_again ids key fact e fits =
     ap (spelled_fact ids key) (sub_content ids fact e) ∙ spelled_read ids key fact (dump_bytes ids fact) (sub_spells ids fact e fits)
 
 -- what was stated of the spelling was stated of the content
-pub spelled_stated : {E : Type 0} (r : Result Stated E) (ids : IdSize) (key : ℕ) (fact : FactValue) (old new : List (ℕ × SpelledRow)) → record_of fact ≡ None
-    → IfOk r (λ answer. States spelled_bytes old key (dump_bytes ids fact) answer new)
+pub spelled_stated : {E : Type 0} (r : Result Stated E) (ids : IdSize) (key : ℕ) (fact : FactValue) (bytes : List ℕ) (old new : List (ℕ × SpelledRow)) → record_of fact ≡ None
+    → bytes ≡ dump_bytes ids fact → IfOk r (λ answer. States spelled_bytes old key bytes answer new)
     → IfOk r (λ answer. States spelled_bytes old key (content_of ids fact) answer new)
-spelled_stated r ids key fact old new e ok =
-    subst (λ (content : List ℕ). IfOk r (λ answer. States spelled_bytes old key content answer new)) (sym (sub_content ids fact e)) ok
+spelled_stated r ids key fact bytes old new e spelled ok =
+    subst (λ (content : List ℕ). IfOk r (λ answer. States spelled_bytes old key content answer new)) (spelled ∙ sym (sub_content ids fact e)) ok
 
 -- ---- looking up
 

@@ -13,7 +13,6 @@ pub mod HeapRows
 pub mod TableRows
 pub mod ClassName
 pub mod Roots
-pub mod Differences
 pub mod NumberRows
 pub mod Steady
 pub mod Gathering

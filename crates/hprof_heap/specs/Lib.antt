@@ -13,8 +13,6 @@ pub mod Tables
 pub mod TraceRow
 pub mod Spelled
 pub mod SpelledRow
-pub mod Differing
-pub mod Targets
 pub mod Fitting
 pub mod HeapValue
 pub mod HeapRows

@@ -158,7 +158,7 @@ impl Sink for Gatherer {
         Ok(())
     }
 
-    fn take(&mut self, fact: Fact<'_>) -> Result<(), SinkFault> {
+    fn take(&mut self, fact: &Fact<'_>, spelled: &[u8]) -> Result<(), SinkFault> {
         if self.failed {
             return Err(SinkFault::Failed);
         }
@@ -169,14 +169,14 @@ impl Sink for Gatherer {
             // A part was begun, so there is a heap.
             unreachable!()
         };
-        let Ok(stated) = heap.state(fact) else {
+        let Ok(stated) = heap.state(fact, spelled) else {
             self.failed = true;
             return Err(SinkFault::OutOfMemory);
         };
         match stated {
             Stated::New | Stated::Same => Ok(()),
             Stated::Differs => {
-                self.mark(&fact);
+                self.mark(fact);
                 Ok(())
             }
         }

@@ -5,6 +5,7 @@ ghost use Rattle.std.specs.Option.{option_map};
 ghost use Rattle.hprof_values.specs.Lists.{identifiers_of, identifiers_size};
 ghost use Rattle.hprof_items.specs.FactValue.{Name, Load, Unload, Frame, Trace, Start, End, Rooted, ListsHave, value_of};
 ghost use Rattle.hprof_items.specs.Spelling.{Fits};
+ghost use Rattle.hprof_items.specs.SubRecord.{dump_bytes};
 ghost use Rattle.hprof_heap.specs.declared.key.Key.TheVariants as keys;
 ghost use Rattle.hprof_heap.specs.Key.{has_key};
 ghost use Rattle.hprof_heap.specs.HeapRows.{AreHeap, AreHeap-prop};
@@ -18,7 +19,7 @@ use crate::name_row::{NameRow, NameText};
 use crate::number_rows::{FrameRow, KeyRow, LoadRow, StartRow};
 use crate::relation::{Relation, Stated};
 use crate::root_set::RootSet;
-use crate::spelled_row::{SpelledFact, SpelledRow};
+use crate::spelled_row::{SpelledBytes, SpelledRow};
 use crate::sub_rows::SubRows;
 use crate::table::Table;
 use crate::table_rows::TableRows;
@@ -175,38 +176,38 @@ impl Heap {
         self.roots.state(root)
     }
 
-    /// States a class.
-    fn state_class(&mut self, id: u64, fact: Fact<'_>) -> Result<Stated, AllocError>
-        requires place { place_of (value_of fact) ≡ 8 ∷ id ∷ [] }
-        requires fits { Fits (heap_of self.old).ids (value_of fact) }
-        requires lists { ListsHave (heap_of self.old).ids fact }
-        ensures ok { IfOk result (λ stated. StatesInto (heap_of self.old) (value_of fact.entry) stated (heap_of self.new)) }
+    /// States a class, which is spelled by these bytes.
+    fn state_class(&mut self, id: u64, fact: &Fact<'_>, bytes: &[u8]) -> Result<Stated, AllocError>
+        requires place { place_of (value_of fact.now) ≡ 8 ∷ id ∷ [] }
+        requires fits { Fits (heap_of self.old).ids (value_of fact.now) }
+        requires spelled { bytes.now ≡ dump_bytes (heap_of self.old).ids (value_of fact.now) }
+        ensures ok { IfOk result (λ stated. StatesInto (heap_of self.old) (value_of fact.now) stated (heap_of self.new)) }
         ensures err { OnErr result (heap_of self.new ≡ heap_of self.old) }
     {
-        let ids = self.ids;
-        self.classes.state_from(id, SpelledFact { fact, ids })
+        self.classes.state_from(id, SpelledBytes { bytes })
     }
 
-    /// States an instance or an array.
-    fn state_object(&mut self, id: u64, fact: Fact<'_>) -> Result<Stated, AllocError>
-        requires place { place_of (value_of fact) ≡ 9 ∷ id ∷ [] }
-        requires fits { Fits (heap_of self.old).ids (value_of fact) }
-        requires lists { ListsHave (heap_of self.old).ids fact }
-        ensures ok { IfOk result (λ stated. StatesInto (heap_of self.old) (value_of fact.entry) stated (heap_of self.new)) }
+    /// States an instance or an array, which is spelled by these bytes.
+    fn state_object(&mut self, id: u64, fact: &Fact<'_>, bytes: &[u8]) -> Result<Stated, AllocError>
+        requires place { place_of (value_of fact.now) ≡ 9 ∷ id ∷ [] }
+        requires fits { Fits (heap_of self.old).ids (value_of fact.now) }
+        requires spelled { bytes.now ≡ dump_bytes (heap_of self.old).ids (value_of fact.now) }
+        ensures ok { IfOk result (λ stated. StatesInto (heap_of self.old) (value_of fact.now) stated (heap_of self.new)) }
         ensures err { OnErr result (heap_of self.new ≡ heap_of self.old) }
     {
-        let ids = self.ids;
-        self.objects.state_from(id, SpelledFact { fact, ids })
+        self.objects.state_from(id, SpelledBytes { bytes })
     }
 
-    /// States a fact. One that is there takes no memory; where memory is refused, nothing changes.
-    pub(crate) fn state(&mut self, fact: Fact<'_>) -> Result<Stated, AllocError>
-        requires fits { Fits (heap_of self.old).ids (value_of fact) }
-        requires lists { ListsHave (heap_of self.old).ids fact }
-        ensures ok { IfOk result (λ stated. StatesInto (heap_of self.old) (value_of fact.entry) stated (heap_of self.new)) }
+    /// States a fact; the bytes are those of the sub-record that spells it, if it is one of a heap dump. One that is
+    /// there takes no memory; where memory is refused, nothing changes.
+    pub(crate) fn state(&mut self, fact: &Fact<'_>, bytes: &[u8]) -> Result<Stated, AllocError>
+        requires fits { Fits (heap_of self.old).ids (value_of fact.now) }
+        requires lists { ListsHave (heap_of self.old).ids fact.now }
+        requires spelled { bytes.now ≡ dump_bytes (heap_of self.old).ids (value_of fact.now) }
+        ensures ok { IfOk result (λ stated. StatesInto (heap_of self.old) (value_of fact.now) stated (heap_of self.new)) }
         ensures err { OnErr result (heap_of self.new ≡ heap_of self.old) }
     {
-        match fact {
+        match *fact {
             Fact::Name { id, text } => self.state_name(id, text),
             Fact::Load {
                 serial,
@@ -256,9 +257,9 @@ impl Heap {
             ),
             Fact::End { thread } => self.state_end(thread),
             Fact::Root(root) => self.state_root(root),
-            Fact::Class { id, .. } => self.state_class(id, fact),
+            Fact::Class { id, .. } => self.state_class(id, fact, bytes),
             Fact::Instance { id, .. } | Fact::ObjArray { id, .. } | Fact::PrimArray { id, .. } => {
-                self.state_object(id, fact)
+                self.state_object(id, fact, bytes)
             }
         }
     }

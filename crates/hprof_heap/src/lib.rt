@@ -2,9 +2,7 @@
 //! and the canonical dump of a heap.
 #![tactic(auto)]
 
-mod appending;
 mod canonical;
-mod comparing;
 mod content;
 mod facts;
 mod gatherer;

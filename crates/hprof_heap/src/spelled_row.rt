@@ -1,15 +1,12 @@
 //! The rows of classes and objects, which are kept as they are spelled.
 
-ghost use Rattle.std.specs.Prelude.{◌≡◌, ℕ, List};
+ghost use Rattle.std.specs.Prelude.{◌≡◌};
 ghost use Rattle.hprof_items.specs.FactValue.{FactValue, ListsHave, value_of};
-ghost use Rattle.hprof_items.specs.SubRecord.{dump_bytes};
-ghost use Rattle.hprof_heap.specs.SpelledRow.{spelled_bytes, IsSub, IsSub-prop};
+ghost use Rattle.hprof_heap.specs.SpelledRow.{spelled_bytes};
 ghost use Rattle.hprof_heap.specs.Spelled.{Spells};
 
-use crate::appending::Appending;
-use crate::comparing::Comparing;
 use crate::content::{Content, Statement};
-use hprof_items::{Fact, Step, read_sub, spelled_len, write_fact};
+use hprof_items::{Fact, Step, read_sub};
 use hprof_values::IdSize;
 use std::alloc::{AllocError, Global};
 
@@ -42,32 +39,21 @@ impl Content for SpelledRow {
     }
 }
 
-/// A class or an object, where it stands in a piece of a part.
+/// The bytes of a sub-record, where they stand in a piece of a part.
 #[derive(Clone, Copy)]
-pub(crate) struct SpelledFact<'a> {
-    pub(crate) fact: Fact<'a>,
-    pub(crate) ids: IdSize,
-    // It is a sub-record, and has a spelling.
-    ghost fits: { IsSub ids fact } by { IsSub-prop ids fact },
+pub(crate) struct SpelledBytes<'a> {
+    pub(crate) bytes: &'a [u8],
 }
 
-impl Statement<SpelledRow> for SpelledFact<'_> {
-    ghost content = { λ stated. dump_bytes stated.ids (value_of stated.fact) };
+impl Statement<SpelledRow> for SpelledBytes<'_> {
+    ghost content = { λ spelled. spelled.bytes.now };
 
     fn matches(&self, row: &SpelledRow) -> bool {
-        let mut target = Comparing::new(&row.bytes);
-        write_fact(&self.fact, self.ids, &mut target).is_ok() && target.is_same()
+        row.bytes.as_slice() == self.bytes
     }
 
     fn into_row(self, alloc: Global) -> Result<SpelledRow, AllocError> {
-        let len = spelled_len(&self.fact, self.ids);
-        let bytes = Vec::with_capacity(alloc, len as usize)?;
-        let mut target = Appending::new(bytes);
-        let Ok(()) = write_fact(&self.fact, self.ids, &mut target) else {
-            return Err(AllocError);
-        };
-        Ok(SpelledRow {
-            bytes: target.into_bytes(),
-        })
+        let bytes = Vec::from_slice(alloc, self.bytes)?;
+        Ok(SpelledRow { bytes })
     }
 }

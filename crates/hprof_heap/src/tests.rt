@@ -1,12 +1,17 @@
 mod dumps;
 mod lent_facts;
 
+ghost use Rattle.std.specs.Prelude.{◌≡◌, []};
+ghost use Rattle.hprof_items.specs.FactValue.{value_of};
+ghost use Rattle.hprof_items.specs.SubRecord.{dump_bytes};
+ghost use Rattle.hprof_heap.specs.Heap.{heap_of};
+
 use super::*;
 use crate::name_row::NameText;
-use hprof_items::{Fact, Header, IdSize, Version, fits};
+use hprof_items::{Device, Fact, Header, IdSize, Step, Version, fits, read_sub, write_fact};
 use hprof_stream::{Sink, SinkFault};
-use hprof_values::{Basic, IdList, Root};
-use std::alloc::AllocError;
+use hprof_values::IdList;
+use std::alloc::{AllocError, Global};
 use std::process::Abort;
 use std::test::*;
 
@@ -117,7 +122,7 @@ fn give(
     for &(id, text) in names {
         let fact = Fact::Name { id, text };
         if fits(&fact, ids) {
-            gatherer.take(fact)?;
+            gatherer.take(&fact, &[])?;
         }
     }
     Ok(())
@@ -188,12 +193,48 @@ fn a_heap(rt: HostRuntime) -> Result<(), Fail> {
     Ok(())
 }
 
-// States the fact, where it has a spelling.
-fn state_fact(heap: &mut Heap, fact: Fact<'_>) -> Result<Option<Stated>, AllocError> {
+// States a fact of a record, where it has a spelling.
+fn state_record(heap: &mut Heap, fact: Fact<'_>) -> Result<Option<Stated>, AllocError>
+    requires { dump_bytes (heap_of heap.old).ids (value_of fact) ≡ [] }
+{
     if !fits(&fact, heap.ids()) {
         return Ok(None);
     }
-    Ok(Some(heap.state(fact)?))
+    Ok(Some(heap.state(&fact, &[])?))
+}
+
+// States the fact of the sub-record at the front of the bytes, if there is one.
+fn state_sub(heap: &mut Heap, bytes: &[u8]) -> Result<Option<Stated>, AllocError> {
+    let Step::Whole(fact, len) = read_sub(bytes, u32::MAX, u32::MAX, heap.ids()) else {
+        return Ok(None);
+    };
+    let (spelled, _) = bytes.split_at(len);
+    Ok(Some(heap.state(&fact, spelled)?))
+}
+
+// States a fact, where it has a spelling.
+fn state_fact(
+    alloc: Global,
+    heap: &mut Heap,
+    fact: Fact<'_>,
+) -> Result<Option<Stated>, AllocError> {
+    if !fits(&fact, heap.ids()) {
+        return Ok(None);
+    }
+    match fact {
+        Fact::Root(_)
+        | Fact::Class { .. }
+        | Fact::Instance { .. }
+        | Fact::ObjArray { .. }
+        | Fact::PrimArray { .. } => {
+            let mut device = Device::new(Vec::new(alloc));
+            if write_fact(&fact, heap.ids(), &mut device).is_err() {
+                return Err(AllocError);
+            }
+            state_sub(heap, &device.into_inner())
+        }
+        _ => state_record(heap, fact),
+    }
 }
 
 #[test]
@@ -211,9 +252,9 @@ fn records_in_a_heap(rt: HostRuntime) -> Result<(), Fail> {
         trace: 9,
         name: 4,
     };
-    assert_eq!(rt; state_fact(&mut heap, load)?, Some(Stated::New));
-    assert_eq!(rt; state_fact(&mut heap, load)?, Some(Stated::Same));
-    assert_eq!(rt; state_fact(&mut heap, other)?, Some(Stated::Differs));
+    assert_eq!(rt; state_record(&mut heap, load)?, Some(Stated::New));
+    assert_eq!(rt; state_record(&mut heap, load)?, Some(Stated::Same));
+    assert_eq!(rt; state_record(&mut heap, other)?, Some(Stated::Differs));
     assert_eq!(rt; heap.load(1), Some(load));
     let frame = Fact::Frame {
         id: 1,
@@ -223,15 +264,15 @@ fn records_in_a_heap(rt: HostRuntime) -> Result<(), Fail> {
         class_serial: 5,
         line: -3,
     };
-    assert_eq!(rt; state_fact(&mut heap, frame)?, Some(Stated::New));
+    assert_eq!(rt; state_record(&mut heap, frame)?, Some(Stated::New));
     assert_eq!(rt; heap.frame(1), Some(frame));
     let trace = Fact::Trace {
         serial: 6,
         thread: 7,
         frames: IdList::new(b"\0\0\0\x01", IdSize::Four).ok_or("no list")?,
     };
-    assert_eq!(rt; state_fact(&mut heap, trace)?, Some(Stated::New));
-    assert_eq!(rt; state_fact(&mut heap, trace)?, Some(Stated::Same));
+    assert_eq!(rt; state_record(&mut heap, trace)?, Some(Stated::New));
+    assert_eq!(rt; state_record(&mut heap, trace)?, Some(Stated::Same));
     assert_eq!(rt; heap.trace(6), Some(trace));
     let start = Fact::Start {
         thread: 7,
@@ -241,13 +282,13 @@ fn records_in_a_heap(rt: HostRuntime) -> Result<(), Fail> {
         group: 3,
         parent_group: 4,
     };
-    assert_eq!(rt; state_fact(&mut heap, start)?, Some(Stated::New));
+    assert_eq!(rt; state_record(&mut heap, start)?, Some(Stated::New));
     assert_eq!(rt; heap.thread(7), Some(start));
     let unload = Fact::Unload { serial: 1 };
     let end = Fact::End { thread: 7 };
-    assert_eq!(rt; state_fact(&mut heap, unload)?, Some(Stated::New));
-    assert_eq!(rt; state_fact(&mut heap, end)?, Some(Stated::New));
-    assert_eq!(rt; state_fact(&mut heap, end)?, Some(Stated::Same));
+    assert_eq!(rt; state_record(&mut heap, unload)?, Some(Stated::New));
+    assert_eq!(rt; state_record(&mut heap, end)?, Some(Stated::New));
+    assert_eq!(rt; state_record(&mut heap, end)?, Some(Stated::Same));
     assert_eq!(rt; heap.count(), 6);
     assert_eq!(rt; heap.len(Table::Ends), 1);
     Ok(())
@@ -256,32 +297,23 @@ fn records_in_a_heap(rt: HostRuntime) -> Result<(), Fail> {
 #[test]
 fn sub_records_in_a_heap(rt: HostRuntime) -> Result<(), Fail> {
     let mut heap = Heap::new(rt.alloc(), IdSize::Four, 5);
-    let root = Fact::Root(Root::Sticky { id: 7 });
-    assert_eq!(rt; state_fact(&mut heap, root)?, Some(Stated::New));
-    assert_eq!(rt; state_fact(&mut heap, root)?, Some(Stated::Same));
+    let root = b"\x05\0\0\0\x07";
+    assert_eq!(rt; state_sub(&mut heap, root)?, Some(Stated::New));
+    assert_eq!(rt; state_sub(&mut heap, root)?, Some(Stated::Same));
     assert_eq!(rt; heap.len(Table::Roots), 1);
+    let instance = b"\x21\0\0\0\x07\0\0\0\x01\0\0\0\x02\0\0\0\x03abc";
+    let longer = b"\x21\0\0\0\x07\0\0\0\x01\0\0\0\x02\0\0\0\x04abcd";
+    let array = b"\x23\0\0\0\x07\0\0\0\x01\0\0\0\x03\x08abc";
+    assert_eq!(rt; state_sub(&mut heap, instance)?, Some(Stated::New));
+    assert_eq!(rt; state_sub(&mut heap, instance)?, Some(Stated::Same));
+    assert_eq!(rt; state_sub(&mut heap, longer)?, Some(Stated::Differs));
+    assert_eq!(rt; state_sub(&mut heap, array)?, Some(Stated::Differs));
     let instance = Fact::Instance {
         id: 7,
         trace: 1,
         class: 2,
         bytes: b"abc",
     };
-    let longer = Fact::Instance {
-        id: 7,
-        trace: 1,
-        class: 2,
-        bytes: b"abcd",
-    };
-    let array = Fact::PrimArray {
-        id: 7,
-        trace: 1,
-        elem: Basic::Byte,
-        bytes: b"abc",
-    };
-    assert_eq!(rt; state_fact(&mut heap, instance)?, Some(Stated::New));
-    assert_eq!(rt; state_fact(&mut heap, instance)?, Some(Stated::Same));
-    assert_eq!(rt; state_fact(&mut heap, longer)?, Some(Stated::Differs));
-    assert_eq!(rt; state_fact(&mut heap, array)?, Some(Stated::Differs));
     assert_eq!(rt; heap.object(7), Some(instance));
     assert_eq!(rt; heap.object(8), None);
     assert_eq!(rt; heap.class(7), None);

@@ -17,7 +17,7 @@ use Rattle.hprof_stream.specs.declared.rest.Rest.{Rest}
 use Rattle.hprof_stream.specs.Item.{Place, Found, IsItem, AreItems, records_begun, header_before, held_of, item_at}
 use Rattle.hprof_stream.specs.Progress.{place_of}
 use Rattle.hprof_stream.specs.Rest.{IsRest}
-use Rattle.hprof_stream.specs.Run.{Run, became, FitsBegun, ListsHaveBegun}
+use Rattle.hprof_stream.specs.Run.{Run, became, FitsBegun, ListsHaveBegun, SpellsBegun}
 
 module _ {S : Type 0} (begins : S → Header → S → Type 0) (steps : S → FactValue → S → Type 0) where
   -- what handing an item to a sink does: a header begins a part, a fact is a step, and others do nothing
@@ -128,11 +128,11 @@ abbrev pub IsBegun : Option Header → Option IdSize → Type 0
 IsBegun None begun = ⊤
 IsBegun (Some header) begun = begun ≡ Some header.ids
 
--- what the sink is to be given fits the size that was begun last, and so do its lists
-abbrev pub GivesFit : Option IdSize → Item → Type 0
-GivesFit begun (items.Fact fact) = FitsBegun begun (value_of fact) × ListsHaveBegun begun fact
-GivesFit begun (items.Sub fact) = FitsBegun begun (value_of fact) × ListsHaveBegun begun fact
-GivesFit begun item = ⊤
+-- what the sink is to be given fits the size that was begun last, and so do its lists, and a sub-record has these bytes
+abbrev pub GivesFit : Option IdSize → Item → List ℕ → Type 0
+GivesFit begun (items.Fact fact) bytes = FitsBegun begun (value_of fact) × ListsHaveBegun begun fact × SpellsBegun begun (value_of fact) []
+GivesFit begun (items.Sub fact) bytes = FitsBegun begun (value_of fact) × ListsHaveBegun begun fact × SpellsBegun begun (value_of fact) bytes
+GivesFit begun item bytes = ⊤
 
 -- the header that was read once this item was
 abbrev pub told_by : Option Header → Item → Option Header

@@ -8,7 +8,6 @@ ghost use Rattle.hprof_stream.specs.Item.{held_of, item_at};
 ghost use Rattle.hprof_stream.specs.Progress.{place_of, IsCounted};
 ghost use Rattle.hprof_stream.specs.Rest.{passing_of, walk_at, IsWalkOf, IsRest, IsSound, rest_len};
 ghost use Rattle.hprof_stream.specs.Walking.{IsBegun, FinishesHeld, ReadsOn, seen};
-
 ghost use Rattle.hprof_stream.specs.Reader.{longest_held};
 
 use crate::part_fault::PartFault;

@@ -126,7 +126,8 @@ impl Progress {
         let at = self.at;
         match self.item(bytes) {
             Step::Whole(item, len) => {
-                if let Err(fault) = give(&item, sink) {
+                let (spelled, _) = bytes.split_at(len);
+                if let Err(fault) = give(&item, spelled, sink) {
                     self.tell(&item);
                     return Err(PartFault::Sink(fault));
                 }
@@ -159,16 +160,17 @@ impl Progress {
     }
 }
 
-/// Hands an item to the sink.
-fn give<S: Sink>(item: &Item<'_>, sink: &mut S) -> Result<(), SinkFault>
-    requires { GivesFit (S.begun sink.old) item.now }
+/// Hands an item, which has these bytes, to the sink.
+fn give<S: Sink>(item: &Item<'_>, spelled: &[u8], sink: &mut S) -> Result<(), SinkFault>
+    requires { GivesFit (S.begun sink.old) item.now spelled.now }
     ensures gives { OnOk result (Gives S.begins S.steps sink.old item.now sink.new) }
     ensures begun { OnOk result ((header : Option Header) → IsBegun header (S.begun sink.old) → IsBegun (told_by header item.now) (S.begun sink.new)) }
     ensures refused { IfErr result (λ fault. GivesSome item.now × Refuses S.refuses S.failed sink.old fault sink.new) }
 {
-    match *item {
-        Item::Header(header) => sink.begin_part(header),
-        Item::Fact(fact) | Item::Sub(fact) => sink.take(fact),
+    match item {
+        Item::Header(header) => sink.begin_part(*header),
+        Item::Fact(fact) => sink.take(fact, &[]),
+        Item::Sub(fact) => sink.take(fact, spelled),
         Item::Dump(_) | Item::End | Item::Skipped => Ok(()),
     }
 }

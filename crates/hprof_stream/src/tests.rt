@@ -75,11 +75,11 @@ impl Sink for Seen {
         Ok(())
     }
 
-    fn take(&mut self, fact: Fact<'_>) -> Result<(), SinkFault> {
+    fn take(&mut self, fact: &Fact<'_>, _spelled: &[u8]) -> Result<(), SinkFault> {
         if self.failed {
             return Err(SinkFault::Failed);
         }
-        if self.numbers.len() == self.room || self.numbers.push(number_of(&fact)).is_err() {
+        if self.numbers.len() == self.room || self.numbers.push(number_of(fact)).is_err() {
             self.failed = true;
             return Err(SinkFault::OutOfMemory);
         }
@@ -171,7 +171,7 @@ impl Sink for Closed {
         Err(SinkFault::Failed)
     }
 
-    fn take(&mut self, _fact: Fact<'_>) -> Result<(), SinkFault> {
+    fn take(&mut self, _fact: &Fact<'_>, _spelled: &[u8]) -> Result<(), SinkFault> {
         self.failed = true;
         Err(SinkFault::Failed)
     }
@@ -272,10 +272,11 @@ fn from_a_source(rt: HostRuntime) {
     }
 }
 
-// Gives the header, and then fails.
+// Gives the header, and then fails. It keeps the room that it was last given.
 #[derive(Drop)]
 struct Broken {
     pulls: u64,
+    room: usize,
     health: Health,
 }
 
@@ -288,6 +289,7 @@ impl Source for Broken {
 
     fn pull(&mut self, piece: &mut [u8]) -> Result<usize, ReadFault> {
         self.pulls = self.pulls.saturating_add(1);
+        self.room = piece.len();
         let len = piece.len().min(31);
         if self.pulls > 1 {
             self.health = Health::Failed;
@@ -303,10 +305,12 @@ fn a_source_that_fails(rt: HostRuntime) {
     let mut sink = Seen::new(rt.alloc(), 0);
     let mut source = Broken {
         pulls: 0,
+        room: 0,
         health: Health::Well,
     };
     let read = read_part(rt.alloc(), &mut source, Limits::usual(), &mut sink);
     assert_eq!(rt; read, Err(PartFault::Read));
+    assert_eq!(rt; (source.pulls, source.room), (2, 65_536));
     assert_eq!(rt; source.health, Health::Failed);
     assert_eq!(rt; sink.begun, Some(IdSize::Four));
 }

@@ -2,8 +2,7 @@
 
 use super::lent_facts::{array, state_all};
 use super::*;
-use hprof_items::Device;
-use std::alloc::Global;
+use hprof_values::{Basic, Root};
 
 // A dump with identifiers of 4 bytes and the time 1, of the names 1 = A and 2 = B.
 const NAMES: &[u8; 68] = b"JAVA PROFILE 1.0.2\0\0\0\0\x04\0\0\0\0\0\0\0\x01\
@@ -44,7 +43,7 @@ fn sub_records_share_a_segment(rt: HostRuntime) -> Result<(), Fail> {
         Fact::Root(Root::Sticky { id: 16 }),
         Fact::Name { id: 1, text: b"A" },
     ];
-    state_all(&rt, &mut heap, &facts)?;
+    state_all(&rt, rt.alloc(), &mut heap, &facts)?;
     let bytes = dump_of(&rt, rt.alloc(), &heap);
     assert_eq!(rt; bytes.as_slice(), PLAIN.as_slice());
     Ok(())
@@ -68,7 +67,7 @@ fn a_full_segment(rt: HostRuntime) -> Result<(), Fail> {
         array(16, Basic::Byte, &zeros),
         array(17, Basic::Byte, b"ab"),
     ];
-    state_all(&rt, &mut heap, &arrays)?;
+    state_all(&rt, rt.alloc(), &mut heap, &arrays)?;
     let bytes = dump_of(&rt, rt.alloc(), &heap);
     assert_eq!(rt; bytes.len(), 1_048_648);
     assert!(rt; has_at(&bytes, 31, b"\x1c\0\0\0\0\0\x10\0\0\x23\0\0\0\x10"));
@@ -83,7 +82,7 @@ fn a_segment_of_one_sub_record(rt: HostRuntime) -> Result<(), Fail> {
     let mut heap = Heap::new(rt.alloc(), IdSize::Four, 1);
     let zeros = vec![in rt.alloc(); 0; 1_048_563]?;
     let arrays = [array(17, Basic::Byte, &zeros), array(16, Basic::Byte, b"")];
-    state_all(&rt, &mut heap, &arrays)?;
+    state_all(&rt, rt.alloc(), &mut heap, &arrays)?;
     let bytes = dump_of(&rt, rt.alloc(), &heap);
     assert_eq!(rt; bytes.len(), 1_048_649);
     let first = b"\x1c\0\0\0\0\0\0\0\x0e\x23\0\0\0\x10\0\0\0\x01\0\0\0\0\x08";

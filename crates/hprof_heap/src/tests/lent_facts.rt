@@ -1,16 +1,17 @@
 //! Tests of the facts of each table, and of the names of classes.
 
 use super::*;
-use hprof_values::{ConstantList, FieldList, StaticList};
+use hprof_values::{Basic, ConstantList, FieldList, Root, StaticList};
 
 // States these facts, which are new.
 pub(crate) fn state_all(
     rt: &impl Abort,
+    alloc: Global,
     heap: &mut Heap,
     facts: &[Fact<'_>],
 ) -> Result<(), AllocError> {
     for &fact in facts {
-        assert_eq!(rt; state_fact(heap, fact)?, Some(Stated::New));
+        assert_eq!(rt; state_fact(alloc, heap, fact)?, Some(Stated::New));
     }
     Ok(())
 }
@@ -57,7 +58,7 @@ fn names_of_classes(rt: HostRuntime) -> Result<(), Fail> {
     let mut heap = Heap::new(rt.alloc(), IdSize::Four, 1);
     let loads = [load(1, 100, 2), load(2, 102, 9), load(3, 100, 1)];
     assert_eq!(rt; heap.class_name(100), None);
-    state_all(&rt, &mut heap, &[loads[2], loads[0], loads[1]])?;
+    state_all(&rt, rt.alloc(), &mut heap, &[loads[2], loads[0], loads[1]])?;
     check_rows(&rt, &heap, Table::Loads, &loads);
     assert_eq!(rt; heap.class_name(100), Some(2));
     assert_eq!(rt; heap.class_name(101), None);
@@ -81,8 +82,13 @@ fn objects_of_all_kinds_are_one_table(rt: HostRuntime) -> Result<(), Fail> {
             elements,
         },
     ];
-    state_all(&rt, &mut heap, &[objects[4], objects[1], objects[3]])?;
-    state_all(&rt, &mut heap, &[objects[0], objects[2]])?;
+    state_all(
+        &rt,
+        rt.alloc(),
+        &mut heap,
+        &[objects[4], objects[1], objects[3]],
+    )?;
+    state_all(&rt, rt.alloc(), &mut heap, &[objects[0], objects[2]])?;
     check_rows(&rt, &heap, Table::Objects, &objects);
     assert_eq!(rt; heap.object(204), Some(objects[4]));
     Ok(())
@@ -112,8 +118,11 @@ fn a_class_and_an_instance_of_one_identifier(rt: HostRuntime) -> Result<(), Fail
         fields,
     };
     let object = instance(16, 16, b"");
-    state_all(&rt, &mut heap, &[object, class])?;
-    assert_eq!(rt; state_fact(&mut heap, class)?, Some(Stated::Same));
+    state_all(&rt, rt.alloc(), &mut heap, &[object, class])?;
+    assert_eq!(rt;
+        state_fact(rt.alloc(), &mut heap, class)?,
+        Some(Stated::Same)
+    );
     assert_eq!(rt; heap.class(16), Some(class));
     check_rows(&rt, &heap, Table::Classes, &[class]);
     check_rows(&rt, &heap, Table::Objects, &[object]);
@@ -133,8 +142,11 @@ fn roots_in_the_order_of_their_spellings(rt: HostRuntime) -> Result<(), Fail> {
         id: 9,
         reference: 10,
     });
-    state_all(&rt, &mut heap, &[unknown, thread, global])?;
-    assert_eq!(rt; state_fact(&mut heap, unknown)?, Some(Stated::Same));
+    state_all(&rt, rt.alloc(), &mut heap, &[unknown, thread, global])?;
+    assert_eq!(rt;
+        state_fact(rt.alloc(), &mut heap, unknown)?,
+        Some(Stated::Same)
+    );
     check_rows(&rt, &heap, Table::Roots, &[global, thread, unknown]);
     Ok(())
 }
@@ -148,8 +160,8 @@ fn records_table_by_table(rt: HostRuntime) -> Result<(), Fail> {
     ];
     let unload = Fact::Unload { serial: 1 };
     let ends = [Fact::End { thread: 1 }, Fact::End { thread: 2 }];
-    state_all(&rt, &mut heap, &[ends[1], unload, names[1]])?;
-    state_all(&rt, &mut heap, &[names[0], ends[0]])?;
+    state_all(&rt, rt.alloc(), &mut heap, &[ends[1], unload, names[1]])?;
+    state_all(&rt, rt.alloc(), &mut heap, &[names[0], ends[0]])?;
     check_rows(&rt, &heap, Table::Names, &names);
     check_rows(&rt, &heap, Table::Unloads, &[unload]);
     check_rows(&rt, &heap, Table::Ends, &ends);
@@ -182,7 +194,7 @@ fn stacks_and_threads(rt: HostRuntime) -> Result<(), Fail> {
         group: 3,
         parent_group: 4,
     };
-    state_all(&rt, &mut heap, &[start, trace, frame])?;
+    state_all(&rt, rt.alloc(), &mut heap, &[start, trace, frame])?;
     check_rows(&rt, &heap, Table::Frames, &[frame]);
     check_rows(&rt, &heap, Table::Traces, &[trace]);
     check_rows(&rt, &heap, Table::Starts, &[start]);

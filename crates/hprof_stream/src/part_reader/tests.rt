@@ -2,6 +2,7 @@ ghost use Rattle.std.specs.Prelude.{◌<◌};
 
 use super::*;
 use crate::tests::{Seen, feed_in};
+use hprof_items::Walk;
 use std::process::Abort;
 use std::test::*;
 
@@ -13,6 +14,12 @@ const NAME: &[u8; 49] =
 const ARRAY: &[u8; 60] =
     b"JAVA PROFILE 1.0.2\0\0\0\0\x04\0\0\0\0\0\0\0\x01\x1c\0\0\0\0\xff\xff\xff\xff\
     \x23\0\0\0\x10\0\0\0\x01\xff\xff\xff\0\x08\0\0\0\0\0\0";
+
+// A header, the head of a segment that declares as many, and in it a class that declares 65,535 constants, and one of them.
+const CLASS: &[u8; 83] =
+    b"JAVA PROFILE 1.0.2\0\0\0\0\x04\0\0\0\0\0\0\0\x01\x1c\0\0\0\0\xff\xff\xff\xff\
+    \x20\0\0\0\x10\0\0\0\x01\0\0\0\0\0\0\0\0\0\0\0\0\0\0\0\0\0\0\0\0\0\0\0\0\0\0\0\0\
+    \xff\xff\0\x01\x08\x05";
 
 // A reader that was fed those bytes in pieces, of which so many are held: it has room for a few times what came, and no
 // more.
@@ -31,7 +38,11 @@ fn declared(rt: &impl Abort, alloc: Global, bytes: &[u8], len: usize, held: usiz
 #[test]
 fn a_declared_length_asks_for_no_memory(rt: HostRuntime) -> Result<(), Fail> {
     // What they declare adds up to more than memory can hold.
-    for (bytes, held, at) in [(NAME.as_slice(), 18, 31), (ARRAY.as_slice(), 20, 40)] {
+    for (bytes, held, at) in [
+        (NAME.as_slice(), 18, 31),
+        (ARRAY.as_slice(), 20, 40),
+        (CLASS.as_slice(), 43, 40),
+    ] {
         let mut readers = Vec::new(rt.alloc());
         for _ in 0..20_000 {
             readers.push(declared(&rt, rt.alloc(), bytes, 60, held))?;
@@ -46,4 +57,12 @@ fn a_declared_length_asks_for_no_memory(rt: HostRuntime) -> Result<(), Fail> {
         }
     }
     Ok(())
+}
+
+#[test]
+fn a_class_is_walked_on_from_where_it_was_cut(rt: HostRuntime) {
+    for len in [60, 7, 1] {
+        let reader = declared(&rt, rt.alloc(), CLASS, len, 43);
+        assert!(rt; !matches!(reader.rest.walk, Walk::Front), "{len}");
+    }
 }

@@ -63,3 +63,28 @@ fn passed_over_between_others(rt: HostRuntime) {
         assert_eq!(rt; reader.finish(), Ok(want), "{len}");
     }
 }
+
+#[test]
+fn a_fault_behind_one_that_is_passed_over(rt: HostRuntime) {
+    // A name without an identifier.
+    let name = b"\x01\0\0\0\0\0\0\0\x03";
+    let bad = PartFault::Malformed {
+        at: 100_040,
+        reason: Reason::BadLength,
+    };
+    for len in [65_536, 4_096, 1] {
+        let mut sink = Seen::new(rt.alloc(), 0);
+        let mut reader = PartReader::new(rt.alloc(), Limits::usual());
+        let header = feed_in(&mut reader, &PART[..31], len, &mut sink);
+        assert!(rt; header.is_ok(), "{len}");
+        let head = feed_in(&mut reader, b"\x7f\0\0\0\0\0\x01\x86\xa0", len, &mut sink);
+        assert!(rt; head.is_ok(), "{len}");
+        assert_eq!(rt; feed_in(&mut reader, &BODY, len, &mut sink), Ok(0), "{len}");
+        assert_eq!(rt; feed_in(&mut reader, b"\0", len, &mut sink), Ok(0), "{len}");
+        assert_eq!(rt;
+            feed_in(&mut reader, name, len, &mut sink),
+            Err(bad),
+            "{len}"
+        );
+    }
+}

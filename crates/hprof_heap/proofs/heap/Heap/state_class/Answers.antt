@@ -12,12 +12,12 @@ use Rattle.hprof_heap.proofs.heap.Heap.state_class.Goals as goal
 pub invariant_of-self : goal.invariant_of-self
 invariant_of-self c =
     let heap = c.args.self.now in
-    let fact = value_of c.args.fact in
+    let fact = value_of c.args.fact.now in
     let old = rows_of heap.classes in
     let new = rows_of c.state_from.new.self in
     let r = c.state_from.result in
     let sub = sub_at_place fact 8 c.args.id c.requires.place (omega arith) in
-    let ok = spelled_stated r heap.ids c.args.id fact old new sub c.state_from.ensures.ok in
+    let ok = spelled_stated r heap.ids c.args.id fact c.args.bytes.now old new sub c.requires.spelled c.state_from.ensures.ok in
     record {
       sound = record {
         heap = into_heap-sound r (rows_in heap) heap.sound 8 (spelled_facts heap.ids new) fact (of_key 8 c.args.id fact c.requires.place) (omega arith) c.requires.fits
@@ -34,12 +34,12 @@ invariant_of-self c =
 pub returns-clause-ok : goal.returns-clause-ok
 returns-clause-ok c =
     let heap = c.args.self.now in
-    let fact = value_of c.args.fact in
+    let fact = value_of c.args.fact.now in
     let old = rows_of heap.classes in
     let new = rows_of c.state_from.new.self in
     let r = c.state_from.result in
     let sub = sub_at_place fact 8 c.args.id c.requires.place (omega arith) in
-    let ok = spelled_stated r heap.ids c.args.id fact old new sub c.state_from.ensures.ok in
+    let ok = spelled_stated r heap.ids c.args.id fact c.args.bytes.now old new sub c.requires.spelled c.state_from.ensures.ok in
     into_heap r (rows_in heap) heap.sound 8 (spelled_facts heap.ids new) fact (of_key 8 c.args.id fact c.requires.place) (omega arith) c.requires.fits
     (rows_tried heap.ids 8 (spelled_fact heap.ids) spelled_bytes r old new c.args.id fact
     (record { stands = c.requires.place; again = spelled_again heap.ids c.args.id fact sub c.requires.fits }) heap.sound.classes ok)

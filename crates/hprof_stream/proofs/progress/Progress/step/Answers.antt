@@ -1,13 +1,19 @@
-use Rattle.std.proofs.Common.{drop, refl, sym, subst, arith}
+use Rattle.std.proofs.Common.{ℕ, List, drop, refl, sym, subst, arith}
 use Rattle.hprof_stream.specs.declared.progress.Progress.{Progress}
-use Rattle.hprof_stream.specs.Walking.{Walks}
-use Rattle.hprof_stream.proofs.Walks.{Walks-item, given_fits, next_counted, Stops-refused}
+use Rattle.hprof_stream.specs.Walking.{Walks, GivesFit}
+use Rattle.hprof_stream.proofs.Walks.{Walks-item, given_fits, read_within, next_counted, Stops-refused}
 use Rattle.hprof_stream.proofs.progress.Progress.step.Goals as goal
+
+pub split_at-requires : goal.split_at-requires
+split_at-requires g c =
+    read_within c.args.self.now.limits.max_item c.args.self.now c.args.bytes.now c.in-Whole.item c.in-Whole.len (λ i. omega (arith, c.type_inv.bytes i)) c.item.ensures.room
+    c.in-Whole.ensures.found
 
 pub give-requires : goal.give-requires
 give-requires g c =
-    given_fits c.args.self.now.limits.max_item c.args.self.now c.args.bytes.now c.in-Whole.item c.in-Whole.len _ (λ i. omega (arith, c.type_inv.bytes i)) c.item.ensures.room
-    c.in-Whole.ensures.found c.in-Whole.ensures.place c.in-Whole.ensures.lists c.requires.begun
+    subst (λ (bytes : List ℕ). GivesFit (g.S.Sink.begun c.args.sink.now) c.in-Whole.item bytes) (sym c.split_at.ensures.front)
+    (given_fits c.args.self.now.limits.max_item c.args.self.now c.args.bytes.now c.in-Whole.item c.in-Whole.len _ (λ i. omega (arith, c.type_inv.bytes i)) c.item.ensures.room
+    c.in-Whole.ensures.found c.in-Whole.ensures.place c.in-Whole.ensures.lists c.requires.begun)
 
 pub advance-requires-clause-counted : goal.advance-requires-clause-counted
 advance-requires-clause-counted g c =
