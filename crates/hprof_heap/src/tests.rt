@@ -8,6 +8,7 @@ ghost use Rattle.hprof_heap.specs.Heap.{heap_of};
 
 use super::*;
 use crate::name_row::NameText;
+use crate::spelled_row::SpelledBytes;
 use hprof_items::{Device, Fact, Header, IdSize, Step, Version, fits, read_sub, write_fact};
 use hprof_stream::{Sink, SinkFault};
 use hprof_values::IdList;
@@ -319,6 +320,16 @@ fn sub_records_in_a_heap(rt: HostRuntime) -> Result<(), Fail> {
     assert_eq!(rt; heap.class(7), None);
     assert_eq!(rt; heap.len(Table::Objects), 1);
     assert_eq!(rt; heap.count(), 2);
+    Ok(())
+}
+
+#[test]
+fn rows_have_no_room_to_spare(rt: HostRuntime) -> Result<(), Fail> {
+    let name = NameRow::new(rt.alloc(), b"abc")?;
+    assert_eq!(rt; name.text.capacity(), 3);
+    let bytes = b"\x05\0\0\0\x10";
+    let row = SpelledBytes { bytes }.into_row(rt.alloc())?;
+    assert_eq!(rt; row.bytes.capacity(), 5);
     Ok(())
 }
 
