@@ -1,4 +1,7 @@
+ghost use Rattle.std.specs.Prelude.{◌<◌};
+
 use super::*;
+use std::process::Abort;
 
 // The body of a record that is passed over, but for its last byte.
 const BODY: [u8; 99_999] = [0; 99_999];
@@ -64,27 +67,27 @@ fn passed_over_between_others(rt: HostRuntime) {
     }
 }
 
+// Read in pieces of that length, the part is refused with this fault.
+fn is_refused(rt: &impl Abort, alloc: Global, part: &[u8], len: usize, fault: PartFault)
+    requires { 0 < len }
+{
+    let read = read_in(alloc, Limits::usual(), part, len);
+    assert_eq!(rt; read, Err(fault), "{len}");
+}
+
 #[test]
-fn a_fault_behind_one_that_is_passed_over(rt: HostRuntime) {
+fn a_fault_behind_one_that_is_passed_over(rt: HostRuntime) -> Result<(), Fail> {
+    let mut part = Vec::from_slice(rt.alloc(), &PART[..31])?;
+    part.extend_from_slice(b"\x7f\0\0\0\0\0\x01\x86\x9f")?;
+    part.extend_from_slice(&BODY)?;
     // A name without an identifier.
-    let name = b"\x01\0\0\0\0\0\0\0\x03";
+    part.extend_from_slice(b"\x01\0\0\0\0\0\0\0\x03")?;
     let bad = PartFault::Malformed {
-        at: 100_040,
+        at: 100_039,
         reason: Reason::BadLength,
     };
-    for len in [65_536, 4_096, 1] {
-        let mut sink = Seen::new(rt.alloc(), 0);
-        let mut reader = PartReader::new(rt.alloc(), Limits::usual());
-        let header = feed_in(&mut reader, &PART[..31], len, &mut sink);
-        assert!(rt; header.is_ok(), "{len}");
-        let head = feed_in(&mut reader, b"\x7f\0\0\0\0\0\x01\x86\xa0", len, &mut sink);
-        assert!(rt; head.is_ok(), "{len}");
-        assert_eq!(rt; feed_in(&mut reader, &BODY, len, &mut sink), Ok(0), "{len}");
-        assert_eq!(rt; feed_in(&mut reader, b"\0", len, &mut sink), Ok(0), "{len}");
-        assert_eq!(rt;
-            feed_in(&mut reader, name, len, &mut sink),
-            Err(bad),
-            "{len}"
-        );
-    }
+    is_refused(&rt, rt.alloc(), &part, 65_536, bad);
+    is_refused(&rt, rt.alloc(), &part, 4_096, bad);
+    is_refused(&rt, rt.alloc(), &part, 1, bad);
+    Ok(())
 }
