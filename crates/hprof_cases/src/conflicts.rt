@@ -1,26 +1,12 @@
 //! Parts that do not go together.
 
-use crate::samples::{HEADER, NAME_1_A, NAME_1_B, WIDE_HEADER, bytes_of, joined};
+use crate::samples::{HEADER, NAME_1_A, NAME_1_B, WIDE_HEADER, bytes_of, expect_refused, record};
 use hprof_heap::Key;
 use hprof_items::Reason;
 use hprof_stream::PartFault;
 use hprof_tool::ToolFault;
-use std::alloc::Global;
-use std::process::Abort;
+use std::alloc::{AllocError, Global};
 use std::test::Fail;
-
-/// Checks that the parts are refused so, and that nothing is written.
-fn expect_refused(
-    rt: &impl Abort,
-    alloc: Global,
-    parts: &[&[u8]],
-    fault: ToolFault,
-) -> Result<(), Fail> {
-    let (answer, written) = joined(alloc, parts)?;
-    assert_eq!(rt; answer, Err(fault));
-    assert_eq!(rt; written.len(), 0);
-    Ok(())
-}
 
 #[test]
 fn one_name_with_two_texts_in_two_parts(rt: HostRuntime) -> Result<(), Fail> {
@@ -42,6 +28,43 @@ fn least_of_two_conflicts(rt: HostRuntime) -> Result<(), Fail> {
     ];
     let part = bytes_of(rt.alloc(), &texts)?;
     expect_refused(&rt, rt.alloc(), &[&part], ToolFault::Conflict(Key::Name(3)))
+}
+
+/// A segment with the byte array 16 of that one byte.
+fn array_of(alloc: Global, byte: u8) -> Result<Vec<u8>, AllocError> {
+    let sub = [0x23, 0, 0, 0, 16, 0, 0, 0, 1, 0, 0, 0, 1, 8, byte];
+    record(alloc, 0x1c, &[&sub])
+}
+
+#[test]
+fn the_least_of_two_kinds(rt: HostRuntime) -> Result<(), Fail> {
+    let first = array_of(rt.alloc(), 1)?;
+    let second = array_of(rt.alloc(), 2)?;
+    let one = bytes_of(rt.alloc(), &[HEADER, NAME_1_A, &first])?;
+    let other = bytes_of(rt.alloc(), &[HEADER, NAME_1_B, &second])?;
+    let fault = ToolFault::Conflict(Key::Name(1));
+    expect_refused(&rt, rt.alloc(), &[&one, &other], fault)?;
+    expect_refused(&rt, rt.alloc(), &[&other, &one], fault)
+}
+
+#[test]
+fn objects_of_two_kinds(rt: HostRuntime) -> Result<(), Fail> {
+    let instance = b"\x21\0\0\0\x10\0\0\0\x01\0\0\0\x64\0\0\0\0".as_slice();
+    let array = b"\x22\0\0\0\x10\0\0\0\x01\0\0\0\0\0\0\0\x64".as_slice();
+    let both = record(rt.alloc(), 0x1c, &[instance, array])?;
+    let part = bytes_of(rt.alloc(), &[HEADER, &both])?;
+    let fault = ToolFault::Conflict(Key::Object(16));
+    expect_refused(&rt, rt.alloc(), &[&part], fault)
+}
+
+#[test]
+fn an_instance_with_two_trace_serials(rt: HostRuntime) -> Result<(), Fail> {
+    let first = b"\x21\0\0\0\xc8\0\0\0\x01\0\0\0\x64\0\0\0\0".as_slice();
+    let second = b"\x21\0\0\0\xc8\0\0\0\x02\0\0\0\x64\0\0\0\0".as_slice();
+    let both = record(rt.alloc(), 0x1c, &[first, second])?;
+    let part = bytes_of(rt.alloc(), &[HEADER, &both])?;
+    let fault = ToolFault::Conflict(Key::Object(200));
+    expect_refused(&rt, rt.alloc(), &[&part], fault)
 }
 
 #[test]

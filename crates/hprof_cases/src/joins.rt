@@ -1,30 +1,11 @@
 //! Parts that are joined.
 
 use crate::samples::{
-    END, HEADER, NAME_1_A, NAME_2_B, WIDE_HEADER, bytes_of, joined, joined_and_kept,
+    ARRAY_16, END, HEADER, NAME_1_A, NAME_2_B, OLD_HEADER, STICKY_16, WIDE_HEADER, bytes_of,
+    expect_joined, joined, joined_and_kept, plain_dump, plain_part, record,
 };
 use hprof_tool::{Joined, ToolFault, laws};
-use std::alloc::Global;
-use std::process::Abort;
 use std::test::Fail;
-
-/// Checks that the parts are joined to the texts, which state so many facts.
-fn expect_joined(
-    rt: &impl Abort,
-    alloc: Global,
-    parts: &[&[u8]],
-    texts: &[&[u8]],
-    facts: u128,
-) -> Result<(), Fail> {
-    let (answer, written) = joined(alloc, parts)?;
-    let expected = Joined {
-        parts: parts.len(),
-        facts,
-    };
-    assert_eq!(rt; answer, Ok(expected));
-    assert_eq!(rt; written.as_slice(), bytes_of(alloc, texts)?.as_slice());
-    Ok(())
-}
 
 #[test]
 fn one_name(rt: HostRuntime) -> Result<(), Fail> {
@@ -87,8 +68,7 @@ fn the_heap_is_handed_back(rt: HostRuntime) -> Result<(), Fail> {
 
 #[test]
 fn first_version_is_written_as_the_second(rt: HostRuntime) -> Result<(), Fail> {
-    let old = b"JAVA PROFILE 1.0.1\0\0\0\0\x04\0\0\0\0\0\0\0\x01".as_slice();
-    expect_joined(&rt, rt.alloc(), &[old], &[HEADER, END], 0)
+    expect_joined(&rt, rt.alloc(), &[OLD_HEADER], &[HEADER, END], 0)
 }
 
 #[test]
@@ -96,4 +76,36 @@ fn eight_byte_identifiers(rt: HostRuntime) -> Result<(), Fail> {
     let greatest = b"\x01\0\0\0\0\0\0\0\x09\xff\xff\xff\xff\xff\xff\xff\xffA".as_slice();
     let part = bytes_of(rt.alloc(), &[WIDE_HEADER, greatest])?;
     expect_joined(&rt, rt.alloc(), &[&part], &[WIDE_HEADER, greatest, END], 1)
+}
+
+#[test]
+fn the_plain_part(rt: HostRuntime) -> Result<(), Fail> {
+    let part = plain_part(rt.alloc())?;
+    let dump = plain_dump(rt.alloc())?;
+    assert_eq!(rt; (part.len(), dump.len()), (89, 98));
+    expect_joined(&rt, rt.alloc(), &[&part], &[&dump], 4)?;
+    expect_joined(&rt, rt.alloc(), &[&part, &part], &[&dump], 4)?;
+    expect_joined(&rt, rt.alloc(), &[&dump, &part], &[&dump], 4)?;
+    expect_joined(&rt, rt.alloc(), &[&dump], &[&dump], 4)
+}
+
+#[test]
+fn the_plain_part_in_two_heap_dumps(rt: HostRuntime) -> Result<(), Fail> {
+    let array = record(rt.alloc(), 0x0c, &[ARRAY_16])?;
+    let root = record(rt.alloc(), 0x1c, &[STICKY_16])?;
+    let part = bytes_of(rt.alloc(), &[OLD_HEADER, NAME_2_B, NAME_1_A, &array, &root])?;
+    let dump = plain_dump(rt.alloc())?;
+    expect_joined(&rt, rt.alloc(), &[&part], &[&dump], 4)
+}
+
+#[test]
+fn one_sub_record_in_each_segment(rt: HostRuntime) -> Result<(), Fail> {
+    let root = record(rt.alloc(), 0x1c, &[STICKY_16])?;
+    let array = record(rt.alloc(), 0x1c, &[ARRAY_16])?;
+    let texts = [HEADER, NAME_1_A, NAME_2_B, &root, &array, END];
+    let apart = bytes_of(rt.alloc(), &texts)?;
+    assert_eq!(rt; apart.len(), 107);
+    let dump = plain_dump(rt.alloc())?;
+    expect_joined(&rt, rt.alloc(), &[&apart], &[&dump], 4)?;
+    expect_joined(&rt, rt.alloc(), &[&apart, &apart], &[&dump], 4)
 }

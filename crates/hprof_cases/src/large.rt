@@ -2,7 +2,7 @@
 
 use crate::limits::ByteByByte;
 use crate::program::ended;
-use crate::samples::{END, HEADER, NAME_1_A, bytes_of};
+use crate::samples::{END, HEADER, NAME_1_A, bytes_of, expect_joined};
 use hprof_tool::Status;
 use std::alloc::{AllocError, Global};
 use std::test::Fail;
@@ -38,4 +38,34 @@ fn many_reads_pass(rt: HostRuntime) -> Result<(), Fail> {
     assert_eq!(rt; (status, errors.len()), (Status::Done, 0));
     assert_eq!(rt; output.as_slice(), dump.as_slice());
     Ok(())
+}
+
+/// Names without bytes, of these identifiers.
+fn names_of(alloc: Global, ids: &[u32]) -> Result<Vec<u8>, AllocError> {
+    let mut names = Vec::new(alloc);
+    for id in ids {
+        names.extend_from_slice(b"\x01\0\0\0\0\0\0\0\x04")?;
+        names.extend_from_slice(&id.to_be_bytes())?;
+    }
+    Ok(names)
+}
+
+#[test]
+fn thousands_of_facts(rt: HostRuntime) -> Result<(), Fail> {
+    let mut ids = Vec::new(rt.alloc());
+    for id in 0..3_000 {
+        ids.push(id)?;
+    }
+    let ordered = names_of(rt.alloc(), &ids)?;
+    ids.reverse();
+    let reversed = names_of(rt.alloc(), &ids)?;
+    let part = bytes_of(rt.alloc(), &[HEADER, &reversed])?;
+    let other = bytes_of(rt.alloc(), &[HEADER, &ordered, &reversed])?;
+    expect_joined(
+        &rt,
+        rt.alloc(),
+        &[&part, &other],
+        &[HEADER, &ordered, END],
+        3_000,
+    )
 }

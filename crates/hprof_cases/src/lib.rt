@@ -2,6 +2,8 @@
 #![tactic(auto)]
 
 #[cfg(test)]
+mod classes;
+#[cfg(test)]
 mod conflicts;
 #[cfg(test)]
 mod disk;
@@ -19,6 +21,8 @@ mod pieces;
 mod prefixes;
 #[cfg(test)]
 mod program;
+#[cfg(test)]
+mod records;
 #[cfg(test)]
 mod refusals;
 #[cfg(test)]

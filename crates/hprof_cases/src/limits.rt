@@ -1,9 +1,9 @@
 //! Limits, one below what a part needs and just what it needs.
 
-use crate::samples::{END, HEADER, NAME_1_A, NAME_2_B, bytes_of, joined_under};
+use crate::samples::{END, HEADER, NAME_1_A, NAME_2_B, bytes_of, joined_under, plain_part, record};
 use hprof_items::{Device, Reason};
-use hprof_stream::{Limits, PartFault};
-use hprof_tool::{Joined, ToolFault, join_to, laws};
+use hprof_stream::{Limits, PartFault, laws};
+use hprof_tool::{Joined, ToolFault, join_to};
 use std::alloc::Global;
 use std::io;
 use std::io::Read;
@@ -50,14 +50,14 @@ impl Read for Broken<'_> {
     }
 }
 
-/// Bytes that are wrong from their 31st on: a record that is not known, behind a header.
-fn unknown_record(alloc: Global) -> Result<Vec<u8>, Fail> {
-    Ok(bytes_of(alloc, &[HEADER, b"\x03\0\0\0\0\0\0\0\x04\0\0\0\x01"])?)
+/// Bytes that are wrong from their 31st on: a record of a length that it cannot have, behind a header.
+fn wrong_record(alloc: Global) -> Result<Vec<u8>, Fail> {
+    Ok(bytes_of(alloc, &[HEADER, b"\x03\0\0\0\0\0\0\0\x05\0\0\0\x01"])?)
 }
 
-const UNKNOWN: PartFault = PartFault::Malformed {
+const WRONG: PartFault = PartFault::Malformed {
     at: 31,
-    reason: Reason::Unsupported,
+    reason: Reason::BadLength,
 };
 
 fn reads(max_reads: u64) -> Limits {
@@ -101,8 +101,8 @@ fn limit_of_reads(rt: HostRuntime) -> Result<(), Fail> {
     expect_fault(&rt, slow_answer(rt.alloc(), 10), PartFault::ReadsExceeded);
     assert_eq!(rt; slow_answer(rt.alloc(), 32), Ok(ONE_PART));
     // What came is judged first.
-    let unknown = unknown_record(rt.alloc())?;
-    expect_fault(&rt, answer(rt.alloc(), &unknown, reads(1))?, UNKNOWN);
+    let wrong = wrong_record(rt.alloc())?;
+    expect_fault(&rt, answer(rt.alloc(), &wrong, reads(1))?, WRONG);
     Ok(())
 }
 
@@ -115,13 +115,13 @@ fn limit_of_bytes(rt: HostRuntime) -> Result<(), Fail> {
         PartFault::BytesExceeded,
     );
     // Only the bytes within the limit are judged.
-    let unknown = unknown_record(rt.alloc())?;
+    let wrong = wrong_record(rt.alloc())?;
     expect_fault(
         &rt,
-        answer(rt.alloc(), &unknown, bytes(39))?,
+        answer(rt.alloc(), &wrong, bytes(39))?,
         PartFault::BytesExceeded,
     );
-    expect_fault(&rt, answer(rt.alloc(), &unknown, bytes(40))?, UNKNOWN);
+    expect_fault(&rt, answer(rt.alloc(), &wrong, bytes(40))?, WRONG);
     Ok(())
 }
 
@@ -138,8 +138,34 @@ fn failed_read(rt: HostRuntime) -> Result<(), Fail> {
         expect_fault(&rt, broken_answer(rt.alloc(), came), PartFault::Read);
     }
     // What came is judged first.
-    let unknown = unknown_record(rt.alloc())?;
-    expect_fault(&rt, broken_answer(rt.alloc(), &unknown), UNKNOWN);
+    let wrong = wrong_record(rt.alloc())?;
+    expect_fault(&rt, broken_answer(rt.alloc(), &wrong), WRONG);
+    Ok(())
+}
+
+#[test]
+fn failed_read_at_each_byte(rt: HostRuntime) -> Result<(), Fail> {
+    let part = plain_part(rt.alloc())?;
+    assert_eq!(rt; part.len(), 89);
+    for len in 0..90usize {
+        expect_fault(
+            &rt,
+            broken_answer(rt.alloc(), &part[..len]),
+            PartFault::Read,
+        );
+    }
+    let root = b"\x05\0\0\0".as_slice();
+    let segment = record(rt.alloc(), 0x1c, &[root])?;
+    let part = bytes_of(rt.alloc(), &[HEADER, &segment])?;
+    assert_eq!(rt; part.len(), 44);
+    let past_end = PartFault::Malformed {
+        at: 40,
+        reason: Reason::PastEnd,
+    };
+    for len in 0..45usize {
+        let fault = if len < 41 { PartFault::Read } else { past_end };
+        expect_fault(&rt, broken_answer(rt.alloc(), &part[..len]), fault);
+    }
     Ok(())
 }
 
@@ -158,6 +184,43 @@ fn longest_item(rt: HostRuntime) -> Result<(), Fail> {
 }
 
 #[test]
+fn longest_item_of_the_plain_part(rt: HostRuntime) -> Result<(), Fail> {
+    let part = plain_part(rt.alloc())?;
+    let joined = Joined { parts: 1, facts: 4 };
+    assert_eq!(rt; answer(rt.alloc(), &part, longest(16))?, Ok(joined));
+    for (max_item, at) in [(15, 68), (4, 31)] {
+        let fault = PartFault::ItemTooLong { at };
+        expect_fault(&rt, answer(rt.alloc(), &part, longest(max_item))?, fault);
+    }
+    Ok(())
+}
+
+#[test]
+fn past_the_end_before_too_long(rt: HostRuntime) -> Result<(), Fail> {
+    let root = b"\x05\0\0\0".as_slice();
+    let segment = record(rt.alloc(), 0x1c, &[root])?;
+    let part = bytes_of(rt.alloc(), &[HEADER, &segment])?;
+    let fault = PartFault::Malformed {
+        at: 40,
+        reason: Reason::PastEnd,
+    };
+    expect_fault(&rt, answer(rt.alloc(), &part, longest(3))?, fault);
+    Ok(())
+}
+
+#[test]
+fn too_long_before_truncated(rt: HostRuntime) -> Result<(), Fail> {
+    let root = b"\x05\0\0\0\x10".as_slice();
+    let segment = record(rt.alloc(), 0x1c, &[root])?;
+    let part = bytes_of(rt.alloc(), &[HEADER, &segment])?;
+    let long = PartFault::ItemTooLong { at: 40 };
+    expect_fault(&rt, answer(rt.alloc(), &part, longest(4))?, long);
+    let cut = bytes_of(rt.alloc(), &[HEADER, b"\x1c\0\0\0\0\0\0\0\x05\x05"])?;
+    expect_fault(&rt, answer(rt.alloc(), &cut, longest(4))?, long);
+    Ok(())
+}
+
+#[test]
 fn longest_item_of_nothing(rt: HostRuntime) -> Result<(), Fail> {
     let ended = bytes_of(rt.alloc(), &[HEADER, END])?;
     assert_eq!(rt; answer(rt.alloc(), &ended, longest(0))?, Ok(ONE_PART));
@@ -168,5 +231,12 @@ fn longest_item_of_nothing(rt: HostRuntime) -> Result<(), Fail> {
         reason: Reason::BadLength,
     };
     expect_fault(&rt, answer(rt.alloc(), &part, longest(0))?, fault);
+    let name = bytes_of(rt.alloc(), &[HEADER, NAME_1_A])?;
+    let long = PartFault::ItemTooLong { at: 31 };
+    expect_fault(&rt, answer(rt.alloc(), &name, longest(0))?, long);
+    let sub = record(rt.alloc(), 0x1c, &[b"\x89".as_slice()])?;
+    let part = bytes_of(rt.alloc(), &[HEADER, &sub])?;
+    let long = PartFault::ItemTooLong { at: 40 };
+    expect_fault(&rt, answer(rt.alloc(), &part, longest(0))?, long);
     Ok(())
 }

@@ -1,9 +1,10 @@
 //! Parts that are cut into pieces.
 
-use crate::samples::{HEADER, NAME_1_A, NAME_2_B, bytes_of, fed};
+use crate::samples::{HEADER, bytes_of, fed, plain_part};
 use hprof_heap::{Gatherer, write_canonical};
 use hprof_items::{Device, Reason};
 use hprof_stream::{Limits, PartFault, PartReader};
+use std::alloc::Global;
 use std::test::Fail;
 
 #[test]
@@ -53,18 +54,37 @@ fn descending_names_in_pieces_of_seven(rt: HostRuntime) -> Result<(), Fail> {
 }
 
 #[test]
-fn whole_in_threes_and_byte_by_byte(rt: HostRuntime) -> Result<(), Fail> {
-    let part = bytes_of(rt.alloc(), &[HEADER, NAME_2_B, NAME_1_A])?;
-    for piece_len in [59usize, 3, 1] {
+fn the_plain_part_whole_in_threes_and_byte_by_byte(rt: HostRuntime) -> Result<(), Fail> {
+    let part = plain_part(rt.alloc())?;
+    for (piece_len, most) in [(89usize, 0), (3, 30), (1, 30)] {
         let mut gatherer = Gatherer::new(rt.alloc());
         let summary = fed(rt.alloc(), &part, piece_len, &mut gatherer)
             .ok()
             .ok_or("whole")?;
         assert_eq!(rt;
             (summary.records, summary.facts, summary.ended),
-            (2, 2, false)
+            (3, 4, false)
         );
-        assert_eq!(rt; gatherer.heap().ok_or("the names agree")?.count(), 2);
+        assert_eq!(rt; gatherer.heap().ok_or("the facts agree")?.count(), 4);
+        assert_eq!(rt; most_buffered(rt.alloc(), &part, piece_len)?, most);
     }
     Ok(())
+}
+
+/// The most bytes that a reader holds behind a piece of that length.
+fn most_buffered(alloc: Global, bytes: &[u8], piece_len: usize) -> Result<usize, Fail> {
+    let mut gatherer = Gatherer::new(alloc);
+    let mut reader = PartReader::new(alloc, Limits::usual());
+    let mut most = 0;
+    let mut rest = bytes;
+    while !rest.is_empty() {
+        let (piece, after) = rest.split_at(piece_len.max(1).min(rest.len()));
+        reader
+            .feed(piece, &mut gatherer)
+            .ok()
+            .ok_or("nothing is wrong")?;
+        most = most.max(reader.buffered());
+        rest = after;
+    }
+    Ok(most)
 }

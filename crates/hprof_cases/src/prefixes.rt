@@ -1,14 +1,16 @@
-//! Two names, cut to each of their prefixes.
+//! The plain part, cut to each of its prefixes.
 
-use crate::samples::{HEADER, NAME_1_A, NAME_2_B, bytes_of, fed};
+use crate::samples::{fed, plain_part};
 use hprof_heap::Gatherer;
 use hprof_items::Reason;
-use hprof_stream::PartFault;
-use hprof_tool::laws;
+use hprof_stream::{PartFault, laws};
 use std::test::Fail;
 
 /// Where the items of the part begin, and where the last one ends.
-const BORDERS: [usize; 4] = [0, 31, 45, 59];
+const BORDERS: [usize; 7] = [0, 31, 45, 59, 68, 84, 89];
+
+/// Where a part may end.
+const ENDS: [usize; 4] = [31, 45, 59, 89];
 
 /// The greatest border that is not above the length.
 fn border_below(len: usize) -> usize {
@@ -22,20 +24,19 @@ fn border_below(len: usize) -> usize {
 }
 
 #[test]
-fn every_prefix_of_two_names(rt: HostRuntime) -> Result<(), Fail> {
-    let part = bytes_of(rt.alloc(), &[HEADER, NAME_2_B, NAME_1_A])?;
-    assert_eq!(rt; part.len(), 59);
-    for len in 0..60usize {
-        let border = border_below(len);
-        let expected = if len == border && len > 0 {
+fn every_prefix_of_the_plain_part(rt: HostRuntime) -> Result<(), Fail> {
+    let part = plain_part(rt.alloc())?;
+    assert_eq!(rt; part.len(), 89);
+    for len in 0..90usize {
+        let expected = if ENDS.contains(&len) {
             None
         } else {
             Some(PartFault::Malformed {
-                at: border as u64,
+                at: border_below(len) as u64,
                 reason: Reason::Truncated,
             })
         };
-        for piece_len in [59usize, 3, 1] {
+        for piece_len in [89usize, 3, 1] {
             let mut gatherer = Gatherer::new(rt.alloc());
             let summary = fed(rt.alloc(), &part[..len], piece_len, &mut gatherer);
             assert_eq!(rt; summary.err(), expected);

@@ -157,12 +157,12 @@ fn refused_part_leaves_no_file(rt: HostRuntime) -> Result<(), Fail> {
     let part = written(
         &rt,
         "refused-part",
-        &[HEADER, b"\x03\0\0\0\0\0\0\0\x04\0\0\0\x01"],
+        &[HEADER, b"\x03\0\0\0\0\0\0\0\x05\0\0\0\x01"],
     )?;
     let out = path_of(&rt, "refused-out")?;
     let ran = outcome_of(rt.alloc(), &rt, &["join", out.as_str(), part.as_str()], &[])?;
     assert_eq!(rt; ran.status.code(), 1);
-    let text = b"hprof: part 0: malformed at 31: Unsupported\n".as_slice();
+    let text = b"hprof: part 0: malformed at 31: BadLength\n".as_slice();
     assert_eq!(rt; ran.errors.as_slice(), text);
     assert!(rt; fs::read(&rt, out.as_str()).is_err());
     fs::remove_file(&rt, part.as_str())?;

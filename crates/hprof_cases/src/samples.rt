@@ -9,11 +9,16 @@ use hprof_items::Device;
 use hprof_stream::{Limits, PartFault, PartReader, PartSummary};
 use hprof_tool::{Joined, Kept, ToolFault, join_kept, join_to};
 use std::alloc::{AllocError, Global};
+use std::process::Abort;
+use std::test::Fail;
 
 /// The header of version 1.0.2 with identifiers of four bytes and time 1.
 pub(crate) const HEADER: &[u8] = b"JAVA PROFILE 1.0.2\0\0\0\0\x04\0\0\0\0\0\0\0\x01";
 
-/// The same with identifiers of eight bytes.
+/// The same of version 1.0.1.
+pub(crate) const OLD_HEADER: &[u8] = b"JAVA PROFILE 1.0.1\0\0\0\0\x04\0\0\0\0\0\0\0\x01";
+
+/// That of version 1.0.2 with identifiers of eight bytes.
 pub(crate) const WIDE_HEADER: &[u8] = b"JAVA PROFILE 1.0.2\0\0\0\0\x08\0\0\0\0\0\0\0\x01";
 
 /// Name 1 is `A`, and name 2 is `B`.
@@ -25,6 +30,35 @@ pub(crate) const NAME_2_B: &[u8] = b"\x01\0\0\0\0\0\0\0\x05\0\0\0\x02B";
 
 /// The end of a heap dump.
 pub(crate) const END: &[u8] = b"\x2c\0\0\0\0\0\0\0\0";
+
+/// The byte array 16 of two bytes.
+pub(crate) const ARRAY_16: &[u8] = b"\x23\0\0\0\x10\0\0\0\x01\0\0\0\x02\x08\x01\x02";
+
+/// The sticky class root 16.
+pub(crate) const STICKY_16: &[u8] = b"\x05\0\0\0\x10";
+
+/// The record with that tag and body, and time 0.
+pub(crate) fn record(alloc: Global, tag: u8, body: &[&[u8]]) -> Result<Vec<u8>, AllocError> {
+    let body = bytes_of(alloc, body)?;
+    let len = u32::try_from(body.len()).unwrap_or(u32::MAX);
+    let mut bytes = Vec::new(alloc);
+    bytes.extend_from_slice(&[tag, 0, 0, 0, 0])?;
+    bytes.extend_from_slice(&len.to_be_bytes())?;
+    bytes.extend_from_slice(&body)?;
+    Ok(bytes)
+}
+
+/// The part with names 2 and 1, and a segment with an array and behind it a root: 89 bytes.
+pub(crate) fn plain_part(alloc: Global) -> Result<Vec<u8>, AllocError> {
+    let segment = record(alloc, 0x1c, &[ARRAY_16, STICKY_16])?;
+    bytes_of(alloc, &[HEADER, NAME_2_B, NAME_1_A, &segment])
+}
+
+/// The canonical dump of what the plain part states: 98 bytes.
+pub(crate) fn plain_dump(alloc: Global) -> Result<Vec<u8>, AllocError> {
+    let segment = record(alloc, 0x1c, &[STICKY_16, ARRAY_16])?;
+    bytes_of(alloc, &[HEADER, NAME_1_A, NAME_2_B, &segment, END])
+}
 
 /// The texts, one after the other.
 pub(crate) fn bytes_of(alloc: Global, texts: &[&[u8]]) -> Result<Vec<u8>, AllocError> {
@@ -92,4 +126,35 @@ pub(crate) fn fed(
         rest = after;
     }
     reader.finish()
+}
+
+/// Checks that the parts are joined to the texts, which state so many facts.
+pub(crate) fn expect_joined(
+    rt: &impl Abort,
+    alloc: Global,
+    parts: &[&[u8]],
+    texts: &[&[u8]],
+    facts: u128,
+) -> Result<(), Fail> {
+    let (answer, written) = joined(alloc, parts)?;
+    let expected = Joined {
+        parts: parts.len(),
+        facts,
+    };
+    assert_eq!(rt; answer, Ok(expected));
+    assert_eq!(rt; written.as_slice(), bytes_of(alloc, texts)?.as_slice());
+    Ok(())
+}
+
+/// Checks that the parts are refused so, and that nothing is written.
+pub(crate) fn expect_refused(
+    rt: &impl Abort,
+    alloc: Global,
+    parts: &[&[u8]],
+    fault: ToolFault,
+) -> Result<(), Fail> {
+    let (answer, written) = joined(alloc, parts)?;
+    assert_eq!(rt; answer, Err(fault));
+    assert_eq!(rt; written.len(), 0);
+    Ok(())
 }

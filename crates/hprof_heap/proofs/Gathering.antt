@@ -369,7 +369,7 @@ tells parts g s sound = rw s.sound (tells_by parts g.heap g.two_sizes g.conflict
 -- each heap is sound
 sound_heap : (heap : Option Heap) → IsSound (lent_heap heap)
 sound_heap None = tt
-sound_heap (Some heap) = heap.sound
+sound_heap (Some heap) = heap.sound.heap
 
 -- what a gatherer answers tells of the parts that it was given
 pub told : (gatherer : Gatherer) (parts : List Given) → Gathers nothing_gathered parts (gathered gatherer) → Tells parts (answer_of (gathered gatherer))

@@ -11,7 +11,7 @@ use Rattle.hprof_heap.specs.Gathering.{Adds, StatesInto}
 use Rattle.hprof_heap.specs.HeapValue.{HeapValue, IsHeap}
 use Rattle.hprof_heap.specs.declared.relation.Stated.{Stated}
 use Rattle.hprof_heap.specs.declared.relation.Stated.TheVariants.{New, Same, Differs}
-use Rattle.hprof_heap.proofs.Keys.{same_place, same_place-false, HaveOneKey-sym}
+use Rattle.hprof_heap.proofs.Keys.{same_place, same_place-false, same_place-same, HaveOneKey-sym}
 use Rattle.hprof_heap.proofs.FactSets.{All-has, All-from_has, SameFacts-again}
 use Rattle.hprof_heap.proofs.Order.{IsBefore-trans, is_before, is_before-true, is_before-false}
 use Rattle.hprof_heap.proofs.Conflicts.{IsConsistent-some, IsConsistent-key}
@@ -99,6 +99,7 @@ inserted-same facts fact other = (inserted-has facts fact other, has-inserted fa
 pub inserted-adds : (heap : HeapValue) (fact : FactValue) → find (same_place fact) heap.facts ≡ None → Fits heap.ids fact → IsHeap heap → Adds heap fact (record heap { facts = inserted heap.facts fact })
 inserted-adds heap fact none fits sound = record {
   is_new = λ other has have. same_place-false fact other (find-None (same_place fact) heap.facts other none has) (HaveOneKey-sym other fact have);
+  absent = λ has. same_place-same fact (find-None (same_place fact) heap.facts fact none has);
   ids = refl;
   millis = refl;
   facts = inserted-same heap.facts fact;

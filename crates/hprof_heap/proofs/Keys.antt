@@ -1,14 +1,21 @@
 -- The order of keys.
+use Rattle.std.specs.Prelude.{◌==◌, unwrap_or, if◌then◌else◌}
 use Rattle.std.proofs.Common.{◌≡◌, ℕ, zero, suc, ◌<◌, ◌≤◌, Bool, true, false, cond, List, [], ◌∷◌, Option, Some, None, refl, sym, ap, ◌∙◌, ◌⊎◌, inl, inr, arith}
 use Rattle.std.proofs.lemmas.Bool.{ltb-true, lt-ltb, eqb-true, eq-eqb, leb-true, le-leb, or_cases, and_parts, and_from, or_left, or_right, cases_order, cases_lt, both_ways}
 use Rattle.std.specs.Prelude.{bytes_eq}
 use Rattle.std.proofs.lemmas.Bool.Decides.{not_from_Decides}
 use Rattle.std.proofs.lemmas.Slice.Eq.{bytes_eq-Decides}
-use Rattle.hprof_items.specs.FactValue.{FactValue, Name}
+use Rattle.hprof_values.specs.declared.root.Root.{Root}
+use Rattle.hprof_values.specs.declared.root.Root.TheVariants as roots
+use Rattle.hprof_values.specs.declared.sub_tag.SubTag.TheVariants as tags
+use Rattle.hprof_values.specs.Root.{tag_of_root, root_numbers}
+use Rattle.hprof_values.specs.SubTag.{code_of_tag, tag_of_code}
+use Rattle.hprof_items.specs.FactValue.{FactValue, Name, Load, Unload, Frame, Trace, Start, End, Rooted, Class, Instance, ObjArray, PrimArray}
+use Rattle.hprof_items.specs.SubRecord.{root_of}
 use Rattle.hprof_heap.specs.declared.key.Key.{Key}
 use Rattle.hprof_heap.specs.declared.key.Key.TheVariants as keys
 use Rattle.hprof_heap.specs.Order.{place_of}
-use Rattle.hprof_heap.specs.Key.{HaveOneKey, key_of, rank_of, number_of, key_le, lesser_key}
+use Rattle.hprof_heap.specs.Key.{HaveOneKey, key_of, rank_of, number_of, key_le, lesser_key, is_key, has_key}
 
 -- the first number is less, or it is the same and the second is no greater
 abbrev pub IsUpTo : (r n s m : ℕ) → Type 0
@@ -108,29 +115,97 @@ lesser_is key other = lesser_by (key_le key other) key other refl
 -- ---- the keys of facts
 
 -- the place of the facts that have a key
-place_of_key : Key → List ℕ
+abbrev pub place_of_key : Key → List ℕ
 place_of_key (keys.Name id) = 0 ∷ id ∷ []
-place_of_key _ = []
+place_of_key (keys.Load serial) = 1 ∷ serial ∷ []
+place_of_key (keys.Frame id) = 3 ∷ id ∷ []
+place_of_key (keys.Trace serial) = 4 ∷ serial ∷ []
+place_of_key (keys.Thread serial) = 5 ∷ serial ∷ []
+place_of_key (keys.Class id) = 8 ∷ id ∷ []
+place_of_key (keys.Object id) = 9 ∷ id ∷ []
+
+-- of a fact whose key is told
+keyed_place : (place : List ℕ) (known key : Key) → place ≡ place_of_key known → Some known ≡ Some key → place ≡ place_of_key key
+keyed_place place known key at e = let same : known ≡ key = cc in at ∙ ap place_of_key same
 
 key_place : (fact : FactValue) (key : Key) → key_of fact ≡ Some key → place_of fact ≡ place_of_key key
-unfolding place_of_key
-key_place (Name id text) key e = let same : keys.Name id ≡ key = cc in ap place_of_key same
+key_place (Name id text) key e = keyed_place _ (keys.Name id) key refl e
+key_place (Load serial class trace name) key e = keyed_place _ (keys.Load serial) key refl e
+key_place (Unload serial) key e = absurd cc
+key_place (Frame id method signature source class_serial line) key e = keyed_place _ (keys.Frame id) key refl e
+key_place (Trace serial thread frames) key e = keyed_place _ (keys.Trace serial) key refl e
+key_place (Start thread object trace name group parent_group) key e = keyed_place _ (keys.Thread thread) key refl e
+key_place (End thread) key e = absurd cc
+key_place (Rooted root) key e = absurd cc
+key_place (Class id trace parent loader signers domain reserved1 reserved2 size constants statics fields) key e = keyed_place _ (keys.Class id) key refl e
+key_place (Instance id trace class bytes) key e = keyed_place _ (keys.Object id) key refl e
+key_place (ObjArray id trace class elements) key e = keyed_place _ (keys.Object id) key refl e
+key_place (PrimArray id trace elem bytes) key e = keyed_place _ (keys.Object id) key refl e
+
+-- the key of the facts of that table with that number
+abbrev key_in : (table number : ℕ) → Option Key
+key_in table number =
+    if table == 0 then Some (keys.Name number) else (if table == 1 then Some (keys.Load number) else (if table == 3 then Some (keys.Frame number)
+    else (if table == 4 then Some (keys.Trace number) else (if table == 5 then Some (keys.Thread number) else (if table == 8 then Some (keys.Class number)
+    else (if table == 9 then Some (keys.Object number) else None))))))
 
 -- the key of the facts that stand at a place
 key_of_place : List ℕ → Option Key
-key_of_place (zero ∷ id ∷ []) = Some (keys.Name id)
-key_of_place _ = None
+key_of_place [] = None
+key_of_place (table ∷ []) = None
+key_of_place (table ∷ number ∷ more) = key_in table number
 
 place_key : (fact : FactValue) → key_of fact ≡ key_of_place (place_of fact)
 unfolding key_of_place
 place_key (Name id text) = refl
+place_key (Load serial class trace name) = refl
+place_key (Unload serial) = refl
+place_key (Frame id method signature source class_serial line) = refl
+place_key (Trace serial thread frames) = refl
+place_key (Start thread object trace name group parent_group) = refl
+place_key (End thread) = refl
+place_key (Rooted root) = refl
+place_key (Class id trace parent loader signers domain reserved1 reserved2 size constants statics fields) = refl
+place_key (Instance id trace class bytes) = refl
+place_key (ObjArray id trace class elements) = refl
+place_key (PrimArray id trace elem bytes) = refl
+
+-- the root whose tag has that code, with those numbers
+root_with : ℕ → List ℕ → Root
+root_with code numbers = root_of (unwrap_or (tag_of_code code) tags.RootUnknown) numbers
+
+root_is : (root : Root) → root ≡ root_with (code_of_tag (tag_of_root root)) (root_numbers root)
+unfolding root_with
+root_is (roots.JniGlobal id reference) = refl
+root_is (roots.JniLocal id thread frame) = refl
+root_is (roots.JavaFrame id thread frame) = refl
+root_is (roots.NativeStack id thread) = refl
+root_is (roots.Sticky id) = refl
+root_is (roots.Block id thread) = refl
+root_is (roots.Monitor id) = refl
+root_is (roots.ThreadObject id thread trace) = refl
+root_is (roots.Unknown id) = refl
 
 -- the fact without a key that stands at a place
 unkeyed_at : List ℕ → FactValue
-unkeyed_at place = Name 0 []
+unkeyed_at [] = Unload 0
+unkeyed_at (table ∷ []) = Unload 0
+unkeyed_at (table ∷ number ∷ more) = if table == 2 then Unload number else (if table == 6 then End number else Rooted (root_with number more))
 
 unkeyed_is : (fact : FactValue) → key_of fact ≡ None → fact ≡ unkeyed_at (place_of fact)
+unfolding unkeyed_at
+unkeyed_is (Unload serial) e = refl
+unkeyed_is (End thread) e = refl
+unkeyed_is (Rooted root) e = ap Rooted (root_is root)
 unkeyed_is (Name id text) e = absurd cc
+unkeyed_is (Load serial class trace name) e = absurd cc
+unkeyed_is (Frame id method signature source class_serial line) e = absurd cc
+unkeyed_is (Trace serial thread frames) e = absurd cc
+unkeyed_is (Start thread object trace name group parent_group) e = absurd cc
+unkeyed_is (Class id trace parent loader signers domain reserved1 reserved2 size constants statics fields) e = absurd cc
+unkeyed_is (Instance id trace class bytes) e = absurd cc
+unkeyed_is (ObjArray id trace class elements) e = absurd cc
+unkeyed_is (PrimArray id trace elem bytes) e = absurd cc
 
 -- whether two facts stand at one place
 abbrev pub same_place : FactValue → FactValue → Bool
@@ -158,6 +233,49 @@ pub same_place-false : (one other : FactValue) → same_place one other ≡ fals
 same_place-false one other e have =
     not_from_Decides (same_place one other) (bytes_eq-Decides (place_of one) (place_of other)) e (one_key_place one other have)
 
+-- a fact stands in its own place
+pub same_place-same : (fact : FactValue) → same_place fact fact ≡ false → ⊥
+same_place-same fact e = not_from_Decides (same_place fact fact) (bytes_eq-Decides (place_of fact) (place_of fact)) e refl
+
 -- the facts have one key either way round
 pub HaveOneKey-sym : (one other : FactValue) → HaveOneKey one other → HaveOneKey other one
 HaveOneKey-sym one other have = record { key = have.key; key_of_one = have.key_of_other; key_of_other = have.key_of_one }
+
+-- ---- the facts of a key
+
+key_of_its_place : (key : Key) → key_of_place (place_of_key key) ≡ Some key
+unfolding key_of_place
+key_of_its_place (keys.Name id) = refl
+key_of_its_place (keys.Load serial) = refl
+key_of_its_place (keys.Frame id) = refl
+key_of_its_place (keys.Trace serial) = refl
+key_of_its_place (keys.Thread serial) = refl
+key_of_its_place (keys.Class id) = refl
+key_of_its_place (keys.Object id) = refl
+
+is_key-true : (key : Key) (found : Option Key) → is_key key found ≡ true → found ≡ Some key
+is_key-true key None e = absurd cc
+is_key-true key (Some other) e =
+    let p = and_parts _ _ e in
+    ap (λ (k : Key). Some k) (sym (key_is other) ∙ ap (λ (r : ℕ). key_at r (number_of other)) (sym (eqb-true _ _ p.0))
+    ∙ ap (λ (n : ℕ). key_at (rank_of key) n) (sym (eqb-true _ _ p.1)) ∙ key_is key)
+
+true-is_key : (key : Key) (found : Option Key) → found ≡ Some key → is_key key found ≡ true
+true-is_key key found e = rw e (and_from _ _ (eq-eqb (rank_of key) (rank_of key) refl) (eq-eqb (number_of key) (number_of key) refl))
+
+same_tests : (a b : Bool) → (a ≡ true → b ≡ true) → (b ≡ true → a ≡ true) → a ≡ b
+same_tests true true f g = refl
+same_tests true false f g = let e : false ≡ true = f refl in absurd cc
+same_tests false true f g = let e : false ≡ true = g refl in absurd cc
+same_tests false false f g = refl
+
+-- whether a fact stands at that place
+abbrev pub stands_at : List ℕ → FactValue → Bool
+stands_at place fact = bytes_eq place (place_of fact)
+
+-- a fact has a key where it stands at the key's place
+pub has_key_at : (key : Key) (place : List ℕ) (fact : FactValue) → place_of_key key ≡ place → has_key key fact ≡ stands_at place fact
+has_key_at key place fact at = same_tests (has_key key fact) (stands_at place fact)
+    (λ yes. (bytes_eq-Decides place (place_of fact)).1 (sym at ∙ sym (key_place fact key (is_key-true key (key_of fact) yes))))
+    (λ yes. true-is_key key (key_of fact)
+    (place_key fact ∙ ap key_of_place (sym ((bytes_eq-Decides place (place_of fact)).0 yes) ∙ sym at) ∙ key_of_its_place key))

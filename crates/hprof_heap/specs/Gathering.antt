@@ -79,6 +79,7 @@ pub record Begins (old : Gathered) (header : Header) (new : Gathered) : Type 0 w
 -- a fact at a new key is added: the facts are this one and those that were there, in canonical order
 pub record Adds (heap : HeapValue) (fact : FactValue) (new : HeapValue) : Type 0 where
   pub is_new : (other : FactValue) → Has heap.facts other → HaveOneKey other fact → ⊥
+  pub absent : Has heap.facts fact → ⊥
   pub ids : new.ids ≡ heap.ids
   pub millis : new.millis ≡ heap.millis
   pub facts : SameFacts new.facts (fact ∷ heap.facts)

@@ -1,14 +1,13 @@
 -- A heap as a value.
-use Rattle.std.specs.Prelude.{ℕ, List, [], ◌∷◌, map}
+use Rattle.std.specs.Prelude.{ℕ, List, [], ◌∷◌}
 use Rattle.std.specs.Coded.{×_prop, Unit-prop, le_prop}
 use Rattle.std.specs.List.{AllByRecursion}
 use Rattle.std.proofs.Props.{props}
 use Rattle.hprof_values.specs.declared.ids.IdSize.{IdSize}
-use Rattle.hprof_items.specs.FactValue.{FactValue, Name}
+use Rattle.hprof_items.specs.FactValue.{FactValue}
 use Rattle.hprof_items.specs.Header.{IsMillis}
-use Rattle.hprof_items.specs.Spelling.{Fits}
-use Rattle.hprof_heap.specs.declared.name_row.NameRow.{NameRow}
 use Rattle.hprof_heap.specs.Facts.{AllFit}
+use Rattle.hprof_heap.specs.Fitting.{Fits-prop}
 use Rattle.hprof_heap.specs.Order.{IsBefore, IsCanonicalOrder}
 
 -- a size of identifiers, a time in milliseconds, and facts in canonical order
@@ -25,9 +24,6 @@ pub record IsHeap (heap : HeapValue) : Type 0 where
 
 -- ---- each of these has at most one proof, so that a heap is known by its value
 
-pub Fits-prop : (ids : IdSize) (fact : FactValue) → IsProp (Fits ids fact)
-Fits-prop ids (Name id text) = hlevel le_prop
-
 IsBefore-prop : (fact other : FactValue) → IsProp (IsBefore fact other)
 IsBefore-prop fact other = hlevel props
 
@@ -41,17 +37,3 @@ IsCanonicalOrder-prop (fact ∷ facts) = ×_prop (all_before-prop fact facts) (I
 
 pub IsHeap-prop : (heap : HeapValue) → IsProp (IsHeap heap)
 IsHeap-prop heap = hlevel (le_prop, Fits-prop, IsCanonicalOrder-prop)
-
--- ---- rows
-
--- the facts that rows state: of each row the fact of its key and its content
-abbrev pub facts_of_rows : {V : Type 0} → (ℕ → List ℕ → FactValue) → (V → List ℕ) → List (ℕ × V) → List FactValue
-facts_of_rows fact content rows = map (λ row. fact row.0 (content row.1)) rows
-
--- the content of a name's row: its bytes
-abbrev pub name_text : NameRow → List ℕ
-name_text row = row.text.items
-
--- the facts that rows of names state
-abbrev pub name_facts : List (ℕ × NameRow) → List FactValue
-name_facts rows = facts_of_rows Name name_text rows

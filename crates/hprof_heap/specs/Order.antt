@@ -1,14 +1,27 @@
--- The order of facts in a dump: names by identifier.
+-- The order of facts in a dump: table by table, each by the keys of its facts; roots in the order of their spellings.
 use Rattle.std.specs.Prelude.{◌≡◌, ℕ, List, [], ◌∷◌, ⊤}
 use Rattle.std.specs.List.{AllByRecursion}
 use Rattle.std.specs.Cmp.Lexicographic.{slice_cmp}
 use Rattle.std.specs.Ordering.{nat_cmp}
 use Rattle.std.specs.declared.cmp.Ordering.TheVariants.{Less}
-use Rattle.hprof_items.specs.FactValue.{FactValue, Name}
+use Rattle.hprof_values.specs.Root.{tag_of_root, root_numbers}
+use Rattle.hprof_values.specs.SubTag.{code_of_tag}
+use Rattle.hprof_items.specs.FactValue.{FactValue, Name, Load, Unload, Frame, Trace, Start, End, Rooted, Class, Instance, ObjArray, PrimArray}
 
 -- where a fact stands in a dump: the place of its table among the tables, and then its place there
 abbrev pub place_of : FactValue → List ℕ
 place_of (Name id text) = 0 ∷ id ∷ []
+place_of (Load serial class trace name) = 1 ∷ serial ∷ []
+place_of (Unload serial) = 2 ∷ serial ∷ []
+place_of (Frame id method signature source class_serial line) = 3 ∷ id ∷ []
+place_of (Trace serial thread frames) = 4 ∷ serial ∷ []
+place_of (Start thread object trace name group parent_group) = 5 ∷ thread ∷ []
+place_of (End thread) = 6 ∷ thread ∷ []
+place_of (Rooted root) = 7 ∷ code_of_tag (tag_of_root root) ∷ root_numbers root
+place_of (Class id trace parent loader signers domain reserved1 reserved2 size constants statics fields) = 8 ∷ id ∷ []
+place_of (Instance id trace class bytes) = 9 ∷ id ∷ []
+place_of (ObjArray id trace class elements) = 9 ∷ id ∷ []
+place_of (PrimArray id trace elem bytes) = 9 ∷ id ∷ []
 
 -- the first fact stands before the second
 abbrev pub IsBefore : FactValue → FactValue → Type 0

@@ -1,15 +1,8 @@
 -- What iterators over rows have left.
 use Rattle.std.specs.Prelude.{ℕ, List}
-use Rattle.hprof_items.specs.FactValue.{FactValue}
-use Rattle.hprof_heap.specs.declared.facts.Facts.{Facts}
 use Rattle.hprof_heap.specs.declared.rows.Rows.{Rows}
-use Rattle.hprof_heap.specs.HeapValue.{name_facts}
 use Rattle.hprof_heap.specs.SortedTable.{entries_left}
 
 -- the rows that are still to come, with their keys
 abbrev pub rows_left : {V : Type 0} → Rows V → List (ℕ × V)
 rows_left rows = entries_left rows.entries
-
--- the facts that are still to come
-abbrev pub facts_left : Facts → List FactValue
-facts_left facts = name_facts (rows_left facts.names)

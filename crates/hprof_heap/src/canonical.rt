@@ -4,14 +4,27 @@ ghost use Rattle.std.specs.Prelude.{◌≡◌, flat_map};
 ghost use Rattle.hprof_items.specs.declared.health.Health.TheVariants.{Well};
 ghost use Rattle.hprof_items.specs.Spelling.{spelling};
 ghost use Rattle.hprof_items.specs.Device.{Writes, LeavesHealth};
-ghost use Rattle.hprof_heap.specs.Dump.{canonical_dump};
+ghost use Rattle.hprof_heap.specs.Dump.{canonical_dump, record_facts_bytes};
 ghost use Rattle.hprof_heap.specs.Heap.{heap_of, facts_of_table};
 
 use crate::heap::Heap;
+use crate::segments::write_segments;
 use crate::table::Table;
 use hprof_items::{Header, Target, Version, WriteFault, tag, write_fact, write_head, write_header};
 
-/// Writes the heap's facts of a table.
+/// The tables of the facts that records state.
+const RECORD_TABLES: [Table; 7] = [
+    Table::Names,
+    Table::Loads,
+    Table::Unloads,
+    Table::Frames,
+    Table::Traces,
+    Table::Starts,
+    Table::Ends,
+];
+
+/// Writes the heap's facts of a table, each as a spelling of its own. At a fault some of them were written, from the
+/// front.
 fn write_table<W: Target>(heap: &Heap, table: Table, target: &mut W) -> Result<(), WriteFault>
     requires { W.health target.old ≡ Well }
     ensures bytes { Writes (W.written target.old) (W.written target.new) result
@@ -25,9 +38,22 @@ fn write_table<W: Target>(heap: &Heap, table: Table, target: &mut W) -> Result<(
     Ok(())
 }
 
+/// Writes the heap's facts that records state. At a fault some of them were written, from the front.
+fn write_records<W: Target>(heap: &Heap, target: &mut W) -> Result<(), WriteFault>
+    requires { W.health target.old ≡ Well }
+    ensures bytes { Writes (W.written target.old) (W.written target.new) result
+        (record_facts_bytes (heap_of heap.now).ids (heap_of heap.now).facts) }
+    ensures health { LeavesHealth result (W.health target.new) }
+{
+    for table in &RECORD_TABLES {
+        write_table(heap, *table, target)?;
+    }
+    Ok(())
+}
+
 /// Writes the canonical dump: the header of version 1.0.2 with the heap's size and time, the heap's facts in order,
-/// the end of the dump. It takes no memory and flushes nothing. At a fault some of the dump was written, from the
-/// front.
+/// those of sub-records in segments that are as full as they can be, the end of the dump. It takes no memory and flushes
+/// nothing. At a fault some of the dump was written, from the front.
 pub fn write_canonical<W: Target>(heap: &Heap, target: &mut W) -> Result<(), WriteFault>
     requires { W.health target.old ≡ Well }
     ensures bytes { Writes (W.written target.old) (W.written target.new) result
@@ -40,6 +66,7 @@ pub fn write_canonical<W: Target>(heap: &Heap, target: &mut W) -> Result<(), Wri
         millis: heap.millis(),
     };
     write_header(&header, target)?;
-    write_table(heap, Table::Names, target)?;
+    write_records(heap, target)?;
+    write_segments(heap, target)?;
     write_head(tag::HEAP_DUMP_END, 0, target)
 }

@@ -1,43 +1,46 @@
 //! The facts of a table, one after the other.
 
-use crate::name_row::NameRow;
-use crate::rows::Rows;
-use hprof_items::Fact;
+ghost use Rattle.hprof_heap.specs.TableRows.{AreReadable, AreReadable-prop};
 
-/// The facts of a table, in canonical order.
+use crate::table_rows::{TableRows, next_fact};
+use hprof_items::Fact;
+use hprof_values::IdSize;
+
+/// The facts of a table, in canonical order. They borrow from the heap.
 #[derive(Drop)]
 pub struct Facts<'a> {
-    names: Rows<'a, NameRow>,
+    ids: IdSize,
+    rows: TableRows<'a>,
+    // Each row that is still to come can be read back.
+    ghost sound: { AreReadable ids rows } by { AreReadable-prop ids rows },
 }
 
 impl<'a> Facts<'a> {
     ghost use Rattle.std.specs.Prelude.{◌≡◌};
-    ghost use Rattle.hprof_heap.specs.HeapValue.{name_facts};
-    ghost use Rattle.hprof_heap.specs.Rows.{rows_left, facts_left};
+    ghost use Rattle.hprof_heap.specs.TableRows.{facts_in_rows};
+    ghost use Rattle.hprof_heap.specs.FactsLeft.{facts_left, facts_ids};
 
-    pub(crate) fn of_names(names: Rows<'a, NameRow>) -> Self
-        ensures { facts_left result ≡ name_facts (rows_left names.entry) }
+    /// The facts of those rows.
+    pub(crate) fn new(ids: IdSize, rows: TableRows<'a>) -> Self
+        requires { AreReadable ids rows }
+        ensures all { facts_left result ≡ facts_in_rows ids rows.entry }
+        ensures ids { facts_ids result ≡ ids }
     {
-        Facts { names }
+        Facts { ids, rows }
     }
 }
 
 impl<'a> Iterator for Facts<'a> {
-    ghost use Rattle.std.specs.Iterator.{YieldsFirstBy, item_count};
-    ghost use Rattle.hprof_items.specs.FactValue.{value_of};
-    ghost use Rattle.hprof_heap.specs.Rows.{facts_left};
+    ghost use Rattle.std.specs.Iterator.{item_count};
+    ghost use Rattle.hprof_heap.specs.FactsLeft.{YieldsFact, facts_left};
 
     type Item = Fact<'a>;
 
-    ghost next_gives = { YieldsFirstBy value_of facts_left };
+    ghost next_gives = { YieldsFact };
 
     ghost remaining = { item_count facts_left };
 
     fn next(&mut self) -> Option<Fact<'a>> {
-        let (id, row) = self.names.next()?;
-        Some(Fact::Name {
-            id,
-            text: &row.text,
-        })
+        next_fact(&mut self.rows, self.ids)
     }
 }

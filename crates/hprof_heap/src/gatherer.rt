@@ -101,7 +101,9 @@ impl Gatherer {
     fn mark(&mut self, fact: &Fact<'_>)
         ensures { gathered self.new ≡ record (gathered self.old) { conflict = marked (gathered self.old).conflict (key_of (value_of fact.now)) } }
     {
-        let key = key_of_fact(fact);
+        let Some(key) = key_of_fact(fact) else {
+            return;
+        };
         self.conflict = Some(match self.conflict {
             None => key,
             Some(least) => least.lesser(key),
@@ -109,12 +111,21 @@ impl Gatherer {
     }
 }
 
-/// The key of a fact.
-fn key_of_fact(fact: &Fact<'_>) -> Key
-    ensures { key_of (value_of fact.now) ≡ Some result }
+/// The key of a fact, if it has one.
+fn key_of_fact(fact: &Fact<'_>) -> Option<Key>
+    ensures { result ≡ key_of (value_of fact.now) }
 {
     match *fact {
-        Fact::Name { id, .. } => Key::Name(id),
+        Fact::Name { id, .. } => Some(Key::Name(id)),
+        Fact::Load { serial, .. } => Some(Key::Load(serial)),
+        Fact::Frame { id, .. } => Some(Key::Frame(id)),
+        Fact::Trace { serial, .. } => Some(Key::Trace(serial)),
+        Fact::Start { thread, .. } => Some(Key::Thread(thread)),
+        Fact::Class { id, .. } => Some(Key::Class(id)),
+        Fact::Instance { id, .. } | Fact::ObjArray { id, .. } | Fact::PrimArray { id, .. } => {
+            Some(Key::Object(id))
+        }
+        Fact::Unload { .. } | Fact::End { .. } | Fact::Root(_) => None,
     }
 }
 
@@ -147,7 +158,7 @@ impl Sink for Gatherer {
         Ok(())
     }
 
-    fn take(&mut self, fact: Fact<'_>) -> Result<(), SinkFault> {
+    fn take(&mut self, fact: &Fact<'_>, spelled: &[u8]) -> Result<(), SinkFault> {
         if self.failed {
             return Err(SinkFault::Failed);
         }
@@ -158,14 +169,14 @@ impl Sink for Gatherer {
             // A part was begun, so there is a heap.
             unreachable!()
         };
-        let Ok(stated) = heap.state(fact) else {
+        let Ok(stated) = heap.state(fact, spelled) else {
             self.failed = true;
             return Err(SinkFault::OutOfMemory);
         };
         match stated {
             Stated::New | Stated::Same => Ok(()),
             Stated::Differs => {
-                self.mark(&fact);
+                self.mark(fact);
                 Ok(())
             }
         }

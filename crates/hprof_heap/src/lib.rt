@@ -12,10 +12,17 @@ pub mod laws;
 mod name_row;
 mod number_rows;
 mod relation;
+mod root_set;
 mod rows;
+mod segments;
 mod sorted_table;
+mod spelled_row;
 mod standing;
+mod sub_row;
+mod sub_rows;
 mod table;
+mod table_rows;
+mod trace_row;
 
 pub use canonical::write_canonical;
 pub use content::{Content, Statement};
@@ -27,8 +34,10 @@ pub use name_row::NameRow;
 pub use number_rows::{FrameRow, KeyRow, LoadRow, StartRow};
 pub use relation::{Relation, Stated};
 pub use rows::Rows;
+pub use spelled_row::SpelledRow;
 pub use standing::{Refusal, Standing};
 pub use table::Table;
+pub use trace_row::TraceRow;
 
 #[cfg(test)]
 mod tests;

@@ -1,7 +1,7 @@
 //! The rows of names.
 
 ghost use Rattle.std.specs.Prelude.{◌≡◌, IfOk};
-ghost use Rattle.hprof_heap.specs.HeapValue.{name_text};
+ghost use Rattle.hprof_heap.specs.HeapRows.{name_text};
 
 use crate::content::{Content, Statement};
 use std::alloc::{AllocError, Global};

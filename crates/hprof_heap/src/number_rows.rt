@@ -4,6 +4,7 @@ ghost use Rattle.hprof_heap.specs.NumberRows.{load_numbers, frame_numbers, start
 ghost use Rattle.std.specs.Prelude.{[]};
 
 use crate::content::Content;
+use hprof_items::Fact;
 
 /// A class that was loaded, under its serial.
 #[derive(Clone, Copy, Debug, PartialEq, Eq)]
@@ -14,6 +15,25 @@ pub struct LoadRow {
     pub trace: u32,
     /// The identifier of its name.
     pub name: u64,
+}
+
+impl LoadRow {
+    ghost use Rattle.std.specs.Prelude.{◌≡◌};
+    ghost use Rattle.hprof_items.specs.FactValue.{Load, ListsHave, value_of};
+    ghost use Rattle.hprof_values.specs.declared.ids.IdSize.{IdSize};
+
+    /// The fact of the row under a serial.
+    pub(crate) fn fact<'a>(self, serial: u32) -> Fact<'a>
+        ensures value { value_of result ≡ Load serial self.class self.trace self.name }
+        ensures lists { (ids : IdSize) → ListsHave ids result }
+    {
+        Fact::Load {
+            serial,
+            class: self.class,
+            trace: self.trace,
+            name: self.name,
+        }
+    }
 }
 
 impl Content for LoadRow {
@@ -39,6 +59,27 @@ pub struct FrameRow {
     pub line: i32,
 }
 
+impl FrameRow {
+    ghost use Rattle.std.specs.Prelude.{◌≡◌};
+    ghost use Rattle.hprof_items.specs.FactValue.{Frame, ListsHave, value_of};
+    ghost use Rattle.hprof_values.specs.declared.ids.IdSize.{IdSize};
+
+    /// The fact of the row under an identifier.
+    pub(crate) fn fact<'a>(self, id: u64) -> Fact<'a>
+        ensures value { value_of result ≡ Frame id self.method self.signature self.source self.class_serial self.line }
+        ensures lists { (ids : IdSize) → ListsHave ids result }
+    {
+        Fact::Frame {
+            id,
+            method: self.method,
+            signature: self.signature,
+            source: self.source,
+            class_serial: self.class_serial,
+            line: self.line,
+        }
+    }
+}
+
 impl Content for FrameRow {
     ghost content = { frame_numbers };
 
@@ -60,6 +101,27 @@ pub struct StartRow {
     pub group: u64,
     /// The identifier of the name of its group's parent.
     pub parent_group: u64,
+}
+
+impl StartRow {
+    ghost use Rattle.std.specs.Prelude.{◌≡◌};
+    ghost use Rattle.hprof_items.specs.FactValue.{Start, ListsHave, value_of};
+    ghost use Rattle.hprof_values.specs.declared.ids.IdSize.{IdSize};
+
+    /// The fact of the row under a serial.
+    pub(crate) fn fact<'a>(self, thread: u32) -> Fact<'a>
+        ensures value { value_of result ≡ Start thread self.object self.trace self.name self.group self.parent_group }
+        ensures lists { (ids : IdSize) → ListsHave ids result }
+    {
+        Fact::Start {
+            thread,
+            object: self.object,
+            trace: self.trace,
+            name: self.name,
+            group: self.group,
+            parent_group: self.parent_group,
+        }
+    }
 }
 
 impl Content for StartRow {

@@ -1,8 +1,18 @@
+mod dumps;
+mod lent_facts;
+
+ghost use Rattle.std.specs.Prelude.{◌≡◌, []};
+ghost use Rattle.hprof_items.specs.FactValue.{value_of};
+ghost use Rattle.hprof_items.specs.SubRecord.{dump_bytes};
+ghost use Rattle.hprof_heap.specs.Heap.{heap_of};
+
 use super::*;
 use crate::name_row::NameText;
-use hprof_items::{Device, Fact, Header, IdSize, Version, fits};
+use crate::spelled_row::SpelledBytes;
+use hprof_items::{Device, Fact, Header, IdSize, Step, Version, fits, read_sub, write_fact};
 use hprof_stream::{Sink, SinkFault};
-use std::alloc::AllocError;
+use hprof_values::IdList;
+use std::alloc::{AllocError, Global};
 use std::process::Abort;
 use std::test::*;
 
@@ -113,7 +123,7 @@ fn give(
     for &(id, text) in names {
         let fact = Fact::Name { id, text };
         if fits(&fact, ids) {
-            gatherer.take(fact)?;
+            gatherer.take(&fact, &[])?;
         }
     }
     Ok(())
@@ -165,27 +175,6 @@ fn two_sizes_come_before_a_conflict(rt: HostRuntime) -> Result<(), Fail> {
     Ok(())
 }
 
-// The bytes of a dump by hand: the text, a size of 4, the time 1, the names 1 = A and 2 = B, and the end.
-const DUMP: &[u8; 68] = b"JAVA PROFILE 1.0.2\0\0\0\0\x04\0\0\0\0\0\0\0\x01\
-    \x01\0\0\0\0\0\0\0\x05\0\0\0\x01A\x01\0\0\0\0\0\0\0\x05\0\0\0\x02B\x2c\0\0\0\0\0\0\0\0";
-
-#[test]
-fn the_canonical_dump(rt: HostRuntime) -> Result<(), Fail> {
-    let mut gatherer = Gatherer::new(rt.alloc());
-    give(&mut gatherer, IdSize::Four, 2, &[(2, b"B"), (1, b"A")])?;
-    give(&mut gatherer, IdSize::Four, 1, &[(2, b"B")])?;
-    give(&mut gatherer, IdSize::Four, 3, &[])?;
-    assert_eq!(rt; gatherer.standing(), Standing::Clean);
-    let heap = gatherer.heap().ok_or("no heap")?;
-    let mut device = Device::new(Vec::new(rt.alloc()));
-    assert_eq!(rt; write_canonical(heap, &mut device), Ok(()));
-    let bytes = device.into_inner();
-    assert_eq!(rt; bytes.as_slice(), DUMP.as_slice());
-    laws::dump_reads_back();
-    laws::sub_records_are_packed_in_one_way();
-    Ok(())
-}
-
 #[test]
 fn a_heap(rt: HostRuntime) -> Result<(), Fail> {
     let one = Fact::Name { id: 1, text: b"A" };
@@ -200,10 +189,147 @@ fn a_heap(rt: HostRuntime) -> Result<(), Fail> {
     assert_eq!(rt; heap.len(Table::Names), 2);
     assert_eq!(rt; heap.name(1), Some(one));
     assert_eq!(rt; heap.name(3), None);
-    let mut rows = heap.rows(Table::Names);
-    assert_eq!(rt; rows.next(), Some(one));
-    assert_eq!(rt; rows.next(), Some(two));
-    assert_eq!(rt; rows.next(), None);
+    assert_eq!(rt; heap.name(2), Some(two));
+    laws::sub_records_are_packed_in_one_way();
+    Ok(())
+}
+
+// States a fact of a record, where it has a spelling.
+fn state_record(heap: &mut Heap, fact: Fact<'_>) -> Result<Option<Stated>, AllocError>
+    requires { dump_bytes (heap_of heap.old).ids (value_of fact) ≡ [] }
+{
+    if !fits(&fact, heap.ids()) {
+        return Ok(None);
+    }
+    Ok(Some(heap.state(&fact, &[])?))
+}
+
+// States the fact of the sub-record at the front of the bytes, if there is one.
+fn state_sub(heap: &mut Heap, bytes: &[u8]) -> Result<Option<Stated>, AllocError> {
+    let Step::Whole(fact, len) = read_sub(bytes, u32::MAX, u32::MAX, heap.ids()) else {
+        return Ok(None);
+    };
+    let (spelled, _) = bytes.split_at(len);
+    Ok(Some(heap.state(&fact, spelled)?))
+}
+
+// States a fact, where it has a spelling.
+fn state_fact(
+    alloc: Global,
+    heap: &mut Heap,
+    fact: Fact<'_>,
+) -> Result<Option<Stated>, AllocError> {
+    if !fits(&fact, heap.ids()) {
+        return Ok(None);
+    }
+    match fact {
+        Fact::Root(_)
+        | Fact::Class { .. }
+        | Fact::Instance { .. }
+        | Fact::ObjArray { .. }
+        | Fact::PrimArray { .. } => {
+            let mut device = Device::new(Vec::new(alloc));
+            if write_fact(&fact, heap.ids(), &mut device).is_err() {
+                return Err(AllocError);
+            }
+            state_sub(heap, &device.into_inner())
+        }
+        _ => state_record(heap, fact),
+    }
+}
+
+#[test]
+fn records_in_a_heap(rt: HostRuntime) -> Result<(), Fail> {
+    let mut heap = Heap::new(rt.alloc(), IdSize::Four, 5);
+    let load = Fact::Load {
+        serial: 1,
+        class: 2,
+        trace: 3,
+        name: 4,
+    };
+    let other = Fact::Load {
+        serial: 1,
+        class: 2,
+        trace: 9,
+        name: 4,
+    };
+    assert_eq!(rt; state_record(&mut heap, load)?, Some(Stated::New));
+    assert_eq!(rt; state_record(&mut heap, load)?, Some(Stated::Same));
+    assert_eq!(rt; state_record(&mut heap, other)?, Some(Stated::Differs));
+    assert_eq!(rt; heap.load(1), Some(load));
+    let frame = Fact::Frame {
+        id: 1,
+        method: 2,
+        signature: 3,
+        source: 4,
+        class_serial: 5,
+        line: -3,
+    };
+    assert_eq!(rt; state_record(&mut heap, frame)?, Some(Stated::New));
+    assert_eq!(rt; heap.frame(1), Some(frame));
+    let trace = Fact::Trace {
+        serial: 6,
+        thread: 7,
+        frames: IdList::new(b"\0\0\0\x01", IdSize::Four).ok_or("no list")?,
+    };
+    assert_eq!(rt; state_record(&mut heap, trace)?, Some(Stated::New));
+    assert_eq!(rt; state_record(&mut heap, trace)?, Some(Stated::Same));
+    assert_eq!(rt; heap.trace(6), Some(trace));
+    let start = Fact::Start {
+        thread: 7,
+        object: 8,
+        trace: 6,
+        name: 2,
+        group: 3,
+        parent_group: 4,
+    };
+    assert_eq!(rt; state_record(&mut heap, start)?, Some(Stated::New));
+    assert_eq!(rt; heap.thread(7), Some(start));
+    let unload = Fact::Unload { serial: 1 };
+    let end = Fact::End { thread: 7 };
+    assert_eq!(rt; state_record(&mut heap, unload)?, Some(Stated::New));
+    assert_eq!(rt; state_record(&mut heap, end)?, Some(Stated::New));
+    assert_eq!(rt; state_record(&mut heap, end)?, Some(Stated::Same));
+    assert_eq!(rt; heap.count(), 6);
+    assert_eq!(rt; heap.len(Table::Ends), 1);
+    Ok(())
+}
+
+#[test]
+fn sub_records_in_a_heap(rt: HostRuntime) -> Result<(), Fail> {
+    let mut heap = Heap::new(rt.alloc(), IdSize::Four, 5);
+    let root = b"\x05\0\0\0\x07";
+    assert_eq!(rt; state_sub(&mut heap, root)?, Some(Stated::New));
+    assert_eq!(rt; state_sub(&mut heap, root)?, Some(Stated::Same));
+    assert_eq!(rt; heap.len(Table::Roots), 1);
+    let instance = b"\x21\0\0\0\x07\0\0\0\x01\0\0\0\x02\0\0\0\x03abc";
+    let longer = b"\x21\0\0\0\x07\0\0\0\x01\0\0\0\x02\0\0\0\x04abcd";
+    let array = b"\x23\0\0\0\x07\0\0\0\x01\0\0\0\x03\x08abc";
+    assert_eq!(rt; state_sub(&mut heap, instance)?, Some(Stated::New));
+    assert_eq!(rt; state_sub(&mut heap, instance)?, Some(Stated::Same));
+    assert_eq!(rt; state_sub(&mut heap, longer)?, Some(Stated::Differs));
+    assert_eq!(rt; state_sub(&mut heap, array)?, Some(Stated::Differs));
+    let instance = Fact::Instance {
+        id: 7,
+        trace: 1,
+        class: 2,
+        bytes: b"abc",
+    };
+    assert_eq!(rt; heap.object(7), Some(instance));
+    assert_eq!(rt; heap.object(8), None);
+    assert_eq!(rt; heap.class(7), None);
+    assert_eq!(rt; heap.len(Table::Objects), 1);
+    assert_eq!(rt; heap.count(), 2);
+    Ok(())
+}
+
+#[test]
+fn rows_have_no_room_to_spare(rt: HostRuntime) -> Result<(), Fail> {
+    let name = NameRow::new(rt.alloc(), b"abc")?;
+    assert_eq!(rt; name.text.capacity(), 3);
+    let bytes = b"\x05\0\0\0\x10";
+    let row = SpelledBytes { bytes }.into_row(rt.alloc())?;
+    assert_eq!(rt; row.bytes.capacity(), 5);
     Ok(())
 }
 

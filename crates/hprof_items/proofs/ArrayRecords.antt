@@ -11,7 +11,7 @@ use Rattle.hprof_values.specs.Ids.{width_of, IsBytes}
 use Rattle.hprof_values.specs.Basic.{code_of_basic, basic_of_code, width_of_basic}
 use Rattle.hprof_values.specs.Fields.{field_bytes, fields_in, FitFields, Bounds, ◌>>=◌, reached, IsWithin}
 use Rattle.hprof_values.specs.Lists.{id_widths, IsIdList, ids_in}
-use Rattle.hprof_items.specs.AnyFact.{AnyFact, ObjArray, PrimArray}
+use Rattle.hprof_items.specs.FactValue.{FactValue, ObjArray, PrimArray}
 use Rattle.hprof_items.specs.SubRecord.{cut, obj_array_widths, obj_array_numbers, obj_array_at, prim_array_widths, prim_array_numbers, prim_array_at, element_type, dump_bytes, DumpFits, IsDumpOf}
 use Rattle.hprof_values.proofs.Numbers.{IsBytes-drop, IsBytes-take}
 use Rattle.hprof_values.proofs.FieldGroups.{length-fields, then_ok, then_next, within-less}
@@ -22,7 +22,7 @@ use Rattle.hprof_items.proofs.SubRecords.{dump_found, dump_again, along_answer}
 -- ---- arrays of objects
 
 -- an array that is read is spelled there
-pub obj_array_found : (ids : IdSize) (bounds : Bounds) (bytes : List ℕ) (fact : AnyFact) (n : ℕ) → IsBytes bytes → bounds.there ≤ length bytes
+pub obj_array_found : (ids : IdSize) (bounds : Bounds) (bytes : List ℕ) (fact : FactValue) (n : ℕ) → IsBytes bytes → bounds.there ≤ length bytes
     → obj_array_at ids bounds bytes ≡ Ok (fact, n) → IsDumpOf ids bounds bytes fact n
 unfolding obj_array_at
 obj_array_found ids bounds bytes fact n are there e =
@@ -33,7 +33,7 @@ obj_array_found ids bounds bytes fact n are there e =
     let count : ℕ = slice_index numbers 2 in
     let class : ℕ = slice_index numbers 3 in
     let len : ℕ = count * width_of ids in
-    let read : ℕ → AnyFact = λ front. ObjArray id trace class (ids_in ids (cut len front bytes)) in
+    let read : ℕ → FactValue = λ front. ObjArray id trace class (ids_in ids (cut len front bytes)) in
     let first = then_ok (reached bounds 1 widths) (λ (front : ℕ). reached bounds front (len ∷ []) >>= λ (end : ℕ). Ok (read front, end)) (fact, n) e in
     let second = then_ok (reached bounds first.0 (len ∷ [])) (λ (end : ℕ). Ok (read first.0, end)) (fact, n) first.2 in
     let dump = dump_found bounds (width_of ids) (4 ∷ 4 ∷ width_of ids ∷ []) len bytes first.0 second.0 are there first.1 second.1 in
@@ -77,7 +77,7 @@ obj_array_again ids bounds id trace class elements rest bytes fits spelled withi
     let len : 1 + sum widths + length raw ≡ all = omega (arith, length-fields widths numbers fits.0, length-append (field_bytes widths numbers) raw) in
     let again = dump_again bounds widths numbers raw rest bytes fits.0 (spelled ∙ append_assoc (field_bytes widths numbers) raw rest) (within-less bounds (1 + sum widths + length raw) all (omega arith) within) in
     let list : IsIdList ids elements raw = record { fits = fits.1; spelled = refl } in
-    let step : List ℕ → ℕ → ℕ → Result (AnyFact × ℕ) Stop =
+    let step : List ℕ → ℕ → ℕ → Result (FactValue × ℕ) Stop =
     λ ns size front. reached bounds front (size ∷ []) >>= λ (end : ℕ). Ok (ObjArray (slice_index ns 0) (slice_index ns 1) (slice_index ns 3) (ids_in ids (cut size front bytes)), end) in
     ap (λ (ns : List ℕ). reached bounds 1 widths >>= step ns (slice_index ns 2 * width_of ids)) again.0
     ∙ ap (λ (k : ℕ). reached bounds 1 widths >>= step numbers k) (sym size)
@@ -114,7 +114,7 @@ element_is (Some basics.Object) elem e = absurd cc
 element_is (Some other) elem e = let same : other ≡ elem = cc in (ap Some same, ap (λ (b : Basic). element_type (Some b)) (sym same) ∙ e)
 
 -- an array that is read is spelled there
-pub prim_array_found : (ids : IdSize) (bounds : Bounds) (bytes : List ℕ) (fact : AnyFact) (n : ℕ) → IsBytes bytes → bounds.there ≤ length bytes
+pub prim_array_found : (ids : IdSize) (bounds : Bounds) (bytes : List ℕ) (fact : FactValue) (n : ℕ) → IsBytes bytes → bounds.there ≤ length bytes
     → prim_array_at ids bounds bytes ≡ Ok (fact, n) → IsDumpOf ids bounds bytes fact n
 unfolding prim_array_at
 prim_array_found ids bounds bytes fact n are there e =
@@ -125,8 +125,8 @@ prim_array_found ids bounds bytes fact n are there e =
     let count : ℕ = slice_index numbers 2 in
     let code : ℕ = slice_index numbers 3 in
     let size : Basic → ℕ = λ elem. count * width_of_basic ids elem in
-    let read : Basic → ℕ → AnyFact = λ elem front. PrimArray id trace elem (cut (size elem) front bytes) in
-    let last : ℕ → Basic → Result (AnyFact × ℕ) Stop = λ front elem. reached bounds front (size elem ∷ []) >>= λ (end : ℕ). Ok (read elem front, end) in
+    let read : Basic → ℕ → FactValue = λ elem front. PrimArray id trace elem (cut (size elem) front bytes) in
+    let last : ℕ → Basic → Result (FactValue × ℕ) Stop = λ front elem. reached bounds front (size elem ∷ []) >>= λ (end : ℕ). Ok (read elem front, end) in
     let first = then_ok (reached bounds 1 widths) (λ (front : ℕ). element_type (basic_of_code code) >>= last front) (fact, n) e in
     let typed = then_ok (element_type (basic_of_code code)) (last first.0) (fact, n) first.2 in
     let elem : Basic = typed.0 in
@@ -159,9 +159,9 @@ prim_array_again ids bounds id trace elem raw rest bytes fits spelled within =
     let all : ℕ = length (dump_bytes ids (PrimArray id trace elem raw)) in
     let len : 1 + sum widths + length raw ≡ all = omega (arith, length-fields widths numbers fits.0, length-append (field_bytes widths numbers) raw) in
     let again = dump_again bounds widths numbers raw rest bytes fits.0 (spelled ∙ append_assoc (field_bytes widths numbers) raw rest) (within-less bounds (1 + sum widths + length raw) all (omega arith) within) in
-    let last : List ℕ → ℕ → Basic → ℕ → Result (AnyFact × ℕ) Stop =
+    let last : List ℕ → ℕ → Basic → ℕ → Result (FactValue × ℕ) Stop =
     λ ns front basic size. reached bounds front (size ∷ []) >>= λ (end : ℕ). Ok (PrimArray (slice_index ns 0) (slice_index ns 1) basic (cut size front bytes), end) in
-    let next : List ℕ → ℕ → Result (AnyFact × ℕ) Stop =
+    let next : List ℕ → ℕ → Result (FactValue × ℕ) Stop =
     λ ns front. element_type (basic_of_code (slice_index ns 3)) >>= λ (basic : Basic). last ns front basic (slice_index ns 2 * width_of_basic ids basic) in
     ap (λ (ns : List ℕ). reached bounds 1 widths >>= next ns) again.0
     ∙ then_next (reached bounds 1 widths) (next numbers) (1 + sum widths) again.1

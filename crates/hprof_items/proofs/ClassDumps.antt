@@ -10,7 +10,7 @@ use Rattle.hprof_values.specs.declared.stop.Stop.{Stop}
 use Rattle.hprof_values.specs.Ids.{width_of, IsBytes}
 use Rattle.hprof_values.specs.Fields.{field_bytes, fields_in, Bounds, ◌>>=◌, reached, IsWithin}
 use Rattle.hprof_values.specs.Entries.{list_bytes, ListFits, list_in, list_end}
-use Rattle.hprof_items.specs.AnyFact.{AnyFact, Class}
+use Rattle.hprof_items.specs.FactValue.{FactValue, Class}
 use Rattle.hprof_items.specs.ClassDump.{class_widths, class_lists, class_of, class_at}
 use Rattle.hprof_items.specs.SubRecord.{class_numbers, dump_bytes, DumpFits, IsDumpOf}
 use Rattle.hprof_values.proofs.Numbers.{IsBytes-drop}
@@ -21,7 +21,7 @@ use Rattle.hprof_items.proofs.SubRecords.{along_answer}
 -- ---- three lists, one behind the other
 
 -- what is left to read once the fields were read
-abbrev lists_at : IdSize → Bounds → List ℕ → List ℕ → ℕ → Result (AnyFact × ℕ) Stop
+abbrev lists_at : IdSize → Bounds → List ℕ → List ℕ → ℕ → Result (FactValue × ℕ) Stop
 lists_at ids bounds bytes numbers front =
     list_end ids kinds.Constant bounds bytes front >>= λ statics.
     list_end ids kinds.Static bounds bytes statics >>= λ fields.
@@ -46,7 +46,7 @@ lists_again ids bounds bytes numbers constants statics fields rest at fit_consta
     let third = list_passes ids kinds.Field bounds bytes fields rest (at + length a + length b) fit_fields second.2
     (within-less bounds (at + length a + length b + length c) all (omega (arith, lens)) within) in
     let in_constants : List Entry = list_in ids kinds.Constant bytes at in
-    let last : ℕ → ℕ → ℕ → Result (AnyFact × ℕ) Stop = λ s f end. Ok (class_of numbers in_constants (list_in ids kinds.Static bytes s) (list_in ids kinds.Field bytes f), end) in
+    let last : ℕ → ℕ → ℕ → Result (FactValue × ℕ) Stop = λ s f end. Ok (class_of numbers in_constants (list_in ids kinds.Static bytes s) (list_in ids kinds.Field bytes f), end) in
     then_next (list_end ids kinds.Constant bounds bytes at)
     (λ (s : ℕ). list_end ids kinds.Static bounds bytes s >>= λ (f : ℕ). list_end ids kinds.Field bounds bytes f >>= λ (end : ℕ). last s f end) (at + length a) first.0
     ∙ then_next (list_end ids kinds.Static bounds bytes (at + length a)) (λ (f : ℕ). list_end ids kinds.Field bounds bytes f >>= λ (end : ℕ). last (at + length a) f end) (at + length a + length b) second.0
@@ -113,7 +113,7 @@ class_again ids bounds id trace parent loader signers domain reserved1 reserved2
     ∙ ap (λ (n : ℕ). Ok (Class id trace parent loader signers domain reserved1 reserved2 size constants statics fields, n)) ends
 
 -- a class that is read is spelled there
-pub class_found : (ids : IdSize) (bounds : Bounds) (bytes : List ℕ) (fact : AnyFact) (n : ℕ) → IsBytes bytes → bounds.there ≤ length bytes
+pub class_found : (ids : IdSize) (bounds : Bounds) (bytes : List ℕ) (fact : FactValue) (n : ℕ) → IsBytes bytes → bounds.there ≤ length bytes
     → class_at ids bounds bytes ≡ Ok (fact, n) → IsDumpOf ids bounds bytes fact n
 unfolding class_at
 class_found ids bounds bytes fact n are there e =
@@ -136,7 +136,7 @@ class_found ids bounds bytes fact n are there e =
     let found = fields_found widths (drop 1 bytes) (IsBytes-drop 1 bytes are) (omega (arith, length-drop 1 bytes, passed.1.there, passed.0, there)) in
     let fits = fields_fit widths (drop 1 bytes) (IsBytes-drop 1 bytes are) in
     let back : drop (sum widths) (drop 1 bytes) ≡ drop at bytes = drop-drop (sum widths) 1 bytes ∙ ap (λ (k : ℕ). drop k bytes) (sym passed.0) in
-    let made : AnyFact = class_of numbers (list_in ids kinds.Constant bytes at) (list_in ids kinds.Static bytes second.0) (list_in ids kinds.Field bytes third.0) in
+    let made : FactValue = class_of numbers (list_in ids kinds.Constant bytes at) (list_in ids kinds.Static bytes second.0) (list_in ids kinds.Field bytes third.0) in
     let is : IsDumpOf ids bounds bytes made last.0 = record {
       fits = (fits, lists.fit_constants, lists.fit_statics, lists.fit_fields);
       spelled = found ∙ ap (λ (r : List ℕ). field_bytes widths numbers ++ r) (back ∙ lists.spelled) ∙ sym (append_assoc (field_bytes widths numbers) spelled_lists (drop last.0 bytes));

@@ -1,5 +1,5 @@
 -- Sub-records of every form, from the tag on: what is read is spelled so, and what is spelled is read.
-use Rattle.std.proofs.Common.{◌≡◌, ℕ, ◌+◌, ◌*◌, ◌^◌, ◌<◌, ◌≤◌, true, false, zero, suc, List, [], ◌∷◌, ◌++◌, length, drop, Option, Some, None, Result, Ok, Err, refl, sym, ap, ◌∙◌, arith}
+use Rattle.std.proofs.Common.{◌≡◌, ℕ, ◌+◌, ◌*◌, ◌^◌, ◌<◌, ◌≤◌, Bool, true, false, zero, suc, List, [], ◌∷◌, ◌++◌, length, drop, Option, Some, None, Result, Ok, Err, refl, sym, ap, subst, ◌∙◌, append_assoc, arith}
 use Rattle.std.proofs.lemmas.Bool.{eqb-true}
 use Rattle.std.proofs.Math.Dec.{eqb-suc-zero}
 use Rattle.std.proofs.lemmas.List.{drop_at, length-append}
@@ -20,11 +20,9 @@ use Rattle.hprof_values.specs.SubTag.{code_of_tag, all_tags, tag_of_code}
 use Rattle.hprof_values.specs.Root.{tag_of_root, root_fields}
 use Rattle.hprof_values.specs.Entries.{list_in, list_end}
 use Rattle.hprof_values.specs.Lists.{ids_in}
-use Rattle.hprof_items.specs.AnyFact.{AnyFact, Name, Load, Unload, Frame, Trace, Start, End, Rooted, Class, Instance, ObjArray, PrimArray}
-use Rattle.hprof_items.specs.declared.full_fact.FullFact.{FullFact}
-use Rattle.hprof_items.specs.Spelling.{longest_body}
-use Rattle.hprof_items.specs.AnySpelling.{AnyFits}
-use Rattle.hprof_items.specs.FullFact.{value_of_full, ListsHave}
+use Rattle.hprof_items.specs.FactValue.{FactValue, Name, Load, Unload, Frame, Trace, Start, End, Rooted, Class, Instance, ObjArray, PrimArray, value_of, ListsHave}
+use Rattle.hprof_items.specs.declared.fact.Fact.{Fact}
+use Rattle.hprof_items.specs.Spelling.{longest_body, Fits}
 use Rattle.hprof_items.specs.SubReading.{bounds_within, IsSubRead}
 use Rattle.hprof_items.specs.ClassDump.{class_widths, class_of, class_at}
 use Rattle.hprof_items.specs.SubRecord.{cut, instance_widths, instance_at, obj_array_widths, obj_array_at, prim_array_widths, prim_array_at, element_type, root_of, root_at, dump_at, judged_tag, tag_at, sub_at, dump_bytes, DumpFits, is_root_tag, tag_of_dump, IsDumpOf, IsSubOf}
@@ -76,7 +74,7 @@ root_reader ids (roots.Unknown id) bounds bytes = refl
 -- ---- behind the tag
 
 -- what is spelled is read, whatever follows
-dump_again : (ids : IdSize) (bounds : Bounds) (fact : AnyFact) (rest bytes : List ℕ) → DumpFits ids fact → drop 1 bytes ≡ drop 1 (dump_bytes ids fact) ++ rest
+dump_again : (ids : IdSize) (bounds : Bounds) (fact : FactValue) (rest bytes : List ℕ) → DumpFits ids fact → drop 1 bytes ≡ drop 1 (dump_bytes ids fact) ++ rest
     → IsWithin bounds (length (dump_bytes ids fact)) → dump_at ids (tag_of_dump fact) bounds bytes ≡ Ok (fact, length (dump_bytes ids fact))
 dump_again ids bounds (Rooted root) rest bytes fits spelled within = root_reader ids root bounds bytes ∙ root_again ids bounds root rest bytes fits spelled within
 dump_again ids bounds (Class id trace parent loader signers domain reserved1 reserved2 size constants statics fields) rest bytes fits spelled within =
@@ -93,65 +91,65 @@ dump_again ids bounds (Start thread object trace name group parent_group) rest b
 dump_again ids bounds (End thread) rest bytes fits spelled within = absurd fits
 
 -- what is read, with its tag
-record IsRead (ids : IdSize) (tag : SubTag) (bounds : Bounds) (bytes : List ℕ) (fact : AnyFact) (end : ℕ) : Type 0 where
+record IsRead (ids : IdSize) (tag : SubTag) (bounds : Bounds) (bytes : List ℕ) (fact : FactValue) (end : ℕ) : Type 0 where
   is : IsDumpOf ids bounds bytes fact end
   tagged : tag_of_dump fact ≡ tag
 
 -- the answer that was made has the tag
-made_tag : (made fact : AnyFact) (m n : ℕ) (tag : SubTag) (r : Result (AnyFact × ℕ) Stop) → r ≡ Ok (made, m) → r ≡ Ok (fact, n) → tag_of_dump made ≡ tag → tag_of_dump fact ≡ tag
+made_tag : (made fact : FactValue) (m n : ℕ) (tag : SubTag) (r : Result (FactValue × ℕ) Stop) → r ≡ Ok (made, m) → r ≡ Ok (fact, n) → tag_of_dump made ≡ tag → tag_of_dump fact ≡ tag
 made_tag made fact m n tag r made_it e is = ap tag_of_dump (sym (answer_parts made fact m n r made_it e).0) ∙ is
 
 -- so has what comes of a reading in steps
-then_tag : {A : Type 0} (r : Result A Stop) (next : A → Result (AnyFact × ℕ) Stop) (fact : AnyFact) (n : ℕ) (tag : SubTag)
+then_tag : {A : Type 0} (r : Result A Stop) (next : A → Result (FactValue × ℕ) Stop) (fact : FactValue) (n : ℕ) (tag : SubTag)
     → ((x : A) → next x ≡ Ok (fact, n) → tag_of_dump fact ≡ tag) → (r >>= next) ≡ Ok (fact, n) → tag_of_dump fact ≡ tag
 then_tag r next fact n tag each e = let step = then_ok r next (fact, n) e in each step.0 step.2
 
 -- what a last step made
-last_tag : (made : AnyFact) (m : ℕ) (fact : AnyFact) (n : ℕ) (tag : SubTag) → tag_of_dump made ≡ tag → answered made m ≡ Ok (fact, n) → tag_of_dump fact ≡ tag
+last_tag : (made : FactValue) (m : ℕ) (fact : FactValue) (n : ℕ) (tag : SubTag) → tag_of_dump made ≡ tag → answered made m ≡ Ok (fact, n) → tag_of_dump fact ≡ tag
 last_tag made m fact n tag is e = made_tag made fact m n tag (answered made m) refl e is
 
-root_tag : (ids : IdSize) (tag : SubTag) (bounds : Bounds) (bytes : List ℕ) (fact : AnyFact) (n : ℕ) → is_root_tag tag ≡ true → root_at ids tag bounds bytes ≡ Ok (fact, n) → tag_of_dump fact ≡ tag
+root_tag : (ids : IdSize) (tag : SubTag) (bounds : Bounds) (bytes : List ℕ) (fact : FactValue) (n : ℕ) → is_root_tag tag ≡ true → root_at ids tag bounds bytes ≡ Ok (fact, n) → tag_of_dump fact ≡ tag
 unfolding root_at
 root_tag ids tag bounds bytes fact n root e =
-    let made : AnyFact = Rooted (root_of tag (fields_in (root_fields ids tag) (drop 1 bytes))) in
+    let made : FactValue = Rooted (root_of tag (fields_in (root_fields ids tag) (drop 1 bytes))) in
     then_tag (reached bounds 1 (root_fields ids tag)) (λ (end : ℕ). Ok (made, end)) fact n tag (λ end. last_tag made end fact n tag (numbers_same ids tag (drop 1 bytes) root).1) e
 
-instance_tag : (ids : IdSize) (bounds : Bounds) (bytes : List ℕ) (fact : AnyFact) (n : ℕ) → instance_at ids bounds bytes ≡ Ok (fact, n) → tag_of_dump fact ≡ tags.InstanceDump
+instance_tag : (ids : IdSize) (bounds : Bounds) (bytes : List ℕ) (fact : FactValue) (n : ℕ) → instance_at ids bounds bytes ≡ Ok (fact, n) → tag_of_dump fact ≡ tags.InstanceDump
 unfolding instance_at
 instance_tag ids bounds bytes fact n e =
     let numbers : List ℕ = fields_in (instance_widths ids) (drop 1 bytes) in
     let len : ℕ = slice_index numbers 3 in
-    let made : ℕ → AnyFact = λ front. Instance (slice_index numbers 0) (slice_index numbers 1) (slice_index numbers 2) (cut len front bytes) in
+    let made : ℕ → FactValue = λ front. Instance (slice_index numbers 0) (slice_index numbers 1) (slice_index numbers 2) (cut len front bytes) in
     then_tag (reached bounds 1 (instance_widths ids)) (λ (front : ℕ). reached bounds front (len ∷ []) >>= λ (end : ℕ). Ok (made front, end)) fact n tags.InstanceDump
     (λ front. then_tag (reached bounds front (len ∷ [])) (λ (end : ℕ). Ok (made front, end)) fact n tags.InstanceDump (λ end. last_tag (made front) end fact n tags.InstanceDump refl)) e
 
-obj_array_tag : (ids : IdSize) (bounds : Bounds) (bytes : List ℕ) (fact : AnyFact) (n : ℕ) → obj_array_at ids bounds bytes ≡ Ok (fact, n) → tag_of_dump fact ≡ tags.ObjArrayDump
+obj_array_tag : (ids : IdSize) (bounds : Bounds) (bytes : List ℕ) (fact : FactValue) (n : ℕ) → obj_array_at ids bounds bytes ≡ Ok (fact, n) → tag_of_dump fact ≡ tags.ObjArrayDump
 unfolding obj_array_at
 obj_array_tag ids bounds bytes fact n e =
     let numbers : List ℕ = fields_in (obj_array_widths ids) (drop 1 bytes) in
     let len : ℕ = slice_index numbers 2 * width_of ids in
-    let made : ℕ → AnyFact = λ front. ObjArray (slice_index numbers 0) (slice_index numbers 1) (slice_index numbers 3) (ids_in ids (cut len front bytes)) in
+    let made : ℕ → FactValue = λ front. ObjArray (slice_index numbers 0) (slice_index numbers 1) (slice_index numbers 3) (ids_in ids (cut len front bytes)) in
     then_tag (reached bounds 1 (obj_array_widths ids)) (λ (front : ℕ). reached bounds front (len ∷ []) >>= λ (end : ℕ). Ok (made front, end)) fact n tags.ObjArrayDump
     (λ front. then_tag (reached bounds front (len ∷ [])) (λ (end : ℕ). Ok (made front, end)) fact n tags.ObjArrayDump (λ end. last_tag (made front) end fact n tags.ObjArrayDump refl)) e
 
-prim_array_tag : (ids : IdSize) (bounds : Bounds) (bytes : List ℕ) (fact : AnyFact) (n : ℕ) → prim_array_at ids bounds bytes ≡ Ok (fact, n) → tag_of_dump fact ≡ tags.PrimArrayDump
+prim_array_tag : (ids : IdSize) (bounds : Bounds) (bytes : List ℕ) (fact : FactValue) (n : ℕ) → prim_array_at ids bounds bytes ≡ Ok (fact, n) → tag_of_dump fact ≡ tags.PrimArrayDump
 unfolding prim_array_at
 prim_array_tag ids bounds bytes fact n e =
     let numbers : List ℕ = fields_in (prim_array_widths ids) (drop 1 bytes) in
     let len : Basic → ℕ = λ elem. slice_index numbers 2 * width_of_basic ids elem in
-    let made : ℕ → Basic → AnyFact = λ front elem. PrimArray (slice_index numbers 0) (slice_index numbers 1) elem (cut (len elem) front bytes) in
-    let last : ℕ → Basic → Result (AnyFact × ℕ) Stop = λ front elem. reached bounds front (len elem ∷ []) >>= λ (end : ℕ). Ok (made front elem, end) in
+    let made : ℕ → Basic → FactValue = λ front elem. PrimArray (slice_index numbers 0) (slice_index numbers 1) elem (cut (len elem) front bytes) in
+    let last : ℕ → Basic → Result (FactValue × ℕ) Stop = λ front elem. reached bounds front (len elem ∷ []) >>= λ (end : ℕ). Ok (made front elem, end) in
     then_tag (reached bounds 1 (prim_array_widths ids)) (λ (front : ℕ). element_type (basic_of_code (slice_index numbers 3)) >>= λ (elem : Basic). last front elem) fact n tags.PrimArrayDump
     (λ front. then_tag (element_type (basic_of_code (slice_index numbers 3))) (λ (elem : Basic). last front elem) fact n tags.PrimArrayDump
     (λ elem. then_tag (reached bounds front (len elem ∷ [])) (λ (end : ℕ). Ok (made front elem, end)) fact n tags.PrimArrayDump
     (λ end. last_tag (made front elem) end fact n tags.PrimArrayDump refl))) e
 
-class_tag : (ids : IdSize) (bounds : Bounds) (bytes : List ℕ) (fact : AnyFact) (n : ℕ) → class_at ids bounds bytes ≡ Ok (fact, n) → tag_of_dump fact ≡ tags.ClassDump
+class_tag : (ids : IdSize) (bounds : Bounds) (bytes : List ℕ) (fact : FactValue) (n : ℕ) → class_at ids bounds bytes ≡ Ok (fact, n) → tag_of_dump fact ≡ tags.ClassDump
 unfolding class_at
 class_tag ids bounds bytes fact n e =
     let numbers : List ℕ = fields_in (class_widths ids) (drop 1 bytes) in
-    let made : ℕ → ℕ → ℕ → AnyFact = λ at s f. class_of numbers (list_in ids kinds.Constant bytes at) (list_in ids kinds.Static bytes s) (list_in ids kinds.Field bytes f) in
-    let last : ℕ → ℕ → ℕ → Result (AnyFact × ℕ) Stop = λ at s f. list_end ids kinds.Field bounds bytes f >>= λ (end : ℕ). Ok (made at s f, end) in
+    let made : ℕ → ℕ → ℕ → FactValue = λ at s f. class_of numbers (list_in ids kinds.Constant bytes at) (list_in ids kinds.Static bytes s) (list_in ids kinds.Field bytes f) in
+    let last : ℕ → ℕ → ℕ → Result (FactValue × ℕ) Stop = λ at s f. list_end ids kinds.Field bounds bytes f >>= λ (end : ℕ). Ok (made at s f, end) in
     then_tag (reached bounds 1 (class_widths ids))
     (λ (at : ℕ). list_end ids kinds.Constant bounds bytes at >>= λ (s : ℕ). list_end ids kinds.Static bounds bytes s >>= λ (f : ℕ). last at s f) fact n tags.ClassDump
     (λ at. then_tag (list_end ids kinds.Constant bounds bytes at) (λ (s : ℕ). list_end ids kinds.Static bounds bytes s >>= λ (f : ℕ). last at s f) fact n tags.ClassDump
@@ -159,7 +157,7 @@ class_tag ids bounds bytes fact n e =
     (λ f. then_tag (list_end ids kinds.Field bounds bytes f) (λ (end : ℕ). Ok (made at s f, end)) fact n tags.ClassDump (λ end. last_tag (made at s f) end fact n tags.ClassDump refl)))) e
 
 -- what is read is spelled so
-read_found : (ids : IdSize) (tag : SubTag) (bounds : Bounds) (bytes : List ℕ) (fact : AnyFact) (n : ℕ) → IsBytes bytes → bounds.there ≤ length bytes
+read_found : (ids : IdSize) (tag : SubTag) (bounds : Bounds) (bytes : List ℕ) (fact : FactValue) (n : ℕ) → IsBytes bytes → bounds.there ≤ length bytes
     → dump_at ids tag bounds bytes ≡ Ok (fact, n) → IsRead ids tag bounds bytes fact n
 read_found ids tags.ClassDump bounds bytes fact n are there e = record { is = class_found ids bounds bytes fact n are there e; tagged = class_tag ids bounds bytes fact n e }
 read_found ids tags.InstanceDump bounds bytes fact n are there e = record { is = instance_found ids bounds bytes fact n are there e; tagged = instance_tag ids bounds bytes fact n e }
@@ -171,7 +169,7 @@ read_found ids tag bounds bytes fact n are there e =
 -- ---- from the tag on
 
 -- a spelling begins with its tag
-pub tag_first : (ids : IdSize) (fact : AnyFact) → DumpFits ids fact → dump_bytes ids fact ≡ code_of_tag (tag_of_dump fact) ∷ drop 1 (dump_bytes ids fact)
+pub tag_first : (ids : IdSize) (fact : FactValue) → DumpFits ids fact → dump_bytes ids fact ≡ code_of_tag (tag_of_dump fact) ∷ drop 1 (dump_bytes ids fact)
 tag_first ids (Rooted root) fits = refl
 tag_first ids (Class id trace parent loader signers domain reserved1 reserved2 size constants statics fields) fits = refl
 tag_first ids (Instance id trace class raw) fits = refl
@@ -201,7 +199,7 @@ first_passes bounds within =
     rw some (ends ∙ ap Ok (omega (arith, one)))
 
 -- a sub-record that is spelled is read, whatever follows
-pub sub_again : (ids : IdSize) (bounds : Bounds) (fact : AnyFact) (rest bytes : List ℕ) → DumpFits ids fact → bytes ≡ dump_bytes ids fact ++ rest
+pub sub_again : (ids : IdSize) (bounds : Bounds) (fact : FactValue) (rest bytes : List ℕ) → DumpFits ids fact → bytes ≡ dump_bytes ids fact ++ rest
     → IsWithin bounds (length (dump_bytes ids fact)) → sub_at ids bounds bytes ≡ Ok (fact, length (dump_bytes ids fact))
 unfolding sub_at
 sub_again ids bounds fact rest bytes fits spelled within =
@@ -228,7 +226,7 @@ first_passed : (bounds : Bounds) (front : ℕ) → first_test bounds ≡ Ok fron
 first_passed bounds front e = there_by bounds.there (reached bounds 0 (1 ∷ [])) front e
 
 -- a sub-record that is read is spelled there
-pub sub_found : (ids : IdSize) (bounds : Bounds) (bytes : List ℕ) (fact : AnyFact) (n : ℕ) → IsBytes bytes → bounds.there ≤ length bytes
+pub sub_found : (ids : IdSize) (bounds : Bounds) (bytes : List ℕ) (fact : FactValue) (n : ℕ) → IsBytes bytes → bounds.there ≤ length bytes
     → sub_at ids bounds bytes ≡ Ok (fact, n) → IsSubOf ids bounds bytes fact n
 unfolding sub_at
 sub_found ids bounds bytes fact n are there e =
@@ -249,7 +247,7 @@ sub_found ids bounds bytes fact n are there e =
     }
 
 -- no spelling begins another
-pub dump_once : (ids : IdSize) (fact other : AnyFact) (rest more : List ℕ) → DumpFits ids fact → DumpFits ids other → dump_bytes ids fact ++ rest ≡ dump_bytes ids other ++ more
+pub dump_once : (ids : IdSize) (fact other : FactValue) (rest more : List ℕ) → DumpFits ids fact → DumpFits ids other → dump_bytes ids fact ++ rest ≡ dump_bytes ids other ++ more
     → (fact ≡ other) × (rest ≡ more)
 dump_once ids fact other rest more fits fits_too e =
     let a : List ℕ = dump_bytes ids fact in
@@ -287,7 +285,7 @@ sub_stops ids bounds bytes stop e = sub_steps ids bounds bytes ∙ then_stop (ta
 -- ---- what a caller sees
 
 -- a sub-record that fits is a fact that has a spelling
-dump_fits_any : (ids : IdSize) (fact : AnyFact) → DumpFits ids fact → length (dump_bytes ids fact) ≤ longest_body → AnyFits ids fact
+dump_fits_any : (ids : IdSize) (fact : FactValue) → DumpFits ids fact → length (dump_bytes ids fact) ≤ longest_body → Fits ids fact
 dump_fits_any ids (Rooted root) fits short = (fits, short)
 dump_fits_any ids (Class id trace parent loader signers domain reserved1 reserved2 size constants statics fields) fits short = (fits, short)
 dump_fits_any ids (Instance id trace class raw) fits short = (fits, short)
@@ -301,12 +299,12 @@ dump_fits_any ids (Trace serial thread frames) fits short = absurd fits
 dump_fits_any ids (Start thread object trace name group parent_group) fits short = absurd fits
 dump_fits_any ids (End thread) fits short = absurd fits
 
-pub sub_read : (ids : IdSize) (room longest : ℕ) (bytes : List ℕ) (fact : FullFact) (n : ℕ) → IsBytes bytes → room < 2 ^ 32 → ListsHave ids fact
-    → sub_at ids (bounds_within room longest bytes) bytes ≡ Ok (value_of_full fact, n) → IsSubRead ids room longest bytes fact n
+pub sub_read : (ids : IdSize) (room longest : ℕ) (bytes : List ℕ) (fact : Fact) (n : ℕ) → IsBytes bytes → room < 2 ^ 32 → ListsHave ids fact
+    → sub_at ids (bounds_within room longest bytes) bytes ≡ Ok (value_of fact, n) → IsSubRead ids room longest bytes fact n
 sub_read ids room longest bytes fact n are small lists e =
-    let found = sub_found ids (bounds_within room longest bytes) bytes (value_of_full fact) n are (omega arith) e in
+    let found = sub_found ids (bounds_within room longest bytes) bytes (value_of fact) n are (omega arith) e in
     record {
-      fits = dump_fits_any ids (value_of_full fact) found.fits (omega (arith, found.ends, found.within.room, small));
+      fits = dump_fits_any ids (value_of fact) found.fits (omega (arith, found.ends, found.within.room, small));
       lists = lists;
       spelled = found.spelled;
       ends = found.ends;
@@ -315,7 +313,7 @@ sub_read ids room longest bytes fact n are small lists e =
     }
 
 -- what is spelled there is what a reading gives
-pub sub_is : (ids : IdSize) (room longest : ℕ) (bytes : List ℕ) (r : Result (AnyFact × ℕ) Stop) (fact : AnyFact) (rest : List ℕ) → r ≡ sub_at ids (bounds_within room longest bytes) bytes
+pub sub_is : (ids : IdSize) (room longest : ℕ) (bytes : List ℕ) (r : Result (FactValue × ℕ) Stop) (fact : FactValue) (rest : List ℕ) → r ≡ sub_at ids (bounds_within room longest bytes) bytes
     → DumpFits ids fact → bytes ≡ dump_bytes ids fact ++ rest → length (dump_bytes ids fact) ≤ room → length (dump_bytes ids fact) ≤ longest → r ≡ Ok (fact, length (dump_bytes ids fact))
 sub_is ids room longest bytes r fact rest read fits spelled in_room in_longest =
     let there : length (dump_bytes ids fact) ≤ length bytes = omega (arith, ap length spelled, length-append (dump_bytes ids fact) rest) in
@@ -323,6 +321,6 @@ sub_is ids room longest bytes r fact rest read fits spelled in_room in_longest =
 
 -- so no other answer is given
 pub sub_never : (ids : IdSize) (room longest : ℕ) (bytes : List ℕ) (stop : Stop) → sub_at ids (bounds_within room longest bytes) bytes ≡ Err stop
-    → (fact : AnyFact) (rest : List ℕ) → DumpFits ids fact → bytes ≡ dump_bytes ids fact ++ rest → length (dump_bytes ids fact) ≤ room → length (dump_bytes ids fact) ≤ longest → ⊥
+    → (fact : FactValue) (rest : List ℕ) → DumpFits ids fact → bytes ≡ dump_bytes ids fact ++ rest → length (dump_bytes ids fact) ≤ room → length (dump_bytes ids fact) ≤ longest → ⊥
 sub_never ids room longest bytes stop e fact rest fits spelled in_room in_longest =
     let read = sub_is ids room longest bytes (Err stop) fact rest (sym e) fits spelled in_room in_longest in absurd cc

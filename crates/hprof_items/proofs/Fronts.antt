@@ -9,11 +9,11 @@ use Rattle.hprof_values.specs.declared.lists.ids.IdList.{IdList}
 use Rattle.hprof_values.specs.Lists.{id_widths, identifiers_of, identifiers_size, IsIdList}
 use Rattle.hprof_values.specs.SubTag.{code_of_tag}
 use Rattle.hprof_values.specs.declared.ids.IdSize.{IdSize}
-use Rattle.hprof_items.specs.declared.full_fact.FullFact.{FullFact}
+use Rattle.hprof_items.specs.declared.fact.Fact.{Fact}
 use Rattle.hprof_items.specs.declared.health.WriteFault.{WriteFault}
-use Rattle.hprof_items.specs.AnySpelling.{any_spelling, AnyFits}
+use Rattle.hprof_items.specs.Spelling.{spelling, Fits}
 use Rattle.hprof_items.specs.Device.{Writes}
-use Rattle.hprof_items.specs.FullFact.{value_of_full, ListsHave}
+use Rattle.hprof_items.specs.FactValue.{value_of, ListsHave}
 use Rattle.hprof_items.specs.Head.{head_bytes, record_bytes}
 use Rattle.hprof_items.specs.SubRecord.{tagged_bytes}
 
@@ -47,16 +47,16 @@ tagged_parts tag code widths numbers more same lt = ap (λ (t : ℕ). t ∷ (fie
 -- ---- what is said of a fact in hand, where it is known which form it has
 
 -- what a write of one form wrote
-pub writes_form : {A : Type 0} (ids : IdSize) (old new : Option (List ℕ)) (r : Result A WriteFault) (fact this : FullFact) → fact ≡ this
-    → Writes old new r (any_spelling ids (value_of_full this)) → Writes old new r (any_spelling ids (value_of_full fact))
-writes_form ids old new r fact this same w = subst (λ (f : FullFact). Writes old new r (any_spelling ids (value_of_full f))) (sym same) w
+pub writes_form : {A : Type 0} (ids : IdSize) (old new : Option (List ℕ)) (r : Result A WriteFault) (fact this : Fact) → fact ≡ this
+    → Writes old new r (spelling ids (value_of this)) → Writes old new r (spelling ids (value_of fact))
+writes_form ids old new r fact this same w = subst (λ (f : Fact). Writes old new r (spelling ids (value_of f))) (sym same) w
 
 -- a fact of one form that has a spelling
-pub fits_form : (ids : IdSize) (fact this : FullFact) → fact ≡ this → AnyFits ids (value_of_full fact) → AnyFits ids (value_of_full this)
-fits_form ids fact this same fits = subst (λ (f : FullFact). AnyFits ids (value_of_full f)) same fits
+pub fits_form : (ids : IdSize) (fact this : Fact) → fact ≡ this → Fits ids (value_of fact) → Fits ids (value_of this)
+fits_form ids fact this same fits = subst (λ (f : Fact). Fits ids (value_of f)) same fits
 
 -- lists of one form that have the size of identifiers
-pub lists_form : (ids : IdSize) (fact this : FullFact) → fact ≡ this → ListsHave ids fact → ListsHave ids this
+pub lists_form : (ids : IdSize) (fact this : Fact) → fact ≡ this → ListsHave ids fact → ListsHave ids this
 lists_form ids fact this same lists = subst (ListsHave ids) same lists
 
 -- ---- lists of identifiers

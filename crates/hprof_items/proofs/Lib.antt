@@ -1,16 +1,14 @@
 pub mod Steps
 pub mod Headers
+pub mod RecordBodies
 pub mod Heads
-pub mod Bodies
 pub mod Writes
 pub mod Limits
 pub mod SubRecords
 pub mod ArrayRecords
 pub mod ClassDumps
 pub mod Dumps
-pub mod RecordBodies
 pub mod Families
-pub mod FullHeads
 pub mod WalksMore
 pub mod WalksReads
 pub mod Walks

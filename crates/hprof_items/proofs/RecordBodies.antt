@@ -22,14 +22,14 @@ use Rattle.hprof_values.proofs.FieldGroups.{length-fields, fields_again, fields_
 use Rattle.hprof_values.proofs.IdLists.{sum-id_widths, ids_whole, length-ids, ids_found, ids_again}
 use Rattle.hprof_items.specs.Head.{record_bytes}
 use Rattle.hprof_items.specs.Spelling.{longest_body}
-use Rattle.hprof_items.specs.AnyFact.{AnyFact, Name, Load, Unload, Frame, Trace, Start, End}
+use Rattle.hprof_items.specs.FactValue.{FactValue, Name, Load, Unload, Frame, Trace, Start, End}
 use Rattle.hprof_items.specs.RecordBody.{is_legal_body, record_of, record_numbers, record_rest, record_body, RestFits, BodyFits, stated_by, record_at}
 use Rattle.hprof_items.proofs.Steps.{held}
 
 -- ---- what is spelled is read
 
 -- what the record of the fact's own tag states, that of an equal tag does
-by_tag : (ids : IdSize) (own tag : RecordTag) (numbers rest : List ℕ) (fact : AnyFact) → Some own ≡ Some tag → stated_by ids own numbers rest ≡ Ok fact
+by_tag : (ids : IdSize) (own tag : RecordTag) (numbers rest : List ℕ) (fact : FactValue) → Some own ≡ Some tag → stated_by ids own numbers rest ≡ Ok fact
     → stated_by ids tag numbers rest ≡ Ok fact
 by_tag ids own tag numbers rest fact is e = let same : own ≡ tag = cc in subst (λ (t : RecordTag). stated_by ids t numbers rest ≡ Ok fact) same e
 
@@ -45,26 +45,26 @@ trace_again ids serial thread frames fits =
     ∙ ap (λ (read : List ℕ). Ok (Trace serial thread read)) (ids_again ids frames raw list).1
 
 -- the numbers and the bytes of a fact state it
-stated_again : (ids : IdSize) (tag : RecordTag) (fact : AnyFact) → record_of fact ≡ Some tag → RestFits ids fact
+stated_again : (ids : IdSize) (tag : RecordTag) (fact : FactValue) → record_of fact ≡ Some tag → RestFits ids fact
     → stated_by ids tag (record_numbers fact) (record_rest ids fact) ≡ Ok fact
 stated_again ids tag (Name id text) is fits = by_tag ids tags.Utf8 tag (id ∷ []) text (Name id text) is refl
 stated_again ids tag (Load serial class trace name) is fits =
     by_tag ids tags.LoadClass tag (serial ∷ class ∷ trace ∷ name ∷ []) [] (Load serial class trace name) is refl
 stated_again ids tag (Unload serial) is fits = by_tag ids tags.UnloadClass tag (serial ∷ []) [] (Unload serial) is refl
 stated_again ids tag (Frame id method signature source class_serial line) is fits =
-    let fact : AnyFact = Frame id method signature source class_serial line in
+    let fact : FactValue = Frame id method signature source class_serial line in
     by_tag ids tags.Frame tag (record_numbers fact) [] fact is (ap (λ (n : ℤ). Ok (Frame id method signature source class_serial n)) (to_z-of_z w32 line fits))
 stated_again ids tag (Trace serial thread frames) is fits =
-    let fact : AnyFact = Trace serial thread frames in
+    let fact : FactValue = Trace serial thread frames in
     by_tag ids tags.Trace tag (record_numbers fact) (record_rest ids fact) fact is (trace_again ids serial thread frames fits)
 stated_again ids tag (Start thread object trace name group parent_group) is fits =
-    let fact : AnyFact = Start thread object trace name group parent_group in
+    let fact : FactValue = Start thread object trace name group parent_group in
     by_tag ids tags.StartThread tag (record_numbers fact) [] fact is refl
 stated_again ids tag (End thread) is fits = by_tag ids tags.EndThread tag (thread ∷ []) [] (End thread) is refl
 stated_again ids tag _ is fits = absurd cc
 
 -- the body of a fact is read as that fact
-pub record_again : (ids : IdSize) (tag : RecordTag) (fact : AnyFact) → BodyFits ids tag fact → record_at ids tag (record_body ids tag fact) ≡ Ok fact
+pub record_again : (ids : IdSize) (tag : RecordTag) (fact : FactValue) → BodyFits ids tag fact → record_at ids tag (record_body ids tag fact) ≡ Ok fact
 unfolding record_at
 record_again ids tag fact fits =
     let widths : List ℕ = record_fields ids tag in
@@ -78,27 +78,27 @@ record_again ids tag fact fits =
 -- ---- what is read is spelled so
 
 -- the fact is that of the fields at the front of the body and of the bytes behind them
-record IsStated (ids : IdSize) (tag : RecordTag) (body : List ℕ) (fact : AnyFact) : Type 0 where
+record IsStated (ids : IdSize) (tag : RecordTag) (body : List ℕ) (fact : FactValue) : Type 0 where
   is : record_of fact ≡ Some tag
   numbers : record_numbers fact ≡ fields_in (record_fields ids tag) body
   rest : record_rest ids fact ≡ drop (sum (record_fields ids tag)) body
   fits : RestFits ids fact
 
 -- a reading gives one fact
-pub given : (x y : AnyFact) (r : Result AnyFact Reason) → r ≡ Ok x → r ≡ Ok y → x ≡ y
+pub given : (x y : FactValue) (r : Result FactValue Reason) → r ≡ Ok x → r ≡ Ok y → x ≡ y
 given x y r p q = cc
 
 -- and no fault beside it
-pub never_faulty : (fact : AnyFact) (reason : Reason) (r : Result AnyFact Reason) → r ≡ Ok fact → r ≡ Err reason → ⊥
+pub never_faulty : (fact : FactValue) (reason : Reason) (r : Result FactValue Reason) → r ≡ Ok fact → r ≡ Err reason → ⊥
 never_faulty fact reason r p q = cc
 
 -- so what holds of the one that was read holds of the one that was given
-along : (ids : IdSize) (tag : RecordTag) (body : List ℕ) (x fact : AnyFact) (r : Result AnyFact Reason) → r ≡ Ok x → r ≡ Ok fact
+along : (ids : IdSize) (tag : RecordTag) (body : List ℕ) (x fact : FactValue) (r : Result FactValue Reason) → r ≡ Ok x → r ≡ Ok fact
     → IsStated ids tag body x → IsStated ids tag body fact
 along ids tag body x fact r p q is = subst (IsStated ids tag body) (given x fact r p q) is
 
 -- a trace that passed its test
-counted : (a b : ℕ) (x fact : AnyFact) → cond (eqb a b) (Ok x) (Err BadLength) ≡ Ok fact → (a ≡ b) × (x ≡ fact)
+counted : (a b : ℕ) (x fact : FactValue) → cond (eqb a b) (Ok x) (Err BadLength) ≡ Ok fact → (a ≡ b) × (x ≡ fact)
 counted a b x fact e =
     let never : Err BadLength ≡ Ok fact → ⊥ = λ h. cc in
     let test = held (eqb a b) (Ok x) (Err BadLength) (Ok fact) never e in
@@ -117,7 +117,7 @@ nothing_more : (widths body : List ℕ) → eqb (length body) (sum widths) ≡ t
 nothing_more widths body legal = let same = eqb-true _ _ legal in sym (drop_all (sum widths) body (omega arith))
 
 -- a frame that is read
-frame_stated : (ids : IdSize) (body : List ℕ) (fact : AnyFact) → IsBytes body → is_legal_body ids tags.Frame (length body) ≡ true
+frame_stated : (ids : IdSize) (body : List ℕ) (fact : FactValue) → IsBytes body → is_legal_body ids tags.Frame (length body) ≡ true
     → record_at ids tags.Frame body ≡ Ok fact → IsStated ids tags.Frame body fact
 unfolding record_at
 frame_stated ids body fact are legal e =
@@ -125,7 +125,7 @@ frame_stated ids body fact are legal e =
     let numbers : List ℕ = fields_in widths body in
     let front : ℕ → List ℕ =
     λ line. slice_index numbers 0 ∷ slice_index numbers 1 ∷ slice_index numbers 2 ∷ slice_index numbers 3 ∷ slice_index numbers 4 ∷ line ∷ [] in
-    let made : AnyFact =
+    let made : FactValue =
     Frame (slice_index numbers 0) (slice_index numbers 1) (slice_index numbers 2) (slice_index numbers 3) (slice_index numbers 4) (cast_signed w32 (slice_index numbers 5)) in
     let before : List ℕ = drop 4 (drop (width_of ids) (drop (width_of ids) (drop (width_of ids) (drop (width_of ids) body)))) in
     let are_before : IsBytes before =
@@ -139,7 +139,7 @@ frame_stated ids body fact are legal e =
     })
 
 -- a trace that is read
-trace_stated : (ids : IdSize) (body : List ℕ) (fact : AnyFact) → IsBytes body → record_at ids tags.Trace body ≡ Ok fact → IsStated ids tags.Trace body fact
+trace_stated : (ids : IdSize) (body : List ℕ) (fact : FactValue) → IsBytes body → record_at ids tags.Trace body ≡ Ok fact → IsStated ids tags.Trace body fact
 unfolding record_at
 trace_stated ids body fact are e =
     let widths : List ℕ = record_fields ids tags.Trace in
@@ -161,17 +161,17 @@ trace_stated ids body fact are e =
     })
 
 -- any record that is read
-stated_found : (ids : IdSize) (tag : RecordTag) (body : List ℕ) (fact : AnyFact) → IsBytes body → is_legal_body ids tag (length body) ≡ true
+stated_found : (ids : IdSize) (tag : RecordTag) (body : List ℕ) (fact : FactValue) → IsBytes body → is_legal_body ids tag (length body) ≡ true
     → record_at ids tag body ≡ Ok fact → IsStated ids tag body fact
 unfolding record_at
 stated_found ids tags.Utf8 body fact are legal e =
     let widths : List ℕ = record_fields ids tags.Utf8 in
-    let made : AnyFact = Name (big_number (width_of ids) body) (drop (sum widths) body) in
+    let made : FactValue = Name (big_number (width_of ids) body) (drop (sum widths) body) in
     along ids tags.Utf8 body made fact (record_at ids tags.Utf8 body) refl e
     (record { is = refl; numbers = refl; rest = refl; fits = IsBytes-drop (sum widths) body are })
 stated_found ids tags.LoadClass body fact are legal e =
     let numbers : List ℕ = fields_in (record_fields ids tags.LoadClass) body in
-    let made : AnyFact = Load (slice_index numbers 0) (slice_index numbers 1) (slice_index numbers 2) (slice_index numbers 3) in
+    let made : FactValue = Load (slice_index numbers 0) (slice_index numbers 1) (slice_index numbers 2) (slice_index numbers 3) in
     along ids tags.LoadClass body made fact (record_at ids tags.LoadClass body) refl e
     (record { is = refl; numbers = refl; rest = nothing_more (record_fields ids tags.LoadClass) body legal; fits = tt })
 stated_found ids tags.UnloadClass body fact are legal e =
@@ -181,7 +181,7 @@ stated_found ids tags.Frame body fact are legal e = frame_stated ids body fact a
 stated_found ids tags.Trace body fact are legal e = trace_stated ids body fact are e
 stated_found ids tags.StartThread body fact are legal e =
     let numbers : List ℕ = fields_in (record_fields ids tags.StartThread) body in
-    let made : AnyFact =
+    let made : FactValue =
     Start (slice_index numbers 0) (slice_index numbers 1) (slice_index numbers 2) (slice_index numbers 3) (slice_index numbers 4) (slice_index numbers 5) in
     along ids tags.StartThread body made fact (record_at ids tags.StartThread body) refl e
     (record { is = refl; numbers = refl; rest = nothing_more (record_fields ids tags.StartThread) body legal; fits = tt })
@@ -196,7 +196,7 @@ has_fields ids tags.Trace len legal = leb-true _ _ legal
 has_fields ids _ len legal = let same = eqb-true _ _ legal in omega arith
 
 -- a fact that is read has its body there
-pub record_found : (ids : IdSize) (tag : RecordTag) (body : List ℕ) (fact : AnyFact) → IsBytes body → is_legal_body ids tag (length body) ≡ true
+pub record_found : (ids : IdSize) (tag : RecordTag) (body : List ℕ) (fact : FactValue) → IsBytes body → is_legal_body ids tag (length body) ≡ true
     → record_at ids tag body ≡ Ok fact → BodyFits ids tag fact × (body ≡ record_body ids tag fact)
 record_found ids tag body fact are legal e =
     let widths : List ℕ = record_fields ids tag in
@@ -225,7 +225,7 @@ same_tag tag other e =
     let same : Some tag ≡ Some other = sym (record_code_again tag) ∙ ap record_of_code e ∙ record_code_again other in
     cc
 
-pub record_once : (ids : IdSize) (fact other : AnyFact) (tag tag_too : RecordTag) (rest more : List ℕ) → BodyFits ids tag fact → BodyFits ids tag_too other
+pub record_once : (ids : IdSize) (fact other : FactValue) (tag tag_too : RecordTag) (rest more : List ℕ) → BodyFits ids tag fact → BodyFits ids tag_too other
     → length (record_body ids tag fact) ≤ longest_body → length (record_body ids tag_too other) ≤ longest_body
     → record_bytes (code_of_record tag) 0 (record_body ids tag fact) ++ rest ≡ record_bytes (code_of_record tag_too) 0 (record_body ids tag_too other) ++ more
     → (fact ≡ other) × (rest ≡ more)

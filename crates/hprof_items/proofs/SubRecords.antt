@@ -12,7 +12,7 @@ use Rattle.hprof_values.specs.declared.sub_tag.SubTag.TheVariants as tags
 use Rattle.hprof_values.specs.Ids.{width_of, IsBytes}
 use Rattle.hprof_values.specs.Fields.{field_bytes, fields_in, FitFields, Bounds, ◌>>=◌, reached, IsWithin}
 use Rattle.hprof_values.specs.Root.{tag_of_root, root_fields, root_numbers, root_bytes, RootFits}
-use Rattle.hprof_items.specs.AnyFact.{AnyFact, Rooted, Instance}
+use Rattle.hprof_items.specs.FactValue.{FactValue, Rooted, Instance}
 use Rattle.hprof_items.specs.SubRecord.{cut, instance_widths, instance_numbers, instance_at, root_of, root_at, dump_bytes, DumpFits, is_root_tag, IsDumpOf}
 use Rattle.hprof_values.proofs.Numbers.{IsBytes-drop, IsBytes-take}
 use Rattle.hprof_values.proofs.FieldGroups.{sum_widths, length-fields, fields_again, fields_rest, fields_fit, fields_found, then_ok, then_next, within-less, reached_within, reached_passed}
@@ -106,7 +106,7 @@ instance_again ids bounds id trace class raw rest bytes fits spelled within =
     let all : ℕ = length (dump_bytes ids (Instance id trace class raw)) in
     let len : 1 + sum widths + length raw ≡ all = omega (arith, length-fields widths numbers fits.0, length-append (field_bytes widths numbers) raw) in
     let again = dump_again bounds widths numbers raw rest bytes fits.0 (spelled ∙ append_assoc (field_bytes widths numbers) raw rest) (within-less bounds (1 + sum widths + length raw) all (omega arith) within) in
-    let step : List ℕ → ℕ → Result (AnyFact × ℕ) Stop =
+    let step : List ℕ → ℕ → Result (FactValue × ℕ) Stop =
     λ ns front. reached bounds front (slice_index ns 3 ∷ []) >>= λ (end : ℕ). Ok (Instance (slice_index ns 0) (slice_index ns 1) (slice_index ns 2) (cut (slice_index ns 3) front bytes), end) in
     ap (λ (ns : List ℕ). reached bounds 1 widths >>= step ns) again.0
     ∙ then_next (reached bounds 1 widths) (step numbers) (1 + sum widths) again.1
@@ -117,18 +117,18 @@ instance_again ids bounds id trace class raw rest bytes fits spelled within =
 -- ---- what is read is spelled so
 
 -- a reading gives one answer
-pub answer_parts : (x y : AnyFact) (m n : ℕ) (r : Result (AnyFact × ℕ) Stop) → r ≡ Ok (x, m) → r ≡ Ok (y, n) → (x ≡ y) × (m ≡ n)
-answer_parts x y m n r p q = let same : (x, m) ≡ (y, n) = cc in (ap (λ (z : AnyFact × ℕ). z.0) same, ap (λ (z : AnyFact × ℕ). z.1) same)
+pub answer_parts : (x y : FactValue) (m n : ℕ) (r : Result (FactValue × ℕ) Stop) → r ≡ Ok (x, m) → r ≡ Ok (y, n) → (x ≡ y) × (m ≡ n)
+answer_parts x y m n r p q = let same : (x, m) ≡ (y, n) = cc in (ap (λ (z : FactValue × ℕ). z.0) same, ap (λ (z : FactValue × ℕ). z.1) same)
 
 -- an answer
-abbrev pub answered : AnyFact → ℕ → Result (AnyFact × ℕ) Stop
+abbrev pub answered : FactValue → ℕ → Result (FactValue × ℕ) Stop
 answered fact end = Ok (fact, end)
 
 -- so what holds of an answer holds of the answer that was given
-pub along_answer : (ids : IdSize) (bounds : Bounds) (bytes : List ℕ) (x fact : AnyFact) (m n : ℕ) → answered x m ≡ answered fact n → IsDumpOf ids bounds bytes x m → IsDumpOf ids bounds bytes fact n
+pub along_answer : (ids : IdSize) (bounds : Bounds) (bytes : List ℕ) (x fact : FactValue) (m n : ℕ) → answered x m ≡ answered fact n → IsDumpOf ids bounds bytes x m → IsDumpOf ids bounds bytes fact n
 along_answer ids bounds bytes x fact m n e is =
     let same = answer_parts x fact m n (answered x m) refl e in
-    subst (λ (k : ℕ). IsDumpOf ids bounds bytes fact k) same.1 (subst (λ (f : AnyFact). IsDumpOf ids bounds bytes f m) same.0 is)
+    subst (λ (k : ℕ). IsDumpOf ids bounds bytes fact k) same.1 (subst (λ (f : FactValue). IsDumpOf ids bounds bytes f m) same.0 is)
 
 -- the numbers of a root's tag are those of the root
 pub numbers_same : (ids : IdSize) (tag : SubTag) (bytes : List ℕ) → is_root_tag tag ≡ true
@@ -174,7 +174,7 @@ root_there ids bounds root bytes end are there numbers ends =
     }
 
 -- a root that is read is spelled there
-pub root_found : (ids : IdSize) (tag : SubTag) (bounds : Bounds) (bytes : List ℕ) (fact : AnyFact) (n : ℕ) → IsBytes bytes → bounds.there ≤ length bytes → is_root_tag tag ≡ true
+pub root_found : (ids : IdSize) (tag : SubTag) (bounds : Bounds) (bytes : List ℕ) (fact : FactValue) (n : ℕ) → IsBytes bytes → bounds.there ≤ length bytes → is_root_tag tag ≡ true
     → root_at ids tag bounds bytes ≡ Ok (fact, n) → IsDumpOf ids bounds bytes fact n
 unfolding root_at
 root_found ids tag bounds bytes fact n are there root e =
@@ -187,14 +187,14 @@ root_found ids tag bounds bytes fact n are there root e =
     along_answer ids bounds bytes (Rooted (root_of tag numbers)) fact first.0 n first.2 is
 
 -- an instance that is read is spelled there
-pub instance_found : (ids : IdSize) (bounds : Bounds) (bytes : List ℕ) (fact : AnyFact) (n : ℕ) → IsBytes bytes → bounds.there ≤ length bytes
+pub instance_found : (ids : IdSize) (bounds : Bounds) (bytes : List ℕ) (fact : FactValue) (n : ℕ) → IsBytes bytes → bounds.there ≤ length bytes
     → instance_at ids bounds bytes ≡ Ok (fact, n) → IsDumpOf ids bounds bytes fact n
 unfolding instance_at
 instance_found ids bounds bytes fact n are there e =
     let widths : List ℕ = instance_widths ids in
     let numbers : List ℕ = fields_in widths (drop 1 bytes) in
     let len : ℕ = slice_index numbers 3 in
-    let read : ℕ → AnyFact = λ front. Instance (slice_index numbers 0) (slice_index numbers 1) (slice_index numbers 2) (cut len front bytes) in
+    let read : ℕ → FactValue = λ front. Instance (slice_index numbers 0) (slice_index numbers 1) (slice_index numbers 2) (cut len front bytes) in
     let first = then_ok (reached bounds 1 widths) (λ (front : ℕ). reached bounds front (len ∷ []) >>= λ (end : ℕ). Ok (read front, end)) (fact, n) e in
     let second = then_ok (reached bounds first.0 (len ∷ [])) (λ (end : ℕ). Ok (read first.0, end)) (fact, n) first.2 in
     let dump = dump_found bounds (width_of ids) (4 ∷ width_of ids ∷ 4 ∷ []) len bytes first.0 second.0 are there first.1 second.1 in

@@ -13,16 +13,15 @@ use Rattle.hprof_values.specs.Entries.{list_in, list_end}
 use Rattle.hprof_values.specs.Item.{bounds_of}
 use Rattle.hprof_values.proofs.FieldGroups.{then_more, then_next, then_stop, reached_more}
 use Rattle.hprof_items.specs.declared.walk.Walk.TheVariants.{Front, Entries}
-use Rattle.hprof_items.specs.AnyFact.{AnyFact}
+use Rattle.hprof_items.specs.FactValue.{FactValue}
 use Rattle.hprof_items.specs.ClassDump.{class_widths, class_of, class_at}
-use Rattle.hprof_items.specs.SubRecord.{dump_at}
+use Rattle.hprof_items.specs.SubRecord.{dump_at, tag_at}
 use Rattle.hprof_items.specs.Walk.{end_of_read, behind, walked, FindsSame, StopsAt, count_at, class_count}
-use Rattle.hprof_items.specs.SubRecord.{tag_at}
 use Rattle.hprof_items.proofs.WalksReads.{tag_more, then_assoc, sub_parts}
 use Rattle.hprof_items.proofs.Walks.{later, settled_ok, listed, list_counted, count_settled}
 
 -- the end of what comes after a step
-end_then : {A : Type 0} (r : Result A Stop) (next : A → Result (AnyFact × ℕ) Stop)
+end_then : {A : Type 0} (r : Result A Stop) (next : A → Result (FactValue × ℕ) Stop)
     → end_of_read (r >>= next) ≡ (r >>= λ (x : A). end_of_read (next x))
 end_then (Ok x) next = refl
 end_then (Err stop) next = refl
@@ -33,7 +32,7 @@ then_same (Ok x) next other same = same x
 then_same (Err stop) next other same = refl
 
 -- the end of an answer that has the end of a step
-end_with : (r : Result ℕ Stop) (fact : AnyFact) → end_of_read (r >>= λ (end : ℕ). Ok (fact, end)) ≡ r
+end_with : (r : Result ℕ Stop) (fact : FactValue) → end_of_read (r >>= λ (end : ℕ). Ok (fact, end)) ≡ r
 end_with (Ok end) fact = refl
 end_with (Err stop) fact = refl
 
@@ -46,12 +45,12 @@ class_parts ids bounds bytes =
     let ns = fields_in (class_widths ids) (drop 1 bytes) in
     let entries : EntryKind → ℕ → List Entry = λ kind at. list_in ids kind bytes at in
     let ends : EntryKind → ℕ → Result ℕ Stop = λ kind at. list_end ids kind bounds bytes at in
-    let fact : ℕ → ℕ → ℕ → AnyFact =
+    let fact : ℕ → ℕ → ℕ → FactValue =
     λ front statics fields. class_of ns (entries kinds.Constant front) (entries kinds.Static statics) (entries kinds.Field fields) in
-    let third : ℕ → ℕ → ℕ → Result (AnyFact × ℕ) Stop =
+    let third : ℕ → ℕ → ℕ → Result (FactValue × ℕ) Stop =
     λ front statics fields. ends kinds.Field fields >>= λ (end : ℕ). Ok (fact front statics fields, end) in
-    let second : ℕ → ℕ → Result (AnyFact × ℕ) Stop = λ front statics. ends kinds.Static statics >>= third front statics in
-    let first : ℕ → Result (AnyFact × ℕ) Stop = λ front. ends kinds.Constant front >>= second front in
+    let second : ℕ → ℕ → Result (FactValue × ℕ) Stop = λ front statics. ends kinds.Static statics >>= third front statics in
+    let first : ℕ → Result (FactValue × ℕ) Stop = λ front. ends kinds.Constant front >>= second front in
     end_then (reached bounds 1 (class_widths ids)) first
     ∙ then_same (reached bounds 1 (class_widths ids)) _ _
     (λ front. end_then (ends kinds.Constant front) (second front) ∙ then_same (ends kinds.Constant front) _ _

@@ -18,10 +18,9 @@ use Rattle.hprof_values.specs.Entries.{list_in, list_end}
 use Rattle.hprof_values.specs.Lists.{ids_in}
 use Rattle.hprof_values.specs.Root.{root_fields}
 use Rattle.hprof_values.specs.SubTag.{tag_of_code}
-use Rattle.hprof_items.specs.AnyFact.{AnyFact, Rooted, Instance, ObjArray, PrimArray}
+use Rattle.hprof_items.specs.FactValue.{FactValue, Rooted, Instance, ObjArray, PrimArray}
 use Rattle.hprof_items.specs.ClassDump.{class_widths, class_of, class_at}
-use Rattle.hprof_items.specs.SubRecord.{instance_widths, obj_array_widths, prim_array_widths, root_of, root_at, cut, instance_at, obj_array_at, element_type, prim_array_at, dump_at, judged_tag, sub_at}
-use Rattle.hprof_items.specs.SubRecord.{tag_at}
+use Rattle.hprof_items.specs.SubRecord.{instance_widths, obj_array_widths, prim_array_widths, root_of, root_at, cut, instance_at, obj_array_at, element_type, prim_array_at, dump_at, judged_tag, sub_at, tag_at}
 use Rattle.hprof_values.proofs.FieldGroups.{sum_widths, then_more, reached_passed, reached_more}
 use Rattle.hprof_items.proofs.WalksMore.{byte_more, fields_more_at, cut_more, IsSettled, then_more_at, list_more, list_in_more}
 
@@ -39,7 +38,7 @@ numbers_more bounds (w ∷ ws) bytes more end there passed =
     fields_more_at (w ∷ ws) bytes more 1 (omega (arith, lies.0, lies.1.there))
 
 -- fields behind a tag, and what rests on their numbers
-front_more : (bounds : Bounds) (widths bytes more : List ℕ) (next later : List ℕ → ℕ → Result (AnyFact × ℕ) Stop)
+front_more : (bounds : Bounds) (widths bytes more : List ℕ) (next later : List ℕ → ℕ → Result (FactValue × ℕ) Stop)
     → bounds.there ≤ length bytes
     → ((front : ℕ) → IsSettled (next (fields_in widths (drop 1 bytes)) front) (later (fields_in widths (drop 1 bytes)) front))
     → IsSettled (reached bounds 1 widths >>= next (fields_in widths (drop 1 bytes)))
@@ -53,11 +52,11 @@ front_more bounds widths bytes more next later there h =
     (h front))
 
 -- a field of so many bytes behind others, which the fact has
-raw_more : (bounds : Bounds) (bytes more : List ℕ) (len front : ℕ) (fact : List ℕ → AnyFact) → bounds.there ≤ length bytes
-    → IsSettled {A = AnyFact × ℕ} (reached bounds front (len ∷ []) >>= λ (end : ℕ). Ok (fact (cut len front bytes), end))
+raw_more : (bounds : Bounds) (bytes more : List ℕ) (len front : ℕ) (fact : List ℕ → FactValue) → bounds.there ≤ length bytes
+    → IsSettled {A = FactValue × ℕ} (reached bounds front (len ∷ []) >>= λ (end : ℕ). Ok (fact (cut len front bytes), end))
     (reached (with_more bounds (length more)) front (len ∷ []) >>= λ (end : ℕ). Ok (fact (cut len front (bytes ++ more)), end))
 raw_more bounds bytes more len front fact there =
-    let answer : List ℕ → ℕ → Result (AnyFact × ℕ) Stop = λ raw end. Ok (fact raw, end) in
+    let answer : List ℕ → ℕ → Result (FactValue × ℕ) Stop = λ raw end. Ok (fact raw, end) in
     then_more_at (reached bounds front (len ∷ [])) (reached (with_more bounds (length more)) front (len ∷ []))
     (answer (cut len front bytes)) (answer (cut len front (bytes ++ more))) (reached_more bounds front (length more) (len ∷ []))
     (λ end passed.
@@ -70,15 +69,15 @@ root_more : (ids : IdSize) (tag : SubTag) (bounds : Bounds) (bytes more : List �
     → IsSettled (root_at ids tag bounds bytes) (root_at ids tag (with_more bounds (length more)) (bytes ++ more))
 unfolding root_at
 root_more ids tag bounds bytes more there =
-    let answer : List ℕ → ℕ → Result (AnyFact × ℕ) Stop = λ ns end. Ok (Rooted (root_of tag ns), end) in
+    let answer : List ℕ → ℕ → Result (FactValue × ℕ) Stop = λ ns end. Ok (Rooted (root_of tag ns), end) in
     front_more bounds (root_fields ids tag) bytes more answer answer there (λ front. inr refl)
 
 instance_more : (ids : IdSize) (bounds : Bounds) (bytes more : List ℕ) → bounds.there ≤ length bytes
     → IsSettled (instance_at ids bounds bytes) (instance_at ids (with_more bounds (length more)) (bytes ++ more))
 unfolding instance_at
 instance_more ids bounds bytes more there =
-    let fact : List ℕ → List ℕ → AnyFact = λ ns raw. Instance (slice_index ns 0) (slice_index ns 1) (slice_index ns 2) raw in
-    let next : Bounds → List ℕ → List ℕ → ℕ → Result (AnyFact × ℕ) Stop =
+    let fact : List ℕ → List ℕ → FactValue = λ ns raw. Instance (slice_index ns 0) (slice_index ns 1) (slice_index ns 2) raw in
+    let next : Bounds → List ℕ → List ℕ → ℕ → Result (FactValue × ℕ) Stop =
     λ limits all ns front.
     reached limits front (slice_index ns 3 ∷ []) >>= λ (end : ℕ). Ok (fact ns (cut (slice_index ns 3) front all), end) in
     front_more bounds (instance_widths ids) bytes more (next bounds bytes) (next (with_more bounds (length more)) (bytes ++ more)) there
@@ -91,8 +90,8 @@ obj_array_more : (ids : IdSize) (bounds : Bounds) (bytes more : List ℕ) → bo
 unfolding obj_array_at
 obj_array_more ids bounds bytes more there =
     let len : List ℕ → ℕ = λ ns. slice_index ns 2 * width_of ids in
-    let fact : List ℕ → List ℕ → AnyFact = λ ns raw. ObjArray (slice_index ns 0) (slice_index ns 1) (slice_index ns 3) (ids_in ids raw) in
-    let next : Bounds → List ℕ → List ℕ → ℕ → Result (AnyFact × ℕ) Stop =
+    let fact : List ℕ → List ℕ → FactValue = λ ns raw. ObjArray (slice_index ns 0) (slice_index ns 1) (slice_index ns 3) (ids_in ids raw) in
+    let next : Bounds → List ℕ → List ℕ → ℕ → Result (FactValue × ℕ) Stop =
     λ limits all ns front. reached limits front (len ns ∷ []) >>= λ (end : ℕ). Ok (fact ns (cut (len ns) front all), end) in
     front_more bounds (obj_array_widths ids) bytes more (next bounds bytes) (next (with_more bounds (length more)) (bytes ++ more)) there
     (λ front. let ns = fields_in (obj_array_widths ids) (drop 1 bytes) in raw_more bounds bytes more (len ns) front (fact ns) there)
@@ -103,8 +102,8 @@ unfolding prim_array_at
 prim_array_more ids bounds bytes more there =
     let longer = with_more bounds (length more) in
     let len : List ℕ → Basic → ℕ = λ ns elem. slice_index ns 2 * width_of_basic ids elem in
-    let fact : List ℕ → Basic → List ℕ → AnyFact = λ ns elem raw. PrimArray (slice_index ns 0) (slice_index ns 1) elem raw in
-    let valued : Bounds → List ℕ → List ℕ → ℕ → Basic → Result (AnyFact × ℕ) Stop =
+    let fact : List ℕ → Basic → List ℕ → FactValue = λ ns elem raw. PrimArray (slice_index ns 0) (slice_index ns 1) elem raw in
+    let valued : Bounds → List ℕ → List ℕ → ℕ → Basic → Result (FactValue × ℕ) Stop =
     λ limits all ns front elem.
     reached limits front (len ns elem ∷ []) >>= λ (end : ℕ). Ok (fact ns elem (cut (len ns elem) front all), end) in
     let elem_of : List ℕ → Result Basic Stop = λ ns. element_type (basic_of_code (slice_index ns 3)) in
@@ -118,7 +117,7 @@ prim_array_more ids bounds bytes more there =
 
 -- a list of entries, and what rests on them
 list_step : (ids : IdSize) (kind : EntryKind) (bounds : Bounds) (bytes more : List ℕ) (at : ℕ)
-    (next later : List Entry → ℕ → Result (AnyFact × ℕ) Stop) → bounds.there ≤ length bytes
+    (next later : List Entry → ℕ → Result (FactValue × ℕ) Stop) → bounds.there ≤ length bytes
     → ((entries : List Entry) (end : ℕ) → IsSettled (next entries end) (later entries end))
     → IsSettled (list_end ids kind bounds bytes at >>= next (list_in ids kind bytes at))
     (list_end ids kind (with_more bounds (length more)) (bytes ++ more) at >>= later (list_in ids kind (bytes ++ more) at))
@@ -133,15 +132,15 @@ class_more : (ids : IdSize) (bounds : Bounds) (bytes more : List ℕ) → bounds
 unfolding class_at
 class_more ids bounds bytes more there =
     let longer = with_more bounds (length more) in
-    let last : List ℕ → List Entry → List Entry → List Entry → ℕ → Result (AnyFact × ℕ) Stop =
+    let last : List ℕ → List Entry → List Entry → List Entry → ℕ → Result (FactValue × ℕ) Stop =
     λ ns constants statics fields end. Ok (class_of ns constants statics fields, end) in
-    let third : Bounds → List ℕ → List ℕ → List Entry → List Entry → ℕ → Result (AnyFact × ℕ) Stop =
+    let third : Bounds → List ℕ → List ℕ → List Entry → List Entry → ℕ → Result (FactValue × ℕ) Stop =
     λ limits all ns constants statics at.
     list_end ids kinds.Field limits all at >>= last ns constants statics (list_in ids kinds.Field all at) in
-    let second : Bounds → List ℕ → List ℕ → List Entry → ℕ → Result (AnyFact × ℕ) Stop =
+    let second : Bounds → List ℕ → List ℕ → List Entry → ℕ → Result (FactValue × ℕ) Stop =
     λ limits all ns constants at.
     list_end ids kinds.Static limits all at >>= third limits all ns constants (list_in ids kinds.Static all at) in
-    let first : Bounds → List ℕ → List ℕ → ℕ → Result (AnyFact × ℕ) Stop =
+    let first : Bounds → List ℕ → List ℕ → ℕ → Result (FactValue × ℕ) Stop =
     λ limits all ns at. list_end ids kinds.Constant limits all at >>= second limits all ns (list_in ids kinds.Constant all at) in
     front_more bounds (class_widths ids) bytes more (first bounds bytes) (first longer (bytes ++ more)) there
     (λ front.
@@ -210,7 +209,7 @@ pub sub_more : (ids : IdSize) (bounds : Bounds) (bytes more : List ℕ) → boun
     → IsSettled (sub_at ids bounds bytes) (sub_at ids (with_more bounds (length more)) (bytes ++ more))
 sub_more ids bounds bytes more there =
     let longer = with_more bounds (length more) in
-    let dump : Bounds → List ℕ → SubTag → Result (AnyFact × ℕ) Stop = λ limits all tag. dump_at ids tag limits all in
+    let dump : Bounds → List ℕ → SubTag → Result (FactValue × ℕ) Stop = λ limits all tag. dump_at ids tag limits all in
     rw (sub_parts ids bounds bytes, sub_parts ids longer (bytes ++ more))
     (then_more (tag_at bounds bytes) (tag_at longer (bytes ++ more)) (dump bounds bytes) (dump longer (bytes ++ more))
     (tag_more bounds bytes more there) (λ tag. dump_more ids tag bounds bytes more there))

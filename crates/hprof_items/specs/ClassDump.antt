@@ -7,7 +7,7 @@ use Rattle.hprof_values.specs.declared.stop.Stop.{Stop}
 use Rattle.hprof_values.specs.Ids.{width_of}
 use Rattle.hprof_values.specs.Fields.{fields_in, Bounds, ◌>>=◌, reached}
 use Rattle.hprof_values.specs.Entries.{list_bytes, list_in, list_end}
-use Rattle.hprof_items.specs.AnyFact.{AnyFact, Class}
+use Rattle.hprof_items.specs.FactValue.{FactValue, Class}
 
 -- id class, u4 trace serial, ids of superclass, loader, signers, protection domain, reserved, reserved, u4 instance size
 abbrev pub class_widths : IdSize → List ℕ
@@ -18,13 +18,13 @@ abbrev pub class_lists : IdSize → List Entry → List Entry → List Entry →
 class_lists ids constants statics fields = list_bytes ids kinds.Constant constants ++ (list_bytes ids kinds.Static statics ++ list_bytes ids kinds.Field fields)
 
 -- the class with those numbers in its fields
-abbrev pub class_of : List ℕ → List Entry → List Entry → List Entry → AnyFact
+abbrev pub class_of : List ℕ → List Entry → List Entry → List Entry → FactValue
 class_of numbers constants statics fields =
     Class (slice_index numbers 0) (slice_index numbers 1) (slice_index numbers 2) (slice_index numbers 3) (slice_index numbers 4) (slice_index numbers 5)
     (slice_index numbers 6) (slice_index numbers 7) (slice_index numbers 8) constants statics fields
 
 -- the fields pass their tests, and then the lists one after the other
-unfoldable pub class_at : IdSize → Bounds → List ℕ → Result (AnyFact × ℕ) Stop
+unfoldable pub class_at : IdSize → Bounds → List ℕ → Result (FactValue × ℕ) Stop
 class_at ids bounds bytes =
     let numbers = fields_in (class_widths ids) (drop 1 bytes) in
     reached bounds 1 (class_widths ids) >>= λ front.

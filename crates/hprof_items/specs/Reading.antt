@@ -1,5 +1,5 @@
 -- Reading at the front of some bytes: what stands there, or else the first test that fails, from the left.
-use Rattle.std.specs.Prelude.{◌≡◌, ◌==◌, ◌||◌, ◌&&◌, ℕ, ◌^◌, ◌<◌, Bool, true, false, nat_lt, nat_le, List, length, take, drop, slice_index, Result, Ok, Option, Some, None, bytes_eq, if◌then◌else◌}
+use Rattle.std.specs.Prelude.{◌≡◌, ◌==◌, ◌&&◌, ℕ, ◌^◌, ◌<◌, Bool, true, false, nat_lt, List, length, take, drop, slice_index, Result, Err, Option, Some, None, bytes_eq, if◌then◌else◌}
 use Rattle.byteorder.specs.Endian.{big_number}
 use Rattle.hprof_values.specs.declared.ids.IdSize.{IdSize}
 use Rattle.hprof_values.specs.declared.ids.IdSize.TheVariants.{Four, Eight}
@@ -8,13 +8,16 @@ use Rattle.hprof_items.specs.declared.header.Version.{Version}
 use Rattle.hprof_items.specs.declared.header.Version.TheVariants.{V101, V102}
 use Rattle.hprof_items.specs.declared.head.Head.{Head}
 use Rattle.hprof_values.specs.declared.reason.Reason.{Reason}
-use Rattle.hprof_values.specs.declared.reason.Reason.TheVariants.{BadMagic, BadIdSize, BadLength, Unsupported}
+use Rattle.hprof_values.specs.declared.reason.Reason.TheVariants.{BadMagic, BadIdSize, BadLength}
 use Rattle.hprof_items.specs.declared.step.Step.{Step}
 use Rattle.hprof_items.specs.declared.step.Step.TheVariants.{Whole, Short, TooLong, Fault}
 use Rattle.hprof_values.specs.Ids.{width_of}
 use Rattle.hprof_items.specs.Header.{text_of}
-use Rattle.hprof_items.specs.Head.{is_fact_tag}
-use Rattle.hprof_items.specs.FactValue.{FactValue, Name}
+use Rattle.hprof_items.specs.Head.{is_fact_tag, is_end_tag}
+use Rattle.hprof_items.specs.RecordBody.{is_legal_body, record_at}
+use Rattle.hprof_values.specs.declared.record_tag.RecordTag.{RecordTag}
+use Rattle.hprof_values.specs.RecordTag.{record_of_code}
+use Rattle.hprof_items.specs.FactValue.{FactValue}
 
 -- ---- the header: the text, the size of identifiers, the time
 
@@ -43,24 +46,22 @@ header_at bytes = if nat_lt (length bytes) 19 then Short else sized_header (vers
 
 -- ---- the head of a record
 
--- the records that are read so far: UTF8 and HEAP_DUMP_END
-abbrev pub is_known : ℕ → Bool
-is_known tag = (tag == 0x01) || (tag == 0x2c)
-
--- a length that the record may have: of UTF8 at least that of an identifier, of HEAP_DUMP_END none
-abbrev pub is_legal : IdSize → ℕ → ℕ → Bool
-is_legal ids tag len = if tag == 0x01 then nat_le (width_of ids) len else len == 0
-
 -- a record that states a fact and is longer than the longest that is taken
 abbrev pub is_too_long : ℕ → Head → Bool
 is_too_long longest head = is_fact_tag head.tag && nat_lt longest head.length
 
+-- a length that the record may have: of one that states a fact that of its body, of HEAP_DUMP_END none, of others any
+abbrev pub is_legal_as : IdSize → Option RecordTag → ℕ → ℕ → Bool
+is_legal_as ids (Some known) tag len = is_legal_body ids known len
+is_legal_as ids None tag len = if is_end_tag tag then len == 0 else true
+
+abbrev pub is_legal : IdSize → ℕ → ℕ → Bool
+is_legal ids tag len = is_legal_as ids (record_of_code tag) tag len
+
 -- the tests of a head that is there
 abbrev pub judged_head : IdSize → ℕ → Head → Step Head
 judged_head ids longest head =
-    if is_known head.tag
-    then (if is_legal ids head.tag head.length then (if is_too_long longest head then TooLong else Whole head 9) else Fault BadLength)
-    else Fault Unsupported
+    if is_legal ids head.tag head.length then (if is_too_long longest head then TooLong else Whole head 9) else Fault BadLength
 
 unfoldable pub head_at : IdSize → ℕ → List ℕ → Step Head
 head_at ids longest bytes =
@@ -72,11 +73,14 @@ pub record IsRightHead (ids : IdSize) (longest : ℕ) (head : Head) : Type 0 whe
   pub tag : head.tag < 256
   pub time : head.time < 256 ^ 4
   pub length : head.length < 256 ^ 4
-  pub known : is_known head.tag ≡ true
   pub legal : is_legal ids head.tag head.length ≡ true
   pub taken : is_too_long longest head ≡ false
 
 -- ---- the body of a record that states a fact, of which the head is right
 
-unfoldable pub body_at : IdSize → ℕ → List ℕ → Result FactValue Reason
-body_at ids tag body = Ok (Name (big_number (width_of ids) body) (drop (width_of ids) body))
+abbrev pub body_as : IdSize → Option RecordTag → List ℕ → Result FactValue Reason
+body_as ids (Some known) body = record_at ids known body
+body_as ids None body = Err BadLength
+
+abbrev pub body_at : IdSize → ℕ → List ℕ → Result FactValue Reason
+body_at ids tag body = body_as ids (record_of_code tag) body

@@ -10,7 +10,7 @@ use Rattle.hprof_values.specs.Ids.{width_of, IsBytes}
 use Rattle.hprof_values.specs.Fields.{field_bytes, fields_in, FitFields}
 use Rattle.hprof_values.specs.RecordTag.{record_fields, has_more}
 use Rattle.hprof_values.specs.Lists.{id_widths, ids_in}
-use Rattle.hprof_items.specs.AnyFact.{AnyFact, Name, Load, Unload, Frame, Trace, Start, End}
+use Rattle.hprof_items.specs.FactValue.{FactValue, Name, Load, Unload, Frame, Trace, Start, End}
 
 -- a length that the record may have: that of its fields, or at least that
 abbrev pub is_legal_body : IdSize → RecordTag → ℕ → Bool
@@ -19,7 +19,7 @@ is_legal_body ids tag len = if has_more tag then nat_le (sum (record_fields ids 
 -- ---- spelling
 
 -- the tag of the record that states the fact; sub-records state the others
-abbrev pub record_of : AnyFact → Option RecordTag
+abbrev pub record_of : FactValue → Option RecordTag
 record_of (Name id text) = Some tags.Utf8
 record_of (Load serial class trace name) = Some tags.LoadClass
 record_of (Unload serial) = Some tags.UnloadClass
@@ -30,7 +30,7 @@ record_of (End thread) = Some tags.EndThread
 record_of _ = None
 
 -- the numbers in the fields at the front of the body; a line is two's complement
-abbrev pub record_numbers : AnyFact → List ℕ
+abbrev pub record_numbers : FactValue → List ℕ
 record_numbers (Name id text) = id ∷ []
 record_numbers (Load serial class trace name) = serial ∷ class ∷ trace ∷ name ∷ []
 record_numbers (Unload serial) = serial ∷ []
@@ -41,24 +41,24 @@ record_numbers (End thread) = thread ∷ []
 record_numbers _ = []
 
 -- the bytes behind these fields
-abbrev pub record_rest : IdSize → AnyFact → List ℕ
+abbrev pub record_rest : IdSize → FactValue → List ℕ
 record_rest ids (Name id text) = text
 record_rest ids (Trace serial thread frames) = field_bytes (id_widths ids (length frames)) frames
 record_rest ids _ = []
 
 -- the body of the fact's record
-abbrev pub record_body : IdSize → RecordTag → AnyFact → List ℕ
+abbrev pub record_body : IdSize → RecordTag → FactValue → List ℕ
 record_body ids tag fact = field_bytes (record_fields ids tag) (record_numbers fact) ++ record_rest ids fact
 
 -- what is not a number of the fields lies in its range
-abbrev pub RestFits : IdSize → AnyFact → Type 0
+abbrev pub RestFits : IdSize → FactValue → Type 0
 RestFits ids (Name id text) = IsBytes text
 RestFits ids (Frame id method signature source class_serial line) = FitsSigned w32 line
 RestFits ids (Trace serial thread frames) = FitFields (id_widths ids (length frames)) frames
 RestFits ids _ = ⊤
 
 -- each field lies in its range
-pub record BodyFits (ids : IdSize) (tag : RecordTag) (fact : AnyFact) : Type 0 where
+pub record BodyFits (ids : IdSize) (tag : RecordTag) (fact : FactValue) : Type 0 where
   pub is : record_of fact ≡ Some tag
   pub numbers : FitFields (record_fields ids tag) (record_numbers fact)
   pub rest : RestFits ids fact
@@ -67,7 +67,7 @@ pub record BodyFits (ids : IdSize) (tag : RecordTag) (fact : AnyFact) : Type 0 w
 
 -- the fact of a record with that tag, those numbers in its fields, and those bytes behind them: the one test that is left
 -- is that a trace has as many frames as it says
-abbrev pub stated_by : IdSize → RecordTag → List ℕ → List ℕ → Result AnyFact Reason
+abbrev pub stated_by : IdSize → RecordTag → List ℕ → List ℕ → Result FactValue Reason
 stated_by ids tags.Utf8 numbers rest = Ok (Name (slice_index numbers 0) rest)
 stated_by ids tags.LoadClass numbers rest = Ok (Load (slice_index numbers 0) (slice_index numbers 1) (slice_index numbers 2) (slice_index numbers 3))
 stated_by ids tags.UnloadClass numbers rest = Ok (Unload (slice_index numbers 0))
@@ -80,5 +80,5 @@ stated_by ids tags.StartThread numbers rest =
 stated_by ids tags.EndThread numbers rest = Ok (End (slice_index numbers 0))
 
 -- the body of a record whose length is one that it may have
-unfoldable pub record_at : IdSize → RecordTag → List ℕ → Result AnyFact Reason
+unfoldable pub record_at : IdSize → RecordTag → List ℕ → Result FactValue Reason
 record_at ids tag body = stated_by ids tag (fields_in (record_fields ids tag) body) (drop (sum (record_fields ids tag)) body)

@@ -20,7 +20,7 @@ use Rattle.hprof_values.specs.Lists.{id_widths, ids_in}
 use Rattle.hprof_values.specs.declared.entry.EntryKind.TheVariants as kinds
 use Rattle.hprof_values.specs.Entries.{ListFits}
 use Rattle.hprof_items.specs.ClassDump.{class_widths, class_lists, class_at}
-use Rattle.hprof_items.specs.AnyFact.{AnyFact, Rooted, Class, Instance, ObjArray, PrimArray}
+use Rattle.hprof_items.specs.FactValue.{FactValue, Rooted, Class, Instance, ObjArray, PrimArray}
 
 -- ---- the fields behind the tag
 
@@ -50,7 +50,7 @@ root_of tags.RootMonitor numbers = roots.Monitor (slice_index numbers 0)
 root_of tags.RootThreadObject numbers = roots.ThreadObject (slice_index numbers 0) (slice_index numbers 1) (slice_index numbers 2)
 root_of _ numbers = roots.Unknown (slice_index numbers 0)
 
-unfoldable pub root_at : IdSize → SubTag → Bounds → List ℕ → Result (AnyFact × ℕ) Stop
+unfoldable pub root_at : IdSize → SubTag → Bounds → List ℕ → Result (FactValue × ℕ) Stop
 root_at ids tag bounds bytes =
     reached bounds 1 (root_fields ids tag) >>= λ end. Ok (Rooted (root_of tag (fields_in (root_fields ids tag) (drop 1 bytes))), end)
 
@@ -58,7 +58,7 @@ root_at ids tag bounds bytes =
 abbrev pub cut : ℕ → ℕ → List ℕ → List ℕ
 cut len at bytes = take len (drop at bytes)
 
-unfoldable pub instance_at : IdSize → Bounds → List ℕ → Result (AnyFact × ℕ) Stop
+unfoldable pub instance_at : IdSize → Bounds → List ℕ → Result (FactValue × ℕ) Stop
 instance_at ids bounds bytes =
     let numbers = fields_in (instance_widths ids) (drop 1 bytes) in
     let len = slice_index numbers 3 in
@@ -66,7 +66,7 @@ instance_at ids bounds bytes =
     reached bounds front (len ∷ []) >>= λ end.
     Ok (Instance (slice_index numbers 0) (slice_index numbers 1) (slice_index numbers 2) (cut len front bytes), end)
 
-unfoldable pub obj_array_at : IdSize → Bounds → List ℕ → Result (AnyFact × ℕ) Stop
+unfoldable pub obj_array_at : IdSize → Bounds → List ℕ → Result (FactValue × ℕ) Stop
 obj_array_at ids bounds bytes =
     let numbers = fields_in (obj_array_widths ids) (drop 1 bytes) in
     let len = slice_index numbers 2 * width_of ids in
@@ -81,7 +81,7 @@ element_type (Some basics.Array) = Err (Fault BadType)
 element_type (Some basics.Object) = Err (Fault BadType)
 element_type (Some basic) = Ok basic
 
-unfoldable pub prim_array_at : IdSize → Bounds → List ℕ → Result (AnyFact × ℕ) Stop
+unfoldable pub prim_array_at : IdSize → Bounds → List ℕ → Result (FactValue × ℕ) Stop
 prim_array_at ids bounds bytes =
     let numbers = fields_in (prim_array_widths ids) (drop 1 bytes) in
     reached bounds 1 (prim_array_widths ids) >>= λ front.
@@ -92,7 +92,7 @@ prim_array_at ids bounds bytes =
 -- ---- reading, from the tag on
 
 -- the sub-record of that tag, behind it
-abbrev pub dump_at : IdSize → SubTag → Bounds → List ℕ → Result (AnyFact × ℕ) Stop
+abbrev pub dump_at : IdSize → SubTag → Bounds → List ℕ → Result (FactValue × ℕ) Stop
 dump_at ids tags.ClassDump bounds bytes = class_at ids bounds bytes
 dump_at ids tags.InstanceDump bounds bytes = instance_at ids bounds bytes
 dump_at ids tags.ObjArrayDump bounds bytes = obj_array_at ids bounds bytes
@@ -105,7 +105,7 @@ judged_tag None = Err (Fault BadSubTag)
 judged_tag (Some tag) = Ok tag
 
 -- the sub-record at the front: a first byte is there, then its tests, field by field
-unfoldable pub sub_at : IdSize → Bounds → List ℕ → Result (AnyFact × ℕ) Stop
+unfoldable pub sub_at : IdSize → Bounds → List ℕ → Result (FactValue × ℕ) Stop
 sub_at ids bounds bytes =
     (if bounds.there == 0 then Err Short else reached bounds 0 (1 ∷ [])) >>= λ front.
     judged_tag (tag_of_code (slice_index bytes 0)) >>= λ tag.
@@ -137,7 +137,7 @@ abbrev pub prim_array_numbers : IdSize → (id trace : ℕ) → Basic → List �
 prim_array_numbers ids id trace elem bytes = id ∷ trace ∷ length bytes / width_of_basic ids elem ∷ code_of_basic elem ∷ []
 
 -- the sub-record that states the fact; records state the others
-abbrev pub dump_bytes : IdSize → AnyFact → List ℕ
+abbrev pub dump_bytes : IdSize → FactValue → List ℕ
 dump_bytes ids (Rooted root) = root_bytes ids root
 dump_bytes ids (Class id trace parent loader signers domain reserved1 reserved2 size constants statics fields) =
     tagged_bytes tags.ClassDump (class_widths ids) (class_numbers id trace parent loader signers domain reserved1 reserved2 size) (class_lists ids constants statics fields)
@@ -148,7 +148,7 @@ dump_bytes ids (PrimArray id trace elem bytes) = tagged_bytes tags.PrimArrayDump
 dump_bytes ids _ = []
 
 -- each field lies in its range, and no element is cut
-abbrev pub DumpFits : IdSize → AnyFact → Type 0
+abbrev pub DumpFits : IdSize → FactValue → Type 0
 DumpFits ids (Rooted root) = RootFits ids root
 DumpFits ids (Class id trace parent loader signers domain reserved1 reserved2 size constants statics fields) =
     FitFields (class_widths ids) (class_numbers id trace parent loader signers domain reserved1 reserved2 size)
@@ -162,7 +162,7 @@ DumpFits ids (PrimArray id trace elem bytes) =
 DumpFits ids _ = ⊥
 
 -- the tag of the sub-record that states the fact; of a record's, no tag is meant
-abbrev pub tag_of_dump : AnyFact → SubTag
+abbrev pub tag_of_dump : FactValue → SubTag
 tag_of_dump (Rooted root) = tag_of_root root
 tag_of_dump (Class id trace parent loader signers domain reserved1 reserved2 size constants statics fields) = tags.ClassDump
 tag_of_dump (Instance id trace class bytes) = tags.InstanceDump
@@ -179,14 +179,14 @@ is_root_tag tags.PrimArrayDump = false
 is_root_tag _ = true
 
 -- behind its tag stands what spells the fact, which has a spelling, within all bounds, and ends there
-pub record IsDumpOf (ids : IdSize) (bounds : Bounds) (bytes : List ℕ) (fact : AnyFact) (end : ℕ) : Type 0 where
+pub record IsDumpOf (ids : IdSize) (bounds : Bounds) (bytes : List ℕ) (fact : FactValue) (end : ℕ) : Type 0 where
   pub fits : DumpFits ids fact
   pub spelled : drop 1 bytes ≡ drop 1 (dump_bytes ids fact) ++ drop end bytes
   pub ends : end ≡ length (dump_bytes ids fact)
   pub within : IsWithin bounds end
 
 -- at the front stands what spells the fact, which has a spelling, within all bounds, and ends there
-pub record IsSubOf (ids : IdSize) (bounds : Bounds) (bytes : List ℕ) (fact : AnyFact) (end : ℕ) : Type 0 where
+pub record IsSubOf (ids : IdSize) (bounds : Bounds) (bytes : List ℕ) (fact : FactValue) (end : ℕ) : Type 0 where
   pub fits : DumpFits ids fact
   pub spelled : bytes ≡ dump_bytes ids fact ++ drop end bytes
   pub ends : end ≡ length (dump_bytes ids fact)

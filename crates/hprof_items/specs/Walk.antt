@@ -12,12 +12,12 @@ use Rattle.hprof_values.specs.Entries.{entry_end, entries_end, list_end}
 use Rattle.hprof_values.specs.Item.{bounds_of}
 use Rattle.hprof_items.specs.declared.walk.Walk.{Walk}
 use Rattle.hprof_items.specs.declared.walk.Walk.TheVariants.{Front, Entries}
-use Rattle.hprof_items.specs.AnyFact.{AnyFact}
+use Rattle.hprof_items.specs.FactValue.{FactValue}
 use Rattle.hprof_items.specs.ClassDump.{class_widths}
 use Rattle.hprof_items.specs.SubRecord.{tag_at, sub_at}
 
 -- the end, without the fact
-abbrev pub end_of_read : Result (AnyFact × ℕ) Stop → Result ℕ Stop
+abbrev pub end_of_read : Result (FactValue × ℕ) Stop → Result ℕ Stop
 end_of_read (Ok read) = Ok read.1
 end_of_read (Err stop) = Err stop
 

@@ -7,9 +7,9 @@ ghost use Rattle.hprof_values.specs.declared.ids.IdSize.{IdSize};
 ghost use Rattle.hprof_values.specs.Lists.{constants_of, constants_size, statics_of, statics_size, fields_of, fields_size};
 ghost use Rattle.hprof_items.specs.ClassDump.{class_widths, class_of, class_at};
 ghost use Rattle.hprof_items.specs.Fronts.{class_front};
-ghost use Rattle.hprof_items.specs.FullFact.{value_of_full, ListsHave};
+ghost use Rattle.hprof_items.specs.FactValue.{value_of, ListsHave};
 
-use crate::full_fact::FullFact;
+use crate::fact::Fact;
 use hprof_values::number::{split_id, split_u32};
 use hprof_values::{ConstantList, EntryKind, FieldList, IdSize, Item, StaticList, Stop, list_at};
 
@@ -60,11 +60,11 @@ fn class_of<'a>(
     constants: ConstantList<'a>,
     statics: StaticList<'a>,
     fields: FieldList<'a>,
-) -> FullFact<'a>
-    ensures fact { value_of_full result ≡ class_of (class_front front) (constants_of constants.entry) (statics_of statics.entry) (fields_of fields.entry) }
+) -> Fact<'a>
+    ensures fact { value_of result ≡ class_of (class_front front) (constants_of constants.entry) (statics_of statics.entry) (fields_of fields.entry) }
     ensures lists { (ids : IdSize) → constants_size constants.entry ≡ ids → statics_size statics.entry ≡ ids → fields_size fields.entry ≡ ids → ListsHave ids result }
 {
-    FullFact::Class {
+    Fact::Class {
         id: front.id,
         trace: front.trace,
         parent: front.parent,
@@ -82,9 +82,9 @@ fn class_of<'a>(
 
 /// Reads a class.
 #[tactic(auto, unfolding(crate::specs::ClassDump::class_at))]
-pub(crate) fn read_class<'a>(item: &Item<'a>, ids: IdSize) -> Result<(FullFact<'a>, usize), Stop>
+pub(crate) fn read_class<'a>(item: &Item<'a>, ids: IdSize) -> Result<(Fact<'a>, usize), Stop>
     ensures fact { MatchResult result
-        (λ read. class_at ids (bounds_of item.now) item.now.bytes.now ≡ Ok (value_of_full read.0, read.1))
+        (λ read. class_at ids (bounds_of item.now) item.now.bytes.now ≡ Ok (value_of read.0, read.1))
         (λ stop. class_at ids (bounds_of item.now) item.now.bytes.now ≡ Err stop) }
     ensures lists { IfOk result (λ read. ListsHave ids read.0) }
 {

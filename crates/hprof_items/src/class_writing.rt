@@ -7,13 +7,13 @@ ghost use Rattle.hprof_values.specs.declared.sub_tag.SubTag.TheVariants as tags;
 ghost use Rattle.hprof_values.specs.Entries.{most_entries};
 ghost use Rattle.hprof_values.specs.Fields.{field_bytes, FitFields};
 ghost use Rattle.hprof_values.specs.Numbers.{number_widths, number_values};
-ghost use Rattle.hprof_items.specs.AnySpelling.{any_spelling, AnyFits};
+ghost use Rattle.hprof_items.specs.Spelling.{spelling, Fits};
 ghost use Rattle.hprof_items.specs.ObjectTag.{object_of};
-ghost use Rattle.hprof_items.specs.FullFact.{value_of_full, ListsHave};
+ghost use Rattle.hprof_items.specs.FactValue.{value_of, ListsHave};
 ghost use Rattle.hprof_items.specs.Device.{Writes, LeavesHealth};
 
+use crate::fact::Fact;
 use crate::front_writing::write_front;
-use crate::full_fact::FullFact;
 use crate::health::WriteFault;
 use crate::target::Target;
 use hprof_values::{IdSize, Number, SubTag};
@@ -39,18 +39,18 @@ fn write_list<W: Target>(
 
 /// Writes the sub-record of a class.
 pub(crate) fn write_class<W: Target>(
-    fact: &FullFact<'_>,
+    fact: &Fact<'_>,
     ids: IdSize,
     target: &mut W,
 ) -> Result<(), WriteFault>
-    requires is { object_of (value_of_full fact.now) ≡ Some tags.ClassDump }
+    requires is { object_of (value_of fact.now) ≡ Some tags.ClassDump }
     requires well { W.health target.old ≡ Well }
-    requires fits { AnyFits ids (value_of_full fact.now) }
+    requires fits { Fits ids (value_of fact.now) }
     requires lists { ListsHave ids fact.now }
-    ensures bytes { Writes (W.written target.old) (W.written target.new) result (any_spelling ids (value_of_full fact.now)) }
+    ensures bytes { Writes (W.written target.old) (W.written target.new) result (spelling ids (value_of fact.now)) }
     ensures health { LeavesHealth result (W.health target.new) }
 {
-    let FullFact::Class {
+    let Fact::Class {
         id,
         trace,
         parent,

@@ -7,20 +7,19 @@ mod class_reading;
 mod class_writing;
 mod device;
 mod fact;
+mod fact_writing;
+mod fitting;
 mod front_fitting;
 mod front_writing;
-mod full_fact;
-mod full_fitting;
-mod full_head;
-mod full_writing;
 mod head;
+mod head_reading;
 mod header;
+mod header_reading;
 mod health;
 pub mod laws;
 mod object_fitting;
 mod object_reading;
 mod object_writing;
-mod reading;
 mod record_fitting;
 mod record_reading;
 mod record_writing;
@@ -34,26 +33,25 @@ mod walk;
 mod writing;
 
 pub use device::Device;
-pub use fact::{Fact, fits, spelled_len};
-pub use full_fact::FullFact;
-pub use full_fitting::{full_fits, full_spelled_len};
-pub use full_head::read_full_head;
-pub use full_writing::write_full_fact;
+pub use fact::Fact;
+pub use fact_writing::write_fact;
+pub use fitting::{fits, spelled_len};
 pub use head::{HEAD_LEN, Head, HeadKind};
+pub use head_reading::read_head;
 pub use header::{HEADER_LEN, Header, Version};
+pub use header_reading::read_header;
 pub use health::{Health, ReadFault, WriteFault};
 pub use hprof_values::{
     Basic, Constant, ConstantList, Constants, Entry, EntryKind, Field, FieldList, Fields, IdList,
     IdSize, Ids, Reason, RecordTag, Root, Static, StaticList, Statics, Stop, SubTag, Value,
 };
-pub use reading::{read_body, read_head, read_header};
-pub use record_reading::read_record;
+pub use record_reading::read_body;
 pub use source::Source;
 pub use step::Step;
 pub use sub_reading::read_sub;
 pub use target::Target;
 pub use walk::{Walk, go_on};
-pub use writing::{write_fact, write_head, write_header};
+pub use writing::{write_head, write_header};
 
 #[cfg(test)]
 mod tests;

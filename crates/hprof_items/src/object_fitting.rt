@@ -5,18 +5,17 @@ ghost use Rattle.hprof_values.specs.declared.sub_tag.SubTag.TheVariants as tags;
 ghost use Rattle.hprof_values.specs.declared.entry.EntryKind.TheVariants as kinds;
 ghost use Rattle.hprof_values.specs.Entries.{ListFits};
 ghost use Rattle.hprof_values.specs.Lists.{constants_of, constants_size, statics_of, statics_size, fields_of, fields_size};
-ghost use Rattle.hprof_items.specs.AnyFact.{Rooted, Instance, PrimArray};
-ghost use Rattle.hprof_items.specs.AnySpelling.{AnyFits};
-ghost use Rattle.hprof_items.specs.FullFact.{value_of_full, ListsHave};
+ghost use Rattle.hprof_items.specs.FactValue.{Rooted, Instance, PrimArray, value_of, ListsHave};
+ghost use Rattle.hprof_items.specs.Spelling.{Fits};
 ghost use Rattle.hprof_items.specs.ObjectTag.{object_of};
 
+use crate::fact::Fact;
 use crate::front_fitting::front_fits;
-use crate::full_fact::FullFact;
 use hprof_values::{Basic, ConstantList, FieldList, IdSize, Number, Root, StaticList, numbers_fit};
 
 /// Whether a root has a spelling.
 pub(crate) fn root_fits(root: Root, ids: IdSize) -> bool
-    ensures { IsTrue result ↔ AnyFits ids (Rooted root) }
+    ensures { IsTrue result ↔ Fits ids (Rooted root) }
 {
     use hprof_values::Number::{Four, Id};
     match root {
@@ -43,7 +42,7 @@ pub(crate) fn root_fits(root: Root, ids: IdSize) -> bool
 
 /// Whether an instance has a spelling.
 pub(crate) fn instance_fits(id: u64, trace: u32, class: u64, bytes: &[u8], ids: IdSize) -> bool
-    ensures { IsTrue result ↔ AnyFits ids (Instance id trace class bytes.now) }
+    ensures { IsTrue result ↔ Fits ids (Instance id trace class bytes.now) }
 {
     let Ok(len) = u32::try_from(bytes.len()) else {
         return false;
@@ -58,11 +57,11 @@ pub(crate) fn instance_fits(id: u64, trace: u32, class: u64, bytes: &[u8], ids: 
 }
 
 /// Whether an array of objects has a spelling.
-pub(crate) fn obj_array_fits(fact: &FullFact<'_>, ids: IdSize) -> bool
-    requires { object_of (value_of_full fact.now) ≡ Some tags.ObjArrayDump }
-    ensures { IsTrue result ↔ (AnyFits ids (value_of_full fact.now) × ListsHave ids fact.now) }
+pub(crate) fn obj_array_fits(fact: &Fact<'_>, ids: IdSize) -> bool
+    requires { object_of (value_of fact.now) ≡ Some tags.ObjArrayDump }
+    ensures { IsTrue result ↔ (Fits ids (value_of fact.now) × ListsHave ids fact.now) }
 {
-    let FullFact::ObjArray {
+    let Fact::ObjArray {
         id,
         trace,
         class,
@@ -88,7 +87,7 @@ pub(crate) fn obj_array_fits(fact: &FullFact<'_>, ids: IdSize) -> bool
 
 /// Whether an array of numbers or truth values has a spelling: no element is cut.
 pub(crate) fn prim_array_fits(id: u64, trace: u32, elem: Basic, bytes: &[u8], ids: IdSize) -> bool
-    ensures { IsTrue result ↔ AnyFits ids (PrimArray id trace elem bytes.now) }
+    ensures { IsTrue result ↔ Fits ids (PrimArray id trace elem bytes.now) }
 {
     if elem == Basic::Array || elem == Basic::Object {
         return false;
@@ -130,11 +129,11 @@ fn class_lists_fit(
 }
 
 /// Whether a class has a spelling. Its lists are never too long.
-pub(crate) fn class_fits(fact: &FullFact<'_>, ids: IdSize) -> bool
-    requires { object_of (value_of_full fact.now) ≡ Some tags.ClassDump }
-    ensures { IsTrue result ↔ (AnyFits ids (value_of_full fact.now) × ListsHave ids fact.now) }
+pub(crate) fn class_fits(fact: &Fact<'_>, ids: IdSize) -> bool
+    requires { object_of (value_of fact.now) ≡ Some tags.ClassDump }
+    ensures { IsTrue result ↔ (Fits ids (value_of fact.now) × ListsHave ids fact.now) }
 {
-    let FullFact::Class {
+    let Fact::Class {
         id,
         trace,
         parent,

@@ -6,9 +6,9 @@ ghost use Rattle.hprof_values.specs.Fields.{fields_in};
 ghost use Rattle.hprof_values.specs.Item.{bounds_of};
 ghost use Rattle.hprof_items.specs.SubRecord.{instance_widths, obj_array_widths, prim_array_widths, element_type, instance_at, obj_array_at, prim_array_at};
 ghost use Rattle.hprof_items.specs.Fronts.{instance_front, obj_array_front, prim_array_front};
-ghost use Rattle.hprof_items.specs.FullFact.{value_of_full, ListsHave};
+ghost use Rattle.hprof_items.specs.FactValue.{value_of, ListsHave};
 
-use crate::full_fact::FullFact;
+use crate::fact::Fact;
 use hprof_values::number::{byte_at, id_at, ids_len, split_id, split_u32, values_len};
 use hprof_values::{Basic, IdList, IdSize, Item, Reason, Stop};
 
@@ -41,9 +41,9 @@ fn instance_fields(bytes: &[u8], ids: IdSize) -> InstanceFront
 
 /// Reads an instance.
 #[tactic(auto, unfolding(crate::specs::SubRecord::instance_at))]
-pub(crate) fn read_instance<'a>(item: &Item<'a>, ids: IdSize) -> Result<(FullFact<'a>, usize), Stop>
+pub(crate) fn read_instance<'a>(item: &Item<'a>, ids: IdSize) -> Result<(Fact<'a>, usize), Stop>
     ensures fact { MatchResult result
-        (λ read. instance_at ids (bounds_of item.now) item.now.bytes.now ≡ Ok (value_of_full read.0, read.1))
+        (λ read. instance_at ids (bounds_of item.now) item.now.bytes.now ≡ Ok (value_of read.0, read.1))
         (λ stop. instance_at ids (bounds_of item.now) item.now.bytes.now ≡ Err stop) }
     ensures lists { IfOk result (λ read. ListsHave ids read.0) }
 {
@@ -53,7 +53,7 @@ pub(crate) fn read_instance<'a>(item: &Item<'a>, ids: IdSize) -> Result<(FullFac
     let end = item.end_of(first, &[front.len as usize])?;
     let (_, rest) = item.bytes.split_at(first);
     let (bytes, _) = rest.split_at(front.len as usize);
-    let fact = FullFact::Instance {
+    let fact = Fact::Instance {
         id: front.id,
         trace: front.trace,
         class: front.class,
@@ -90,12 +90,9 @@ fn obj_array_fields(bytes: &[u8], ids: IdSize) -> ObjArrayFront
 
 /// Reads an array of objects.
 #[tactic(auto, unfolding(crate::specs::SubRecord::obj_array_at))]
-pub(crate) fn read_obj_array<'a>(
-    item: &Item<'a>,
-    ids: IdSize,
-) -> Result<(FullFact<'a>, usize), Stop>
+pub(crate) fn read_obj_array<'a>(item: &Item<'a>, ids: IdSize) -> Result<(Fact<'a>, usize), Stop>
     ensures fact { MatchResult result
-        (λ read. obj_array_at ids (bounds_of item.now) item.now.bytes.now ≡ Ok (value_of_full read.0, read.1))
+        (λ read. obj_array_at ids (bounds_of item.now) item.now.bytes.now ≡ Ok (value_of read.0, read.1))
         (λ stop. obj_array_at ids (bounds_of item.now) item.now.bytes.now ≡ Err stop) }
     ensures lists { IfOk result (λ read. ListsHave ids read.0) }
 {
@@ -106,7 +103,7 @@ pub(crate) fn read_obj_array<'a>(
     let end = item.end_of(first, &[len])?;
     let (_, rest) = item.bytes.split_at(first);
     let (bytes, _) = rest.split_at(len);
-    let fact = FullFact::ObjArray {
+    let fact = Fact::ObjArray {
         id: front.id,
         trace: front.trace,
         class: front.class,
@@ -154,12 +151,9 @@ fn element_type(code: u8) -> Result<Basic, Stop>
 
 /// Reads an array of numbers or truth values.
 #[tactic(auto, unfolding(crate::specs::SubRecord::prim_array_at))]
-pub(crate) fn read_prim_array<'a>(
-    item: &Item<'a>,
-    ids: IdSize,
-) -> Result<(FullFact<'a>, usize), Stop>
+pub(crate) fn read_prim_array<'a>(item: &Item<'a>, ids: IdSize) -> Result<(Fact<'a>, usize), Stop>
     ensures fact { MatchResult result
-        (λ read. prim_array_at ids (bounds_of item.now) item.now.bytes.now ≡ Ok (value_of_full read.0, read.1))
+        (λ read. prim_array_at ids (bounds_of item.now) item.now.bytes.now ≡ Ok (value_of read.0, read.1))
         (λ stop. prim_array_at ids (bounds_of item.now) item.now.bytes.now ≡ Err stop) }
     ensures lists { IfOk result (λ read. ListsHave ids read.0) }
 {
@@ -171,7 +165,7 @@ pub(crate) fn read_prim_array<'a>(
     let end = item.end_of(first, &[len])?;
     let (_, rest) = item.bytes.split_at(first);
     let (bytes, _) = rest.split_at(len);
-    let fact = FullFact::PrimArray {
+    let fact = Fact::PrimArray {
         id: front.id,
         trace: front.trace,
         elem,

@@ -6,14 +6,14 @@ ghost use Rattle.hprof_values.specs.declared.sub_tag.SubTag.TheVariants as tags;
 ghost use Rattle.hprof_values.specs.Fields.{FitFields};
 ghost use Rattle.hprof_values.specs.Numbers.{number_widths, number_values};
 ghost use Rattle.hprof_values.specs.Root.{root_bytes, RootFits};
-ghost use Rattle.hprof_items.specs.AnySpelling.{any_spelling, AnyFits};
+ghost use Rattle.hprof_items.specs.Spelling.{spelling, Fits};
 ghost use Rattle.hprof_items.specs.SubRecord.{tagged_bytes};
 ghost use Rattle.hprof_items.specs.ObjectTag.{object_of};
-ghost use Rattle.hprof_items.specs.FullFact.{value_of_full, ListsHave};
+ghost use Rattle.hprof_items.specs.FactValue.{value_of, ListsHave};
 ghost use Rattle.hprof_items.specs.Device.{Writes, LeavesHealth};
 
+use crate::fact::Fact;
 use crate::front_writing::write_front;
-use crate::full_fact::FullFact;
 use crate::health::WriteFault;
 use crate::target::Target;
 use hprof_values::{IdSize, Number, Root, SubTag};
@@ -77,17 +77,17 @@ pub(crate) fn write_root<W: Target>(
 
 /// Writes the sub-record of an instance.
 pub(crate) fn write_instance<W: Target>(
-    fact: &FullFact<'_>,
+    fact: &Fact<'_>,
     ids: IdSize,
     target: &mut W,
 ) -> Result<(), WriteFault>
-    requires is { object_of (value_of_full fact.now) ≡ Some tags.InstanceDump }
+    requires is { object_of (value_of fact.now) ≡ Some tags.InstanceDump }
     requires well { W.health target.old ≡ Well }
-    requires fits { AnyFits ids (value_of_full fact.now) }
-    ensures bytes { Writes (W.written target.old) (W.written target.new) result (any_spelling ids (value_of_full fact.now)) }
+    requires fits { Fits ids (value_of fact.now) }
+    ensures bytes { Writes (W.written target.old) (W.written target.new) result (spelling ids (value_of fact.now)) }
     ensures health { LeavesHealth result (W.health target.new) }
 {
-    let FullFact::Instance {
+    let Fact::Instance {
         id,
         trace,
         class,
@@ -107,18 +107,18 @@ pub(crate) fn write_instance<W: Target>(
 
 /// Writes the sub-record of an array of objects.
 pub(crate) fn write_obj_array<W: Target>(
-    fact: &FullFact<'_>,
+    fact: &Fact<'_>,
     ids: IdSize,
     target: &mut W,
 ) -> Result<(), WriteFault>
-    requires is { object_of (value_of_full fact.now) ≡ Some tags.ObjArrayDump }
+    requires is { object_of (value_of fact.now) ≡ Some tags.ObjArrayDump }
     requires well { W.health target.old ≡ Well }
-    requires fits { AnyFits ids (value_of_full fact.now) }
+    requires fits { Fits ids (value_of fact.now) }
     requires lists { ListsHave ids fact.now }
-    ensures bytes { Writes (W.written target.old) (W.written target.new) result (any_spelling ids (value_of_full fact.now)) }
+    ensures bytes { Writes (W.written target.old) (W.written target.new) result (spelling ids (value_of fact.now)) }
     ensures health { LeavesHealth result (W.health target.new) }
 {
-    let FullFact::ObjArray {
+    let Fact::ObjArray {
         id,
         trace,
         class,
@@ -138,17 +138,17 @@ pub(crate) fn write_obj_array<W: Target>(
 
 /// Writes the sub-record of an array of numbers or truth values.
 pub(crate) fn write_prim_array<W: Target>(
-    fact: &FullFact<'_>,
+    fact: &Fact<'_>,
     ids: IdSize,
     target: &mut W,
 ) -> Result<(), WriteFault>
-    requires is { object_of (value_of_full fact.now) ≡ Some tags.PrimArrayDump }
+    requires is { object_of (value_of fact.now) ≡ Some tags.PrimArrayDump }
     requires well { W.health target.old ≡ Well }
-    requires fits { AnyFits ids (value_of_full fact.now) }
-    ensures bytes { Writes (W.written target.old) (W.written target.new) result (any_spelling ids (value_of_full fact.now)) }
+    requires fits { Fits ids (value_of fact.now) }
+    ensures bytes { Writes (W.written target.old) (W.written target.new) result (spelling ids (value_of fact.now)) }
     ensures health { LeavesHealth result (W.health target.new) }
 {
-    let FullFact::PrimArray {
+    let Fact::PrimArray {
         id,
         trace,
         elem,

@@ -2,28 +2,27 @@
 
 ghost use Rattle.std.specs.Prelude.{◌≡◌, ◌↔◌, IsTrue, Some};
 ghost use Rattle.hprof_values.specs.declared.record_tag.RecordTag.TheVariants as tags;
-ghost use Rattle.hprof_items.specs.AnyFact.{Name};
-ghost use Rattle.hprof_items.specs.AnySpelling.{AnyFits};
+ghost use Rattle.hprof_items.specs.FactValue.{Name, value_of, ListsHave};
+ghost use Rattle.hprof_items.specs.Spelling.{Fits};
 ghost use Rattle.hprof_items.specs.RecordBody.{record_of};
-ghost use Rattle.hprof_items.specs.FullFact.{value_of_full, ListsHave};
 
+use crate::fact::Fact;
 use crate::front_fitting::front_fits;
-use crate::full_fact::FullFact;
 use hprof_values::{IdSize, Number};
 
 /// Whether a name has a spelling.
 pub(crate) fn name_fits(id: u64, text: &[u8], ids: IdSize) -> bool
-    ensures { IsTrue result ↔ AnyFits ids (Name id text.now) }
+    ensures { IsTrue result ↔ Fits ids (Name id text.now) }
 {
     front_fits(&[Number::Id(id)], text.len(), ids)
 }
 
 /// Whether a class that was loaded has a spelling.
-pub(crate) fn load_fits(fact: &FullFact<'_>, ids: IdSize) -> bool
-    requires { record_of (value_of_full fact.now) ≡ Some tags.LoadClass }
-    ensures { IsTrue result ↔ (AnyFits ids (value_of_full fact.now) × ListsHave ids fact.now) }
+pub(crate) fn load_fits(fact: &Fact<'_>, ids: IdSize) -> bool
+    requires { record_of (value_of fact.now) ≡ Some tags.LoadClass }
+    ensures { IsTrue result ↔ (Fits ids (value_of fact.now) × ListsHave ids fact.now) }
 {
-    let FullFact::Load {
+    let Fact::Load {
         serial,
         class,
         trace,
@@ -42,11 +41,11 @@ pub(crate) fn load_fits(fact: &FullFact<'_>, ids: IdSize) -> bool
 }
 
 /// Whether a class that was unloaded has a spelling.
-pub(crate) fn unload_fits(fact: &FullFact<'_>, ids: IdSize) -> bool
-    requires { record_of (value_of_full fact.now) ≡ Some tags.UnloadClass }
-    ensures { IsTrue result ↔ (AnyFits ids (value_of_full fact.now) × ListsHave ids fact.now) }
+pub(crate) fn unload_fits(fact: &Fact<'_>, ids: IdSize) -> bool
+    requires { record_of (value_of fact.now) ≡ Some tags.UnloadClass }
+    ensures { IsTrue result ↔ (Fits ids (value_of fact.now) × ListsHave ids fact.now) }
 {
-    let FullFact::Unload { serial } = *fact else {
+    let Fact::Unload { serial } = *fact else {
         unreachable!()
     };
     let fields = [Number::Four(serial)];
@@ -54,11 +53,11 @@ pub(crate) fn unload_fits(fact: &FullFact<'_>, ids: IdSize) -> bool
 }
 
 /// Whether a frame has a spelling.
-pub(crate) fn frame_fits(fact: &FullFact<'_>, ids: IdSize) -> bool
-    requires { record_of (value_of_full fact.now) ≡ Some tags.Frame }
-    ensures { IsTrue result ↔ (AnyFits ids (value_of_full fact.now) × ListsHave ids fact.now) }
+pub(crate) fn frame_fits(fact: &Fact<'_>, ids: IdSize) -> bool
+    requires { record_of (value_of fact.now) ≡ Some tags.Frame }
+    ensures { IsTrue result ↔ (Fits ids (value_of fact.now) × ListsHave ids fact.now) }
 {
-    let FullFact::Frame {
+    let Fact::Frame {
         id,
         method,
         signature,
@@ -81,11 +80,11 @@ pub(crate) fn frame_fits(fact: &FullFact<'_>, ids: IdSize) -> bool
 }
 
 /// Whether a stack has a spelling.
-pub(crate) fn trace_fits(fact: &FullFact<'_>, ids: IdSize) -> bool
-    requires { record_of (value_of_full fact.now) ≡ Some tags.Trace }
-    ensures { IsTrue result ↔ (AnyFits ids (value_of_full fact.now) × ListsHave ids fact.now) }
+pub(crate) fn trace_fits(fact: &Fact<'_>, ids: IdSize) -> bool
+    requires { record_of (value_of fact.now) ≡ Some tags.Trace }
+    ensures { IsTrue result ↔ (Fits ids (value_of fact.now) × ListsHave ids fact.now) }
 {
-    let FullFact::Trace {
+    let Fact::Trace {
         serial,
         thread,
         frames,
@@ -108,11 +107,11 @@ pub(crate) fn trace_fits(fact: &FullFact<'_>, ids: IdSize) -> bool
 }
 
 /// Whether a thread that was started has a spelling.
-pub(crate) fn start_fits(fact: &FullFact<'_>, ids: IdSize) -> bool
-    requires { record_of (value_of_full fact.now) ≡ Some tags.StartThread }
-    ensures { IsTrue result ↔ (AnyFits ids (value_of_full fact.now) × ListsHave ids fact.now) }
+pub(crate) fn start_fits(fact: &Fact<'_>, ids: IdSize) -> bool
+    requires { record_of (value_of fact.now) ≡ Some tags.StartThread }
+    ensures { IsTrue result ↔ (Fits ids (value_of fact.now) × ListsHave ids fact.now) }
 {
-    let FullFact::Start {
+    let Fact::Start {
         thread,
         object,
         trace,
@@ -135,11 +134,11 @@ pub(crate) fn start_fits(fact: &FullFact<'_>, ids: IdSize) -> bool
 }
 
 /// Whether a thread that ended has a spelling.
-pub(crate) fn end_fits(fact: &FullFact<'_>, ids: IdSize) -> bool
-    requires { record_of (value_of_full fact.now) ≡ Some tags.EndThread }
-    ensures { IsTrue result ↔ (AnyFits ids (value_of_full fact.now) × ListsHave ids fact.now) }
+pub(crate) fn end_fits(fact: &Fact<'_>, ids: IdSize) -> bool
+    requires { record_of (value_of fact.now) ≡ Some tags.EndThread }
+    ensures { IsTrue result ↔ (Fits ids (value_of fact.now) × ListsHave ids fact.now) }
 {
-    let FullFact::End { thread } = *fact else {
+    let Fact::End { thread } = *fact else {
         unreachable!()
     };
     let fields = [Number::Four(thread)];

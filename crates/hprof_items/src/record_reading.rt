@@ -1,27 +1,31 @@
 //! Reading the body of a record that states one fact.
 
-ghost use Rattle.std.specs.Prelude.{◌≡◌, ◌≤◌, length, sum, true, Ok, Err, IfOk, IsOkAnd, MatchResult};
-ghost use Rattle.hprof_values.specs.RecordTag.{record_fields};
-ghost use Rattle.hprof_items.specs.AnyFact.{AnyFact};
+ghost use Rattle.std.specs.Prelude.{◌≡◌, ◌≤◌, length, sum, true, Some, Ok, Err, IfOk, IsOkAnd, MatchResult};
+ghost use Rattle.hprof_values.specs.declared.record_tag.RecordTag.{RecordTag};
+ghost use Rattle.hprof_values.specs.RecordTag.{record_fields, record_of_code};
+ghost use Rattle.hprof_items.specs.Head.{kind_of};
+ghost use Rattle.hprof_items.specs.Spelling.{longest_body};
+ghost use Rattle.hprof_items.specs.Reading.{body_at, IsRightHead};
+ghost use Rattle.hprof_items.specs.FactValue.{FactValue, value_of, ListsHave};
 ghost use Rattle.hprof_items.specs.RecordBody.{is_legal_body, record_body, record_at, BodyFits};
-ghost use Rattle.hprof_items.specs.FullFact.{value_of_full, ListsHave};
 
-use crate::full_fact::FullFact;
+use crate::fact::Fact;
+use crate::head::{Head, HeadKind};
 use hprof_values::number::{ids_len, split_id, split_u32};
 use hprof_values::{IdList, IdSize, Reason, RecordTag};
 
 /// Reads a class that was loaded.
 #[tactic(auto, unfolding(crate::specs::RecordBody::record_at))]
-fn read_load<'a>(body: &'a [u8], ids: IdSize) -> FullFact<'a>
+fn read_load<'a>(body: &'a [u8], ids: IdSize) -> Fact<'a>
     requires { sum (record_fields ids RecordTag.LoadClass) ≤ length body.now }
-    ensures exact { record_at ids RecordTag.LoadClass body.now ≡ Ok (value_of_full result) }
+    ensures exact { record_at ids RecordTag.LoadClass body.now ≡ Ok (value_of result) }
     ensures lists { ListsHave ids result }
 {
     let (serial, rest) = split_u32(body);
     let (class, rest) = split_id(rest, ids);
     let (trace, rest) = split_u32(rest);
     let (name, _) = split_id(rest, ids);
-    FullFact::Load {
+    Fact::Load {
         serial,
         class,
         trace,
@@ -31,9 +35,9 @@ fn read_load<'a>(body: &'a [u8], ids: IdSize) -> FullFact<'a>
 
 /// Reads a frame of a stack.
 #[tactic(auto, unfolding(crate::specs::RecordBody::record_at))]
-fn read_frame<'a>(body: &'a [u8], ids: IdSize) -> FullFact<'a>
+fn read_frame<'a>(body: &'a [u8], ids: IdSize) -> Fact<'a>
     requires { sum (record_fields ids RecordTag.Frame) ≤ length body.now }
-    ensures exact { record_at ids RecordTag.Frame body.now ≡ Ok (value_of_full result) }
+    ensures exact { record_at ids RecordTag.Frame body.now ≡ Ok (value_of result) }
     ensures lists { ListsHave ids result }
 {
     let (id, rest) = split_id(body, ids);
@@ -42,7 +46,7 @@ fn read_frame<'a>(body: &'a [u8], ids: IdSize) -> FullFact<'a>
     let (source, rest) = split_id(rest, ids);
     let (class_serial, rest) = split_u32(rest);
     let (line, _) = split_u32(rest);
-    FullFact::Frame {
+    Fact::Frame {
         id,
         method,
         signature,
@@ -54,10 +58,10 @@ fn read_frame<'a>(body: &'a [u8], ids: IdSize) -> FullFact<'a>
 
 /// Reads a stack. It has as many frames as it says.
 #[tactic(auto, unfolding(crate::specs::RecordBody::record_at))]
-fn read_trace<'a>(body: &'a [u8], ids: IdSize) -> Result<FullFact<'a>, Reason>
+fn read_trace<'a>(body: &'a [u8], ids: IdSize) -> Result<Fact<'a>, Reason>
     requires { sum (record_fields ids RecordTag.Trace) ≤ length body.now }
     ensures exact { MatchResult result
-        (λ fact. record_at ids RecordTag.Trace body.now ≡ Ok (value_of_full fact))
+        (λ fact. record_at ids RecordTag.Trace body.now ≡ Ok (value_of fact))
         (λ reason. record_at ids RecordTag.Trace body.now ≡ Err reason) }
     ensures lists { IfOk result (λ fact. ListsHave ids fact) }
 {
@@ -67,7 +71,7 @@ fn read_trace<'a>(body: &'a [u8], ids: IdSize) -> Result<FullFact<'a>, Reason>
     if rest.len() != ids_len(count, ids) {
         return Err(Reason::BadLength);
     }
-    Ok(FullFact::Trace {
+    Ok(Fact::Trace {
         serial,
         thread,
         frames: IdList::of_whole(rest, ids),
@@ -76,9 +80,9 @@ fn read_trace<'a>(body: &'a [u8], ids: IdSize) -> Result<FullFact<'a>, Reason>
 
 /// Reads a thread that was started.
 #[tactic(auto, unfolding(crate::specs::RecordBody::record_at))]
-fn read_start<'a>(body: &'a [u8], ids: IdSize) -> FullFact<'a>
+fn read_start<'a>(body: &'a [u8], ids: IdSize) -> Fact<'a>
     requires { sum (record_fields ids RecordTag.StartThread) ≤ length body.now }
-    ensures exact { record_at ids RecordTag.StartThread body.now ≡ Ok (value_of_full result) }
+    ensures exact { record_at ids RecordTag.StartThread body.now ≡ Ok (value_of result) }
     ensures lists { ListsHave ids result }
 {
     let (thread, rest) = split_u32(body);
@@ -87,7 +91,7 @@ fn read_start<'a>(body: &'a [u8], ids: IdSize) -> FullFact<'a>
     let (name, rest) = split_id(rest, ids);
     let (group, rest) = split_id(rest, ids);
     let (parent_group, _) = split_id(rest, ids);
-    FullFact::Start {
+    Fact::Start {
         thread,
         object,
         trace,
@@ -99,48 +103,77 @@ fn read_start<'a>(body: &'a [u8], ids: IdSize) -> FullFact<'a>
 
 /// The fact of `read_record`.
 #[tactic(auto, unfolding(crate::specs::RecordBody::record_at))]
-fn fact_in<'a>(tag: RecordTag, body: &'a [u8], ids: IdSize) -> Result<FullFact<'a>, Reason>
+fn fact_in<'a>(tag: RecordTag, body: &'a [u8], ids: IdSize) -> Result<Fact<'a>, Reason>
     requires { is_legal_body ids tag (length body.now) ≡ true }
     ensures exact { MatchResult result
-        (λ fact. record_at ids tag body.now ≡ Ok (value_of_full fact))
+        (λ fact. record_at ids tag body.now ≡ Ok (value_of fact))
         (λ reason. record_at ids tag body.now ≡ Err reason) }
     ensures lists { IfOk result (λ fact. ListsHave ids fact) }
 {
     match tag {
         RecordTag::Utf8 => {
             let (id, text) = split_id(body, ids);
-            Ok(FullFact::Name { id, text })
+            Ok(Fact::Name { id, text })
         }
         RecordTag::LoadClass => Ok(read_load(body, ids)),
         RecordTag::UnloadClass => {
             let (serial, _) = split_u32(body);
-            Ok(FullFact::Unload { serial })
+            Ok(Fact::Unload { serial })
         }
         RecordTag::Frame => Ok(read_frame(body, ids)),
         RecordTag::Trace => read_trace(body, ids),
         RecordTag::StartThread => Ok(read_start(body, ids)),
         RecordTag::EndThread => {
             let (thread, _) = split_u32(body);
-            Ok(FullFact::End { thread })
+            Ok(Fact::End { thread })
         }
     }
 }
 
 /// Reads the body of a record that states one fact, of a length that it may have.
-pub fn read_record<'a>(tag: RecordTag, body: &'a [u8], ids: IdSize) -> Result<FullFact<'a>, Reason>
+pub(crate) fn read_record<'a>(
+    tag: RecordTag,
+    body: &'a [u8],
+    ids: IdSize,
+) -> Result<Fact<'a>, Reason>
     requires { is_legal_body ids tag (length body.now) ≡ true }
     // Which fact it is, or which fault.
     ensures exact { MatchResult result
-        (λ fact. record_at ids tag body.now ≡ Ok (value_of_full fact))
+        (λ fact. record_at ids tag body.now ≡ Ok (value_of fact))
         (λ reason. record_at ids tag body.now ≡ Err reason) }
     // What is read is spelled so.
-    ensures found { IfOk result (λ fact. BodyFits ids tag (value_of_full fact)
-        × (body.now ≡ record_body ids tag (value_of_full fact))) }
+    ensures found { IfOk result (λ fact. BodyFits ids tag (value_of fact)
+        × (body.now ≡ record_body ids tag (value_of fact))) }
     // What is spelled so is read.
-    ensures only { (fact : AnyFact) → BodyFits ids tag fact
-        → body.now ≡ record_body ids tag fact → IsOkAnd result (λ read. value_of_full read ≡ fact) }
+    ensures only { (fact : FactValue) → BodyFits ids tag fact
+        → body.now ≡ record_body ids tag fact → IsOkAnd result (λ read. value_of read ≡ fact) }
     // Its lists have identifiers of that size.
     ensures lists { IfOk result (λ fact. ListsHave ids fact) }
 {
     fact_in(tag, body, ids)
+}
+
+/// Reads the body of a record with a fact, behind a head that was read. The one fault is that a trace has not as many
+/// frames as it says.
+pub fn read_body<'a>(head: &Head, body: &'a [u8], ids: IdSize) -> Result<Fact<'a>, Reason>
+    requires whole { IsRightHead ids longest_body head.now }
+    requires kind { kind_of head.now.tag ≡ HeadKind.FactRecord }
+    requires length { length body.now ≡ head.now.length }
+    // Which fact it is, or which fault.
+    ensures exact { MatchResult result
+        (λ fact. body_at ids head.now.tag body.now ≡ Ok (value_of fact))
+        (λ reason. body_at ids head.now.tag body.now ≡ Err reason) }
+    // What is read is spelled so, and has lists of that size.
+    ensures found { IfOk result (λ fact. (known : RecordTag) × (record_of_code head.now.tag ≡ Some known)
+        × BodyFits ids known (value_of fact) × (body.now ≡ record_body ids known (value_of fact))) }
+    ensures lists { IfOk result (λ fact. ListsHave ids fact) }
+    // What is spelled so is read.
+    ensures only { (fact : FactValue) (known : RecordTag) → record_of_code head.now.tag ≡ Some known → BodyFits ids known fact
+        → body.now ≡ record_body ids known fact → IsOkAnd result (λ read. value_of read ≡ fact) }
+{
+    let Some(known) = RecordTag::from_code(head.tag) else {
+        // The head is that of a record with a fact.
+        unreachable!()
+    };
+    read_record(known, body, ids)
 }

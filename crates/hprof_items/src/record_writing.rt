@@ -7,14 +7,13 @@ ghost use Rattle.hprof_values.specs.Fields.{field_bytes, FitFields};
 ghost use Rattle.hprof_values.specs.Numbers.{number_widths, number_values};
 ghost use Rattle.hprof_values.specs.RecordTag.{code_of_record};
 ghost use Rattle.hprof_items.specs.Head.{record_bytes};
-ghost use Rattle.hprof_items.specs.Spelling.{longest_body};
-ghost use Rattle.hprof_items.specs.AnySpelling.{any_spelling, AnyFits};
+ghost use Rattle.hprof_items.specs.Spelling.{longest_body, spelling, Fits};
 ghost use Rattle.hprof_items.specs.RecordBody.{record_of};
-ghost use Rattle.hprof_items.specs.FullFact.{value_of_full, ListsHave};
+ghost use Rattle.hprof_items.specs.FactValue.{value_of, ListsHave};
 ghost use Rattle.hprof_items.specs.Device.{Writes, LeavesHealth};
 
+use crate::fact::Fact;
 use crate::front_writing::write_front;
-use crate::full_fact::FullFact;
 use crate::health::WriteFault;
 use crate::target::Target;
 use hprof_values::{IdSize, Number, RecordTag, numbers_len};
@@ -46,17 +45,17 @@ fn write_record<W: Target>(
 
 /// Writes the record of a name.
 pub(crate) fn write_name<W: Target>(
-    fact: &FullFact<'_>,
+    fact: &Fact<'_>,
     ids: IdSize,
     target: &mut W,
 ) -> Result<(), WriteFault>
-    requires is { record_of (value_of_full fact.now) ≡ Some tags.Utf8 }
+    requires is { record_of (value_of fact.now) ≡ Some tags.Utf8 }
     requires well { W.health target.old ≡ Well }
-    requires fits { AnyFits ids (value_of_full fact.now) }
-    ensures bytes { Writes (W.written target.old) (W.written target.new) result (any_spelling ids (value_of_full fact.now)) }
+    requires fits { Fits ids (value_of fact.now) }
+    ensures bytes { Writes (W.written target.old) (W.written target.new) result (spelling ids (value_of fact.now)) }
     ensures health { LeavesHealth result (W.health target.new) }
 {
-    let FullFact::Name { id, text } = *fact else {
+    let Fact::Name { id, text } = *fact else {
         unreachable!()
     };
     let fields = [Number::Id(id)];
@@ -65,17 +64,17 @@ pub(crate) fn write_name<W: Target>(
 
 /// Writes the record of a class that was loaded.
 pub(crate) fn write_load<W: Target>(
-    fact: &FullFact<'_>,
+    fact: &Fact<'_>,
     ids: IdSize,
     target: &mut W,
 ) -> Result<(), WriteFault>
-    requires is { record_of (value_of_full fact.now) ≡ Some tags.LoadClass }
+    requires is { record_of (value_of fact.now) ≡ Some tags.LoadClass }
     requires well { W.health target.old ≡ Well }
-    requires fits { AnyFits ids (value_of_full fact.now) }
-    ensures bytes { Writes (W.written target.old) (W.written target.new) result (any_spelling ids (value_of_full fact.now)) }
+    requires fits { Fits ids (value_of fact.now) }
+    ensures bytes { Writes (W.written target.old) (W.written target.new) result (spelling ids (value_of fact.now)) }
     ensures health { LeavesHealth result (W.health target.new) }
 {
-    let FullFact::Load {
+    let Fact::Load {
         serial,
         class,
         trace,
@@ -95,17 +94,17 @@ pub(crate) fn write_load<W: Target>(
 
 /// Writes the record of a class that was unloaded.
 pub(crate) fn write_unload<W: Target>(
-    fact: &FullFact<'_>,
+    fact: &Fact<'_>,
     ids: IdSize,
     target: &mut W,
 ) -> Result<(), WriteFault>
-    requires is { record_of (value_of_full fact.now) ≡ Some tags.UnloadClass }
+    requires is { record_of (value_of fact.now) ≡ Some tags.UnloadClass }
     requires well { W.health target.old ≡ Well }
-    requires fits { AnyFits ids (value_of_full fact.now) }
-    ensures bytes { Writes (W.written target.old) (W.written target.new) result (any_spelling ids (value_of_full fact.now)) }
+    requires fits { Fits ids (value_of fact.now) }
+    ensures bytes { Writes (W.written target.old) (W.written target.new) result (spelling ids (value_of fact.now)) }
     ensures health { LeavesHealth result (W.health target.new) }
 {
-    let FullFact::Unload { serial } = *fact else {
+    let Fact::Unload { serial } = *fact else {
         unreachable!()
     };
     let fields = [Number::Four(serial)];
@@ -114,17 +113,17 @@ pub(crate) fn write_unload<W: Target>(
 
 /// Writes the record of a frame.
 pub(crate) fn write_frame<W: Target>(
-    fact: &FullFact<'_>,
+    fact: &Fact<'_>,
     ids: IdSize,
     target: &mut W,
 ) -> Result<(), WriteFault>
-    requires is { record_of (value_of_full fact.now) ≡ Some tags.Frame }
+    requires is { record_of (value_of fact.now) ≡ Some tags.Frame }
     requires well { W.health target.old ≡ Well }
-    requires fits { AnyFits ids (value_of_full fact.now) }
-    ensures bytes { Writes (W.written target.old) (W.written target.new) result (any_spelling ids (value_of_full fact.now)) }
+    requires fits { Fits ids (value_of fact.now) }
+    ensures bytes { Writes (W.written target.old) (W.written target.new) result (spelling ids (value_of fact.now)) }
     ensures health { LeavesHealth result (W.health target.new) }
 {
-    let FullFact::Frame {
+    let Fact::Frame {
         id,
         method,
         signature,
@@ -148,18 +147,18 @@ pub(crate) fn write_frame<W: Target>(
 
 /// Writes the record of a stack.
 pub(crate) fn write_trace<W: Target>(
-    fact: &FullFact<'_>,
+    fact: &Fact<'_>,
     ids: IdSize,
     target: &mut W,
 ) -> Result<(), WriteFault>
-    requires is { record_of (value_of_full fact.now) ≡ Some tags.Trace }
+    requires is { record_of (value_of fact.now) ≡ Some tags.Trace }
     requires well { W.health target.old ≡ Well }
-    requires fits { AnyFits ids (value_of_full fact.now) }
+    requires fits { Fits ids (value_of fact.now) }
     requires lists { ListsHave ids fact.now }
-    ensures bytes { Writes (W.written target.old) (W.written target.new) result (any_spelling ids (value_of_full fact.now)) }
+    ensures bytes { Writes (W.written target.old) (W.written target.new) result (spelling ids (value_of fact.now)) }
     ensures health { LeavesHealth result (W.health target.new) }
 {
-    let FullFact::Trace {
+    let Fact::Trace {
         serial,
         thread,
         frames,
@@ -177,17 +176,17 @@ pub(crate) fn write_trace<W: Target>(
 
 /// Writes the record of a thread that was started.
 pub(crate) fn write_start<W: Target>(
-    fact: &FullFact<'_>,
+    fact: &Fact<'_>,
     ids: IdSize,
     target: &mut W,
 ) -> Result<(), WriteFault>
-    requires is { record_of (value_of_full fact.now) ≡ Some tags.StartThread }
+    requires is { record_of (value_of fact.now) ≡ Some tags.StartThread }
     requires well { W.health target.old ≡ Well }
-    requires fits { AnyFits ids (value_of_full fact.now) }
-    ensures bytes { Writes (W.written target.old) (W.written target.new) result (any_spelling ids (value_of_full fact.now)) }
+    requires fits { Fits ids (value_of fact.now) }
+    ensures bytes { Writes (W.written target.old) (W.written target.new) result (spelling ids (value_of fact.now)) }
     ensures health { LeavesHealth result (W.health target.new) }
 {
-    let FullFact::Start {
+    let Fact::Start {
         thread,
         object,
         trace,
@@ -211,17 +210,17 @@ pub(crate) fn write_start<W: Target>(
 
 /// Writes the record of a thread that ended.
 pub(crate) fn write_end<W: Target>(
-    fact: &FullFact<'_>,
+    fact: &Fact<'_>,
     ids: IdSize,
     target: &mut W,
 ) -> Result<(), WriteFault>
-    requires is { record_of (value_of_full fact.now) ≡ Some tags.EndThread }
+    requires is { record_of (value_of fact.now) ≡ Some tags.EndThread }
     requires well { W.health target.old ≡ Well }
-    requires fits { AnyFits ids (value_of_full fact.now) }
-    ensures bytes { Writes (W.written target.old) (W.written target.new) result (any_spelling ids (value_of_full fact.now)) }
+    requires fits { Fits ids (value_of fact.now) }
+    ensures bytes { Writes (W.written target.old) (W.written target.new) result (spelling ids (value_of fact.now)) }
     ensures health { LeavesHealth result (W.health target.new) }
 {
-    let FullFact::End { thread } = *fact else {
+    let Fact::End { thread } = *fact else {
         unreachable!()
     };
     let fields = [Number::Four(thread)];

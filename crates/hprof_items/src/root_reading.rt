@@ -4,7 +4,7 @@ ghost use Rattle.std.specs.Prelude.{◌≡◌, ◌≤◌, length, sum, Ok, Err, 
 ghost use Rattle.hprof_values.specs.Fields.{fields_in, reached};
 ghost use Rattle.hprof_values.specs.Item.{bounds_of};
 ghost use Rattle.hprof_values.specs.Root.{root_fields};
-ghost use Rattle.hprof_items.specs.AnyFact.{Rooted};
+ghost use Rattle.hprof_items.specs.FactValue.{Rooted};
 ghost use Rattle.hprof_items.specs.SubRecord.{root_of, root_at};
 
 use hprof_values::number::{split_id, split_u32};

@@ -2,22 +2,21 @@
 
 ghost use Rattle.std.specs.Prelude.{◌≡◌, ℕ, ◌≤◌, ◌++◌, List, length, Ok, Err, IfOk, MatchResult};
 ghost use Rattle.hprof_values.specs.Item.{bounds_of};
-ghost use Rattle.hprof_items.specs.AnyFact.{AnyFact};
-ghost use Rattle.hprof_items.specs.FullFact.{value_of_full, ListsHave};
+ghost use Rattle.hprof_items.specs.FactValue.{FactValue, value_of, ListsHave};
 ghost use Rattle.hprof_items.specs.SubRecord.{dump_at, tag_at, sub_at, dump_bytes, DumpFits};
 ghost use Rattle.hprof_items.specs.SubReading.{bounds_within, IsStepOf, IsSubRead, IsReadOf, IsWholeOf};
 
 use crate::class_reading::read_class;
-use crate::full_fact::FullFact;
+use crate::fact::Fact;
 use crate::object_reading::{read_instance, read_obj_array, read_prim_array};
 use crate::root_reading::read_root;
 use crate::step::Step;
 use hprof_values::{IdSize, Item, Reason, Stop, SubTag};
 
 /// Reads a sub-record behind its tag.
-fn read_behind<'a>(item: &Item<'a>, tag: SubTag, ids: IdSize) -> Result<(FullFact<'a>, usize), Stop>
+fn read_behind<'a>(item: &Item<'a>, tag: SubTag, ids: IdSize) -> Result<(Fact<'a>, usize), Stop>
     ensures fact { MatchResult result
-        (λ read. dump_at ids tag (bounds_of item.now) item.now.bytes.now ≡ Ok (value_of_full read.0, read.1))
+        (λ read. dump_at ids tag (bounds_of item.now) item.now.bytes.now ≡ Ok (value_of read.0, read.1))
         (λ stop. dump_at ids tag (bounds_of item.now) item.now.bytes.now ≡ Err stop) }
     ensures lists { IfOk result (λ read. ListsHave ids read.0) }
 {
@@ -28,7 +27,7 @@ fn read_behind<'a>(item: &Item<'a>, tag: SubTag, ids: IdSize) -> Result<(FullFac
         SubTag::PrimArrayDump => read_prim_array(item, ids),
         _ => {
             let (root, end) = read_root(item, tag, ids)?;
-            Ok((FullFact::Root(root), end))
+            Ok((Fact::Root(root), end))
         }
     }
 }
@@ -49,9 +48,9 @@ pub(crate) fn read_tag(item: &Item<'_>) -> Result<SubTag, Stop>
 
 /// Reads the sub-record at the front.
 #[tactic(auto, using(crate::proofs::Dumps::sub_tagged, crate::proofs::Dumps::sub_stops))]
-fn read_item<'a>(item: &Item<'a>, ids: IdSize) -> Result<(FullFact<'a>, usize), Stop>
+fn read_item<'a>(item: &Item<'a>, ids: IdSize) -> Result<(Fact<'a>, usize), Stop>
     ensures fact { MatchResult result
-        (λ read. sub_at ids (bounds_of item.now) item.now.bytes.now ≡ Ok (value_of_full read.0, read.1))
+        (λ read. sub_at ids (bounds_of item.now) item.now.bytes.now ≡ Ok (value_of read.0, read.1))
         (λ stop. sub_at ids (bounds_of item.now) item.now.bytes.now ≡ Err stop) }
     ensures lists { IfOk result (λ read. ListsHave ids read.0) }
 {
@@ -62,16 +61,16 @@ fn read_item<'a>(item: &Item<'a>, ids: IdSize) -> Result<(FullFact<'a>, usize), 
 /// Reads the sub-record at the front of what a record has left, `room` bytes, no longer than `longest`: field by field
 /// from the left, each ends within the record, then within the longest, then it is there, then it is right. Where there
 /// are no bytes, more are needed. The bytes of an instance and the elements of an array are not looked at.
-pub fn read_sub(bytes: &[u8], room: u32, longest: u32, ids: IdSize) -> Step<FullFact<'_>>
+pub fn read_sub(bytes: &[u8], room: u32, longest: u32, ids: IdSize) -> Step<Fact<'_>>
     requires { 1 ≤ room }
     // Which step it is.
     ensures exact { IsStepOf result (sub_at ids (bounds_within room longest bytes.now) bytes.now) }
     // What is read is spelled so, and has lists of that size.
     ensures found { IsReadOf result (IsSubRead ids room longest bytes.now) }
     // What is spelled so is read, whatever follows.
-    ensures only { (fact : AnyFact) (rest : List ℕ) → DumpFits ids fact → bytes.now ≡ dump_bytes ids fact ++ rest
+    ensures only { (fact : FactValue) (rest : List ℕ) → DumpFits ids fact → bytes.now ≡ dump_bytes ids fact ++ rest
         → length (dump_bytes ids fact) ≤ room → length (dump_bytes ids fact) ≤ longest
-        → IsWholeOf result (λ read n. (value_of_full read ≡ fact) × (n ≡ length (dump_bytes ids fact))) }
+        → IsWholeOf result (λ read n. (value_of read ≡ fact) × (n ≡ length (dump_bytes ids fact))) }
 {
     let item = Item {
         bytes,

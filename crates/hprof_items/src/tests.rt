@@ -2,7 +2,7 @@ ghost use Rattle.std.specs.Prelude.{◌≤◌, IfOk, IfSome};
 ghost use Rattle.hprof_items.specs.Spelling.{longest_body};
 ghost use Rattle.hprof_items.specs.Reading.{IsRightHead};
 
-mod full_writing;
+mod fact_writing;
 mod items;
 mod records;
 mod walks;
@@ -70,8 +70,8 @@ fn names(rt: HostRuntime) -> Result<(), Fail> {
     };
     assert!(rt; !fits(&too_great, IdSize::Four));
     assert_eq!(rt; (IdSize::Four.width(), IdSize::Eight.width()), (4, 8));
-    laws::one_spelling();
-    laws::bodies_read_back();
+    laws::one_record_spelling();
+    laws::records_read_back();
     Ok(())
 }
 
@@ -95,7 +95,7 @@ fn faults_of_a_head(rt: HostRuntime) {
     };
     for (tag, len, longest, want) in [
         (0x2c, 1, 5, Step::Fault(Reason::BadLength)),
-        (0x03, 4, 5, Step::Fault(Reason::Unsupported)),
+        (0x03, 5, 5, Step::Fault(Reason::BadLength)),
         (0x01, 5, 4, Step::TooLong),
         (0x01, 5, 5, Step::Whole(name, 9)),
         (0x01, 1, 0, Step::Fault(Reason::BadLength)),

@@ -1,48 +1,476 @@
 -- What a reader has read once it went on over more bytes.
-use Rattle.std.proofs.Common.{◌≡◌, ℕ, ◌+◌, ◌-◌, ◌<◌, ◌≤◌, min, eqb, Bool, true, false, ◌||◌, List, [], ◌++◌, length, take, Option, Some, None, Result, Ok, Err, inl, inr, refl, sym, ap, subst, ◌∙◌, arith}
+use Rattle.std.proofs.Common.{◌≡◌, ◌⊎◌, ℕ, ◌+◌, ◌-◌, ◌<◌, ◌≤◌, min, Bool, true, false, cond, ◌||◌, List, [], ◌++◌, length, take, drop, Option, Some, None, Result, Ok, Err, inl, inr, refl, sym, ap, subst, ◌∙◌, append_assoc, arith}
 use Rattle.std.proofs.Math.Seq.{take-append-add}
-use Rattle.std.proofs.lemmas.Bool.{eqb-true, eqb-false}
-use Rattle.std.proofs.lemmas.List.{length-append, length-take, nil_from_length, take_min}
+use Rattle.std.proofs.lemmas.List.{length-append, length-take, length-drop, take_min, take_all}
 use Rattle.std.proofs.lemmas.List.Folds.{list_any-append}
 use Rattle.std.specs.Prelude.{OnOk, OnErr}
 use Rattle.std.specs.List.{list_any}
+use Rattle.std.specs.Result.{is_err}
 use Rattle.hprof_items.specs.declared.header.Header.{Header}
-use Rattle.hprof_items.specs.declared.step.Step.TheVariants.{Short, TooLong, Fault}
+use Rattle.hprof_items.specs.declared.head.Head.{Head}
+use Rattle.hprof_items.specs.declared.step.Step.{Step}
+use Rattle.hprof_items.specs.declared.step.Step.TheVariants.{Whole, Short, TooLong, Fault}
 use Rattle.hprof_items.specs.FactValue.{FactValue}
+use Rattle.hprof_items.specs.Head.{kind_of}
+use Rattle.hprof_items.specs.Reading.{head_at}
 use Rattle.hprof_stream.specs.declared.limits.Limits.{Limits}
 use Rattle.hprof_stream.specs.declared.part_fault.PartFault.{PartFault}
 use Rattle.hprof_stream.specs.declared.part_fault.PartFault.TheVariants as faults
 use Rattle.hprof_stream.specs.declared.part_reader.PartReader.{PartReader}
 use Rattle.hprof_stream.specs.declared.progress.Progress.{Progress}
+use Rattle.hprof_stream.specs.declared.rest.Rest.{Rest}
 use Rattle.hprof_stream.specs.declared.sink.SinkFault.{SinkFault}
 use Rattle.hprof_stream.specs.Part.{Stated, all_bytes, all_facts, is_end}
-use Rattle.hprof_stream.specs.Item.{Place, Start, header_before, place_behind, IsItem, AreItems, none, item_at}
+use Rattle.hprof_stream.specs.Item.{Place, Start, Between, Within, header_before, IsItem, AreItems, none, records_begun, is_skipped_kind, is_skipped_head, held_of, item_at}
 use Rattle.hprof_stream.specs.Fault.{Splits, is_whole, IsFirstFault, HasNoSettledFault, is_settled}
+use Rattle.hprof_stream.specs.Progress.{start_of, place_of}
+use Rattle.hprof_stream.specs.Rest.{passing_by, passing_of, IsWalkOf, IsRest, passed_len, rest_len}
 use Rattle.hprof_stream.specs.Run.{Run, became}
-use Rattle.hprof_stream.specs.Reader.{header_of, has_failed, header_count, HasRead, IsWithinItem, RanOver, RanUpTo, IsFeedFault, Feeds}
-use Rattle.hprof_stream.specs.Walking.{start_of, Walks, Stops, Halts, ReadsOn}
-use Rattle.hprof_stream.proofs.Walks.{all_facts-then, all_bytes-then, Walks-kept}
-use Rattle.hprof_stream.proofs.Refusals.{item_none}
-use Rattle.hprof_stream.proofs.Stepping.{Stops-more}
+use Rattle.hprof_stream.specs.Reader.{header_of, has_failed, HasRead, IsWithinItem, RanOver, RanUpTo, IsFeedFault, Feeds}
+use Rattle.hprof_stream.specs.Walking.{Walks, Stops, Halts, ReadsOn}
 use Rattle.hprof_stream.proofs.Faults.{Splits-then, fault_is_first, too_long_is_first, short_unsettled}
+use Rattle.hprof_stream.proofs.ItemLists.{AreItems-then, all_bytes-then, all_facts-then, records_begun-then, header_at_place, items_headers}
+use Rattle.hprof_stream.proofs.Refusals.{item_stays, item_stays_long}
+use Rattle.hprof_stream.proofs.Rests.{IsRest-none}
+use Rattle.hprof_stream.proofs.Walks.{Walks-at}
 
--- nothing was read
-pub HasRead-none : (limits : Limits) (reader : PartReader) → reader.progress ≡ start_of limits → reader.held.items ≡ [] → has_failed reader ≡ false → HasRead limits [] [] reader
-HasRead-none limits reader start held sound =
-    let header : header_of reader ≡ None = ap (λ (p : Progress). p.header) start in
+-- ---- what is kept of an item
+
+-- of one that is passed over what was seen is counted, of another its bytes are held
+kept_if : (test : Bool) (left : ℕ) (bytes : List ℕ)
+    → passed_len (cond test (Some (record { seen = length bytes; left = left })) None) + length (cond test [] bytes) ≡ length bytes
+kept_if true left bytes = omega arith
+kept_if false left bytes = omega arith
+
+kept_behind : (step : Step Head) (bytes : List ℕ)
+    → passed_len (passing_by step (length bytes)) + length (cond (is_skipped_head step) [] bytes) ≡ length bytes
+kept_behind (Whole head n) bytes = kept_if (is_skipped_kind (kind_of head.tag)) (9 + head.length - length bytes) bytes
+kept_behind Short bytes = omega arith
+kept_behind TooLong bytes = omega arith
+kept_behind (Fault reason) bytes = omega arith
+
+kept_at : (longest : ℕ) (place : Place) (bytes : List ℕ) → passed_len (passing_of longest place bytes) + length
+    (held_of longest place bytes) ≡ length bytes
+kept_at longest Start bytes = omega arith
+kept_at longest (Between header) bytes = kept_behind (head_at header.ids longest bytes) bytes
+kept_at longest (Within header room) bytes = omega arith
+
+-- what is kept stands for as many bytes as are there
+pub rest_len_is : (longest : ℕ) (place : Place) (bytes : List ℕ) (rest : Rest) → IsRest longest place bytes rest
+    → rest_len rest ≡ length bytes
+rest_len_is longest place bytes rest is = omega (arith, ap passed_len is.passing, ap length is.held, kept_at longest place bytes)
+
+-- ---- a reader that was fed nothing
+
+no_items_at : (longest : ℕ) (place : Place) → Start ≡ place → (are : AreItems longest Start [] place) × (records_begun are ≡ 0)
+no_items_at longest place e = subst (λ (p : Place). (are : AreItems longest Start [] p) × (records_begun are ≡ 0)) e (none, refl)
+
+pub HasRead-none : (limits : Limits) (reader : PartReader) → reader.progress ≡ start_of limits → reader.rest.held.items ≡ []
+    → reader.rest.passing ≡ None → has_failed reader ≡ false → HasRead limits [] [] reader
+HasRead-none limits reader begun held passing sound =
+    let place : Place = place_of reader.progress in
+    let at : Start ≡ place = ap place_of (sym begun) in
+    let are = no_items_at limits.max_item place at in
     record {
-      has_limits = ap (λ (p : Progress). p.limits) start;
+      has_limits = ap (λ (p : Progress). p.limits) begun;
       sound = sound;
       within = omega arith;
       items = [];
-      splits = record { each = subst (λ (h : Option Header). AreItems limits.max_item Start [] (place_behind h)) (sym header) none; parts = sym held };
-      unfinished = ap (item_at limits.max_item (place_behind (header_of reader))) held ∙ item_none limits.max_item (place_behind (header_of reader));
+      unfinished = [];
+      splits = record { each = are.0; parts = refl };
+      keeps = IsRest-none limits.max_item place reader.rest held passing
+          (subst (λ (p : Place). IsWalkOf limits.max_item p [] reader.rest.walk) at tt);
       has_facts = refl;
-      offset = ap (λ (p : Progress). p.at) start;
-      record_count = omega (arith, ap (λ (p : Progress). p.records) start, ap header_count header);
-      fact_count = ap (λ (p : Progress). p.facts) start;
-      has_end = ap (λ (p : Progress). p.ended) start;
+      offset = ap (λ (p : Progress). p.at) begun;
+      record_count = ap (λ (p : Progress). p.records) begun ∙ sym are.1;
+      fact_count = ap (λ (p : Progress). p.facts) begun;
+      has_end = ap (λ (p : Progress). p.ended) begun;
     }
+
+-- what it keeps, under its own limits
+pub front_kept : (limits : Limits) (bytes : List ℕ) (facts : List FactValue) (reader : PartReader)
+    → (read : HasRead limits bytes facts reader)
+    → IsRest reader.progress.limits.max_item (place_of reader.progress) read.unfinished reader.rest
+front_kept limits bytes facts reader read =
+    subst (λ (l : Limits). IsRest l.max_item (place_of reader.progress) read.unfinished reader.rest) (sym read.has_limits) read.keeps
+
+-- ---- the room for a piece
+
+-- as many bytes as there were are those of the items and those of the item that is not whole
+pub read_length : (limits : Limits) (bytes : List ℕ) (facts : List FactValue) (reader : PartReader) → HasRead limits bytes facts reader
+    → length bytes ≡ reader.progress.at + rest_len reader.rest
+read_length limits bytes facts reader read =
+    omega (
+      arith,
+      read.offset,
+      ap length read.splits.parts,
+      length-append (all_bytes read.items) read.unfinished,
+      rest_len_is limits.max_item (place_of reader.progress) read.unfinished reader.rest read.keeps,
+    )
+
+-- as many bytes of a piece as there is room for
+pub taken_is : (limit : ℕ) (bytes piece : List ℕ) → length bytes ≤ limit
+    → take limit (bytes ++ piece) ≡ bytes ++ take (limit - length bytes) piece
+taken_is limit bytes piece within =
+    let split : limit ≡ length bytes + (limit - length bytes) = omega arith in
+    ap (λ (n : ℕ). take n (bytes ++ piece)) split ∙ take-append-add bytes piece (limit - length bytes)
+
+-- what is taken of a piece is within the limit, and nothing of a piece that has nothing
+taken_within : (limit : ℕ) (bytes piece taken : List ℕ) → bytes ++ taken ≡ take limit (bytes ++ piece)
+    → length bytes + length taken ≤ limit
+taken_within limit bytes piece taken e = omega (arith, ap length e, length-append bytes taken, length-take limit (bytes ++ piece))
+
+some_of_taken : (limit : ℕ) (bytes piece taken : List ℕ) → bytes ++ taken ≡ take limit (bytes ++ piece) → 0 < length taken
+    → 0 < length piece
+some_of_taken limit bytes piece taken e some =
+    omega (arith, some, ap length e, length-append bytes taken, length-append bytes piece, length-take limit (bytes ++ piece))
+
+-- how many bytes more there may be
+abbrev pub room_of : PartReader → ℕ
+room_of reader = reader.progress.limits.max_bytes - reader.progress.at - rest_len reader.rest
+
+max_bytes_of : (limits : Limits) (bytes : List ℕ) (facts : List FactValue) (reader : PartReader) → HasRead limits bytes facts reader
+    → reader.progress.limits.max_bytes ≡ limits.max_bytes
+max_bytes_of limits bytes facts reader read = ap (λ (l : Limits). l.max_bytes) read.has_limits
+
+-- a reader takes as many bytes as there is room for
+pub taken_whole : (limits : Limits) (bytes piece taken : List ℕ) (facts : List FactValue) (reader : PartReader) (count : ℕ)
+    → HasRead limits bytes facts reader → count ≡ min (room_of reader) (length piece) → taken ≡ take count piece
+    → bytes ++ taken ≡ take limits.max_bytes (bytes ++ piece)
+taken_whole limits bytes piece taken facts reader count read is e =
+    let room : ℕ = limits.max_bytes - length bytes in
+    let same : count ≡ min room (length piece) =
+    omega (arith, is, read_length limits bytes facts reader read, max_bytes_of limits bytes facts reader read) in
+    ap (λ (t : List ℕ). bytes ++ t) (e ∙ ap (λ (n : ℕ). take n piece) same ∙ take_min room piece)
+    ∙ sym (taken_is limits.max_bytes bytes piece read.within)
+
+-- where it leaves some, there are more than the limit
+pub taken_some : (limits : Limits) (bytes piece : List ℕ) (facts : List FactValue) (reader : PartReader) (count : ℕ)
+    → HasRead limits bytes facts reader → count ≡ min (room_of reader) (length piece) → count < length piece
+    → limits.max_bytes < length (bytes ++ piece)
+taken_some limits bytes piece facts reader count read is lt =
+    omega (
+      arith,
+      is,
+      lt,
+      read_length limits bytes facts reader read,
+      max_bytes_of limits bytes facts reader read,
+      read.within,
+      length-append bytes piece,
+    )
+
+-- where it leaves none, there are no more than the limit
+pub taken_all : (limits : Limits) (bytes piece : List ℕ) (facts : List FactValue) (reader : PartReader) (count : ℕ)
+    → HasRead limits bytes facts reader → count ≡ min (room_of reader) (length piece) → length piece ≤ count
+    → length (bytes ++ piece) ≤ limits.max_bytes
+taken_all limits bytes piece facts reader count read is le =
+    omega (
+      arith,
+      is,
+      le,
+      read_length limits bytes facts reader read,
+      max_bytes_of limits bytes facts reader read,
+      read.within,
+      length-append bytes piece,
+    )
+
+-- and then it takes the whole piece
+pub takes_all : (piece taken excess : List ℕ) (count : ℕ) → taken ≡ take count piece → excess ≡ drop count piece → excess ≡ []
+    → (length piece ≤ count) × (taken ≡ piece)
+takes_all piece taken excess count front back nothing =
+    let le : length piece ≤ count = omega (arith, ap length nothing, ap length back, length-drop count piece) in
+    (le, front ∙ take_all count piece le)
+
+-- ---- what a walk read
+
+module _ {S : Type 0} (begins : S → Header → S → Type 0) (steps : S → FactValue → S → Type 0) where
+  -- a header that was read stays
+  walk_kept : (longest : ℕ) (from to : Progress) (bytes rest : List ℕ) (old new : S) (header : Header)
+      → Walks begins steps longest from bytes old to rest new → from.header ≡ Some header → to.header ≡ Some header
+  walk_kept longest from to bytes rest old new header walk e =
+      (items_headers longest from.header to.header from.room to.room walk.items walk.each).1 header e
+
+  -- what was read of the bytes: whole items, and a rest; these facts were handed to the sink before
+  pub record HasWalked (limits : Limits) (bytes : List ℕ) (facts : List FactValue) (before : Option Header) (to : Progress)
+      (rest : List ℕ) (old new : S) : Type 0 where
+    pub has_limits : to.limits ≡ limits
+    pub items : List Stated
+    pub splits : Splits limits.max_item bytes items (place_of to) rest
+    pub handed : List FactValue
+    pub has_facts : all_facts items ≡ facts ++ handed
+    pub offset : to.at ≡ length (all_bytes items)
+    pub record_count : to.records ≡ records_begun splits.each
+    pub fact_count : to.facts ≡ length (facts ++ handed)
+    pub has_end : to.ended ≡ list_any is_end items
+    pub ran : Run begins steps old (became before to.header) handed new
+
+  -- a walk from where a reader stands
+  pub HasWalked-on : (limits : Limits) (bytes taken : List ℕ) (facts : List FactValue) (from : PartReader) (to : Progress) (rest : List ℕ)
+      (old new : S) → (read : HasRead limits bytes facts from)
+      → Walks begins steps from.progress.limits.max_item from.progress (read.unfinished ++ taken) old to rest new
+      → HasWalked limits (bytes ++ taken) facts (header_of from) to rest old new
+  HasWalked-on limits bytes taken facts from to rest old new read walk =
+      let longest : ℕ = limits.max_item in
+      let here : Place = place_of from.progress in
+      let there : Place = place_of to in
+      let on : Walks begins steps longest from.progress (read.unfinished ++ taken) old to rest new =
+      Walks-at begins steps from.progress.limits.max_item longest from.progress to (read.unfinished ++ taken) rest old new
+      (ap (λ (l : Limits). l.max_item) read.has_limits) walk in
+      let whole = Splits-then longest bytes taken read.items on.items here there read.unfinished rest read.splits on.each on.parts in
+      let sum : to.records ≡ records_begun read.splits.each + records_begun on.each = omega (arith, on.record_count, read.record_count) in
+      record {
+        has_limits = on.same_limits ∙ read.has_limits;
+        items = read.items ++ on.items;
+        splits = record {
+          each = AreItems-then longest Start here there read.items on.items read.splits.each on.each;
+          parts = whole.parts;
+        };
+        handed = all_facts on.items;
+        has_facts = all_facts-then read.items on.items ∙ ap (λ (f : List FactValue). f ++ all_facts on.items) read.has_facts;
+        offset = omega (
+          arith,
+          on.offset,
+          read.offset,
+          ap length (all_bytes-then read.items on.items),
+          length-append (all_bytes read.items) (all_bytes on.items),
+        );
+        record_count = sum ∙ sym (records_begun-then longest Start here there read.items on.items read.splits.each on.each);
+        fact_count = omega (arith, on.fact_count, read.fact_count, length-append facts (all_facts on.items));
+        has_end = on.has_end ∙ ap (λ (b : Bool). b || list_any is_end on.items) read.has_end
+            ∙ sym (list_any-append is_end read.items on.items);
+        ran = on.ran;
+      }
+
+  module _ (limits : Limits) (bytes : List ℕ) (facts : List FactValue) (before : Option Header) (to : Progress) (rest : List ℕ)
+      (old new : S)
+      (walked : HasWalked limits bytes facts before to rest old new) where
+    -- a rest that does not begin with an item: the sink ran over all that is whole
+    pub RanOver-walked : is_whole (item_at limits.max_item (place_of to) rest) ≡ false
+        → RanOver begins steps limits.max_item bytes facts before to.header old new
+    RanOver-walked stops = record {
+      handed = walked.handed;
+      states = record {
+        items = walked.items;
+        place = place_of to;
+        rest = rest;
+        splits = walked.splits;
+        ends = stops;
+        has_header = header_at_place to.header to.room;
+        has_facts = walked.has_facts;
+      };
+      ran = walked.ran;
+    }
+
+    -- the rest begins with a whole item: the sink ran over the items in front of it
+    pub RanUpTo-walked : (one : Stated) (next : Place) (back : List ℕ) (told : Option Header)
+        → ((header : Header) → before ≡ Some header → to.header ≡ Some header) → IsItem limits.max_item (place_of to) one next
+        → header_before next ≡ told → (one.facts ≡ [] → to.header ≡ None) → rest ≡ one.bytes ++ back
+        → RanUpTo begins steps limits.max_item bytes facts before told old new
+    RanUpTo-walked one next back told stays is tells given parts =
+        let at : header_before (place_of to) ≡ to.header = header_at_place to.header to.room in
+        record {
+          whole = record {
+            items = walked.items;
+            before = place_of to;
+            last = one;
+            next = next;
+            back = back;
+            each = walked.splits.each;
+            item = is;
+            has_told = tells;
+            given = λ bare. at ∙ given bare;
+            parts = walked.splits.parts ∙ ap (λ (r : List ℕ). all_bytes walked.items ++ r) parts;
+          };
+          stays = λ header e. at ∙ stays header e;
+          handed = walked.handed;
+          has_facts = walked.has_facts;
+          ran = subst (λ (h : Option Header). Run begins steps old (became before h) walked.handed new) (sym at) walked.ran;
+        }
+
+    -- the rest needs more bytes, and some of it is to be held
+    pub IsWithinItem-walked : item_at limits.max_item (place_of to) rest ≡ Short
+        → 0 < length (held_of limits.max_item (place_of to) rest) → IsWithinItem limits.max_item bytes
+    IsWithinItem-walked short some = (
+      length (held_of limits.max_item (place_of to) rest),
+      record { items = walked.items; place = place_of to; rest = rest; splits = walked.splits; short = short; has_count = refl },
+      some,
+    )
+
+  -- a reader that stands there and keeps the rest
+  pub HasRead-walked : (limits : Limits) (bytes : List ℕ) (facts : List FactValue) (before : Option Header) (rest : List ℕ) (old new : S)
+      (reader : PartReader) (walked : HasWalked limits bytes facts before reader.progress rest old new)
+      → has_failed reader ≡ false → IsRest limits.max_item (place_of reader.progress) rest reader.rest → length bytes ≤ limits.max_bytes
+      → HasRead limits bytes (facts ++ walked.handed) reader
+  HasRead-walked limits bytes facts before rest old new reader walked sound keeps within = record {
+    has_limits = walked.has_limits;
+    sound = sound;
+    within = within;
+    items = walked.items;
+    unfinished = rest;
+    splits = walked.splits;
+    keeps = keeps;
+    has_facts = walked.has_facts;
+    offset = walked.offset;
+    record_count = walked.record_count;
+    fact_count = walked.fact_count;
+    has_end = walked.has_end;
+  }
+
+-- a reader that holds some bytes
+pub IsWithinItem-read : (limits : Limits) (bytes : List ℕ) (facts : List FactValue) (reader : PartReader)
+    → (read : HasRead limits bytes facts reader)
+    → 0 < length (held_of limits.max_item (place_of reader.progress) read.unfinished) → IsWithinItem limits.max_item bytes
+IsWithinItem-read limits bytes facts reader read some = (
+  length (held_of limits.max_item (place_of reader.progress) read.unfinished),
+  record {
+    items = read.items;
+    place = place_of reader.progress;
+    rest = read.unfinished;
+    splits = read.splits;
+    short = read.keeps.short;
+    has_count = refl;
+  },
+  some,
+)
+
+-- ---- what was refused
+
+module _ {S : Type 0} (begins : S → Header → S → Type 0) (steps : S → FactValue → S → Type 0) (refuses : S → SinkFault → Type 0)
+    (failed : S → Bool) where
+  -- what was refused stays so, whatever follows
+  Stops-more : (progress : Progress) (bytes more : List ℕ) (old new : S) (fault : PartFault) (told : Option Header)
+      → Stops refuses failed progress bytes old fault told new → Stops refuses failed progress (bytes ++ more) old fault told new
+  Stops-more progress bytes more old new (faults.Malformed at reason) told stop =
+      (item_stays progress.limits.max_item (place_of progress) bytes more reason stop.0, stop.1, stop.2, stop.3)
+  Stops-more progress bytes more old new (faults.ItemTooLong at) told stop =
+      (item_stays_long progress.limits.max_item (place_of progress) bytes more stop.0, stop.1, stop.2, stop.3)
+  Stops-more progress bytes more old new (faults.Sink fault) told stop = (
+    stop.0,
+    stop.1,
+    stop.2 ++ more,
+    stop.3,
+    stop.4,
+    stop.5,
+    ap (λ (b : List ℕ). b ++ more) stop.6 ∙ append_assoc stop.0.bytes stop.2 more,
+    stop.7,
+  )
+  Stops-more progress bytes more old new faults.OutOfMemory told stop = absurd stop
+  Stops-more progress bytes more old new faults.Failed told stop = absurd stop
+  Stops-more progress bytes more old new faults.Read told stop = absurd stop
+  Stops-more progress bytes more old new faults.ReadsExceeded told stop = absurd stop
+  Stops-more progress bytes more old new faults.BytesExceeded told stop = absurd stop
+
+  -- the rest was refused
+  IsFeedFault-stopped : (limits : Limits) (bytes whole : List ℕ) (facts : List FactValue) (before told : Option Header) (at : Progress)
+      (rest : List ℕ) (old mid new : S) (fault : PartFault)
+      → whole ≡ take limits.max_bytes bytes → HasWalked begins steps limits whole facts before at rest old mid
+      → ((header : Header) → before ≡ Some header → at.header ≡ Some header) → Stops refuses failed at rest mid fault told new
+      → IsFeedFault begins steps refuses failed limits bytes facts before told old fault new
+  IsFeedFault-stopped limits bytes whole facts before told at rest old mid new (faults.Malformed n reason) taken walked stays stop =
+      let place : Place = place_of at in
+      let test : item_at limits.max_item place rest ≡ Fault reason =
+      subst (λ (l : Limits). item_at l.max_item place rest ≡ Fault reason) walked.has_limits stop.0 in
+      let first = fault_is_first limits.max_item whole walked.items place rest reason walked.splits test in
+      let ran = RanOver-walked begins steps limits whole facts before at rest old mid walked (ap is_whole test) in
+      subst (λ (b : List ℕ). IsFirstFault limits.max_item b (faults.Malformed n reason) × (is_settled (faults.Malformed n reason) ≡ true)
+      × RanOver begins steps limits.max_item b facts before told old new) taken (
+        subst (λ (k : ℕ). IsFirstFault limits.max_item whole (faults.Malformed k reason)) (sym (stop.1 ∙ walked.offset)) first.0,
+        first.1,
+        subst (λ (h : Option Header). RanOver begins steps limits.max_item whole facts before h old new) (sym stop.2)
+            (subst (RanOver begins steps limits.max_item whole facts before at.header old) stop.3 ran),
+      )
+  IsFeedFault-stopped limits bytes whole facts before told at rest old mid new (faults.ItemTooLong n) taken walked stays stop =
+      let place : Place = place_of at in
+      let test : item_at limits.max_item place rest ≡ TooLong =
+      subst (λ (l : Limits). item_at l.max_item place rest ≡ TooLong) walked.has_limits stop.0 in
+      let first = too_long_is_first limits.max_item whole walked.items place rest walked.splits test in
+      let ran = RanOver-walked begins steps limits whole facts before at rest old mid walked (ap is_whole test) in
+      subst (λ (b : List ℕ). IsFirstFault limits.max_item b (faults.ItemTooLong n) × (is_settled (faults.ItemTooLong n) ≡ true)
+      × RanOver begins steps limits.max_item b facts before told old new) taken (
+        subst (λ (k : ℕ). IsFirstFault limits.max_item whole (faults.ItemTooLong k)) (sym (stop.1 ∙ walked.offset)) first,
+        refl,
+        subst (λ (h : Option Header). RanOver begins steps limits.max_item whole facts before h old new) (sym stop.2)
+            (subst (RanOver begins steps limits.max_item whole facts before at.header old) stop.3 ran),
+      )
+  IsFeedFault-stopped limits bytes whole facts before told at rest old mid new (faults.Sink fault) taken walked stays stop =
+      let is : IsItem limits.max_item (place_of at) stop.0 stop.1 =
+      subst (λ (l : Limits). IsItem l.max_item (place_of at) stop.0 stop.1) walked.has_limits stop.3 in
+      let ran = RanUpTo-walked begins steps limits whole facts before at rest old mid walked stop.0 stop.1 stop.2 told stays is stop.4
+      stop.5 stop.6 in
+      (mid, subst (λ (b : List ℕ). RanUpTo begins steps limits.max_item b facts before told old mid) taken ran, stop.7)
+  IsFeedFault-stopped limits bytes whole facts before told at rest old mid new faults.OutOfMemory taken walked stays stop = absurd stop
+  IsFeedFault-stopped limits bytes whole facts before told at rest old mid new faults.Failed taken walked stays stop = absurd stop
+  IsFeedFault-stopped limits bytes whole facts before told at rest old mid new faults.Read taken walked stays stop = absurd stop
+  IsFeedFault-stopped limits bytes whole facts before told at rest old mid new faults.ReadsExceeded taken walked stays stop = absurd stop
+  IsFeedFault-stopped limits bytes whole facts before told at rest old mid new faults.BytesExceeded taken walked stays stop = absurd stop
+
+  -- an item was refused
+  feed_halts : (limits : Limits) (bytes piece taken : List ℕ) (facts : List FactValue) (from : PartReader) (at : Progress)
+      (told : Option Header) (old new : S) (fault : PartFault)
+      → (read : HasRead limits bytes facts from) → bytes ++ taken ≡ take limits.max_bytes (bytes ++ piece)
+      → Halts begins steps refuses failed from.progress (read.unfinished ++ taken) old fault at new → told ≡ at.header
+      → IsFeedFault begins steps refuses failed limits (bytes ++ piece) facts (header_of from) told old fault new
+  feed_halts limits bytes piece taken facts from at told old new fault read whole halts tells =
+      let left : List ℕ = halts.shown ++ halts.rest in
+      let walked = HasWalked-on begins steps limits bytes taken facts from halts.at left old halts.mid read halts.walked in
+      subst (λ (h : Option Header). IsFeedFault begins steps refuses failed limits (bytes ++ piece) facts (header_of from) h old fault new)
+      (sym tells)
+      (IsFeedFault-stopped limits (bytes ++ piece) (bytes ++ taken) facts (header_of from) at.header halts.at left old halts.mid new fault
+      whole walked
+      (λ header e. walk_kept begins steps from.progress.limits.max_item from.progress halts.at (read.unfinished ++ taken) left old halts.mid
+      header halts.walked e)
+      (Stops-more halts.at halts.shown halts.rest halts.mid new fault at.header halts.stops))
+
+  -- reading on was refused
+  --   at, rest: where it stopped
+  pub Feeds-refused : (limits : Limits) (bytes piece taken : List ℕ) (facts : List FactValue) (from to : PartReader) (at : Progress)
+      (rest : Rest) (old new : S) (fault : PartFault)
+      → (read : HasRead limits bytes facts from) → bytes ++ taken ≡ take limits.max_bytes (bytes ++ piece)
+      → ReadsOn begins steps refuses failed from.progress read.unfinished taken old (Err fault) at rest new → header_of to ≡ at.header
+      → Feeds begins steps refuses failed limits bytes facts from piece old (Err fault) to new
+  Feeds-refused limits bytes piece taken facts from to at rest old new (faults.Malformed n reason) read whole on tells =
+      feed_halts limits bytes piece taken facts from at (header_of to) old new (faults.Malformed n reason) read whole on tells
+  Feeds-refused limits bytes piece taken facts from to at rest old new (faults.ItemTooLong n) read whole on tells =
+      feed_halts limits bytes piece taken facts from at (header_of to) old new (faults.ItemTooLong n) read whole on tells
+  Feeds-refused limits bytes piece taken facts from to at rest old new (faults.Sink fault) read whole on tells =
+      feed_halts limits bytes piece taken facts from at (header_of to) old new (faults.Sink fault) read whole on tells
+  Feeds-refused limits bytes piece taken facts from to at rest old new faults.OutOfMemory read whole on tells =
+      let holds : 0 < length (held_of limits.max_item (place_of from.progress) read.unfinished) =
+      subst (λ (l : Limits). 0 < length (held_of l.max_item (place_of from.progress) read.unfinished)) read.has_limits on.holds in (
+        some_of_taken limits.max_bytes bytes piece taken whole on.some,
+        inr (
+          omega (arith, taken_within limits.max_bytes bytes piece taken whole, on.some),
+          IsWithinItem-read limits bytes facts from read holds,
+          tells ∙ ap (λ (p : Progress). p.header) on.stands,
+          on.same,
+        ),
+      )
+  Feeds-refused limits bytes piece taken facts from to at rest old new faults.Failed read whole on tells = absurd on.stops
+  Feeds-refused limits bytes piece taken facts from to at rest old new faults.Read read whole on tells = absurd on.stops
+  Feeds-refused limits bytes piece taken facts from to at rest old new faults.ReadsExceeded read whole on tells = absurd on.stops
+  Feeds-refused limits bytes piece taken facts from to at rest old new faults.BytesExceeded read whole on tells = absurd on.stops
+
+  -- there are more bytes than the limit, and no item is refused
+  pub IsFeedFault-excess : (limits : Limits) (bytes piece taken left : List ℕ) (facts : List FactValue) (from : PartReader) (at : Progress)
+      (told : Option Header) (rest : Rest) (old new : S)
+      → (read : HasRead limits bytes facts from) → bytes ++ taken ≡ take limits.max_bytes (bytes ++ piece)
+      → limits.max_bytes < length (bytes ++ piece)
+      → ReadsOn begins steps refuses failed from.progress read.unfinished taken old (Ok left) at rest new → told ≡ at.header
+      → IsFeedFault begins steps refuses failed limits (bytes ++ piece) facts (header_of from) told old faults.BytesExceeded new
+  IsFeedFault-excess limits bytes piece taken left facts from at told rest old new read whole many on tells =
+      let place : Place = place_of at in
+      let behind : List ℕ = on.0 ++ left in
+      let walked = HasWalked-on begins steps limits bytes taken facts from at behind old new read on.1 in
+      let short : item_at limits.max_item place behind ≡ Short =
+      subst (λ (l : Limits). item_at l.max_item place behind ≡ Short) read.has_limits on.3 in
+      let over : RanOver begins steps limits.max_item (bytes ++ taken) facts (header_of from) told old new =
+      subst (λ (h : Option Header). RanOver begins steps limits.max_item (bytes ++ taken) facts (header_of from) h old new) (sym tells)
+      (RanOver-walked begins steps limits (bytes ++ taken) facts (header_of from) at behind old new walked (ap is_whole short)) in
+      subst (λ (b : List ℕ). (limits.max_bytes < length (bytes ++ piece)) × HasNoSettledFault limits.max_item b
+      × RanOver begins steps limits.max_item b facts (header_of from) told old new) whole
+      (many, short_unsettled limits.max_item (bytes ++ taken) walked.items place behind walked.splits short, over)
+
+-- ---- what is left was kept
 
 -- a call that answers nothing but a fault
 abbrev refused : PartFault → Result (Unit {0}) PartFault
@@ -52,267 +480,79 @@ refused fault = Err fault
 out_of_memory : (fault : PartFault) → refused fault ≡ refused faults.OutOfMemory → faults.OutOfMemory ≡ fault
 out_of_memory fault e = cc
 
--- a list whose length was tested
-pub none_left : (items : List ℕ) (len : ℕ) (test : Bool) → test ≡ true → test ≡ eqb len 0 → len ≡ length items → items ≡ []
-none_left items len test holds is same = nil_from_length items (omega (arith, same, eqb-true len 0 (sym is ∙ holds)))
+-- what is left is kept behind what was kept, of an item that is not whole
+abbrev pub KeepsLeft : Progress → Rest → (left : List ℕ) → Rest → Type 0
+KeepsLeft progress from left to =
+    (still : List ℕ) → IsRest progress.limits.max_item (place_of progress) still from
+    → item_at progress.limits.max_item (place_of progress) (still ++ left) ≡ Short → (still ≡ []) ⊎ (left ≡ [])
+    → IsRest progress.limits.max_item (place_of progress) (still ++ left) to
 
--- a list that was found to have more
-pub some_left : (items : List ℕ) (len : ℕ) (test : Bool) → test ≡ false → test ≡ eqb len 0 → len ≡ length items → 0 < length items
-some_left items len test fails is same = let some = eqb-false len 0 (sym is ∙ fails) in omega (arith, same, some)
+-- there was no memory to hold it
+abbrev pub CannotHold : Progress → (left : List ℕ) → Result (Unit {0}) PartFault → Type 0
+CannotHold progress left result =
+    (result ≡ Err faults.OutOfMemory) × (0 < length left)
+    × ((still : List ℕ) → (still ≡ []) ⊎ (left ≡ [])
+    → 0 < length (held_of progress.limits.max_item (place_of progress) (still ++ left)))
 
--- no bytes are no item yet
-pub none_short : (longest : ℕ) (place : Place) (held : List ℕ) → held ≡ [] → item_at longest place held ≡ Short
-none_short longest place held nothing = ap (item_at longest place) nothing ∙ item_none longest place
+module _ {S : Type 0} (begins : S → Header → S → Type 0) (steps : S → FactValue → S → Type 0) (refuses : S → SinkFault → Type 0)
+    (failed : S → Bool) (limits : Limits) (bytes piece taken left : List ℕ) (facts : List FactValue) (from to : PartReader) (at : Progress)
+    (rest : Rest) (old new : S) (read : HasRead limits bytes facts from) (within : length (bytes ++ piece) ≤ limits.max_bytes)
+    (all : taken ≡ piece) (reads : ReadsOn begins steps refuses failed from.progress read.unfinished taken old (Ok left) at rest new) where
+  on : ReadsOn begins steps refuses failed from.progress read.unfinished piece old (Ok left) at rest new
+  on =
+      subst (λ (t : List ℕ). ReadsOn begins steps refuses failed from.progress read.unfinished t old (Ok left) at rest new) all reads
 
--- a header that was read before a place
-pub header_at_place : (header : Option Header) → header_before (place_behind header) ≡ header
-header_at_place None = refl
-header_at_place (Some header) = refl
+  -- what was read before what is left
+  walked : HasWalked begins steps limits (bytes ++ piece) facts (header_of from) at (on.0 ++ left) old new
+  walked = HasWalked-on begins steps limits bytes piece facts from at (on.0 ++ left) old new read on.1
 
--- as many bytes of a piece as there is room for
-pub taken_is : (limit : ℕ) (bytes piece : List ℕ) → length bytes ≤ limit → take limit (bytes ++ piece) ≡ bytes ++ take (limit - length bytes) piece
-taken_is limit bytes piece within =
-    let split : limit ≡ length bytes + (limit - length bytes) = omega arith in
-    ap (λ (n : ℕ). take n (bytes ++ piece)) split ∙ take-append-add bytes piece (limit - length bytes)
+  short : item_at limits.max_item (place_of at) (on.0 ++ left) ≡ Short
+  short = subst (λ (l : Limits). item_at l.max_item (place_of at) (on.0 ++ left) ≡ Short) read.has_limits on.3
 
--- what is taken of a piece is within the limit, and nothing of a piece that has nothing
-taken_within : (limit : ℕ) (bytes piece taken : List ℕ) → bytes ++ taken ≡ take limit (bytes ++ piece) → length bytes + length taken ≤ limit
-taken_within limit bytes piece taken e = omega (arith, ap length e, length-append bytes taken, length-take limit (bytes ++ piece))
+  -- it is kept
+  keeps_left : KeepsLeft at rest left to.rest → IsRest limits.max_item (place_of at) (on.0 ++ left) to.rest
+  keeps_left kept =
+      let here : IsRest at.limits.max_item (place_of at) on.0 rest =
+      subst (λ (l : Limits). IsRest l.max_item (place_of at) on.0 rest) (read.has_limits ∙ sym walked.has_limits) on.2 in
+      let still_short : item_at at.limits.max_item (place_of at) (on.0 ++ left) ≡ Short =
+      subst (λ (l : Limits). item_at l.max_item (place_of at) (on.0 ++ left) ≡ Short) (sym walked.has_limits) short in
+      subst (λ (l : Limits). IsRest l.max_item (place_of at) (on.0 ++ left) to.rest) walked.has_limits (kept on.0 here still_short on.4)
 
-some_of_taken : (limit : ℕ) (bytes piece taken : List ℕ) → bytes ++ taken ≡ take limit (bytes ++ piece) → 0 < length taken → 0 < length piece
-some_of_taken limit bytes piece taken e some = omega (arith, some, ap length e, length-append bytes taken, length-append bytes piece, length-take limit (bytes ++ piece))
-
--- as many bytes as there were are those of the items and those that are held
-read_length : (limits : Limits) (bytes : List ℕ) (facts : List FactValue) (reader : PartReader) → HasRead limits bytes facts reader → length bytes ≡ reader.progress.at + length reader.held.items
-read_length limits bytes facts reader read = omega (arith, read.offset, ap length read.splits.parts, length-append (all_bytes read.items) reader.held.items)
-
--- a reader takes as many bytes as there is room for
-pub taken_whole : (limits : Limits) (bytes piece taken : List ℕ) (facts : List FactValue) (reader : PartReader) (count : ℕ) → HasRead limits bytes facts reader
-    → count ≡ min (reader.progress.limits.max_bytes - reader.progress.at - length reader.held.items) (length piece) → taken ≡ take count piece → bytes ++ taken ≡ take limits.max_bytes (bytes ++ piece)
-taken_whole limits bytes piece taken facts reader count read is e =
-    let room : ℕ = limits.max_bytes - length bytes in
-    let limit : reader.progress.limits.max_bytes ≡ limits.max_bytes = ap (λ (l : Limits). l.max_bytes) read.has_limits in
-    let same : count ≡ min room (length piece) = omega (arith, read_length limits bytes facts reader read) in
-    ap (λ (t : List ℕ). bytes ++ t) (e ∙ ap (λ (n : ℕ). take n piece) same ∙ take_min room piece) ∙ sym (taken_is limits.max_bytes bytes piece read.within)
-
--- where it leaves some, there are more than the limit
-pub taken_some : (limits : Limits) (bytes piece : List ℕ) (facts : List FactValue) (reader : PartReader) (count : ℕ) → HasRead limits bytes facts reader
-    → count ≡ min (reader.progress.limits.max_bytes - reader.progress.at - length reader.held.items) (length piece) → count < length piece → limits.max_bytes < length (bytes ++ piece)
-taken_some limits bytes piece facts reader count read is lt =
-    let limit : reader.progress.limits.max_bytes ≡ limits.max_bytes = ap (λ (l : Limits). l.max_bytes) read.has_limits in
-    omega (arith, read_length limits bytes facts reader read, read.within, length-append bytes piece)
-
--- where it leaves none, there are no more than the limit
-pub taken_all : (limits : Limits) (bytes piece : List ℕ) (facts : List FactValue) (reader : PartReader) (count : ℕ) → HasRead limits bytes facts reader
-    → count ≡ min (reader.progress.limits.max_bytes - reader.progress.at - length reader.held.items) (length piece) → length piece ≤ count → length (bytes ++ piece) ≤ limits.max_bytes
-taken_all limits bytes piece facts reader count read is le =
-    let limit : reader.progress.limits.max_bytes ≡ limits.max_bytes = ap (λ (l : Limits). l.max_bytes) read.has_limits in
-    omega (arith, read_length limits bytes facts reader read, read.within, length-append bytes piece)
-
--- a reader that holds some bytes
-pub IsWithinItem-read : (limits : Limits) (bytes : List ℕ) (facts : List FactValue) (reader : PartReader) → HasRead limits bytes facts reader → 0 < length reader.held.items → IsWithinItem limits.max_item bytes
-IsWithinItem-read limits bytes facts reader read some =
-    (length reader.held.items, record { items = read.items; place = place_behind (header_of reader); rest = reader.held.items; splits = read.splits; short = read.unfinished; has_count = refl }, some)
-
-module _ {S : Type 0} (begins : S → Header → S → Type 0) (steps : S → FactValue → S → Type 0) where
-  -- what was read of the bytes: whole items, and a rest; these facts were handed to the sink before
-  pub record HasWalked (limits : Limits) (bytes : List ℕ) (facts : List FactValue) (before : Option Header) (to : Progress) (rest : List ℕ) (old new : S) : Type 0 where
-    pub has_limits : to.limits ≡ limits
-    pub items : List Stated
-    pub splits : Splits limits.max_item bytes items (place_behind to.header) rest
-    pub handed : List FactValue
-    pub has_facts : all_facts items ≡ facts ++ handed
-    pub offset : to.at ≡ length (all_bytes items)
-    pub record_count : to.records + header_count to.header ≡ length items
-    pub fact_count : to.facts ≡ length (facts ++ handed)
-    pub has_end : to.ended ≡ list_any is_end items
-    pub ran : Run begins steps old (became before to.header) handed new
-
-  -- a walk from where a reader stands
-  pub HasWalked-on : (limits : Limits) (bytes taken : List ℕ) (facts : List FactValue) (from : PartReader) (to : Progress) (rest : List ℕ) (old new : S) → HasRead limits bytes facts from
-      → Walks begins steps from.progress (from.held.items ++ taken) old to rest new → HasWalked limits (bytes ++ taken) facts (header_of from) to rest old new
-  HasWalked-on limits bytes taken facts from to rest old new read walk =
-      let longest : ℕ = limits.max_item in
-      let items : List Stated = read.items ++ walk.items in
-      let each : AreItems longest (place_behind (header_of from)) walk.items (place_behind to.header) =
-      subst (λ (l : Limits). AreItems l.max_item (place_behind (header_of from)) walk.items (place_behind to.header)) read.has_limits walk.each in
-      let all : all_facts items ≡ facts ++ all_facts walk.items = all_facts-then read.items walk.items ∙ ap (λ (f : List FactValue). f ++ all_facts walk.items) read.has_facts in
-      record {
-        has_limits = walk.same_limits ∙ read.has_limits;
-        items = items;
-        splits = Splits-then longest bytes taken read.items walk.items (place_behind (header_of from)) (place_behind to.header) from.held.items rest read.splits each walk.parts;
-        handed = all_facts walk.items;
-        has_facts = all;
-        offset = omega (arith, walk.offset, read.offset, ap length (all_bytes-then read.items walk.items), length-append (all_bytes read.items) (all_bytes walk.items));
-        record_count = omega (arith, walk.record_count, read.record_count, length-append read.items walk.items);
-        fact_count = omega (arith, walk.fact_count, read.fact_count, length-append facts (all_facts walk.items));
-        has_end = walk.has_end ∙ ap (λ (b : Bool). b || list_any is_end walk.items) read.has_end ∙ sym (list_any-append is_end read.items walk.items);
-        ran = walk.ran;
-      }
-
-  -- a rest that does not begin with an item: the sink ran over all that is whole
-  pub RanOver-walked : (limits : Limits) (bytes : List ℕ) (facts : List FactValue) (before : Option Header) (to : Progress) (rest : List ℕ) (old new : S) → HasWalked limits bytes facts before to rest old new
-      → is_whole (item_at limits.max_item (place_behind to.header) rest) ≡ false → RanOver begins steps limits.max_item bytes facts before to.header old new
-  RanOver-walked limits bytes facts before to rest old new walked stops = record {
-    handed = walked.handed;
-    states = record { items = walked.items; place = place_behind to.header; rest = rest; splits = walked.splits; ends = stops; has_header = header_at_place to.header; has_facts = walked.has_facts };
-    ran = walked.ran;
-  }
-
-  -- the rest begins with a whole item: the sink ran over the items in front of it
-  pub RanUpTo-walked : (limits : Limits) (bytes : List ℕ) (facts : List FactValue) (before : Option Header) (at : Progress) (one : Stated) (back : List ℕ) (told : Option Header) (rest : List ℕ) (old new : S) → HasWalked limits bytes facts before at rest old new
-      → ((header : Header) → before ≡ Some header → at.header ≡ Some header) → IsItem limits.max_item (place_behind at.header) one (place_behind told) → (one.facts ≡ [] → at.header ≡ None) → rest ≡ one.bytes ++ back → RanUpTo begins steps limits.max_item bytes facts before told old new
-  RanUpTo-walked limits bytes facts before at one back told rest old new walked stays is given parts = record {
-    whole = record {
-      items = walked.items;
-      header = at.header;
-      last = one;
-      back = back;
-      each = walked.splits.each;
-      item = is;
-      given = given;
-      parts = walked.splits.parts ∙ ap (λ (r : List ℕ). all_bytes walked.items ++ r) parts;
-    };
-    stays = stays;
-    handed = walked.handed;
-    has_facts = walked.has_facts;
-    ran = walked.ran;
-  }
-
-  -- the rest needs more bytes
-  pub IsWithinItem-walked : (limits : Limits) (bytes : List ℕ) (facts : List FactValue) (before : Option Header) (to : Progress) (rest : List ℕ) (old new : S) → HasWalked limits bytes facts before to rest old new
-      → item_at limits.max_item (place_behind to.header) rest ≡ Short → 0 < length rest → IsWithinItem limits.max_item bytes
-  IsWithinItem-walked limits bytes facts before to rest old new walked short some =
-      (length rest, record { items = walked.items; place = place_behind to.header; rest = rest; splits = walked.splits; short = short; has_count = refl }, some)
-
-  -- a reader that stands there and holds the rest
-  pub HasRead-walked : (limits : Limits) (bytes : List ℕ) (facts : List FactValue) (before : Option Header) (to : Progress) (rest : List ℕ) (old new : S) (walked : HasWalked limits bytes facts before to rest old new) (reader : PartReader)
-      → reader.progress ≡ to → reader.held.items ≡ rest → has_failed reader ≡ false → item_at limits.max_item (place_behind to.header) rest ≡ Short → length bytes ≤ limits.max_bytes
-      → HasRead limits bytes (facts ++ walked.handed) reader
-  HasRead-walked limits bytes facts before to rest old new walked reader stands holds sound short within =
-      let header : to.header ≡ header_of reader = ap (λ (p : Progress). p.header) (sym stands) in
-      let splits : Splits limits.max_item bytes walked.items (place_behind (header_of reader)) reader.held.items =
-      subst (λ (h : Option Header). Splits limits.max_item bytes walked.items (place_behind h) reader.held.items) header
-      (subst (λ (r : List ℕ). Splits limits.max_item bytes walked.items (place_behind to.header) r) (sym holds) walked.splits) in
-      record {
-        has_limits = ap (λ (p : Progress). p.limits) stands ∙ walked.has_limits;
-        sound = sound;
-        within = within;
-        items = walked.items;
-        splits = splits;
-        unfinished = ap (λ (h : Option Header). item_at limits.max_item (place_behind h) reader.held.items) (sym header) ∙ ap (item_at limits.max_item (place_behind to.header)) holds ∙ short;
-        has_facts = walked.has_facts;
-        offset = ap (λ (p : Progress). p.at) stands ∙ walked.offset;
-        record_count = ap (λ (p : Progress). p.records + header_count p.header) stands ∙ walked.record_count;
-        fact_count = ap (λ (p : Progress). p.facts) stands ∙ walked.fact_count;
-        has_end = ap (λ (p : Progress). p.ended) stands ∙ walked.has_end;
-      }
-
-module _ {S : Type 0} (begins : S → Header → S → Type 0) (steps : S → FactValue → S → Type 0) (refuses : S → SinkFault → Type 0) (failed : S → Bool) where
-  -- the rest was refused
-  pub IsFeedFault-stopped : (limits : Limits) (bytes whole : List ℕ) (facts : List FactValue) (before told : Option Header) (at : Progress) (rest : List ℕ) (old mid new : S) (fault : PartFault)
-      → whole ≡ take limits.max_bytes bytes → HasWalked begins steps limits whole facts before at rest old mid → ((header : Header) → before ≡ Some header → at.header ≡ Some header) → Stops refuses failed at rest mid fault told new → IsFeedFault begins steps refuses failed limits bytes facts before told old fault new
-  IsFeedFault-stopped limits bytes whole facts before told at rest old mid new (faults.Malformed n reason) taken walked stays stop =
-      let place : Place = place_behind at.header in
-      let test : item_at limits.max_item place rest ≡ Fault reason = subst (λ (l : Limits). item_at l.max_item place rest ≡ Fault reason) walked.has_limits stop.0 in
-      let first = fault_is_first limits.max_item whole walked.items place rest reason walked.splits test in
-      let ran = RanOver-walked begins steps limits whole facts before at rest old mid walked (ap is_whole test) in
-      subst (λ (b : List ℕ). IsFirstFault limits.max_item b (faults.Malformed n reason) × (is_settled (faults.Malformed n reason) ≡ true) × RanOver begins steps limits.max_item b facts before told old new) taken (
-        subst (λ (k : ℕ). IsFirstFault limits.max_item whole (faults.Malformed k reason)) (sym (stop.1 ∙ walked.offset)) first.0,
-        first.1,
-        subst (λ (h : Option Header). RanOver begins steps limits.max_item whole facts before h old new) (sym stop.2) (subst (RanOver begins steps limits.max_item whole facts before at.header old) stop.3 ran),
+  pub Feeds-kept : (result : Result (Unit {0}) PartFault) → is_err result ≡ false → to.progress ≡ at → has_failed to ≡ false
+      → OnOk result (KeepsLeft at rest left to.rest) → Feeds begins steps refuses failed limits bytes facts from piece old result to new
+  Feeds-kept (Ok done) fine stands sound kept =
+      let both : HasWalked begins steps limits (bytes ++ piece) facts (header_of from) to.progress (on.0 ++ left) old new
+      × IsRest limits.max_item (place_of to.progress) (on.0 ++ left) to.rest =
+      subst (λ (p : Progress). HasWalked begins steps limits (bytes ++ piece) facts (header_of from) p (on.0 ++ left) old new
+      × IsRest limits.max_item (place_of p) (on.0 ++ left) to.rest) (sym stands) (walked, keeps_left kept) in (
+        both.0.handed,
+        HasRead-walked begins steps limits (bytes ++ piece) facts (header_of from) (on.0 ++ left) old new to both.0 sound both.1 within,
+        both.0.ran,
       )
-  IsFeedFault-stopped limits bytes whole facts before told at rest old mid new (faults.ItemTooLong n) taken walked stays stop =
-      let place : Place = place_behind at.header in
-      let test : item_at limits.max_item place rest ≡ TooLong = subst (λ (l : Limits). item_at l.max_item place rest ≡ TooLong) walked.has_limits stop.0 in
-      let first = too_long_is_first limits.max_item whole walked.items place rest walked.splits test in
-      let ran = RanOver-walked begins steps limits whole facts before at rest old mid walked (ap is_whole test) in
-      subst (λ (b : List ℕ). IsFirstFault limits.max_item b (faults.ItemTooLong n) × (is_settled (faults.ItemTooLong n) ≡ true) × RanOver begins steps limits.max_item b facts before told old new) taken (
-        subst (λ (k : ℕ). IsFirstFault limits.max_item whole (faults.ItemTooLong k)) (sym (stop.1 ∙ walked.offset)) first,
-        refl,
-        subst (λ (h : Option Header). RanOver begins steps limits.max_item whole facts before h old new) (sym stop.2) (subst (RanOver begins steps limits.max_item whole facts before at.header old) stop.3 ran),
-      )
-  IsFeedFault-stopped limits bytes whole facts before told at rest old mid new (faults.Sink fault) taken walked stays stop =
-      let is : IsItem limits.max_item (place_behind at.header) stop.0 (place_behind told) = subst (λ (l : Limits). IsItem l.max_item (place_behind at.header) stop.0 (place_behind told)) walked.has_limits stop.2 in
-      (mid, subst (λ (b : List ℕ). RanUpTo begins steps limits.max_item b facts before told old mid) taken (RanUpTo-walked begins steps limits whole facts before at stop.0 stop.1 told rest old mid walked stays is stop.3 stop.4), stop.5)
-  IsFeedFault-stopped limits bytes whole facts before told at rest old mid new faults.OutOfMemory taken walked stays stop = absurd stop
-  IsFeedFault-stopped limits bytes whole facts before told at rest old mid new faults.Failed taken walked stays stop = absurd stop
-  IsFeedFault-stopped limits bytes whole facts before told at rest old mid new faults.Read taken walked stays stop = absurd stop
-  IsFeedFault-stopped limits bytes whole facts before told at rest old mid new faults.ReadsExceeded taken walked stays stop = absurd stop
-  IsFeedFault-stopped limits bytes whole facts before told at rest old mid new faults.BytesExceeded taken walked stays stop = absurd stop
+  Feeds-kept (Err fault) fine stands sound kept = absurd cc
 
-  -- an item was refused
-  feed_halts : (limits : Limits) (bytes piece taken : List ℕ) (facts : List FactValue) (from : PartReader) (to : Progress) (old new : S) (fault : PartFault)
-      → HasRead limits bytes facts from → bytes ++ taken ≡ take limits.max_bytes (bytes ++ piece) → Halts begins steps refuses failed from.progress (from.held.items ++ taken) old fault to new
-      → IsFeedFault begins steps refuses failed limits (bytes ++ piece) facts (header_of from) to.header old fault new
-  feed_halts limits bytes piece taken facts from to old new fault read whole halts =
-      let walked = HasWalked-on begins steps limits bytes taken facts from halts.at (halts.shown ++ halts.rest) old halts.mid read halts.walked in
-      IsFeedFault-stopped limits (bytes ++ piece) (bytes ++ taken) facts (header_of from) to.header halts.at (halts.shown ++ halts.rest) old halts.mid new fault whole walked
-      (λ header e. Walks-kept begins steps from.progress halts.at (from.held.items ++ taken) (halts.shown ++ halts.rest) old halts.mid header halts.walked e) (Stops-more refuses failed halts.at halts.shown halts.rest halts.mid new fault to.header halts.stops)
-
-  -- reading on was refused
-  pub Feeds-read_on : (limits : Limits) (bytes piece taken : List ℕ) (facts : List FactValue) (from to : PartReader) (still : List ℕ) (old new : S) (fault : PartFault)
-      → HasRead limits bytes facts from → bytes ++ taken ≡ take limits.max_bytes (bytes ++ piece) → ReadsOn begins steps refuses failed from.progress from.held.items taken old (Err fault) to.progress still new
-      → Feeds begins steps refuses failed limits bytes facts from piece old (Err fault) to new
-  Feeds-read_on limits bytes piece taken facts from to still old new (faults.Malformed at reason) read whole on = feed_halts limits bytes piece taken facts from to.progress old new (faults.Malformed at reason) read whole on
-  Feeds-read_on limits bytes piece taken facts from to still old new (faults.ItemTooLong at) read whole on = feed_halts limits bytes piece taken facts from to.progress old new (faults.ItemTooLong at) read whole on
-  Feeds-read_on limits bytes piece taken facts from to still old new (faults.Sink fault) read whole on = feed_halts limits bytes piece taken facts from to.progress old new (faults.Sink fault) read whole on
-  Feeds-read_on limits bytes piece taken facts from to still old new faults.OutOfMemory read whole on =
-      let taken_len = taken_within limits.max_bytes bytes piece taken whole in
-      (some_of_taken limits.max_bytes bytes piece taken whole on.3, inr (omega (arith, taken_len, on.3), IsWithinItem-read limits bytes facts from read on.2, ap (λ (p : Progress). p.header) on.0, on.1))
-  Feeds-read_on limits bytes piece taken facts from to still old new faults.Failed read whole on = absurd on.stops
-  Feeds-read_on limits bytes piece taken facts from to still old new faults.Read read whole on = absurd on.stops
-  Feeds-read_on limits bytes piece taken facts from to still old new faults.ReadsExceeded read whole on = absurd on.stops
-  Feeds-read_on limits bytes piece taken facts from to still old new faults.BytesExceeded read whole on = absurd on.stops
-
-  -- there are more bytes than the limit, and no item is refused
-  pub IsFeedFault-excess : (limits : Limits) (bytes piece taken : List ℕ) (facts : List FactValue) (from : PartReader) (to : Progress) (still rest : List ℕ) (old new : S)
-      → HasRead limits bytes facts from → bytes ++ taken ≡ take limits.max_bytes (bytes ++ piece) → limits.max_bytes < length (bytes ++ piece) → ReadsOn begins steps refuses failed from.progress from.held.items taken old (Ok rest) to still new
-      → IsFeedFault begins steps refuses failed limits (bytes ++ piece) facts (header_of from) to.header old faults.BytesExceeded new
-  IsFeedFault-excess limits bytes piece taken facts from to still rest old new read whole many on =
-      let place : Place = place_behind to.header in
-      let walked = HasWalked-on begins steps limits bytes taken facts from to (still ++ rest) old new read on.0 in
-      let short : item_at limits.max_item place (still ++ rest) ≡ Short = subst (λ (l : Limits). item_at l.max_item place (still ++ rest) ≡ Short) walked.has_limits on.1 in
-      subst (λ (b : List ℕ). (limits.max_bytes < length (bytes ++ piece)) × HasNoSettledFault limits.max_item b × RanOver begins steps limits.max_item b facts (header_of from) to.header old new) whole (
-        many,
-        short_unsettled limits.max_item (bytes ++ taken) walked.items place (still ++ rest) walked.splits short,
-        RanOver-walked begins steps limits (bytes ++ taken) facts (header_of from) to (still ++ rest) old new walked (ap is_whole short),
-      )
-
-  -- there is no memory to hold the rest
-  feeds_memory : (limits : Limits) (bytes piece : List ℕ) (facts : List FactValue) (from to : PartReader) (still rest : List ℕ) (old new : S)
-      → HasRead limits bytes facts from → length (bytes ++ piece) ≤ limits.max_bytes → ReadsOn begins steps refuses failed from.progress from.held.items piece old (Ok rest) to.progress still new → 0 < length rest → length rest ≤ length piece
+  -- there is no memory to hold it
+  lacks_memory : header_of to ≡ at.header → length left ≤ length piece → CannotHold at left (Err faults.OutOfMemory)
       → Feeds begins steps refuses failed limits bytes facts from piece old (Err faults.OutOfMemory) to new
-  feeds_memory limits bytes piece facts from to still rest old new read within on some shorter =
-      let place : Place = place_behind (header_of to) in
-      let walked = HasWalked-on begins steps limits bytes piece facts from to.progress (still ++ rest) old new read on.0 in
-      let short : item_at limits.max_item place (still ++ rest) ≡ Short = subst (λ (l : Limits). item_at l.max_item place (still ++ rest) ≡ Short) walked.has_limits on.1 in (
-        omega (arith, some, shorter),
+  lacks_memory tells shorter lacks =
+      let some : 0 < length (held_of limits.max_item (place_of at) (on.0 ++ left)) =
+      subst (λ (l : Limits). 0 < length (held_of l.max_item (place_of at) (on.0 ++ left))) walked.has_limits (lacks.2 on.0 on.4) in
+      let over : RanOver begins steps limits.max_item (bytes ++ piece) facts (header_of from) (header_of to) old new =
+      subst (λ (h : Option Header). RanOver begins steps limits.max_item (bytes ++ piece) facts (header_of from) h old new) (sym tells)
+      (RanOver-walked begins steps limits (bytes ++ piece) facts (header_of from) at (on.0 ++ left) old new walked (ap is_whole short)) in (
+        omega (arith, lacks.1, shorter),
         inl (
           within,
-          short_unsettled limits.max_item (bytes ++ piece) walked.items place (still ++ rest) walked.splits short,
-          IsWithinItem-walked begins steps limits (bytes ++ piece) facts (header_of from) to.progress (still ++ rest) old new walked short (omega (arith, some, length-append still rest)),
-          RanOver-walked begins steps limits (bytes ++ piece) facts (header_of from) to.progress (still ++ rest) old new walked (ap is_whole short),
+          short_unsettled limits.max_item (bytes ++ piece) walked.items (place_of at) (on.0 ++ left) walked.splits short,
+          IsWithinItem-walked begins steps limits (bytes ++ piece) facts (header_of from) at (on.0 ++ left) old new walked short some,
+          over,
         ),
       )
 
-  -- the rest is held
-  pub Feeds-held : (limits : Limits) (bytes piece : List ℕ) (facts : List FactValue) (from to : PartReader) (still rest : List ℕ) (old new : S) (done : Unit {0})
-      → HasRead limits bytes facts from → length (bytes ++ piece) ≤ limits.max_bytes → ReadsOn begins steps refuses failed from.progress from.held.items piece old (Ok rest) to.progress still new
-      → to.held.items ≡ still ++ rest → has_failed to ≡ false → Feeds begins steps refuses failed limits bytes facts from piece old (Ok done) to new
-  Feeds-held limits bytes piece facts from to still rest old new done read within on holds sound =
-      let place : Place = place_behind (header_of to) in
-      let walked = HasWalked-on begins steps limits bytes piece facts from to.progress (still ++ rest) old new read on.0 in
-      let short : item_at limits.max_item place (still ++ rest) ≡ Short = subst (λ (l : Limits). item_at l.max_item place (still ++ rest) ≡ Short) walked.has_limits on.1 in
-      (walked.handed, HasRead-walked begins steps limits (bytes ++ piece) facts (header_of from) to.progress (still ++ rest) old new walked to refl holds sound short within, walked.ran)
-
-  -- the rest is held, or there is no memory for it
-  pub Feeds-hold : (limits : Limits) (bytes piece taken : List ℕ) (facts : List FactValue) (from to : PartReader) (still rest : List ℕ) (old new : S) (result : Result (Unit {0}) PartFault)
-      → HasRead limits bytes facts from → length (bytes ++ piece) ≤ limits.max_bytes → taken ≡ piece → ReadsOn begins steps refuses failed from.progress from.held.items taken old (Ok rest) to.progress still new
-      → OnOk result (to.held.items ≡ still ++ rest) → OnErr result ((result ≡ Err faults.OutOfMemory) × (to.held.items ≡ still) × (0 < length rest)) → length rest ≤ length taken → has_failed to ≡ false → Feeds begins steps refuses failed limits bytes facts from piece old result to new
-  Feeds-hold limits bytes piece taken facts from to still rest old new (Ok done) read within all on ok err shorter sound =
-      Feeds-held limits bytes piece facts from to still rest old new done read within (subst (λ (t : List ℕ). ReadsOn begins steps refuses failed from.progress from.held.items t old (Ok rest) to.progress still new) all on) ok sound
-  Feeds-hold limits bytes piece taken facts from to still rest old new (Err fault) read within all on ok err shorter sound =
-      let same : faults.OutOfMemory ≡ fault = out_of_memory fault err.0 in
+  pub Feeds-unheld : (result : Result (Unit {0}) PartFault) → is_err result ≡ true → header_of to ≡ at.header → length left ≤ length taken
+      → OnErr result (CannotHold at left result) → Feeds begins steps refuses failed limits bytes facts from piece old result to new
+  Feeds-unheld (Ok done) wrong tells shorter lacks = absurd cc
+  Feeds-unheld (Err fault) wrong tells shorter lacks =
+      let same : faults.OutOfMemory ≡ fault = out_of_memory fault lacks.0 in
       subst (λ (f : PartFault). Feeds begins steps refuses failed limits bytes facts from piece old (Err f) to new) same
-      (feeds_memory limits bytes piece facts from to still rest old new read within (subst (λ (t : List ℕ). ReadsOn begins steps refuses failed from.progress from.held.items t old (Ok rest) to.progress still new) all on) err.2 (omega (arith, shorter, ap length all)))
+      (lacks_memory tells (omega (arith, shorter, ap length all)) (refl, lacks.1, lacks.2))

@@ -1,12 +1,12 @@
 -- Reading a part from a source: what the reader was fed so far, and what that comes to.
 use Rattle.std.proofs.Common.{◌≡◌, ℕ, Bool, true, false, ◌+◌, ◌<◌, List, [], ◌++◌, length, take, Option, Some, None, Result, Ok, Err, inl, inr, refl, sym, ap, subst, ◌∙◌, append-nil, arith}
 use Rattle.std.proofs.KnownBytes.{Consumes-nil, Consumes-trans}
-use Rattle.std.proofs.lemmas.List.{length-append}
+use Rattle.std.proofs.lemmas.List.{length-append, nil_from_length}
 use Rattle.std.specs.Io.KnownBytes.{Consumes, IsAtEnd}
 use Rattle.hprof_items.specs.declared.header.Header.{Header}
 use Rattle.hprof_items.specs.declared.health.Health.{Health}
 use Rattle.hprof_items.specs.declared.health.Health.TheVariants as healths
-use Rattle.hprof_values.specs.declared.reason.Reason.TheVariants.{BadMagic, BadIdSize, Truncated, BadLength, BadSubTag, PastEnd, BadType, Unsupported}
+use Rattle.hprof_values.specs.declared.reason.Reason.TheVariants.{BadMagic, BadIdSize, Truncated, BadLength, BadSubTag, PastEnd, BadType}
 use Rattle.hprof_items.specs.FactValue.{FactValue}
 use Rattle.hprof_stream.specs.declared.limits.Limits.{Limits}
 use Rattle.hprof_stream.specs.declared.part_fault.PartFault.{PartFault}
@@ -14,54 +14,69 @@ use Rattle.hprof_stream.specs.declared.part_fault.PartFault.TheVariants as fault
 use Rattle.hprof_stream.specs.declared.part_reader.PartReader.{PartReader}
 use Rattle.hprof_stream.specs.declared.sink.SinkFault.{SinkFault}
 use Rattle.hprof_stream.specs.declared.summary.PartSummary.{PartSummary}
-use Rattle.hprof_stream.specs.Part.{all_bytes, all_facts}
-use Rattle.hprof_stream.specs.Item.{Start, place_behind, header_before}
+use Rattle.hprof_stream.specs.Part.{Stated, all_bytes, all_facts}
+use Rattle.hprof_stream.specs.Item.{Place, Start, header_before, AreItems, none, more}
 use Rattle.hprof_stream.specs.Fault.{is_whole, is_settled, IsFirstFault, StatesSoFar}
+use Rattle.hprof_stream.specs.Progress.{place_of}
 use Rattle.hprof_stream.specs.Run.{Run}
-use Rattle.hprof_stream.specs.Reader.{header_of, header_count, HasRead, RanOver, RanUpTo, IsFeedFault, Feeds, Finishes, IsPull, Pulled, none, once_more, PulledOut, CameLast, IsJudged, RefusesAtLast, ReadsPart}
-use Rattle.hprof_stream.specs.Walking.{FeedsAll}
+use Rattle.hprof_stream.specs.Feeding.{FeedsAll}
+use Rattle.hprof_stream.specs.Reader.{header_of, HasRead, RanOver, RanUpTo, IsFeedFault, Feeds, Finishes, IsPull, Pulled, none, once_more, PulledOut, CameLast, IsJudged, RefusesAtLast, ReadsPart}
 use Rattle.hprof_stream.proofs.Runs.{Run-then}
-use Rattle.hprof_stream.proofs.Walks.{items_headers, items_size}
-use Rattle.hprof_stream.proofs.Faults.{short_unsettled, splits_once}
-use Rattle.hprof_stream.proofs.Feeding.{header_at_place}
+use Rattle.hprof_stream.proofs.Faults.{short_unsettled}
+use Rattle.hprof_stream.proofs.ItemLists.{items_headers, items_size, header_at_place, header_behind}
 use Rattle.hprof_stream.proofs.LastItems.{ends_behind}
 
 -- ---- what a reader knows of the facts
 
 -- where no header was read no fact was
-pub no_header_no_fact : (limits : Limits) (bytes : List ℕ) (facts : List FactValue) (reader : PartReader) → HasRead limits bytes facts reader → header_of reader ≡ None → facts ≡ []
+pub no_header_no_fact : (limits : Limits) (bytes : List ℕ) (facts : List FactValue) (reader : PartReader)
+    → HasRead limits bytes facts reader
+    → header_of reader ≡ None → facts ≡ []
 no_header_no_fact limits bytes facts reader read bare =
-    sym read.has_facts ∙ ap all_facts ((items_headers limits.max_item None (header_of reader) read.items read.splits.each).0 bare).1
+    sym read.has_facts
+    ∙ ap all_facts ((items_headers limits.max_item None (header_of reader) 0 reader.progress.room read.items read.splits.each).0 bare).1
+
+-- no items lead nowhere else
+no_items_stay : (longest : ℕ) (from to : Place) (items : List Stated) → AreItems longest from items to → items ≡ [] → from ≡ to
+no_items_stay longest from to items none e = refl
+no_items_stay longest from to items (more first behind) e = absurd cc
 
 -- of no bytes no header was read
-pub no_bytes_no_header : (limits : Limits) (facts : List FactValue) (reader : PartReader) → HasRead limits [] facts reader → header_of reader ≡ None
-no_bytes_no_header limits facts reader read = by (header_of reader) refl
-  where
-    by : (header : Option Header) → header_of reader ≡ header → header_of reader ≡ None
-    by None e = e
-    by (Some header) e =
-        let one : header_count (header_of reader) ≡ 1 = ap header_count e in
-        let size = items_size limits.max_item Start (place_behind (header_of reader)) read.items read.splits.each in
-        absurd (omega (arith, one, read.record_count, size.0, ap length read.splits.parts, length-append (all_bytes read.items) reader.held.items))
+pub no_bytes_no_header : (limits : Limits) (facts : List FactValue) (reader : PartReader) → HasRead limits [] facts reader
+    → header_of reader ≡ None
+no_bytes_no_header limits facts reader read =
+    let place : Place = place_of reader.progress in
+    let size = items_size limits.max_item Start place read.items read.splits.each in
+    let nothing : read.items ≡ [] = nil_from_length read.items (omega (
+      arith,
+      size.0,
+      ap length read.splits.parts,
+      length-append (all_bytes read.items) read.unfinished,
+    )) in
+    sym (header_behind None (header_of reader) 0 reader.progress.room
+    (no_items_stay limits.max_item Start place read.items read.splits.each nothing))
 
 -- what a reader has read is what the bytes state so far
-pub StatesSoFar-read : (limits : Limits) (bytes : List ℕ) (facts : List FactValue) (reader : PartReader) → HasRead limits bytes facts reader → StatesSoFar limits.max_item bytes (header_of reader) facts
-StatesSoFar-read limits bytes facts reader read =
-    record { items = read.items; place = place_behind (header_of reader); rest = reader.held.items; splits = read.splits; ends = ap is_whole read.unfinished; has_header = header_at_place (header_of reader); has_facts = read.has_facts }
-
--- and that is one thing
-pub states_once : (longest : ℕ) (bytes : List ℕ) (header other : Option Header) (facts others : List FactValue) → StatesSoFar longest bytes header facts → StatesSoFar longest bytes other others
-    → (header ≡ other) × (facts ≡ others)
-states_once longest bytes header other facts others one two =
-    let once = splits_once longest bytes one.items two.items one.place two.place one.rest two.rest one.splits two.splits one.ends two.ends in
-    (sym one.has_header ∙ ap header_before once.1 ∙ two.has_header, sym one.has_facts ∙ ap all_facts once.0 ∙ two.has_facts)
+pub StatesSoFar-read : (limits : Limits) (bytes : List ℕ) (facts : List FactValue) (reader : PartReader) → HasRead limits bytes facts reader
+    → StatesSoFar limits.max_item bytes (header_of reader) facts
+StatesSoFar-read limits bytes facts reader read = record {
+  items = read.items;
+  place = place_of reader.progress;
+  rest = read.unfinished;
+  splits = read.splits;
+  ends = ap is_whole read.keeps.short;
+  has_header = header_at_place (header_of reader) reader.progress.room;
+  has_facts = read.has_facts;
+}
 
 -- ---- runs from where reading began
 
 module _ {S : Type 0} (begins : S → Header → S → Type 0) (steps : S → FactValue → S → Type 0) where
   -- the sink ran before, and then over more
-  pub RanOver-from : (longest : ℕ) (bytes : List ℕ) (facts : List FactValue) (before after : Option Header) (old mid new : S) → Run begins steps old before facts mid → (before ≡ None → facts ≡ [])
-      → ((header : Header) → before ≡ Some header → after ≡ Some header) → RanOver begins steps longest bytes facts before after mid new → RanOver begins steps longest bytes [] None after old new
+  pub RanOver-from : (longest : ℕ) (bytes : List ℕ) (facts : List FactValue) (before after : Option Header) (old mid new : S)
+      → Run begins steps old before facts mid → (before ≡ None → facts ≡ [])
+      → ((header : Header) → before ≡ Some header → after ≡ Some header) → RanOver begins steps longest bytes facts before after mid new
+      → RanOver begins steps longest bytes [] None after old new
   RanOver-from longest bytes facts before after old mid new first bare stays over = record {
     handed = facts ++ over.handed;
     states = over.states;
@@ -69,18 +84,21 @@ module _ {S : Type 0} (begins : S → Header → S → Type 0) (steps : S → Fa
   }
 
   -- the same, up to an item that the sink was then given
-  pub RanUpTo-from : (longest : ℕ) (bytes : List ℕ) (facts : List FactValue) (before told : Option Header) (old mid new : S) → Run begins steps old before facts mid → (before ≡ None → facts ≡ [])
+  pub RanUpTo-from : (longest : ℕ) (bytes : List ℕ) (facts : List FactValue) (before told : Option Header) (old mid new : S)
+      → Run begins steps old before facts mid → (before ≡ None → facts ≡ [])
       → RanUpTo begins steps longest bytes facts before told mid new → RanUpTo begins steps longest bytes [] None told old new
   RanUpTo-from longest bytes facts before told old mid new first bare over = record {
     whole = over.whole;
     stays = λ header e. absurd cc;
     handed = facts ++ over.handed;
     has_facts = over.has_facts;
-    ran = Run-then begins steps old mid new None before over.whole.header facts over.handed (λ e. (refl, bare e)) over.stays first over.ran;
+    ran = Run-then begins steps old mid new None before (header_before over.whole.before) facts over.handed (λ e. (refl, bare e)) over.stays
+        first over.ran;
   }
 
   -- what a reader has read, the sink ran over
-  pub RanOver-read : (limits : Limits) (bytes : List ℕ) (facts : List FactValue) (reader : PartReader) (old new : S) → HasRead limits bytes facts reader → Run begins steps old (header_of reader) facts new
+  pub RanOver-read : (limits : Limits) (bytes : List ℕ) (facts : List FactValue) (reader : PartReader) (old new : S)
+      → HasRead limits bytes facts reader → Run begins steps old (header_of reader) facts new
       → RanOver begins steps limits.max_item bytes [] None (header_of reader) old new
   RanOver-read limits bytes facts reader old new read ran = record {
     handed = facts;
@@ -88,55 +106,78 @@ module _ {S : Type 0} (begins : S → Header → S → Type 0) (steps : S → Fa
     ran = ran;
   }
 
-module _ {S : Type 0} (begins : S → Header → S → Type 0) (steps : S → FactValue → S → Type 0) (refuses : S → SinkFault → Type 0) (failed : S → Bool) where
+module _ {S : Type 0} (begins : S → Header → S → Type 0) (steps : S → FactValue → S → Type 0) (refuses : S → SinkFault → Type 0)
+    (failed : S → Bool) where
   -- a fault of feeding, from where reading began
-  pub IsFeedFault-from : (limits : Limits) (bytes : List ℕ) (facts : List FactValue) (before after : Option Header) (old mid new : S) (fault : PartFault) → Run begins steps old before facts mid → (before ≡ None → facts ≡ [])
-      → ((header : Header) → before ≡ Some header → after ≡ Some header) → IsFeedFault begins steps refuses failed limits bytes facts before after mid fault new → IsFeedFault begins steps refuses failed limits bytes [] None after old fault new
-  IsFeedFault-from limits bytes facts before after old mid new (faults.Malformed at reason) first bare stays is =
-      (is.0, is.1, RanOver-from begins steps limits.max_item (take limits.max_bytes bytes) facts before after old mid new first bare stays is.2)
-  IsFeedFault-from limits bytes facts before after old mid new (faults.ItemTooLong at) first bare stays is =
-      (is.0, is.1, RanOver-from begins steps limits.max_item (take limits.max_bytes bytes) facts before after old mid new first bare stays is.2)
+  pub IsFeedFault-from : (limits : Limits) (bytes : List ℕ) (facts : List FactValue) (before after : Option Header) (old mid new : S)
+      (fault : PartFault) → Run begins steps old before facts mid → (before ≡ None → facts ≡ [])
+      → ((header : Header) → before ≡ Some header → after ≡ Some header)
+      → IsFeedFault begins steps refuses failed limits bytes facts before after mid fault new
+      → IsFeedFault begins steps refuses failed limits bytes [] None after old fault new
+  IsFeedFault-from limits bytes facts before after old mid new (faults.Malformed at reason) first bare stays is = (
+    is.0,
+    is.1,
+    RanOver-from begins steps limits.max_item (take limits.max_bytes bytes) facts before after old mid new first bare stays
+        is.2,
+  )
+  IsFeedFault-from limits bytes facts before after old mid new (faults.ItemTooLong at) first bare stays is = (
+    is.0,
+    is.1,
+    RanOver-from begins steps limits.max_item (take limits.max_bytes bytes) facts before after old mid new first bare stays
+        is.2,
+  )
   IsFeedFault-from limits bytes facts before after old mid new faults.OutOfMemory first bare stays is = is
   IsFeedFault-from limits bytes facts before after old mid new (faults.Sink fault) first bare stays is =
       (is.0, RanUpTo-from begins steps limits.max_item (take limits.max_bytes bytes) facts before after old mid is.0 first bare is.1, is.2)
   IsFeedFault-from limits bytes facts before after old mid new faults.Failed first bare stays is = is
   IsFeedFault-from limits bytes facts before after old mid new faults.Read first bare stays is = is
   IsFeedFault-from limits bytes facts before after old mid new faults.ReadsExceeded first bare stays is = is
-  IsFeedFault-from limits bytes facts before after old mid new faults.BytesExceeded first bare stays is =
-      (is.0, is.1, RanOver-from begins steps limits.max_item (take limits.max_bytes bytes) facts before after old mid new first bare stays is.2)
+  IsFeedFault-from limits bytes facts before after old mid new faults.BytesExceeded first bare stays is = (
+    is.0,
+    is.1,
+    RanOver-from begins steps limits.max_item (take limits.max_bytes bytes) facts before after old mid new first bare stays
+        is.2,
+  )
 
   -- an item that the sink refused while the last piece was fed
-  RefusesAtLast-fed : (limits : Limits) (bytes : List ℕ) (facts : List FactValue) (from : PartReader) (piece : List ℕ) (told : Option Header) (old mid new : S) (fault : SinkFault) → HasRead limits bytes facts from
-      → Run begins steps old (header_of from) facts mid → IsFeedFault begins steps refuses failed limits (bytes ++ piece) facts (header_of from) told mid (faults.Sink fault) new
+  RefusesAtLast-fed : (limits : Limits) (bytes : List ℕ) (facts : List FactValue) (from : PartReader) (piece : List ℕ)
+      (told : Option Header) (old mid new : S) (fault : SinkFault) → HasRead limits bytes facts from
+      → Run begins steps old (header_of from) facts mid → IsFeedFault begins steps refuses failed limits (bytes ++ piece) facts
+      (header_of from) told mid (faults.Sink fault) new
       → RefusesAtLast begins steps refuses failed limits bytes (bytes ++ piece) old fault new
   unfolding RanUpTo-from
   RefusesAtLast-fed limits bytes facts from piece told old mid new fault read first is = record {
     header = told;
     mid = is.0;
-    ran = RanUpTo-from begins steps limits.max_item (take limits.max_bytes (bytes ++ piece)) facts (header_of from) told old mid is.0 first (no_header_no_fact limits bytes facts from read) is.1;
+    ran = RanUpTo-from begins steps limits.max_item (take limits.max_bytes (bytes ++ piece)) facts (header_of from) told old mid is.0 first
+        (no_header_no_fact limits bytes facts from read) is.1;
     behind = ends_behind begins steps limits bytes facts from piece told mid is.0 read is.1;
     refused = is.2;
   }
 
   -- what a reader has read was judged
-  IsJudged-read : (limits : Limits) (bytes : List ℕ) (facts : List FactValue) (reader : PartReader) (old new : S) → HasRead limits bytes facts reader → Run begins steps old (header_of reader) facts new
+  IsJudged-read : (limits : Limits) (bytes : List ℕ) (facts : List FactValue) (reader : PartReader) (old new : S)
+      → HasRead limits bytes facts reader → Run begins steps old (header_of reader) facts new
       → IsJudged begins steps refuses failed limits bytes old new
   IsJudged-read limits bytes facts reader old new read ran = (
     read.within,
-    short_unsettled limits.max_item bytes read.items (place_behind (header_of reader)) reader.held.items read.splits read.unfinished,
+    short_unsettled limits.max_item bytes read.items (place_of reader.progress) read.unfinished read.splits read.keeps.short,
     (header_of reader, RanOver-read begins steps limits bytes facts reader old new read ran),
   )
 
 module _ {R : Type 0} (left : R → Option (List ℕ)) (pulls : R → ℕ) where
   -- the bytes that pulls gave were taken from what was left
-  pub Pulled-consumes : (was : R) (came : List ℕ) (count : ℕ) (is : R) → Pulled left pulls was came count is → Consumes (left was) (left is) came
+  pub Pulled-consumes : (was : R) (came : List ℕ) (count : ℕ) (is : R) → Pulled left pulls was came count is
+      → Consumes (left was) (left is) came
   Pulled-consumes was came count is none = Consumes-nil (left was)
   Pulled-consumes was came count is (once_more {came = before} {piece = piece} {mid = mid} pulled last some) =
       Consumes-trans (left was) (left mid) (left is) before piece (Pulled-consumes was before _ mid pulled) last.gave
 
   -- what a reader has read came before a last piece
-  CameLast-read : (limits : Limits) (bytes : List ℕ) (facts : List FactValue) (reader : PartReader) (piece : List ℕ) (count : ℕ) (was before is : R) → HasRead limits bytes facts reader
-      → Pulled left pulls was bytes count before → IsPull left pulls before piece is → 0 < length piece → count < limits.max_reads → CameLast left pulls limits was (bytes ++ piece) is
+  CameLast-read : (limits : Limits) (bytes : List ℕ) (facts : List FactValue) (reader : PartReader) (piece : List ℕ) (count : ℕ)
+      (was before is : R) → HasRead limits bytes facts reader
+      → Pulled left pulls was bytes count before → IsPull left pulls before piece is → 0 < length piece → count < limits.max_reads
+      → CameLast left pulls limits was (bytes ++ piece) is
   CameLast-read limits bytes facts reader piece count was before is read pulled last some allowed = record {
     before = before;
     front = bytes;
@@ -148,7 +189,7 @@ module _ {R : Type 0} (left : R → Option (List ℕ)) (pulls : R → ℕ) where
     last = last;
     some = some;
     within = read.within;
-    unsettled = short_unsettled limits.max_item bytes read.items (place_behind (header_of reader)) reader.held.items read.splits read.unfinished;
+    unsettled = short_unsettled limits.max_item bytes read.items (place_of reader.progress) read.unfinished read.splits read.keeps.short;
   }
 
 -- the faults that judging what came gives
@@ -159,7 +200,8 @@ is_judgement faults.BytesExceeded = true
 is_judgement other = false
 
 module _ {R : Type 0} (left : R → Option (List ℕ)) (health : R → Health) (pulls : R → ℕ)
-    {S : Type 0} (begins : S → Header → S → Type 0) (steps : S → FactValue → S → Type 0) (refuses : S → SinkFault → Type 0) (failed : S → Bool) where
+    {S : Type 0} (begins : S → Header → S → Type 0) (steps : S → FactValue → S → Type 0) (refuses : S → SinkFault → Type 0)
+    (failed : S → Bool) where
   -- so many pulls gave the bytes that a reader was fed since it was new, with no fault
   pub record HasFed (limits : Limits) (turns : ℕ) (was is : R) (reader : PartReader) (old new : S) : Type 0 where
     pub came : List ℕ
@@ -169,7 +211,8 @@ module _ {R : Type 0} (left : R → Option (List ℕ)) (health : R → Health) (
     pub ran : Run begins steps old (header_of reader) facts new
 
   -- nothing came yet
-  pub HasFed-none : (limits : Limits) (was : R) (reader : PartReader) (sink : S) → HasRead limits [] [] reader → header_of reader ≡ None → HasFed limits 0 was was reader sink sink
+  pub HasFed-none : (limits : Limits) (was : R) (reader : PartReader) (sink : S) → HasRead limits [] [] reader → header_of reader ≡ None
+      → HasFed limits 0 was was reader sink sink
   HasFed-none limits was reader sink read bare = record {
     came = [];
     pulled = none;
@@ -179,8 +222,10 @@ module _ {R : Type 0} (left : R → Option (List ℕ)) (health : R → Health) (
   }
 
   -- a piece came, and was fed
-  pub HasFed-more : (limits : Limits) (turns : ℕ) (was before is : R) (reader next : PartReader) (old mid new : S) (piece : List ℕ) (done : Unit {0}) → IsPull left pulls before piece is → 0 < length piece
-      → ((bytes : List ℕ) (facts : List FactValue) → HasRead limits bytes facts reader → Feeds begins steps refuses failed limits bytes facts reader piece mid (Ok done) next new)
+  pub HasFed-more : (limits : Limits) (turns : ℕ) (was before is : R) (reader next : PartReader) (old mid new : S) (piece : List ℕ)
+      (done : Unit {0}) → IsPull left pulls before piece is → 0 < length piece
+      → ((bytes : List ℕ) (facts : List FactValue) → HasRead limits bytes facts reader
+      → Feeds begins steps refuses failed limits bytes facts reader piece mid (Ok done) next new)
       → ((header : Header) → header_of reader ≡ Some header → header_of next ≡ Some header)
       → HasFed limits turns was before reader old mid → HasFed limits (turns + 1) was is next old new
   HasFed-more limits turns was before is reader next old mid new piece done last some feeds stays fed =
@@ -190,20 +235,23 @@ module _ {R : Type 0} (left : R → Option (List ℕ)) (health : R → Health) (
         pulled = once_more fed.pulled last some;
         facts = fed.facts ++ on.0;
         read = on.1;
-        ran = Run-then begins steps old mid new None (header_of reader) (header_of next) fed.facts on.0 (λ e. (refl, no_header_no_fact limits fed.came fed.facts reader fed.read e)) stays fed.ran on.2;
+        ran = Run-then begins steps old mid new None (header_of reader) (header_of next) fed.facts on.0
+            (λ e. (refl, no_header_no_fact limits fed.came fed.facts reader fed.read e)) stays fed.ran on.2;
       }
 
   -- a fault of an item, or too many bytes, is what reading the part comes to
-  ReadsPart-fed : (limits : Limits) (was : R) (came : List ℕ) (is : R) (header : Option Header) (old new : S) (fault : PartFault) → is_judgement fault ≡ true → CameLast left pulls limits was came is → health is ≡ healths.Well
-      → IsFeedFault begins steps refuses failed limits came [] None header old fault new → ReadsPart left health pulls begins steps refuses failed limits was came is old (Err fault) new
+  ReadsPart-fed : (limits : Limits) (was : R) (came : List ℕ) (is : R) (header : Option Header) (old new : S) (fault : PartFault)
+      → is_judgement fault ≡ true → CameLast left pulls limits was came is → health is ≡ healths.Well
+      → IsFeedFault begins steps refuses failed limits came [] None header old fault new
+      → ReadsPart left health pulls begins steps refuses failed limits was came is old (Err fault) new
   ReadsPart-fed limits was came is header old new (faults.Malformed at BadMagic) judged last well why = (last, well, (header, why))
   ReadsPart-fed limits was came is header old new (faults.Malformed at BadIdSize) judged last well why = (last, well, (header, why))
-  ReadsPart-fed limits was came is header old new (faults.Malformed at Truncated) judged last well why = let no : false ≡ true = why.1 in absurd cc
+  ReadsPart-fed limits was came is header old new (faults.Malformed at Truncated) judged last well why = let no : false ≡ true = why.1 in
+      absurd cc
   ReadsPart-fed limits was came is header old new (faults.Malformed at BadLength) judged last well why = (last, well, (header, why))
   ReadsPart-fed limits was came is header old new (faults.Malformed at BadSubTag) judged last well why = (last, well, (header, why))
   ReadsPart-fed limits was came is header old new (faults.Malformed at PastEnd) judged last well why = (last, well, (header, why))
   ReadsPart-fed limits was came is header old new (faults.Malformed at BadType) judged last well why = (last, well, (header, why))
-  ReadsPart-fed limits was came is header old new (faults.Malformed at Unsupported) judged last well why = (last, well, (header, why))
   ReadsPart-fed limits was came is header old new (faults.ItemTooLong at) judged last well why = (last, well, (header, why))
   ReadsPart-fed limits was came is header old new faults.OutOfMemory judged last well why = absurd why
   ReadsPart-fed limits was came is header old new (faults.Sink fault) judged last well why = absurd cc
@@ -213,27 +261,53 @@ module _ {R : Type 0} (left : R → Option (List ℕ)) (health : R → Health) (
   ReadsPart-fed limits was came is header old new faults.BytesExceeded judged last well why = (last, well, (header, why))
 
   -- a fault of the last piece is what reading the part comes to
-  ReadsPart-feeds : (limits : Limits) (bytes : List ℕ) (facts : List FactValue) (from to : PartReader) (piece : List ℕ) (count : ℕ) (was before is : R) (old mid new : S) (fault : PartFault) → health is ≡ healths.Well
-      → HasRead limits bytes facts from → Run begins steps old (header_of from) facts mid → ((header : Header) → header_of from ≡ Some header → header_of to ≡ Some header)
+  ReadsPart-feeds : (limits : Limits) (bytes : List ℕ) (facts : List FactValue) (from to : PartReader) (piece : List ℕ) (count : ℕ)
+      (was before is : R) (old mid new : S) (fault : PartFault) → health is ≡ healths.Well
+      → HasRead limits bytes facts from → Run begins steps old (header_of from) facts mid
+      → ((header : Header) → header_of from ≡ Some header → header_of to ≡ Some header)
       → Pulled left pulls was bytes count before → IsPull left pulls before piece is → 0 < length piece → count < limits.max_reads
-      → Feeds begins steps refuses failed limits bytes facts from piece mid (Err fault) to new → ReadsPart left health pulls begins steps refuses failed limits was (bytes ++ piece) is old (Err fault) new
+      → Feeds begins steps refuses failed limits bytes facts from piece mid (Err fault) to new
+      → ReadsPart left health pulls begins steps refuses failed limits was (bytes ++ piece) is old (Err fault) new
   unfolding CameLast-read RanOver-read
-  ReadsPart-feeds limits bytes facts from to piece count was before is old mid new fault well read first stays pulled one some allowed fed = by fault fed
+  ReadsPart-feeds limits bytes facts from to piece count was before is old mid new fault well read first stays pulled one some allowed fed =
+      by fault fed
     where
       last : CameLast left pulls limits was (bytes ++ piece) is
       last = CameLast-read left pulls limits bytes facts from piece count was before is read pulled one some allowed
 
-      more : (f : PartFault) → is_judgement f ≡ true → IsFeedFault begins steps refuses failed limits (bytes ++ piece) facts (header_of from) (header_of to) mid f new
+      more : (f : PartFault) → is_judgement f ≡ true → IsFeedFault begins steps refuses failed limits (bytes ++ piece) facts
+          (header_of from) (header_of to) mid f new
           → ReadsPart left health pulls begins steps refuses failed limits was (bytes ++ piece) is old (Err f) new
       more f judged is_fault = ReadsPart-fed limits was (bytes ++ piece) is (header_of to) old new f judged last well
-          (IsFeedFault-from begins steps refuses failed limits (bytes ++ piece) facts (header_of from) (header_of to) old mid new f first (no_header_no_fact limits bytes facts from read) stays is_fault)
+          (IsFeedFault-from begins steps refuses failed limits (bytes ++ piece) facts (header_of from) (header_of to) old mid new f first
+          (no_header_no_fact limits bytes facts from read) stays is_fault)
 
-      by : (f : PartFault) → Feeds begins steps refuses failed limits bytes facts from piece mid (Err f) to new → ReadsPart left health pulls begins steps refuses failed limits was (bytes ++ piece) is old (Err f) new
+      by : (f : PartFault) → Feeds begins steps refuses failed limits bytes facts from piece mid (Err f) to new
+          → ReadsPart left health pulls begins steps refuses failed limits was (bytes ++ piece) is old (Err f) new
       by (faults.Malformed at reason) is_fault = more (faults.Malformed at reason) refl is_fault
       by (faults.ItemTooLong at) is_fault = more (faults.ItemTooLong at) refl is_fault
-      by faults.OutOfMemory lacks =
-          (well, inr (last, record { told = header_of from; header = header_of to; mid = mid; over = RanOver-read begins steps limits bytes facts from old mid read first; lacks = lacks.1 }))
-      by (faults.Sink why) is_fault = (well, (last, RefusesAtLast-fed begins steps refuses failed limits bytes facts from piece (header_of to) old mid new why read first is_fault))
+      by faults.OutOfMemory lacks = (
+        well,
+        inr (
+          last,
+          record {
+            told = header_of from;
+            header = header_of to;
+            mid = mid;
+            over = RanOver-read begins steps limits bytes
+                facts from old mid read first;
+            lacks = lacks.1;
+          },
+        ),
+      )
+      by (faults.Sink why) is_fault = (
+        well,
+        (
+          last,
+          RefusesAtLast-fed begins steps refuses failed limits bytes facts from piece
+              (header_of to) old mid new why read first is_fault,
+        ),
+      )
       by faults.Failed is_fault = absurd is_fault
       by faults.Read is_fault = absurd is_fault
       by faults.ReadsExceeded is_fault = absurd is_fault
@@ -242,36 +316,47 @@ module _ {R : Type 0} (left : R → Option (List ℕ)) (health : R → Health) (
   -- what came and what feeding it came to
   abbrev pub CameOf : Limits → R → R → S → Result (Unit {0}) PartFault → PartReader → S → Type 0
   CameOf limits was is old result reader new =
-      (came : List ℕ) × Consumes (left was) (left is) came × FeedsAll left health pulls begins steps refuses failed limits was came is old result reader new
+      (came : List ℕ) × Consumes (left was) (left is) came × FeedsAll left health pulls begins steps refuses failed limits was came is old
+      result reader new
 
   -- a piece came, and feeding it was refused
-  pub HasFed-fault : (limits : Limits) (turns : ℕ) (was before is : R) (reader next : PartReader) (old mid new : S) (piece : List ℕ) (fault : PartFault) → IsPull left pulls before piece is → 0 < length piece
-      → ((bytes : List ℕ) (facts : List FactValue) → HasRead limits bytes facts reader → Feeds begins steps refuses failed limits bytes facts reader piece mid (Err fault) next new)
-      → ((header : Header) → header_of reader ≡ Some header → header_of next ≡ Some header) → health is ≡ healths.Well → HasFed limits turns was before reader old mid
+  pub HasFed-fault : (limits : Limits) (turns : ℕ) (was before is : R) (reader next : PartReader) (old mid new : S) (piece : List ℕ)
+      (fault : PartFault) → IsPull left pulls before piece is → 0 < length piece
+      → ((bytes : List ℕ) (facts : List FactValue) → HasRead limits bytes facts reader
+      → Feeds begins steps refuses failed limits bytes facts reader piece mid (Err fault) next new)
+      → ((header : Header) → header_of reader ≡ Some header → header_of next ≡ Some header) → health is ≡ healths.Well
+      → HasFed limits turns was before reader old mid
       → turns < limits.max_reads → CameOf limits was is old (Err fault) next new
   HasFed-fault limits turns was before is reader next old mid new piece fault last some feeds stays well fed allowed = (
     fed.came ++ piece,
-    Consumes-trans (left was) (left before) (left is) fed.came piece (Pulled-consumes left pulls was fed.came turns before fed.pulled) last.gave,
-    ReadsPart-feeds limits fed.came fed.facts reader next piece turns was before is old mid new fault well fed.read fed.ran stays fed.pulled last some allowed (feeds fed.came fed.facts fed.read),
+    Consumes-trans (left was) (left before) (left is) fed.came piece (Pulled-consumes left pulls was fed.came turns before fed.pulled)
+        last.gave,
+    ReadsPart-feeds limits fed.came fed.facts reader next piece turns was before is old mid new fault well fed.read fed.ran stays fed.pulled
+        last some allowed (feeds fed.came fed.facts fed.read),
   )
 
   -- what came, and behind it a pull that gave nothing
-  PulledOut-fed : (limits : Limits) (turns : ℕ) (was before is : R) (reader : PartReader) (old new : S) → IsPull left pulls before [] is → turns < limits.max_reads → (fed : HasFed limits turns was before reader old new)
+  PulledOut-fed : (limits : Limits) (turns : ℕ) (was before is : R) (reader : PartReader) (old new : S) → IsPull left pulls before [] is
+      → turns < limits.max_reads → (fed : HasFed limits turns was before reader old new)
       → PulledOut left pulls limits was fed.came is × Consumes (left was) (left is) fed.came
   PulledOut-fed limits turns was before is reader old new last allowed fed = (
     record { before = before; count = turns; pulled = fed.pulled; allowed = allowed; last = last },
-    subst (Consumes (left was) (left is)) (append-nil fed.came) (Consumes-trans (left was) (left before) (left is) fed.came [] (Pulled-consumes left pulls was fed.came turns before fed.pulled) last.gave),
+    subst (Consumes (left was) (left is)) (append-nil fed.came) (Consumes-trans (left was) (left before) (left is) fed.came []
+        (Pulled-consumes left pulls was fed.came turns before fed.pulled) last.gave),
   )
 
   -- nothing more came
-  pub HasFed-end : (limits : Limits) (turns : ℕ) (was before is : R) (reader : PartReader) (old new : S) (done : Unit {0}) → IsPull left pulls before [] is → IsAtEnd (left is)
-      → health is ≡ healths.Well → HasFed limits turns was before reader old new → turns < limits.max_reads → CameOf limits was is old (Ok done) reader new
+  pub HasFed-end : (limits : Limits) (turns : ℕ) (was before is : R) (reader : PartReader) (old new : S) (done : Unit {0})
+      → IsPull left pulls before [] is → IsAtEnd (left is)
+      → health is ≡ healths.Well → HasFed limits turns was before reader old new → turns < limits.max_reads
+      → CameOf limits was is old (Ok done) reader new
   HasFed-end limits turns was before is reader old new done last end well fed allowed =
       let out = PulledOut-fed limits turns was before is reader old new last allowed fed in
       (fed.came, out.1, (out.0, end, well, (fed.facts, fed.read, fed.ran)))
 
   -- what came is judged before the source's failure
-  pub HasFed-failed : (limits : Limits) (turns : ℕ) (was before is : R) (reader : PartReader) (old new : S) → IsPull left pulls before [] is → health is ≡ healths.Failed
+  pub HasFed-failed : (limits : Limits) (turns : ℕ) (was before is : R) (reader : PartReader) (old new : S) → IsPull left pulls before [] is
+      → health is ≡ healths.Failed
       → HasFed limits turns was before reader old new → turns < limits.max_reads → CameOf limits was is old (Err faults.Read) reader new
   HasFed-failed limits turns was before is reader old new last ill fed allowed =
       let out = PulledOut-fed limits turns was before is reader old new last allowed fed in
@@ -279,23 +364,45 @@ module _ {R : Type 0} (left : R → Option (List ℕ)) (health : R → Health) (
 
   -- what came is judged before there are too many reads
   pub HasFed-spent : (limits : Limits) (turns : ℕ) (was is : R) (reader : PartReader) (old new : S) → health is ≡ healths.Well
-      → HasFed limits turns was is reader old new → turns ≡ limits.max_reads → CameOf limits was is old (Err faults.ReadsExceeded) reader new
+      → HasFed limits turns was is reader old new → turns ≡ limits.max_reads
+      → CameOf limits was is old (Err faults.ReadsExceeded) reader new
   HasFed-spent limits turns was is reader old new well fed all = (
     fed.came,
     Pulled-consumes left pulls was fed.came turns is fed.pulled,
-    (subst (λ (n : ℕ). Pulled left pulls was fed.came n is) all fed.pulled, well, IsJudged-read begins steps refuses failed limits fed.came fed.facts reader old new fed.read fed.ran),
+    (
+      subst (λ (n : ℕ). Pulled left pulls was fed.came n is) all fed.pulled,
+      well,
+      IsJudged-read begins steps refuses failed limits fed.came
+          fed.facts reader old new fed.read fed.ran,
+    ),
   )
 
   -- the end of a part that came whole
-  ReadsPart-whole : (limits : Limits) (was : R) (came : List ℕ) (is : R) (reader : PartReader) (facts : List FactValue) (old new : S) (summary : PartSummary) → PulledOut left pulls limits was came is → IsAtEnd (left is)
-      → health is ≡ healths.Well → HasRead limits came facts reader → Run begins steps old (header_of reader) facts new → Finishes limits came facts (header_of reader) (Ok summary)
+  ReadsPart-whole : (limits : Limits) (was : R) (came : List ℕ) (is : R) (reader : PartReader) (facts : List FactValue) (old new : S)
+      (summary : PartSummary) → PulledOut left pulls limits was came is → IsAtEnd (left is)
+      → health is ≡ healths.Well → HasRead limits came facts reader → Run begins steps old (header_of reader) facts new
+      → Finishes limits came facts (header_of reader) (Ok summary)
       → ReadsPart left health pulls begins steps refuses failed limits was came is old (Ok summary) new
-  ReadsPart-whole limits was came is reader facts old new summary out end well read ran finished =
-      (out, end, well, read.within, finished.0, finished.1, (facts, finished.2, subst (λ (h : Option Header). Run begins steps old h facts new) finished.3 ran))
+  ReadsPart-whole limits was came is reader facts old new summary out end well read ran finished = (
+    out,
+    end,
+    well,
+    read.within,
+    finished.0,
+    finished.1,
+    (
+      facts,
+      finished.2,
+      subst
+          (λ (h : Option Header). Run begins steps old h facts new) finished.3 ran,
+    ),
+  )
 
   -- the end of a part that did not come whole
-  ReadsPart-cut : (limits : Limits) (was : R) (came : List ℕ) (is : R) (reader : PartReader) (facts : List FactValue) (old new : S) (fault : PartFault) → PulledOut left pulls limits was came is → IsAtEnd (left is)
-      → health is ≡ healths.Well → HasRead limits came facts reader → Run begins steps old (header_of reader) facts new → IsFirstFault limits.max_item came fault → is_settled fault ≡ false
+  ReadsPart-cut : (limits : Limits) (was : R) (came : List ℕ) (is : R) (reader : PartReader) (facts : List FactValue) (old new : S)
+      (fault : PartFault) → PulledOut left pulls limits was came is → IsAtEnd (left is)
+      → health is ≡ healths.Well → HasRead limits came facts reader → Run begins steps old (header_of reader) facts new
+      → IsFirstFault limits.max_item came fault → is_settled fault ≡ false
       → ReadsPart left health pulls begins steps refuses failed limits was came is old (Err fault) new
   ReadsPart-cut limits was came is reader facts old new (faults.Malformed at BadMagic) out end well read ran first unsettled = absurd cc
   ReadsPart-cut limits was came is reader facts old new (faults.Malformed at BadIdSize) out end well read ran first unsettled = absurd cc
@@ -305,7 +412,6 @@ module _ {R : Type 0} (left : R → Option (List ℕ)) (health : R → Health) (
   ReadsPart-cut limits was came is reader facts old new (faults.Malformed at BadSubTag) out end well read ran first unsettled = absurd cc
   ReadsPart-cut limits was came is reader facts old new (faults.Malformed at PastEnd) out end well read ran first unsettled = absurd cc
   ReadsPart-cut limits was came is reader facts old new (faults.Malformed at BadType) out end well read ran first unsettled = absurd cc
-  ReadsPart-cut limits was came is reader facts old new (faults.Malformed at Unsupported) out end well read ran first unsettled = absurd cc
   ReadsPart-cut limits was came is reader facts old new (faults.ItemTooLong at) out end well read ran first unsettled = absurd cc
   ReadsPart-cut limits was came is reader facts old new faults.OutOfMemory out end well read ran first unsettled = absurd cc
   ReadsPart-cut limits was came is reader facts old new (faults.Sink fault) out end well read ran first unsettled = absurd cc
@@ -315,8 +421,10 @@ module _ {R : Type 0} (left : R → Option (List ℕ)) (health : R → Health) (
   ReadsPart-cut limits was came is reader facts old new faults.BytesExceeded out end well read ran first unsettled = absurd cc
 
   -- the end of a part
-  pub ReadsPart-finished : (limits : Limits) (was : R) (came : List ℕ) (is : R) (reader : PartReader) (old new : S) (done : Unit {0}) (result : Result PartSummary PartFault)
-      → FeedsAll left health pulls begins steps refuses failed limits was came is old (Ok done) reader new → ((facts : List FactValue) → HasRead limits came facts reader → Finishes limits came facts (header_of reader) result)
+  pub ReadsPart-finished : (limits : Limits) (was : R) (came : List ℕ) (is : R) (reader : PartReader) (old new : S) (done : Unit {0})
+      (result : Result PartSummary PartFault)
+      → FeedsAll left health pulls begins steps refuses failed limits was came is old (Ok done) reader new
+      → ((facts : List FactValue) → HasRead limits came facts reader → Finishes limits came facts (header_of reader) result)
       → ReadsPart left health pulls begins steps refuses failed limits was came is old result new
   ReadsPart-finished limits was came is reader old new done (Ok summary) fed finishes =
       ReadsPart-whole limits was came is reader fed.3.0 old new summary fed.0 fed.1 fed.2 fed.3.1 fed.3.2 (finishes fed.3.0 fed.3.1)
@@ -326,5 +434,6 @@ module _ {R : Type 0} (left : R → Option (List ℕ)) (health : R → Health) (
 
   -- no memory for a piece
   pub ReadsPart-memory : (limits : Limits) (was : R) (sink : S) → health was ≡ healths.Well
-      → (came : List ℕ) × Consumes (left was) (left was) came × ReadsPart left health pulls begins steps refuses failed limits was came was sink (Err faults.OutOfMemory) sink
+      → (came : List ℕ) × Consumes (left was) (left was) came × ReadsPart left health pulls begins steps refuses failed limits was came was
+      sink (Err faults.OutOfMemory) sink
   ReadsPart-memory limits was sink well = ([], Consumes-nil (left was), (well, inl (refl, refl, refl)))

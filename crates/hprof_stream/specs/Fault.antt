@@ -3,7 +3,7 @@
 use Rattle.std.specs.Prelude.{◌≡◌, ◌==◌, ◌&&◌, ℕ, Bool, true, false, List, [], ◌++◌, length, Option, Some, None}
 use Rattle.hprof_items.specs.declared.header.Header.{Header}
 use Rattle.hprof_values.specs.declared.reason.Reason.{Reason}
-use Rattle.hprof_values.specs.declared.reason.Reason.TheVariants.{BadMagic, BadIdSize, Truncated, BadLength, BadSubTag, PastEnd, BadType, Unsupported}
+use Rattle.hprof_values.specs.declared.reason.Reason.TheVariants.{BadMagic, BadIdSize, Truncated, BadLength, BadSubTag, PastEnd, BadType}
 use Rattle.hprof_items.specs.declared.step.Step.{Step}
 use Rattle.hprof_items.specs.declared.step.Step.TheVariants.{Whole, Short, TooLong, Fault}
 use Rattle.hprof_items.specs.FactValue.{FactValue}
@@ -65,7 +65,6 @@ is_lasting BadLength = true
 is_lasting BadSubTag = true
 is_lasting PastEnd = true
 is_lasting BadType = true
-is_lasting Unsupported = true
 
 abbrev pub is_settled : PartFault → Bool
 is_settled (Malformed at reason) = is_lasting reason

@@ -1,7 +1,12 @@
 pub mod Record
 pub mod Part
 pub mod Item
+pub mod ItemStep
+pub mod Progress
 pub mod Fault
 pub mod Run
-pub mod Reader
+pub mod Offset
+pub mod Rest
 pub mod Walking
+pub mod Reader
+pub mod Feeding

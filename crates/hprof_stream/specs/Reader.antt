@@ -1,5 +1,5 @@
 -- What a reader of a part has read, and what reading on does.
-use Rattle.std.specs.Prelude.{◌≡◌, ◌⊎◌, ℕ, ◌+◌, ◌-◌, ◌^◌, ◌≤◌, ◌<◌, min, max, Bool, true, false, List, ◌++◌, length, take, [], Option, Some, None, Result, Ok, Err, ⊤}
+use Rattle.std.specs.Prelude.{◌≡◌, ◌⊎◌, ℕ, ◌+◌, ◌-◌, ◌^◌, ◌≤◌, ◌<◌, min, max, Bool, true, false, List, ◌++◌, length, take, [], Option, Some, None, Result, Ok, Err}
 use Rattle.std.specs.List.{list_any}
 use Rattle.std.specs.Io.KnownBytes.{Consumes, IsAtEnd}
 use Rattle.hprof_items.specs.declared.header.Header.{Header}
@@ -16,9 +16,12 @@ use Rattle.hprof_stream.specs.declared.sink.SinkFault.{SinkFault}
 use Rattle.hprof_stream.specs.declared.part_reader.PartReader.{PartReader}
 use Rattle.hprof_stream.specs.declared.summary.PartSummary.{PartSummary}
 use Rattle.hprof_stream.specs.Part.{Stated, all_bytes, all_facts, is_end, IsPart, IsSummary}
-use Rattle.hprof_stream.specs.Item.{Place, Start, place_behind, IsItem, AreItems, item_at}
+use Rattle.hprof_stream.specs.Item.{Place, Start, header_before, IsItem, AreItems, records_begun, held_of, item_at}
 use Rattle.hprof_stream.specs.Fault.{Splits, HasNoFault, IsFirstFault, HasNoSettledFault, StatesSoFar, is_settled}
+use Rattle.hprof_stream.specs.Progress.{place_of}
+use Rattle.hprof_stream.specs.Rest.{IsRest}
 use Rattle.hprof_stream.specs.Run.{Run, became}
+use Rattle.hprof_stream.specs.Walking.{IsBegun, Refuses}
 
 -- ---- the words for a reader
 
@@ -30,57 +33,51 @@ header_of reader = reader.progress.header
 abbrev pub has_failed : PartReader → Bool
 has_failed reader = reader.failed
 
--- the sink was begun with the header's size
-abbrev pub IsBegun : Option Header → Option IdSize → Type 0
-IsBegun None begun = ⊤
-IsBegun (Some header) begun = begun ≡ Some header.ids
-
 -- the sink was begun with the size of the part, while no fault came
 abbrev pub IsReady : PartReader → Option IdSize → Type 0
 IsReady reader begun = has_failed reader ≡ false → IsBegun (header_of reader) begun
 
--- how many of the items are no record
-abbrev pub header_count : Option Header → ℕ
-header_count None = 0
-header_count (Some header) = 1
-
 -- this is a reader that was fed these bytes with no fault; the whole items among them state these facts
+--   unfinished: the bytes behind them
 pub record HasRead (limits : Limits) (bytes : List ℕ) (facts : List FactValue) (reader : PartReader) : Type 0 where
   pub has_limits : reader.progress.limits ≡ limits
   pub sound : has_failed reader ≡ false
   pub within : length bytes ≤ limits.max_bytes
   pub items : List Stated
-  pub splits : Splits limits.max_item bytes items (place_behind (header_of reader)) reader.held.items
-  pub unfinished : item_at limits.max_item (place_behind (header_of reader)) reader.held.items ≡ Short
+  pub unfinished : List ℕ
+  pub splits : Splits limits.max_item bytes items (place_of reader.progress) unfinished
+  pub keeps : IsRest limits.max_item (place_of reader.progress) unfinished reader.rest
   pub has_facts : all_facts items ≡ facts
   pub offset : reader.progress.at ≡ length (all_bytes items)
-  pub record_count : reader.progress.records + header_count (header_of reader) ≡ length items
+  pub record_count : reader.progress.records ≡ records_begun splits.each
   pub fact_count : reader.progress.facts ≡ length facts
   pub has_end : reader.progress.ended ≡ list_any is_end items
 
--- so many bytes are those of an item that is not whole yet
+-- so many bytes are held of an item that is not whole yet: all that are there, but of a record that is passed over none
 pub record IsUnfinished (longest : ℕ) (bytes : List ℕ) (count : ℕ) : Type 0 where
   pub items : List Stated
   pub place : Place
   pub rest : List ℕ
   pub splits : Splits longest bytes items place rest
   pub short : item_at longest place rest ≡ Short
-  pub has_count : length rest ≡ count
+  pub has_count : length (held_of longest place rest) ≡ count
 
--- some bytes are those of an item that is not whole yet
+-- some bytes are held of an item that is not whole yet
 abbrev pub IsWithinItem : ℕ → List ℕ → Type 0
 IsWithinItem longest bytes = (count : ℕ) × IsUnfinished longest bytes count × (0 < count)
 
--- the bytes begin with whole and right items, of which the last is a header or a record with a fact
---   header: that of the items before the last, if any;  told: that of all
+-- the bytes begin with whole and right items, of which the last is a header or states a fact
+--   before, next: the places before the last and behind it;  told: the header of all
 pub record BeginsWhole (longest : ℕ) (bytes : List ℕ) (told : Option Header) : Type 0 where
   pub items : List Stated
-  pub header : Option Header
+  pub before : Place
   pub last : Stated
+  pub next : Place
   pub back : List ℕ
-  pub each : AreItems longest Start items (place_behind header)
-  pub item : IsItem longest (place_behind header) last (place_behind told)
-  pub given : last.facts ≡ [] → header ≡ None
+  pub each : AreItems longest Start items before
+  pub item : IsItem longest before last next
+  pub has_told : header_before next ≡ told
+  pub given : last.facts ≡ [] → header_before before ≡ None
   pub parts : bytes ≡ all_bytes items ++ (last.bytes ++ back)
 
 -- where the last of them ends
@@ -104,15 +101,10 @@ module _ {S : Type 0} (begins : S → Header → S → Type 0) (steps : S → Fa
   -- the same over the items at the front, up to one that the sink was then given
   pub record RanUpTo (longest : ℕ) (bytes : List ℕ) (facts : List FactValue) (from to : Option Header) (old new : S) : Type 0 where
     pub whole : BeginsWhole longest bytes to
-    pub stays : (before : Header) → from ≡ Some before → whole.header ≡ Some before
+    pub stays : (before : Header) → from ≡ Some before → header_before whole.before ≡ Some before
     pub handed : List FactValue
     pub has_facts : all_facts whole.items ≡ facts ++ handed
-    pub ran : Run begins steps old (became from whole.header) handed new
-
-module _ {S : Type 0} (refuses : S → SinkFault → Type 0) (failed : S → Bool) where
-  -- a call on the sink answered the fault, and the sink has failed
-  abbrev pub Refuses : S → SinkFault → S → Type 0
-  Refuses old fault new = refuses old fault × (failed new ≡ true)
+    pub ran : Run begins steps old (became from (header_before whole.before)) handed new
 
 module _ {S : Type 0} (begins : S → Header → S → Type 0) (steps : S → FactValue → S → Type 0) (refuses : S → SinkFault → Type 0) (failed : S → Bool) where
   -- a fault of an item, which no further byte changes: the first fault of the bytes that are taken

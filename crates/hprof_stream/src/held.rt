@@ -1,20 +1,28 @@
 //! The bytes of an item that is not whole yet.
 
-ghost use Rattle.std.specs.Prelude.{◌≡◌, ◌+◌, ◌<◌, ◌≤◌, ◌++◌, length, Some, IfOk, OnOk, OnErr};
+ghost use Rattle.std.specs.Prelude.{◌≡◌, ◌⊎◌, ◌+◌, ◌<◌, ◌≤◌, ◌++◌, ℕ, List, [], length, vec_len, vec_capacity, min, max, true, None, Some, Err, IfOk, OnOk, OnErr, IfSome};
 ghost use Rattle.hprof_items.specs.declared.step.Step.TheVariants.{Short};
-ghost use Rattle.hprof_stream.specs.Item.{place_behind, item_at};
-ghost use Rattle.hprof_stream.specs.Reader.{IsBegun};
-ghost use Rattle.hprof_stream.specs.Walking.{IsCounted, HasAtLeast, Fills, FinishesHeld, ReadsOn, seen};
+ghost use Rattle.hprof_values.specs.Ids.{IsBytes};
+ghost use Rattle.hprof_items.specs.declared.header.Header.{Header};
+ghost use Rattle.hprof_stream.specs.Item.{held_of, item_at};
+ghost use Rattle.hprof_stream.specs.Progress.{place_of, IsCounted};
+ghost use Rattle.hprof_stream.specs.Rest.{passing_of, walk_at, IsWalkOf, IsRest, IsSound, rest_len};
+ghost use Rattle.hprof_stream.specs.Walking.{IsBegun, FinishesHeld, ReadsOn, seen};
+ghost use Rattle.hprof_stream.specs.Reader.{longest_held};
 
 use crate::part_fault::PartFault;
 use crate::progress::Progress;
+use crate::rest::{Passing, Rest, pass_over};
 use crate::sink::Sink;
-use hprof_items::{HEAD_LEN, HEADER_LEN, HeadKind, Header, Step, read_head};
+use hprof_items::{HEAD_LEN, HEADER_LEN, HeadKind, Step, Stop, go_on, read_head};
+use hprof_values::Item;
 
 /// Adds bytes to those that are held.
-pub(crate) fn hold(held: &mut Vec<u8>, bytes: &[u8]) -> Result<(), PartFault>
+fn hold(held: &mut Vec<u8>, bytes: &[u8]) -> Result<(), PartFault>
     ensures ok { OnOk result (held.new.items ≡ held.old.items ++ bytes.now) }
     ensures err { OnErr result ((result ≡ Err PartFault.OutOfMemory) × (held.new.items ≡ held.old.items) × (0 < length bytes.now)) }
+    ensures full { OnErr result (vec_capacity held.old < vec_len held.old + length bytes.now) }
+    ensures grows { vec_capacity held.old ≤ vec_capacity held.new }
 {
     match held.extend_from_slice(bytes) {
         Ok(()) => Ok(()),
@@ -22,113 +30,192 @@ pub(crate) fn hold(held: &mut Vec<u8>, bytes: &[u8]) -> Result<(), PartFault>
     }
 }
 
-/// How many bytes a record has at least, of which some are held.
-fn least_record(header: &Header, held: &[u8], longest: u32) -> usize
-    ensures { HasAtLeast longest (Some header.now) held.now result }
+/// How many bytes are added to those that are held at once: as many again, and no more than an item may still have.
+fn portion(held: usize, longest: u32) -> usize
+    ensures some { 0 < result }
+    ensures within { held + result ≤ max (longest_held longest) (held + 1) }
 {
-    match read_head(held, header.ids, longest) {
-        Step::Whole(head, _) => match head.kind() {
-            HeadKind::FactRecord => HEAD_LEN + head.length as usize,
-            HeadKind::HeapDump | HeadKind::DumpEnd | HeadKind::Skipped => HEAD_LEN,
-        },
-        Step::Short | Step::TooLong | Step::Fault(_) => HEAD_LEN,
+    let bound = HEADER_LEN.max(HEAD_LEN + longest as usize);
+    bound.saturating_sub(held).min(held.max(4_096)).max(1)
+}
+
+/// How much was seen of the record at the front, if it is one that is passed over and its head is there.
+fn passing_at(progress: &Progress, bytes: &[u8]) -> Option<Passing>
+    ensures passing { result ≡ passing_of progress.now.limits.max_item (place_of progress.now) bytes.now }
+    ensures bytes { IsBytes bytes.now }
+    ensures head { IfSome result (λ passing. (passing.seen ≡ length bytes.now) × (9 ≤ length bytes.now)) }
+{
+    let header = progress.header?;
+    if progress.room > 0 {
+        return None;
+    }
+    let Step::Whole(head, _) = read_head(bytes, header.ids, progress.limits.max_item) else {
+        return None;
+    };
+    let HeadKind::Skipped = head.kind() else {
+        return None;
+    };
+    let left = (HEAD_LEN + head.length as usize).saturating_sub(bytes.len());
+    Some(Passing {
+        seen: bytes.len() as u64,
+        left: left as u32,
+    })
+}
+
+/// Goes on with the walk over a sub-record that is held, and tells whether it needs more bytes.
+fn walks_short(progress: &Progress, rest: &mut Rest) -> bool
+    requires sound { IsSound rest.old }
+    ensures sound { IsSound rest.new }
+    ensures held { rest.new.held ≡ rest.old.held }
+    ensures passing { rest.new.passing ≡ rest.old.passing }
+    ensures walk { IsWalkOf progress.now.limits.max_item (place_of progress.now) rest.old.held.items rest.old.walk
+        → IsWalkOf progress.now.limits.max_item (place_of progress.now) rest.old.held.items rest.new.walk
+        × (result ≡ true → item_at progress.now.limits.max_item (place_of progress.now) rest.old.held.items ≡ Short) }
+    ensures held_whole { result ≡ true → passing_of progress.now.limits.max_item (place_of progress.now) rest.old.held.items ≡ None }
+{
+    let Some(header) = progress.header else {
+        return false;
+    };
+    if progress.room == 0 {
+        return false;
+    }
+    let item = Item {
+        bytes: &rest.held,
+        room: progress.room as usize,
+        longest: progress.limits.max_item as usize,
+    };
+    let (walk, end) = go_on(&item, header.ids, rest.walk);
+    rest.walk = walk;
+    matches!(end, Err(Stop::Short))
+}
+
+/// Counts what is held, where it is the head of a record that is passed over.
+fn count_passed(progress: &Progress, rest: &mut Rest)
+    requires sound { IsSound rest.old }
+    ensures sound { IsSound rest.new }
+    ensures len { rest_len rest.new ≤ rest_len rest.old }
+    ensures shorter { length rest.new.held.items ≤ length rest.old.held.items }
+    ensures rest { item_at progress.now.limits.max_item (place_of progress.now) rest.old.held.items ≡ Short
+        → IsWalkOf progress.now.limits.max_item (place_of progress.now) rest.old.held.items rest.old.walk
+        → rest.old.passing ≡ None
+        → IsRest progress.now.limits.max_item (place_of progress.now) rest.old.held.items rest.new }
+{
+    if let Some(passing) = passing_at(progress, &rest.held) {
+        rest.clear();
+        rest.passing = Some(passing);
     }
 }
 
-/// How many bytes an item has at least, of which some are held.
-fn least_len(progress: &Progress, held: &[u8]) -> usize
-    ensures { HasAtLeast progress.now.limits.max_item progress.now.header held.now result }
-{
-    match progress.header {
-        None => HEADER_LEN,
-        Some(header) => least_record(&header, held, progress.limits.max_item),
-    }
-}
-
-/// Adds to the held item what it wants of the bytes, and answers what is behind that.
-fn fill_held<'a>(
-    progress: &Progress,
-    held: &mut Vec<u8>,
+/// Adds bytes to the item that is held, and hands it to the sink if it is whole then. It answers what is behind the item, or
+/// what was not yet added to it.
+fn finish_once<'a, S: Sink>(
+    progress: &mut Progress,
+    rest: &mut Rest,
     bytes: &'a [u8],
+    sink: &mut S,
 ) -> Result<&'a [u8], PartFault>
-    requires short { item_at progress.now.limits.max_item (place_behind progress.now.header) held.old.items ≡ Short }
-    ensures ok { IfOk result (λ rest. Fills progress.now held.old.items bytes.now held.new.items rest.now) }
-    ensures shorter { IfOk result (λ rest. length rest.now ≤ length bytes.now) }
-    ensures err { OnErr result ((result ≡ Err PartFault.OutOfMemory) × (0 < length bytes.now)) }
+    requires counted { IsCounted progress.old (rest_len rest.old + length bytes.now) }
+    requires begun { IsBegun progress.old.header (S.begun sink.old) }
+    requires sound { IsSound rest.old }
+    requires holds { 0 < length rest.old.held.items }
+    requires some { 0 < length bytes.now }
+    ensures finished { (front : List ℕ) → IsRest progress.old.limits.max_item (place_of progress.old) front rest.old
+        → FinishesHeld S.begins S.steps S.refuses S.failed progress.old front bytes.now sink.old (seen result) progress.new rest.new sink.new }
+    ensures sound { OnOk result (IsSound rest.new) }
+    ensures full { result ≡ Err PartFault.OutOfMemory → vec_capacity rest.old.held < vec_len rest.old.held + length bytes.now }
+    ensures shorter { IfOk result (λ left. length left.now + min 1 (length rest.new.held.items) < length bytes.now + min 1 (length rest.old.held.items)) }
+    ensures less { IfOk result (λ left. length left.now ≤ length bytes.now) }
+    ensures counted { IfOk result (λ left. IsCounted progress.new (rest_len rest.new + length left.now)) }
+    ensures begun { OnOk result (IsBegun progress.new.header (S.begun sink.new)) }
+    ensures kept { (header : Header) → progress.old.header ≡ Some header → progress.new.header ≡ Some header }
 {
-    let mut rest = bytes;
-    loop {
-        let wanted = least_len(progress, held).saturating_sub(held.len());
-        let count = wanted.min(rest.len());
-        if count == 0 {
-            return Ok(rest);
-        }
-        let (more, after) = rest.split_at(count);
-        hold(held, more)?;
-        rest = after;
+    let before = rest.held.len();
+    let count = portion(before, progress.limits.max_item).min(bytes.len());
+    let (more, behind) = bytes.split_at(count);
+    hold(&mut rest.held, more)?;
+    if walks_short(progress, rest) {
+        return Ok(behind);
     }
+    if let Some(len) = progress.step(&rest.held, sink)? {
+        rest.clear();
+        let (_, behind) = bytes.split_at(len.saturating_sub(before));
+        return Ok(behind);
+    }
+    count_passed(progress, rest);
+    Ok(behind)
 }
 
-/// Makes the held item whole, as far as the bytes go, and hands it to the sink. It answers what is behind the item.
-/// Nothing is held any more but an item that needs more bytes than there are.
+/// Makes the item that is held whole, as far as the bytes go, and hands it to the sink. It answers what is behind the item.
 fn finish_held<'a, S: Sink>(
     progress: &mut Progress,
-    held: &mut Vec<u8>,
+    rest: &mut Rest,
     bytes: &'a [u8],
     sink: &mut S,
 ) -> Result<&'a [u8], PartFault>
-    requires counted { IsCounted progress.old (length held.old.items + length bytes.now) }
+    requires counted { IsCounted progress.old (rest_len rest.old + length bytes.now) }
     requires begun { IsBegun progress.old.header (S.begun sink.old) }
-    requires short { item_at progress.old.limits.max_item (place_behind progress.old.header) held.old.items ≡ Short }
-    ensures finished { FinishesHeld S.begins S.steps S.refuses S.failed
-        progress.old held.old.items bytes.now sink.old (seen result) progress.new held.new.items sink.new }
-    ensures shorter { IfOk result (λ rest. length rest.now ≤ length bytes.now) }
-    ensures counted { IsCounted progress.new (length held.new.items) }
+    requires sound { IsSound rest.old }
+    ensures finished { (front : List ℕ) → IsRest progress.old.limits.max_item (place_of progress.old) front rest.old
+        → FinishesHeld S.begins S.steps S.refuses S.failed progress.old front bytes.now sink.old (seen result) progress.new rest.new sink.new }
+    ensures done { IfOk result (λ left. (length rest.new.held.items ≡ 0) ⊎ (left.now ≡ [])) }
+    ensures sound { OnOk result (IsSound rest.new) }
+    ensures less { IfOk result (λ left. length left.now ≤ length bytes.now) }
+    ensures counted { IfOk result (λ left. IsCounted progress.new (rest_len rest.new + length left.now)) }
     ensures begun { OnOk result (IsBegun progress.new.header (S.begun sink.new)) }
+    ensures kept { (header : Header) → progress.old.header ≡ Some header → progress.new.header ≡ Some header }
 {
-    if held.is_empty() {
-        return Ok(bytes);
+    let mut left = bytes;
+    while !rest.held.is_empty() && !left.is_empty() {
+        left = finish_once(progress, rest, left, sink)?;
     }
-    let Ok(rest) = fill_held(progress, held, bytes) else {
-        held.clear();
-        return Err(PartFault::OutOfMemory);
-    };
-    match progress.step(held, sink) {
-        Ok(None) => Ok(rest),
-        Ok(Some(_)) => {
-            held.clear();
-            Ok(rest)
-        }
-        Err(fault) => {
-            held.clear();
-            Err(fault)
-        }
-    }
+    Ok(left)
 }
 
-/// Steps over the whole items at the front of what is held and the bytes behind it, and answers which of the bytes
-/// are left.
+/// Steps over the whole items at the front of what is kept and the bytes behind it, and answers which of the bytes are left.
 pub(crate) fn read_on<'a, S: Sink>(
     progress: &mut Progress,
-    held: &mut Vec<u8>,
+    rest: &mut Rest,
     bytes: &'a [u8],
     sink: &mut S,
 ) -> Result<&'a [u8], PartFault>
-    requires counted { IsCounted progress.old (length held.old.items + length bytes.now) }
+    requires counted { IsCounted progress.old (rest_len rest.old + length bytes.now) }
     requires begun { IsBegun progress.old.header (S.begun sink.old) }
-    requires short { item_at progress.old.limits.max_item (place_behind progress.old.header) held.old.items ≡ Short }
-    ensures read { ReadsOn S.begins S.steps S.refuses S.failed
-        progress.old held.old.items bytes.now sink.old (seen result) progress.new held.new.items sink.new }
-    ensures short { item_at progress.new.limits.max_item (place_behind progress.new.header) held.new.items ≡ Short }
-    ensures counted { IsCounted progress.new (length held.new.items) }
-    ensures shorter { IfOk result (λ rest. length rest.now ≤ length bytes.now) }
-    ensures room { IfOk result (λ rest. IsCounted progress.new (length held.new.items + length rest.now)) }
+    requires sound { IsSound rest.old }
+    ensures read { (front : List ℕ) → IsRest progress.old.limits.max_item (place_of progress.old) front rest.old
+        → ReadsOn S.begins S.steps S.refuses S.failed progress.old front bytes.now sink.old (seen result) progress.new rest.new sink.new }
+    ensures sound { OnOk result (IsSound rest.new) }
+    ensures less { IfOk result (λ left. length left.now ≤ length bytes.now) }
+    ensures counted { IfOk result (λ left. IsCounted progress.new (rest_len rest.new + length left.now)) }
     ensures begun { OnOk result (IsBegun progress.new.header (S.begun sink.new)) }
+    ensures kept { (header : Header) → progress.old.header ≡ Some header → progress.new.header ≡ Some header }
 {
-    let rest = finish_held(progress, held, bytes, sink)?;
-    if held.is_empty() {
-        progress.walk(rest, sink)
-    } else {
-        Ok(rest)
+    let left = finish_held(progress, rest, bytes, sink)?;
+    let left = pass_over(progress, rest, left);
+    if rest.passing.is_some() || !rest.held.is_empty() {
+        return Ok(left);
     }
+    rest.clear();
+    progress.walk(left, sink)
+}
+
+/// Keeps what is left behind the last item that was whole: its bytes, or how much was seen of a record that is passed over.
+pub(crate) fn keep(progress: &Progress, rest: &mut Rest, left: &[u8]) -> Result<(), PartFault>
+    requires counted { IsCounted progress.now (rest_len rest.old + length left.now) }
+    requires sound { IsSound rest.old }
+    ensures ok { OnOk result ((still : List ℕ) → IsRest progress.now.limits.max_item (place_of progress.now) still rest.old
+        → item_at progress.now.limits.max_item (place_of progress.now) (still ++ left.now) ≡ Short → (still ≡ []) ⊎ (left.now ≡ [])
+        → IsRest progress.now.limits.max_item (place_of progress.now) (still ++ left.now) rest.new) }
+    ensures err { OnErr result ((result ≡ Err PartFault.OutOfMemory) × (0 < length left.now)
+        × ((still : List ℕ) → (still ≡ []) ⊎ (left.now ≡ []) → 0 < length (held_of progress.now.limits.max_item (place_of progress.now) (still ++ left.now)))) }
+    ensures sound { OnOk result (IsSound rest.new) }
+    ensures counted { OnOk result (IsCounted progress.now (rest_len rest.new)) }
+{
+    if left.is_empty() {
+        return Ok(());
+    }
+    if let Some(passing) = passing_at(progress, left) {
+        rest.passing = Some(passing);
+        return Ok(());
+    }
+    hold(&mut rest.held, left)
 }

@@ -2,12 +2,14 @@
 #![tactic(auto)]
 
 mod held;
+mod item;
 pub mod laws;
 mod limits;
 mod part_fault;
 mod part_reader;
 mod progress;
 mod reading;
+mod rest;
 mod sink;
 mod summary;
 

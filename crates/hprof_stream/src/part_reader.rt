@@ -4,12 +4,14 @@ ghost use Rattle.std.specs.Prelude.{◌≡◌, ℕ, ◌+◌, ◌≤◌, List, []
 ghost use Rattle.hprof_items.specs.declared.header.Header.{Header};
 ghost use Rattle.hprof_values.specs.declared.ids.IdSize.{IdSize};
 ghost use Rattle.hprof_items.specs.FactValue.{FactValue};
-ghost use Rattle.hprof_stream.specs.Item.{place_behind, is_short, item_at};
+ghost use Rattle.hprof_stream.specs.Progress.{IsCounted};
+ghost use Rattle.hprof_stream.specs.Rest.{IsSound, rest_len};
 
-use crate::held::{hold, read_on};
+use crate::held::{keep, read_on};
 use crate::limits::Limits;
 use crate::part_fault::PartFault;
 use crate::progress::Progress;
+use crate::rest::Rest;
 use crate::sink::Sink;
 use crate::summary::PartSummary;
 use hprof_items::{Header, Reason};
@@ -19,17 +21,15 @@ use std::alloc::Global;
 #[derive(Drop)]
 pub struct PartReader {
     progress: Progress,
-    held: Vec<u8>,
+    rest: Rest,
     failed: bool,
-    ghost within: { progress.at + length held.items ≤ progress.limits.max_bytes },
-    ghost counted: { progress.records ≤ progress.at },
-    ghost stated: { progress.facts ≤ progress.at },
-    ghost emptied: { failed ≡ true → length held.items ≡ 0 },
-    ghost short: { is_short (item_at progress.limits.max_item (place_behind progress.header) held.items) ≡ true },
+    ghost counted: { failed ≡ false → IsCounted progress (rest_len rest) },
+    ghost sound: { failed ≡ false → IsSound rest },
+    ghost emptied: { failed ≡ true → length rest.held.items ≡ 0 },
 }
 
 impl PartReader {
-    ghost use Rattle.hprof_stream.specs.Reader.{HasRead, header_of, has_failed, IsReady, IsBegun, IsUnfinished, longest_held, Feeds, Finishes};
+    ghost use Rattle.hprof_stream.specs.Reader.{HasRead, header_of, has_failed, IsReady, IsUnfinished, longest_held, Feeds, Finishes};
     ghost use Rattle.hprof_stream.specs.declared.limits.Limits.{Limits};
 
     /// A reader that was fed nothing. It takes no memory yet.
@@ -39,7 +39,7 @@ impl PartReader {
     {
         PartReader {
             progress: Progress::start(limits),
-            held: Vec::new(alloc),
+            rest: Rest::new(alloc),
             failed: false,
         }
     }
@@ -63,10 +63,18 @@ impl PartReader {
         if self.failed {
             return Err(PartFault::Failed);
         }
-        let outcome = self.take_piece(piece, sink);
+        let progress = &mut self.progress;
+        let rest = &mut self.rest;
+        let room = progress.limits.max_bytes - progress.at - rest.len();
+        let (taken, excess) = piece.split_at(room.min(piece.len() as u64) as usize);
+        let outcome = match read_on(progress, rest, taken, sink) {
+            Ok(left) if excess.is_empty() => keep(progress, rest, left),
+            Ok(_) => Err(PartFault::BytesExceeded),
+            Err(fault) => Err(fault),
+        };
         if outcome.is_err() {
             self.failed = true;
-            self.held.clear();
+            self.rest.clear();
         }
         outcome
     }
@@ -84,7 +92,7 @@ impl PartReader {
             → IsUnfinished limits.max_item bytes result × (result ≤ length bytes) × (result ≤ longest_held limits.max_item) }
         ensures failed { has_failed self.now ≡ true → result ≡ 0 }
     {
-        self.held.len()
+        self.rest.held.len()
     }
 
     /// The end of the part: what was read of it, where the bytes end behind an item and a header is there. Else they
@@ -99,7 +107,7 @@ impl PartReader {
         }
         let progress = self.progress;
         match progress.header {
-            Some(header) if self.held.is_empty() => Ok(PartSummary {
+            Some(header) if self.rest.is_empty() && progress.room == 0 => Ok(PartSummary {
                 header,
                 records: progress.records,
                 facts: progress.facts,
@@ -110,26 +118,6 @@ impl PartReader {
                 reason: Reason::Truncated,
             }),
         }
-    }
-
-    fn take_piece<S: Sink>(&mut self, piece: &[u8], sink: &mut S) -> Result<(), PartFault>
-        requires sound { has_failed self.old ≡ false }
-        requires begun { IsBegun (header_of self.old) (S.begun sink.old) }
-        ensures fed { (limits : Limits) (bytes : List ℕ) (facts : List FactValue) → HasRead limits bytes facts self.old
-            → Feeds S.begins S.steps S.refuses S.failed limits bytes facts self.old piece.now sink.old result self.new sink.new }
-        ensures sound { has_failed self.new ≡ false }
-        ensures kept { (header : Header) → header_of self.old ≡ Some header → header_of self.new ≡ Some header }
-        ensures begun { OnOk result (IsBegun (header_of self.new) (S.begun sink.new)) }
-    {
-        let progress = &mut self.progress;
-        let held = &mut self.held;
-        let room = progress.limits.max_bytes - progress.at - held.len() as u64;
-        let (taken, excess) = piece.split_at(room.min(piece.len() as u64) as usize);
-        let rest = read_on(progress, held, taken, sink)?;
-        if !excess.is_empty() {
-            return Err(PartFault::BytesExceeded);
-        }
-        hold(held, rest)
     }
 }
 

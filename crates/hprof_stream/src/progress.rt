@@ -1,15 +1,19 @@
 //! How far into a part reading has come, and the step over one item.
 
-ghost use Rattle.std.specs.Prelude.{◌≡◌, ℕ, ◌+◌, ◌^◌, ◌<◌, ◌≤◌, length, drop, MatchOption, MatchResult, IfOk, Some, true, OnOk};
-ghost use Rattle.hprof_items.specs.declared.step.Step.TheVariants.{Whole, Short};
-ghost use Rattle.hprof_items.specs.Head.{kind_of};
-ghost use Rattle.hprof_items.specs.Reading.{head_at};
-ghost use Rattle.hprof_stream.specs.Fault.{IsStopAt};
+ghost use Rattle.std.specs.Prelude.{◌≡◌, ℕ, ◌+◌, ◌≤◌, length, drop, Some, None, Option, IfOk, IfErr, OnOk};
+ghost use Rattle.hprof_items.specs.declared.step.Step.TheVariants.{Whole};
+ghost use Rattle.hprof_stream.specs.Item.{item_at};
+ghost use Rattle.hprof_stream.specs.ItemStep.{IsFound, IfRead, IsOfPlace, ItemLists};
+ghost use Rattle.hprof_items.specs.declared.header.Header.{Header};
+ghost use Rattle.hprof_items.specs.Spelling.{longest_body};
+ghost use Rattle.hprof_values.specs.Ids.{IsBytes};
+ghost use Rattle.hprof_stream.specs.Walking.{IsBegun, GivesFit, Gives, GivesSome, Refuses, told_by};
 
+use crate::item::{Item, first_item, record_item, sub_item};
 use crate::limits::Limits;
 use crate::part_fault::PartFault;
-use crate::sink::Sink;
-use hprof_items::{HEAD_LEN, Head, HeadKind, Header, Step, read_body, read_head, read_header};
+use crate::sink::{Sink, SinkFault};
+use hprof_items::{Header, Step};
 
 /// What has been read of a part: its whole items from the front.
 #[derive(Clone, Copy)]
@@ -17,6 +21,8 @@ pub(crate) struct Progress {
     pub(crate) limits: Limits,
     /// The header, once it was read.
     pub(crate) header: Option<Header>,
+    /// How many bytes a heap dump record has left, if the next item stands within one; else 0.
+    pub(crate) room: u32,
     /// The offset of the next item.
     pub(crate) at: u64,
     /// The number of records.
@@ -27,23 +33,9 @@ pub(crate) struct Progress {
     pub(crate) ended: bool,
 }
 
-/// What was read, with its number of bytes, or None where more bytes are needed.
-fn if_whole<T>(step: Step<T>, at: u64) -> Result<Option<(T, usize)>, PartFault>
-    ensures { MatchResult result
-        (λ found. MatchOption found (step ≡ Short) (λ x. step ≡ Whole x.0 x.1))
-        (λ fault. IsStopAt step at fault) }
-{
-    match step {
-        Step::Whole(value, len) => Ok(Some((value, len))),
-        Step::Short => Ok(None),
-        Step::TooLong => Err(PartFault::ItemTooLong { at }),
-        Step::Fault(reason) => Err(PartFault::Malformed { at, reason }),
-    }
-}
-
 impl Progress {
-    ghost use Rattle.hprof_stream.specs.Reader.{IsBegun};
-    ghost use Rattle.hprof_stream.specs.Walking.{start_of, IsCounted, StepsOver, WalksAll, seen};
+    ghost use Rattle.hprof_stream.specs.Progress.{start_of, place_of, advanced, IsCounted, IsNext};
+    ghost use Rattle.hprof_stream.specs.Walking.{StepsOver, WalksAll, told_by, seen};
 
     /// Nothing was read.
     pub(crate) fn start(limits: Limits) -> Self
@@ -52,6 +44,7 @@ impl Progress {
         Progress {
             limits,
             header: None,
+            room: 0,
             at: 0,
             records: 0,
             facts: 0,
@@ -59,100 +52,60 @@ impl Progress {
         }
     }
 
-    fn step_header<S: Sink>(
-        &mut self,
-        bytes: &[u8],
-        sink: &mut S,
-    ) -> Result<Option<usize>, PartFault>
-        requires start { self.old.header ≡ None }
-        requires counted { IsCounted self.old (length bytes.now) }
-        ensures step { StepsOver S.begins S.steps S.refuses S.failed self.old bytes.now sink.old result self.new sink.new }
-        ensures begun { OnOk result (IsBegun self.new.header (S.begun sink.new)) }
+    /// The item at the front.
+    fn item<'a>(&self, bytes: &'a [u8]) -> Step<Item<'a>>
+        ensures found { IsFound (place_of self.now) result (item_at self.now.limits.max_item (place_of self.now) bytes.now) }
+        ensures place { IfRead result (IsOfPlace (place_of self.now) bytes.now) }
+        ensures lists { IfRead result (ItemLists self.now.header) }
+        ensures room { self.now.room ≤ longest_body }
     {
-        let Some((header, len)) = if_whole(read_header(bytes), self.at)? else {
-            return Ok(None);
-        };
-        // It was read, also where the sink refuses it.
-        self.header = Some(header);
-        if let Err(fault) = sink.begin_part(header) {
-            return Err(PartFault::Sink(fault));
+        let longest = self.limits.max_item;
+        let room = self.room;
+        match self.header {
+            None => first_item(bytes, longest),
+            Some(header) if room == 0 => record_item(&header, bytes, longest),
+            Some(header) => sub_item(&header, room, bytes, longest),
         }
+    }
+
+    /// Tells the header that was read, also where the sink refuses it.
+    fn tell(&mut self, item: &Item<'_>)
+        ensures { self.new ≡ record self.old { header = told_by self.old.header item.now } }
+    {
+        if let Item::Header(header) = *item {
+            self.header = Some(header);
+        }
+    }
+
+    /// Counts an item that was read.
+    pub(crate) fn advance(&mut self, item: &Item<'_>, len: usize)
+        requires counted { IsCounted self.old len }
+        requires next { IsNext self.old item.now len }
+        ensures { self.new ≡ advanced self.old item.now len }
+    {
         self.at += len as u64;
-        Ok(Some(len))
-    }
-
-    /// Steps over a record with a fact, of which the head was read.
-    fn step_fact<S: Sink>(
-        &mut self,
-        header: &Header,
-        head: &Head,
-        bytes: &[u8],
-        sink: &mut S,
-    ) -> Result<Option<usize>, PartFault>
-        requires behind { self.old.header ≡ Some header.now }
-        requires head { head_at header.now.ids self.old.limits.max_item bytes.now ≡ Whole head.now 9 }
-        requires kind { kind_of head.now.tag ≡ HeadKind.FactRecord }
-        requires counted { IsCounted self.old (length bytes.now) }
-        requires begun { S.begun sink.old ≡ Some header.now.ids }
-        ensures step { StepsOver S.begins S.steps S.refuses S.failed self.old bytes.now sink.old result self.new sink.new }
-        ensures begun { OnOk result (IsBegun self.new.header (S.begun sink.new)) }
-    {
-        let len = HEAD_LEN + head.length as usize;
-        if bytes.len() < len {
-            return Ok(None);
-        }
-        let fact = match read_body(head, &bytes[HEAD_LEN..len], header.ids) {
-            Ok(fact) => fact,
-            Err(reason) => {
-                return Err(PartFault::Malformed {
-                    at: self.at,
-                    reason,
-                });
+        match *item {
+            Item::Header(header) => {
+                self.header = Some(header);
+                self.room = 0;
             }
-        };
-        if let Err(fault) = sink.take(fact) {
-            return Err(PartFault::Sink(fault));
-        }
-        self.at += len as u64;
-        self.records += 1;
-        self.facts += 1;
-        Ok(Some(len))
-    }
-
-    /// Steps over the end of a heap dump, of which the head was read.
-    fn step_end(&mut self)
-        requires { IsCounted self.old 9 }
-        ensures { self.new ≡ record self.old { at = self.old.at + 9; records = self.old.records + 1; ended = true } }
-    {
-        self.at += HEAD_LEN as u64;
-        self.records += 1;
-        self.ended = true;
-    }
-
-    fn step_record<S: Sink>(
-        &mut self,
-        header: &Header,
-        bytes: &[u8],
-        sink: &mut S,
-    ) -> Result<Option<usize>, PartFault>
-        requires behind { self.old.header ≡ Some header.now }
-        requires counted { IsCounted self.old (length bytes.now) }
-        requires begun { S.begun sink.old ≡ Some header.now.ids }
-        ensures step { StepsOver S.begins S.steps S.refuses S.failed self.old bytes.now sink.old result self.new sink.new }
-        ensures begun { OnOk result (IsBegun self.new.header (S.begun sink.new)) }
-    {
-        let read = read_head(bytes, header.ids, self.limits.max_item);
-        let Some((head, len)) = if_whole(read, self.at)? else {
-            return Ok(None);
-        };
-        match head.kind() {
-            HeadKind::FactRecord => self.step_fact(header, &head, bytes, sink),
-            HeadKind::DumpEnd => {
-                self.step_end();
-                Ok(Some(len))
+            Item::Fact(_) => {
+                self.records += 1;
+                self.facts += 1;
             }
-            // The head was read, so it is of a record that is known.
-            HeadKind::HeapDump | HeadKind::Skipped => unreachable!(),
+            Item::Dump(room) => {
+                self.records += 1;
+                self.room = room;
+            }
+            Item::End => {
+                self.records += 1;
+                self.ended = true;
+            }
+            Item::Skipped => self.records += 1,
+            Item::Sub(_) => {
+                self.facts += 1;
+                self.room -= len as u32;
+            }
         }
     }
 
@@ -167,10 +120,23 @@ impl Progress {
         requires begun { IsBegun self.old.header (S.begun sink.old) }
         ensures step { StepsOver S.begins S.steps S.refuses S.failed self.old bytes.now sink.old result self.new sink.new }
         ensures begun { OnOk result (IsBegun self.new.header (S.begun sink.new)) }
+        ensures room { self.old.room ≤ longest_body }
+        ensures bytes { IsBytes bytes.now }
     {
-        match self.header {
-            None => self.step_header(bytes, sink),
-            Some(header) => self.step_record(&header, bytes, sink),
+        let at = self.at;
+        match self.item(bytes) {
+            Step::Whole(item, len) => {
+                let (spelled, _) = bytes.split_at(len);
+                if let Err(fault) = give(&item, spelled, sink) {
+                    self.tell(&item);
+                    return Err(PartFault::Sink(fault));
+                }
+                self.advance(&item, len);
+                Ok(Some(len))
+            }
+            Step::Short => Ok(None),
+            Step::TooLong => Err(PartFault::ItemTooLong { at }),
+            Step::Fault(reason) => Err(PartFault::Malformed { at, reason }),
         }
     }
 
@@ -191,5 +157,20 @@ impl Progress {
             (_, rest) = rest.split_at(len);
         }
         Ok(rest)
+    }
+}
+
+/// Hands an item, which has these bytes, to the sink.
+fn give<S: Sink>(item: &Item<'_>, spelled: &[u8], sink: &mut S) -> Result<(), SinkFault>
+    requires { GivesFit (S.begun sink.old) item.now spelled.now }
+    ensures gives { OnOk result (Gives S.begins S.steps sink.old item.now sink.new) }
+    ensures begun { OnOk result ((header : Option Header) → IsBegun header (S.begun sink.old) → IsBegun (told_by header item.now) (S.begun sink.new)) }
+    ensures refused { IfErr result (λ fault. GivesSome item.now × Refuses S.refuses S.failed sink.old fault sink.new) }
+{
+    match item {
+        Item::Header(header) => sink.begin_part(*header),
+        Item::Fact(fact) => sink.take(fact, &[]),
+        Item::Sub(fact) => sink.take(fact, spelled),
+        Item::Dump(_) | Item::End | Item::Skipped => Ok(()),
     }
 }

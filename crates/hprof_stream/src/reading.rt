@@ -5,7 +5,7 @@ ghost use Rattle.std.specs.Io.KnownBytes.{Consumes};
 ghost use Rattle.hprof_items.specs.declared.health.Health.TheVariants.{Well};
 ghost use Rattle.hprof_stream.specs.declared.limits.Limits.{Limits};
 ghost use Rattle.hprof_stream.specs.Reader.{HasRead, IsReady, ReadsPart};
-ghost use Rattle.hprof_stream.specs.Walking.{FeedsAll};
+ghost use Rattle.hprof_stream.specs.Feeding.{FeedsAll};
 
 use crate::limits::Limits;
 use crate::part_fault::PartFault;

@@ -23,7 +23,7 @@ pub trait Sink {
     ghost use Rattle.hprof_items.specs.declared.header.Header.{Header};
     ghost use Rattle.hprof_values.specs.declared.ids.IdSize.{IdSize};
     ghost use Rattle.hprof_stream.specs.declared.sink.SinkFault.{SinkFault};
-    ghost use Rattle.hprof_stream.specs.Run.{FitsBegun};
+    ghost use Rattle.hprof_stream.specs.Run.{FitsBegun, ListsHaveBegun, SpellsBegun};
 
     // What an Ok of `begin_part` means.
     ghost begins: { Self → Header → Self → Type 0 };
@@ -47,10 +47,14 @@ pub trait Sink {
         ensures well { OnOk result ((failed self.old ≡ false) × (failed self.new ≡ false)) }
         ensures err { IfErr result (λ fault. refuses self.old fault × (failed self.new ≡ true) × (fault ≡ SinkFault.Failed)) };
 
-    /// Takes a fact of the part that was begun last.
-    fn take(&mut self, fact: Fact<'_>) -> Result<(), SinkFault>
-        requires { FitsBegun (begun self.old) (value_of fact) }
-        ensures steps { OnOk result (steps self.old (value_of fact.entry) self.new) }
+    /// Takes a fact of the part that was begun last, which fits its size, and whose lists have identifiers of that size.
+    /// With it come the bytes of the sub-record that states it, so that they need not be spelled again; none come with a
+    /// fact that a record states.
+    fn take(&mut self, fact: &Fact<'_>, spelled: &[u8]) -> Result<(), SinkFault>
+        requires fits { FitsBegun (begun self.old) (value_of fact.now) }
+        requires lists { ListsHaveBegun (begun self.old) fact.now }
+        requires spelled { SpellsBegun (begun self.old) (value_of fact.now) spelled.now }
+        ensures steps { OnOk result (steps self.old (value_of fact.now) self.new) }
         ensures begun { OnOk result (begun self.new ≡ begun self.old) }
         ensures well { OnOk result ((failed self.old ≡ false) × (failed self.new ≡ false)) }
         ensures err { IfErr result (λ fault. refuses self.old fault × (failed self.new ≡ true)) }

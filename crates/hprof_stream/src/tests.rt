@@ -1,14 +1,22 @@
 ghost use Rattle.std.specs.Prelude.{◌<◌, None};
 ghost use Rattle.hprof_stream.specs.Reader.{IsReady};
 
+mod dumps;
+mod faults;
+mod passed_over;
+
 use super::*;
 use hprof_items::{Device, Fact, Header, Health, IdSize, ReadFault, Reason, Source, Version};
 use std::alloc::Global;
 use std::test::*;
 
-// A header, and two names: 2 is "B", and 1 is "A".
-const PART: &[u8; 59] =
-    b"JAVA PROFILE 1.0.2\0\0\0\0\x04\0\0\0\0\0\0\0\x01\x01\0\0\0\0\0\0\0\x05\0\0\0\x02B\x01\0\0\0\0\0\0\0\x05\0\0\0\x01A";
+// A header, two names, and a segment with a byte array and a root.
+const PART: &[u8; 89] = b"JAVA PROFILE 1.0.2\0\0\0\0\x04\0\0\0\0\0\0\0\x01\
+    \x01\0\0\0\0\0\0\0\x05\0\0\0\x02\x42\
+    \x01\0\0\0\0\0\0\0\x05\0\0\0\x01\x41\
+    \x1c\0\0\0\0\0\0\0\x15\
+    \x23\0\0\0\x10\0\0\0\x01\0\0\0\x02\x08\x01\x02\
+    \x05\0\0\0\x10";
 
 const HEADER: Header = Header {
     version: Version::V102,
@@ -16,19 +24,19 @@ const HEADER: Header = Header {
     millis: 1,
 };
 
-// Keeps the identifiers of names, up to a number of them.
+// Keeps a number of each fact, up to so many facts.
 #[derive(Drop)]
-pub(crate) struct Names {
-    ids: Vec<u64>,
+pub(crate) struct Seen {
+    numbers: Vec<u64>,
     room: usize,
     pub(crate) begun: Option<IdSize>,
     failed: bool,
 }
 
-impl Names {
+impl Seen {
     pub(crate) fn new(alloc: Global, room: usize) -> Self {
-        Names {
-            ids: Vec::new(alloc),
+        Seen {
+            numbers: Vec::new(alloc),
             room,
             begun: None,
             failed: false,
@@ -36,7 +44,19 @@ impl Names {
     }
 }
 
-impl Sink for Names {
+// The identifier or the serial of what it states, and 0 for a root.
+fn number_of(fact: &Fact<'_>) -> u64 {
+    match *fact {
+        Fact::Name { id, .. } | Fact::Frame { id, .. } | Fact::Class { id, .. } => id,
+        Fact::Instance { id, .. } | Fact::ObjArray { id, .. } | Fact::PrimArray { id, .. } => id,
+        Fact::Load { class, .. } => class,
+        Fact::Unload { serial } | Fact::Trace { serial, .. } => serial as u64,
+        Fact::Start { thread, .. } | Fact::End { thread } => thread as u64,
+        Fact::Root(_) => 0,
+    }
+}
+
+impl Sink for Seen {
     ghost begins = { λ _ _ _. Unit {0} };
 
     ghost steps = { λ _ _ _. Unit {0} };
@@ -55,12 +75,11 @@ impl Sink for Names {
         Ok(())
     }
 
-    fn take(&mut self, fact: Fact<'_>) -> Result<(), SinkFault> {
+    fn take(&mut self, fact: &Fact<'_>, _spelled: &[u8]) -> Result<(), SinkFault> {
         if self.failed {
             return Err(SinkFault::Failed);
         }
-        let Fact::Name { id, .. } = fact;
-        if self.ids.len() == self.room || self.ids.push(id).is_err() {
+        if self.numbers.len() == self.room || self.numbers.push(number_of(fact)).is_err() {
             self.failed = true;
             return Err(SinkFault::OutOfMemory);
         }
@@ -73,7 +92,7 @@ pub(crate) fn feed_in(
     reader: &mut PartReader,
     bytes: &[u8],
     len: usize,
-    sink: &mut Names,
+    sink: &mut Seen,
 ) -> Result<usize, PartFault>
     requires len { 0 < len }
     requires ready { IsReady reader.old sink.old.begun }
@@ -87,10 +106,25 @@ pub(crate) fn feed_in(
     Ok(most)
 }
 
+// What the bytes come to, read in pieces.
+pub(crate) fn read_in(
+    alloc: Global,
+    limits: Limits,
+    bytes: &[u8],
+    len: usize,
+) -> Result<PartSummary, PartFault>
+    requires { 0 < len }
+{
+    let mut sink = Seen::new(alloc, 100);
+    let mut reader = PartReader::new(alloc, limits);
+    feed_in(&mut reader, bytes, len, &mut sink)?;
+    reader.finish()
+}
+
 #[test]
 fn a_part_in_pieces(rt: HostRuntime) {
-    for (len, most) in [(59, 0), (3, 30), (1, 30)] {
-        let mut sink = Names::new(rt.alloc(), 2);
+    for (len, most) in [(89, 0), (3, 30), (1, 30)] {
+        let mut sink = Seen::new(rt.alloc(), 4);
         let mut reader = PartReader::new(rt.alloc(), Limits::usual());
         assert_eq!(rt;
             feed_in(&mut reader, PART, len, &mut sink),
@@ -98,16 +132,20 @@ fn a_part_in_pieces(rt: HostRuntime) {
             "{len}"
         );
         assert_eq!(rt; reader.header(), Some(HEADER), "{len}");
-        assert_eq!(rt; sink.ids.as_slice(), [2, 1].as_slice(), "{len}");
+        assert_eq!(rt; sink.numbers.as_slice(), [2, 1, 16, 0].as_slice(), "{len}");
         let want = PartSummary {
             header: HEADER,
-            records: 2,
-            facts: 2,
+            records: 3,
+            facts: 4,
             ended: false,
         };
         assert_eq!(rt; reader.finish(), Ok(want), "{len}");
     }
     laws::bytes_state_one_thing();
+    laws::one_first_fault();
+    laws::no_fault_exactly_in_the_grammar();
+    laws::a_longer_input();
+    laws::a_smaller_limit();
 }
 
 // Refuses each header.
@@ -133,10 +171,27 @@ impl Sink for Closed {
         Err(SinkFault::Failed)
     }
 
-    fn take(&mut self, _fact: Fact<'_>) -> Result<(), SinkFault> {
+    fn take(&mut self, _fact: &Fact<'_>, _spelled: &[u8]) -> Result<(), SinkFault> {
         self.failed = true;
         Err(SinkFault::Failed)
     }
+}
+
+#[test]
+fn a_whole_part_from_a_source(rt: HostRuntime) {
+    let mut sink = Seen::new(rt.alloc(), 4);
+    let mut source = Device::new(PART.as_slice());
+    let want = PartSummary {
+        header: HEADER,
+        records: 3,
+        facts: 4,
+        ended: false,
+    };
+    assert_eq!(rt;
+        read_part(rt.alloc(), &mut source, Limits::usual(), &mut sink),
+        Ok(want)
+    );
+    assert_eq!(rt; sink.numbers.as_slice(), [2, 1, 16, 0].as_slice());
 }
 
 #[test]
@@ -157,7 +212,7 @@ fn a_header_that_is_refused(rt: HostRuntime) {
 
 #[test]
 fn no_bytes(rt: HostRuntime) {
-    let mut sink = Names::new(rt.alloc(), 0);
+    let mut sink = Seen::new(rt.alloc(), 0);
     let mut reader = PartReader::new(rt.alloc(), Limits::usual());
     assert_eq!(rt; reader.feed(&[], &mut sink), Ok(()));
     assert_eq!(rt; reader.header(), None);
@@ -172,7 +227,7 @@ fn no_bytes(rt: HostRuntime) {
 #[test]
 fn a_bad_text(rt: HostRuntime) {
     let text = b"JAVA PROFILE 1.0.3\0";
-    let mut sink = Names::new(rt.alloc(), 0);
+    let mut sink = Seen::new(rt.alloc(), 0);
     let mut reader = PartReader::new(rt.alloc(), Limits::usual());
     assert_eq!(rt; feed_in(&mut reader, &text[..18], 1, &mut sink), Ok(18));
     let bad = PartFault::Malformed {
@@ -199,13 +254,14 @@ fn from_a_source(rt: HostRuntime) {
         (1, 31, 31, Err(PartFault::ReadsExceeded)),
         (2, 30, 31, Err(PartFault::BytesExceeded)),
         (2, 59, 59, Err(PartFault::Sink(SinkFault::OutOfMemory))),
+        (2, 89, 89, Err(PartFault::Sink(SinkFault::OutOfMemory))),
     ] {
         let limits = Limits {
             max_item: usual.max_item,
             max_reads,
             max_bytes,
         };
-        let mut sink = Names::new(rt.alloc(), 1);
+        let mut sink = Seen::new(rt.alloc(), 1);
         let mut source = Device::new(&PART[..len]);
         assert_eq!(rt;
             read_part(rt.alloc(), &mut source, limits, &mut sink),
@@ -216,10 +272,11 @@ fn from_a_source(rt: HostRuntime) {
     }
 }
 
-// Gives the header, and then fails.
+// Gives the header, and then fails. It keeps the room that it was last given.
 #[derive(Drop)]
 struct Broken {
     pulls: u64,
+    room: usize,
     health: Health,
 }
 
@@ -232,6 +289,7 @@ impl Source for Broken {
 
     fn pull(&mut self, piece: &mut [u8]) -> Result<usize, ReadFault> {
         self.pulls = self.pulls.saturating_add(1);
+        self.room = piece.len();
         let len = piece.len().min(31);
         if self.pulls > 1 {
             self.health = Health::Failed;
@@ -244,25 +302,27 @@ impl Source for Broken {
 
 #[test]
 fn a_source_that_fails(rt: HostRuntime) {
-    let mut sink = Names::new(rt.alloc(), 0);
+    let mut sink = Seen::new(rt.alloc(), 0);
     let mut source = Broken {
         pulls: 0,
+        room: 0,
         health: Health::Well,
     };
     let read = read_part(rt.alloc(), &mut source, Limits::usual(), &mut sink);
     assert_eq!(rt; read, Err(PartFault::Read));
+    assert_eq!(rt; (source.pulls, source.room), (2, 65_536));
     assert_eq!(rt; source.health, Health::Failed);
     assert_eq!(rt; sink.begun, Some(IdSize::Four));
 }
 
 #[test]
 fn texts(rt: HostRuntime) -> Result<(), Fail> {
-    let unsupported = PartFault::Malformed {
-        at: 31,
-        reason: Reason::Unsupported,
+    let unknown = PartFault::Malformed {
+        at: 40,
+        reason: Reason::BadSubTag,
     };
     for (fault, want) in [
-        (unsupported, "malformed at 31: Unsupported"),
+        (unknown, "malformed at 40: BadSubTag"),
         (PartFault::ItemTooLong { at: 68 }, "item too long at 68"),
         (PartFault::OutOfMemory, "out of memory"),
         (PartFault::Sink(SinkFault::OutOfMemory), "out of memory"),

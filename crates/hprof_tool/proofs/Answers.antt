@@ -34,8 +34,8 @@ use Rattle.hprof_tool.specs.declared.tool_fault.ToolFault.{ToolFault}
 use Rattle.hprof_tool.specs.declared.tool_fault.ToolFault.TheVariants as tool
 use Rattle.hprof_tool.specs.Joining.{Tell, Agree, Joins, Disagree, IsPartFault, IsOfPart, IsAccepted, RefusesPart, AreGiven, RefusesReader, AreReadOut, read_count, ReadsAll, is_want, IsHindered, IsOkOrConflict}
 use Rattle.hprof_tool.proofs.PartFaults.{of_part}
-use Rattle.hprof_tool.proofs.Parts.{part_sound}
-use Rattle.hprof_tool.proofs.Smaller.{smaller_sound}
+use Rattle.hprof_stream.proofs.Parts.{part_sound}
+use Rattle.hprof_stream.proofs.Smaller.{smaller_sound}
 use Rattle.hprof_tool.proofs.Stated.{all_told, given_state, given_sizes, given_sound, least_of, sizes_once, placed}
 
 -- ---- lists

@@ -12,7 +12,7 @@ use Rattle.hprof_heap.proofs.Dump.{dump_is_part}
 use Rattle.hprof_heap.proofs.FactSets.{SameFacts-trans}
 use Rattle.hprof_heap.proofs.Order.{one_order}
 use Rattle.hprof_tool.specs.Joining.{Agree}
-use Rattle.hprof_tool.proofs.Parts.{states_one}
+use Rattle.hprof_stream.proofs.Parts.{states_one}
 
 -- equal dumps are of equal heaps
 pub same_dumps : (ids other_ids : IdSize) (millis other_millis : ℕ) (rows others : List FactValue) → IsHeap (record { ids = ids; millis = millis; facts = rows })

@@ -1,6 +1,3 @@
-pub mod Parts
-pub mod Longer
-pub mod Smaller
 pub mod Dumps
 pub mod Gathered
 pub mod PartFaults

@@ -5,20 +5,21 @@ use Rattle.std.proofs.lemmas.List.{take_all, take-append-drop}
 use Rattle.std.specs.Io.KnownBytes.{Consumes, IsAtEnd}
 use Rattle.hprof_items.specs.declared.header.Header.{Header}
 use Rattle.hprof_items.specs.declared.health.Health.{Health}
-use Rattle.hprof_values.specs.declared.reason.Reason.TheVariants.{BadMagic, BadIdSize, Truncated, BadLength, BadSubTag, PastEnd, BadType, Unsupported}
+use Rattle.hprof_values.specs.declared.reason.Reason.TheVariants.{BadMagic, BadIdSize, Truncated, BadLength, BadSubTag, PastEnd, BadType}
 use Rattle.hprof_items.specs.FactValue.{FactValue}
 use Rattle.hprof_stream.specs.declared.limits.Limits.{Limits}
 use Rattle.hprof_stream.specs.declared.part_fault.PartFault.{PartFault}
 use Rattle.hprof_stream.specs.declared.part_fault.PartFault.TheVariants as faults
 use Rattle.hprof_stream.specs.declared.sink.SinkFault.{SinkFault}
 use Rattle.hprof_stream.specs.declared.sink.SinkFault.TheVariants as sinks
+use Rattle.hprof_stream.specs.Item.{header_before}
 use Rattle.hprof_stream.specs.Fault.{IsFirstFault, is_lasting, is_settled}
 use Rattle.hprof_stream.specs.Reader.{RanUpTo, IsUnheld, LacksAtLast, ReadsPart}
 use Rattle.hprof_heap.specs.declared.gatherer.Gatherer.{Gatherer}
 use Rattle.hprof_heap.specs.Gathering.{gathered, Begins, Takes}
 use Rattle.hprof_tool.specs.Joining.{IsPartFault, IsOfPart}
 use Rattle.hprof_tool.proofs.Gathered.{Run-shown, Run-sound}
-use Rattle.hprof_tool.proofs.Longer.{longer_input}
+use Rattle.hprof_stream.proofs.Longer.{longer_input}
 
 -- a settled fault of a front is one of the whole
 settled_of_whole : (longest most : ℕ) (came rest : List ℕ) (fault : PartFault) → IsFirstFault longest (take most came) fault → is_settled fault ≡ true → IsFirstFault longest (came ++ rest) fault
@@ -50,7 +51,7 @@ shown_failed gatherer = (gathered gatherer).failed
 no_failure : (limits : Limits) (bytes : List ℕ) (told : Option Header) (old mid : Gatherer) → (gathered old).failed ≡ false
     → RanUpTo shown_begins shown_steps limits.max_item bytes [] None told old mid → shown_refuses mid sinks.Failed → ⊥
 no_failure limits bytes told old mid sound ran refuses =
-    let still = Run-sound (gathered old) (gathered mid) ran.whole.header ran.handed (Run-shown old mid ran.whole.header ran.handed ran.ran) sound in
+    let still = Run-sound (gathered old) (gathered mid) (header_before ran.whole.before) ran.handed (Run-shown old mid (header_before ran.whole.before) ran.handed ran.ran) sound in
     let other : sinks.Failed ≡ sinks.OutOfMemory = refuses still in
     cc
 
@@ -70,7 +71,6 @@ module _ {R : Type 0} (left : R → Option (List ℕ)) (health : R → Health) (
   fault_of_came limits was came is old new (faults.Malformed at BadSubTag) sound reads = (reads.1, reads.2.1.0, λ _. reads.0, λ e. absurd cc)
   fault_of_came limits was came is old new (faults.Malformed at PastEnd) sound reads = (reads.1, reads.2.1.0, λ _. reads.0, λ e. absurd cc)
   fault_of_came limits was came is old new (faults.Malformed at BadType) sound reads = (reads.1, reads.2.1.0, λ _. reads.0, λ e. absurd cc)
-  fault_of_came limits was came is old new (faults.Malformed at Unsupported) sound reads = (reads.1, reads.2.1.0, λ _. reads.0, λ e. absurd cc)
   fault_of_came limits was came is old new (faults.ItemTooLong at) sound reads = (reads.1, reads.2.1.0, reads.0)
   fault_of_came limits was came is old new faults.OutOfMemory sound reads =
       (reads.0, elim reads.1 [ inl nothing ↦ inl (nothing.0, nothing.1) | inr last ↦ inr (last.0, unheld limits last.0.front last.0.piece old new last.1) ])

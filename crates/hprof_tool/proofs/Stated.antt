@@ -10,7 +10,7 @@ use Rattle.hprof_heap.specs.Gathering.{Given, all_given}
 use Rattle.hprof_heap.specs.State.{PartState, StatesIt, IsLeastOf, IsState, HaveTwoSizes}
 use Rattle.hprof_heap.proofs.Least.{IsLeastOf-one, IsLeastOf-cons}
 use Rattle.hprof_tool.specs.Joining.{IsAccepted, AreGiven}
-use Rattle.hprof_tool.proofs.Parts.{states_one}
+use Rattle.hprof_stream.proofs.Parts.{states_one}
 
 -- what a part of these bytes states, of which this was given
 abbrev pub part_state : List ℕ → Given → PartState

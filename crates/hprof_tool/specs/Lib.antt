@@ -1,4 +1,3 @@
 pub mod Joining
-pub mod Offset
 pub mod Program
 pub mod Status

@@ -1,14 +1,9 @@
 //! Laws of the definitions. None of these functions does anything.
 
-ghost use Rattle.std.specs.Prelude.{◌≡◌, ◌⊎◌, ◌↔◌, ◌≤◌, ◌++◌, ℕ, true, List};
+ghost use Rattle.std.specs.Prelude.{◌≡◌, ℕ, List};
 ghost use Rattle.hprof_values.specs.declared.ids.IdSize.{IdSize};
 ghost use Rattle.hprof_items.specs.FactValue.{FactValue};
-ghost use Rattle.hprof_values.specs.Ids.{IsBytes};
-ghost use Rattle.hprof_items.specs.Spelling.{longest_body};
-ghost use Rattle.hprof_stream.specs.declared.part_fault.PartFault.{PartFault};
-ghost use Rattle.hprof_stream.specs.declared.part_fault.PartFault.TheVariants.{ItemTooLong};
 ghost use Rattle.hprof_stream.specs.Part.{IsPart};
-ghost use Rattle.hprof_stream.specs.Fault.{HasNoFault, IsFirstFault, is_settled};
 ghost use Rattle.hprof_heap.specs.declared.key.Key.{Key};
 ghost use Rattle.hprof_heap.specs.Conflict.{IsConsistent, IsLeastConflict};
 ghost use Rattle.hprof_heap.specs.Dump.{canonical_dump};
@@ -16,7 +11,6 @@ ghost use Rattle.hprof_heap.specs.Facts.{SameFacts};
 ghost use Rattle.hprof_heap.specs.HeapValue.{IsHeap};
 ghost use Rattle.hprof_heap.specs.State.{IsState};
 ghost use Rattle.hprof_tool.specs.Joining.{Agree};
-ghost use Rattle.hprof_tool.specs.Offset.{offset_of};
 
 /// A part states one thing: one size of identifiers, one time, one list of facts.
 pub fn a_part_states_one_thing()
@@ -52,32 +46,4 @@ pub fn order_repetition_and_cutting_do_not_matter()
     ensures dump { (parts others : List (List ℕ)) (ids : IdSize) (millis : ℕ) (rows more : List FactValue)
         → Agree parts ids millis rows → Agree others ids millis more → SameFacts rows more
         → canonical_dump ids millis rows ≡ canonical_dump ids millis more }
-{}
-
-/// Bytes have no fault exactly where they are a part, when every length that a record can say is taken.
-pub fn no_fault_exactly_in_the_grammar()
-    ensures { (bytes : List ℕ) → HasNoFault longest_body bytes
-        ↔ ((ids : IdSize) × (millis : ℕ) × (facts : List FactValue) × IsPart bytes ids millis facts) }
-{}
-
-/// Bytes have one first fault at most, and none where they have no fault.
-pub fn one_first_fault()
-    ensures one { (longest : ℕ) (bytes : List ℕ) (fault other : PartFault) → IsFirstFault longest bytes fault
-        → IsFirstFault longest bytes other → fault ≡ other }
-    ensures none { (longest : ℕ) (bytes : List ℕ) (fault : PartFault) → HasNoFault longest bytes
-        → IsFirstFault longest bytes fault → ⊥ }
-{}
-
-/// A smaller limit changes the answer only to an item that is too long, at no later offset.
-pub fn a_smaller_limit()
-    ensures sound { (less longest : ℕ) (bytes : List ℕ) → less ≤ longest → HasNoFault longest bytes
-        → HasNoFault less bytes ⊎ ((at : ℕ) × IsFirstFault less bytes (ItemTooLong at)) }
-    ensures faulty { (less longest : ℕ) (bytes : List ℕ) (fault : PartFault) → less ≤ longest → IsFirstFault longest bytes fault
-        → IsFirstFault less bytes fault ⊎ ((at : ℕ) × (at ≤ offset_of fault) × IsFirstFault less bytes (ItemTooLong at)) }
-{}
-
-/// A settled fault is the fault of every longer input.
-pub fn a_longer_input()
-    ensures { (longest : ℕ) (bytes more : List ℕ) (fault : PartFault) → IsFirstFault longest bytes fault
-        → is_settled fault ≡ true → IsFirstFault longest (bytes ++ more) fault }
 {}

@@ -17,6 +17,4 @@ pub enum Reason {
     PastEnd,
     /// A value has a type that stands for none, or that may not stand there.
     BadType,
-    /// A record that this reader does not know yet.
-    Unsupported,
 }

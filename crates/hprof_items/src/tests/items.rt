@@ -2,7 +2,7 @@ use super::super::*;
 use std::test::*;
 
 // What a heap dump record with much room has at its front.
-fn sub(bytes: &[u8], ids: IdSize) -> Step<FullFact<'_>> {
+fn sub(bytes: &[u8], ids: IdSize) -> Step<Fact<'_>> {
     read_sub(bytes, 1000, 1000, ids)
 }
 
@@ -15,10 +15,10 @@ fn roots(rt: HostRuntime) {
         trace: 2,
     };
     let ids = IdSize::Four;
-    assert_eq!(rt; sub(bytes, ids), Step::Whole(FullFact::Root(root), 13));
+    assert_eq!(rt; sub(bytes, ids), Step::Whole(Fact::Root(root), 13));
     assert_eq!(rt;
         read_sub(bytes, 13, 13, ids),
-        Step::Whole(FullFact::Root(root), 13)
+        Step::Whole(Fact::Root(root), 13)
     );
     assert_eq!(rt; read_sub(bytes, 13, 12, ids), Step::TooLong);
     assert_eq!(rt; read_sub(bytes, 12, 12, ids), Step::Fault(Reason::PastEnd));
@@ -33,7 +33,7 @@ fn roots(rt: HostRuntime) {
     };
     assert_eq!(rt;
         sub(b"\x01\0\0\0\0\0\0\0\x10\0\0\0\0\0\0\0\x11", IdSize::Eight),
-        Step::Whole(FullFact::Root(global), 17)
+        Step::Whole(Fact::Root(global), 17)
     );
     laws::sub_records_read_back();
 }
@@ -85,12 +85,12 @@ fn each_root(rt: HostRuntime) {
         (b"\xff\0\0\0\x10", Root::Unknown { id }),
     ];
     for (bytes, root) in threes.into_iter().chain(twos).chain(ones) {
-        let fact = FullFact::Root(root);
+        let fact = Fact::Root(root);
         let ids = IdSize::Four;
         assert_eq!(rt; sub(bytes, ids), Step::Whole(fact, bytes.len()));
-        assert!(rt; full_fits(&fact, ids));
+        assert!(rt; fits(&fact, ids));
         let mut device = Device::new(Vec::new(rt.alloc()));
-        assert_eq!(rt; write_full_fact(&fact, ids, &mut device), Ok(()));
+        assert_eq!(rt; write_fact(&fact, ids, &mut device), Ok(()));
         assert_eq!(rt; device.into_inner().as_slice(), bytes);
     }
 }
@@ -99,7 +99,7 @@ fn each_root(rt: HostRuntime) {
 fn objects(rt: HostRuntime) -> Result<(), Fail> {
     let ids = IdSize::Four;
     let instance: &[u8] = b"\x21\0\0\0\x10\0\0\0\x01\0\0\0\x09\0\0\0\x02ab";
-    let fact = FullFact::Instance {
+    let fact = Fact::Instance {
         id: 16,
         trace: 1,
         class: 9,
@@ -112,7 +112,7 @@ fn objects(rt: HostRuntime) -> Result<(), Fail> {
     );
     let objects: &[u8] = b"\x22\0\0\0\x11\0\0\0\x01\0\0\0\x01\0\0\0\x09\0\0\0\x10";
     let elements = IdList::new(b"\0\0\0\x10", ids).ok_or("no list")?;
-    let fact = FullFact::ObjArray {
+    let fact = Fact::ObjArray {
         id: 17,
         trace: 1,
         class: 9,
@@ -120,7 +120,7 @@ fn objects(rt: HostRuntime) -> Result<(), Fail> {
     };
     assert_eq!(rt; read_sub(objects, 21, 21, ids), Step::Whole(fact, 21));
     let numbers: &[u8] = b"\x23\0\0\0\x12\0\0\0\x01\0\0\0\x01\x05\0A";
-    let fact = FullFact::PrimArray {
+    let fact = Fact::PrimArray {
         id: 18,
         trace: 1,
         elem: Basic::Char,
@@ -155,7 +155,7 @@ fn a_class(rt: HostRuntime) -> Result<(), Fail> {
     )?;
     let statics = StaticList::new(b"\0\0\0\x15\x04\x01", ids).ok_or("no list")?;
     let fields = FieldList::new(b"\0\0\0\x16\x01", ids).ok_or("no list")?;
-    let class = FullFact::Class {
+    let class = Fact::Class {
         id: 9,
         trace: 1,
         parent: 7,

@@ -2,32 +2,34 @@ use super::super::*;
 use std::test::*;
 
 // What the record states that the bytes are, by its head and its body.
-fn fact_in<'a>(bytes: &'a [u8], ids: IdSize) -> Option<Result<FullFact<'a>, Reason>> {
-    let Step::Whole(head, _) = read_full_head(bytes, ids, u32::MAX) else {
+fn fact_in<'a>(bytes: &'a [u8], ids: IdSize) -> Option<Result<Fact<'a>, Reason>> {
+    let Step::Whole(head, _) = read_head(bytes, ids, u32::MAX) else {
         return None;
     };
-    let tag = RecordTag::from_code(head.tag)?;
+    let HeadKind::FactRecord = head.kind() else {
+        return None;
+    };
     let body = bytes.get(HEAD_LEN..)?;
     if body.len() != head.length as usize {
         return None;
     }
-    Some(read_record(tag, body, ids))
+    Some(read_body(&head, body, ids))
 }
 
 #[test]
 fn records_with_short_identifiers(rt: HostRuntime) {
     let name: &[u8] = b"\x01\0\0\0\x07\0\0\0\x06\0\0\0\x01ab";
-    let fact = FullFact::Name { id: 1, text: b"ab" };
+    let fact = Fact::Name { id: 1, text: b"ab" };
     assert_eq!(rt; fact_in(name, IdSize::Four), Some(Ok(fact)));
     let empty: &[u8] = b"\x01\0\0\0\0\0\0\0\x04\xff\xff\xff\xff";
-    let fact = FullFact::Name {
+    let fact = Fact::Name {
         id: 4294967295,
         text: b"",
     };
     assert_eq!(rt; fact_in(empty, IdSize::Four), Some(Ok(fact)));
 
     let load: &[u8] = b"\x02\0\0\0\0\0\0\0\x10\0\0\0\x01\0\0\0\x02\0\0\0\x03\0\0\0\x04";
-    let fact = FullFact::Load {
+    let fact = Fact::Load {
         serial: 1,
         class: 2,
         trace: 3,
@@ -36,11 +38,11 @@ fn records_with_short_identifiers(rt: HostRuntime) {
     assert_eq!(rt; fact_in(load, IdSize::Four), Some(Ok(fact)));
 
     let unload: &[u8] = b"\x03\0\0\0\0\0\0\0\x04\0\0\x01\x02";
-    let fact = FullFact::Unload { serial: 258 };
+    let fact = Fact::Unload { serial: 258 };
     assert_eq!(rt; fact_in(unload, IdSize::Four), Some(Ok(fact)));
 
     let end: &[u8] = b"\x0b\0\0\0\0\0\0\0\x04\0\0\0\x09";
-    let fact = FullFact::End { thread: 9 };
+    let fact = Fact::End { thread: 9 };
     assert_eq!(rt; fact_in(end, IdSize::Four), Some(Ok(fact)));
     laws::records_read_back();
     laws::one_record_spelling();
@@ -59,7 +61,7 @@ fn frames(rt: HostRuntime) {
         let mut bytes = [0; 33];
         bytes[..29].copy_from_slice(front);
         bytes[29..].copy_from_slice(end);
-        let fact = FullFact::Frame {
+        let fact = Fact::Frame {
             id: 1,
             method: 2,
             signature: 3,
@@ -75,7 +77,7 @@ fn frames(rt: HostRuntime) {
 fn traces(rt: HostRuntime) -> Result<(), Fail> {
     let trace: &[u8] = b"\x05\0\0\0\0\0\0\0\x14\0\0\0\x01\0\0\0\x02\0\0\0\x02\0\0\0\x10\0\0\0\x11";
     let frames = IdList::new(b"\0\0\0\x10\0\0\0\x11", IdSize::Four).ok_or("no list")?;
-    let fact = FullFact::Trace {
+    let fact = Fact::Trace {
         serial: 1,
         thread: 2,
         frames,
@@ -84,7 +86,7 @@ fn traces(rt: HostRuntime) -> Result<(), Fail> {
 
     let none: &[u8] = b"\x05\0\0\0\0\0\0\0\x0c\0\0\0\x01\0\0\0\x02\0\0\0\0";
     let frames = IdList::new(b"", IdSize::Four).ok_or("no list")?;
-    let fact = FullFact::Trace {
+    let fact = Fact::Trace {
         serial: 1,
         thread: 2,
         frames,
@@ -107,7 +109,7 @@ fn threads(rt: HostRuntime) {
         b"\x0a\0\0\0\0\0\0\0\x18\0\0\0\x01\0\0\0\x02\0\0\0\x03\0\0\0\x04\0\0\0\x05\0\0\0\x06";
     let eight: &[u8] =
         b"\x0a\0\0\0\0\0\0\0\x28\0\0\0\x01\0\0\0\0\0\0\0\x02\0\0\0\x03\0\0\0\0\0\0\0\x04\0\0\0\0\0\0\0\x05\0\0\0\0\0\0\0\x06";
-    let fact = FullFact::Start {
+    let fact = Fact::Start {
         thread: 1,
         object: 2,
         trace: 3,
@@ -122,14 +124,14 @@ fn threads(rt: HostRuntime) {
 #[test]
 fn records_with_long_identifiers(rt: HostRuntime) -> Result<(), Fail> {
     let name: &[u8] = b"\x01\0\0\0\0\0\0\0\x09\xff\xff\xff\xff\xff\xff\xff\xfeA";
-    let fact = FullFact::Name {
+    let fact = Fact::Name {
         id: 18446744073709551614,
         text: b"A",
     };
     assert_eq!(rt; fact_in(name, IdSize::Eight), Some(Ok(fact)));
     let load: &[u8] =
         b"\x02\0\0\0\0\0\0\0\x18\0\0\0\x01\0\0\0\x01\0\0\0\x02\0\0\0\x03\0\0\0\0\0\0\0\x04";
-    let fact = FullFact::Load {
+    let fact = Fact::Load {
         serial: 1,
         class: 4294967298,
         trace: 3,
@@ -138,7 +140,7 @@ fn records_with_long_identifiers(rt: HostRuntime) -> Result<(), Fail> {
     assert_eq!(rt; fact_in(load, IdSize::Eight), Some(Ok(fact)));
     let trace: &[u8] = b"\x05\0\0\0\0\0\0\0\x14\0\0\0\x01\0\0\0\x02\0\0\0\x01\0\0\0\0\0\0\0\x10";
     let frames = IdList::new(b"\0\0\0\0\0\0\0\x10", IdSize::Eight).ok_or("no list")?;
-    let fact = FullFact::Trace {
+    let fact = Fact::Trace {
         serial: 1,
         thread: 2,
         frames,
@@ -189,18 +191,14 @@ fn legal_lengths(rt: HostRuntime) {
         (0xff, IdSize::Eight, 7),
     ] {
         let bytes = head_of(tag, len);
+        assert_eq!(rt; read_head(&bytes, ids, 255), whole(tag, len), "{tag} {len}");
         assert_eq!(rt;
-            read_full_head(&bytes, ids, 255),
-            whole(tag, len),
-            "{tag} {len}"
-        );
-        assert_eq!(rt;
-            read_full_head(&bytes[..8], ids, 255),
+            read_head(&bytes[..8], ids, 255),
             Step::Short,
             "{tag} {len}"
         );
     }
-    laws::full_heads_read_back();
+    laws::heads_read_back();
 }
 
 #[test]
@@ -225,12 +223,8 @@ fn illegal_lengths(rt: HostRuntime) {
     ] {
         let bytes = head_of(tag, len);
         let bad = Step::Fault(Reason::BadLength);
-        assert_eq!(rt; read_full_head(&bytes, ids, 0), bad, "{tag} {len}");
-        assert_eq!(rt;
-            read_full_head(&bytes[..8], ids, 0),
-            Step::Short,
-            "{tag} {len}"
-        );
+        assert_eq!(rt; read_head(&bytes, ids, 0), bad, "{tag} {len}");
+        assert_eq!(rt; read_head(&bytes[..8], ids, 0), Step::Short, "{tag} {len}");
     }
 }
 
@@ -247,23 +241,15 @@ fn long_records(rt: HostRuntime) {
     ] {
         let bytes = head_of(tag, len);
         let longest = u32::from(len);
+        assert_eq!(rt; read_head(&bytes, IdSize::Four, 3), Step::TooLong, "{tag}");
         assert_eq!(rt;
-            read_full_head(&bytes, IdSize::Four, 3),
-            Step::TooLong,
-            "{tag}"
-        );
-        assert_eq!(rt;
-            read_full_head(&bytes, IdSize::Four, longest),
+            read_head(&bytes, IdSize::Four, longest),
             whole(tag, len),
             "{tag}"
         );
     }
     for tag in [0x0c, 0x1c, 0x06, 0x0e] {
         let bytes = head_of(tag, 9);
-        assert_eq!(rt;
-            read_full_head(&bytes, IdSize::Four, 0),
-            whole(tag, 9),
-            "{tag}"
-        );
+        assert_eq!(rt; read_head(&bytes, IdSize::Four, 0), whole(tag, 9), "{tag}");
     }
 }

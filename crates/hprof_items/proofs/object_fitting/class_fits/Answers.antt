@@ -1,7 +1,7 @@
 use Rattle.std.proofs.Common.{refl, sym, subst}
-use Rattle.hprof_items.specs.declared.full_fact.FullFact.{FullFact}
-use Rattle.hprof_items.specs.AnySpelling.{AnyFits}
-use Rattle.hprof_items.specs.FullFact.{value_of_full, ListsHave}
+use Rattle.hprof_items.specs.declared.fact.Fact.{Fact}
+use Rattle.hprof_items.specs.Spelling.{Fits}
+use Rattle.hprof_items.specs.FactValue.{value_of, ListsHave}
 use Rattle.hprof_items.specs.SubRecord.{class_numbers}
 use Rattle.hprof_items.proofs.Fronts.{fits_form}
 use Rattle.hprof_items.proofs.Lengths.{class_short}
@@ -16,7 +16,7 @@ returns-then-class_lists_fit c =
     let fit = c.if-class_lists_fit.ensures.fit refl in (
       λ whole.
           let numbers = c.numbers_fit.ensures.0 whole in
-          subst (λ (f : FullFact). AnyFits ids (value_of_full f) × ListsHave ids f) (sym class.is)
+          subst (λ (f : Fact). Fits ids (value_of f) × ListsHave ids f) (sym class.is)
           (((numbers, fit.0, fit.1, fit.2), class_short ids listed _ _ _ numbers fit.0 fit.1 fit.2), sizes),
       λ fits. c.numbers_fit.ensures.1 (fits_form ids _ _ class.is fits.0).0.0,
     )

@@ -7,8 +7,8 @@ use Rattle.hprof_values.specs.Fields.{field_bytes}
 use Rattle.hprof_values.specs.RecordTag.{record_fields}
 use Rattle.hprof_items.specs.declared.health.WriteFault.{WriteFault}
 use Rattle.hprof_items.specs.Head.{record_bytes}
-use Rattle.hprof_items.specs.AnyFact.{Frame}
-use Rattle.hprof_items.specs.AnySpelling.{any_spelling}
+use Rattle.hprof_items.specs.FactValue.{Frame}
+use Rattle.hprof_items.specs.Spelling.{spelling}
 use Rattle.hprof_items.specs.Device.{Writes}
 use Rattle.hprof_items.proofs.Fronts.{writes_form, fits_form}
 use Rattle.hprof_items.proofs.record_writing.write_frame.Goals as goal
@@ -16,7 +16,7 @@ use Rattle.hprof_items.proofs.record_writing.write_frame.Goals as goal
 -- a frame whose line is written as its two's complement
 line_written : {A : Type 0} (ids : IdSize) (old new : Option (List ℕ)) (r : Result A WriteFault) (id method signature source class_serial unsigned : ℕ) (line : ℤ) → unsigned ≡ cast_unsigned w32 line
     → Writes old new r (record_bytes 4 0 (field_bytes (record_fields ids tags.Frame) (id ∷ method ∷ signature ∷ source ∷ class_serial ∷ unsigned ∷ []) ++ []))
-    → Writes old new r (any_spelling ids (Frame id method signature source class_serial line))
+    → Writes old new r (spelling ids (Frame id method signature source class_serial line))
 line_written ids old new r id method signature source class_serial unsigned line same w =
     subst (λ (n : ℕ). Writes old new r (record_bytes 4 0 (field_bytes (record_fields ids tags.Frame) (id ∷ method ∷ signature ∷ source ∷ class_serial ∷ n ∷ []) ++ []))) same w
 

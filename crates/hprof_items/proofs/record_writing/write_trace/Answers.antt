@@ -7,8 +7,8 @@ use Rattle.hprof_values.specs.Lists.{id_widths, identifiers_of, identifiers_size
 use Rattle.hprof_values.specs.RecordTag.{record_fields}
 use Rattle.hprof_items.specs.declared.health.WriteFault.{WriteFault}
 use Rattle.hprof_items.specs.Head.{record_bytes}
-use Rattle.hprof_items.specs.AnyFact.{Trace}
-use Rattle.hprof_items.specs.AnySpelling.{any_spelling}
+use Rattle.hprof_items.specs.FactValue.{Trace}
+use Rattle.hprof_items.specs.Spelling.{spelling}
 use Rattle.hprof_items.specs.Device.{Writes}
 use Rattle.hprof_items.proofs.Fronts.{writes_form, fits_form, lists_form, ids_bytes}
 use Rattle.hprof_items.proofs.record_writing.write_trace.Goals as goal
@@ -17,7 +17,7 @@ use Rattle.hprof_items.proofs.record_writing.write_trace.Goals as goal
 frames_written : {A : Type 0} (ids : IdSize) (old new : Option (List ℕ)) (r : Result A WriteFault) (serial thread count : ℕ) (frames : IdList) (bytes : List ℕ) → count ≡ length (identifiers_of frames)
     → identifiers_size frames ≡ ids → IsIdList (identifiers_size frames) (identifiers_of frames) bytes
     → Writes old new r (record_bytes 5 0 (field_bytes (record_fields ids tags.Trace) (serial ∷ thread ∷ count ∷ []) ++ bytes))
-    → Writes old new r (any_spelling ids (Trace serial thread (identifiers_of frames)))
+    → Writes old new r (spelling ids (Trace serial thread (identifiers_of frames)))
 frames_written ids old new r serial thread count frames bytes same size spells w =
     let widths = record_fields ids tags.Trace in
     subst (λ (n : ℕ). Writes old new r (record_bytes 5 0 (field_bytes widths (serial ∷ thread ∷ n ∷ []) ++ field_bytes (id_widths ids (length (identifiers_of frames))) (identifiers_of frames)))) same

@@ -1,46 +1,79 @@
-use Rattle.std.proofs.Common.{◌+◌, ◌++◌, length, inl, sym, ap, subst, arith}
-use Rattle.std.proofs.lemmas.List.{length-append}
-use Rattle.hprof_stream.specs.Walking.{IsCounted}
-use Rattle.hprof_stream.proofs.Walks.{Walks-none, IsCounted-less}
-use Rattle.hprof_stream.proofs.Feeding.{none_left}
-use Rattle.hprof_stream.proofs.Stepping.{FinishesHeld-none, FinishesHeld-whole, FinishesHeld-err, StepsOver-counted}
+use Rattle.std.proofs.Common.{◌<◌, length, refl, ap, inr, arith}
+use Rattle.std.proofs.lemmas.Result.{err_from_is_err_and}
+use Rattle.std.specs.Vec.{vec_len}
+use Rattle.hprof_stream.proofs.HeldOn.{some_len, GoesOn-then, GoesOn-halted}
 use Rattle.hprof_stream.proofs.held.finish_held.Goals as goal
 
-pub returns-then-is_empty-clause-finished : goal.returns-then-is_empty-clause-finished
-returns-then-is_empty-clause-finished g c =
-    let held = c.args.held.now in (
-      Walks-none g.S.Sink.begins g.S.Sink.steps c.args.progress.now (held.items ++ c.args.bytes.now) c.args.sink.now,
-      inl (none_left held.items held.len c.is_empty.result c.if-is_empty.true c.is_empty.ensures held.ok.0),
+pub loop-progress-init : goal.loop-progress-init
+loop-progress-init g c = record {
+  on = λ front is. inr (refl, refl, (front, refl, is));
+  held = λ some. some;
+  counted = c.requires.counted;
+  sound = c.requires.sound;
+  begun = c.requires.begun;
+  less = omega arith;
+  kept = λ header e. e;
+}
+
+pub finish_once-requires-clause-counted : goal.finish_once-requires-clause-counted
+finish_once-requires-clause-counted g c = c.loop-progress.invariant.counted
+
+pub finish_once-requires-clause-begun : goal.finish_once-requires-clause-begun
+finish_once-requires-clause-begun g c = c.loop-progress.invariant.begun
+
+pub finish_once-requires-clause-sound : goal.finish_once-requires-clause-sound
+finish_once-requires-clause-sound g c = c.loop-progress.invariant.sound
+
+pub returns-in_err-left-clause-finished : goal.returns-in_err-left-clause-finished
+returns-in_err-left-clause-finished g c front is =
+    let inv = c.loop-progress.invariant in
+    let mid = c.loop-progress in
+    let fault = c.in_err-left.field-0.0 in
+    let some : 0 < length mid.rest.held.items = let n = some_len (vec_len mid.rest.held) c.loop-progress-test.ensures in omega (arith, n, mid.rest.held.ok) in
+    let any = some_len (length mid.left.now) c.if-not-is_empty.ensures in
+    let p = err_from_is_err_and c.from_residual.result c.from_residual.ensures.1 in
+    rw (p.1, p.2) (
+    GoesOn-halted g.S.Sink.begins g.S.Sink.steps g.S.Sink.refuses g.S.Sink.failed c.args.progress.now mid.progress c.finish_once.new.progress front c.args.bytes.now mid.left.now c.args.sink.now mid.sink
+    c.finish_once.new.sink mid.rest c.finish_once.new.rest (inv.on front is) some fault c.in_err-left.ensures.finished (omega (arith, inv.held some, ap length is.held)) (omega (arith, any, inv.less))
     )
 
-pub step-requires-clause-counted : goal.step-requires-clause-counted
-step-requires-clause-counted g c =
-    let held = c.args.held.now.items in
-    let bytes = c.args.bytes.now in
-    IsCounted-less c.args.progress.now (length held + length bytes) (length c.deref.result.now) c.requires.counted
-    (omega (arith, ap length c.in-Ok.ensures.ok.moved, length-append held bytes, length-append c.fill_held.new.held.items c.in-Ok.rest.now, ap length c.deref.ensures.value))
+pub loop-progress-smaller : goal.loop-progress-smaller
+loop-progress-smaller g c = c.in_ok-left.ensures.shorter
 
-pub returns-in-Ok-None-clause-finished : goal.returns-in-Ok-None-clause-finished
-returns-in-Ok-None-clause-finished g c =
-    let step = rw (c.in-Ok-None.field-0-is, c.deref.ensures.value) at c.in-Ok-None.ensures.step in
-    FinishesHeld-none g.S.Sink.begins g.S.Sink.steps g.S.Sink.refuses g.S.Sink.failed c.args.progress.now c.step.new.self c.args.held.now.items c.args.bytes.now c.fill_held.new.held.items c.in-Ok.rest.now
-    c.args.sink.now c.step.new.sink c.in-Ok.ensures.ok step
+pub loop-progress-preserved : goal.loop-progress-preserved
+loop-progress-preserved g c =
+    let inv = c.loop-progress.invariant in
+    let mid = c.loop-progress in
+    let some : 0 < length mid.rest.held.items = let n = some_len (vec_len mid.rest.held) c.loop-progress-test.ensures in omega (arith, n, mid.rest.held.ok) in
+    record {
+      on = λ front is.
+          GoesOn-then g.S.Sink.begins g.S.Sink.steps g.S.Sink.refuses g.S.Sink.failed c.args.progress.now mid.progress c.finish_once.new.progress front c.args.bytes.now mid.left.now c.args.sink.now mid.sink
+          c.finish_once.new.sink mid.rest c.finish_once.new.rest (inv.on front is) some c.in_ok-left.left.now c.in_ok-left.ensures.finished;
+      held = λ still. inv.held some;
+      counted = c.in_ok-left.ensures.counted;
+      sound = c.in_ok-left.ensures.sound;
+      begun = c.in_ok-left.ensures.begun;
+      less = omega (arith, c.in_ok-left.ensures.less, inv.less);
+      kept = λ header e. c.in_ok-left.ensures.kept header (inv.kept header e);
+    }
 
-pub returns-in-Ok-Some-clause-finished : goal.returns-in-Ok-Some-clause-finished
-returns-in-Ok-Some-clause-finished g c =
-    let step = rw (c.in-Ok-Some.field-0-is, c.deref.ensures.value) at c.in-Ok-Some.ensures.step in
-    FinishesHeld-whole g.S.Sink.begins g.S.Sink.steps g.S.Sink.refuses g.S.Sink.failed c.args.progress.now c.step.new.self c.args.held.now.items c.args.bytes.now c.fill_held.new.held.items c.in-Ok.rest.now
-    c.clear-in-Ok-Some.new.self.items c.args.sink.now c.step.new.sink c.in-Ok-Some.field-0-0 c.in-Ok.ensures.ok step c.clear-in-Ok-Some.ensures.items
+pub returns-clause-finished : goal.returns-clause-finished
+returns-clause-finished g c front is = c.loop-progress.invariant.on front is
 
-pub returns-in-Ok-Some-clause-counted : goal.returns-in-Ok-Some-clause-counted
-returns-in-Ok-Some-clause-counted g c =
-    let step = rw (c.in-Ok-Some.field-0-is, c.deref.ensures.value) at c.in-Ok-Some.ensures.step in
-    subst (IsCounted c.step.new.self) (sym (ap length c.clear-in-Ok-Some.ensures.items))
-    (StepsOver-counted g.S.Sink.begins g.S.Sink.steps g.S.Sink.refuses g.S.Sink.failed c.args.progress.now c.step.new.self c.args.held.now.items c.args.bytes.now c.fill_held.new.held.items c.in-Ok.rest.now
-    c.args.sink.now c.step.new.sink c.in-Ok-Some.field-0-0 c.in-Ok.ensures.ok step c.requires.counted)
+pub returns-clause-sound : goal.returns-clause-sound
+returns-clause-sound g c = c.loop-progress.invariant.sound
 
-pub returns-in-Err-clause-finished : goal.returns-in-Err-clause-finished
-returns-in-Err-clause-finished g c =
-    let step = rw c.deref.ensures.value at c.in-Err.ensures.step in
-    FinishesHeld-err g.S.Sink.begins g.S.Sink.steps g.S.Sink.refuses g.S.Sink.failed c.args.progress.now c.step.new.self c.args.held.now.items c.args.bytes.now c.fill_held.new.held.items c.in-Ok.rest.now
-    c.clear-in-Err.new.self.items c.args.sink.now c.step.new.sink c.in-Err.fault c.in-Ok.ensures.ok step c.clear-in-Err.ensures.items
+pub returns-clause-less : goal.returns-clause-less
+returns-clause-less g c = c.loop-progress.invariant.less
+
+pub returns-clause-counted : goal.returns-clause-counted
+returns-clause-counted g c = c.loop-progress.invariant.counted
+
+pub returns-clause-begun : goal.returns-clause-begun
+returns-clause-begun g c = c.loop-progress.invariant.begun
+
+pub returns-clause-kept : goal.returns-clause-kept
+returns-clause-kept g c = c.loop-progress.invariant.kept
+
+pub returns-in_err-left-clause-kept : goal.returns-in_err-left-clause-kept
+returns-in_err-left-clause-kept g c header e = c.in_err-left.ensures.kept header (c.loop-progress.invariant.kept header e)

@@ -1,62 +1,62 @@
-use Rattle.std.proofs.Common.{◌+◌, length, ap, arith}
-use Rattle.std.proofs.lemmas.Result.{err_from_is_err_and}
-use Rattle.hprof_stream.specs.Item.{place_behind}
-use Rattle.hprof_stream.specs.Walking.{seen}
-use Rattle.hprof_stream.proofs.Feeding.{none_left, none_short}
-use Rattle.hprof_stream.proofs.Walks.{Walks-room, IsCounted-less}
-use Rattle.hprof_stream.proofs.Stepping.{held_none, ReadsOn-held_err, ReadsOn-walk, WalksAll-counted, WalksAll-room}
+use Rattle.std.proofs.Common.{◌≡◌, ◌⊎◌, ◌<◌, ◌++◌, length, Option, None, true, is_some, inl, inr, sym, subst, ◌∙◌, arith}
+use Rattle.std.specs.Vec.{vec_len}
+use Rattle.hprof_items.specs.declared.header.Header.{Header}
+use Rattle.hprof_stream.specs.Walking.{IsBegun, seen}
+use Rattle.hprof_stream.proofs.HeldOn.{Behind-held, Behind-over, ReadsOn-kept, ReadsOn-walk, none_left, counted_behind, some_len, no_len, none_is}
+use Rattle.hprof_stream.proofs.Stepping.{all_keeps}
+use Rattle.hprof_stream.proofs.Walks.{IsCounted-less}
 use Rattle.hprof_stream.proofs.held.read_on.Goals as goal
+use Rattle.hprof_stream.proofs.held.read_on.Goals.{then-is_some-via-then-is_some, then-is_some-via-else-is_some+then-not-is_empty}
 
-pub returns-in_err-rest-clause-read : goal.returns-in_err-rest-clause-read
-returns-in_err-rest-clause-read g c =
-    let p = err_from_is_err_and c.from_residual.result c.from_residual.ensures.1 in
-    rw (p.1, p.2) (ReadsOn-held_err g.S.Sink.begins g.S.Sink.steps g.S.Sink.refuses g.S.Sink.failed c.args.progress.now c.finish_held.new.progress c.args.held.now.items c.args.bytes.now c.finish_held.new.held.items
-    c.args.sink.now c.finish_held.new.sink c.in_err-rest.field-0.0 c.in_err-rest.ensures.finished)
+pub returns-then-is_some-clause-read : goal.returns-then-is_some-clause-read
+returns-then-is_some-clause-read g c front is =
+    let from = c.args.progress.now in
+    let mid = c.finish_held.new in
+    let to = c.pass_over-left.new in
+    let bytes = c.args.bytes.now in
+    let left = c.in_ok-left.left.now in
+    let behind = c.pass_over-left.result.now in
+    let was = Behind-held g.S.Sink.begins g.S.Sink.steps g.S.Sink.refuses g.S.Sink.failed from mid.progress front bytes left c.args.sink.now mid.sink mid.rest (c.in_ok-left.ensures.finished front is) in
+    let over = Behind-over g.S.Sink.begins g.S.Sink.steps g.S.Sink.refuses g.S.Sink.failed from mid.progress to.progress (front ++ bytes) left behind c.args.sink.now mid.sink mid.rest to.rest was c.pass_over-left.ensures.bytes c.in_ok-left.ensures.done
+    (c.pass_over-left.ensures.passed, c.pass_over-left.ensures.none) in
+    let keeps : (is_some to.rest.passing ≡ true) ⊎ (0 < length to.rest.held.items) = elim c.then-is_some.branch [
+      | then-is_some-via-then-is_some w ↦ inl (sym c.is_some.ensures ∙ w.if-is_some.true)
+      | then-is_some-via-else-is_some+then-not-is_empty w ↦ inr (let n = some_len (vec_len to.rest.held) w.if-not-is_empty.ensures in omega (arith, n, to.rest.held.ok))
+    ] in
+    ReadsOn-kept g.S.Sink.begins g.S.Sink.steps g.S.Sink.refuses g.S.Sink.failed from to.progress front bytes behind c.args.sink.now mid.sink to.rest over.0 (none_left g.S.Sink.begins g.S.Sink.steps g.S.Sink.refuses g.S.Sink.failed to.rest behind over.1 keeps)
 
-pub walk-requires-clause-counted : goal.walk-requires-clause-counted
-walk-requires-clause-counted g c =
-    let still = c.finish_held.new.held.items in
-    let rest = c.in_ok-rest.rest.now in
-    IsCounted-less c.finish_held.new.progress (length still + length rest) (length rest)
-    (Walks-room g.S.Sink.begins g.S.Sink.steps c.args.progress.now c.finish_held.new.progress c.args.held.now.items c.args.bytes.now still rest c.args.sink.now c.finish_held.new.sink c.in_ok-rest.ensures.finished.0 c.requires.counted)
-    (omega arith)
+pub returns-then-is_some-clause-begun : goal.returns-then-is_some-clause-begun
+returns-then-is_some-clause-begun g c =
+    subst (λ (h : Option Header). IsBegun h (g.S.Sink.begun c.finish_held.new.sink)) (sym c.pass_over-left.ensures.header) c.in_ok-left.ensures.begun
 
-pub returns-then-is_empty-clause-read : goal.returns-then-is_empty-clause-read
-returns-then-is_empty-clause-read g c =
-    let held = c.finish_held.new.held in
-    let none = none_left held.items held.len c.is_empty.result c.if-is_empty.true c.is_empty.ensures held.ok.0 in
-    ReadsOn-walk g.S.Sink.begins g.S.Sink.steps g.S.Sink.refuses g.S.Sink.failed c.args.progress.now c.finish_held.new.progress c.walk.new.self c.args.held.now.items c.args.bytes.now held.items c.in_ok-rest.rest.now
-    c.args.sink.now c.finish_held.new.sink c.walk.new.sink (seen c.walk.result) c.in_ok-rest.ensures.finished.0 none c.walk.ensures.walk
+pub walk-requires-clause-begun : goal.walk-requires-clause-begun
+walk-requires-clause-begun g c =
+    subst (λ (h : Option Header). IsBegun h (g.S.Sink.begun c.finish_held.new.sink)) (sym c.pass_over-left.ensures.header) c.in_ok-left.ensures.begun
 
-pub returns-then-is_empty-clause-counted : goal.returns-then-is_empty-clause-counted
-returns-then-is_empty-clause-counted g c =
-    let held = c.finish_held.new.held in
-    let rest = c.in_ok-rest.rest.now in
-    let none = none_left held.items held.len c.is_empty.result c.if-is_empty.true c.is_empty.ensures held.ok.0 in
-    let room = Walks-room g.S.Sink.begins g.S.Sink.steps c.args.progress.now c.finish_held.new.progress c.args.held.now.items c.args.bytes.now held.items rest c.args.sink.now c.finish_held.new.sink c.in_ok-rest.ensures.finished.0 c.requires.counted in
-    IsCounted-less c.walk.new.self 0 (length held.items)
-    (WalksAll-counted g.S.Sink.begins g.S.Sink.steps g.S.Sink.refuses g.S.Sink.failed c.finish_held.new.progress c.walk.new.self rest c.finish_held.new.sink c.walk.new.sink (seen c.walk.result) c.walk.ensures.walk
-    (IsCounted-less c.finish_held.new.progress (length held.items + length rest) (length rest) room (omega arith)))
-    (omega (arith, ap length none))
+pub returns-clause-read : goal.returns-clause-read
+returns-clause-read g c front is =
+    let from = c.args.progress.now in
+    let mid = c.finish_held.new in
+    let to = c.pass_over-left.new in
+    let bytes = c.args.bytes.now in
+    let left = c.in_ok-left.left.now in
+    let behind = c.pass_over-left.result.now in
+    let was = Behind-held g.S.Sink.begins g.S.Sink.steps g.S.Sink.refuses g.S.Sink.failed from mid.progress front bytes left c.args.sink.now mid.sink mid.rest (c.in_ok-left.ensures.finished front is) in
+    let over = Behind-over g.S.Sink.begins g.S.Sink.steps g.S.Sink.refuses g.S.Sink.failed from mid.progress to.progress (front ++ bytes) left behind c.args.sink.now mid.sink mid.rest to.rest was c.pass_over-left.ensures.bytes c.in_ok-left.ensures.done
+    (c.pass_over-left.ensures.passed, c.pass_over-left.ensures.none) in
+    let none : to.rest.passing ≡ None = none_is to.rest.passing (sym c.is_some.ensures ∙ c.if-is_some.false) in
+    let empty : length to.rest.held.items ≡ 0 = let n = no_len (vec_len to.rest.held) c.if-not-is_empty.ensures in omega (arith, n, to.rest.held.ok) in
+    ReadsOn-walk g.S.Sink.begins g.S.Sink.steps g.S.Sink.refuses g.S.Sink.failed from to.progress c.walk.new.self front bytes behind c.args.sink.now mid.sink c.walk.new.sink to.rest c.clear.new.self over.0 empty none
+    c.walk.result c.walk.ensures.walk c.clear.ensures.held (c.clear.ensures.passing ∙ none) c.clear.ensures.walk
 
-pub returns-then-is_empty-clause-room : goal.returns-then-is_empty-clause-room
-returns-then-is_empty-clause-room g c =
-    let held = c.finish_held.new.held in
-    let rest = c.in_ok-rest.rest.now in
-    let none = none_left held.items held.len c.is_empty.result c.if-is_empty.true c.is_empty.ensures held.ok.0 in
-    let room = Walks-room g.S.Sink.begins g.S.Sink.steps c.args.progress.now c.finish_held.new.progress c.args.held.now.items c.args.bytes.now held.items rest c.args.sink.now c.finish_held.new.sink c.in_ok-rest.ensures.finished.0 c.requires.counted in
-    WalksAll-room g.S.Sink.begins g.S.Sink.steps g.S.Sink.refuses g.S.Sink.failed c.finish_held.new.progress c.walk.new.self rest held.items c.finish_held.new.sink c.walk.new.sink c.walk.result c.walk.ensures.walk
-    (IsCounted-less c.finish_held.new.progress (length held.items + length rest) (length rest) room (omega arith)) none
+pub returns-clause-counted : goal.returns-clause-counted
+returns-clause-counted g c =
+    let to = c.pass_over-left.new in
+    let none : to.rest.passing ≡ None = none_is to.rest.passing (sym c.is_some.ensures ∙ c.if-is_some.false) in
+    counted_behind g.S.Sink.begins g.S.Sink.steps g.S.Sink.refuses g.S.Sink.failed to.progress c.walk.new.self c.pass_over-left.result.now c.finish_held.new.sink c.walk.new.sink c.clear.new.self c.walk.result c.walk.ensures.walk
+    (IsCounted-less to.progress _ (length c.pass_over-left.result.now) c.pass_over-left.ensures.counted (omega arith)) c.clear.ensures.held (c.clear.ensures.passing ∙ none)
 
-pub returns-in_err-rest-clause-short : goal.returns-in_err-rest-clause-short
-returns-in_err-rest-clause-short g c =
-    let to = c.finish_held.new.progress in
-    let held = c.finish_held.new.held.items in
-    none_short to.limits.max_item (place_behind to.header) held
-    (held_none g.S.Sink.begins g.S.Sink.steps g.S.Sink.refuses g.S.Sink.failed c.args.progress.now to c.args.held.now.items c.args.bytes.now held c.args.sink.now c.finish_held.new.sink c.in_err-rest.field-0.0 c.in_err-rest.ensures.finished)
-
-pub returns-then-is_empty-clause-short : goal.returns-then-is_empty-clause-short
-returns-then-is_empty-clause-short g c =
-    let to = c.walk.new.self in
-    let held = c.finish_held.new.held in
-    none_short to.limits.max_item (place_behind to.header) held.items (none_left held.items held.len c.is_empty.result c.if-is_empty.true c.is_empty.ensures held.ok.0)
+pub returns-clause-kept : goal.returns-clause-kept
+returns-clause-kept g c header e =
+    all_keeps g.S.Sink.begins g.S.Sink.steps g.S.Sink.refuses g.S.Sink.failed c.pass_over-left.new.progress c.walk.new.self c.pass_over-left.result.now c.finish_held.new.sink c.walk.new.sink (seen c.walk.result) header c.walk.ensures.walk
+    (c.pass_over-left.ensures.header ∙ c.in_ok-left.ensures.kept header e)

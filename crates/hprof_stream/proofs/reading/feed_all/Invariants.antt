@@ -7,7 +7,8 @@ use Rattle.hprof_stream.proofs.reading.feed_all.Given as goal
 
 abbrev pub invariant-loop : goal.invariant-loop
 invariant-loop g l = record {
-  fed : (limits : Limits) → HasRead limits [] [] l.fn.reader → HasFed g.R.Source.left g.R.Source.health g.R.Source.pulls g.S.Sink.begins g.S.Sink.steps g.S.Sink.refuses g.S.Sink.failed limits l.counter l.fn.source l.source l.reader l.fn.sink l.sink;
+  fed : (limits : Limits) → HasRead limits [] [] l.fn.reader → HasFed g.R.Source.left g.R.Source.health g.R.Source.pulls g.S.Sink.begins
+      g.S.Sink.steps g.S.Sink.refuses g.S.Sink.failed limits l.counter l.fn.source l.source l.reader l.fn.sink l.sink;
   well : g.R.Source.health l.source ≡ Well;
   few : g.R.Source.pulls l.source ≤ g.R.Source.pulls l.fn.source + l.counter;
   room : 0 < length l.piece;

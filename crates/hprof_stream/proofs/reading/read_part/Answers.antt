@@ -5,7 +5,8 @@ use Rattle.hprof_stream.proofs.reading.read_part.Goals as goal
 
 pub returns-in_default-clause-read : goal.returns-in_default-clause-read
 returns-in_default-clause-read g c =
-    ReadsPart-memory g.R.Source.left g.R.Source.health g.R.Source.pulls g.S.Sink.begins g.S.Sink.steps g.S.Sink.refuses g.S.Sink.failed c.args.limits c.args.source.now c.args.sink.now c.requires
+    ReadsPart-memory g.R.Source.left g.R.Source.health g.R.Source.pulls g.S.Sink.begins g.S.Sink.steps g.S.Sink.refuses g.S.Sink.failed
+    c.args.limits c.args.source.now c.args.sink.now c.requires
 
 pub feed_all-requires-clause-begun : goal.feed_all-requires-clause-begun
 feed_all-requires-clause-begun g c = c.new-reader.ensures.ready (g.S.Sink.begun c.args.sink.now)
@@ -20,6 +21,8 @@ returns-clause-read g c =
     let fed = c.in_ok-feed_all.ensures.fed c.args.limits c.new-reader.ensures.read refl in (
       fed.0,
       fed.1,
-      ReadsPart-finished g.R.Source.left g.R.Source.health g.R.Source.pulls g.S.Sink.begins g.S.Sink.steps g.S.Sink.refuses g.S.Sink.failed c.args.limits c.args.source.now fed.0 c.feed_all.new.source c.feed_all.new.reader
-          c.args.sink.now c.feed_all.new.sink c.in_ok-feed_all.field-0 c.finish.result fed.2 (λ facts was. c.finish.ensures.finished c.args.limits fed.0 facts was),
+      ReadsPart-finished g.R.Source.left g.R.Source.health g.R.Source.pulls g.S.Sink.begins g.S.Sink.steps g.S.Sink.refuses g.S.Sink.failed
+          c.args.limits c.args.source.now fed.0 c.feed_all.new.source c.feed_all.new.reader
+          c.args.sink.now c.feed_all.new.sink c.in_ok-feed_all.field-0 c.finish.result fed.2
+          (λ facts was. c.finish.ensures.finished c.args.limits fed.0 facts was),
     )

@@ -1,4 +1,4 @@
-use Rattle.hprof_tool.proofs.Parts.{states_one}
+use Rattle.hprof_stream.proofs.Parts.{states_one}
 use Rattle.hprof_tool.proofs.laws.a_part_states_one_thing.Goals as goal
 
 pub returns : goal.returns

@@ -10,18 +10,18 @@ use Rattle.hprof_heap.proofs.gatherer.GathererSink.take.Goals as goal
 pub invariant_of-self : goal.invariant_of-self
 invariant_of-self c = record {
   steady = steady_after c.args.self.now.heap c.in-Some.heap c.state.new.self c.args.self.now.begun c.args.self.now.two_sizes c.args.self.now.steady c.in-Some.is
-      (states_ids c.state.result (heap_of c.in-Some.heap) (heap_of c.state.new.self) (value_of c.args.fact) c.state.ensures.ok c.state.ensures.err);
+      (states_ids c.state.result (heap_of c.in-Some.heap) (heap_of c.state.new.self) (value_of c.args.fact.now) c.state.ensures.ok c.state.ensures.err);
 }
 
 pub returns-in-New-clause-steps : goal.returns-in-New-clause-steps
 returns-in-New-clause-steps c =
     let told = λ (stated : Stated) (e : c.in-Ok.stated ≡ stated).
-    took c.state.result c.in-Ok.stated stated c.args.self.now c.in-Some.heap c.state.new.self (value_of c.args.fact)
+    took c.state.result c.in-Ok.stated stated c.args.self.now c.in-Some.heap c.state.new.self (value_of c.args.fact.now)
     c.if-self.false c.if-self-2.false c.in-Some.is c.in-Ok.is e c.state.ensures.ok in
     elim c.in-New.is [ inl e ↦ told New e | inr e ↦ told Same e ]
 
 pub returns-in-Differs-clause-steps : goal.returns-in-Differs-clause-steps
 returns-in-Differs-clause-steps c =
-    subst (Takes (gathered c.args.self.now) (value_of c.args.fact)) (sym c.mark.ensures)
-    (took c.state.result c.in-Ok.stated Differs c.args.self.now c.in-Some.heap c.state.new.self (value_of c.args.fact)
+    subst (Takes (gathered c.args.self.now) (value_of c.args.fact.now)) (sym c.mark.ensures)
+    (took c.state.result c.in-Ok.stated Differs c.args.self.now c.in-Some.heap c.state.new.self (value_of c.args.fact.now)
     c.if-self.false c.if-self-2.false c.in-Some.is c.in-Ok.is c.in-Differs.is c.state.ensures.ok)

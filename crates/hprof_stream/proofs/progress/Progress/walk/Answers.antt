@@ -2,11 +2,11 @@ use Rattle.std.proofs.Common.{ℕ, List, sym, subst}
 use Rattle.std.proofs.lemmas.Result.{err_from_is_err_and}
 use Rattle.hprof_stream.specs.Walking.{Walks}
 use Rattle.hprof_stream.proofs.Stepping.{Halts-here, Halts-then}
-use Rattle.hprof_stream.proofs.Walks.{Walks-none, Walks-then, Walks-counted}
+use Rattle.hprof_stream.proofs.Walks.{Walks-none, Walks-then, Walks-counted, Walks-at, same_item}
 use Rattle.hprof_stream.proofs.progress.Progress.walk.Goals as goal
 
 pub loop-len-init : goal.loop-len-init
-loop-len-init g c = record { walked = Walks-none g.S.Sink.begins g.S.Sink.steps c.args.self.now c.args.bytes.now c.args.sink.now; counted = c.requires.counted; begun = c.requires.begun }
+loop-len-init g c = record { walked = Walks-none g.S.Sink.begins g.S.Sink.steps c.args.self.now.limits.max_item c.args.self.now c.args.bytes.now c.args.sink.now; counted = c.requires.counted; begun = c.requires.begun }
 
 pub returns-in_err-len-clause-walk : goal.returns-in_err-len-clause-walk
 returns-in_err-len-clause-walk g c =
@@ -21,10 +21,13 @@ loop-len-preserved g c =
     let sink = c.loop-len.sink in
     let bytes = c.loop-len.rest.now in
     let rest = c.split_at.result.1.now in
+    let longest = c.args.self.now.limits.max_item in
     let step = rw c.in-Some.is at c.in_ok-len.ensures.step in
-    let over = subst (λ (r : List ℕ). Walks g.S.Sink.begins g.S.Sink.steps now bytes sink c.step.new.self r c.step.new.sink) (sym c.split_at.ensures.back) step.0 in
+    let over = subst (λ (r : List ℕ). Walks g.S.Sink.begins g.S.Sink.steps now.limits.max_item now bytes sink c.step.new.self r c.step.new.sink) (sym c.split_at.ensures.back) step.0 in
+    let same = same_item g.S.Sink.begins g.S.Sink.steps longest c.args.self.now now c.args.bytes.now bytes c.args.sink.now sink inv.walked in
+    let on = Walks-at g.S.Sink.begins g.S.Sink.steps now.limits.max_item longest now c.step.new.self bytes rest sink c.step.new.sink same over in
     record {
-      walked = Walks-then g.S.Sink.begins g.S.Sink.steps c.args.self.now now c.step.new.self c.args.bytes.now bytes rest c.args.sink.now sink c.step.new.sink inv.walked over;
-      counted = Walks-counted g.S.Sink.begins g.S.Sink.steps now c.step.new.self bytes rest sink c.step.new.sink over inv.counted;
+      walked = Walks-then g.S.Sink.begins g.S.Sink.steps longest c.args.self.now now c.step.new.self c.args.bytes.now bytes rest c.args.sink.now sink c.step.new.sink inv.walked on;
+      counted = Walks-counted g.S.Sink.begins g.S.Sink.steps longest now c.step.new.self bytes rest sink c.step.new.sink on inv.counted;
       begun = c.in_ok-len.ensures.begun;
     }

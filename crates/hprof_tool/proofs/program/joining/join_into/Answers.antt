@@ -1,6 +1,7 @@
-use Rattle.std.proofs.Common.{◌≡◌, ℕ, List, [], ◌∷◌, length, take, Option, Result, Ok, Err, refl, sym, ap, subst, ◌∙◌}
-use Rattle.std.specs.Prelude.{IfOk, IfErr, OnOk, OnErr}
-use Rattle.std.specs.Io.KnownBytes.{Appends, Keeps}
+use Rattle.std.proofs.Common.{◌≡◌, ℕ, List, [], ◌∷◌, length, take, Option, Some, None, append-nil, Result, Ok, Err, refl, sym, ap, subst, ◌∙◌}
+use Rattle.std.specs.Prelude.{IfOk, IfErr, OnOk, OnErr, IsOk}
+use Rattle.std.specs.Io.KnownBytes.{Appends, Keeps, append_known}
+use Rattle.std.specs.Io.Buffered.{writer_inner, writer_buffer}
 use Rattle.std.proofs.KnownBytes.{Appends-kept}
 use Rattle.std.proofs.Math.Seq.{take-length}
 use Rattle.std.specs.List.{AllByRecursion}
@@ -20,7 +21,7 @@ use Rattle.hprof_tool.specs.declared.tool_fault.ToolFault.TheVariants as tool
 use Rattle.hprof_tool.specs.declared.program.refused.Refused.{Refused}
 use Rattle.hprof_tool.specs.declared.program.refused.Refused.TheVariants as refusals
 use Rattle.hprof_tool.specs.Joining.{joined_of, Tell, Joins, StopsWriting, Disagree, IsAccepted, IsOfPart, IsPartFault, RefusesPart}
-use Rattle.hprof_tool.specs.Program.{usual_limits, IsFirstAnswer, IsPartRefusal, IsRefusal}
+use Rattle.hprof_tool.specs.Program.{usual_limits, IsWritten, IsFirstAnswer, IsPartRefusal, IsRefusal}
 use Rattle.hprof_tool.proofs.program.joining.join_into.Goals as goal
 
 -- no reader tells no part
@@ -121,6 +122,35 @@ module _ {R : Type 0} (left : R → Option (List ℕ)) (readers : List R) (old n
         written = Appends-kept old new end (take written.count (canonical_dump written.ids written.millis written.rows)) written.written kept;
       }
 
+  -- what the engine wrote was flushed
+  written_out : (joined : Result Joined ToolFault) (outcome : Result (Unit {0}) Refused) (end last : Option (List ℕ)) → IfOk joined (λ j. (parts : List (List ℕ)) → Tell left readers parts → Joins parts old new j)
+      → OnOk outcome (IsOk joined) → Keeps new end → OnOk outcome (end ≡ last) → OnOk outcome ((parts : List (List ℕ)) → Tell left readers parts → IsWritten parts old last)
+  written_out joined (Err refused) end last ok done kept same = tt
+  written_out (Err fault) (Ok u) end last ok done kept same = absurd cc
+  written_out (Ok j) (Ok u) end last ok done kept same = λ parts told.
+      let joins = ok parts told in
+      let dump = canonical_dump joins.ids joins.millis joins.rows in (
+        j,
+        record {
+          ids = joins.ids;
+          millis = joins.millis;
+          rows = joins.rows;
+          agree = joins.agree;
+          written = subst (λ (b : Option (List ℕ)). Appends old b dump) same (Appends-kept old new end dump joins.written kept);
+          parts_count = joins.parts_count;
+          facts_count = joins.facts_count;
+        },
+      )
+
+-- a buffer that is empty adds nothing
+none_added : (known : Option (List ℕ)) → append_known known [] ≡ known
+none_added None = refl
+none_added (Some bytes) = ap Some (append-nil bytes)
+
+emptied : (outcome : Result (Unit {0}) Refused) (inner : Option (List ℕ)) (buffer : List ℕ) → OnOk outcome (buffer ≡ []) → OnOk outcome (append_known inner buffer ≡ inner)
+emptied (Ok u) inner buffer none = ap (append_known inner) none ∙ none_added inner
+emptied (Err refused) inner buffer none = tt
+
 pub returns-clause-refused : goal.returns-clause-refused
 returns-clause-refused g c =
     let e = c.join_kept-kept.ensures in
@@ -152,3 +182,11 @@ returns-clause-write g c =
       write = λ fault same. (e.write fault same).1;
     })
     kept c.end_of_writing-outcome.ensures.refused fault is parts told)
+
+pub returns-clause-ok : goal.returns-clause-ok
+returns-clause-ok g c =
+    let kept = rw c.into_inner-buffered.ensures at c.end_of_writing-outcome.ensures.bytes in
+    let writer = c.end_of_writing-outcome.new.buffered in
+    let same = emptied c.end_of_writing-outcome.result (g.W.Write.contents (writer_inner writer)) (writer_buffer writer) c.end_of_writing-outcome.ensures.flushed in
+    rw (← c.new-target.ensures.inner, c.into_parts-writer.ensures.inner)
+    (written_out g.R.Source.left c.args.readers.now _ _ (joined_of c.join_kept-kept.result) c.end_of_writing-outcome.result _ _ c.join_kept-kept.ensures.ok c.end_of_writing-outcome.ensures.done kept same)

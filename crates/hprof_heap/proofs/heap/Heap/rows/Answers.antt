@@ -1,0 +1,11 @@
+use Rattle.std.proofs.Common.{sym, subst, ◌∙◌}
+use Rattle.hprof_heap.specs.Heap.{heap_of, number_of_table, stands_in}
+use Rattle.hprof_heap.specs.Order.{IsCanonicalOrder}
+use Rattle.hprof_heap.proofs.TableRows.{passed_ordered}
+use Rattle.hprof_heap.proofs.heap.Heap.rows.Goals as goal
+
+pub returns-clause-ordered : goal.returns-clause-ordered
+returns-clause-ordered c =
+    let heap = c.args.self.now in
+    subst IsCanonicalOrder (sym (c.new.ensures.all ∙ c.table_rows.ensures.all))
+    (passed_ordered (stands_in (number_of_table c.args.table)) (heap_of heap).facts heap.sound.heap.ordered)

@@ -1,0 +1,45 @@
+use Rattle.std.proofs.Common.{arith}
+use Rattle.hprof_items.specs.FactValue.{value_of}
+use Rattle.hprof_heap.specs.Content.{spelled_fact}
+use Rattle.hprof_heap.specs.Heap.{rows_in}
+use Rattle.hprof_heap.specs.HeapRows.{spelled_facts}
+use Rattle.hprof_heap.specs.Relation.{rows_of}
+use Rattle.hprof_heap.specs.SpelledRow.{spelled_bytes}
+use Rattle.hprof_heap.proofs.HeapRows.{sub_at_place, spelled_again, spelled_stated, of_key, into_heap, into_heap-sound}
+use Rattle.hprof_heap.proofs.RowFacts.{rows_tried, rows_kept, tried_right}
+use Rattle.hprof_heap.proofs.heap.Heap.state_class.Goals as goal
+
+pub invariant_of-self : goal.invariant_of-self
+invariant_of-self c =
+    let heap = c.args.self.now in
+    let fact = value_of c.args.fact.now in
+    let old = rows_of heap.classes in
+    let new = rows_of c.state_from.new.self in
+    let r = c.state_from.result in
+    let sub = sub_at_place fact 8 c.args.id c.requires.place (omega arith) in
+    let ok = spelled_stated r heap.ids c.args.id fact c.args.bytes.now old new sub c.requires.spelled c.state_from.ensures.ok in
+    record {
+      sound = record {
+        heap = into_heap-sound r (rows_in heap) heap.sound 8 (spelled_facts heap.ids new) fact (of_key 8 c.args.id fact c.requires.place) (omega arith) c.requires.fits
+            (rows_tried heap.ids 8 (spelled_fact heap.ids) spelled_bytes r old new c.args.id fact
+            (record { stands = c.requires.place; again = spelled_again heap.ids c.args.id fact sub c.requires.fits }) heap.sound.classes ok)
+            (rows_kept heap.ids 8 (spelled_fact heap.ids) spelled_bytes r old new c.state_from.ensures.err);
+        traces = heap.sound.traces;
+        classes = tried_right heap.ids 8 (spelled_fact heap.ids) spelled_bytes r old new c.args.id fact
+            (record { stands = c.requires.place; again = spelled_again heap.ids c.args.id fact sub c.requires.fits }) heap.sound.classes ok c.state_from.ensures.err;
+        objects = heap.sound.objects;
+      };
+    }
+
+pub returns-clause-ok : goal.returns-clause-ok
+returns-clause-ok c =
+    let heap = c.args.self.now in
+    let fact = value_of c.args.fact.now in
+    let old = rows_of heap.classes in
+    let new = rows_of c.state_from.new.self in
+    let r = c.state_from.result in
+    let sub = sub_at_place fact 8 c.args.id c.requires.place (omega arith) in
+    let ok = spelled_stated r heap.ids c.args.id fact c.args.bytes.now old new sub c.requires.spelled c.state_from.ensures.ok in
+    into_heap r (rows_in heap) heap.sound 8 (spelled_facts heap.ids new) fact (of_key 8 c.args.id fact c.requires.place) (omega arith) c.requires.fits
+    (rows_tried heap.ids 8 (spelled_fact heap.ids) spelled_bytes r old new c.args.id fact
+    (record { stands = c.requires.place; again = spelled_again heap.ids c.args.id fact sub c.requires.fits }) heap.sound.classes ok)

@@ -1,0 +1,37 @@
+use Rattle.std.proofs.Common.{[], ◌∷◌, refl, arith}
+use Rattle.hprof_items.specs.FactValue.{Unload}
+use Rattle.hprof_heap.specs.Heap.{rows_in}
+use Rattle.hprof_heap.specs.Content.{unload_fact}
+use Rattle.hprof_heap.specs.HeapRows.{unload_facts, no_content}
+use Rattle.hprof_heap.specs.Relation.{rows_of}
+use Rattle.hprof_heap.proofs.HeapRows.{unloads_right, into_heap, into_heap-sound}
+use Rattle.hprof_heap.proofs.RowFacts.{rows_tried, rows_kept}
+use Rattle.hprof_heap.proofs.heap.Heap.state_unload.Goals as goal
+
+pub invariant_of-self : goal.invariant_of-self
+invariant_of-self c =
+    let heap = c.args.self.now in
+    let fact = Unload c.args.serial in
+    let old = rows_of heap.unloads in
+    let new = rows_of c.state.new.self in
+    let r = c.state.result in
+    record {
+      sound = record {
+        heap = into_heap-sound r (rows_in heap) heap.sound 2 (unload_facts new) fact (record { more = c.args.serial ∷ []; stands = refl }) (omega arith) c.requires
+            (rows_tried heap.ids 2 unload_fact no_content r old new c.args.serial fact (record { stands = refl; again = refl }) (unloads_right heap.ids old) c.state.ensures.ok)
+            (rows_kept heap.ids 2 unload_fact no_content r old new c.state.ensures.err);
+        traces = heap.sound.traces;
+        classes = heap.sound.classes;
+        objects = heap.sound.objects;
+      };
+    }
+
+pub returns-clause-ok : goal.returns-clause-ok
+returns-clause-ok c =
+    let heap = c.args.self.now in
+    let fact = Unload c.args.serial in
+    let old = rows_of heap.unloads in
+    let new = rows_of c.state.new.self in
+    let r = c.state.result in
+    into_heap r (rows_in heap) heap.sound 2 (unload_facts new) fact (record { more = c.args.serial ∷ []; stands = refl }) (omega arith) c.requires
+    (rows_tried heap.ids 2 unload_fact no_content r old new c.args.serial fact (record { stands = refl; again = refl }) (unloads_right heap.ids old) c.state.ensures.ok)

@@ -1,0 +1,10 @@
+use Rattle.std.proofs.Common.{[], length, sym, ap, ◌∙◌, arith}
+use Rattle.std.proofs.lemmas.List.{append-nil}
+use Rattle.hprof_items.specs.SubRecord.{dump_bytes}
+use Rattle.hprof_heap.proofs.spelled_row.SpelledRow.fact.Goals as goal
+
+pub returns-clause-fact : goal.returns-clause-fact
+returns-clause-fact c = λ fact spells.
+    let len = sym (ap length spells.spelled) in
+    (c.in-Whole.ensures.only fact [] spells.fits (c.deref.ensures.value ∙ spells.spelled ∙ sym (append-nil (dump_bytes c.args.ids fact)))
+    (omega (arith, len, c.len-len.ensures)) (omega (arith, len, c.len-len.ensures))).0

@@ -1,0 +1,57 @@
+//! The set of roots.
+
+ghost use Rattle.std.specs.Prelude.{◌≡◌, [], length, false, IfOk, OnErr};
+ghost use Rattle.std.specs.List.{list_any};
+ghost use Rattle.std.specs.BTreeMap.{is_at};
+ghost use Rattle.hprof_heap.specs.RootSet.{root_cmp};
+
+use crate::relation::Stated;
+use hprof_values::Root;
+use std::alloc::{AllocError, Global};
+use std::collections::{BTreeSet, btree_set};
+
+/// Roots, each once, in the order of their spellings.
+#[derive(Drop)]
+pub(crate) struct RootSet {
+    roots: BTreeSet<Root>,
+}
+
+impl RootSet {
+    ghost use Rattle.hprof_heap.specs.RootSet.{roots_of, StatesRoot};
+
+    /// A set with no roots. It takes no memory yet.
+    pub(crate) fn new(alloc: Global) -> Self
+        ensures { roots_of result ≡ [] }
+    {
+        RootSet {
+            roots: BTreeSet::new(alloc),
+        }
+    }
+
+    /// States a root. One that is there takes no memory.
+    pub(crate) fn state(&mut self, root: Root) -> Result<Stated, AllocError>
+        ensures ok { IfOk result (λ stated. StatesRoot (roots_of self.old) root stated (roots_of self.new)) }
+        ensures err { OnErr result (roots_of self.new ≡ roots_of self.old) }
+        ensures absent { OnErr result (list_any (is_at (root_cmp root)) (roots_of self.old) ≡ false) }
+    {
+        match self.roots.insert(root) {
+            Ok(true) => Ok(Stated::New),
+            Ok(false) => Ok(Stated::Same),
+            Err(_) => Err(AllocError),
+        }
+    }
+
+    /// The number of roots.
+    pub(crate) fn len(&self) -> usize
+        ensures { result ≡ length (roots_of self.now) }
+    {
+        self.roots.len()
+    }
+
+    /// The roots, in order.
+    pub(crate) fn iter(&self) -> btree_set::Iter<'_, Root>
+        ensures { result ≡ roots_of self.now }
+    {
+        self.roots.iter()
+    }
+}

@@ -1,0 +1,67 @@
+//! The sub-records of a heap, one after the other.
+
+ghost use Rattle.hprof_heap.specs.Rows.{rows_left};
+ghost use Rattle.hprof_heap.specs.SubRow.{AreWritable, AreWritable-prop};
+
+use crate::rows::Rows;
+use crate::spelled_row::SpelledRow;
+use crate::sub_row::SubRow;
+use hprof_values::{IdSize, Root};
+use std::collections::btree_set;
+
+/// The sub-records of a heap that are still to come, in canonical order: its roots, its classes, its objects.
+#[derive(Drop)]
+pub(crate) struct SubRows<'a> {
+    ids: IdSize,
+    roots: btree_set::Iter<'a, Root>,
+    classes: Rows<'a, SpelledRow>,
+    objects: Rows<'a, SpelledRow>,
+    // Each of them can be written.
+    ghost sound: { AreWritable ids roots (rows_left classes) (rows_left objects) } by { AreWritable-prop ids roots (rows_left classes) (rows_left objects) },
+}
+
+impl<'a> SubRows<'a> {
+    ghost use Rattle.std.specs.Prelude.{◌≡◌};
+    ghost use Rattle.hprof_heap.specs.SubRow.{facts_of_subs};
+    ghost use Rattle.hprof_heap.specs.SubRows.{YieldsSub, subs_left, subs_ids};
+
+    /// The sub-records of those tables.
+    pub(crate) fn new(
+        ids: IdSize,
+        roots: btree_set::Iter<'a, Root>,
+        classes: Rows<'a, SpelledRow>,
+        objects: Rows<'a, SpelledRow>,
+    ) -> Self
+        requires { AreWritable ids roots (rows_left classes) (rows_left objects) }
+        ensures all { subs_left result ≡ facts_of_subs ids roots.entry (rows_left classes.entry) (rows_left objects.entry) }
+        ensures ids { subs_ids result ≡ ids }
+    {
+        SubRows {
+            ids,
+            roots,
+            classes,
+            objects,
+        }
+    }
+
+    /// The size of their identifiers.
+    pub(crate) fn ids(&self) -> IdSize
+        ensures { result ≡ subs_ids self.now }
+    {
+        self.ids
+    }
+
+    /// Takes the first.
+    pub(crate) fn next(&mut self) -> Option<SubRow<'a>>
+        ensures { YieldsSub self.old result self.new }
+    {
+        if let Some(root) = self.roots.next() {
+            return Some(SubRow::Root(*root));
+        }
+        if let Some((_id, row)) = self.classes.next() {
+            return Some(SubRow::Spelled(row));
+        }
+        let (_id, row) = self.objects.next()?;
+        Some(SubRow::Spelled(row))
+    }
+}

@@ -1,0 +1,68 @@
+//! The rows of stack traces.
+
+ghost use Rattle.hprof_heap.specs.TraceRow.{trace_content, frames_content};
+
+use crate::content::{Content, Statement};
+use hprof_items::Fact;
+use hprof_values::{IdList, IdSize};
+use std::alloc::{AllocError, Global};
+
+/// The thread of a stack trace, and the bytes of its frames' identifiers.
+#[derive(Drop)]
+pub struct TraceRow {
+    /// The serial of the thread.
+    pub(crate) thread: u32,
+    pub(crate) frames: Vec<u8>,
+}
+
+impl TraceRow {
+    ghost use Rattle.std.specs.Prelude.{◌≡◌, ◌%◌, length};
+    ghost use Rattle.hprof_values.specs.Ids.{width_of};
+    ghost use Rattle.hprof_items.specs.FactValue.{ListsHave, value_of};
+    ghost use Rattle.hprof_heap.specs.Content.{trace_fact};
+    ghost use Rattle.hprof_heap.specs.TraceRow.{frames_bytes};
+
+    /// The fact of the row under a serial.
+    pub(crate) fn fact(&self, serial: u32, ids: IdSize) -> Fact<'_>
+        requires { length (frames_bytes self.now) % width_of ids ≡ 0 }
+        ensures value { value_of result ≡ trace_fact ids serial (trace_content self.now) }
+        ensures lists { ListsHave ids result }
+    {
+        Fact::Trace {
+            serial,
+            thread: self.thread,
+            frames: IdList::of_whole(&self.frames, ids),
+        }
+    }
+}
+
+/// The thread and the frames of a stack trace, where they stand in a piece of a part.
+#[derive(Clone, Copy)]
+pub(crate) struct TraceFrames<'a> {
+    pub(crate) thread: u32,
+    pub(crate) frames: IdList<'a>,
+}
+
+impl Content for TraceRow {
+    ghost content = { trace_content };
+
+    fn agrees(&self, other: &Self) -> bool {
+        self.thread == other.thread && self.frames.as_slice() == other.frames.as_slice()
+    }
+}
+
+impl Statement<TraceRow> for TraceFrames<'_> {
+    ghost content = { frames_content };
+
+    fn matches(&self, row: &TraceRow) -> bool {
+        row.thread == self.thread && row.frames.as_slice() == self.frames.bytes()
+    }
+
+    fn into_row(self, alloc: Global) -> Result<TraceRow, AllocError> {
+        let frames = Vec::from_slice(alloc, self.frames.bytes())?;
+        Ok(TraceRow {
+            thread: self.thread,
+            frames,
+        })
+    }
+}

@@ -1,0 +1,10 @@
+use Rattle.std.proofs.Common.{sym, ap, ◌∙◌, arith}
+use Rattle.hprof_items.specs.Reading.{header_at}
+use Rattle.hprof_items.proofs.Headers.{header_found, header_again}
+use Rattle.hprof_items.proofs.header_reading.read_header.Goals as goal
+
+pub returns-clause-found : goal.returns-clause-found
+returns-clause-found c = λ h n e. header_found c.args.bytes.now h n (λ i. omega (arith, c.type_inv.bytes i)) (sym c.header_step.ensures ∙ e)
+
+pub returns-clause-only : goal.returns-clause-only
+returns-clause-only c = λ h rest fits e. c.header_step.ensures ∙ ap header_at e ∙ header_again h rest fits

@@ -1,0 +1,80 @@
+//! Reading the head of any record at the front of some bytes.
+
+ghost use Rattle.std.specs.Prelude.{◌≡◌, ℕ, ◌++◌, List, drop};
+ghost use Rattle.hprof_items.specs.declared.head.Head.{Head};
+ghost use Rattle.hprof_items.specs.Head.{head_bytes};
+ghost use Rattle.hprof_items.specs.RecordBody.{is_legal_body};
+ghost use Rattle.hprof_items.specs.Reading.{is_legal, judged_head, head_at, IsRightHead};
+
+use crate::head::{HEAD_LEN, Head, HeadKind};
+use crate::step::Step;
+use crate::tag;
+use byteorder::{BigEndian, ByteOrder};
+use hprof_values::{IdSize, Reason, RecordTag};
+
+/// Whether the record that states a fact may have that length.
+fn may_have_body(known: RecordTag, len: usize, ids: IdSize) -> bool
+    ensures { result ≡ is_legal_body ids known len }
+{
+    let id = ids.width();
+    match known {
+        RecordTag::Utf8 => id <= len,
+        RecordTag::LoadClass => len == 8 + 2 * id,
+        RecordTag::UnloadClass | RecordTag::EndThread => len == 4,
+        RecordTag::Frame | RecordTag::StartThread => len == 8 + 4 * id,
+        RecordTag::Trace => 12 <= len,
+    }
+}
+
+/// Whether the record may have that length.
+fn may_have_len(tag: u8, len: u32, ids: IdSize) -> bool
+    ensures { result ≡ is_legal ids tag len }
+{
+    match RecordTag::from_code(tag) {
+        Some(known) => may_have_body(known, len as usize, ids),
+        None => tag != tag::HEAP_DUMP_END || len == 0,
+    }
+}
+
+fn judge_head(head: Head, ids: IdSize, longest: u32) -> Step<Head>
+    ensures { result ≡ judged_head ids longest head }
+{
+    if !may_have_len(head.tag, head.length, ids) {
+        return Step::Fault(Reason::BadLength);
+    }
+    if head.kind() == HeadKind::FactRecord && longest < head.length {
+        return Step::TooLong;
+    }
+    Step::Whole(head, HEAD_LEN)
+}
+
+/// The step of `read_head`.
+#[tactic(auto, unfolding(crate::specs::Reading::head_at))]
+fn head_step(bytes: &[u8], ids: IdSize, longest: u32) -> Step<Head>
+    ensures { result ≡ head_at ids longest bytes.now }
+{
+    if bytes.len() < HEAD_LEN {
+        return Step::Short;
+    }
+    let head = Head {
+        tag: bytes[0],
+        time: BigEndian::read_u32(&bytes[1..]),
+        length: BigEndian::read_u32(&bytes[5..]),
+    };
+    judge_head(head, ids, longest)
+}
+
+/// Reads the head of any record at the front: its nine bytes are there, then its length is one that it may have,
+/// then a record with a fact is no longer than `longest`, a number of bytes without the head.
+pub fn read_head(bytes: &[u8], ids: IdSize, longest: u32) -> Step<Head>
+    // Which step it is.
+    ensures exact { result ≡ head_at ids longest bytes.now }
+    // What is read is spelled so, and right.
+    ensures found { (head : Head) (n : ℕ) → result ≡ Step.Whole head n
+        → (bytes.now ≡ head_bytes head.tag head.time head.length ++ drop n bytes.now) × (n ≡ 9) × IsRightHead ids longest head }
+    // What is spelled so and right is read, whatever follows.
+    ensures only { (head : Head) (rest : List ℕ) → IsRightHead ids longest head
+        → bytes.now ≡ head_bytes head.tag head.time head.length ++ rest → result ≡ Step.Whole head 9 }
+{
+    head_step(bytes, ids, longest)
+}

@@ -1,0 +1,89 @@
+//! Reading the header of a part at the front of some bytes.
+
+ghost use Rattle.std.specs.Prelude.{◌≡◌, ℕ, ◌++◌, List, drop};
+ghost use Rattle.hprof_items.specs.declared.header.Header.{Header};
+ghost use Rattle.hprof_items.specs.Header.{header_bytes, IsMillis};
+ghost use Rattle.hprof_items.specs.Reading.{version_of, ids_of, header_at};
+
+use crate::header::{HEADER_LEN, Header, Version};
+use crate::step::Step;
+use byteorder::{BigEndian, ByteOrder};
+use hprof_values::{IdSize, Reason};
+
+/// The text that each version's header begins with, and the zero byte behind it.
+pub(crate) const TEXT_V101: &[u8; 19] = b"JAVA PROFILE 1.0.1\0";
+
+pub(crate) const TEXT_V102: &[u8; 19] = b"JAVA PROFILE 1.0.2\0";
+
+/// The number of bytes in a header's text, and in that and the size.
+pub(crate) const TEXT_LEN: usize = 19;
+
+pub(crate) const SIZED_LEN: usize = 23;
+
+fn version_in(text: &[u8]) -> Option<Version>
+    ensures { result ≡ version_of text.now }
+{
+    if text == TEXT_V101.as_slice() {
+        Some(Version::V101)
+    } else if text == TEXT_V102.as_slice() {
+        Some(Version::V102)
+    } else {
+        None
+    }
+}
+
+fn ids_in(size: u32) -> Option<IdSize>
+    ensures { result ≡ ids_of size }
+{
+    match size {
+        4 => Some(IdSize::Four),
+        8 => Some(IdSize::Eight),
+        _ => None,
+    }
+}
+
+/// The step of `read_header`.
+#[tactic(auto, unfolding(crate::specs::Reading::header_at))]
+fn header_step(bytes: &[u8]) -> Step<Header>
+    ensures { result ≡ header_at bytes.now }
+{
+    if bytes.len() < TEXT_LEN {
+        return Step::Short;
+    }
+    let Some(version) = version_in(&bytes[..TEXT_LEN]) else {
+        return Step::Fault(Reason::BadMagic);
+    };
+    if bytes.len() < SIZED_LEN {
+        return Step::Short;
+    }
+    let Some(ids) = ids_in(BigEndian::read_u32(&bytes[TEXT_LEN..])) else {
+        return Step::Fault(Reason::BadIdSize);
+    };
+    if bytes.len() < HEADER_LEN {
+        return Step::Short;
+    }
+    let millis = BigEndian::read_u64(&bytes[SIZED_LEN..]);
+    Step::Whole(
+        Header {
+            version,
+            ids,
+            millis,
+        },
+        HEADER_LEN,
+    )
+}
+
+/// Reads the header at the front: the text, then the size of identifiers, then the time. A field that is not
+/// wholly there is not judged.
+pub fn read_header(bytes: &[u8]) -> Step<Header>
+    // Which step it is.
+    ensures exact { result ≡ header_at bytes.now }
+    // What is read is spelled so.
+    ensures found { (header : Header) (n : ℕ) → result ≡ Step.Whole header n
+        → (bytes.now ≡ header_bytes header ++ drop n bytes.now) × (n ≡ 31) × IsMillis header.millis }
+    // What is spelled so is read, whatever follows.
+    ensures only { (header : Header) (rest : List ℕ) → IsMillis header.millis
+        → bytes.now ≡ header_bytes header ++ rest → result ≡ Step.Whole header 31 }
+{
+    header_step(bytes)
+}

@@ -1,0 +1,46 @@
+use Rattle.std.proofs.Common.{ℕ, List, drop, refl, sym, subst, arith}
+use Rattle.hprof_stream.specs.declared.progress.Progress.{Progress}
+use Rattle.hprof_stream.specs.Walking.{Walks, GivesFit}
+use Rattle.hprof_stream.proofs.Walks.{Walks-item, given_fits, read_within, next_counted, Stops-refused}
+use Rattle.hprof_stream.proofs.progress.Progress.step.Goals as goal
+
+pub split_at-requires : goal.split_at-requires
+split_at-requires g c =
+    read_within c.args.self.now.limits.max_item c.args.self.now c.args.bytes.now c.in-Whole.item c.in-Whole.len (λ i. omega (arith, c.type_inv.bytes i)) c.item.ensures.room
+    c.in-Whole.ensures.found
+
+pub give-requires : goal.give-requires
+give-requires g c =
+    subst (λ (bytes : List ℕ). GivesFit (g.S.Sink.begun c.args.sink.now) c.in-Whole.item bytes) (sym c.split_at.ensures.front)
+    (given_fits c.args.self.now.limits.max_item c.args.self.now c.args.bytes.now c.in-Whole.item c.in-Whole.len _ (λ i. omega (arith, c.type_inv.bytes i)) c.item.ensures.room
+    c.in-Whole.ensures.found c.in-Whole.ensures.place c.in-Whole.ensures.lists c.requires.begun)
+
+pub advance-requires-clause-counted : goal.advance-requires-clause-counted
+advance-requires-clause-counted g c =
+    (next_counted c.args.self.now.limits.max_item c.args.self.now c.args.bytes.now c.in-Whole.item c.in-Whole.len (λ i. omega (arith, c.type_inv.bytes i)) c.item.ensures.room
+    c.in-Whole.ensures.found c.in-Whole.ensures.place c.requires.counted).0
+
+pub advance-requires-clause-next : goal.advance-requires-clause-next
+advance-requires-clause-next g c =
+    (next_counted c.args.self.now.limits.max_item c.args.self.now c.args.bytes.now c.in-Whole.item c.in-Whole.len (λ i. omega (arith, c.type_inv.bytes i)) c.item.ensures.room
+    c.in-Whole.ensures.found c.in-Whole.ensures.place c.requires.counted).1
+
+pub returns-in_default-clause-step : goal.returns-in_default-clause-step
+returns-in_default-clause-step g c =
+    let from = c.args.self.now in
+    let bytes = c.args.bytes.now in
+    let walk = Walks-item g.S.Sink.begins g.S.Sink.steps from.limits.max_item from bytes c.args.sink.now c.give.new.sink c.in-Whole.item c.in-Whole.len
+    (λ i. omega (arith, c.type_inv.bytes i)) c.item.ensures.room c.in-Whole.ensures.found c.in-Whole.ensures.place c.in_default.ensures.gives in (
+      subst (λ (p : Progress). Walks g.S.Sink.begins g.S.Sink.steps from.limits.max_item from bytes c.args.sink.now p (drop c.in-Whole.len bytes) c.give.new.sink) (sym c.advance.ensures) walk.0,
+      walk.1,
+      walk.2,
+      (_, c.in-Whole.ensures.found),
+    )
+
+pub returns-in-Err-clause-step : goal.returns-in-Err-clause-step
+returns-in-Err-clause-step g c =
+    rw c.tell.ensures (
+      Stops-refused g.S.Sink.refuses g.S.Sink.failed c.args.self.now c.args.bytes.now c.in-Whole.item c.in-Whole.len c.args.sink.now c.give.new.sink c.in-Err.fault
+          (λ i. omega (arith, c.type_inv.bytes i)) c.item.ensures.room c.in-Whole.ensures.found c.in-Whole.ensures.place c.in-Err.ensures.refused.0 c.in-Err.ensures.refused.1,
+      refl,
+    )

@@ -1,8 +1,0 @@
-use Rattle.hprof_tool.proofs.Smaller.{smaller_sound, smaller_faulty}
-use Rattle.hprof_tool.proofs.laws.a_smaller_limit.Goals as goal
-
-pub returns-clause-sound : goal.returns-clause-sound
-returns-clause-sound c = smaller_sound
-
-pub returns-clause-faulty : goal.returns-clause-faulty
-returns-clause-faulty c = smaller_faulty
