@@ -1,5 +1,5 @@
 -- What a reader of a part has read, and what reading on does.
-use Rattle.std.specs.Prelude.{◌≡◌, ◌⊎◌, ℕ, ◌+◌, ◌-◌, ◌^◌, ◌≤◌, ◌<◌, min, max, Bool, true, false, List, ◌++◌, length, take, [], Option, Some, None, Result, Ok, Err}
+use Rattle.std.specs.Prelude.{◌≡◌, ◌⊎◌, ℕ, ◌+◌, ◌-◌, ◌^◌, ◌≤◌, ◌<◌, min, max, Bool, true, false, List, ◌++◌, length, take, [], Option, Some, None, Result, Ok, Err, vec_capacity}
 use Rattle.std.specs.List.{list_any}
 use Rattle.std.specs.Io.KnownBytes.{Consumes, IsAtEnd}
 use Rattle.hprof_items.specs.declared.header.Header.{Header}
@@ -19,7 +19,7 @@ use Rattle.hprof_stream.specs.Part.{Stated, all_bytes, all_facts, is_end, IsPart
 use Rattle.hprof_stream.specs.Item.{Place, Start, header_before, IsItem, AreItems, records_begun, held_of, item_at}
 use Rattle.hprof_stream.specs.Fault.{Splits, HasNoFault, IsFirstFault, HasNoSettledFault, StatesSoFar, is_settled}
 use Rattle.hprof_stream.specs.Progress.{place_of}
-use Rattle.hprof_stream.specs.Rest.{IsRest}
+use Rattle.hprof_stream.specs.Rest.{IsRest, NeedsGrowth}
 use Rattle.hprof_stream.specs.Run.{Run, became}
 use Rattle.hprof_stream.specs.Walking.{IsBegun, Refuses}
 
@@ -36,6 +36,14 @@ has_failed reader = reader.failed
 -- the sink was begun with the size of the part, while no fault came
 abbrev pub IsReady : PartReader → Option IdSize → Type 0
 IsReady reader begun = has_failed reader ≡ false → IsBegun (header_of reader) begun
+
+-- it has room for no bytes
+abbrev pub HasNoRoom : PartReader → Type 0
+HasNoRoom reader = vec_capacity reader.rest.held ≡ 0
+
+-- it has no room to hold so many bytes more
+abbrev pub LacksRoom : PartReader → ℕ → Type 0
+LacksRoom reader more = NeedsGrowth reader.rest more
 
 -- this is a reader that was fed these bytes with no fault; the whole items among them state these facts
 --   unfinished: the bytes behind them
