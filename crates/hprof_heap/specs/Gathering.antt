@@ -85,6 +85,11 @@ pub record Adds (heap : HeapValue) (fact : FactValue) (new : HeapValue) : Type 0
   pub facts : SameFacts new.facts (fact ∷ heap.facts)
   pub is_heap : IsHeap new
 
+-- no fact of the heap has its key, and it is not there itself
+pub record IsNewTo (heap : HeapValue) (fact : FactValue) : Type 0 where
+  pub is_new : (other : FactValue) → Has heap.facts other → HaveOneKey other fact → ⊥
+  pub absent : Has heap.facts fact → ⊥
+
 -- another fact than this one is there with its key
 pub record HasOther (facts : List FactValue) (fact : FactValue) : Type 0 where
   pub other : FactValue
