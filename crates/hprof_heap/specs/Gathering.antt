@@ -90,6 +90,11 @@ pub record IsNewTo (heap : HeapValue) (fact : FactValue) : Type 0 where
   pub is_new : (other : FactValue) → Has heap.facts other → HaveOneKey other fact → ⊥
   pub absent : Has heap.facts fact → ⊥
 
+-- a fact was given that is new to the heap, while one size was begun
+abbrev pub LacksRow : Gathered → List FactValue → Type 0
+LacksRow gathered [] = ⊥
+LacksRow gathered (fact ∷ rest) = (gathered.two_sizes ≡ false) × ((heap : HeapValue) × (gathered.heap ≡ Some heap) × IsNewTo heap fact)
+
 -- another fact than this one is there with its key
 pub record HasOther (facts : List FactValue) (fact : FactValue) : Type 0 where
   pub other : FactValue

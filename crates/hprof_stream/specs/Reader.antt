@@ -114,7 +114,7 @@ module _ {S : Type 0} (begins : S → Header → S → Type 0) (steps : S → Fa
     pub has_facts : all_facts whole.items ≡ facts ++ handed
     pub ran : Run begins steps old (became from (header_before whole.before)) handed new
 
-module _ {S : Type 0} (begins : S → Header → S → Type 0) (steps : S → FactValue → S → Type 0) (refuses : S → SinkFault → Type 0) (failed : S → Bool) where
+module _ {S : Type 0} (begins : S → Header → S → Type 0) (steps : S → FactValue → S → Type 0) (refuses : S → List FactValue → SinkFault → Type 0) (failed : S → Bool) where
   -- a fault of an item, which no further byte changes: the first fault of the bytes that are taken
   abbrev pub IsItemFault : Limits → List ℕ → List FactValue → Option Header → Option Header → S → PartFault → S → Type 0
   IsItemFault limits bytes facts before after old fault new =
@@ -133,8 +133,8 @@ module _ {S : Type 0} (begins : S → Header → S → Type 0) (steps : S → Fa
       × RanOver begins steps limits.max_item (take limits.max_bytes bytes) facts before after old new
   IsFeedFault limits bytes facts before after old faults.OutOfMemory new = ⊥
   IsFeedFault limits bytes facts before after old (faults.Sink fault) new =
-      (mid : S) × RanUpTo begins steps limits.max_item (take limits.max_bytes bytes) facts before after old mid
-      × Refuses refuses failed mid fault new
+      (mid : S) × (ran : RanUpTo begins steps limits.max_item (take limits.max_bytes bytes) facts before after old mid)
+      × Refuses refuses failed mid ran.whole.last.facts fault new
   IsFeedFault limits bytes facts before after old faults.Failed new = ⊥
   IsFeedFault limits bytes facts before after old faults.Read new = ⊥
   IsFeedFault limits bytes facts before after old faults.ReadsExceeded new = ⊥
@@ -211,7 +211,7 @@ module _ {R : Type 0} (left : R → Option (List ℕ)) (pulls : R → ℕ) where
     pub within : length front ≤ limits.max_bytes
     pub unsettled : HasNoSettledFault limits.max_item front
 
-module _ {S : Type 0} (begins : S → Header → S → Type 0) (steps : S → FactValue → S → Type 0) (refuses : S → SinkFault → Type 0) (failed : S → Bool) where
+module _ {S : Type 0} (begins : S → Header → S → Type 0) (steps : S → FactValue → S → Type 0) (refuses : S → List FactValue → SinkFault → Type 0) (failed : S → Bool) where
   -- nothing is wrong in the bytes, which are no more than may come, and the sink has run over all that is whole
   abbrev pub IsJudged : Limits → List ℕ → S → S → Type 0
   IsJudged limits came old new =
@@ -232,10 +232,10 @@ module _ {S : Type 0} (begins : S → Header → S → Type 0) (steps : S → Fa
     pub mid : S
     pub ran : RanUpTo begins steps limits.max_item (take limits.max_bytes came) [] None header old mid
     pub behind : length front < whole_len ran.whole
-    pub refused : Refuses refuses failed mid fault new
+    pub refused : Refuses refuses failed mid ran.whole.last.facts fault new
 
 module _ {R : Type 0} (left : R → Option (List ℕ)) (health : R → Health) (pulls : R → ℕ)
-    {S : Type 0} (begins : S → Header → S → Type 0) (steps : S → FactValue → S → Type 0) (refuses : S → SinkFault → Type 0) (failed : S → Bool) where
+    {S : Type 0} (begins : S → Header → S → Type 0) (steps : S → FactValue → S → Type 0) (refuses : S → List FactValue → SinkFault → Type 0) (failed : S → Bool) where
   -- what reading a part to its end comes to, where these bytes came from a source
   --   was, is: the source, before and afterwards
   abbrev pub ReadsPart : Limits → R → List ℕ → R → S → Result PartSummary PartFault → S → Type 0

@@ -39,10 +39,10 @@ module _ {S : Type 0} (begins : S → Header → S → Type 0) (steps : S → Fa
     pub has_end : to.ended ≡ (from.ended || list_any is_end items)
     pub ran : Run begins steps old (became from.header to.header) (all_facts items) new
 
--- a call on the sink answered the fault, and the sink has failed
-module _ {S : Type 0} (refuses : S → SinkFault → Type 0) (failed : S → Bool) where
-  abbrev pub Refuses : S → SinkFault → S → Type 0
-  Refuses old fault new = refuses old fault × (failed new ≡ true)
+-- a call on the sink with an item that states these facts answered the fault, and the sink has failed
+module _ {S : Type 0} (refuses : S → List FactValue → SinkFault → Type 0) (failed : S → Bool) where
+  abbrev pub Refuses : S → List FactValue → SinkFault → S → Type 0
+  Refuses old given fault new = refuses old given fault × (failed new ≡ true)
 
   -- why no step was taken at the front of the bytes: the item is refused, or it is whole and the sink refuses it
   --   told: the header that was read by then
@@ -53,7 +53,7 @@ module _ {S : Type 0} (refuses : S → SinkFault → Type 0) (failed : S → Boo
       (item_at progress.limits.max_item (place_of progress) bytes ≡ TooLong) × (at ≡ progress.at) × (told ≡ progress.header) × (old ≡ new)
   Stops progress bytes old (faults.Sink fault) told new =
       (one : Stated) × (next : Place) × (back : List ℕ) × IsItem progress.limits.max_item (place_of progress) one next × (header_before next ≡ told)
-      × (one.facts ≡ [] → progress.header ≡ None) × (bytes ≡ one.bytes ++ back) × Refuses old fault new
+      × (one.facts ≡ [] → progress.header ≡ None) × (bytes ≡ one.bytes ++ back) × Refuses old one.facts fault new
   Stops progress bytes old faults.OutOfMemory told new = ⊥
   Stops progress bytes old faults.Failed told new = ⊥
   Stops progress bytes old faults.Read told new = ⊥
@@ -61,7 +61,7 @@ module _ {S : Type 0} (refuses : S → SinkFault → Type 0) (failed : S → Boo
   Stops progress bytes old faults.BytesExceeded told new = ⊥
 
 -- whether and how one item at the front of the bytes was stepped over: by so many bytes, not yet, or never
-module _ {S : Type 0} (begins : S → Header → S → Type 0) (steps : S → FactValue → S → Type 0) (refuses : S → SinkFault → Type 0) (failed : S → Bool) where
+module _ {S : Type 0} (begins : S → Header → S → Type 0) (steps : S → FactValue → S → Type 0) (refuses : S → List FactValue → SinkFault → Type 0) (failed : S → Bool) where
   abbrev pub StepsOver : Progress → List ℕ → S → Result (Option ℕ) PartFault → Progress → S → Type 0
   StepsOver from bytes old (Ok None) to new =
       (item_at from.limits.max_item (place_of from) bytes ≡ Short) × (from ≡ to) × (old ≡ new)

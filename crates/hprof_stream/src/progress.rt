@@ -3,7 +3,7 @@
 ghost use Rattle.std.specs.Prelude.{◌≡◌, ℕ, ◌+◌, ◌≤◌, length, drop, Some, None, Option, IfOk, IfErr, OnOk};
 ghost use Rattle.hprof_items.specs.declared.step.Step.TheVariants.{Whole};
 ghost use Rattle.hprof_stream.specs.Item.{item_at};
-ghost use Rattle.hprof_stream.specs.ItemStep.{IsFound, IfRead, IsOfPlace, ItemLists};
+ghost use Rattle.hprof_stream.specs.ItemStep.{IsFound, IfRead, IsOfPlace, ItemLists, facts_of};
 ghost use Rattle.hprof_items.specs.declared.header.Header.{Header};
 ghost use Rattle.hprof_items.specs.Spelling.{longest_body};
 ghost use Rattle.hprof_values.specs.Ids.{IsBytes};
@@ -165,7 +165,7 @@ fn give<S: Sink>(item: &Item<'_>, spelled: &[u8], sink: &mut S) -> Result<(), Si
     requires { GivesFit (S.begun sink.old) item.now spelled.now }
     ensures gives { OnOk result (Gives S.begins S.steps sink.old item.now sink.new) }
     ensures begun { OnOk result ((header : Option Header) → IsBegun header (S.begun sink.old) → IsBegun (told_by header item.now) (S.begun sink.new)) }
-    ensures refused { IfErr result (λ fault. GivesSome item.now × Refuses S.refuses S.failed sink.old fault sink.new) }
+    ensures refused { IfErr result (λ fault. GivesSome item.now × Refuses S.refuses S.failed sink.old (facts_of item.now) fault sink.new) }
 {
     match item {
         Item::Header(header) => sink.begin_part(*header),

@@ -65,7 +65,7 @@ impl Sink for Seen {
 
     ghost failed = { λ s. s.failed };
 
-    ghost refuses = { λ _ _. Unit {0} };
+    ghost refuses = { λ _ _ _. Unit {0} };
 
     fn begin_part(&mut self, header: Header) -> Result<(), SinkFault> {
         if self.failed {
@@ -164,7 +164,7 @@ impl Sink for Closed {
 
     ghost failed = { λ s. s.failed };
 
-    ghost refuses = { λ _ _. Unit {0} };
+    ghost refuses = { λ _ _ _. Unit {0} };
 
     fn begin_part(&mut self, _header: Header) -> Result<(), SinkFault> {
         self.failed = true;

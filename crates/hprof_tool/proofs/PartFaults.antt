@@ -16,7 +16,7 @@ use Rattle.hprof_stream.specs.Item.{header_before}
 use Rattle.hprof_stream.specs.Fault.{IsFirstFault, is_lasting, is_settled}
 use Rattle.hprof_stream.specs.Reader.{RanUpTo, IsUnheld, LacksAtLast, ReadsPart}
 use Rattle.hprof_heap.specs.declared.gatherer.Gatherer.{Gatherer}
-use Rattle.hprof_heap.specs.Gathering.{gathered, Begins, Takes}
+use Rattle.hprof_heap.specs.Gathering.{gathered, Begins, Takes, LacksRow}
 use Rattle.hprof_tool.specs.Joining.{IsPartFault, IsOfPart}
 use Rattle.hprof_tool.proofs.Gathered.{Run-shown, Run-sound}
 use Rattle.hprof_stream.proofs.Longer.{longer_input}
@@ -41,18 +41,18 @@ shown_begins old header new = Begins (gathered old) header (gathered new)
 abbrev pub shown_steps : Gatherer → FactValue → Gatherer → Type 0
 shown_steps old fact new = Takes (gathered old) fact (gathered new)
 
-abbrev pub shown_refuses : Gatherer → SinkFault → Type 0
-shown_refuses gatherer fault = (gathered gatherer).failed ≡ false → fault ≡ sinks.OutOfMemory
+abbrev pub shown_refuses : Gatherer → List FactValue → SinkFault → Type 0
+shown_refuses gatherer given fault = (gathered gatherer).failed ≡ false → (fault ≡ sinks.OutOfMemory) × LacksRow (gathered gatherer) given
 
 abbrev pub shown_failed : Gatherer → Bool
 shown_failed gatherer = (gathered gatherer).failed
 
 -- a gatherer that had not failed refuses nothing but for want of memory
-no_failure : (limits : Limits) (bytes : List ℕ) (told : Option Header) (old mid : Gatherer) → (gathered old).failed ≡ false
-    → RanUpTo shown_begins shown_steps limits.max_item bytes [] None told old mid → shown_refuses mid sinks.Failed → ⊥
-no_failure limits bytes told old mid sound ran refuses =
+no_failure : (limits : Limits) (bytes : List ℕ) (told : Option Header) (old mid : Gatherer) (given : List FactValue) → (gathered old).failed ≡ false
+    → RanUpTo shown_begins shown_steps limits.max_item bytes [] None told old mid → shown_refuses mid given sinks.Failed → ⊥
+no_failure limits bytes told old mid given sound ran refuses =
     let still = Run-sound (gathered old) (gathered mid) (header_before ran.whole.before) ran.handed (Run-shown old mid (header_before ran.whole.before) ran.handed ran.ran) sound in
-    let other : sinks.Failed ≡ sinks.OutOfMemory = refuses still in
+    let other : sinks.Failed ≡ sinks.OutOfMemory = (refuses still).0 in
     cc
 
 -- what could not be held
@@ -76,7 +76,7 @@ module _ {R : Type 0} (left : R → Option (List ℕ)) (health : R → Health) (
       (reads.0, elim reads.1 [ inl nothing ↦ inl (nothing.0, nothing.1) | inr last ↦ inr (last.0, unheld limits last.0.front last.0.piece old new last.1) ])
   fault_of_came limits was came is old new (faults.Sink sinks.OutOfMemory) sound reads = (reads.0, (reads.1.0, (reads.1.1.header, reads.1.1.ran.whole, reads.1.1.behind)))
   fault_of_came limits was came is old new (faults.Sink sinks.Failed) sound reads =
-      no_failure limits (take limits.max_bytes came) reads.1.1.header old reads.1.1.mid sound reads.1.1.ran reads.1.1.refused.0
+      no_failure limits (take limits.max_bytes came) reads.1.1.header old reads.1.1.mid reads.1.1.ran.whole.last.facts sound reads.1.1.ran reads.1.1.refused.0
   fault_of_came limits was came is old new faults.Failed sound reads = absurd reads.2.1
   fault_of_came limits was came is old new faults.Read sound reads = (reads.1, reads.2.0, reads.2.1, reads.0)
   fault_of_came limits was came is old new faults.ReadsExceeded sound reads = (reads.1, reads.0, reads.2.0, reads.2.1)
