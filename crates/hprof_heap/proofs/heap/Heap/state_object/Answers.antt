@@ -1,4 +1,4 @@
-use Rattle.std.proofs.Common.{arith}
+use Rattle.std.proofs.Common.{refl, arith}
 use Rattle.hprof_items.specs.FactValue.{value_of}
 use Rattle.hprof_heap.specs.Content.{spelled_fact}
 use Rattle.hprof_heap.specs.Heap.{rows_in}
