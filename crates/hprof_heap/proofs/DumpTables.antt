@@ -102,7 +102,7 @@ roots_fit ids [] fit = tt
 roots_fit ids (root ∷ roots) fit = (fit (Rooted root) (inl refl), roots_fit ids roots (λ other has. fit other (inr has)))
 
 pub subs_writable : (rows : HeapRows) → AreHeap rows → AreWritable rows.ids rows.roots rows.classes rows.objects
-subs_writable rows are = (roots_fit rows.ids rows.roots (table_fits rows 7 are), classes_spelled rows are, objects_spelled rows are)
+subs_writable rows are = (roots_fit rows.ids rows.roots (table_fits rows are 7), classes_spelled rows are, objects_spelled rows are)
 
 -- ---- their spellings, table by table
 
@@ -138,6 +138,6 @@ records_spelled rows are =
 pub table_fact_fits : (rows : HeapRows) (table : Table) (front rest : List FactValue) (fact : FactValue) → AreHeap rows
     → facts_of_table table (joined (tables_of rows)) ≡ front ++ fact ∷ rest → Fits rows.ids fact
 table_fact_fits rows table front rest fact are parts =
-    table_fits rows (number_of_table table) are fact
+    table_fits rows are (number_of_table table) fact
     (subst (λ (facts : List FactValue). Has facts fact) (sym parts ∙ table_facts rows table are)
     (Has-back front (fact ∷ rest) fact (inl refl)))

@@ -27,8 +27,8 @@ has_joined (facts ∷ tables) zero fact has = Has-front facts (joined tables) fa
 has_joined (facts ∷ tables) (suc place) fact has = Has-back facts (joined tables) fact (has_joined tables place fact has)
 
 -- those of each table have spellings
-pub table_fits : (rows : HeapRows) (place : ℕ) → AreHeap rows → AllFit rows.ids (table_at (tables_of rows) place)
-table_fits rows place are fact has = are.heap.fit fact (has_joined (tables_of rows) place fact has)
+pub table_fits : (rows : HeapRows) → AreHeap rows → (place : ℕ) → AllFit rows.ids (table_at (tables_of rows) place)
+table_fits rows are place fact has = are.heap.fit fact (has_joined (tables_of rows) place fact has)
 
 -- ---- rows that can be read back
 
@@ -43,37 +43,37 @@ module _ {V : Type 0} (ids : IdSize) (table : ℕ) (fact : ℕ → List ℕ → 
 pub load_serials : (rows : HeapRows) → AreHeap rows → AreSerials rows.loads
 load_serials rows are =
     each_row rows.ids 1 load_fact load_numbers HasSerial (λ row right fits. fits.0.numbers.0) rows.loads (loads_right rows.ids rows.loads)
-    (table_fits rows 1 are)
+    (table_fits rows are 1)
 
 pub unload_serials : (rows : HeapRows) → AreHeap rows → AreSerials rows.unloads
 unload_serials rows are =
     each_row rows.ids 2 unload_fact no_content HasSerial (λ row right fits. fits.0.numbers.0) rows.unloads
-    (unloads_right rows.ids rows.unloads) (table_fits rows 2 are)
+    (unloads_right rows.ids rows.unloads) (table_fits rows are 2)
 
 pub traces_whole : (rows : HeapRows) → AreHeap rows → AreWhole rows.ids rows.traces
 traces_whole rows are = each_row rows.ids 4 (trace_fact rows.ids) trace_content (IsWhole rows.ids)
     (λ row right fits. (fits.0.numbers.0, row_whole rows.ids row.0 row.1.thread (frames_bytes row.1) right fits)) rows.traces are.traces
-    (table_fits rows 4 are)
+    (table_fits rows are 4)
 
 pub start_serials : (rows : HeapRows) → AreHeap rows → AreSerials rows.starts
 start_serials rows are =
     each_row rows.ids 5 start_fact start_numbers HasSerial (λ row right fits. fits.0.numbers.0) rows.starts
-    (starts_right rows.ids rows.starts) (table_fits rows 5 are)
+    (starts_right rows.ids rows.starts) (table_fits rows are 5)
 
 pub end_serials : (rows : HeapRows) → AreHeap rows → AreSerials rows.ends
 end_serials rows are =
     each_row rows.ids 6 end_fact no_content HasSerial (λ row right fits. fits.0.numbers.0) rows.ends (ends_right rows.ids rows.ends)
-    (table_fits rows 6 are)
+    (table_fits rows are 6)
 
 pub classes_spelled : (rows : HeapRows) → AreHeap rows → AreSpelled rows.ids rows.classes
 classes_spelled rows are = each_row rows.ids 8 (spelled_fact rows.ids) spelled_bytes (IsSpelled rows.ids)
     (λ row right fits. row_spells rows.ids 8 row.0 (spelled_bytes row.1) (omega arith) right fits) rows.classes are.classes
-    (table_fits rows 8 are)
+    (table_fits rows are 8)
 
 pub objects_spelled : (rows : HeapRows) → AreHeap rows → AreSpelled rows.ids rows.objects
 objects_spelled rows are = each_row rows.ids 9 (spelled_fact rows.ids) spelled_bytes (IsSpelled rows.ids)
     (λ row right fits. row_spells rows.ids 9 row.0 (spelled_bytes row.1) (omega arith) right fits) rows.objects are.objects
-    (table_fits rows 9 are)
+    (table_fits rows are 9)
 
 -- ---- going over rows
 
