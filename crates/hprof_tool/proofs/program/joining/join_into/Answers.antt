@@ -14,6 +14,7 @@ use Rattle.hprof_stream.specs.declared.part_fault.PartFault.TheVariants as part_
 use Rattle.hprof_stream.specs.declared.sink.SinkFault.TheVariants as sinks
 use Rattle.hprof_heap.specs.declared.key.Key.{Key}
 use Rattle.hprof_heap.specs.Dump.{canonical_dump}
+use Rattle.hprof_heap.specs.Gathering.{Given}
 use Rattle.hprof_heap.specs.State.{HaveTwoSizes}
 use Rattle.hprof_tool.specs.declared.joined.Joined.{Joined}
 use Rattle.hprof_tool.specs.declared.tool_fault.ToolFault.{ToolFault}
@@ -37,16 +38,17 @@ are_usual limits item reads bytes =
     ∙ ap (λ (n : ℕ). record { max_item = 4294967295; max_reads = 1099511627776; max_bytes = n }) bytes
 
 -- what a part is refused with is not answered for what failed before
-first_answer : {R : Type 0} (left : R → Option (List ℕ)) (health : R → Health) (pulls : R → ℕ) (limits : Limits) (was : R) (came : List ℕ) (is : R) (fault : PartFault) → IsPartFault left health pulls limits was came is fault → IsFirstAnswer fault
-first_answer left health pulls limits was came is (part_faults.Malformed at reason) why = tt
-first_answer left health pulls limits was came is (part_faults.ItemTooLong at) why = tt
-first_answer left health pulls limits was came is part_faults.OutOfMemory why = tt
-first_answer left health pulls limits was came is (part_faults.Sink sinks.OutOfMemory) why = tt
-first_answer left health pulls limits was came is (part_faults.Sink sinks.Failed) why = absurd why
-first_answer left health pulls limits was came is part_faults.Failed why = absurd why
-first_answer left health pulls limits was came is part_faults.Read why = tt
-first_answer left health pulls limits was came is part_faults.ReadsExceeded why = tt
-first_answer left health pulls limits was came is part_faults.BytesExceeded why = tt
+first_answer : {R : Type 0} (left : R → Option (List ℕ)) (health : R → Health) (pulls : R → ℕ) (limits : Limits) (earlier : List Given) (was : R) (came : List ℕ) (is : R) (fault : PartFault)
+    → IsPartFault left health pulls limits earlier was came is fault → IsFirstAnswer fault
+first_answer left health pulls limits earlier was came is (part_faults.Malformed at reason) why = tt
+first_answer left health pulls limits earlier was came is (part_faults.ItemTooLong at) why = tt
+first_answer left health pulls limits earlier was came is part_faults.OutOfMemory why = tt
+first_answer left health pulls limits earlier was came is (part_faults.Sink sinks.OutOfMemory) why = tt
+first_answer left health pulls limits earlier was came is (part_faults.Sink sinks.Failed) why = absurd why
+first_answer left health pulls limits earlier was came is part_faults.Failed why = absurd why
+first_answer left health pulls limits earlier was came is part_faults.Read why = tt
+first_answer left health pulls limits earlier was came is part_faults.ReadsExceeded why = tt
+first_answer left health pulls limits earlier was came is part_faults.BytesExceeded why = tt
 
 -- what the engine says of a part that it refuses
 part_refusal : {R : Type 0} (left : R → Option (List ℕ)) (health : R → Health) (pulls : R → ℕ) (limits : Limits) (parts : List (List ℕ)) (old new : List R) (index : ℕ) (fault : PartFault) → limits ≡ usual_limits
@@ -59,7 +61,7 @@ part_refusal left health pulls limits parts old new index fault same is = record
   place = is.place;
   accepted = subst (λ (l : Limits). AllByRecursion (IsAccepted l) is.before) same is.accepted;
   of_part = subst (λ (l : Limits). IsOfPart l.max_item is.bytes fault) same is.of_part;
-  is_first = first_answer left health pulls limits is.at.was is.at.came is.at.is fault is.at.refused;
+  is_first = first_answer left health pulls limits is.given is.at.was is.at.came is.at.is fault is.at.refused;
 }
 
 -- what the engine's answer tells of the parts and of the bytes that it wrote
