@@ -75,14 +75,23 @@ module _ {R : Type 0} (left : R → Option (List ℕ)) (health : R → Health) (
   fault_of_came limits earlier was came is old new (faults.ItemTooLong at) sound gathers reads = (reads.1, reads.2.1.0, reads.0)
   fault_of_came limits earlier was came is old new faults.OutOfMemory sound gathers reads =
       (reads.0, elim reads.1 [ inl nothing ↦ inl (nothing.0, nothing.1) | inr last ↦ inr (last.0, unheld limits last.0.front last.0.piece old new last.1) ])
-  fault_of_came limits earlier was came is old new (faults.Sink sinks.OutOfMemory) sound gathers reads = 
+  fault_of_came limits earlier was came is old new (faults.Sink sinks.OutOfMemory) sound gathers reads =
       let stops = reads.1.1 in
       let ran = stops.ran in
       let shown = Run-shown old stops.mid (header_before ran.whole.before) ran.handed ran.ran in
       let still = Run-sound (gathered old) (gathered stops.mid) (header_before ran.whole.before) ran.handed shown sound in
-      let fresh = new_behind earlier (header_before ran.whole.before) ran.handed ran.whole.last.facts (gathered old) (gathered stops.mid) gathers shown (stops.refused.0 still).1 in
-      (reads.0, (reads.1.0, (stops.header, ran.whole, stops.behind,
-        subst (λ (facts : List FactValue). IsNewBehind earlier (header_before ran.whole.before) facts ran.whole.last.facts) (sym ran.has_facts) fresh)))
+      let fresh = new_behind earlier (header_before ran.whole.before) ran.handed ran.whole.last.facts (gathered old) (gathered stops.mid) gathers shown (stops.refused.0 still).1 in (
+        reads.0,
+        (
+          reads.1.0,
+          (
+            stops.header,
+            ran.whole,
+            stops.behind,
+            subst (λ (facts : List FactValue). IsNewBehind earlier (header_before ran.whole.before) facts ran.whole.last.facts) (sym ran.has_facts) fresh,
+          ),
+        ),
+      )
   fault_of_came limits earlier was came is old new (faults.Sink sinks.Failed) sound gathers reads =
       no_failure limits (take limits.max_bytes came) reads.1.1.header old reads.1.1.mid reads.1.1.ran.whole.last.facts sound reads.1.1.ran reads.1.1.refused.0
   fault_of_came limits earlier was came is old new faults.Failed sound gathers reads = absurd reads.2.1
