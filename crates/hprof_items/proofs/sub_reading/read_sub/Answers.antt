@@ -5,7 +5,7 @@ use Rattle.hprof_items.proofs.sub_reading.read_sub.Goals as goal
 
 pub returns-in-Ok-clause-found : goal.returns-in-Ok-clause-found
 returns-in-Ok-clause-found c =
-    sub_read c.args.ids c.args.room c.args.longest c.args.bytes.now c.in-Ok.fact c.in-Ok.end (λ i. omega (arith, c.type_inv.bytes i)) (omega arith) c.in-Ok.ensures.lists c.in-Ok.ensures.fact
+    sub_read c.args.ids c.args.room c.args.longest c.args.bytes.now c.read_item.new.fact c.in-Ok.end (λ i. omega (arith, c.type_inv.bytes i)) (omega arith) c.in-Ok.ensures.lists c.in-Ok.ensures.fact
 
 pub returns-in-Ok-clause-only : goal.returns-in-Ok-clause-only
 returns-in-Ok-clause-only c = λ fact rest fits spelled in_room in_longest.
