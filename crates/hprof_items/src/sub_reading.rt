@@ -1,6 +1,6 @@
 //! Reading a sub-record at the front of some bytes.
 
-ghost use Rattle.std.specs.Prelude.{◌≡◌, ℕ, ◌≤◌, ◌++◌, List, length, Ok, Err, OnOk, MatchResult};
+ghost use Rattle.std.specs.Prelude.{◌≡◌, ℕ, ◌≤◌, ◌++◌, List, length, Ok, Err, IfOk, OnOk, IsOkAnd, MatchResult};
 ghost use Rattle.hprof_values.specs.Item.{bounds_of};
 ghost use Rattle.hprof_items.specs.FactValue.{FactValue, value_of, ListsHave};
 ghost use Rattle.hprof_items.specs.SubRecord.{dump_at, tag_at, sub_at, dump_bytes, DumpFits};
@@ -64,6 +64,36 @@ fn read_item<'a>(item: &Item<'a>, ids: IdSize, fact: &mut Fact<'a>) -> Result<us
     read_behind(item, tag, ids, fact)
 }
 
+/// Reads the sub-record at the front of what a record has left, `room` bytes, no longer than `longest`, as [`read_sub`]
+/// does, and puts what it states in the place of the fact. It answers where the sub-record ends. Where it stops, what
+/// stands in that place is of no account.
+pub fn read_sub_into<'a>(
+    bytes: &'a [u8],
+    room: u32,
+    longest: u32,
+    ids: IdSize,
+    fact: &mut Fact<'a>,
+) -> Result<usize, Stop>
+    requires { 1 ≤ room }
+    // Which fact it is and where it ends, or what stopped it.
+    ensures exact { MatchResult result
+        (λ end. sub_at ids (bounds_within room longest bytes.now) bytes.now ≡ Ok (value_of fact.new, end))
+        (λ stop. sub_at ids (bounds_within room longest bytes.now) bytes.now ≡ Err stop) }
+    // What is read is spelled so, and has lists of that size.
+    ensures found { IfOk result (λ end. IsSubRead ids room longest bytes.now fact.new end) }
+    // What is spelled so is read, whatever follows.
+    ensures only { (spelled : FactValue) (rest : List ℕ) → DumpFits ids spelled → bytes.now ≡ dump_bytes ids spelled ++ rest
+        → length (dump_bytes ids spelled) ≤ room → length (dump_bytes ids spelled) ≤ longest
+        → IsOkAnd result (λ end. (value_of fact.new ≡ spelled) × (end ≡ length (dump_bytes ids spelled))) }
+{
+    let item = Item {
+        bytes,
+        room: room as usize,
+        longest: longest as usize,
+    };
+    read_item(&item, ids, fact)
+}
+
 /// Reads the sub-record at the front of what a record has left, `room` bytes, no longer than `longest`: field by field
 /// from the left, each ends within the record, then within the longest, then it is there, then it is right. Where there
 /// are no bytes, more are needed. The bytes of an instance and the elements of an array are not looked at.
@@ -78,13 +108,8 @@ pub fn read_sub(bytes: &[u8], room: u32, longest: u32, ids: IdSize) -> Step<Fact
         → length (dump_bytes ids fact) ≤ room → length (dump_bytes ids fact) ≤ longest
         → IsWholeOf result (λ read n. (value_of read ≡ fact) × (n ≡ length (dump_bytes ids fact))) }
 {
-    let item = Item {
-        bytes,
-        room: room as usize,
-        longest: longest as usize,
-    };
     let mut fact = Fact::End { thread: 0 };
-    match read_item(&item, ids, &mut fact) {
+    match read_sub_into(bytes, room, longest, ids, &mut fact) {
         Ok(end) => Step::Whole(fact, end),
         Err(Stop::Short) => Step::Short,
         Err(Stop::TooLong) => Step::TooLong,
