@@ -32,7 +32,7 @@ use Rattle.hprof_stream.specs.Part.{Stated}
 use Rattle.hprof_stream.specs.Item.{Place, Start, Between, Within, HasRoom, Found, found_sub, place_behind, is_skipped_kind, is_skipped_head, is_passed_over, held_of, item_at}
 use Rattle.hprof_stream.specs.Progress.{place_of, advanced, IsCounted}
 use Rattle.hprof_stream.specs.ItemStep.{Stands, place_after}
-use Rattle.hprof_stream.specs.declared.item.Item.TheVariants as items
+use Rattle.hprof_stream.specs.ItemValue as items
 use Rattle.hprof_items.specs.Spelling.{longest_body}
 use Rattle.hprof_stream.specs.Rest.{passing_by, passing_of, walk_at, IsWalked, IsWalkOf, IsRest, PassesOver, passed_len, rest_len}
 use Rattle.hprof_stream.specs.Walking.{Walks, StepsOver, Halts, GoesOn, IsHalted, ReadsOn, WalksAll, seen}

@@ -13,7 +13,7 @@ use Rattle.hprof_items.specs.SubReading.{bounds_within}
 use Rattle.hprof_items.specs.Walk.{walked}
 use Rattle.hprof_stream.specs.declared.rest.Passing.{Passing}
 use Rattle.hprof_stream.specs.declared.rest.Rest.{Rest}
-use Rattle.hprof_stream.specs.declared.item.Item.TheVariants as items
+use Rattle.hprof_stream.specs.ItemValue as items
 use Rattle.hprof_stream.specs.declared.progress.Progress.{Progress}
 use Rattle.hprof_stream.specs.ItemStep.{IsOfPlace}
 use Rattle.hprof_stream.specs.Progress.{place_of, advanced}

@@ -6,8 +6,8 @@ use Rattle.hprof_values.specs.declared.ids.IdSize.{IdSize}
 use Rattle.hprof_items.specs.declared.header.Header.{Header}
 use Rattle.hprof_items.specs.declared.step.Step.TheVariants.{Whole, Short, TooLong, Fault}
 use Rattle.hprof_items.specs.FactValue.{FactValue, value_of}
-use Rattle.hprof_stream.specs.declared.item.Item.{Item}
-use Rattle.hprof_stream.specs.declared.item.Item.TheVariants as items
+use Rattle.hprof_stream.specs.ItemValue.{ItemValue}
+use Rattle.hprof_stream.specs.ItemValue as items
 use Rattle.hprof_stream.specs.declared.part_fault.PartFault.{PartFault}
 use Rattle.hprof_stream.specs.declared.part_fault.PartFault.TheVariants as faults
 use Rattle.hprof_stream.specs.declared.sink.SinkFault.{SinkFault}
@@ -21,7 +21,7 @@ use Rattle.hprof_stream.specs.Run.{Run, became, FitsBegun, ListsHaveBegun, Spell
 
 module _ {S : Type 0} (begins : S → Header → S → Type 0) (steps : S → FactValue → S → Type 0) where
   -- what handing an item to a sink does: a header begins a part, a fact is a step, and others do nothing
-  abbrev pub Gives : S → Item → S → Type 0
+  abbrev pub Gives : S → ItemValue → S → Type 0
   Gives old (items.Header header) new = begins old header new
   Gives old (items.Fact fact) new = steps old (value_of fact) new
   Gives old (items.Sub fact) new = steps old (value_of fact) new
@@ -129,18 +129,18 @@ IsBegun None begun = ⊤
 IsBegun (Some header) begun = begun ≡ Some header.ids
 
 -- what the sink is to be given fits the size that was begun last, and so do its lists, and a sub-record has these bytes
-abbrev pub GivesFit : Option IdSize → Item → List ℕ → Type 0
+abbrev pub GivesFit : Option IdSize → ItemValue → List ℕ → Type 0
 GivesFit begun (items.Fact fact) bytes = FitsBegun begun (value_of fact) × ListsHaveBegun begun fact × SpellsBegun begun (value_of fact) []
 GivesFit begun (items.Sub fact) bytes = FitsBegun begun (value_of fact) × ListsHaveBegun begun fact × SpellsBegun begun (value_of fact) bytes
 GivesFit begun item bytes = ⊤
 
 -- the header that was read once this item was
-abbrev pub told_by : Option Header → Item → Option Header
+abbrev pub told_by : Option Header → ItemValue → Option Header
 told_by before (items.Header header) = Some header
 told_by before item = before
 
 -- it is a header or a fact
-abbrev pub GivesSome : Item → Type 0
+abbrev pub GivesSome : ItemValue → Type 0
 GivesSome (items.Header header) = ⊤
 GivesSome (items.Fact fact) = ⊤
 GivesSome (items.Sub fact) = ⊤
