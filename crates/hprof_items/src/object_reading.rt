@@ -23,6 +23,7 @@ struct InstanceFront {
 }
 
 /// The fields of an instance at the front.
+#[inline(always)]
 fn instance_fields(bytes: &[u8], ids: IdSize) -> InstanceFront
     requires { sum (instance_widths ids) ≤ length bytes.now }
     ensures { instance_front result ≡ fields_in (instance_widths ids) bytes.now }
@@ -77,6 +78,7 @@ struct ObjArrayFront {
 }
 
 /// The fields of an array of objects at the front.
+#[inline(always)]
 fn obj_array_fields(bytes: &[u8], ids: IdSize) -> ObjArrayFront
     requires { sum (obj_array_widths ids) ≤ length bytes.now }
     ensures { obj_array_front result ≡ fields_in (obj_array_widths ids) bytes.now }
@@ -132,6 +134,7 @@ struct PrimArrayFront {
 }
 
 /// The fields of an array of numbers or truth values at the front.
+#[inline(always)]
 fn prim_array_fields(bytes: &[u8], ids: IdSize) -> PrimArrayFront
     requires { sum (prim_array_widths ids) ≤ length bytes.now }
     ensures { prim_array_front result ≡ fields_in (prim_array_widths ids) bytes.now }

@@ -14,6 +14,7 @@ use crate::step::Step;
 use hprof_values::{IdSize, Item, Reason, Stop, SubTag};
 
 /// Reads a sub-record behind its tag, and puts what it states in the place of the fact.
+#[inline(always)]
 fn read_behind<'a>(
     item: &Item<'a>,
     tag: SubTag,
@@ -54,6 +55,7 @@ pub(crate) fn read_tag(item: &Item<'_>) -> Result<SubTag, Stop>
 
 /// Reads the sub-record at the front, and puts what it states in the place of the fact.
 #[tactic(auto, using(crate::proofs::Dumps::sub_tagged, crate::proofs::Dumps::sub_stops))]
+#[inline(always)]
 fn read_item<'a>(item: &Item<'a>, ids: IdSize, fact: &mut Fact<'a>) -> Result<usize, Stop>
     ensures fact { MatchResult result
         (λ end. sub_at ids (bounds_of item.now) item.now.bytes.now ≡ Ok (value_of fact.new, end))
