@@ -195,6 +195,7 @@ impl<'a, V> Iterator for Entries<'a, V> {
 
     ghost remaining = { item_count entries_left };
 
+    #[inline(always)]
     fn next(&mut self) -> Option<(u64, &'a V)> {
         let Some((key, row)) = self.first else {
             return self.next_of_run();

@@ -48,12 +48,7 @@ pub(crate) fn first_item(bytes: &[u8], longest: u32) -> Step<Item>
 }
 
 /// A record with a fact, of which the head was read.
-fn fact_item<'a>(
-    header: &Header,
-    head: &Head,
-    bytes: &'a [u8],
-    fact: &mut Fact<'a>,
-) -> Step<Item>
+fn fact_item<'a>(header: &Header, head: &Head, bytes: &'a [u8], fact: &mut Fact<'a>) -> Step<Item>
     requires whole { IsRightHead header.now.ids longest_body head.now }
     requires kind { kind_of head.now.tag ≡ HeadKind.FactRecord }
     ensures found { IsFound (Between header.now) (step_with result fact.new) (found_record header.now HeadKind.FactRecord head.now bytes.now) }
