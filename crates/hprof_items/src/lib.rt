@@ -52,6 +52,3 @@ pub use sub_reading::{read_sub, read_sub_into};
 pub use target::Target;
 pub use walk::{Walk, go_on};
 pub use writing::{write_head, write_header};
-
-#[cfg(test)]
-mod tests;

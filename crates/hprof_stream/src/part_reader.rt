@@ -123,6 +123,3 @@ impl PartReader {
         }
     }
 }
-
-#[cfg(test)]
-mod tests;
