@@ -1,10 +1,12 @@
 //! The room that rows take.
 
-use crate::samples::{array, begun, state_fact};
-use hprof_heap::Stated;
+use crate::samples::{array, begun, state_all};
+use hprof_heap::Gatherer;
 use hprof_items::{Fact, IdSize};
 use hprof_values::{Basic, IdList};
+use std::alloc::Global;
 use std::fs;
+use std::process::Abort;
 use std::test::*;
 
 // How many bytes of addresses the process has.
@@ -15,31 +17,36 @@ fn size(rt: &HostRuntime) -> Result<u64, Fail> {
     Ok(pages.saturating_mul(4_096))
 }
 
-// The process grows by the bytes of the rows, and a sixteenth more at most.
+// A gatherer that was given 256 names, traces and arrays, all of these bytes.
+fn rows_of(rt: &impl Abort, alloc: Global, bytes: &[u8]) -> Result<Gatherer, Fail> {
+    let ids = IdSize::Four;
+    let mut gatherer = begun(alloc, ids, 1)?;
+    for id in 0..256u32 {
+        let facts = [
+            Fact::Name {
+                id: u64::from(id),
+                text: bytes,
+            },
+            Fact::Trace {
+                serial: id,
+                thread: 1,
+                frames: IdList::new(bytes, ids).ok_or("no list")?,
+            },
+            array(u64::from(id), Basic::Byte, bytes),
+        ];
+        state_all(rt, alloc, &mut gatherer, ids, &facts)?;
+    }
+    Ok(gatherer)
+}
+
+// The process grows by the 60,672,000 bytes of the rows, and by less than a sixteenth more.
 #[test]
 fn rows_have_no_room_to_spare(rt: HostRuntime) -> Result<(), Fail> {
-    let ids = IdSize::Four;
     let bytes = vec![in rt.alloc(); 0; 79_000]?;
-    let frames = IdList::new(&bytes, ids).ok_or("no list")?;
-    let mut gatherer = begun(rt.alloc(), ids, 1)?;
     let before = size(&rt)?;
-    for id in 0..256u32 {
-        let name = Fact::Name {
-            id: u64::from(id),
-            text: &bytes,
-        };
-        let trace = Fact::Trace {
-            serial: id,
-            thread: 1,
-            frames,
-        };
-        let numbers = array(u64::from(id), Basic::Byte, &bytes);
-        for fact in [name, trace, numbers] {
-            let came = state_fact(rt.alloc(), &mut gatherer, ids, fact)?;
-            assert_eq!(rt; came, Some(Stated::New));
-        }
-    }
+    let heap = rows_of(&rt, rt.alloc(), &bytes)?.finish()?;
     let grown = size(&rt)?.saturating_sub(before);
-    assert!(rt; grown <= 768 * (79_000 + 79_000 / 16), "{grown}");
+    assert_eq!(rt; heap.count(), 768);
+    assert!(rt; grown <= 64_000_000, "{grown}");
     Ok(())
 }

@@ -48,21 +48,21 @@ fn size(rt: &HostRuntime) -> Result<u64, Fail> {
 #[test]
 fn a_declared_length_asks_for_no_memory(rt: HostRuntime) -> Result<(), Fail> {
     let mut readers = Vec::with_capacity(rt.alloc(), 120_000)?;
-    let before = size(&rt)?;
     // What they declare adds up to more than memory can hold.
     for (bytes, held, at) in [
         (NAME.as_slice(), 18, 31),
         (ARRAY.as_slice(), 20, 40),
         (CLASS.as_slice(), 43, 40),
     ] {
+        let before = size(&rt)?;
         for _ in 0..20_000 {
             readers.push((declared(&rt, rt.alloc(), bytes, 60, held), at))?;
             readers.push((declared(&rt, rt.alloc(), bytes, 7, held), at))?;
         }
+        // Each has room for a few times what came, and no more: 112 bytes, with what is added to a block.
+        let grown = size(&rt)?.saturating_sub(before);
+        assert!(rt; grown <= 4_480_000, "{grown}");
     }
-    // Each has room for a few times what came, and no more: 100 bytes, with what is added to a block of them.
-    let grown = size(&rt)?.saturating_sub(before);
-    assert!(rt; grown <= 120_000 * 120, "{grown}");
     for (reader, at) in readers {
         let truncated = PartFault::Malformed {
             at,
