@@ -2,7 +2,7 @@
 
 use hprof_items::{
     Basic, ConstantList, Device, Fact, FieldList, IdList, IdSize, Reason, Root, StaticList, Step,
-    fits, laws, read_sub, write_fact,
+    Stop, fits, laws, read_sub, read_sub_into, write_fact,
 };
 use std::test::*;
 
@@ -41,6 +41,36 @@ fn roots(rt: HostRuntime) {
         Step::Whole(Fact::Root(global), 17)
     );
     laws::sub_records_read_back();
+}
+
+#[test]
+fn facts_in_one_place(rt: HostRuntime) {
+    let ids = IdSize::Four;
+    let mut fact = Fact::Unload { serial: 7 };
+    let root: &[u8] = b"\x05\0\0\0\x10\xff";
+    assert_eq!(rt; read_sub_into(root, 5, 5, ids, &mut fact), Ok(5));
+    assert_eq!(rt; fact, Fact::Root(Root::Sticky { id: 16 }));
+    let array: &[u8] = b"\x23\0\0\0\x10\0\0\0\x01\0\0\0\x02\x08\x01\x02\xff";
+    assert_eq!(rt; read_sub_into(array, 16, 100, ids, &mut fact), Ok(16));
+    let same = Fact::PrimArray {
+        id: 16,
+        trace: 1,
+        elem: Basic::Byte,
+        bytes: &[1, 2],
+    };
+    assert_eq!(rt; fact, same);
+    assert_eq!(rt;
+        read_sub_into(array, 15, 100, ids, &mut fact),
+        Err(Stop::Fault(Reason::PastEnd))
+    );
+    assert_eq!(rt;
+        read_sub_into(array, 16, 15, ids, &mut fact),
+        Err(Stop::TooLong)
+    );
+    assert_eq!(rt;
+        read_sub_into(b"\x23", 16, 100, ids, &mut fact),
+        Err(Stop::Short)
+    );
 }
 
 // Every root, with numbers that differ, behind its tag.

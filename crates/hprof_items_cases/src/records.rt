@@ -6,7 +6,7 @@ ghost use Rattle.hprof_items.specs.Reading.{IsRightHead};
 
 use hprof_items::{
     Device, Fact, HEAD_LEN, Head, HeadKind, IdList, IdSize, Reason, Step, fits, laws, read_body,
-    read_head, spelled_len, write_fact,
+    read_body_into, read_head, spelled_len, write_fact,
 };
 use std::test::*;
 
@@ -22,7 +22,14 @@ fn fact_in<'a>(bytes: &'a [u8], ids: IdSize) -> Option<Result<Fact<'a>, Reason>>
     if body.len() != head.length as usize {
         return None;
     }
-    Some(read_body(&head, body, ids))
+    let read = read_body(&head, body, ids);
+    // The same is put into a place.
+    let mut fact = Fact::Unload { serial: 0 };
+    match (read_body_into(&head, body, ids, &mut fact), read) {
+        (Ok(()), Ok(same)) if fact == same => Some(read),
+        (Err(reason), Err(same)) if reason == same => Some(read),
+        _ => None,
+    }
 }
 
 #[test]
