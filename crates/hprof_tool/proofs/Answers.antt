@@ -97,7 +97,7 @@ never_malformed limits bytes ids millis facts at reason le part first =
 
 -- with what a part is not refused where its reader is well, no limit was met and memory was there
 unexpected : {R : Type 0} (left : R → Option (List ℕ)) (health : R → Health) (pulls : R → ℕ) (limits : Limits) (earlier : List Given) (bytes came : List ℕ) (was is : R) (ids : IdSize) (millis : ℕ) (facts : List FactValue) (fault : PartFault)
-    → limits.max_item ≤ longest_body → IsPart bytes ids millis facts → IsOfPart limits.max_item bytes fault → IsPartFault left health pulls limits earlier was came is fault → health is ≡ healths.Well → (is_want fault ≡ true → ⊥) → ⊥
+    → limits.max_item ≤ longest_body → IsPart bytes ids millis facts → IsOfPart limits bytes fault → IsPartFault left health pulls limits earlier was came is fault → health is ≡ healths.Well → (is_want fault ≡ true → ⊥) → ⊥
 unexpected left health pulls limits earlier bytes came was is ids millis facts (faults.Malformed at reason) le part of_part why well unhindered = never_malformed limits bytes ids millis facts at reason le part of_part
 unexpected left health pulls limits earlier bytes came was is ids millis facts (faults.ItemTooLong at) le part of_part why well unhindered = unhindered refl
 unexpected left health pulls limits earlier bytes came was is ids millis facts faults.BytesExceeded le part of_part why well unhindered = unhindered refl

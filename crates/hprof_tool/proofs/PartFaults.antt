@@ -1,7 +1,7 @@
 -- With which fault a part is refused, by the bytes that its reader had to tell.
-use Rattle.std.proofs.Common.{◌≡◌, ℕ, ◌≤◌, Bool, true, false, inl, inr, List, [], ◌++◌, length, take, drop, Option, Some, None, Err, refl, sym, ap, subst, ◌∙◌, append_assoc, append-nil}
+use Rattle.std.proofs.Common.{◌≡◌, ℕ, ◌≤◌, Bool, true, false, inl, inr, List, [], ◌++◌, length, take, drop, Option, Some, None, Err, refl, sym, ap, subst, ◌∙◌, append_assoc, append-nil, arith}
 use Rattle.std.proofs.lemmas.Bool.{cases_Bool}
-use Rattle.std.proofs.lemmas.List.{take_all, take-append-drop}
+use Rattle.std.proofs.lemmas.List.{take_all, take-append-drop, length-append}
 use Rattle.std.specs.Io.KnownBytes.{Consumes, IsAtEnd}
 use Rattle.hprof_items.specs.declared.header.Header.{Header}
 use Rattle.hprof_items.specs.declared.health.Health.{Health}
@@ -14,7 +14,7 @@ use Rattle.hprof_stream.specs.declared.sink.SinkFault.{SinkFault}
 use Rattle.hprof_stream.specs.declared.sink.SinkFault.TheVariants as sinks
 use Rattle.hprof_stream.specs.Item.{header_before}
 use Rattle.hprof_stream.specs.Fault.{IsFirstFault, is_lasting, is_settled}
-use Rattle.hprof_stream.specs.Reader.{RanUpTo, IsUnheld, LacksAtLast, ReadsPart}
+use Rattle.hprof_stream.specs.Reader.{Pulled, none, once_more, RanUpTo, IsUnheld, LacksAtLast, ReadsPart}
 use Rattle.hprof_heap.specs.declared.gatherer.Gatherer.{Gatherer}
 use Rattle.hprof_heap.specs.Gathering.{Given, gathered, nothing_gathered, Begins, Takes, Gathers, LacksRow, IsNewBehind}
 use Rattle.hprof_heap.proofs.Gathering.{new_behind}
@@ -34,6 +34,12 @@ unsettled_of_whole : (longest most : ℕ) (came rest : List ℕ) (fault : PartFa
 unsettled_of_whole longest most came rest fault first ends within =
     let whole : take most came ≡ came ++ rest = take_all most came within ∙ sym (append-nil came) ∙ ap (λ (b : List ℕ). came ++ b) (sym ends) in
     subst (λ (b : List ℕ). IsFirstFault longest b fault) whole first
+
+-- so many pulls gave a byte each
+each_gave : {R : Type 0} (left : R → Option (List ℕ)) (pulls : R → ℕ) (was : R) (came : List ℕ) (count : ℕ) (is : R) → Pulled left pulls was came count is → count ≤ length came
+each_gave left pulls was came count is none = omega arith
+each_gave left pulls was came count is (once_more {front} {piece} {before} {mid} first pull some) =
+    omega (arith, each_gave left pulls was front before mid first, some, length-append front piece)
 
 -- what a run of a gatherer means, step by step
 abbrev pub shown_begins : Gatherer → Header → Gatherer → Type 0
@@ -100,29 +106,30 @@ module _ {R : Type 0} (left : R → Option (List ℕ)) (health : R → Health) (
   fault_of_came limits earlier was came is old new faults.BytesExceeded sound gathers reads = (reads.1, reads.2.1.0, reads.2.1.1, reads.0)
 
   -- a fault of an item that came is the first of the whole part
-  of_rest : (limits : Limits) (earlier : List Given) (was : R) (came rest : List ℕ) (is : R) (fault : PartFault) → left is ≡ Some rest → IsPartFault left health pulls limits earlier was came is fault → IsOfPart limits.max_item (came ++ rest) fault
+  of_rest : (limits : Limits) (earlier : List Given) (was : R) (came rest : List ℕ) (is : R) (fault : PartFault) → left is ≡ Some rest → IsPartFault left health pulls limits earlier was came is fault → IsOfPart limits (came ++ rest) fault
   of_rest limits earlier was came rest is (faults.Malformed at reason) told why =
       elim (cases_Bool (is_lasting reason)) [
         | inl settled ↦ settled_of_whole limits.max_item limits.max_bytes came rest (faults.Malformed at reason) why.1 settled
         | inr unsettled ↦
             let whole = why.3 unsettled in
-            let none : rest ≡ [] = subst IsAtEnd told whole.1 in
-            unsettled_of_whole limits.max_item limits.max_bytes came rest (faults.Malformed at reason) why.1 none whole.2
+            let ends : rest ≡ [] = subst IsAtEnd told whole.1 in
+            unsettled_of_whole limits.max_item limits.max_bytes came rest (faults.Malformed at reason) why.1 ends whole.2
       ]
   of_rest limits earlier was came rest is (faults.ItemTooLong at) told why = settled_of_whole limits.max_item limits.max_bytes came rest (faults.ItemTooLong at) why.1 refl
   of_rest limits earlier was came rest is faults.OutOfMemory told why = tt
   of_rest limits earlier was came rest is (faults.Sink fault) told why = tt
   of_rest limits earlier was came rest is faults.Failed told why = tt
   of_rest limits earlier was came rest is faults.Read told why = tt
-  of_rest limits earlier was came rest is faults.ReadsExceeded told why = tt
-  of_rest limits earlier was came rest is faults.BytesExceeded told why = tt
+  of_rest limits earlier was came rest is faults.ReadsExceeded told why =
+      omega (arith, each_gave left pulls was came limits.max_reads is why.1, length-append came rest)
+  of_rest limits earlier was came rest is faults.BytesExceeded told why = omega (arith, why.1, length-append came rest)
 
   pub of_part : (limits : Limits) (earlier : List Given) (was : R) (bytes came : List ℕ) (is : R) (fault : PartFault) → left was ≡ Some bytes → Consumes (left was) (left is) came → IsPartFault left health pulls limits earlier was came is fault
-      → IsOfPart limits.max_item bytes fault
+      → IsOfPart limits bytes fault
   of_part limits earlier was bytes came is fault told consumed why = by (left is) refl
     where
-      by : (rest : Option (List ℕ)) → left is ≡ rest → IsOfPart limits.max_item bytes fault
+      by : (rest : Option (List ℕ)) → left is ≡ rest → IsOfPart limits bytes fault
       by None e = absurd (subst (λ (l : Option (List ℕ)). Consumes l None came) told (subst (λ (l : Option (List ℕ)). Consumes (left was) l came) e consumed))
       by (Some rest) e =
           let whole : bytes ≡ came ++ rest = subst (λ (l : Option (List ℕ)). Consumes l (Some rest) came) told (subst (λ (l : Option (List ℕ)). Consumes (left was) l came) e consumed) in
-          subst (λ (b : List ℕ). IsOfPart limits.max_item b fault) (sym whole) (of_rest limits earlier was came rest is fault e why)
+          subst (λ (b : List ℕ). IsOfPart limits b fault) (sym whole) (of_rest limits earlier was came rest is fault e why)

@@ -107,11 +107,14 @@ module _ {R : Type 0} (left : R → Option (List ℕ)) (health : R → Health) (
   IsPartFault limits earlier was came is (faults.Sink sinks.Failed) = ⊥
   IsPartFault limits earlier was came is faults.Failed = ⊥
 
--- a fault of an item is the first of the whole part
-abbrev pub IsOfPart : ℕ → List ℕ → PartFault → Type 0
-IsOfPart longest bytes (faults.Malformed at reason) = IsFirstFault longest bytes (faults.Malformed at reason)
-IsOfPart longest bytes (faults.ItemTooLong at) = IsFirstFault longest bytes (faults.ItemTooLong at)
-IsOfPart longest bytes other = ⊤
+-- a fault of an item is the first of the whole part; a part with too many bytes has more than may be taken, and one that takes
+-- too many reads at least as many as these
+abbrev pub IsOfPart : Limits → List ℕ → PartFault → Type 0
+IsOfPart limits bytes (faults.Malformed at reason) = IsFirstFault limits.max_item bytes (faults.Malformed at reason)
+IsOfPart limits bytes (faults.ItemTooLong at) = IsFirstFault limits.max_item bytes (faults.ItemTooLong at)
+IsOfPart limits bytes faults.BytesExceeded = limits.max_bytes < length bytes
+IsOfPart limits bytes faults.ReadsExceeded = limits.max_reads ≤ length bytes
+IsOfPart limits bytes other = ⊤
 
 module _ {R : Type 0} (left : R → Option (List ℕ)) (health : R → Health) (pulls : R → ℕ) where
   -- a reader was read to its end over these bytes, which were accepted: it is well, each pull gave a byte, and the last
@@ -155,7 +158,7 @@ module _ {R : Type 0} (left : R → Option (List ℕ)) (health : R → Health) (
     pub stated : AreGiven limits (map Some before) given
     pub at : RefusesAt limits given old new index fault
     pub told : left at.was ≡ Some bytes
-    pub of_part : IsOfPart limits.max_item bytes fault
+    pub of_part : IsOfPart limits bytes fault
 
 -- ---- reading all parts
 

@@ -22,7 +22,7 @@ use Rattle.hprof_tool.specs.declared.tool_fault.ToolFault.TheVariants as tool
 use Rattle.hprof_tool.specs.declared.program.refused.Refused.{Refused}
 use Rattle.hprof_tool.specs.declared.program.refused.Refused.TheVariants as refusals
 use Rattle.hprof_tool.specs.Joining.{joined_of, Tell, Joins, StopsWriting, Disagree, IsAccepted, IsOfPart, IsPartFault, RefusesPart}
-use Rattle.hprof_tool.specs.Program.{usual_limits, IsWritten, IsFirstAnswer, IsPartRefusal, IsRefusal}
+use Rattle.hprof_tool.specs.Program.{usual_limits, IsWritten, IsFirstAnswer, IsPartRefusal, IsRefusal, IsOfEngine}
 use Rattle.hprof_tool.proofs.program.joining.join_into.Goals as goal
 
 -- no reader tells no part
@@ -60,7 +60,7 @@ part_refusal left health pulls limits parts old new index fault same is = record
   in_order = is.in_order;
   place = is.place;
   accepted = subst (λ (l : Limits). AllByRecursion (IsAccepted l) is.before) same is.accepted;
-  of_part = subst (λ (l : Limits). IsOfPart l.max_item is.bytes fault) same is.of_part;
+  of_part = subst (λ (l : Limits). IsOfPart l is.bytes fault) same is.of_part;
   is_first = first_answer left health pulls limits is.given is.at.was is.at.came is.at.is fault is.at.refused;
 }
 
@@ -72,6 +72,7 @@ record EngineTells {R : Type 0} (left : R → Option (List ℕ)) (readers : List
   no_parts : joined ≡ Err tool.NoParts → readers ≡ []
   id_sizes : joined ≡ Err tool.IdSizes → (parts : List (List ℕ)) → Tell left readers parts → HaveTwoSizes parts
   write : (fault : WriteFault) → joined ≡ Err (tool.Write fault) → (parts : List (List ℕ)) → Tell left readers parts → StopsWriting parts old new
+  no_memory : joined ≡ Err tool.OutOfMemory → ⊥
 
 module _ {R : Type 0} (left : R → Option (List ℕ)) (readers : List R) (old new : Option (List ℕ)) where
   of_fault : (joined : Result Joined ToolFault) (fault : ToolFault) → EngineTells left readers old new joined → joined ≡ Err fault
@@ -82,7 +83,7 @@ module _ {R : Type 0} (left : R → Option (List ℕ)) (readers : List R) (old n
   of_fault joined (tool.Conflict key) t same parts told = t.conflict key same parts told
   of_fault joined (tool.Write fault) t same parts told =
       let stops = t.write fault same parts told in (stops.ids, stops.millis, stops.rows, stops.agree)
-  of_fault joined tool.OutOfMemory t same parts told = tt
+  of_fault joined tool.OutOfMemory t same parts told = absurd (t.no_memory same)
 
   -- a refusal says what the engine's fault says, and of a flush that failed that the parts agree
   refusal : (joined : Result Joined ToolFault) (outcome : Result (Unit {0}) Refused) → EngineTells left readers old new joined
@@ -153,6 +154,29 @@ emptied : (outcome : Result (Unit {0}) Refused) (inner : Option (List ℕ)) (buf
 emptied (Ok u) inner buffer none = ap (append_known inner) none ∙ none_added inner
 emptied (Err refused) inner buffer none = tt
 
+-- the engine's answers, but for want of memory of its own, are refusals of the engine
+engine_of : (fault : ToolFault) → (◌≡◌ {A = Result Joined ToolFault} (Err fault) (Err tool.OutOfMemory) → ⊥) → IsOfEngine (refusals.Engine fault)
+engine_of (tool.Part index fault) other = tt
+engine_of tool.NoParts other = tt
+engine_of tool.IdSizes other = tt
+engine_of (tool.Conflict key) other = tt
+engine_of (tool.Write fault) other = tt
+engine_of tool.OutOfMemory other = other refl
+
+of_engine : (joined : Result Joined ToolFault) (outcome : Result (Unit {0}) Refused) → (joined ≡ Err tool.OutOfMemory → ⊥) → OnOk joined (OnErr outcome (outcome ≡ Err (refusals.Engine (tool.Write faults.Failed))))
+    → IfErr joined (λ fault. outcome ≡ Err (refusals.Engine fault)) → IfErr outcome IsOfEngine
+of_engine joined (Ok done) other failed same = tt
+of_engine (Ok j) (Err refused) other failed same =
+    let is : refused ≡ refusals.Engine (tool.Write faults.Failed) = cc in
+    subst IsOfEngine (sym is) tt
+of_engine (Err fault) (Err refused) other failed same =
+    let is : refused ≡ refusals.Engine fault = cc in
+    subst IsOfEngine (sym is) (engine_of fault other)
+
+pub returns-clause-kind : goal.returns-clause-kind
+returns-clause-kind g c =
+    of_engine (joined_of c.join_kept-kept.result) c.end_of_writing-outcome.result c.join_kept-kept.ensures.no_memory c.end_of_writing-outcome.ensures.failed c.end_of_writing-outcome.ensures.refused
+
 pub returns-clause-refused : goal.returns-clause-refused
 returns-clause-refused g c =
     let e = c.join_kept-kept.ensures in
@@ -165,6 +189,7 @@ returns-clause-refused g c =
       no_parts = e.no_parts.0;
       id_sizes = e.id_sizes;
       write = λ fault same. (e.write fault same).1;
+      no_memory = e.no_memory;
     })
     c.end_of_writing-outcome.ensures.failed c.end_of_writing-outcome.ensures.refused
 
@@ -182,6 +207,7 @@ returns-clause-write g c =
       no_parts = e.no_parts.0;
       id_sizes = e.id_sizes;
       write = λ fault same. (e.write fault same).1;
+      no_memory = e.no_memory;
     })
     kept c.end_of_writing-outcome.ensures.refused fault is parts told)
 
