@@ -25,11 +25,11 @@ fn fact_in<'a>(bytes: &'a [u8], ids: IdSize) -> Option<Result<Fact<'a>, Reason>>
     let read = read_body(&head, body, ids);
     // The same is put into a place.
     let mut fact = Fact::Unload { serial: 0 };
-    match (read_body_into(&head, body, ids, &mut fact), read) {
-        (Ok(()), Ok(same)) if fact == same => Some(read),
-        (Err(reason), Err(same)) if reason == same => Some(read),
-        _ => None,
-    }
+    let put = match read_body_into(&head, body, ids, &mut fact) {
+        Ok(()) => Ok(fact),
+        Err(reason) => Err(reason),
+    };
+    if put == read { Some(read) } else { None }
 }
 
 #[test]
