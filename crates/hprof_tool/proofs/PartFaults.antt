@@ -38,7 +38,7 @@ unsettled_of_whole longest most came rest fault first ends within =
 -- so many pulls gave a byte each
 each_gave : {R : Type 0} (left : R → Option (List ℕ)) (pulls : R → ℕ) (was : R) (came : List ℕ) (count : ℕ) (is : R) → Pulled left pulls was came count is → count ≤ length came
 each_gave left pulls was came count is none = omega arith
-each_gave left pulls was came count is (once_more {front} {piece} {before} {mid} first pull some) =
+each_gave left pulls was came count is (once_more {came = front} {piece = piece} {count = before} {mid = mid} first pull some) =
     omega (arith, each_gave left pulls was front before mid first, some, length-append front piece)
 
 -- what a run of a gatherer means, step by step
