@@ -1,9 +1,10 @@
 //! The program, with its words, its files and its standard streams.
 
-use crate::samples::{END, HEADER, NAME_1_A, NAME_2_B, bytes_of};
+use crate::samples::{END, HEADER, NAME_1_A, NAME_1_B, NAME_2_B, WIDE_HEADER, bytes_of};
 use hprof_tool::{Status, run};
 use std::alloc::Global;
 use std::io::{Read, Write};
+use std::process::Abort;
 use std::rt::Files;
 use std::test::Fail;
 use std::{env, fs, io};
@@ -181,33 +182,203 @@ fn part_that_cannot_be_opened(rt: HostRuntime) -> Result<(), Fail> {
     Ok(())
 }
 
-#[test]
-fn second_part_that_cannot_be_opened(rt: HostRuntime) -> Result<(), Fail> {
-    let one = written(&rt, "opened-one", &[HEADER])?;
-    let two = path_of(&rt, "opened-two")?;
-    let three = written(&rt, "opened-three", &[HEADER])?;
-    let out = path_of(&rt, "opened-out")?;
-    let [out, one, two, three] = [&out, &one, &two, &three].map(|path| path.as_str());
-    let ran = outcome_of(rt.alloc(), &rt, &["join", out, one, two, three], &[])?;
-    assert_eq!(rt; ran.status, Status::Refused);
-    let text = b"hprof: cannot open part 1\n".as_slice();
+/// Checks that joining these parts to a new file is refused with that text, and that the file is not there afterwards.
+fn expect_refused<F: Files + Abort>(
+    rt: &F,
+    alloc: Global,
+    out: &str,
+    parts: &[&str],
+    text: &[u8],
+) -> Result<(), Fail> {
+    let mut words = Vec::new(alloc);
+    words.push("join")?;
+    words.push(out)?;
+    words.extend_from_slice(parts)?;
+    let ran = outcome_of(alloc, rt, &words, &[])?;
+    assert_eq!(rt; ran.status.code(), 1);
+    assert_eq!(rt; ran.output.len(), 0);
     assert_eq!(rt; ran.errors.as_slice(), text);
-    assert!(rt; fs::read(&rt, out).is_err());
-    for path in [one, three] {
+    assert!(rt; !fs::exists(rt, out)?);
+    Ok(())
+}
+
+/// A record that is shorter than its kind can be.
+const SHORT_TRACE: &[u8] = b"\x05\0\0\0\0\0\0\0\x0b\0\0\0\0\0\0\0\0\0\0\0";
+
+#[test]
+fn second_part_that_is_malformed(rt: HostRuntime) -> Result<(), Fail> {
+    let good = written(&rt, "malformed-good", &[HEADER, NAME_1_A])?;
+    let bad = written(&rt, "malformed-bad", &[HEADER, NAME_1_A, SHORT_TRACE])?;
+    let out = path_of(&rt, "malformed-out")?;
+    let [out, good, bad] = [&out, &good, &bad].map(|path| path.as_str());
+    // The header has 31 bytes, and the name's record 14.
+    let text = b"hprof: part 1: malformed at 45: BadLength\n";
+    expect_refused(&rt, rt.alloc(), out, &[good, bad], text)?;
+    let text = b"hprof: part 0: malformed at 45: BadLength\n";
+    expect_refused(&rt, rt.alloc(), out, &[bad, good], text)?;
+    for path in [good, bad] {
         fs::remove_file(&rt, path)?;
     }
     Ok(())
 }
 
 #[test]
+fn malformed_part_on_the_input(rt: HostRuntime) -> Result<(), Fail> {
+    let part = bytes_of(rt.alloc(), &[HEADER, NAME_1_A, SHORT_TRACE])?;
+    let ran = outcome_of(rt.alloc(), &rt, &[], &part)?;
+    assert_eq!(rt; ran.status.code(), 1);
+    assert_eq!(rt; ran.output.len(), 0);
+    let text = b"hprof: part 0: malformed at 45: BadLength\n".as_slice();
+    assert_eq!(rt; ran.errors.as_slice(), text);
+    Ok(())
+}
+
+#[test]
+fn parts_that_do_not_go_together(rt: HostRuntime) -> Result<(), Fail> {
+    let one = written(&rt, "apart-one", &[HEADER, NAME_1_A])?;
+    let other = written(&rt, "apart-other", &[HEADER, NAME_1_B])?;
+    let wide = written(&rt, "apart-wide", &[WIDE_HEADER])?;
+    let out = path_of(&rt, "apart-out")?;
+    let [out, one, other, wide] = [&out, &one, &other, &wide].map(|path| path.as_str());
+    let conflict = b"hprof: conflict at name 1\n";
+    expect_refused(&rt, rt.alloc(), out, &[one, other], conflict)?;
+    let sizes = b"hprof: identifier sizes differ\n";
+    expect_refused(&rt, rt.alloc(), out, &[one, wide], sizes)?;
+    for path in [one, other, wide] {
+        fs::remove_file(&rt, path)?;
+    }
+    Ok(())
+}
+
+#[test]
+fn no_parts_to_join(rt: HostRuntime) -> Result<(), Fail> {
+    let out = path_of(&rt, "none-out")?;
+    expect_refused(&rt, rt.alloc(), out.as_str(), &[], b"hprof: no parts\n")?;
+    // Without a new file the words are not understood.
+    let ran = outcome_of(rt.alloc(), &rt, &["join"], HEADER)?;
+    assert_eq!(rt; ran.status.code(), 2);
+    assert_eq!(rt; ran.output.len(), 0);
+    assert!(rt; !ran.errors.is_empty());
+    Ok(())
+}
+
+#[test]
+fn folder_for_a_part(rt: HostRuntime) -> Result<(), Fail> {
+    let good = written(&rt, "folder-good", &[HEADER, NAME_1_A])?;
+    let folder = env::temp_dir(&rt)?;
+    let folder = folder.to_str().ok_or("the folder's name is text")?;
+    let out = path_of(&rt, "folder-out")?;
+    let text = b"hprof: part 1: read failed\n";
+    expect_refused(
+        &rt,
+        rt.alloc(),
+        out.as_str(),
+        &[good.as_str(), folder],
+        text,
+    )?;
+    fs::remove_file(&rt, good.as_str())?;
+    Ok(())
+}
+
+#[test]
+fn later_part_that_cannot_be_opened(rt: HostRuntime) -> Result<(), Fail> {
+    let one = written(&rt, "opened-one", &[HEADER])?;
+    let two = written(&rt, "opened-two", &[HEADER])?;
+    let lost = path_of(&rt, "opened-lost")?;
+    let out = path_of(&rt, "opened-out")?;
+    let [out, one, two, lost] = [&out, &one, &two, &lost].map(|path| path.as_str());
+    let text = b"hprof: cannot open part 1\n";
+    expect_refused(&rt, rt.alloc(), out, &[one, lost, two], text)?;
+    let text = b"hprof: cannot open part 2\n";
+    expect_refused(&rt, rt.alloc(), out, &[one, two, lost], text)?;
+    for path in [one, two] {
+        fs::remove_file(&rt, path)?;
+    }
+    Ok(())
+}
+
+#[test]
+fn part_that_is_the_new_file(rt: HostRuntime) -> Result<(), Fail> {
+    let out = path_of(&rt, "itself")?;
+    let text = b"hprof: cannot open part 0\n";
+    expect_refused(&rt, rt.alloc(), out.as_str(), &[out.as_str()], text)
+}
+
+#[test]
+fn many_parts(rt: HostRuntime) -> Result<(), Fail> {
+    let mut dump = bytes_of(rt.alloc(), &[HEADER])?;
+    let mut paths = Vec::new(rt.alloc());
+    for id in 1..=70u8 {
+        let name = [1, 0, 0, 0, 0, 0, 0, 0, 5, 0, 0, 0, id, b'n'];
+        dump.extend_from_slice(&name)?;
+        let file = format!(in rt.alloc(); "many-{id}")?;
+        paths.push(written(&rt, file.as_str(), &[HEADER, &name])?)?;
+    }
+    dump.extend_from_slice(END)?;
+    let out = path_of(&rt, "many-out")?;
+    let mut words = Vec::new(rt.alloc());
+    words.push("join")?;
+    words.push(out.as_str())?;
+    for path in &paths {
+        words.push(path.as_str())?;
+    }
+    let ran = outcome_of(rt.alloc(), &rt, &words, &[])?;
+    assert_eq!(rt; ran.status, Status::Done);
+    assert_eq!(rt; (ran.output.len(), ran.errors.len()), (0, 0));
+    assert_eq!(rt; fs::read(&rt, out.as_str())?.as_slice(), dump.as_slice());
+    for path in &paths {
+        fs::remove_file(&rt, path.as_str())?;
+    }
+    fs::remove_file(&rt, out.as_str())?;
+    Ok(())
+}
+
+#[test]
 fn words(rt: HostRuntime) -> Result<(), Fail> {
-    let unknown = outcome_of(rt.alloc(), &rt, &["frob"], &[])?;
-    assert_eq!(rt; unknown.status.code(), 2);
-    assert_eq!(rt; unknown.output.len(), 0);
-    assert!(rt; !unknown.errors.is_empty());
-    let help = outcome_of(rt.alloc(), &rt, &["--help"], &[])?;
-    assert_eq!(rt; help.status.code(), 0);
-    assert_eq!(rt; help.errors.len(), 0);
-    assert!(rt; !help.output.is_empty());
+    for word in ["frob", "help"] {
+        let unknown = outcome_of(rt.alloc(), &rt, &[word], HEADER)?;
+        assert_eq!(rt; unknown.status.code(), 2);
+        assert_eq!(rt; unknown.output.len(), 0);
+        let text = str::from_utf8(&unknown.errors)?;
+        assert!(rt; text.contains(word), "{word}");
+    }
+    Ok(())
+}
+
+#[test]
+fn help(rt: HostRuntime) -> Result<(), Fail> {
+    for (words, named) in [
+        (["--help"].as_slice(), "join"),
+        (&["-h"], "join"),
+        (&["join", "--help"], "OUT"),
+        (&["join", "-h"], "OUT"),
+    ] {
+        let ran = outcome_of(rt.alloc(), &rt, words, &[])?;
+        assert_eq!(rt; ran.status.code(), 0, "{words:?}");
+        assert_eq!(rt; ran.errors.len(), 0, "{words:?}");
+        let text = str::from_utf8(&ran.output)?;
+        assert!(rt; text.contains(named), "{words:?}");
+    }
+    Ok(())
+}
+
+#[test]
+fn words_that_cannot_be_had(rt: HostRuntime) -> Result<(), Fail> {
+    for (kind, code, text) in [
+        (io::ErrorKind::OutOfMemory, 1, "hprof: out of memory\n"),
+        (
+            io::ErrorKind::InvalidData,
+            2,
+            "hprof: the words are no text\n",
+        ),
+    ] {
+        let mut output = Vec::new(rt.alloc());
+        let mut errors = Vec::new(rt.alloc());
+        let words = Err(io::Error::from(kind));
+        let status = run(rt.alloc(), &rt, words, HEADER, &mut output, &mut errors);
+        assert_eq!(rt; status.code(), code);
+        assert_eq!(rt; output.len(), 0);
+        assert_eq!(rt; errors.as_slice(), text.as_bytes());
+    }
     Ok(())
 }

@@ -7,22 +7,22 @@ use Rattle.hprof_items.specs.declared.header.Header.{Header}
 use Rattle.hprof_values.specs.declared.ids.IdSize.{IdSize}
 use Rattle.hprof_values.specs.declared.ids.IdSize.TheVariants.{Four, Eight}
 use Rattle.hprof_items.specs.FactValue.{FactValue}
-use Rattle.hprof_stream.specs.Run.{Steps}
+use Rattle.hprof_stream.specs.Run.{Steps, Run}
 use Rattle.hprof_heap.specs.declared.gatherer.Gatherer.{Gatherer}
 use Rattle.hprof_heap.specs.declared.heap.Heap.{Heap}
 use Rattle.hprof_heap.specs.declared.key.Key.{Key}
 use Rattle.hprof_heap.specs.declared.relation.Stated.{Stated}
 use Rattle.hprof_heap.specs.declared.relation.Stated.TheVariants.{New, Same, Differs}
-use Rattle.hprof_heap.specs.Key.{key_of, key_le, lesser_key}
+use Rattle.hprof_heap.specs.Key.{HaveOneKey, key_of, key_le, lesser_key}
 use Rattle.hprof_heap.specs.Facts.{Has, SameFacts}
 use Rattle.hprof_heap.specs.Conflict.{HasConflict, IsLeastConflict}
 use Rattle.hprof_heap.specs.Order.{IsCanonicalOrder}
 use Rattle.hprof_heap.specs.State.{IsLeastOf}
 use Rattle.hprof_heap.specs.HeapValue.{HeapValue, IsHeap}
-use Rattle.hprof_heap.specs.Gathering.{Gathered, Given, gathered, lent_heap, nothing_gathered, same_size, begun_heap, has_other_size, Begins, Adds, HasOther, marked, TakesInto, TakesHeap, Takes, Gathers, all_given, unconflicted, answer_of, Tells}
+use Rattle.hprof_heap.specs.Gathering.{Gathered, Given, gathered, lent_heap, nothing_gathered, same_size, begun_heap, has_other_size, Begins, Adds, HasOther, marked, TakesInto, TakesHeap, IsNewAmong, LacksRow, HaveOneSize, IsNewBehind, Takes, Gathers, all_given, unconflicted, answer_of, Tells}
 use Rattle.hprof_heap.proofs.FactSets.{Has-parts, Has-front, Has-back}
 use Rattle.hprof_heap.proofs.Least.{no_least, IsLeastOf-one, IsLeastOf-push}
-use Rattle.hprof_heap.proofs.Keys.{key_le-refl, key_le-trans, lesser_is}
+use Rattle.hprof_heap.proofs.Keys.{HaveOneKey-trans, key_le-refl, key_le-trans, lesser_is}
 use Rattle.hprof_heap.proofs.Order.{order_agrees}
 use Rattle.hprof_heap.proofs.Conflicts.{IsConsistent-same, HasConflict-more}
 
@@ -42,7 +42,7 @@ HasMark given (Some key) = HasConflict given key
 pub record Holds (given facts : List FactValue) (mark : Option Key) : Type 0 where
   pub ordered : IsCanonicalOrder facts
   pub was_given : (fact : FactValue) → Has facts fact → Has given fact
-  pub each : (fact : FactValue) → Has given fact → Has facts fact ⊎ IsMarked mark fact
+  pub each : (fact : FactValue) → Has given fact → Has facts fact ⊎ (IsMarked mark fact × HasOther facts fact)
   pub has_mark : HasMark given mark
 
 -- a mark stays one as facts are added
@@ -54,13 +54,20 @@ HasMark-more given fact (Some key) has = HasConflict-more given (given ++ fact �
 last_given : (given : List FactValue) (fact other : FactValue) → Has (given ++ fact ∷ []) other → Has given other ⊎ (other ≡ fact)
 last_given given fact other has = elim (Has-parts given (fact ∷ []) other has) [ inl h ↦ inl h | inr h ↦ elim h [ inl e ↦ inr e | inr none ↦ absurd none ] ]
 
+-- another fact with its key stays there as facts are added
+HasOther-more : (facts others : List FactValue) (fact : FactValue) → ((one : FactValue) → Has facts one → Has others one) → HasOther facts fact → HasOther others fact
+HasOther-more facts others fact within has = record { other = has.other; has_other = within has.other has.has_other; one_key = has.one_key; differ = has.differ }
+
 -- a fact at a new key
 holds_new : (given : List FactValue) (heap : HeapValue) (mark : Option Key) (fact : FactValue) (new : HeapValue) → Holds given heap.facts mark → Adds heap fact new → Holds (given ++ fact ∷ []) new.facts mark
 holds_new given heap mark fact new holds added = record {
   ordered = added.is_heap.ordered;
   was_given = λ other has. elim ((added.facts other).0 has) [ inl e ↦ Has-back given (fact ∷ []) other (inl e) | inr h ↦ Has-front given (fact ∷ []) other (holds.was_given other h) ];
   each = λ other has. elim (last_given given fact other has) [
-    | inl h ↦ elim (holds.each other h) [ inl there ↦ inl ((added.facts other).1 (inr there)) | inr marked ↦ inr marked ]
+    | inl h ↦ elim (holds.each other h) [
+      | inl there ↦ inl ((added.facts other).1 (inr there))
+      | inr marked ↦ inr (marked.0, HasOther-more heap.facts new.facts other (λ one there. (added.facts one).1 (inr there)) marked.1)
+    ]
     | inr e ↦ inl ((added.facts other).1 (inl e))
   ];
   has_mark = HasMark-more given fact mark holds.has_mark;
@@ -101,8 +108,8 @@ holds_differs given facts mark fact holds has_other =
       ordered = holds.ordered;
       was_given = λ one has. Has-front given (fact ∷ []) one (holds.was_given one has);
       each = λ one has. elim (last_given given fact one has) [
-        | inl h ↦ elim (holds.each one h) [ inl there ↦ inl there | inr m ↦ inr (marked_more mark have.key one (inl m)) ]
-        | inr e ↦ inr (marked_more mark have.key one (inr (ap key_of e ∙ have.key_of_other)))
+        | inl h ↦ elim (holds.each one h) [ inl there ↦ inl there | inr m ↦ inr (marked_more mark have.key one (inl m.0), m.1) ]
+        | inr e ↦ inr (marked_more mark have.key one (inr (ap key_of e ∙ have.key_of_other)), subst (HasOther facts) (sym e) has_other)
       ];
       has_mark = HasMark-conflict (given ++ fact ∷ []) mark have.key (HasMark-more given fact mark holds.has_mark) (record {
         one = has_other.other;
@@ -310,6 +317,11 @@ headers_have : (ids : IdSize) (parts : List Given) → AllByRecursion (λ part. 
 headers_have ids [] all = tt
 headers_have ids (part ∷ parts) all = (all.0, headers_have ids parts all.1)
 
+-- a header, where there is one
+abbrev pub some_header : Option Header → List Header
+some_header None = []
+some_header (Some header) = header ∷ []
+
 -- where there is no header there is no part
 no_parts : (parts : List Given) → headers_of parts ≡ [] → parts ≡ []
 no_parts [] e = refl
@@ -322,14 +334,14 @@ some_parts (part ∷ parts) least l e = cc
 
 -- the facts with no mark are those that were given
 holds_all : (given facts : List FactValue) → Holds given facts None → SameFacts facts given
-holds_all given facts holds fact = (holds.was_given fact, λ has. elim (holds.each fact has) [ inl there ↦ there | inr none ↦ absurd none ])
+holds_all given facts holds fact = (holds.was_given fact, λ has. elim (holds.each fact has) [ inl there ↦ there | inr none ↦ absurd none.0 ])
 
 -- a key of two contents is not before the mark
 mark_le : (given facts : List FactValue) (least key : Key) → Holds given facts (Some least) → HasConflict given key → key_le least key ≡ true
 mark_le given facts least key holds c = elim (holds.each c.one c.has_one) [
-  | inr m ↦ at m.0 c.one c.key_of_one m.1 m.2
+  | inr m ↦ let marked = m.0 in at marked.0 c.one c.key_of_one marked.1 marked.2
   | inl here ↦ elim (holds.each c.other c.has_other) [
-    | inr m ↦ at m.0 c.other c.key_of_other m.1 m.2
+    | inr m ↦ let marked = m.0 in at marked.0 c.other c.key_of_other marked.1 marked.2
     | inl there ↦ absurd (c.differ (order_agrees facts holds.ordered key c.one c.other here there c.key_of_one c.key_of_other))
   ]
 ]
@@ -374,3 +386,50 @@ sound_heap (Some heap) = heap.sound.heap
 -- what a gatherer answers tells of the parts that it was given
 pub told : (gatherer : Gatherer) (parts : List Given) → Gathers nothing_gathered parts (gathered gatherer) → Tells parts (answer_of (gathered gatherer))
 told gatherer parts gathers = tells parts (gathered gatherer) (gathered_stands parts (gathered gatherer) gathers) (sound_heap gatherer.heap)
+
+-- ---- want of memory
+
+-- what is new to a heap is new among all that was given
+new_among : (given facts : List FactValue) (mark : Option Key) (fact : FactValue) → Holds given facts mark → IsNewAmong facts fact → IsNewAmong given fact
+new_among given facts mark fact holds fresh = record {
+  is_new = λ other has one_key. elim (holds.each other has) [
+    | inl there ↦ fresh.is_new other there one_key
+    | inr differs ↦ by other differs.1 one_key
+  ];
+  absent = λ has. elim (holds.each fact has) [ inl there ↦ fresh.absent there | inr differs ↦ let there = differs.1 in fresh.is_new there.other there.has_other there.one_key ];
+}
+  where
+    by : (other : FactValue) → HasOther facts other → HaveOneKey other fact → ⊥
+    by other there one_key = fresh.is_new there.other there.has_other (HaveOneKey-trans there.other other fact there.one_key one_key)
+
+-- where no two sizes were begun, the heap is the union
+union_of : (headers : List Header) (given : List FactValue) (heap : Option HeapValue) (two : Bool) (mark : Option Key) (held : HeapValue) → Unites headers given heap two mark → two ≡ false → heap ≡ Some held
+    → IsUnion headers given held mark
+union_of headers given heap two mark held u one there =
+    subst (λ (h : Option HeapValue). Unites headers given h false mark) there (subst (λ (t : Bool). Unites headers given heap t mark) one u)
+
+-- a gatherer that took whole parts, and then, of another one, a header, where it has come, and facts
+stands_within : (parts : List Given) (header : Option Header) (facts : List FactValue) (old new : Gathered) → Gathers nothing_gathered parts old → Run Begins Takes old header facts new
+    → Stands (headers_of parts ++ some_header header) (all_given parts ++ facts) new
+stands_within parts None facts old new gathers run =
+    subst (λ (hs : List Header). Stands hs (all_given parts ++ facts) new) (sym (append-nil (headers_of parts)))
+    (steps_stand (headers_of parts) (all_given parts) facts old new (gathered_stands parts old gathers) run)
+stands_within parts (Some header) facts old new gathers run =
+    steps_stand (headers_of parts ++ header ∷ []) (all_given parts) facts run.0 new (begins_stands (headers_of parts) (all_given parts) old header run.0 (gathered_stands parts old gathers) run.1) run.2
+
+-- the headers of whole parts and of one more have one size
+one_size_of : (parts : List Given) (header : Option Header) (ids : IdSize) → HaveSize ids (headers_of parts ++ some_header header) → HaveOneSize parts header
+one_size_of parts None ids all = (ids, parts_have ids parts (subst (HaveSize ids) (append-nil (headers_of parts)) all))
+one_size_of parts (Some header) ids all =
+    let each = HaveSize-parts ids (headers_of parts) header all in
+    parts_have header.ids parts (subst (λ (size : IdSize). HaveSize size (headers_of parts)) (sym each.1) each.0)
+
+-- a fact for which a gatherer lacks a row is new among all that was given to it, and what was given has one size
+pub new_behind : (parts : List Given) (header : Option Header) (before given : List FactValue) (old new : Gathered) → Gathers nothing_gathered parts old → Run Begins Takes old header before new → LacksRow new given
+    → IsNewBehind parts header before given
+new_behind parts header before [] old new gathers run lacks = absurd lacks
+new_behind parts header before (fact ∷ rest) old new gathers run lacks =
+    let stands = stands_within parts header before old new gathers run in
+    let held = lacks.1.0 in
+    let union = union_of (headers_of parts ++ some_header header) (all_given parts ++ before) new.heap new.two_sizes new.conflict held stands.unites lacks.0 lacks.1.1 in
+    (one_size_of parts header held.ids union.one_size, new_among (all_given parts ++ before) held.facts new.conflict fact union.holds lacks.1.2)

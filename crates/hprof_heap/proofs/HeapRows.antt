@@ -31,7 +31,7 @@ use Rattle.hprof_heap.specs.SortedRows.{row_at}
 use Rattle.hprof_heap.proofs.Keys.{place_of_key, stands_at, has_key_at, same_place}
 use Rattle.hprof_heap.specs.declared.spelled_row.SpelledRow.{SpelledRow}
 use Rattle.hprof_heap.specs.Content.{content_of, load_fact, unload_fact, frame_fact, trace_fact, start_fact, end_fact, spelled_fact, line_with, read_fact, facts_of_rows, IsRight, AreRight}
-use Rattle.hprof_heap.specs.Gathering.{StatesInto}
+use Rattle.hprof_heap.specs.Gathering.{StatesInto, IsNewAmong}
 use Rattle.hprof_heap.specs.declared.table.Table.{Table}
 use Rattle.hprof_heap.specs.Heap.{facts_of_table, number_of_table}
 use Rattle.hprof_heap.specs.HeapRows.{HeapRows, AreHeap, tables_of, heap_of_rows, name_text, no_content, root_facts}
@@ -43,7 +43,7 @@ use Rattle.hprof_heap.specs.Spelled.{Spells}
 use Rattle.hprof_heap.specs.SpelledRow.{spelled_bytes}
 use Rattle.hprof_heap.specs.Tables.{joined}
 use Rattle.hprof_heap.specs.TraceRow.{trace_content}
-use Rattle.hprof_heap.proofs.Inserting.{find-Some}
+use Rattle.hprof_heap.proofs.Inserting.{find-Some, unseen}
 use Rattle.hprof_heap.proofs.RowFacts.{right_by, find_rows}
 use Rattle.hprof_heap.proofs.Stating.{StatesAmong, with_facts, tried_among, tried_among-sound}
 use Rattle.hprof_heap.proofs.Tables.{IsOf, AllOf, AreTables, table_at, with_table, states_tables, facts_in, find_from}
@@ -159,6 +159,30 @@ module _ {E : Type 0} (r : Result Stated E) (rows : HeapRows) (are : AreHeap row
 -- a fact under a key of a table stands in the table
 pub of_key : (table key : ℕ) (fact : FactValue) → place_of fact ≡ table ∷ key ∷ [] → IsOf table fact
 of_key table key fact at = record { more = key ∷ []; stands = at }
+
+-- ---- facts for which memory was refused
+
+-- a fact at whose place none is found in its table is new
+pub unseen_in_heap : {E : Type 0} (r : Result Stated E) (rows : HeapRows) (place : ℕ) (fact : FactValue) → AreHeap rows → IsOf place fact
+    → OnErr r (find (same_place fact) (table_at (tables_of rows) place) ≡ None) → OnErr r (IsNewAmong (heap_of_rows rows).facts fact)
+unseen_in_heap (Ok answer) rows place fact are of none = tt
+unseen_in_heap (Err e) rows place fact are of none = unseen (heap_of_rows rows) fact (
+    find_from (same_place fact) (tables_of rows) place 0 place
+    (λ n other in_table differ. false_from_ne_true (same_place fact other) (λ yes.
+    let same : place ∷ of.more ≡ n ∷ in_table.more = sym of.stands ∙ (bytes_eq-Decides (place_of fact) (place_of other)).0 yes ∙ in_table.stands in
+    differ (sym (ap (λ (ns : List ℕ). slice_index ns 0) same))))
+    (omega arith) (heap_tables rows are)
+    ∙ none
+    )
+
+-- so is one whose key has no row
+pub unseen_row : {E V : Type 0} (r : Result Stated E) (rows : HeapRows) (table key : ℕ) (fact : ℕ → List ℕ → FactValue) (content : V → List ℕ) (of_table : List (ℕ × V))
+    (stated : FactValue) → AreHeap rows → place_of stated ≡ table ∷ key ∷ [] → AreRight rows.ids table fact content of_table
+    → table_at (tables_of rows) table ≡ facts_of_rows fact content of_table → OnErr r (row_at key of_table ≡ None) → OnErr r (IsNewAmong (heap_of_rows rows).facts stated)
+unseen_row (Ok answer) rows table key fact content of_table stated are at right facts none = tt
+unseen_row (Err e) rows table key fact content of_table stated are at right facts none =
+    unseen_in_heap (Err e) rows table stated are (of_key table key stated at)
+    (ap (find (same_place stated)) facts ∙ find_rows rows.ids table fact content of_table key stated at right ∙ ap (option_map (λ row. fact key (content row))) none)
 
 -- ---- the number of facts
 

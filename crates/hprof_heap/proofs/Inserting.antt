@@ -7,7 +7,7 @@ use Rattle.hprof_items.specs.Spelling.{Fits}
 use Rattle.hprof_heap.specs.Facts.{Has, SameFacts, AllFit}
 use Rattle.hprof_heap.specs.Conflict.{IsConsistent}
 use Rattle.hprof_heap.specs.Order.{IsBefore, IsCanonicalOrder}
-use Rattle.hprof_heap.specs.Gathering.{Adds, StatesInto}
+use Rattle.hprof_heap.specs.Gathering.{Adds, IsNewAmong, StatesInto}
 use Rattle.hprof_heap.specs.HeapValue.{HeapValue, IsHeap}
 use Rattle.hprof_heap.specs.declared.relation.Stated.{Stated}
 use Rattle.hprof_heap.specs.declared.relation.Stated.TheVariants.{New, Same, Differs}
@@ -95,11 +95,18 @@ inserted-ordered facts fact ordered none = inserted-ordered_by facts fact ordere
 pub inserted-same : (facts : List FactValue) (fact : FactValue) → SameFacts (inserted facts fact) (fact ∷ facts)
 inserted-same facts fact other = (inserted-has facts fact other, has-inserted facts fact other)
 
+-- a fact at whose place none is found is new
+pub unseen : (heap : HeapValue) (fact : FactValue) → find (same_place fact) heap.facts ≡ None → IsNewAmong heap.facts fact
+unseen heap fact none = record {
+  is_new = λ other has have. same_place-false fact other (find-None (same_place fact) heap.facts other none has) (HaveOneKey-sym other fact have);
+  absent = λ has. same_place-same fact (find-None (same_place fact) heap.facts fact none has);
+}
+
 -- a fact that fits, put in its place at a new key, is added
 pub inserted-adds : (heap : HeapValue) (fact : FactValue) → find (same_place fact) heap.facts ≡ None → Fits heap.ids fact → IsHeap heap → Adds heap fact (record heap { facts = inserted heap.facts fact })
 inserted-adds heap fact none fits sound = record {
-  is_new = λ other has have. same_place-false fact other (find-None (same_place fact) heap.facts other none has) (HaveOneKey-sym other fact have);
-  absent = λ has. same_place-same fact (find-None (same_place fact) heap.facts fact none has);
+  is_new = (unseen heap fact none).is_new;
+  absent = (unseen heap fact none).absent;
   ids = refl;
   millis = refl;
   facts = inserted-same heap.facts fact;

@@ -241,6 +241,13 @@ same_place-same fact e = not_from_Decides (same_place fact fact) (bytes_eq-Decid
 pub HaveOneKey-sym : (one other : FactValue) → HaveOneKey one other → HaveOneKey other one
 HaveOneKey-sym one other have = record { key = have.key; key_of_one = have.key_of_other; key_of_other = have.key_of_one }
 
+pub HaveOneKey-trans : (one middle other : FactValue) → HaveOneKey one middle → HaveOneKey middle other → HaveOneKey one other
+HaveOneKey-trans one middle other first second = record {
+  key = second.key;
+  key_of_one = first.key_of_one ∙ sym first.key_of_other ∙ second.key_of_one;
+  key_of_other = second.key_of_other;
+}
+
 -- ---- the facts of a key
 
 key_of_its_place : (key : Key) → key_of_place (place_of_key key) ≡ Some key

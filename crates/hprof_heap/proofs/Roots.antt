@@ -102,3 +102,9 @@ roots_tried (Err e) old new root ok = tt
 pub roots_kept : {E : Type 0} (r : Result Stated E) (old new : List Root) → OnErr r (new ≡ old) → OnErr r (root_facts new ≡ root_facts old)
 roots_kept (Ok answer) old new kept = tt
 roots_kept (Err e) old new kept = ap root_facts kept
+
+-- where memory was refused for a root that is not in the set, none of their facts is at its place
+pub roots_unseen : {E : Type 0} (r : Result Stated E) (set : List Root) (root : Root) → OnErr r (list_any (is_at (root_cmp root)) set ≡ false)
+    → OnErr r (find (same_place (Rooted root)) (root_facts set) ≡ None)
+roots_unseen (Ok answer) set root none = tt
+roots_unseen (Err e) set root none = find_root set root none

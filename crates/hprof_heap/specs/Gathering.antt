@@ -1,5 +1,5 @@
 -- What a gatherer holds, and what headers and facts do to it.
-use Rattle.std.specs.Prelude.{◌≡◌, ◌≢◌, ◌||◌, Bool, true, false, not, min, List, [], ◌∷◌, map, Option, Some, None, Result, Ok, Err, if◌then◌else◌}
+use Rattle.std.specs.Prelude.{◌≡◌, ◌≢◌, ◌||◌, Bool, true, false, not, min, List, [], ◌∷◌, ◌++◌, map, Option, Some, None, Result, Ok, Err, if◌then◌else◌}
 use Rattle.std.specs.List.{AllByRecursion, flat_map}
 use Rattle.hprof_items.specs.declared.header.Header.{Header}
 use Rattle.hprof_values.specs.declared.ids.IdSize.{IdSize}
@@ -85,6 +85,16 @@ pub record Adds (heap : HeapValue) (fact : FactValue) (new : HeapValue) : Type 0
   pub facts : SameFacts new.facts (fact ∷ heap.facts)
   pub is_heap : IsHeap new
 
+-- none of the facts has its key, and it is not one of them
+pub record IsNewAmong (facts : List FactValue) (fact : FactValue) : Type 0 where
+  pub is_new : (other : FactValue) → Has facts other → HaveOneKey other fact → ⊥
+  pub absent : Has facts fact → ⊥
+
+-- a fact was given that is new to the heap, while one size was begun
+abbrev pub LacksRow : Gathered → List FactValue → Type 0
+LacksRow gathered [] = ⊥
+LacksRow gathered (fact ∷ rest) = (gathered.two_sizes ≡ false) × ((heap : HeapValue) × (gathered.heap ≡ Some heap) × IsNewAmong heap.facts fact)
+
 -- another fact than this one is there with its key
 pub record HasOther (facts : List FactValue) (fact : FactValue) : Type 0 where
   pub other : FactValue
@@ -167,6 +177,17 @@ Gathers old (part ∷ parts) new = (mid : Gathered) × Run Begins Takes old (Som
 
 abbrev pub all_given : List Given → List FactValue
 all_given parts = flat_map (λ part. part.facts) parts
+
+-- whole parts, and the header of one more where it has come, have one size
+abbrev pub HaveOneSize : List Given → Option Header → Type 0
+HaveOneSize parts None = (ids : IdSize) × AllByRecursion (λ part. part.header.ids ≡ ids) parts
+HaveOneSize parts (Some header) = AllByRecursion (λ part. part.header.ids ≡ header.ids) parts
+
+-- behind whole parts, and the header and facts of one more, an item states a fact that is new among all of theirs, and
+-- they have one size
+abbrev pub IsNewBehind : List Given → Option Header → List FactValue → List FactValue → Type 0
+IsNewBehind parts header before [] = ⊥
+IsNewBehind parts header before (fact ∷ rest) = HaveOneSize parts header × IsNewAmong (all_given parts ++ before) fact
 
 -- what the answer says of the parts that were given: the heap of exactly their facts, or the least conflict
 abbrev pub Tells : List Given → Result HeapValue Refusal → Type 0

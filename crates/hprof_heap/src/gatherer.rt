@@ -132,7 +132,7 @@ fn key_of_fact(fact: &Fact<'_>) -> Option<Key>
 impl Sink for Gatherer {
     ghost use Rattle.std.specs.Prelude.{◌≡◌, false};
     ghost use Rattle.hprof_stream.specs.declared.sink.SinkFault.TheVariants.{OutOfMemory};
-    ghost use Rattle.hprof_heap.specs.Gathering.{gathered, Begins, Takes};
+    ghost use Rattle.hprof_heap.specs.Gathering.{gathered, Begins, Takes, LacksRow};
 
     ghost begins = { λ old header new. Begins (gathered old) header (gathered new) };
 
@@ -142,8 +142,8 @@ impl Sink for Gatherer {
 
     ghost failed = { λ gatherer. (gathered gatherer).failed };
 
-    // A gatherer that has not failed answers no fault but want of memory.
-    ghost refuses = { λ gatherer fault. (gathered gatherer).failed ≡ false → fault ≡ OutOfMemory };
+    // A gatherer that has not failed answers no fault but want of memory, and that only for a fact that is new to its heap.
+    ghost refuses = { λ gatherer given fault. (gathered gatherer).failed ≡ false → (fault ≡ OutOfMemory) × LacksRow (gathered gatherer) given };
 
     fn begin_part(&mut self, header: Header) -> Result<(), SinkFault> {
         if self.failed {

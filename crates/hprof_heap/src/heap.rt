@@ -61,7 +61,7 @@ pub struct Heap {
 
 impl Heap {
     ghost use Rattle.hprof_heap.specs.Heap.{heap_of, facts_of_table};
-    ghost use Rattle.hprof_heap.specs.Gathering.{StatesInto};
+    ghost use Rattle.hprof_heap.specs.Gathering.{StatesInto, IsNewAmong};
     ghost use Rattle.hprof_heap.specs.TableRows.{AreReadable, facts_in_rows};
     ghost use Rattle.hprof_heap.specs.ClassName.{NamesClass};
     ghost use Rattle.hprof_heap.specs.FactsLeft.{facts_left, facts_ids};
@@ -100,6 +100,7 @@ impl Heap {
         requires { Fits (heap_of self.old).ids (Name id text.now) }
         ensures ok { IfOk result (λ stated. StatesInto (heap_of self.old) (Name id text.now) stated (heap_of self.new)) }
         ensures err { OnErr result (heap_of self.new ≡ heap_of self.old) }
+        ensures absent { OnErr result (IsNewAmong (heap_of self.old).facts (Name id text.now)) }
     {
         self.names.state_from(id, NameText { text })
     }
@@ -109,6 +110,7 @@ impl Heap {
         requires { Fits (heap_of self.old).ids (Load serial row.class row.trace row.name) }
         ensures ok { IfOk result (λ stated. StatesInto (heap_of self.old) (Load serial row.class row.trace row.name) stated (heap_of self.new)) }
         ensures err { OnErr result (heap_of self.new ≡ heap_of self.old) }
+        ensures absent { OnErr result (IsNewAmong (heap_of self.old).facts (Load serial row.class row.trace row.name)) }
     {
         self.loads.state(serial as u64, row)
     }
@@ -118,6 +120,7 @@ impl Heap {
         requires { Fits (heap_of self.old).ids (Unload serial) }
         ensures ok { IfOk result (λ stated. StatesInto (heap_of self.old) (Unload serial) stated (heap_of self.new)) }
         ensures err { OnErr result (heap_of self.new ≡ heap_of self.old) }
+        ensures absent { OnErr result (IsNewAmong (heap_of self.old).facts (Unload serial)) }
     {
         self.unloads.state(serial as u64, KeyRow)
     }
@@ -128,6 +131,7 @@ impl Heap {
         ensures ok { IfOk result (λ stated. StatesInto (heap_of self.old)
             (Frame id row.method row.signature row.source row.class_serial row.line) stated (heap_of self.new)) }
         ensures err { OnErr result (heap_of self.new ≡ heap_of self.old) }
+        ensures absent { OnErr result (IsNewAmong (heap_of self.old).facts (Frame id row.method row.signature row.source row.class_serial row.line)) }
     {
         self.frames.state(id, row)
     }
@@ -143,6 +147,7 @@ impl Heap {
         requires size { identifiers_size frames ≡ (heap_of self.old).ids }
         ensures ok { IfOk result (λ stated. StatesInto (heap_of self.old) (Trace serial thread (identifiers_of frames.entry)) stated (heap_of self.new)) }
         ensures err { OnErr result (heap_of self.new ≡ heap_of self.old) }
+        ensures absent { OnErr result (IsNewAmong (heap_of self.old).facts (Trace serial thread (identifiers_of frames.entry))) }
     {
         self.traces
             .state_from(serial as u64, TraceFrames { thread, frames })
@@ -154,6 +159,7 @@ impl Heap {
         ensures ok { IfOk result (λ stated. StatesInto (heap_of self.old)
             (Start thread row.object row.trace row.name row.group row.parent_group) stated (heap_of self.new)) }
         ensures err { OnErr result (heap_of self.new ≡ heap_of self.old) }
+        ensures absent { OnErr result (IsNewAmong (heap_of self.old).facts (Start thread row.object row.trace row.name row.group row.parent_group)) }
     {
         self.starts.state(thread as u64, row)
     }
@@ -163,6 +169,7 @@ impl Heap {
         requires { Fits (heap_of self.old).ids (End thread) }
         ensures ok { IfOk result (λ stated. StatesInto (heap_of self.old) (End thread) stated (heap_of self.new)) }
         ensures err { OnErr result (heap_of self.new ≡ heap_of self.old) }
+        ensures absent { OnErr result (IsNewAmong (heap_of self.old).facts (End thread)) }
     {
         self.ends.state(thread as u64, KeyRow)
     }
@@ -172,6 +179,7 @@ impl Heap {
         requires { Fits (heap_of self.old).ids (Rooted root) }
         ensures ok { IfOk result (λ stated. StatesInto (heap_of self.old) (Rooted root) stated (heap_of self.new)) }
         ensures err { OnErr result (heap_of self.new ≡ heap_of self.old) }
+        ensures absent { OnErr result (IsNewAmong (heap_of self.old).facts (Rooted root)) }
     {
         self.roots.state(root)
     }
@@ -183,6 +191,7 @@ impl Heap {
         requires spelled { bytes.now ≡ dump_bytes (heap_of self.old).ids (value_of fact.now) }
         ensures ok { IfOk result (λ stated. StatesInto (heap_of self.old) (value_of fact.now) stated (heap_of self.new)) }
         ensures err { OnErr result (heap_of self.new ≡ heap_of self.old) }
+        ensures absent { OnErr result (IsNewAmong (heap_of self.old).facts (value_of fact.now)) }
     {
         self.classes.state_from(id, SpelledBytes { bytes })
     }
@@ -194,6 +203,7 @@ impl Heap {
         requires spelled { bytes.now ≡ dump_bytes (heap_of self.old).ids (value_of fact.now) }
         ensures ok { IfOk result (λ stated. StatesInto (heap_of self.old) (value_of fact.now) stated (heap_of self.new)) }
         ensures err { OnErr result (heap_of self.new ≡ heap_of self.old) }
+        ensures absent { OnErr result (IsNewAmong (heap_of self.old).facts (value_of fact.now)) }
     {
         self.objects.state_from(id, SpelledBytes { bytes })
     }
@@ -206,6 +216,7 @@ impl Heap {
         requires spelled { bytes.now ≡ dump_bytes (heap_of self.old).ids (value_of fact.now) }
         ensures ok { IfOk result (λ stated. StatesInto (heap_of self.old) (value_of fact.now) stated (heap_of self.new)) }
         ensures err { OnErr result (heap_of self.new ≡ heap_of self.old) }
+        ensures absent { OnErr result (IsNewAmong (heap_of self.old).facts (value_of fact.now)) }
     {
         match *fact {
             Fact::Name { id, text } => self.state_name(id, text),

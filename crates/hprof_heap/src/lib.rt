@@ -38,6 +38,3 @@ pub use spelled_row::SpelledRow;
 pub use standing::{Refusal, Standing};
 pub use table::Table;
 pub use trace_row::TraceRow;
-
-#[cfg(test)]
-mod tests;

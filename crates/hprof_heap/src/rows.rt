@@ -30,6 +30,7 @@ impl<'a, V> Iterator for Rows<'a, V> {
 
     ghost remaining = { item_count rows_left };
 
+    #[inline(always)]
     fn next(&mut self) -> Option<(u64, &'a V)> {
         self.entries.next()
     }

@@ -173,6 +173,7 @@ impl<'a, V> Entries<'a, V> {
     ghost use Rattle.std.specs.Iterator.{YieldsFirstBy};
 
     /// Takes the first row of the run.
+    #[inline(always)]
     fn next_of_run(&mut self) -> Option<(u64, &'a V)>
         ensures run { YieldsFirstBy (λ row. (row.0, row.1.now)) (λ entries. entries.run.now) self.old result self.new }
         ensures first { self.new.first ≡ self.old.first }
@@ -194,6 +195,7 @@ impl<'a, V> Iterator for Entries<'a, V> {
 
     ghost remaining = { item_count entries_left };
 
+    #[inline(always)]
     fn next(&mut self) -> Option<(u64, &'a V)> {
         let Some((key, row)) = self.first else {
             return self.next_of_run();

@@ -43,6 +43,7 @@ pub(crate) enum TableRows<'a> {
 }
 
 /// The fact of the first row. The rows behind it are left.
+#[inline(always)]
 pub(crate) fn next_fact<'a>(rows: &mut TableRows<'a>, ids: IdSize) -> Option<Fact<'a>>
     requires { AreReadable ids rows.old }
     ensures first { YieldsFirstBy value_of (facts_in_rows ids) rows.old result rows.new }
@@ -64,6 +65,7 @@ pub(crate) fn next_fact<'a>(rows: &mut TableRows<'a>, ids: IdSize) -> Option<Fac
 }
 
 /// The first name.
+#[inline(always)]
 fn next_name<'a>(rows: &mut Rows<'a, NameRow>) -> Option<Fact<'a>>
     ensures first { YieldsFirstBy value_of (λ rows. name_facts (rows_left rows)) rows.old result rows.new }
     ensures lists { (ids : IdSize) → IfSome result (ListsHave ids) }

@@ -61,8 +61,10 @@ class_count ids bounds bytes = reached bounds 1 (class_widths ids) >>= λ front.
 
 -- what the walk comes to next stops it so: an entry, the count of the next list, or the fields of a class with the
 -- count of its constants; what else there may be at the front is tested at once
+abbrev pub StopsIn : IdSize → Bounds → List ℕ → Walk → Stop → Type 0
+StopsIn ids bounds bytes Front stop = tag_at bounds bytes ≡ Ok tags.ClassDump → class_count ids bounds bytes ≡ Err stop
+StopsIn ids bounds bytes (Entries kind zero at) stop = (kind ≢ kinds.Field) × (count_at bounds bytes at ≡ Err stop)
+StopsIn ids bounds bytes (Entries kind (suc left) at) stop = entry_end ids kind bounds bytes at ≡ Err stop
+
 abbrev pub StopsAt : IdSize → Item → Walk → Stop → Type 0
-StopsAt ids item Front stop =
-    tag_at (bounds_of item) item.bytes.now ≡ Ok tags.ClassDump → class_count ids (bounds_of item) item.bytes.now ≡ Err stop
-StopsAt ids item (Entries kind zero at) stop = (kind ≢ kinds.Field) × (count_at (bounds_of item) item.bytes.now at ≡ Err stop)
-StopsAt ids item (Entries kind (suc left) at) stop = entry_end ids kind (bounds_of item) item.bytes.now at ≡ Err stop
+StopsAt ids item walk stop = StopsIn ids (bounds_of item) item.bytes.now walk stop

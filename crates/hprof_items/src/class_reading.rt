@@ -1,6 +1,6 @@
 //! Reading a class behind its tag.
 
-ghost use Rattle.std.specs.Prelude.{◌≡◌, ◌≤◌, length, sum, Ok, Err, IfOk, MatchResult};
+ghost use Rattle.std.specs.Prelude.{◌≡◌, ◌≤◌, length, sum, Ok, Err, OnOk, MatchResult};
 ghost use Rattle.hprof_values.specs.Fields.{fields_in};
 ghost use Rattle.hprof_values.specs.Item.{bounds_of};
 ghost use Rattle.hprof_values.specs.declared.ids.IdSize.{IdSize};
@@ -80,13 +80,17 @@ fn class_of<'a>(
     }
 }
 
-/// Reads a class.
+/// Reads a class, and puts it in the place of the fact.
 #[tactic(auto, unfolding(crate::specs::ClassDump::class_at))]
-pub(crate) fn read_class<'a>(item: &Item<'a>, ids: IdSize) -> Result<(Fact<'a>, usize), Stop>
+pub(crate) fn read_class<'a>(
+    item: &Item<'a>,
+    ids: IdSize,
+    fact: &mut Fact<'a>,
+) -> Result<usize, Stop>
     ensures fact { MatchResult result
-        (λ read. class_at ids (bounds_of item.now) item.now.bytes.now ≡ Ok (value_of read.0, read.1))
+        (λ end. class_at ids (bounds_of item.now) item.now.bytes.now ≡ Ok (value_of fact.new, end))
         (λ stop. class_at ids (bounds_of item.now) item.now.bytes.now ≡ Err stop) }
-    ensures lists { IfOk result (λ read. ListsHave ids read.0) }
+    ensures lists { OnOk result (ListsHave ids fact.new) }
 {
     let id = ids.width();
     let first = item.end_of(1, &[id, 4, id, id, id, id, id, id, 4])?;
@@ -95,11 +99,11 @@ pub(crate) fn read_class<'a>(item: &Item<'a>, ids: IdSize) -> Result<(Fact<'a>, 
     let constants = list_at(item, first, EntryKind::Constant, ids)?;
     let statics = list_at(item, constants.end, EntryKind::Static, ids)?;
     let fields = list_at(item, statics.end, EntryKind::Field, ids)?;
-    let fact = class_of(
+    *fact = class_of(
         front,
         ConstantList::of_span(constants, ids),
         StaticList::of_span(statics, ids),
         FieldList::of_span(fields, ids),
     );
-    Ok((fact, fields.end))
+    Ok(fields.end)
 }

@@ -15,6 +15,7 @@ use hprof_values::{IdSize, Number, numbers_len, put_numbers};
 const FRONT_LEN: usize = 80;
 
 /// Writes the fields of a head and those behind it in one piece, and then the bytes behind them.
+#[inline(always)]
 pub(crate) fn write_front<W: Target>(
     head: &[Number],
     fields: &[Number],

@@ -45,13 +45,10 @@ pub use hprof_values::{
     Basic, Constant, ConstantList, Constants, Entry, EntryKind, Field, FieldList, Fields, IdList,
     IdSize, Ids, Reason, RecordTag, Root, Static, StaticList, Statics, Stop, SubTag, Value,
 };
-pub use record_reading::read_body;
+pub use record_reading::{read_body, read_body_into};
 pub use source::Source;
 pub use step::Step;
-pub use sub_reading::read_sub;
+pub use sub_reading::{read_sub, read_sub_into};
 pub use target::Target;
 pub use walk::{Walk, go_on};
 pub use writing::{write_head, write_header};
-
-#[cfg(test)]
-mod tests;

@@ -1,6 +1,6 @@
 //! Reading an instance or an array behind its tag. Its bytes, or its elements, are not looked at.
 
-ghost use Rattle.std.specs.Prelude.{◌≡◌, ◌≤◌, length, sum, Ok, Err, IfOk, MatchResult};
+ghost use Rattle.std.specs.Prelude.{◌≡◌, ◌≤◌, length, sum, Ok, Err, OnOk, MatchResult};
 ghost use Rattle.hprof_values.specs.Basic.{basic_of_code};
 ghost use Rattle.hprof_values.specs.Fields.{fields_in};
 ghost use Rattle.hprof_values.specs.Item.{bounds_of};
@@ -23,6 +23,7 @@ struct InstanceFront {
 }
 
 /// The fields of an instance at the front.
+#[inline(always)]
 fn instance_fields(bytes: &[u8], ids: IdSize) -> InstanceFront
     requires { sum (instance_widths ids) ≤ length bytes.now }
     ensures { instance_front result ≡ fields_in (instance_widths ids) bytes.now }
@@ -39,13 +40,17 @@ fn instance_fields(bytes: &[u8], ids: IdSize) -> InstanceFront
     }
 }
 
-/// Reads an instance.
+/// Reads an instance, and puts it in the place of the fact.
 #[tactic(auto, unfolding(crate::specs::SubRecord::instance_at))]
-pub(crate) fn read_instance<'a>(item: &Item<'a>, ids: IdSize) -> Result<(Fact<'a>, usize), Stop>
+pub(crate) fn read_instance<'a>(
+    item: &Item<'a>,
+    ids: IdSize,
+    fact: &mut Fact<'a>,
+) -> Result<usize, Stop>
     ensures fact { MatchResult result
-        (λ read. instance_at ids (bounds_of item.now) item.now.bytes.now ≡ Ok (value_of read.0, read.1))
+        (λ end. instance_at ids (bounds_of item.now) item.now.bytes.now ≡ Ok (value_of fact.new, end))
         (λ stop. instance_at ids (bounds_of item.now) item.now.bytes.now ≡ Err stop) }
-    ensures lists { IfOk result (λ read. ListsHave ids read.0) }
+    ensures lists { OnOk result (ListsHave ids fact.new) }
 {
     let first = item.end_of(1, &[ids.width(), 4, ids.width(), 4])?;
     let (_, fields) = item.bytes.split_at(1);
@@ -53,13 +58,13 @@ pub(crate) fn read_instance<'a>(item: &Item<'a>, ids: IdSize) -> Result<(Fact<'a
     let end = item.end_of(first, &[front.len as usize])?;
     let (_, rest) = item.bytes.split_at(first);
     let (bytes, _) = rest.split_at(front.len as usize);
-    let fact = Fact::Instance {
+    *fact = Fact::Instance {
         id: front.id,
         trace: front.trace,
         class: front.class,
         bytes,
     };
-    Ok((fact, end))
+    Ok(end)
 }
 
 /// The fields of an array of objects in front of its elements.
@@ -73,6 +78,7 @@ struct ObjArrayFront {
 }
 
 /// The fields of an array of objects at the front.
+#[inline(always)]
 fn obj_array_fields(bytes: &[u8], ids: IdSize) -> ObjArrayFront
     requires { sum (obj_array_widths ids) ≤ length bytes.now }
     ensures { obj_array_front result ≡ fields_in (obj_array_widths ids) bytes.now }
@@ -88,13 +94,17 @@ fn obj_array_fields(bytes: &[u8], ids: IdSize) -> ObjArrayFront
     }
 }
 
-/// Reads an array of objects.
+/// Reads an array of objects, and puts it in the place of the fact.
 #[tactic(auto, unfolding(crate::specs::SubRecord::obj_array_at))]
-pub(crate) fn read_obj_array<'a>(item: &Item<'a>, ids: IdSize) -> Result<(Fact<'a>, usize), Stop>
+pub(crate) fn read_obj_array<'a>(
+    item: &Item<'a>,
+    ids: IdSize,
+    fact: &mut Fact<'a>,
+) -> Result<usize, Stop>
     ensures fact { MatchResult result
-        (λ read. obj_array_at ids (bounds_of item.now) item.now.bytes.now ≡ Ok (value_of read.0, read.1))
+        (λ end. obj_array_at ids (bounds_of item.now) item.now.bytes.now ≡ Ok (value_of fact.new, end))
         (λ stop. obj_array_at ids (bounds_of item.now) item.now.bytes.now ≡ Err stop) }
-    ensures lists { IfOk result (λ read. ListsHave ids read.0) }
+    ensures lists { OnOk result (ListsHave ids fact.new) }
 {
     let first = item.end_of(1, &[ids.width(), 4, 4, ids.width()])?;
     let (_, fields) = item.bytes.split_at(1);
@@ -103,13 +113,13 @@ pub(crate) fn read_obj_array<'a>(item: &Item<'a>, ids: IdSize) -> Result<(Fact<'
     let end = item.end_of(first, &[len])?;
     let (_, rest) = item.bytes.split_at(first);
     let (bytes, _) = rest.split_at(len);
-    let fact = Fact::ObjArray {
+    *fact = Fact::ObjArray {
         id: front.id,
         trace: front.trace,
         class: front.class,
         elements: IdList::of_whole(bytes, ids),
     };
-    Ok((fact, end))
+    Ok(end)
 }
 
 /// The fields of an array of numbers or truth values in front of its elements.
@@ -124,6 +134,7 @@ struct PrimArrayFront {
 }
 
 /// The fields of an array of numbers or truth values at the front.
+#[inline(always)]
 fn prim_array_fields(bytes: &[u8], ids: IdSize) -> PrimArrayFront
     requires { sum (prim_array_widths ids) ≤ length bytes.now }
     ensures { prim_array_front result ≡ fields_in (prim_array_widths ids) bytes.now }
@@ -149,13 +160,17 @@ fn element_type(code: u8) -> Result<Basic, Stop>
     }
 }
 
-/// Reads an array of numbers or truth values.
+/// Reads an array of numbers or truth values, and puts it in the place of the fact.
 #[tactic(auto, unfolding(crate::specs::SubRecord::prim_array_at))]
-pub(crate) fn read_prim_array<'a>(item: &Item<'a>, ids: IdSize) -> Result<(Fact<'a>, usize), Stop>
+pub(crate) fn read_prim_array<'a>(
+    item: &Item<'a>,
+    ids: IdSize,
+    fact: &mut Fact<'a>,
+) -> Result<usize, Stop>
     ensures fact { MatchResult result
-        (λ read. prim_array_at ids (bounds_of item.now) item.now.bytes.now ≡ Ok (value_of read.0, read.1))
+        (λ end. prim_array_at ids (bounds_of item.now) item.now.bytes.now ≡ Ok (value_of fact.new, end))
         (λ stop. prim_array_at ids (bounds_of item.now) item.now.bytes.now ≡ Err stop) }
-    ensures lists { IfOk result (λ read. ListsHave ids read.0) }
+    ensures lists { OnOk result (ListsHave ids fact.new) }
 {
     let first = item.end_of(1, &[ids.width(), 4, 4, 1])?;
     let (_, fields) = item.bytes.split_at(1);
@@ -165,11 +180,11 @@ pub(crate) fn read_prim_array<'a>(item: &Item<'a>, ids: IdSize) -> Result<(Fact<
     let end = item.end_of(first, &[len])?;
     let (_, rest) = item.bytes.split_at(first);
     let (bytes, _) = rest.split_at(len);
-    let fact = Fact::PrimArray {
+    *fact = Fact::PrimArray {
         id: front.id,
         trace: front.trace,
         elem,
         bytes,
     };
-    Ok((fact, end))
+    Ok(end)
 }

@@ -1,6 +1,6 @@
 //! Reading the body of a record that states one fact.
 
-ghost use Rattle.std.specs.Prelude.{◌≡◌, ◌≤◌, length, sum, true, Some, Ok, Err, IfOk, IsOkAnd, MatchResult};
+ghost use Rattle.std.specs.Prelude.{◌≡◌, ◌≤◌, length, sum, true, Some, Ok, Err, IfOk, OnOk, IsOkAnd, MatchResult};
 ghost use Rattle.hprof_values.specs.declared.record_tag.RecordTag.{RecordTag};
 ghost use Rattle.hprof_values.specs.RecordTag.{record_fields, record_of_code};
 ghost use Rattle.hprof_items.specs.Head.{kind_of};
@@ -103,31 +103,37 @@ fn read_start<'a>(body: &'a [u8], ids: IdSize) -> Fact<'a>
 
 /// The fact of `read_record`.
 #[tactic(auto, unfolding(crate::specs::RecordBody::record_at))]
-fn fact_in<'a>(tag: RecordTag, body: &'a [u8], ids: IdSize) -> Result<Fact<'a>, Reason>
+fn fact_in<'a>(
+    tag: RecordTag,
+    body: &'a [u8],
+    ids: IdSize,
+    fact: &mut Fact<'a>,
+) -> Result<(), Reason>
     requires { is_legal_body ids tag (length body.now) ≡ true }
     ensures exact { MatchResult result
-        (λ fact. record_at ids tag body.now ≡ Ok (value_of fact))
+        (λ _. record_at ids tag body.now ≡ Ok (value_of fact.new))
         (λ reason. record_at ids tag body.now ≡ Err reason) }
-    ensures lists { IfOk result (λ fact. ListsHave ids fact) }
+    ensures lists { OnOk result (ListsHave ids fact.new) }
 {
-    match tag {
+    *fact = match tag {
         RecordTag::Utf8 => {
             let (id, text) = split_id(body, ids);
-            Ok(Fact::Name { id, text })
+            Fact::Name { id, text }
         }
-        RecordTag::LoadClass => Ok(read_load(body, ids)),
+        RecordTag::LoadClass => read_load(body, ids),
         RecordTag::UnloadClass => {
             let (serial, _) = split_u32(body);
-            Ok(Fact::Unload { serial })
+            Fact::Unload { serial }
         }
-        RecordTag::Frame => Ok(read_frame(body, ids)),
-        RecordTag::Trace => read_trace(body, ids),
-        RecordTag::StartThread => Ok(read_start(body, ids)),
+        RecordTag::Frame => read_frame(body, ids),
+        RecordTag::Trace => read_trace(body, ids)?,
+        RecordTag::StartThread => read_start(body, ids),
         RecordTag::EndThread => {
             let (thread, _) = split_u32(body);
-            Ok(Fact::End { thread })
+            Fact::End { thread }
         }
-    }
+    };
+    Ok(())
 }
 
 /// Reads the body of a record that states one fact, of a length that it may have.
@@ -135,22 +141,53 @@ pub(crate) fn read_record<'a>(
     tag: RecordTag,
     body: &'a [u8],
     ids: IdSize,
-) -> Result<Fact<'a>, Reason>
+    fact: &mut Fact<'a>,
+) -> Result<(), Reason>
     requires { is_legal_body ids tag (length body.now) ≡ true }
     // Which fact it is, or which fault.
     ensures exact { MatchResult result
-        (λ fact. record_at ids tag body.now ≡ Ok (value_of fact))
+        (λ _. record_at ids tag body.now ≡ Ok (value_of fact.new))
         (λ reason. record_at ids tag body.now ≡ Err reason) }
     // What is read is spelled so.
-    ensures found { IfOk result (λ fact. BodyFits ids tag (value_of fact)
-        × (body.now ≡ record_body ids tag (value_of fact))) }
+    ensures found { OnOk result (BodyFits ids tag (value_of fact.new)
+        × (body.now ≡ record_body ids tag (value_of fact.new))) }
     // What is spelled so is read.
-    ensures only { (fact : FactValue) → BodyFits ids tag fact
-        → body.now ≡ record_body ids tag fact → IsOkAnd result (λ read. value_of read ≡ fact) }
+    ensures only { (spelled : FactValue) → BodyFits ids tag spelled
+        → body.now ≡ record_body ids tag spelled → IsOkAnd result (λ _. value_of fact.new ≡ spelled) }
     // Its lists have identifiers of that size.
-    ensures lists { IfOk result (λ fact. ListsHave ids fact) }
+    ensures lists { OnOk result (ListsHave ids fact.new) }
 {
-    fact_in(tag, body, ids)
+    fact_in(tag, body, ids, fact)
+}
+
+/// Reads the body of a record with a fact, as [`read_body`] does, and puts what it states in the place of the fact. Where
+/// it answers a fault, what stands in that place is of no account.
+pub fn read_body_into<'a>(
+    head: &Head,
+    body: &'a [u8],
+    ids: IdSize,
+    fact: &mut Fact<'a>,
+) -> Result<(), Reason>
+    requires whole { IsRightHead ids longest_body head.now }
+    requires kind { kind_of head.now.tag ≡ HeadKind.FactRecord }
+    requires length { length body.now ≡ head.now.length }
+    // Which fact it is, or which fault.
+    ensures exact { MatchResult result
+        (λ _. body_at ids head.now.tag body.now ≡ Ok (value_of fact.new))
+        (λ reason. body_at ids head.now.tag body.now ≡ Err reason) }
+    // What is read is spelled so, and has lists of that size.
+    ensures found { OnOk result ((known : RecordTag) × (record_of_code head.now.tag ≡ Some known)
+        × BodyFits ids known (value_of fact.new) × (body.now ≡ record_body ids known (value_of fact.new))) }
+    ensures lists { OnOk result (ListsHave ids fact.new) }
+    // What is spelled so is read.
+    ensures only { (spelled : FactValue) (known : RecordTag) → record_of_code head.now.tag ≡ Some known → BodyFits ids known spelled
+        → body.now ≡ record_body ids known spelled → IsOkAnd result (λ _. value_of fact.new ≡ spelled) }
+{
+    let Some(known) = RecordTag::from_code(head.tag) else {
+        // The head is that of a record with a fact.
+        unreachable!()
+    };
+    read_record(known, body, ids, fact)
 }
 
 /// Reads the body of a record with a fact, behind a head that was read. The one fault is that a trace has not as many
@@ -171,9 +208,7 @@ pub fn read_body<'a>(head: &Head, body: &'a [u8], ids: IdSize) -> Result<Fact<'a
     ensures only { (fact : FactValue) (known : RecordTag) → record_of_code head.now.tag ≡ Some known → BodyFits ids known fact
         → body.now ≡ record_body ids known fact → IsOkAnd result (λ read. value_of read ≡ fact) }
 {
-    let Some(known) = RecordTag::from_code(head.tag) else {
-        // The head is that of a record with a fact.
-        unreachable!()
-    };
-    read_record(known, body, ids)
+    let mut fact = Fact::End { thread: 0 };
+    read_body_into(head, body, ids, &mut fact)?;
+    Ok(fact)
 }

@@ -19,6 +19,7 @@ use crate::target::Target;
 use hprof_values::{IdSize, Number, RecordTag, numbers_len};
 
 /// Writes a record with time 0, whose body is some fields and the bytes behind them.
+#[inline(always)]
 fn write_record<W: Target>(
     tag: RecordTag,
     fields: &[Number],

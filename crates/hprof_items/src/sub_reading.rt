@@ -1,6 +1,6 @@
 //! Reading a sub-record at the front of some bytes.
 
-ghost use Rattle.std.specs.Prelude.{◌≡◌, ℕ, ◌≤◌, ◌++◌, List, length, Ok, Err, IfOk, MatchResult};
+ghost use Rattle.std.specs.Prelude.{◌≡◌, ℕ, ◌≤◌, ◌++◌, List, length, Ok, Err, IfOk, OnOk, IsOkAnd, MatchResult};
 ghost use Rattle.hprof_values.specs.Item.{bounds_of};
 ghost use Rattle.hprof_items.specs.FactValue.{FactValue, value_of, ListsHave};
 ghost use Rattle.hprof_items.specs.SubRecord.{dump_at, tag_at, sub_at, dump_bytes, DumpFits};
@@ -13,21 +13,28 @@ use crate::root_reading::read_root;
 use crate::step::Step;
 use hprof_values::{IdSize, Item, Reason, Stop, SubTag};
 
-/// Reads a sub-record behind its tag.
-fn read_behind<'a>(item: &Item<'a>, tag: SubTag, ids: IdSize) -> Result<(Fact<'a>, usize), Stop>
+/// Reads a sub-record behind its tag, and puts what it states in the place of the fact.
+#[inline(always)]
+fn read_behind<'a>(
+    item: &Item<'a>,
+    tag: SubTag,
+    ids: IdSize,
+    fact: &mut Fact<'a>,
+) -> Result<usize, Stop>
     ensures fact { MatchResult result
-        (λ read. dump_at ids tag (bounds_of item.now) item.now.bytes.now ≡ Ok (value_of read.0, read.1))
+        (λ end. dump_at ids tag (bounds_of item.now) item.now.bytes.now ≡ Ok (value_of fact.new, end))
         (λ stop. dump_at ids tag (bounds_of item.now) item.now.bytes.now ≡ Err stop) }
-    ensures lists { IfOk result (λ read. ListsHave ids read.0) }
+    ensures lists { OnOk result (ListsHave ids fact.new) }
 {
     match tag {
-        SubTag::ClassDump => read_class(item, ids),
-        SubTag::InstanceDump => read_instance(item, ids),
-        SubTag::ObjArrayDump => read_obj_array(item, ids),
-        SubTag::PrimArrayDump => read_prim_array(item, ids),
+        SubTag::ClassDump => read_class(item, ids, fact),
+        SubTag::InstanceDump => read_instance(item, ids, fact),
+        SubTag::ObjArrayDump => read_obj_array(item, ids, fact),
+        SubTag::PrimArrayDump => read_prim_array(item, ids, fact),
         _ => {
             let (root, end) = read_root(item, tag, ids)?;
-            Ok((Fact::Root(root), end))
+            *fact = Fact::Root(root);
+            Ok(end)
         }
     }
 }
@@ -46,16 +53,47 @@ pub(crate) fn read_tag(item: &Item<'_>) -> Result<SubTag, Stop>
     }
 }
 
-/// Reads the sub-record at the front.
+/// Reads the sub-record at the front, and puts what it states in the place of the fact.
 #[tactic(auto, using(crate::proofs::Dumps::sub_tagged, crate::proofs::Dumps::sub_stops))]
-fn read_item<'a>(item: &Item<'a>, ids: IdSize) -> Result<(Fact<'a>, usize), Stop>
+#[inline(always)]
+fn read_item<'a>(item: &Item<'a>, ids: IdSize, fact: &mut Fact<'a>) -> Result<usize, Stop>
     ensures fact { MatchResult result
-        (λ read. sub_at ids (bounds_of item.now) item.now.bytes.now ≡ Ok (value_of read.0, read.1))
+        (λ end. sub_at ids (bounds_of item.now) item.now.bytes.now ≡ Ok (value_of fact.new, end))
         (λ stop. sub_at ids (bounds_of item.now) item.now.bytes.now ≡ Err stop) }
-    ensures lists { IfOk result (λ read. ListsHave ids read.0) }
+    ensures lists { OnOk result (ListsHave ids fact.new) }
 {
     let tag = read_tag(item)?;
-    read_behind(item, tag, ids)
+    read_behind(item, tag, ids, fact)
+}
+
+/// Reads the sub-record at the front of what a record has left, `room` bytes, no longer than `longest`, as [`read_sub`]
+/// does, and puts what it states in the place of the fact. It answers where the sub-record ends. Where it stops, what
+/// stands in that place is of no account.
+pub fn read_sub_into<'a>(
+    bytes: &'a [u8],
+    room: u32,
+    longest: u32,
+    ids: IdSize,
+    fact: &mut Fact<'a>,
+) -> Result<usize, Stop>
+    requires { 1 ≤ room }
+    // Which fact it is and where it ends, or what stopped it.
+    ensures exact { MatchResult result
+        (λ end. sub_at ids (bounds_within room longest bytes.now) bytes.now ≡ Ok (value_of fact.new, end))
+        (λ stop. sub_at ids (bounds_within room longest bytes.now) bytes.now ≡ Err stop) }
+    // What is read is spelled so, and has lists of that size.
+    ensures found { IfOk result (λ end. IsSubRead ids room longest bytes.now fact.new end) }
+    // What is spelled so is read, whatever follows.
+    ensures only { (spelled : FactValue) (rest : List ℕ) → DumpFits ids spelled → bytes.now ≡ dump_bytes ids spelled ++ rest
+        → length (dump_bytes ids spelled) ≤ room → length (dump_bytes ids spelled) ≤ longest
+        → IsOkAnd result (λ end. (value_of fact.new ≡ spelled) × (end ≡ length (dump_bytes ids spelled))) }
+{
+    let item = Item {
+        bytes,
+        room: room as usize,
+        longest: longest as usize,
+    };
+    read_item(&item, ids, fact)
 }
 
 /// Reads the sub-record at the front of what a record has left, `room` bytes, no longer than `longest`: field by field
@@ -72,13 +110,9 @@ pub fn read_sub(bytes: &[u8], room: u32, longest: u32, ids: IdSize) -> Step<Fact
         → length (dump_bytes ids fact) ≤ room → length (dump_bytes ids fact) ≤ longest
         → IsWholeOf result (λ read n. (value_of read ≡ fact) × (n ≡ length (dump_bytes ids fact))) }
 {
-    let item = Item {
-        bytes,
-        room: room as usize,
-        longest: longest as usize,
-    };
-    match read_item(&item, ids) {
-        Ok((fact, end)) => Step::Whole(fact, end),
+    let mut fact = Fact::End { thread: 0 };
+    match read_sub_into(bytes, room, longest, ids, &mut fact) {
+        Ok(end) => Step::Whole(fact, end),
         Err(Stop::Short) => Step::Short,
         Err(Stop::TooLong) => Step::TooLong,
         Err(Stop::Fault(reason)) => Step::Fault(reason),

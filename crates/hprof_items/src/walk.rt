@@ -6,6 +6,7 @@ ghost use Rattle.hprof_values.specs.Item.{bounds_of};
 ghost use Rattle.hprof_items.specs.SubRecord.{dump_at};
 ghost use Rattle.hprof_items.specs.Walk.{end_of_read, walked, IsPlaced, FindsSame, StopsAt, next_kind, count_at, class_count};
 
+use crate::fact::Fact;
 use crate::object_reading::{read_instance, read_obj_array, read_prim_array};
 use crate::root_reading::read_root;
 use crate::sub_reading::read_tag;
@@ -124,13 +125,13 @@ fn plain_end(item: &Item<'_>, tag: SubTag, ids: IdSize) -> Result<usize, Stop>
     requires { tag ≢ SubTag.ClassDump }
     ensures { result ≡ end_of_read (dump_at ids tag (bounds_of item.now) item.now.bytes.now) }
 {
-    let end = match tag {
-        SubTag::InstanceDump => read_instance(item, ids)?.1,
-        SubTag::ObjArrayDump => read_obj_array(item, ids)?.1,
-        SubTag::PrimArrayDump => read_prim_array(item, ids)?.1,
-        _ => read_root(item, tag, ids)?.1,
-    };
-    Ok(end)
+    let mut fact = Fact::End { thread: 0 };
+    match tag {
+        SubTag::InstanceDump => read_instance(item, ids, &mut fact),
+        SubTag::ObjArrayDump => read_obj_array(item, ids, &mut fact),
+        SubTag::PrimArrayDump => read_prim_array(item, ids, &mut fact),
+        _ => Ok(read_root(item, tag, ids)?.1),
+    }
 }
 
 /// Walks from the front of a sub-record.

@@ -27,7 +27,7 @@ use Rattle.hprof_stream.specs.Progress.{start_of, place_of}
 use Rattle.hprof_stream.specs.Rest.{passing_by, passing_of, IsWalkOf, IsRest, passed_len, rest_len}
 use Rattle.hprof_stream.specs.Run.{Run, became}
 use Rattle.hprof_stream.specs.Reader.{header_of, has_failed, HasRead, IsWithinItem, RanOver, RanUpTo, IsFeedFault, Feeds}
-use Rattle.hprof_stream.specs.Walking.{Walks, Stops, Halts, ReadsOn}
+use Rattle.hprof_stream.specs.Walking.{Walks, Refuses, Stops, Halts, ReadsOn}
 use Rattle.hprof_stream.proofs.Faults.{Splits-then, fault_is_first, too_long_is_first, short_unsettled}
 use Rattle.hprof_stream.proofs.ItemLists.{AreItems-then, all_bytes-then, all_facts-then, records_begun-then, header_at_place, items_headers}
 use Rattle.hprof_stream.proofs.Refusals.{item_stays, item_stays_long}
@@ -335,7 +335,7 @@ IsWithinItem-read limits bytes facts reader read some = (
 
 -- ---- what was refused
 
-module _ {S : Type 0} (begins : S → Header → S → Type 0) (steps : S → FactValue → S → Type 0) (refuses : S → SinkFault → Type 0)
+module _ {S : Type 0} (begins : S → Header → S → Type 0) (steps : S → FactValue → S → Type 0) (refuses : S → List FactValue → SinkFault → Type 0)
     (failed : S → Bool) where
   -- what was refused stays so, whatever follows
   Stops-more : (progress : Progress) (bytes more : List ℕ) (old new : S) (fault : PartFault) (told : Option Header)
@@ -366,6 +366,7 @@ module _ {S : Type 0} (begins : S → Header → S → Type 0) (steps : S → Fa
       → whole ≡ take limits.max_bytes bytes → HasWalked begins steps limits whole facts before at rest old mid
       → ((header : Header) → before ≡ Some header → at.header ≡ Some header) → Stops refuses failed at rest mid fault told new
       → IsFeedFault begins steps refuses failed limits bytes facts before told old fault new
+  unfolding RanUpTo-walked
   IsFeedFault-stopped limits bytes whole facts before told at rest old mid new (faults.Malformed n reason) taken walked stays stop =
       let place : Place = place_of at in
       let test : item_at limits.max_item place rest ≡ Fault reason =
@@ -397,7 +398,9 @@ module _ {S : Type 0} (begins : S → Header → S → Type 0) (steps : S → Fa
       subst (λ (l : Limits). IsItem l.max_item (place_of at) stop.0 stop.1) walked.has_limits stop.3 in
       let ran = RanUpTo-walked begins steps limits whole facts before at rest old mid walked stop.0 stop.1 stop.2 told stays is stop.4
       stop.5 stop.6 in
-      (mid, subst (λ (b : List ℕ). RanUpTo begins steps limits.max_item b facts before told old mid) taken ran, stop.7)
+      let refused = subst (λ (b : List ℕ). (r : RanUpTo begins steps limits.max_item b facts before told old mid) × Refuses refuses failed mid r.whole.last.facts fault new)
+      taken (ran, stop.7) in
+      (mid, refused.0, refused.1)
   IsFeedFault-stopped limits bytes whole facts before told at rest old mid new faults.OutOfMemory taken walked stays stop = absurd stop
   IsFeedFault-stopped limits bytes whole facts before told at rest old mid new faults.Failed taken walked stays stop = absurd stop
   IsFeedFault-stopped limits bytes whole facts before told at rest old mid new faults.Read taken walked stays stop = absurd stop
@@ -494,7 +497,7 @@ CannotHold progress left result =
     × ((still : List ℕ) → (still ≡ []) ⊎ (left ≡ [])
     → 0 < length (held_of progress.limits.max_item (place_of progress) (still ++ left)))
 
-module _ {S : Type 0} (begins : S → Header → S → Type 0) (steps : S → FactValue → S → Type 0) (refuses : S → SinkFault → Type 0)
+module _ {S : Type 0} (begins : S → Header → S → Type 0) (steps : S → FactValue → S → Type 0) (refuses : S → List FactValue → SinkFault → Type 0)
     (failed : S → Bool) (limits : Limits) (bytes piece taken left : List ℕ) (facts : List FactValue) (from to : PartReader) (at : Progress)
     (rest : Rest) (old new : S) (read : HasRead limits bytes facts from) (within : length (bytes ++ piece) ≤ limits.max_bytes)
     (all : taken ≡ piece) (reads : ReadsOn begins steps refuses failed from.progress read.unfinished taken old (Ok left) at rest new) where

@@ -32,7 +32,7 @@ use Rattle.hprof_stream.specs.Part.{Stated}
 use Rattle.hprof_stream.specs.Item.{Place, Start, Between, Within, HasRoom, Found, found_sub, place_behind, is_skipped_kind, is_skipped_head, is_passed_over, held_of, item_at}
 use Rattle.hprof_stream.specs.Progress.{place_of, advanced, IsCounted}
 use Rattle.hprof_stream.specs.ItemStep.{Stands, place_after}
-use Rattle.hprof_stream.specs.declared.item.Item.TheVariants as items
+use Rattle.hprof_stream.specs.ItemValue as items
 use Rattle.hprof_items.specs.Spelling.{longest_body}
 use Rattle.hprof_stream.specs.Rest.{passing_by, passing_of, walk_at, IsWalked, IsWalkOf, IsRest, PassesOver, passed_len, rest_len}
 use Rattle.hprof_stream.specs.Walking.{Walks, StepsOver, Halts, GoesOn, IsHalted, ReadsOn, WalksAll, seen}
@@ -276,7 +276,7 @@ behind_item front more behind n long there =
     let split : drop n (front ++ more) ≡ drop k more = ap (λ (i : ℕ). drop i (front ++ more)) (omega (arith, long)) ∙ drop-append-add front more k in
     ap (λ (b : List ℕ). b ++ behind) split ∙ sym (drop-append-le k more behind (omega (arith, long, there, length-append front more)))
 
-module _ {S : Type 0} (begins : S → Header → S → Type 0) (steps : S → FactValue → S → Type 0) (refuses : S → SinkFault → Type 0) (failed : S → Bool) where
+module _ {S : Type 0} (begins : S → Header → S → Type 0) (steps : S → FactValue → S → Type 0) (refuses : S → List FactValue → SinkFault → Type 0) (failed : S → Bool) where
   -- it was handed on, and nothing is kept
   pub GoesOn-whole : (from to : Progress) (front more behind : List ℕ) (n : ℕ) (old new : S) (rest : Rest) → Walks begins steps from.limits.max_item from (front ++ more) old to (drop n (front ++ more)) new
       → length front < n → n ≤ length (front ++ more) → IsRest from.limits.max_item (place_of to) [] rest

@@ -23,8 +23,8 @@ use Rattle.hprof_items.specs.SubReading.{bounds_within}
 use Rattle.hprof_items.proofs.Dumps.{tag_first, sub_found}
 use Rattle.hprof_items.specs.declared.step.Step.{Step}
 use Rattle.hprof_items.specs.declared.step.Step.TheVariants as steps
-use Rattle.hprof_stream.specs.declared.item.Item.{Item}
-use Rattle.hprof_stream.specs.declared.item.Item.TheVariants as items
+use Rattle.hprof_stream.specs.ItemValue.{ItemValue}
+use Rattle.hprof_stream.specs.ItemValue as items
 use Rattle.hprof_stream.specs.Item.{Between}
 use Rattle.hprof_stream.specs.ItemStep.{IfRead, IsFact, IsOfPlace}
 
@@ -91,7 +91,7 @@ sub_no_end ids room longest bytes fact n are e =
     tag_no_end (tag_of_dump fact) ∙ ap (λ (b : ℕ). b == 0x2c) (sym first)
 
 -- a record with a fact stands between records
-pub fact_place : (header : Header) (bytes : List ℕ) (step : Step Item) → IfRead step IsFact → false ≡ (slice_index bytes 0 == 0x2c) → IfRead step (IsOfPlace (Between header) bytes)
+pub fact_place : (header : Header) (bytes : List ℕ) (step : Step ItemValue) → IfRead step IsFact → false ≡ (slice_index bytes 0 == 0x2c) → IfRead step (IsOfPlace (Between header) bytes)
 fact_place header bytes (steps.Whole (items.Header h) n) is e = absurd is
 fact_place header bytes (steps.Whole (items.Fact fact) n) is e = (tt, e)
 fact_place header bytes (steps.Whole (items.Dump len) n) is e = absurd is
@@ -103,7 +103,7 @@ fact_place header bytes steps.TooLong is e = tt
 fact_place header bytes (steps.Fault reason) is e = tt
 
 -- so does one that is passed over
-pub skipped_place : (header : Header) (bytes : List ℕ) (step : Step Item) → IfRead step (λ item. item ≡ items.Skipped) → false ≡ (slice_index bytes 0 == 0x2c) → IfRead step (IsOfPlace (Between header) bytes)
+pub skipped_place : (header : Header) (bytes : List ℕ) (step : Step ItemValue) → IfRead step (λ item. item ≡ items.Skipped) → false ≡ (slice_index bytes 0 == 0x2c) → IfRead step (IsOfPlace (Between header) bytes)
 skipped_place header bytes (steps.Whole item n) is e = subst (IsOfPlace (Between header) bytes) (sym is) (tt, e)
 skipped_place header bytes steps.Short is e = tt
 skipped_place header bytes steps.TooLong is e = tt

@@ -23,3 +23,4 @@ pub mod Feeding
 pub mod Finishing
 pub mod LastItems
 pub mod Sources
+pub mod Rooms

@@ -12,7 +12,7 @@ use Rattle.hprof_items.specs.declared.step.Step.TheVariants.{Whole, Short, TooLo
 use Rattle.hprof_items.specs.Head.{kind_of}
 use Rattle.hprof_items.specs.Reading.{head_at}
 use Rattle.hprof_items.proofs.Heads.{head_found}
-use Rattle.hprof_stream.specs.declared.item.Item.TheVariants as items
+use Rattle.hprof_stream.specs.ItemValue as items
 use Rattle.hprof_stream.specs.declared.rest.Passing.{Passing}
 use Rattle.hprof_stream.specs.declared.rest.Rest.{Rest}
 use Rattle.hprof_items.specs.declared.walk.Walk.{Walk}

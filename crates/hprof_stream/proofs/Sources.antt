@@ -106,7 +106,7 @@ module _ {S : Type 0} (begins : S → Header → S → Type 0) (steps : S → Fa
     ran = ran;
   }
 
-module _ {S : Type 0} (begins : S → Header → S → Type 0) (steps : S → FactValue → S → Type 0) (refuses : S → SinkFault → Type 0)
+module _ {S : Type 0} (begins : S → Header → S → Type 0) (steps : S → FactValue → S → Type 0) (refuses : S → List FactValue → SinkFault → Type 0)
     (failed : S → Bool) where
   -- a fault of feeding, from where reading began
   pub IsFeedFault-from : (limits : Limits) (bytes : List ℕ) (facts : List FactValue) (before after : Option Header) (old mid new : S)
@@ -114,6 +114,7 @@ module _ {S : Type 0} (begins : S → Header → S → Type 0) (steps : S → Fa
       → ((header : Header) → before ≡ Some header → after ≡ Some header)
       → IsFeedFault begins steps refuses failed limits bytes facts before after mid fault new
       → IsFeedFault begins steps refuses failed limits bytes [] None after old fault new
+  unfolding RanUpTo-from
   IsFeedFault-from limits bytes facts before after old mid new (faults.Malformed at reason) first bare stays is = (
     is.0,
     is.1,
@@ -200,7 +201,7 @@ is_judgement faults.BytesExceeded = true
 is_judgement other = false
 
 module _ {R : Type 0} (left : R → Option (List ℕ)) (health : R → Health) (pulls : R → ℕ)
-    {S : Type 0} (begins : S → Header → S → Type 0) (steps : S → FactValue → S → Type 0) (refuses : S → SinkFault → Type 0)
+    {S : Type 0} (begins : S → Header → S → Type 0) (steps : S → FactValue → S → Type 0) (refuses : S → List FactValue → SinkFault → Type 0)
     (failed : S → Bool) where
   -- so many pulls gave the bytes that a reader was fed since it was new, with no fault
   pub record HasFed (limits : Limits) (turns : ℕ) (was is : R) (reader : PartReader) (old new : S) : Type 0 where

@@ -16,7 +16,9 @@ use Rattle.hprof_items.specs.RecordBody.{record_of}
 use Rattle.hprof_items.specs.Spelling.{Fits, longest_body}
 use Rattle.hprof_items.specs.SubRecord.{dump_bytes}
 use Rattle.hprof_stream.specs.declared.item.Item.{Item}
-use Rattle.hprof_stream.specs.declared.item.Item.TheVariants as items
+use Rattle.hprof_stream.specs.declared.item.Item.TheVariants as kinds
+use Rattle.hprof_stream.specs.ItemValue.{ItemValue, with_fact, bare}
+use Rattle.hprof_stream.specs.ItemValue as items
 use Rattle.hprof_stream.specs.declared.limits.Limits.{Limits}
 use Rattle.hprof_stream.specs.declared.part_fault.PartFault.TheVariants as faults
 use Rattle.hprof_stream.specs.declared.sink.SinkFault.{SinkFault}
@@ -31,10 +33,37 @@ use Rattle.hprof_stream.proofs.Items.{item_found}
 use Rattle.hprof_stream.proofs.ItemLists.{AreItems-then, all_bytes-then, all_facts-then, records_begun-then, items_size, records_size, items_headers, header_in, room_behind}
 use Rattle.hprof_stream.proofs.Runs.{Run-none, Run-then}
 
+-- ---- the fact beside an item
+
+-- where it leads to does not look at the fact
+pub bare_after : (progress : Progress) (item : Item) (fact : Fact) (n : ℕ) → advanced progress (bare item) n ≡ advanced progress (with_fact item fact) n
+bare_after progress (kinds.Header header) fact n = refl
+bare_after progress kinds.Fact fact n = refl
+bare_after progress (kinds.Dump len) fact n = refl
+bare_after progress kinds.End fact n = refl
+bare_after progress kinds.Skipped fact n = refl
+bare_after progress kinds.Sub fact n = refl
+
+pub bare_next : (progress : Progress) (item : Item) (fact : Fact) (n : ℕ) → IsNext progress (with_fact item fact) n → IsNext progress (bare item) n
+bare_next progress (kinds.Header header) fact n is = is
+bare_next progress kinds.Fact fact n is = is
+bare_next progress (kinds.Dump len) fact n is = is
+bare_next progress kinds.End fact n is = is
+bare_next progress kinds.Skipped fact n is = is
+bare_next progress kinds.Sub fact n is = is
+
+pub bare_told : (header : Option Header) (item : Item) (fact : Fact) → told_by header (bare item) ≡ told_by header (with_fact item fact)
+bare_told header (kinds.Header other) fact = refl
+bare_told header kinds.Fact fact = refl
+bare_told header (kinds.Dump len) fact = refl
+bare_told header kinds.End fact = refl
+bare_told header kinds.Skipped fact = refl
+bare_told header kinds.Sub fact = refl
+
 -- ---- behind an item
 
 -- the place that it leads to is that of the progress behind it
-place_next : (header : Option Header) (room : ℕ) (item : Item) (n : ℕ) (progress : Progress) → progress.header ≡ header → progress.room ≡ room → Stands (place_behind header room) item
+place_next : (header : Option Header) (room : ℕ) (item : ItemValue) (n : ℕ) (progress : Progress) → progress.header ≡ header → progress.room ≡ room → Stands (place_behind header room) item
     → place_after (place_behind header room) item n ≡ place_of (advanced progress item n)
 place_next None room (items.Header h) n progress e f stands = refl
 place_next None room (items.Fact fact) n progress e f stands = absurd stands
@@ -55,11 +84,11 @@ place_next (Some h) (suc room) items.End n progress e f stands = absurd stands
 place_next (Some h) (suc room) items.Skipped n progress e f stands = absurd stands
 place_next (Some h) (suc room) (items.Sub fact) n progress e f stands = rw (e, f) refl
 
-pub next_place : (progress : Progress) (item : Item) (n : ℕ) → Stands (place_of progress) item → place_after (place_of progress) item n ≡ place_of (advanced progress item n)
+pub next_place : (progress : Progress) (item : ItemValue) (n : ℕ) → Stands (place_of progress) item → place_after (place_of progress) item n ≡ place_of (advanced progress item n)
 next_place progress item n stands = place_next progress.header progress.room item n progress refl refl stands
 
 -- how many records it begins
-count_next : (header : Option Header) (room : ℕ) (item : Item) (n : ℕ) (progress : Progress) → Stands (place_behind header room) item
+count_next : (header : Option Header) (room : ℕ) (item : ItemValue) (n : ℕ) (progress : Progress) → Stands (place_behind header room) item
     → (advanced progress item n).records ≡ progress.records + begun_at (place_behind header room)
 count_next None room (items.Header h) n progress stands = omega arith
 count_next None room (items.Fact fact) n progress stands = absurd stands
@@ -81,7 +110,7 @@ count_next (Some h) (suc room) items.Skipped n progress stands = absurd stands
 count_next (Some h) (suc room) (items.Sub fact) n progress stands = omega arith
 
 -- how many facts, and whether it ends a heap dump
-facts_next : (item : Item) (n : ℕ) (progress : Progress) → (advanced progress item n).facts ≡ progress.facts + length (facts_of item)
+facts_next : (item : ItemValue) (n : ℕ) (progress : Progress) → (advanced progress item n).facts ≡ progress.facts + length (facts_of item)
 facts_next (items.Header h) n progress = omega arith
 facts_next (items.Fact fact) n progress = omega arith
 facts_next (items.Dump len) n progress = omega arith
@@ -93,7 +122,7 @@ or_true : (b : Bool) → true ≡ (b || true)
 or_true true = refl
 or_true false = refl
 
-end_next : (item : Item) (n : ℕ) (progress : Progress) → (advanced progress item n).ended ≡ (progress.ended || is_end_item item)
+end_next : (item : ItemValue) (n : ℕ) (progress : Progress) → (advanced progress item n).ended ≡ (progress.ended || is_end_item item)
 end_next (items.Header h) n progress = sym (or-false progress.ended)
 end_next (items.Fact fact) n progress = sym (or-false progress.ended)
 end_next (items.Dump len) n progress = sym (or-false progress.ended)
@@ -102,7 +131,7 @@ end_next items.Skipped n progress = sym (or-false progress.ended)
 end_next (items.Sub fact) n progress = sym (or-false progress.ended)
 
 -- where it ends, and the limits
-offset_next : (item : Item) (n : ℕ) (progress : Progress) → (advanced progress item n).at ≡ progress.at + n
+offset_next : (item : ItemValue) (n : ℕ) (progress : Progress) → (advanced progress item n).at ≡ progress.at + n
 offset_next (items.Header h) n progress = refl
 offset_next (items.Fact fact) n progress = refl
 offset_next (items.Dump len) n progress = refl
@@ -110,7 +139,7 @@ offset_next items.End n progress = refl
 offset_next items.Skipped n progress = refl
 offset_next (items.Sub fact) n progress = refl
 
-limits_next : (item : Item) (n : ℕ) (progress : Progress) → (advanced progress item n).limits ≡ progress.limits
+limits_next : (item : ItemValue) (n : ℕ) (progress : Progress) → (advanced progress item n).limits ≡ progress.limits
 limits_next (items.Header h) n progress = refl
 limits_next (items.Fact fact) n progress = refl
 limits_next (items.Dump len) n progress = refl
@@ -128,7 +157,7 @@ first_taken n bytes some there = get_or-take n bytes 0 0 some
 
 module _ {S : Type 0} (begins : S → Header → S → Type 0) (steps : S → FactValue → S → Type 0) where
   -- what is handed on is a run
-  run_next : (header : Option Header) (room : ℕ) (item : Item) (n : ℕ) (progress : Progress) (old new : S) → progress.header ≡ header → Stands (place_behind header room) item → Gives begins steps old item new
+  run_next : (header : Option Header) (room : ℕ) (item : ItemValue) (n : ℕ) (progress : Progress) (old new : S) → progress.header ≡ header → Stands (place_behind header room) item → Gives begins steps old item new
       → Run begins steps old (became header (advanced progress item n).header) (facts_of item) new
   run_next None room (items.Header h) n progress old new e stands gives = (new, gives, refl)
   run_next None room (items.Fact fact) n progress old new e stands gives = absurd stands
@@ -150,7 +179,7 @@ module _ {S : Type 0} (begins : S → Header → S → Type 0) (steps : S → Fa
   run_next (Some h) (suc room) (items.Sub fact) n progress old new e stands gives = (new, gives, refl)
 
   -- one item is walked over
-  pub Walks-item : (longest : ℕ) (from : Progress) (bytes : List ℕ) (old new : S) (item : Item) (n : ℕ) → IsBytes bytes → from.room ≤ longest_body
+  pub Walks-item : (longest : ℕ) (from : Progress) (bytes : List ℕ) (old new : S) (item : ItemValue) (n : ℕ) → IsBytes bytes → from.room ≤ longest_body
       → item_at longest (place_of from) bytes ≡ Whole (record { next = place_after (place_of from) item n; facts = facts_of item }) n
       → IsOfPlace (place_of from) bytes item → Gives begins steps old item new
       → Walks begins steps longest from bytes old (advanced from item n) (drop n bytes) new × (0 < n) × (n ≤ length bytes)
@@ -255,7 +284,7 @@ sub_room longest from one to header room (is_sub {room = r} sub spelled in_room 
 sub_room longest from one to header room (is_skipped skipped empty) e = absurd cc
 
 -- what was read at a place
-abbrev pub IsReadAt : ℕ → Progress → List ℕ → Item → ℕ → Type 0
+abbrev pub IsReadAt : ℕ → Progress → List ℕ → ItemValue → ℕ → Type 0
 IsReadAt longest from bytes item n = item_at longest (place_of from) bytes ≡ Whole (record { next = place_after (place_of from) item n; facts = facts_of item }) n
 
 -- it may be handed to the sink
@@ -306,7 +335,7 @@ dumped_item longest from one to fact header (suc room) (is_sub {header = h} {fac
     spelled ∙ ap (λ (x : Header). dump_bytes x.ids f) same ∙ ap (dump_bytes header.ids) this
 dumped_item longest from one to fact header (suc room) (is_skipped skipped empty) facts e = absurd cc
 
-fit_at : (longest : ℕ) (header : Option Header) (room : ℕ) (bytes : List ℕ) (next : Place) (item : Item) (begun : Option IdSize)
+fit_at : (longest : ℕ) (header : Option Header) (room : ℕ) (bytes : List ℕ) (next : Place) (item : ItemValue) (begun : Option IdSize)
     → IsItem longest (place_behind header room) (record { bytes = bytes; facts = facts_of item }) next → Stands (place_behind header room) item → ItemLists header item
     → IsBegun header begun → GivesFit begun item bytes
 fit_at longest header room bytes next (items.Header h) begun is stands lists with = tt
@@ -325,18 +354,18 @@ fit_at longest (Some h) (suc room) bytes next (items.Sub fact) begun is stands l
     fact_fits longest (place_in h (suc room)) next h bytes bytes fact begun refl is lists spelled with
 
 -- it is there
-pub read_within : (longest : ℕ) (from : Progress) (bytes : List ℕ) (item : Item) (n : ℕ) → IsBytes bytes → from.room ≤ longest_body → IsReadAt longest from bytes item n → n ≤ length bytes
+pub read_within : (longest : ℕ) (from : Progress) (bytes : List ℕ) (item : ItemValue) (n : ℕ) → IsBytes bytes → from.room ≤ longest_body → IsReadAt longest from bytes item n → n ≤ length bytes
 read_within longest from bytes item n are small e =
     (item_found longest (place_of from) bytes (record { next = place_after (place_of from) item n; facts = facts_of item }) n (room_behind from.header from.room small) are e).0
 
-pub given_fits : (longest : ℕ) (from : Progress) (bytes : List ℕ) (item : Item) (n : ℕ) (begun : Option IdSize) → IsBytes bytes → from.room ≤ longest_body → IsReadAt longest from bytes item n
+pub given_fits : (longest : ℕ) (from : Progress) (bytes : List ℕ) (item : ItemValue) (n : ℕ) (begun : Option IdSize) → IsBytes bytes → from.room ≤ longest_body → IsReadAt longest from bytes item n
     → IsOfPlace (place_of from) bytes item → ItemLists from.header item → IsBegun from.header begun → GivesFit begun item (take n bytes)
 given_fits longest from bytes item n begun are small e of lists with =
     let read = item_found longest (place_of from) bytes (record { next = place_after (place_of from) item n; facts = facts_of item }) n (room_behind from.header from.room small) are e in
     fit_at longest from.header from.room (take n bytes) (place_after (place_of from) item n) item begun read.2 of.0 lists with
 
 -- the item that was read
-told_next : (header : Option Header) (room : ℕ) (item : Item) (n : ℕ) → Stands (place_behind header room) item → header_before (place_after (place_behind header room) item n) ≡ told_by header item
+told_next : (header : Option Header) (room : ℕ) (item : ItemValue) (n : ℕ) → Stands (place_behind header room) item → header_before (place_after (place_behind header room) item n) ≡ told_by header item
 told_next None room (items.Header h) n stands = refl
 told_next None room (items.Fact fact) n stands = absurd stands
 told_next None room (items.Dump len) n stands = absurd stands
@@ -356,7 +385,7 @@ told_next (Some h) (suc room) items.End n stands = absurd stands
 told_next (Some h) (suc room) items.Skipped n stands = absurd stands
 told_next (Some h) (suc room) (items.Sub fact) n stands = header_in h (suc room - n)
 
-given_none : (header : Option Header) (room : ℕ) (item : Item) → Stands (place_behind header room) item → GivesSome item → facts_of item ≡ [] → header ≡ None
+given_none : (header : Option Header) (room : ℕ) (item : ItemValue) → Stands (place_behind header room) item → GivesSome item → facts_of item ≡ [] → header ≡ None
 given_none None room item stands some nothing = refl
 given_none (Some h) zero (items.Header other) stands some nothing = absurd stands
 given_none (Some h) (suc room) (items.Header other) stands some nothing = absurd stands
@@ -367,8 +396,8 @@ given_none (Some h) room items.Skipped stands some nothing = absurd some
 given_none (Some h) room (items.Sub fact) stands some nothing = absurd cc
 
 -- a whole item that the sink refuses
-pub Stops-refused : {S : Type 0} (refuses : S → SinkFault → Type 0) (failed : S → Bool) (from : Progress) (bytes : List ℕ) (item : Item) (n : ℕ) (old new : S) (fault : SinkFault)
-    → IsBytes bytes → from.room ≤ longest_body → IsReadAt from.limits.max_item from bytes item n → IsOfPlace (place_of from) bytes item → GivesSome item → Refuses refuses failed old fault new
+pub Stops-refused : {S : Type 0} (refuses : S → List FactValue → SinkFault → Type 0) (failed : S → Bool) (from : Progress) (bytes : List ℕ) (item : ItemValue) (n : ℕ) (old new : S) (fault : SinkFault)
+    → IsBytes bytes → from.room ≤ longest_body → IsReadAt from.limits.max_item from bytes item n → IsOfPlace (place_of from) bytes item → GivesSome item → Refuses refuses failed old (facts_of item) fault new
     → Stops refuses failed from bytes old (faults.Sink fault) (told_by from.header item) new
 Stops-refused refuses failed from bytes item n old new fault are small e of some refused =
     let place = place_of from in
@@ -385,7 +414,7 @@ Stops-refused refuses failed from bytes item n old new fault are small e of some
     )
 
 -- and counted
-next_at : (longest : ℕ) (header : Option Header) (room n : ℕ) (bytes : List ℕ) (next : Place) (item : Item) (progress : Progress) → progress.room ≡ room → 0 < n → length bytes ≡ n
+next_at : (longest : ℕ) (header : Option Header) (room n : ℕ) (bytes : List ℕ) (next : Place) (item : ItemValue) (progress : Progress) → progress.room ≡ room → 0 < n → length bytes ≡ n
     → IsItem longest (place_behind header room) (record { bytes = bytes; facts = facts_of item }) next → Stands (place_behind header room) item → IsNext progress item n
 next_at longest header room n bytes next (items.Header h) progress e some len is stands = some
 next_at longest header room n bytes next (items.Fact fact) progress e some len is stands = some
@@ -398,7 +427,7 @@ next_at longest (Some h) (suc room) n bytes next (items.Sub fact) progress e som
     let within = sub_room longest (Within h (suc room)) (record { bytes = bytes; facts = value_of fact ∷ [] }) next h (suc room) is refl in
     (some, omega (arith, within, len, e))
 
-pub next_counted : (longest : ℕ) (from : Progress) (bytes : List ℕ) (item : Item) (n : ℕ) → IsBytes bytes → from.room ≤ longest_body → IsReadAt longest from bytes item n
+pub next_counted : (longest : ℕ) (from : Progress) (bytes : List ℕ) (item : ItemValue) (n : ℕ) → IsBytes bytes → from.room ≤ longest_body → IsReadAt longest from bytes item n
     → IsOfPlace (place_of from) bytes item → IsCounted from (length bytes) → IsCounted from n × IsNext from item n
 next_counted longest from bytes item n are small e of counted =
     let read = item_found longest (place_of from) bytes (record { next = place_after (place_of from) item n; facts = facts_of item }) n (room_behind from.header from.room small) are e in (

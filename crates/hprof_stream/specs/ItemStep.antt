@@ -4,32 +4,32 @@ use Rattle.hprof_items.specs.declared.header.Header.{Header}
 use Rattle.hprof_items.specs.declared.step.Step.{Step}
 use Rattle.hprof_items.specs.declared.step.Step.TheVariants as steps
 use Rattle.hprof_items.specs.FactValue.{FactValue, value_of, ListsHave}
-use Rattle.hprof_stream.specs.declared.item.Item.{Item}
-use Rattle.hprof_stream.specs.declared.item.Item.TheVariants as items
+use Rattle.hprof_stream.specs.ItemValue.{ItemValue}
+use Rattle.hprof_stream.specs.ItemValue as items
 use Rattle.hprof_stream.specs.Item.{Place, Start, Between, Within, place_in, Found}
 
 -- the facts that it states
-abbrev pub facts_of : Item → List FactValue
+abbrev pub facts_of : ItemValue → List FactValue
 facts_of (items.Fact fact) = value_of fact ∷ []
 facts_of (items.Sub fact) = value_of fact ∷ []
 facts_of _ = []
 
 -- the place that it leads to from another, by so many bytes
-abbrev pub place_after : Place → Item → ℕ → Place
+abbrev pub place_after : Place → ItemValue → ℕ → Place
 place_after place (items.Header header) n = Between header
 place_after (Between header) (items.Dump len) n = place_in header len
 place_after (Within header room) item n = place_in header (room - n)
 place_after place item n = place
 
 -- the step is what was found
-abbrev pub IsFound : Place → Step Item → Step Found → Type 0
+abbrev pub IsFound : Place → Step ItemValue → Step Found → Type 0
 IsFound place (steps.Whole item n) found = found ≡ steps.Whole (record { next = place_after place item n; facts = facts_of item }) n
 IsFound place steps.Short found = found ≡ steps.Short
 IsFound place steps.TooLong found = found ≡ steps.TooLong
 IsFound place (steps.Fault reason) found = found ≡ steps.Fault reason
 
 -- which items may stand at a place
-abbrev pub Stands : Place → Item → Type 0
+abbrev pub Stands : Place → ItemValue → Type 0
 Stands Start (items.Header header) = ⊤
 Stands (Between header) (items.Fact fact) = ⊤
 Stands (Between header) (items.Dump len) = ⊤
@@ -39,26 +39,26 @@ Stands (Within header room) (items.Sub fact) = ⊤
 Stands _ _ = ⊥
 
 -- whether it ends a heap dump
-abbrev pub is_end_item : Item → Bool
+abbrev pub is_end_item : ItemValue → Bool
 is_end_item items.End = true
 is_end_item _ = false
 
 -- what holds of the item that was read
-abbrev pub IfRead : Step Item → (Item → Type 0) → Type 0
+abbrev pub IfRead : Step ItemValue → (ItemValue → Type 0) → Type 0
 IfRead (steps.Whole item n) holds = holds item
 IfRead _ holds = ⊤
 
 -- it stands at the place, and ends a heap dump exactly where its first byte says so
-abbrev pub IsOfPlace : Place → List ℕ → Item → Type 0
+abbrev pub IsOfPlace : Place → List ℕ → ItemValue → Type 0
 IsOfPlace place bytes item = Stands place item × (is_end_item item ≡ (slice_index bytes 0 == 0x2c))
 
 -- its lists have identifiers of the header's size
-abbrev pub ItemLists : Option Header → Item → Type 0
+abbrev pub ItemLists : Option Header → ItemValue → Type 0
 ItemLists (Some header) (items.Fact fact) = ListsHave header.ids fact
 ItemLists (Some header) (items.Sub fact) = ListsHave header.ids fact
 ItemLists _ _ = ⊤
 
 -- a record with a fact
-abbrev pub IsFact : Item → Type 0
+abbrev pub IsFact : ItemValue → Type 0
 IsFact (items.Fact fact) = ⊤
 IsFact _ = ⊥

@@ -2,6 +2,7 @@ pub mod Record
 pub mod Part
 pub mod Item
 pub mod ItemStep
+pub mod ItemValue
 pub mod Progress
 pub mod Fault
 pub mod Run

@@ -1,8 +1,8 @@
 -- How far into a part reading has come.
 use Rattle.std.specs.Prelude.{ℕ, ◌+◌, ◌-◌, ◌^◌, ◌<◌, ◌≤◌, true, false, Some, None}
 use Rattle.hprof_stream.specs.declared.limits.Limits.{Limits}
-use Rattle.hprof_stream.specs.declared.item.Item.{Item}
-use Rattle.hprof_stream.specs.declared.item.Item.TheVariants as items
+use Rattle.hprof_stream.specs.ItemValue.{ItemValue}
+use Rattle.hprof_stream.specs.ItemValue as items
 use Rattle.hprof_stream.specs.declared.progress.Progress.{Progress}
 use Rattle.hprof_stream.specs.Item.{Place, place_behind}
 
@@ -22,12 +22,12 @@ pub record IsCounted (progress : Progress) (more : ℕ) : Type 0 where
   pub facts : progress.facts ≤ progress.at
 
 -- an item of so many bytes can come next: each has one, and a sub-record no more than its record has left
-abbrev pub IsNext : Progress → Item → ℕ → Type 0
+abbrev pub IsNext : Progress → ItemValue → ℕ → Type 0
 IsNext progress (items.Sub fact) len = (0 < len) × (len ≤ progress.room)
 IsNext progress item len = 0 < len
 
 -- behind an item of so many bytes
-abbrev pub advanced : Progress → Item → ℕ → Progress
+abbrev pub advanced : Progress → ItemValue → ℕ → Progress
 advanced progress (items.Header header) len = record progress { header = Some header; at = progress.at + len; room = 0 }
 advanced progress (items.Fact fact) len = record progress { at = progress.at + len; records = progress.records + 1; facts = progress.facts + 1 }
 advanced progress (items.Dump room) len = record progress { at = progress.at + len; records = progress.records + 1; room = room }

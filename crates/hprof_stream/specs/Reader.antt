@@ -1,5 +1,5 @@
 -- What a reader of a part has read, and what reading on does.
-use Rattle.std.specs.Prelude.{◌≡◌, ◌⊎◌, ℕ, ◌+◌, ◌-◌, ◌^◌, ◌≤◌, ◌<◌, min, max, Bool, true, false, List, ◌++◌, length, take, [], Option, Some, None, Result, Ok, Err}
+use Rattle.std.specs.Prelude.{◌≡◌, ◌⊎◌, ℕ, ◌+◌, ◌-◌, ◌^◌, ◌≤◌, ◌<◌, min, max, Bool, true, false, List, ◌++◌, length, take, [], Option, Some, None, Result, Ok, Err, vec_capacity}
 use Rattle.std.specs.List.{list_any}
 use Rattle.std.specs.Io.KnownBytes.{Consumes, IsAtEnd}
 use Rattle.hprof_items.specs.declared.header.Header.{Header}
@@ -19,7 +19,7 @@ use Rattle.hprof_stream.specs.Part.{Stated, all_bytes, all_facts, is_end, IsPart
 use Rattle.hprof_stream.specs.Item.{Place, Start, header_before, IsItem, AreItems, records_begun, held_of, item_at}
 use Rattle.hprof_stream.specs.Fault.{Splits, HasNoFault, IsFirstFault, HasNoSettledFault, StatesSoFar, is_settled}
 use Rattle.hprof_stream.specs.Progress.{place_of}
-use Rattle.hprof_stream.specs.Rest.{IsRest}
+use Rattle.hprof_stream.specs.Rest.{IsRest, NeedsGrowth}
 use Rattle.hprof_stream.specs.Run.{Run, became}
 use Rattle.hprof_stream.specs.Walking.{IsBegun, Refuses}
 
@@ -36,6 +36,14 @@ has_failed reader = reader.failed
 -- the sink was begun with the size of the part, while no fault came
 abbrev pub IsReady : PartReader → Option IdSize → Type 0
 IsReady reader begun = has_failed reader ≡ false → IsBegun (header_of reader) begun
+
+-- it has room for no bytes
+abbrev pub HasNoRoom : PartReader → Type 0
+HasNoRoom reader = vec_capacity reader.rest.held ≡ 0
+
+-- it has no room to hold so many bytes more
+abbrev pub LacksRoom : PartReader → ℕ → Type 0
+LacksRoom reader more = NeedsGrowth reader.rest more
 
 -- this is a reader that was fed these bytes with no fault; the whole items among them state these facts
 --   unfinished: the bytes behind them
@@ -106,7 +114,7 @@ module _ {S : Type 0} (begins : S → Header → S → Type 0) (steps : S → Fa
     pub has_facts : all_facts whole.items ≡ facts ++ handed
     pub ran : Run begins steps old (became from (header_before whole.before)) handed new
 
-module _ {S : Type 0} (begins : S → Header → S → Type 0) (steps : S → FactValue → S → Type 0) (refuses : S → SinkFault → Type 0) (failed : S → Bool) where
+module _ {S : Type 0} (begins : S → Header → S → Type 0) (steps : S → FactValue → S → Type 0) (refuses : S → List FactValue → SinkFault → Type 0) (failed : S → Bool) where
   -- a fault of an item, which no further byte changes: the first fault of the bytes that are taken
   abbrev pub IsItemFault : Limits → List ℕ → List FactValue → Option Header → Option Header → S → PartFault → S → Type 0
   IsItemFault limits bytes facts before after old fault new =
@@ -125,8 +133,8 @@ module _ {S : Type 0} (begins : S → Header → S → Type 0) (steps : S → Fa
       × RanOver begins steps limits.max_item (take limits.max_bytes bytes) facts before after old new
   IsFeedFault limits bytes facts before after old faults.OutOfMemory new = ⊥
   IsFeedFault limits bytes facts before after old (faults.Sink fault) new =
-      (mid : S) × RanUpTo begins steps limits.max_item (take limits.max_bytes bytes) facts before after old mid
-      × Refuses refuses failed mid fault new
+      (mid : S) × (ran : RanUpTo begins steps limits.max_item (take limits.max_bytes bytes) facts before after old mid)
+      × Refuses refuses failed mid ran.whole.last.facts fault new
   IsFeedFault limits bytes facts before after old faults.Failed new = ⊥
   IsFeedFault limits bytes facts before after old faults.Read new = ⊥
   IsFeedFault limits bytes facts before after old faults.ReadsExceeded new = ⊥
@@ -203,7 +211,7 @@ module _ {R : Type 0} (left : R → Option (List ℕ)) (pulls : R → ℕ) where
     pub within : length front ≤ limits.max_bytes
     pub unsettled : HasNoSettledFault limits.max_item front
 
-module _ {S : Type 0} (begins : S → Header → S → Type 0) (steps : S → FactValue → S → Type 0) (refuses : S → SinkFault → Type 0) (failed : S → Bool) where
+module _ {S : Type 0} (begins : S → Header → S → Type 0) (steps : S → FactValue → S → Type 0) (refuses : S → List FactValue → SinkFault → Type 0) (failed : S → Bool) where
   -- nothing is wrong in the bytes, which are no more than may come, and the sink has run over all that is whole
   abbrev pub IsJudged : Limits → List ℕ → S → S → Type 0
   IsJudged limits came old new =
@@ -224,10 +232,10 @@ module _ {S : Type 0} (begins : S → Header → S → Type 0) (steps : S → Fa
     pub mid : S
     pub ran : RanUpTo begins steps limits.max_item (take limits.max_bytes came) [] None header old mid
     pub behind : length front < whole_len ran.whole
-    pub refused : Refuses refuses failed mid fault new
+    pub refused : Refuses refuses failed mid ran.whole.last.facts fault new
 
 module _ {R : Type 0} (left : R → Option (List ℕ)) (health : R → Health) (pulls : R → ℕ)
-    {S : Type 0} (begins : S → Header → S → Type 0) (steps : S → FactValue → S → Type 0) (refuses : S → SinkFault → Type 0) (failed : S → Bool) where
+    {S : Type 0} (begins : S → Header → S → Type 0) (steps : S → FactValue → S → Type 0) (refuses : S → List FactValue → SinkFault → Type 0) (failed : S → Bool) where
   -- what reading a part to its end comes to, where these bytes came from a source
   --   was, is: the source, before and afterwards
   abbrev pub ReadsPart : Limits → R → List ℕ → R → S → Result PartSummary PartFault → S → Type 0

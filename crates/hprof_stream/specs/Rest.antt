@@ -1,5 +1,5 @@
 -- What a reader keeps of an item that is not whole yet.
-use Rattle.std.specs.Prelude.{◌≡◌, ℕ, ◌+◌, ◌-◌, ◌≤◌, ◌⊎◌, List, [], ◌++◌, length, drop, Option, Some, None, ⊤, if◌then◌else◌}
+use Rattle.std.specs.Prelude.{◌≡◌, ℕ, ◌+◌, ◌-◌, ◌<◌, ◌≤◌, ◌⊎◌, vec_len, vec_capacity, List, [], ◌++◌, length, drop, Option, Some, None, ⊤, if◌then◌else◌}
 use Rattle.hprof_values.specs.declared.ids.IdSize.{IdSize}
 use Rattle.hprof_values.specs.Ids.{IsBytes}
 use Rattle.hprof_items.specs.declared.head.Head.{Head}
@@ -13,7 +13,7 @@ use Rattle.hprof_items.specs.SubReading.{bounds_within}
 use Rattle.hprof_items.specs.Walk.{walked}
 use Rattle.hprof_stream.specs.declared.rest.Passing.{Passing}
 use Rattle.hprof_stream.specs.declared.rest.Rest.{Rest}
-use Rattle.hprof_stream.specs.declared.item.Item.TheVariants as items
+use Rattle.hprof_stream.specs.ItemValue as items
 use Rattle.hprof_stream.specs.declared.progress.Progress.{Progress}
 use Rattle.hprof_stream.specs.ItemStep.{IsOfPlace}
 use Rattle.hprof_stream.specs.Progress.{place_of, advanced}
@@ -49,6 +49,17 @@ pub record IsRest (longest : ℕ) (place : Place) (bytes : List ℕ) (rest : Res
   pub held : rest.held.items ≡ held_of longest place bytes
   pub passing : rest.passing ≡ passing_of longest place bytes
   pub walk : IsWalkOf longest place bytes rest.walk
+
+-- ---- the room for what is held
+
+-- a growth is needed to hold so many bytes more
+abbrev pub NeedsGrowth : Rest → ℕ → Type 0
+NeedsGrowth rest more = vec_capacity rest.held < vec_len rest.held + more
+
+-- no room was given up; and what is held, with the bytes that are left, is no more than what was held with those that came
+pub record KeepsRoom (old : Rest) (came : ℕ) (new : Rest) (left : ℕ) : Type 0 where
+  pub room : vec_capacity old.held ≤ vec_capacity new.held
+  pub fewer : vec_len new.held + left ≤ vec_len old.held + came
 
 -- ---- over a record that is passed over
 

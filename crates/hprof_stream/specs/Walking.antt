@@ -6,8 +6,8 @@ use Rattle.hprof_values.specs.declared.ids.IdSize.{IdSize}
 use Rattle.hprof_items.specs.declared.header.Header.{Header}
 use Rattle.hprof_items.specs.declared.step.Step.TheVariants.{Whole, Short, TooLong, Fault}
 use Rattle.hprof_items.specs.FactValue.{FactValue, value_of}
-use Rattle.hprof_stream.specs.declared.item.Item.{Item}
-use Rattle.hprof_stream.specs.declared.item.Item.TheVariants as items
+use Rattle.hprof_stream.specs.ItemValue.{ItemValue}
+use Rattle.hprof_stream.specs.ItemValue as items
 use Rattle.hprof_stream.specs.declared.part_fault.PartFault.{PartFault}
 use Rattle.hprof_stream.specs.declared.part_fault.PartFault.TheVariants as faults
 use Rattle.hprof_stream.specs.declared.sink.SinkFault.{SinkFault}
@@ -21,7 +21,7 @@ use Rattle.hprof_stream.specs.Run.{Run, became, FitsBegun, ListsHaveBegun, Spell
 
 module _ {S : Type 0} (begins : S → Header → S → Type 0) (steps : S → FactValue → S → Type 0) where
   -- what handing an item to a sink does: a header begins a part, a fact is a step, and others do nothing
-  abbrev pub Gives : S → Item → S → Type 0
+  abbrev pub Gives : S → ItemValue → S → Type 0
   Gives old (items.Header header) new = begins old header new
   Gives old (items.Fact fact) new = steps old (value_of fact) new
   Gives old (items.Sub fact) new = steps old (value_of fact) new
@@ -39,10 +39,10 @@ module _ {S : Type 0} (begins : S → Header → S → Type 0) (steps : S → Fa
     pub has_end : to.ended ≡ (from.ended || list_any is_end items)
     pub ran : Run begins steps old (became from.header to.header) (all_facts items) new
 
--- a call on the sink answered the fault, and the sink has failed
-module _ {S : Type 0} (refuses : S → SinkFault → Type 0) (failed : S → Bool) where
-  abbrev pub Refuses : S → SinkFault → S → Type 0
-  Refuses old fault new = refuses old fault × (failed new ≡ true)
+-- a call on the sink with an item that states these facts answered the fault, and the sink has failed
+module _ {S : Type 0} (refuses : S → List FactValue → SinkFault → Type 0) (failed : S → Bool) where
+  abbrev pub Refuses : S → List FactValue → SinkFault → S → Type 0
+  Refuses old given fault new = refuses old given fault × (failed new ≡ true)
 
   -- why no step was taken at the front of the bytes: the item is refused, or it is whole and the sink refuses it
   --   told: the header that was read by then
@@ -53,7 +53,7 @@ module _ {S : Type 0} (refuses : S → SinkFault → Type 0) (failed : S → Boo
       (item_at progress.limits.max_item (place_of progress) bytes ≡ TooLong) × (at ≡ progress.at) × (told ≡ progress.header) × (old ≡ new)
   Stops progress bytes old (faults.Sink fault) told new =
       (one : Stated) × (next : Place) × (back : List ℕ) × IsItem progress.limits.max_item (place_of progress) one next × (header_before next ≡ told)
-      × (one.facts ≡ [] → progress.header ≡ None) × (bytes ≡ one.bytes ++ back) × Refuses old fault new
+      × (one.facts ≡ [] → progress.header ≡ None) × (bytes ≡ one.bytes ++ back) × Refuses old one.facts fault new
   Stops progress bytes old faults.OutOfMemory told new = ⊥
   Stops progress bytes old faults.Failed told new = ⊥
   Stops progress bytes old faults.Read told new = ⊥
@@ -61,7 +61,7 @@ module _ {S : Type 0} (refuses : S → SinkFault → Type 0) (failed : S → Boo
   Stops progress bytes old faults.BytesExceeded told new = ⊥
 
 -- whether and how one item at the front of the bytes was stepped over: by so many bytes, not yet, or never
-module _ {S : Type 0} (begins : S → Header → S → Type 0) (steps : S → FactValue → S → Type 0) (refuses : S → SinkFault → Type 0) (failed : S → Bool) where
+module _ {S : Type 0} (begins : S → Header → S → Type 0) (steps : S → FactValue → S → Type 0) (refuses : S → List FactValue → SinkFault → Type 0) (failed : S → Bool) where
   abbrev pub StepsOver : Progress → List ℕ → S → Result (Option ℕ) PartFault → Progress → S → Type 0
   StepsOver from bytes old (Ok None) to new =
       (item_at from.limits.max_item (place_of from) bytes ≡ Short) × (from ≡ to) × (old ≡ new)
@@ -129,18 +129,18 @@ IsBegun None begun = ⊤
 IsBegun (Some header) begun = begun ≡ Some header.ids
 
 -- what the sink is to be given fits the size that was begun last, and so do its lists, and a sub-record has these bytes
-abbrev pub GivesFit : Option IdSize → Item → List ℕ → Type 0
+abbrev pub GivesFit : Option IdSize → ItemValue → List ℕ → Type 0
 GivesFit begun (items.Fact fact) bytes = FitsBegun begun (value_of fact) × ListsHaveBegun begun fact × SpellsBegun begun (value_of fact) []
 GivesFit begun (items.Sub fact) bytes = FitsBegun begun (value_of fact) × ListsHaveBegun begun fact × SpellsBegun begun (value_of fact) bytes
 GivesFit begun item bytes = ⊤
 
 -- the header that was read once this item was
-abbrev pub told_by : Option Header → Item → Option Header
+abbrev pub told_by : Option Header → ItemValue → Option Header
 told_by before (items.Header header) = Some header
 told_by before item = before
 
 -- it is a header or a fact
-abbrev pub GivesSome : Item → Type 0
+abbrev pub GivesSome : ItemValue → Type 0
 GivesSome (items.Header header) = ⊤
 GivesSome (items.Fact fact) = ⊤
 GivesSome (items.Sub fact) = ⊤

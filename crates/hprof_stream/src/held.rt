@@ -3,10 +3,12 @@
 ghost use Rattle.std.specs.Prelude.{◌≡◌, ◌⊎◌, ◌+◌, ◌<◌, ◌≤◌, ◌++◌, ℕ, List, [], length, vec_len, vec_capacity, min, max, true, None, Some, Err, IfOk, OnOk, OnErr, IfSome};
 ghost use Rattle.hprof_items.specs.declared.step.Step.TheVariants.{Short};
 ghost use Rattle.hprof_values.specs.Ids.{IsBytes};
+ghost use Rattle.hprof_items.specs.SubReading.{bounds_within};
+ghost use Rattle.hprof_items.specs.Walk.{StopsIn};
 ghost use Rattle.hprof_items.specs.declared.header.Header.{Header};
 ghost use Rattle.hprof_stream.specs.Item.{held_of, item_at};
 ghost use Rattle.hprof_stream.specs.Progress.{place_of, IsCounted};
-ghost use Rattle.hprof_stream.specs.Rest.{passing_of, walk_at, IsWalkOf, IsRest, IsSound, rest_len};
+ghost use Rattle.hprof_stream.specs.Rest.{passing_of, walk_at, IsWalkOf, IsRest, IsSound, NeedsGrowth, KeepsRoom, rest_len};
 ghost use Rattle.hprof_stream.specs.Walking.{IsBegun, FinishesHeld, ReadsOn, seen};
 ghost use Rattle.hprof_stream.specs.Reader.{longest_held};
 
@@ -71,6 +73,8 @@ fn walks_short(progress: &Progress, rest: &mut Rest) -> bool
     ensures walk { IsWalkOf progress.now.limits.max_item (place_of progress.now) rest.old.held.items rest.old.walk
         → IsWalkOf progress.now.limits.max_item (place_of progress.now) rest.old.held.items rest.new.walk
         × (result ≡ true → item_at progress.now.limits.max_item (place_of progress.now) rest.old.held.items ≡ Short) }
+    ensures stands { (header : Header) → progress.now.header ≡ Some header → result ≡ true
+        → StopsIn header.ids (bounds_within progress.now.room progress.now.limits.max_item rest.old.held.items) rest.old.held.items rest.new.walk Stop.Short }
     ensures held_whole { result ≡ true → passing_of progress.now.limits.max_item (place_of progress.now) rest.old.held.items ≡ None }
 {
     let Some(header) = progress.header else {
@@ -95,6 +99,7 @@ fn count_passed(progress: &Progress, rest: &mut Rest)
     ensures sound { IsSound rest.new }
     ensures len { rest_len rest.new ≤ rest_len rest.old }
     ensures shorter { length rest.new.held.items ≤ length rest.old.held.items }
+    ensures room { vec_capacity rest.new.held ≡ vec_capacity rest.old.held }
     ensures rest { item_at progress.now.limits.max_item (place_of progress.now) rest.old.held.items ≡ Short
         → IsWalkOf progress.now.limits.max_item (place_of progress.now) rest.old.held.items rest.old.walk
         → rest.old.passing ≡ None
@@ -122,7 +127,8 @@ fn finish_once<'a, S: Sink>(
     ensures finished { (front : List ℕ) → IsRest progress.old.limits.max_item (place_of progress.old) front rest.old
         → FinishesHeld S.begins S.steps S.refuses S.failed progress.old front bytes.now sink.old (seen result) progress.new rest.new sink.new }
     ensures sound { OnOk result (IsSound rest.new) }
-    ensures full { result ≡ Err PartFault.OutOfMemory → vec_capacity rest.old.held < vec_len rest.old.held + length bytes.now }
+    ensures full { result ≡ Err PartFault.OutOfMemory → NeedsGrowth rest.old (length bytes.now) }
+    ensures room { IfOk result (λ left. KeepsRoom rest.old (length bytes.now) rest.new (length left.now)) }
     ensures shorter { IfOk result (λ left. length left.now + min 1 (length rest.new.held.items) < length bytes.now + min 1 (length rest.old.held.items)) }
     ensures less { IfOk result (λ left. length left.now ≤ length bytes.now) }
     ensures counted { IfOk result (λ left. IsCounted progress.new (rest_len rest.new + length left.now)) }
@@ -157,6 +163,8 @@ fn finish_held<'a, S: Sink>(
     requires sound { IsSound rest.old }
     ensures finished { (front : List ℕ) → IsRest progress.old.limits.max_item (place_of progress.old) front rest.old
         → FinishesHeld S.begins S.steps S.refuses S.failed progress.old front bytes.now sink.old (seen result) progress.new rest.new sink.new }
+    ensures full { result ≡ Err PartFault.OutOfMemory → NeedsGrowth rest.old (length bytes.now) }
+    ensures room { IfOk result (λ left. KeepsRoom rest.old (length bytes.now) rest.new (length left.now)) }
     ensures done { IfOk result (λ left. (length rest.new.held.items ≡ 0) ⊎ (left.now ≡ [])) }
     ensures sound { OnOk result (IsSound rest.new) }
     ensures less { IfOk result (λ left. length left.now ≤ length bytes.now) }
@@ -183,6 +191,8 @@ pub(crate) fn read_on<'a, S: Sink>(
     requires sound { IsSound rest.old }
     ensures read { (front : List ℕ) → IsRest progress.old.limits.max_item (place_of progress.old) front rest.old
         → ReadsOn S.begins S.steps S.refuses S.failed progress.old front bytes.now sink.old (seen result) progress.new rest.new sink.new }
+    ensures full { result ≡ Err PartFault.OutOfMemory → NeedsGrowth rest.old (length bytes.now) }
+    ensures room { IfOk result (λ left. KeepsRoom rest.old (length bytes.now) rest.new (length left.now)) }
     ensures sound { OnOk result (IsSound rest.new) }
     ensures less { IfOk result (λ left. length left.now ≤ length bytes.now) }
     ensures counted { IfOk result (λ left. IsCounted progress.new (rest_len rest.new + length left.now)) }
@@ -207,6 +217,7 @@ pub(crate) fn keep(progress: &Progress, rest: &mut Rest, left: &[u8]) -> Result<
         → IsRest progress.now.limits.max_item (place_of progress.now) (still ++ left.now) rest.new) }
     ensures err { OnErr result ((result ≡ Err PartFault.OutOfMemory) × (0 < length left.now)
         × ((still : List ℕ) → (still ≡ []) ⊎ (left.now ≡ []) → 0 < length (held_of progress.now.limits.max_item (place_of progress.now) (still ++ left.now)))) }
+    ensures full { OnErr result (NeedsGrowth rest.old (length left.now)) }
     ensures sound { OnOk result (IsSound rest.new) }
     ensures counted { OnOk result (IsCounted progress.now (rest_len rest.new)) }
 {

@@ -5,19 +5,23 @@ ghost use Rattle.hprof_items.specs.Head.{kind_of};
 ghost use Rattle.hprof_items.specs.Reading.{IsRightHead};
 ghost use Rattle.hprof_items.specs.Spelling.{longest_body};
 ghost use Rattle.hprof_stream.specs.Item.{Start, Between, Within, found_record, item_at};
+ghost use Rattle.hprof_items.specs.declared.fact.Fact.{Fact};
+ghost use Rattle.hprof_stream.specs.ItemValue.{Skipped, step_with};
 ghost use Rattle.hprof_stream.specs.ItemStep.{IsFound, IfRead, IsOfPlace, ItemLists, IsFact};
 
 use hprof_items::{
-    Fact, HEAD_LEN, Head, HeadKind, Header, Step, read_body, read_head, read_header, read_sub,
+    Fact, HEAD_LEN, Head, HeadKind, Header, Step, Stop, read_body_into, read_head, read_header,
+    read_sub_into,
 };
 
-/// What stands at the front as one item.
+/// What stands at the front as one item. The fact that it states is put beside it, so that no fact is moved from call to
+/// call.
 #[derive(Clone, Copy, Debug)]
-pub(crate) enum Item<'a> {
+pub(crate) enum Item {
     /// The header.
     Header(Header),
     /// A record that states a fact.
-    Fact(Fact<'a>),
+    Fact,
     /// The head of a heap dump, with the number of bytes of its sub-records.
     Dump(u32),
     /// The end of a heap dump.
@@ -25,15 +29,15 @@ pub(crate) enum Item<'a> {
     /// A record that is passed over.
     Skipped,
     /// A sub-record.
-    Sub(Fact<'a>),
+    Sub,
 }
 
 /// The item at the first byte of a part.
 #[tactic(auto, unfolding(crate::specs::Item::item_at))]
-pub(crate) fn first_item(bytes: &[u8], longest: u32) -> Step<Item<'_>>
-    ensures found { IsFound Start result (item_at longest Start bytes.now) }
-    ensures place { IfRead result (IsOfPlace Start bytes.now) }
-    ensures lists { IfRead result (ItemLists None) }
+pub(crate) fn first_item(bytes: &[u8], longest: u32) -> Step<Item>
+    ensures found { (fact : Fact) → IsFound Start (step_with result fact) (item_at longest Start bytes.now) }
+    ensures place { (fact : Fact) → IfRead (step_with result fact) (IsOfPlace Start bytes.now) }
+    ensures lists { (fact : Fact) → IfRead (step_with result fact) (ItemLists None) }
 {
     match read_header(bytes) {
         Step::Whole(header, len) => Step::Whole(Item::Header(header), len),
@@ -44,27 +48,27 @@ pub(crate) fn first_item(bytes: &[u8], longest: u32) -> Step<Item<'_>>
 }
 
 /// A record with a fact, of which the head was read.
-fn fact_item<'a>(header: &Header, head: &Head, bytes: &'a [u8]) -> Step<Item<'a>>
+fn fact_item<'a>(header: &Header, head: &Head, bytes: &'a [u8], fact: &mut Fact<'a>) -> Step<Item>
     requires whole { IsRightHead header.now.ids longest_body head.now }
     requires kind { kind_of head.now.tag ≡ HeadKind.FactRecord }
-    ensures found { IsFound (Between header.now) result (found_record header.now HeadKind.FactRecord head.now bytes.now) }
-    ensures fact { IfRead result IsFact }
-    ensures lists { IfRead result (ItemLists (Some header.now)) }
+    ensures found { IsFound (Between header.now) (step_with result fact.new) (found_record header.now HeadKind.FactRecord head.now bytes.now) }
+    ensures fact { IfRead (step_with result fact.new) IsFact }
+    ensures lists { IfRead (step_with result fact.new) (ItemLists (Some header.now)) }
 {
     let len = HEAD_LEN + head.length as usize;
     if bytes.len() < len {
         return Step::Short;
     }
-    match read_body(head, &bytes[HEAD_LEN..len], header.ids) {
-        Ok(fact) => Step::Whole(Item::Fact(fact), len),
+    match read_body_into(head, &bytes[HEAD_LEN..len], header.ids, fact) {
+        Ok(()) => Step::Whole(Item::Fact, len),
         Err(reason) => Step::Fault(reason),
     }
 }
 
 /// A record that is passed over, of which the head was read.
-fn skipped_item(header: &Header, head: &Head, bytes: &[u8]) -> Step<Item<'static>>
-    ensures found { IsFound (Between header.now) result (found_record header.now HeadKind.Skipped head.now bytes.now) }
-    ensures skipped { IfRead result (λ item. item ≡ Item.Skipped) }
+fn skipped_item(header: &Header, head: &Head, bytes: &[u8]) -> Step<Item>
+    ensures found { (fact : Fact) → IsFound (Between header.now) (step_with result fact) (found_record header.now HeadKind.Skipped head.now bytes.now) }
+    ensures skipped { (fact : Fact) → IfRead (step_with result fact) (λ item. item ≡ Skipped) }
 {
     let len = HEAD_LEN + head.length as usize;
     if bytes.len() < len {
@@ -73,12 +77,17 @@ fn skipped_item(header: &Header, head: &Head, bytes: &[u8]) -> Step<Item<'static
     Step::Whole(Item::Skipped, len)
 }
 
-/// The item between two records.
+/// The item between two records. The fact that it states is put in the place of the fact.
 #[tactic(auto, unfolding(crate::specs::Item::item_at))]
-pub(crate) fn record_item<'a>(header: &Header, bytes: &'a [u8], longest: u32) -> Step<Item<'a>>
-    ensures found { IsFound (Between header.now) result (item_at longest (Between header.now) bytes.now) }
-    ensures place { IfRead result (IsOfPlace (Between header.now) bytes.now) }
-    ensures lists { IfRead result (ItemLists (Some header.now)) }
+pub(crate) fn record_item<'a>(
+    header: &Header,
+    bytes: &'a [u8],
+    longest: u32,
+    fact: &mut Fact<'a>,
+) -> Step<Item>
+    ensures found { IsFound (Between header.now) (step_with result fact.new) (item_at longest (Between header.now) bytes.now) }
+    ensures place { IfRead (step_with result fact.new) (IsOfPlace (Between header.now) bytes.now) }
+    ensures lists { IfRead (step_with result fact.new) (ItemLists (Some header.now)) }
 {
     let head = match read_head(bytes, header.ids, longest) {
         Step::Whole(head, _) => head,
@@ -87,30 +96,31 @@ pub(crate) fn record_item<'a>(header: &Header, bytes: &'a [u8], longest: u32) ->
         Step::Fault(reason) => return Step::Fault(reason),
     };
     match head.kind() {
-        HeadKind::FactRecord => fact_item(header, &head, bytes),
+        HeadKind::FactRecord => fact_item(header, &head, bytes, fact),
         HeadKind::HeapDump => Step::Whole(Item::Dump(head.length), HEAD_LEN),
         HeadKind::DumpEnd => Step::Whole(Item::End, HEAD_LEN),
         HeadKind::Skipped => skipped_item(header, &head, bytes),
     }
 }
 
-/// The item within a heap dump that has so many bytes left.
+/// The item within a heap dump that has so many bytes left. The fact that it states is put in the place of the fact.
 #[tactic(auto, unfolding(crate::specs::Item::item_at))]
 pub(crate) fn sub_item<'a>(
     header: &Header,
     room: u32,
     bytes: &'a [u8],
     longest: u32,
-) -> Step<Item<'a>>
+    fact: &mut Fact<'a>,
+) -> Step<Item>
     requires { 1 ≤ room }
-    ensures found { IsFound (Within header.now room) result (item_at longest (Within header.now room) bytes.now) }
-    ensures place { IfRead result (IsOfPlace (Within header.now room) bytes.now) }
-    ensures lists { IfRead result (ItemLists (Some header.now)) }
+    ensures found { IsFound (Within header.now room) (step_with result fact.new) (item_at longest (Within header.now room) bytes.now) }
+    ensures place { IfRead (step_with result fact.new) (IsOfPlace (Within header.now room) bytes.now) }
+    ensures lists { IfRead (step_with result fact.new) (ItemLists (Some header.now)) }
 {
-    match read_sub(bytes, room, longest, header.ids) {
-        Step::Whole(fact, len) => Step::Whole(Item::Sub(fact), len),
-        Step::Short => Step::Short,
-        Step::TooLong => Step::TooLong,
-        Step::Fault(reason) => Step::Fault(reason),
+    match read_sub_into(bytes, room, longest, header.ids, fact) {
+        Ok(len) => Step::Whole(Item::Sub, len),
+        Err(Stop::Short) => Step::Short,
+        Err(Stop::TooLong) => Step::TooLong,
+        Err(Stop::Fault(reason)) => Step::Fault(reason),
     }
 }

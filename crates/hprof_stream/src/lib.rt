@@ -19,6 +19,3 @@ pub use part_reader::PartReader;
 pub use reading::read_part;
 pub use sink::{Sink, SinkFault};
 pub use summary::PartSummary;
-
-#[cfg(test)]
-mod tests;

@@ -29,13 +29,14 @@ pub struct PartReader {
 }
 
 impl PartReader {
-    ghost use Rattle.hprof_stream.specs.Reader.{HasRead, header_of, has_failed, IsReady, IsUnfinished, longest_held, Feeds, Finishes};
+    ghost use Rattle.hprof_stream.specs.Reader.{HasRead, HasNoRoom, LacksRoom, header_of, has_failed, IsReady, IsUnfinished, longest_held, Feeds, Finishes};
     ghost use Rattle.hprof_stream.specs.declared.limits.Limits.{Limits};
 
     /// A reader that was fed nothing. It takes no memory yet.
     pub fn new(alloc: Global, limits: Limits) -> Self
         ensures read { HasRead limits [] [] result }
         ensures ready { (begun : Option IdSize) → IsReady result begun }
+        ensures no_memory { HasNoRoom result }
     {
         PartReader {
             progress: Progress::start(limits),
@@ -57,6 +58,8 @@ impl PartReader {
         ensures failed { has_failed self.old ≡ true
             → (result ≡ Err PartFault.Failed) × (sink.old ≡ sink.new) × (header_of self.new ≡ header_of self.old) }
         ensures err { OnErr result (has_failed self.new ≡ true) }
+        // Want of memory comes only where what is held has no room for the piece.
+        ensures full { result ≡ Err PartFault.OutOfMemory → LacksRoom self.old (length piece.now) }
         ensures kept { (header : Header) → header_of self.old ≡ Some header → header_of self.new ≡ Some header }
         ensures ready { IsReady self.new (S.begun sink.new) }
     {
@@ -120,6 +123,3 @@ impl PartReader {
         }
     }
 }
-
-#[cfg(test)]
-mod tests;

@@ -3,7 +3,8 @@
 ghost use Rattle.std.specs.Prelude.{◌≡◌, ℕ, ◌+◌, ◌≤◌, length, drop, Some, None, Option, IfOk, IfErr, OnOk};
 ghost use Rattle.hprof_items.specs.declared.step.Step.TheVariants.{Whole};
 ghost use Rattle.hprof_stream.specs.Item.{item_at};
-ghost use Rattle.hprof_stream.specs.ItemStep.{IsFound, IfRead, IsOfPlace, ItemLists};
+ghost use Rattle.hprof_stream.specs.ItemValue.{with_fact, bare, step_with};
+ghost use Rattle.hprof_stream.specs.ItemStep.{IsFound, IfRead, IsOfPlace, ItemLists, facts_of};
 ghost use Rattle.hprof_items.specs.declared.header.Header.{Header};
 ghost use Rattle.hprof_items.specs.Spelling.{longest_body};
 ghost use Rattle.hprof_values.specs.Ids.{IsBytes};
@@ -13,7 +14,7 @@ use crate::item::{Item, first_item, record_item, sub_item};
 use crate::limits::Limits;
 use crate::part_fault::PartFault;
 use crate::sink::{Sink, SinkFault};
-use hprof_items::{Header, Step};
+use hprof_items::{Fact, Header, Step};
 
 /// What has been read of a part: its whole items from the front.
 #[derive(Clone, Copy)]
@@ -52,25 +53,25 @@ impl Progress {
         }
     }
 
-    /// The item at the front.
-    fn item<'a>(&self, bytes: &'a [u8]) -> Step<Item<'a>>
-        ensures found { IsFound (place_of self.now) result (item_at self.now.limits.max_item (place_of self.now) bytes.now) }
-        ensures place { IfRead result (IsOfPlace (place_of self.now) bytes.now) }
-        ensures lists { IfRead result (ItemLists self.now.header) }
+    /// The item at the front. The fact that it states is put in the place of the fact.
+    fn item<'a>(&self, bytes: &'a [u8], fact: &mut Fact<'a>) -> Step<Item>
+        ensures found { IsFound (place_of self.now) (step_with result fact.new) (item_at self.now.limits.max_item (place_of self.now) bytes.now) }
+        ensures place { IfRead (step_with result fact.new) (IsOfPlace (place_of self.now) bytes.now) }
+        ensures lists { IfRead (step_with result fact.new) (ItemLists self.now.header) }
         ensures room { self.now.room ≤ longest_body }
     {
         let longest = self.limits.max_item;
         let room = self.room;
         match self.header {
             None => first_item(bytes, longest),
-            Some(header) if room == 0 => record_item(&header, bytes, longest),
-            Some(header) => sub_item(&header, room, bytes, longest),
+            Some(header) if room == 0 => record_item(&header, bytes, longest, fact),
+            Some(header) => sub_item(&header, room, bytes, longest, fact),
         }
     }
 
     /// Tells the header that was read, also where the sink refuses it.
-    fn tell(&mut self, item: &Item<'_>)
-        ensures { self.new ≡ record self.old { header = told_by self.old.header item.now } }
+    fn tell(&mut self, item: &Item)
+        ensures { self.new ≡ record self.old { header = told_by self.old.header (bare item.now) } }
     {
         if let Item::Header(header) = *item {
             self.header = Some(header);
@@ -78,10 +79,10 @@ impl Progress {
     }
 
     /// Counts an item that was read.
-    pub(crate) fn advance(&mut self, item: &Item<'_>, len: usize)
+    pub(crate) fn advance(&mut self, item: &Item, len: usize)
         requires counted { IsCounted self.old len }
-        requires next { IsNext self.old item.now len }
-        ensures { self.new ≡ advanced self.old item.now len }
+        requires next { IsNext self.old (bare item.now) len }
+        ensures { self.new ≡ advanced self.old (bare item.now) len }
     {
         self.at += len as u64;
         match *item {
@@ -89,7 +90,7 @@ impl Progress {
                 self.header = Some(header);
                 self.room = 0;
             }
-            Item::Fact(_) => {
+            Item::Fact => {
                 self.records += 1;
                 self.facts += 1;
             }
@@ -102,7 +103,7 @@ impl Progress {
                 self.ended = true;
             }
             Item::Skipped => self.records += 1,
-            Item::Sub(_) => {
+            Item::Sub => {
                 self.facts += 1;
                 self.room -= len as u32;
             }
@@ -124,10 +125,11 @@ impl Progress {
         ensures bytes { IsBytes bytes.now }
     {
         let at = self.at;
-        match self.item(bytes) {
+        let mut fact = Fact::End { thread: 0 };
+        match self.item(bytes, &mut fact) {
             Step::Whole(item, len) => {
                 let (spelled, _) = bytes.split_at(len);
-                if let Err(fault) = give(&item, spelled, sink) {
+                if let Err(fault) = give(&item, &fact, spelled, sink) {
                     self.tell(&item);
                     return Err(PartFault::Sink(fault));
                 }
@@ -160,17 +162,23 @@ impl Progress {
     }
 }
 
-/// Hands an item, which has these bytes, to the sink.
-fn give<S: Sink>(item: &Item<'_>, spelled: &[u8], sink: &mut S) -> Result<(), SinkFault>
-    requires { GivesFit (S.begun sink.old) item.now spelled.now }
-    ensures gives { OnOk result (Gives S.begins S.steps sink.old item.now sink.new) }
-    ensures begun { OnOk result ((header : Option Header) → IsBegun header (S.begun sink.old) → IsBegun (told_by header item.now) (S.begun sink.new)) }
-    ensures refused { IfErr result (λ fault. GivesSome item.now × Refuses S.refuses S.failed sink.old fault sink.new) }
+/// Hands an item, which has these bytes and states the fact, to the sink.
+fn give<S: Sink>(
+    item: &Item,
+    fact: &Fact<'_>,
+    spelled: &[u8],
+    sink: &mut S,
+) -> Result<(), SinkFault>
+    requires { GivesFit (S.begun sink.old) (with_fact item.now fact.now) spelled.now }
+    ensures gives { OnOk result (Gives S.begins S.steps sink.old (with_fact item.now fact.now) sink.new) }
+    ensures begun { OnOk result ((header : Option Header) → IsBegun header (S.begun sink.old) → IsBegun (told_by header (with_fact item.now fact.now)) (S.begun sink.new)) }
+    ensures refused { IfErr result (λ fault. GivesSome (with_fact item.now fact.now)
+        × Refuses S.refuses S.failed sink.old (facts_of (with_fact item.now fact.now)) fault sink.new) }
 {
     match item {
         Item::Header(header) => sink.begin_part(*header),
-        Item::Fact(fact) => sink.take(fact, &[]),
-        Item::Sub(fact) => sink.take(fact, spelled),
+        Item::Fact => sink.take(fact, &[]),
+        Item::Sub => sink.take(fact, spelled),
         Item::Dump(_) | Item::End | Item::Skipped => Ok(()),
     }
 }

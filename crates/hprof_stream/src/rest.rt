@@ -67,6 +67,7 @@ impl Rest {
         ensures held { self.new.held.items ≡ [] }
         ensures walk { self.new.walk ≡ Walk.Front }
         ensures passing { self.new.passing ≡ self.old.passing }
+        ensures room { vec_capacity self.new.held ≡ vec_capacity self.old.held }
     {
         self.held.clear();
         self.walk = Walk::Front;
@@ -81,6 +82,7 @@ pub(crate) fn pass_over<'a>(progress: &mut Progress, rest: &mut Rest, bytes: &'a
         → PassesOver progress.old front bytes.now progress.new result.now rest.new }
     ensures none { rest.old.passing ≡ None → (progress.new ≡ progress.old) × (rest.new ≡ rest.old) × (result.now ≡ bytes.now) }
     ensures sound { IsSound rest.new }
+    ensures held { rest.new.held ≡ rest.old.held }
     ensures header { progress.new.header ≡ progress.old.header }
     ensures bytes { IsBytes bytes.now }
     ensures shorter { length result.now ≤ length bytes.now }

@@ -96,17 +96,17 @@ never_malformed limits bytes ids millis facts at reason le part first =
     ]
 
 -- with what a part is not refused where its reader is well, no limit was met and memory was there
-unexpected : {R : Type 0} (left : R → Option (List ℕ)) (health : R → Health) (pulls : R → ℕ) (limits : Limits) (bytes came : List ℕ) (was is : R) (ids : IdSize) (millis : ℕ) (facts : List FactValue) (fault : PartFault)
-    → limits.max_item ≤ longest_body → IsPart bytes ids millis facts → IsOfPart limits.max_item bytes fault → IsPartFault left health pulls limits was came is fault → health is ≡ healths.Well → (is_want fault ≡ true → ⊥) → ⊥
-unexpected left health pulls limits bytes came was is ids millis facts (faults.Malformed at reason) le part of_part why well unhindered = never_malformed limits bytes ids millis facts at reason le part of_part
-unexpected left health pulls limits bytes came was is ids millis facts (faults.ItemTooLong at) le part of_part why well unhindered = unhindered refl
-unexpected left health pulls limits bytes came was is ids millis facts faults.BytesExceeded le part of_part why well unhindered = unhindered refl
-unexpected left health pulls limits bytes came was is ids millis facts faults.Read le part of_part why well unhindered = let no : healths.Failed ≡ healths.Well = sym why.0 ∙ well in cc
-unexpected left health pulls limits bytes came was is ids millis facts faults.ReadsExceeded le part of_part why well unhindered = unhindered refl
-unexpected left health pulls limits bytes came was is ids millis facts faults.OutOfMemory le part of_part why well unhindered = unhindered refl
-unexpected left health pulls limits bytes came was is ids millis facts (faults.Sink sinks.OutOfMemory) le part of_part why well unhindered = unhindered refl
-unexpected left health pulls limits bytes came was is ids millis facts (faults.Sink sinks.Failed) le part of_part why well unhindered = why
-unexpected left health pulls limits bytes came was is ids millis facts faults.Failed le part of_part why well unhindered = why
+unexpected : {R : Type 0} (left : R → Option (List ℕ)) (health : R → Health) (pulls : R → ℕ) (limits : Limits) (earlier : List Given) (bytes came : List ℕ) (was is : R) (ids : IdSize) (millis : ℕ) (facts : List FactValue) (fault : PartFault)
+    → limits.max_item ≤ longest_body → IsPart bytes ids millis facts → IsOfPart limits bytes fault → IsPartFault left health pulls limits earlier was came is fault → health is ≡ healths.Well → (is_want fault ≡ true → ⊥) → ⊥
+unexpected left health pulls limits earlier bytes came was is ids millis facts (faults.Malformed at reason) le part of_part why well unhindered = never_malformed limits bytes ids millis facts at reason le part of_part
+unexpected left health pulls limits earlier bytes came was is ids millis facts (faults.ItemTooLong at) le part of_part why well unhindered = unhindered refl
+unexpected left health pulls limits earlier bytes came was is ids millis facts faults.BytesExceeded le part of_part why well unhindered = unhindered refl
+unexpected left health pulls limits earlier bytes came was is ids millis facts faults.Read le part of_part why well unhindered = let no : healths.Failed ≡ healths.Well = sym why.0 ∙ well in cc
+unexpected left health pulls limits earlier bytes came was is ids millis facts faults.ReadsExceeded le part of_part why well unhindered = unhindered refl
+unexpected left health pulls limits earlier bytes came was is ids millis facts faults.OutOfMemory le part of_part why well unhindered = unhindered refl
+unexpected left health pulls limits earlier bytes came was is ids millis facts (faults.Sink sinks.OutOfMemory) le part of_part why well unhindered = unhindered refl
+unexpected left health pulls limits earlier bytes came was is ids millis facts (faults.Sink sinks.Failed) le part of_part why well unhindered = why
+unexpected left health pulls limits earlier bytes came was is ids millis facts faults.Failed le part of_part why well unhindered = why
 
 -- parts of one size do not have two
 pub not_two_sizes : (parts : List (List ℕ)) (ids : IdSize) (millis : ℕ) (facts : List FactValue) → IsState parts ids millis facts → HaveTwoSizes parts → ⊥
@@ -183,16 +183,19 @@ module _ {R : Type 0} (left : R → Option (List ℕ)) (health : R → Health) (
       → RefusesReader left health pulls limits old new index fault from → RefusesPart left health pulls limits parts old new index fault
   refuses_part limits parts old new index fault from told is =
       let place = placed left old parts index is.at.was told is.at.was_there in
+      let stated = subst (λ (ls : List (Option (List ℕ))). AreGiven limits ls is.before.given) place.told_before is.before.of_readers in
       record {
         before = place.before;
         bytes = place.bytes;
         after = place.after;
         in_order = place.in_order;
         place = place.place;
-        accepted = given_sound limits place.before is.before.given (subst (λ (ls : List (Option (List ℕ))). AreGiven limits ls is.before.given) place.told_before is.before.of_readers);
+        accepted = given_sound limits place.before is.before.given stated;
+        given = is.before.given;
+        stated = stated;
         at = is.at;
         told = place.told;
-        of_part = of_part left health pulls limits is.at.was place.bytes is.at.came is.at.is fault place.told is.at.consumed is.at.refused;
+        of_part = of_part left health pulls limits is.before.given is.at.was place.bytes is.at.came is.at.is fault place.told is.at.consumed is.at.refused;
       }
 
   -- a reader among those that are well is well
@@ -205,7 +208,7 @@ module _ {R : Type 0} (left : R → Option (List ℕ)) (health : R → Health) (
       → IsState parts ids millis facts → RefusesPart left health pulls limits parts old new index fault → All (λ reader. health reader ≡ healths.Well) new → (is_want fault ≡ true → ⊥) → ⊥
   never_refused limits parts ids millis facts old new index fault le state is well unhindered =
       let part = part_at state.states is.before is.bytes is.after (state.of_parts ∙ is.in_order) state.each in
-      unexpected left health pulls limits is.bytes is.at.came is.at.was is.at.is part.0 part.1 part.2 fault le part.3 is.of_part is.at.refused
+      unexpected left health pulls limits is.given is.bytes is.at.came is.at.was is.at.is part.0 part.1 part.2 fault le part.3 is.of_part is.at.refused
       (well_at new index is.at.is well is.at.is_there) unhindered
 
   -- the fault of an answer is that with which reading ended

@@ -11,14 +11,15 @@ use Rattle.hprof_stream.specs.declared.limits.Limits.{Limits}
 use Rattle.hprof_stream.specs.declared.part_fault.PartFault.{PartFault}
 use Rattle.hprof_stream.specs.declared.part_fault.PartFault.TheVariants as faults
 use Rattle.hprof_stream.specs.declared.sink.SinkFault.TheVariants as sinks
-use Rattle.hprof_stream.specs.Part.{IsPart}
+use Rattle.hprof_stream.specs.Part.{IsPart, all_facts}
+use Rattle.hprof_stream.specs.Item.{header_before}
 use Rattle.hprof_stream.specs.Reader.{BeginsWhole, whole_len, IsUnheld, Pulled, PulledOut, CameLast}
 use Rattle.hprof_stream.specs.Fault.{HasNoFault, IsFirstFault, HasNoSettledFault, is_lasting}
 use Rattle.hprof_heap.specs.declared.key.Key.{Key}
 use Rattle.hprof_heap.specs.Conflict.{IsConsistent, IsLeastConflict}
 use Rattle.hprof_heap.specs.Dump.{canonical_dump}
 use Rattle.hprof_heap.specs.Order.{IsCanonicalOrder}
-use Rattle.hprof_heap.specs.Gathering.{Gathered, Given, Gathers}
+use Rattle.hprof_heap.specs.Gathering.{Gathered, Given, Gathers, IsNewBehind}
 use Rattle.hprof_heap.specs.State.{IsState}
 use Rattle.hprof_tool.specs.declared.tool_fault.ToolFault.{ToolFault}
 use Rattle.hprof_tool.specs.declared.tool_fault.ToolFault.TheVariants as tool
@@ -66,37 +67,54 @@ pub record Disagree (parts : List (List ℕ)) (key : Key) : Type 0 where
 abbrev pub IsAccepted : Limits → List ℕ → Type 0
 IsAccepted limits bytes = HasNoFault limits.max_item bytes × (length bytes ≤ limits.max_bytes)
 
+-- what a reader had to tell, if it told, is a part that was read to its end and states what was given
+abbrev pub IsGiven : Limits → Option (List ℕ) → Given → Type 0
+IsGiven limits None part = ⊤
+IsGiven limits (Some bytes) part =
+    IsAccepted limits bytes × IsPart bytes part.header.ids part.header.millis part.facts
+
+abbrev pub AreGiven : Limits → List (Option (List ℕ)) → List Given → Type 0
+AreGiven limits [] [] = ⊤
+AreGiven limits (left ∷ lefts) (part ∷ parts) = IsGiven limits left part × AreGiven limits lefts parts
+AreGiven limits [] (part ∷ parts) = ⊥
+AreGiven limits (left ∷ lefts) [] = ⊥
+
 module _ {R : Type 0} (left : R → Option (List ℕ)) (health : R → Health) (pulls : R → ℕ) where
   -- with which fault a part is refused of which these bytes came, and were judged as far as they may be taken; where
   -- memory was wanted, nothing was read, or all but the last piece was judged, and an item could not be held, or one that
-  -- ends in that piece could not be kept; each pull but one behind the end, or one that failed, gave a byte
-  --   was, is: the reader, before and afterwards
-  abbrev pub IsPartFault : Limits → R → List ℕ → R → PartFault → Type 0
-  IsPartFault limits was came is (faults.Malformed at reason) =
+  -- ends in that piece, and states a fact that is new, could not be kept; each pull but one behind the end, or one that
+  -- failed, gave a byte
+  --   earlier: what the parts before it gave;  was, is: the reader, before and afterwards
+  abbrev pub IsPartFault : Limits → List Given → R → List ℕ → R → PartFault → Type 0
+  IsPartFault limits earlier was came is (faults.Malformed at reason) =
       (health is ≡ healths.Well) × IsFirstFault limits.max_item (take limits.max_bytes came) (faults.Malformed at reason)
       × (is_lasting reason ≡ true → CameLast left pulls limits was came is)
       × (is_lasting reason ≡ false → PulledOut left pulls limits was came is × IsAtEnd (left is) × (length came ≤ limits.max_bytes))
-  IsPartFault limits was came is (faults.ItemTooLong at) =
+  IsPartFault limits earlier was came is (faults.ItemTooLong at) =
       (health is ≡ healths.Well) × IsFirstFault limits.max_item (take limits.max_bytes came) (faults.ItemTooLong at) × CameLast left pulls limits was came is
-  IsPartFault limits was came is faults.BytesExceeded =
+  IsPartFault limits earlier was came is faults.BytesExceeded =
       (health is ≡ healths.Well) × (limits.max_bytes < length came) × HasNoSettledFault limits.max_item (take limits.max_bytes came) × CameLast left pulls limits was came is
-  IsPartFault limits was came is faults.Read =
+  IsPartFault limits earlier was came is faults.Read =
       (health is ≡ healths.Failed) × (length came ≤ limits.max_bytes) × HasNoSettledFault limits.max_item came × PulledOut left pulls limits was came is
-  IsPartFault limits was came is faults.ReadsExceeded =
+  IsPartFault limits earlier was came is faults.ReadsExceeded =
       (health is ≡ healths.Well) × Pulled left pulls was came limits.max_reads is × (length came ≤ limits.max_bytes) × HasNoSettledFault limits.max_item came
-  IsPartFault limits was came is faults.OutOfMemory =
+  IsPartFault limits earlier was came is faults.OutOfMemory =
       (health is ≡ healths.Well) × (((came ≡ []) × (was ≡ is)) ⊎ ((last : CameLast left pulls limits was came is) × IsUnheld limits last.front last.piece))
-  IsPartFault limits was came is (faults.Sink sinks.OutOfMemory) =
+  IsPartFault limits earlier was came is (faults.Sink sinks.OutOfMemory) =
       (health is ≡ healths.Well) × ((last : CameLast left pulls limits was came is) × ((told : Option Header)
-      × (whole : BeginsWhole limits.max_item (take limits.max_bytes came) told) × (length last.front < whole_len whole)))
-  IsPartFault limits was came is (faults.Sink sinks.Failed) = ⊥
-  IsPartFault limits was came is faults.Failed = ⊥
+      × (whole : BeginsWhole limits.max_item (take limits.max_bytes came) told) × (length last.front < whole_len whole)
+      × IsNewBehind earlier (header_before whole.before) (all_facts whole.items) whole.last.facts))
+  IsPartFault limits earlier was came is (faults.Sink sinks.Failed) = ⊥
+  IsPartFault limits earlier was came is faults.Failed = ⊥
 
--- a fault of an item is the first of the whole part
-abbrev pub IsOfPart : ℕ → List ℕ → PartFault → Type 0
-IsOfPart longest bytes (faults.Malformed at reason) = IsFirstFault longest bytes (faults.Malformed at reason)
-IsOfPart longest bytes (faults.ItemTooLong at) = IsFirstFault longest bytes (faults.ItemTooLong at)
-IsOfPart longest bytes other = ⊤
+-- a fault of an item is the first of the whole part; a part with too many bytes has more than may be taken, and one that takes
+-- too many reads at least as many as these
+abbrev pub IsOfPart : Limits → List ℕ → PartFault → Type 0
+IsOfPart limits bytes (faults.Malformed at reason) = IsFirstFault limits.max_item bytes (faults.Malformed at reason)
+IsOfPart limits bytes (faults.ItemTooLong at) = IsFirstFault limits.max_item bytes (faults.ItemTooLong at)
+IsOfPart limits bytes faults.BytesExceeded = limits.max_bytes < length bytes
+IsOfPart limits bytes faults.ReadsExceeded = limits.max_reads ≤ length bytes
+IsOfPart limits bytes other = ⊤
 
 module _ {R : Type 0} (left : R → Option (List ℕ)) (health : R → Health) (pulls : R → ℕ) where
   -- a reader was read to its end over these bytes, which were accepted: it is well, each pull gave a byte, and the last
@@ -116,7 +134,8 @@ module _ {R : Type 0} (left : R → Option (List ℕ)) (health : R → Health) (
       (k : ℕ) → k < count → (was : R) × (is : R) × (slice_get old k ≡ Some was) × (slice_get new k ≡ Some is) × IsReadOut limits was is
 
   -- the reader at that place was read over these bytes and was refused with the fault; those behind it were not touched
-  pub record RefusesAt (limits : Limits) (old new : List R) (index : ℕ) (fault : PartFault) : Type 0 where
+  --   earlier: what the parts before it gave
+  pub record RefusesAt (limits : Limits) (earlier : List Given) (old new : List R) (index : ℕ) (fault : PartFault) : Type 0 where
     pub was : R
     pub is : R
     pub was_there : slice_get old index ≡ Some was
@@ -124,7 +143,7 @@ module _ {R : Type 0} (left : R → Option (List ℕ)) (health : R → Health) (
     pub came : List ℕ
     pub consumed : Consumes (left was) (left is) came
     pub spared : pulls is ≤ pulls was + limits.max_reads
-    pub refused : IsPartFault left health pulls limits was came is fault
+    pub refused : IsPartFault left health pulls limits earlier was came is fault
     pub unread : (k : ℕ) → index < k → slice_get new k ≡ slice_get old k
 
   -- the part at that place was refused with the fault; all parts before it were read to their ends
@@ -135,23 +154,13 @@ module _ {R : Type 0} (left : R → Option (List ℕ)) (health : R → Health) (
     pub in_order : parts ≡ before ++ bytes ∷ after
     pub place : length before ≡ index
     pub accepted : AllByRecursion (IsAccepted limits) before
-    pub at : RefusesAt limits old new index fault
+    pub given : List Given
+    pub stated : AreGiven limits (map Some before) given
+    pub at : RefusesAt limits given old new index fault
     pub told : left at.was ≡ Some bytes
-    pub of_part : IsOfPart limits.max_item bytes fault
+    pub of_part : IsOfPart limits bytes fault
 
 -- ---- reading all parts
-
--- what a reader had to tell, if it told, is a part that was read to its end and states what was given
-abbrev pub IsGiven : Limits → Option (List ℕ) → Given → Type 0
-IsGiven limits None part = ⊤
-IsGiven limits (Some bytes) part =
-    IsAccepted limits bytes × IsPart bytes part.header.ids part.header.millis part.facts
-
-abbrev pub AreGiven : Limits → List (Option (List ℕ)) → List Given → Type 0
-AreGiven limits [] [] = ⊤
-AreGiven limits (left ∷ lefts) (part ∷ parts) = IsGiven limits left part × AreGiven limits lefts parts
-AreGiven limits [] (part ∷ parts) = ⊥
-AreGiven limits (left ∷ lefts) [] = ⊥
 
 module _ {R : Type 0} (left : R → Option (List ℕ)) where
   -- so many readers were read to their ends, and the gatherer was given their parts
@@ -166,7 +175,7 @@ module _ {R : Type 0} (left : R → Option (List ℕ)) (health : R → Health) (
     pub mid : Gathered
     pub before : GathersFirst left limits old index from mid
     pub out : AreReadOut left health pulls limits old new index
-    pub at : RefusesAt left health pulls limits old new index fault
+    pub at : RefusesAt left health pulls limits before.given old new index fault
 
   -- all readers were read to their ends, or one was refused
   abbrev pub ReadsAll : Limits → List R → Gathered → Result (Unit {0}) ToolFault → List R → Gathered → Type 0

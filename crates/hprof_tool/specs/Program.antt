@@ -39,7 +39,8 @@ IsFirstAnswer faults.Failed = ⊥
 IsFirstAnswer (faults.Sink sinks.Failed) = ⊥
 IsFirstAnswer other = ⊤
 
--- there is a part at that place; those before it are read to their ends, and a fault of an item is its first
+-- there is a part at that place; those before it are read to their ends, and a fault of an item is its first; it goes
+-- beyond a limit where it is told so
 pub record IsPartRefusal (parts : List (List ℕ)) (index : ℕ) (fault : PartFault) : Type 0 where
   pub before : List (List ℕ)
   pub bytes : List ℕ
@@ -47,7 +48,7 @@ pub record IsPartRefusal (parts : List (List ℕ)) (index : ℕ) (fault : PartFa
   pub in_order : parts ≡ before ++ bytes ∷ after
   pub place : length before ≡ index
   pub accepted : AllByRecursion (IsAccepted usual_limits) before
-  pub of_part : IsOfPart usual_limits.max_item bytes fault
+  pub of_part : IsOfPart usual_limits bytes fault
   pub is_first : IsFirstAnswer fault
 
 -- what a refusal to join says of the parts
@@ -57,7 +58,7 @@ IsRefusal (refusals.Engine tool.NoParts) parts = parts ≡ []
 IsRefusal (refusals.Engine tool.IdSizes) parts = HaveTwoSizes parts
 IsRefusal (refusals.Engine (tool.Conflict key)) parts = Disagree parts key
 IsRefusal (refusals.Engine (tool.Write fault)) parts = HaveOneState parts
-IsRefusal (refusals.Engine tool.OutOfMemory) parts = ⊤
+IsRefusal (refusals.Engine tool.OutOfMemory) parts = ⊥
 IsRefusal (refusals.Open index) parts = ⊥
 IsRefusal refusals.Create parts = ⊥
 IsRefusal refusals.OutOfMemory parts = ⊤
@@ -82,18 +83,21 @@ IsJoinOfFiles {F} remaining contents count new =
 
 -- what a refusal to join so many files says
 abbrev pub IsFilesRefusal : {F : Type 0} → (F → Option (List ℕ)) → ℕ → Refused → Type 0
+IsFilesRefusal remaining count (refusals.Engine tool.OutOfMemory) = ⊥
 IsFilesRefusal remaining count (refusals.Engine fault) = OfParts remaining count (IsRefusal (refusals.Engine fault))
 IsFilesRefusal remaining count (refusals.Open index) = index < count
 IsFilesRefusal remaining count refusals.Create = ⊤
 IsFilesRefusal remaining count refusals.OutOfMemory = ⊤
 
--- the engine refused
+-- the engine refused; it answers no want of memory of its own
 abbrev pub IsOfEngine : Refused → Type 0
+IsOfEngine (refusals.Engine tool.OutOfMemory) = ⊥
 IsOfEngine (refusals.Engine fault) = ⊤
 IsOfEngine other = ⊥
 
 -- the engine refused, or there was no memory
 abbrev pub IsOfJoining : Refused → Type 0
+IsOfJoining (refusals.Engine tool.OutOfMemory) = ⊥
 IsOfJoining (refusals.Engine fault) = ⊤
 IsOfJoining refusals.OutOfMemory = ⊤
 IsOfJoining other = ⊥

@@ -18,6 +18,7 @@ pub struct Item<'a> {
     pub longest: usize,
 }
 
+#[inline(always)]
 fn total(widths: &[usize]) -> usize
     requires { sum widths.now < 2 ^ 64 }
     ensures { result ≡ sum widths.now }
@@ -57,6 +58,7 @@ impl Item<'_> {
 
     /// The end of fields of those widths that begin there, or the first of their tests that fails.
     #[tactic(auto, using(crate::proofs::FieldGroups::reached_within))]
+    #[inline(always)]
     pub fn end_of(&self, at: usize, widths: &[usize]) -> Result<usize, Stop>
         requires { at + sum widths.now < 2 ^ 64 }
         ensures { result ≡ reached (bounds_of self.now) at widths.now }

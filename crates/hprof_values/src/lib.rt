@@ -36,6 +36,3 @@ pub use root::Root;
 pub use stop::Stop;
 pub use sub_tag::SubTag;
 pub use value::{Constant, Field, Static, Value};
-
-#[cfg(test)]
-mod tests;

@@ -24,6 +24,7 @@ pub enum Number {
 
 impl Number {
     /// How many bytes the number has.
+    #[inline(always)]
     pub fn width(self, ids: IdSize) -> usize
         ensures { result ≡ width_of_number ids self }
     {
@@ -59,6 +60,7 @@ pub fn numbers_fit(numbers: &[Number], ids: IdSize) -> bool
 }
 
 /// Puts an identifier at the front.
+#[inline(always)]
 fn put_id(id: u64, ids: IdSize, out: &mut [u8])
     requires room { width_of ids ≤ length out.old }
     requires is_id { IsId ids id }
@@ -71,6 +73,7 @@ fn put_id(id: u64, ids: IdSize, out: &mut [u8])
 }
 
 /// Puts a number at the front.
+#[inline(always)]
 fn put_number(number: Number, ids: IdSize, out: &mut [u8])
     requires room { width_of_number ids number ≤ length out.old }
     requires fits { number_value number < 256 ^ width_of_number ids number }
@@ -85,6 +88,7 @@ fn put_number(number: Number, ids: IdSize, out: &mut [u8])
 }
 
 /// How many bytes the numbers have.
+#[inline(always)]
 pub fn numbers_len(numbers: &[Number], ids: IdSize) -> usize
     requires { sum (number_widths ids numbers.now) < 2 ^ 64 }
     ensures { result ≡ sum (number_widths ids numbers.now) }
@@ -93,6 +97,7 @@ pub fn numbers_len(numbers: &[Number], ids: IdSize) -> usize
 }
 
 /// Puts the numbers at the front, one behind the other.
+#[inline(always)]
 pub fn put_numbers(numbers: &[Number], ids: IdSize, out: &mut [u8])
     requires room { sum (number_widths ids numbers.now) ≤ length out.old }
     requires fits { FitFields (number_widths ids numbers.now) (number_values numbers.now) }

@@ -1,8 +1,8 @@
 //! Reading all parts into one gatherer.
 
-ghost use Rattle.std.specs.Prelude.{◌≡◌, All, false};
+ghost use Rattle.std.specs.Prelude.{◌≡◌, All};
 ghost use Rattle.hprof_items.specs.declared.health.Health.TheVariants.{Well};
-ghost use Rattle.hprof_heap.specs.Gathering.{gathered};
+ghost use Rattle.hprof_heap.specs.Gathering.{gathered, nothing_gathered};
 ghost use Rattle.hprof_tool.specs.Joining.{ReadsAll};
 
 use crate::tool_fault::ToolFault;
@@ -19,7 +19,7 @@ pub(crate) fn read_parts<R: Source>(
     gatherer: &mut Gatherer,
 ) -> Result<(), ToolFault>
     requires well { All (λ reader. R.health reader ≡ Well) readers.old }
-    requires sound { (gathered gatherer.old).failed ≡ false }
+    requires nothing { gathered gatherer.old ≡ nothing_gathered }
     ensures read { ReadsAll R.left R.health R.pulls limits readers.old (gathered gatherer.old) result readers.new (gathered gatherer.new) }
 {
     for (index, reader) in readers.iter_mut().enumerate() {

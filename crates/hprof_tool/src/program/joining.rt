@@ -103,6 +103,8 @@ fn join_buffered<R: Source, W: Write + Drop>(
     ensures ok { IfOk result (λ written. (parts : List (List ℕ)) → Tell R.left readers.old parts
         → IsWritten parts (W.contents writer) (W.contents written)) }
     ensures kind { IfErr result IsOfJoining }
+    // Want of memory comes before anything is read.
+    ensures memory { result ≡ Err Refused.OutOfMemory → readers.new ≡ readers.old }
     ensures no_parts { result ≡ Err (Refused.Engine ToolFault.NoParts) → readers.old ≡ [] }
     ensures refused { IfErr result (λ refused. (parts : List (List ℕ)) → Tell R.left readers.old parts
         → IsRefusal refused parts) }

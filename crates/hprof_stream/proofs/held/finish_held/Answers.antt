@@ -2,6 +2,7 @@ use Rattle.std.proofs.Common.{◌<◌, length, refl, ap, inr, arith}
 use Rattle.std.proofs.lemmas.Result.{err_from_is_err_and}
 use Rattle.std.specs.Vec.{vec_len}
 use Rattle.hprof_stream.proofs.HeldOn.{some_len, GoesOn-then, GoesOn-halted}
+use Rattle.hprof_stream.proofs.Rooms.{KeepsRoom-then, NeedsGrowth-from}
 use Rattle.hprof_stream.proofs.held.finish_held.Goals as goal
 
 pub loop-progress-init : goal.loop-progress-init
@@ -12,6 +13,7 @@ loop-progress-init g c = record {
   sound = c.requires.sound;
   begun = c.requires.begun;
   less = omega arith;
+  room = record { room = omega arith; fewer = omega arith };
   kept = λ header e. e;
 }
 
@@ -54,11 +56,20 @@ loop-progress-preserved g c =
       sound = c.in_ok-left.ensures.sound;
       begun = c.in_ok-left.ensures.begun;
       less = omega (arith, c.in_ok-left.ensures.less, inv.less);
+      room = KeepsRoom-then c.args.rest.now mid.rest c.finish_once.new.rest _ _ _ inv.room c.in_ok-left.ensures.room;
       kept = λ header e. c.in_ok-left.ensures.kept header (inv.kept header e);
     }
 
 pub returns-clause-finished : goal.returns-clause-finished
 returns-clause-finished g c front is = c.loop-progress.invariant.on front is
+
+pub returns-in_err-left-clause-full : goal.returns-in_err-left-clause-full
+returns-in_err-left-clause-full g c e =
+    let p = err_from_is_err_and c.from_residual.result c.from_residual.ensures.1 in
+    NeedsGrowth-from c.args.rest.now c.loop-progress.rest _ _ c.loop-progress.invariant.room (c.in_err-left.ensures.full (rw (p.1, p.2) at e))
+
+pub returns-clause-room : goal.returns-clause-room
+returns-clause-room g c = c.loop-progress.invariant.room
 
 pub returns-clause-sound : goal.returns-clause-sound
 returns-clause-sound g c = c.loop-progress.invariant.sound

@@ -1,7 +1,7 @@
 use Rattle.std.proofs.Common.{◌≡◌, ◌+◌, ◌<◌, ◌≤◌, ℕ, List, Some, length, min}
 use Rattle.hprof_items.specs.declared.header.Header.{Header}
 use Rattle.hprof_stream.specs.Progress.{place_of, IsCounted}
-use Rattle.hprof_stream.specs.Rest.{IsRest, IsSound, rest_len}
+use Rattle.hprof_stream.specs.Rest.{IsRest, IsSound, KeepsRoom, rest_len}
 use Rattle.hprof_stream.specs.Walking.{IsBegun, GoesOn}
 use Rattle.hprof_stream.proofs.held.finish_held.Given as goal
 
@@ -14,6 +14,7 @@ invariant-loop-progress g l = record {
   sound : IsSound l.rest;
   begun : IsBegun l.progress.header (g.S.Sink.begun l.sink);
   less : length l.left ≤ length l.fn.bytes;
+  room : KeepsRoom l.fn.rest (length l.fn.bytes) l.rest (length l.left);
   kept : (header : Header) → l.fn.progress.header ≡ Some header → l.progress.header ≡ Some header;
 }
 

@@ -1,7 +1,7 @@
 use Rattle.std.proofs.Common.{◌≡◌, ◌+◌, ◌<◌, ◌≤◌, ℕ, [], ◌++◌, length, drop, Option, Some, refl, sym, ap, ◌∙◌, inl, inr, drop_of_length-le, arith}
 use Rattle.std.proofs.lemmas.List.{length-append}
 use Rattle.std.proofs.Math.Seq.{drop-append-add}
-use Rattle.hprof_stream.specs.declared.item.Item.TheVariants as items
+use Rattle.hprof_stream.specs.ItemValue as items
 use Rattle.hprof_stream.specs.declared.rest.Passing.{Passing}
 use Rattle.hprof_stream.specs.Progress.{place_of, advanced}
 use Rattle.hprof_stream.proofs.Rests.{passed_of, passed_whole, passed_short, passed_held, passed_none_held, passed_on, passed_walk, passed_fewer, passed_stands, IsBytes-append, IsRest-none}

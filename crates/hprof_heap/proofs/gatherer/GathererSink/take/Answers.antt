@@ -1,9 +1,9 @@
-use Rattle.std.proofs.Common.{◌≡◌, sym, subst, inl, inr}
+use Rattle.std.proofs.Common.{◌≡◌, refl, sym, ap, subst, inl, inr}
 use Rattle.hprof_items.specs.FactValue.{value_of}
 use Rattle.hprof_heap.specs.declared.relation.Stated.{Stated}
 use Rattle.hprof_heap.specs.declared.relation.Stated.TheVariants.{New, Same, Differs}
 use Rattle.hprof_heap.specs.Heap.{heap_of}
-use Rattle.hprof_heap.specs.Gathering.{gathered, Takes}
+use Rattle.hprof_heap.specs.Gathering.{gathered, lent_heap, Takes}
 use Rattle.hprof_heap.proofs.Steady.{states_ids, steady_after, took}
 use Rattle.hprof_heap.proofs.gatherer.GathererSink.take.Goals as goal
 
@@ -25,3 +25,8 @@ returns-in-Differs-clause-steps c =
     subst (Takes (gathered c.args.self.now) (value_of c.args.fact.now)) (sym c.mark.ensures)
     (took c.state.result c.in-Ok.stated Differs c.args.self.now c.in-Some.heap c.state.new.self (value_of c.args.fact.now)
     c.if-self.false c.if-self-2.false c.in-Some.is c.in-Ok.is c.in-Differs.is c.state.ensures.ok)
+
+-- want of memory comes only for a fact that is new to the heap
+pub returns-in_default-state-clause-err : goal.returns-in_default-state-clause-err
+returns-in_default-state-clause-err c =
+    (λ sound. (refl, (c.if-self-2.false, (heap_of c.in-Some.heap, ap lent_heap c.in-Some.is, c.in_default-state.ensures.absent))), refl)

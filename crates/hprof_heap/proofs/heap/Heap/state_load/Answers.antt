@@ -5,7 +5,7 @@ use Rattle.hprof_heap.specs.Content.{load_fact}
 use Rattle.hprof_heap.specs.HeapRows.{load_facts}
 use Rattle.hprof_heap.specs.NumberRows.{load_numbers}
 use Rattle.hprof_heap.specs.Relation.{rows_of}
-use Rattle.hprof_heap.proofs.HeapRows.{loads_right, into_heap, into_heap-sound}
+use Rattle.hprof_heap.proofs.HeapRows.{loads_right, into_heap, into_heap-sound, unseen_row}
 use Rattle.hprof_heap.proofs.RowFacts.{rows_tried, rows_kept}
 use Rattle.hprof_heap.proofs.heap.Heap.state_load.Goals as goal
 
@@ -36,3 +36,9 @@ returns-clause-ok c =
     let r = c.state.result in
     into_heap r (rows_in heap) heap.sound 1 (load_facts new) fact (record { more = c.args.serial ∷ []; stands = refl }) (omega arith) c.requires
     (rows_tried heap.ids 1 load_fact load_numbers r old new c.args.serial fact (record { stands = refl; again = refl }) (loads_right heap.ids old) c.state.ensures.ok)
+
+pub returns-clause-absent : goal.returns-clause-absent
+returns-clause-absent c =
+    let heap = c.args.self.now in
+    let fact = Load c.args.serial c.args.row.class c.args.row.trace c.args.row.name in
+    unseen_row c.state.result (rows_in heap) 1 c.args.serial load_fact load_numbers (rows_of heap.loads) fact heap.sound refl (loads_right heap.ids (rows_of heap.loads)) refl c.state.ensures.absent

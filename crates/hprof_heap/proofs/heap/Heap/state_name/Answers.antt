@@ -3,7 +3,7 @@ use Rattle.hprof_items.specs.FactValue.{Name}
 use Rattle.hprof_heap.specs.Heap.{rows_in}
 use Rattle.hprof_heap.specs.HeapRows.{name_text, name_facts}
 use Rattle.hprof_heap.specs.Relation.{rows_of}
-use Rattle.hprof_heap.proofs.HeapRows.{names_right, into_heap, into_heap-sound}
+use Rattle.hprof_heap.proofs.HeapRows.{names_right, into_heap, into_heap-sound, unseen_row}
 use Rattle.hprof_heap.proofs.RowFacts.{rows_tried, rows_kept}
 use Rattle.hprof_heap.proofs.heap.Heap.state_name.Goals as goal
 
@@ -34,3 +34,9 @@ returns-clause-ok c =
     let r = c.state_from.result in
     into_heap r (rows_in heap) heap.sound 0 (name_facts new) fact (record { more = c.args.id ∷ []; stands = refl }) (omega arith) c.requires
     (rows_tried heap.ids 0 Name name_text r old new c.args.id fact (record { stands = refl; again = refl }) (names_right heap.ids old) c.state_from.ensures.ok)
+
+pub returns-clause-absent : goal.returns-clause-absent
+returns-clause-absent c =
+    let heap = c.args.self.now in
+    let fact = Name c.args.id c.args.text.now in
+    unseen_row c.state_from.result (rows_in heap) 0 c.args.id Name name_text (rows_of heap.names) fact heap.sound refl (names_right heap.ids (rows_of heap.names)) refl c.state_from.ensures.absent

@@ -1,11 +1,11 @@
-use Rattle.std.proofs.Common.{arith}
+use Rattle.std.proofs.Common.{refl, arith}
 use Rattle.hprof_items.specs.FactValue.{value_of}
 use Rattle.hprof_heap.specs.Content.{spelled_fact}
 use Rattle.hprof_heap.specs.Heap.{rows_in}
 use Rattle.hprof_heap.specs.HeapRows.{spelled_facts}
 use Rattle.hprof_heap.specs.Relation.{rows_of}
 use Rattle.hprof_heap.specs.SpelledRow.{spelled_bytes}
-use Rattle.hprof_heap.proofs.HeapRows.{sub_at_place, spelled_again, spelled_stated, of_key, into_heap, into_heap-sound}
+use Rattle.hprof_heap.proofs.HeapRows.{sub_at_place, spelled_again, spelled_stated, of_key, into_heap, into_heap-sound, unseen_row}
 use Rattle.hprof_heap.proofs.RowFacts.{rows_tried, rows_kept, tried_right}
 use Rattle.hprof_heap.proofs.heap.Heap.state_object.Goals as goal
 
@@ -43,3 +43,9 @@ returns-clause-ok c =
     into_heap r (rows_in heap) heap.sound 9 (spelled_facts heap.ids new) fact (of_key 9 c.args.id fact c.requires.place) (omega arith) c.requires.fits
     (rows_tried heap.ids 9 (spelled_fact heap.ids) spelled_bytes r old new c.args.id fact
     (record { stands = c.requires.place; again = spelled_again heap.ids c.args.id fact sub c.requires.fits }) heap.sound.objects ok)
+
+pub returns-clause-absent : goal.returns-clause-absent
+returns-clause-absent c =
+    let heap = c.args.self.now in
+    let fact = value_of c.args.fact.now in
+    unseen_row c.state_from.result (rows_in heap) 9 c.args.id (spelled_fact heap.ids) spelled_bytes (rows_of heap.objects) fact heap.sound c.requires.place heap.sound.objects refl c.state_from.ensures.absent

@@ -11,7 +11,7 @@ use Rattle.hprof_heap.specs.Heap.{rows_in}
 use Rattle.hprof_heap.specs.HeapRows.{trace_facts}
 use Rattle.hprof_heap.specs.Relation.{rows_of, States}
 use Rattle.hprof_heap.specs.TraceRow.{trace_content}
-use Rattle.hprof_heap.proofs.HeapRows.{trace_again, into_heap, into_heap-sound}
+use Rattle.hprof_heap.proofs.HeapRows.{trace_again, into_heap, into_heap-sound, unseen_row}
 use Rattle.hprof_heap.proofs.RowFacts.{rows_tried, rows_kept, tried_right}
 use Rattle.hprof_heap.proofs.heap.Heap.state_trace.Goals as goal
 
@@ -56,3 +56,10 @@ returns-clause-ok c =
     into_heap r (rows_in heap) heap.sound 4 (trace_facts heap.ids new) fact (record { more = c.args.serial ∷ []; stands = refl }) (omega arith) c.requires.fits
     (rows_tried heap.ids 4 (trace_fact heap.ids) trace_content r old new c.args.serial fact
     (record { stands = refl; again = trace_again heap.ids c.args.serial c.args.thread frames c.requires.fits }) heap.sound.traces ok)
+
+pub returns-clause-absent : goal.returns-clause-absent
+returns-clause-absent c =
+    let heap = c.args.self.now in
+    let frames = identifiers_of c.args.frames in
+    let fact = Trace c.args.serial c.args.thread frames in
+    unseen_row c.state_from.result (rows_in heap) 4 c.args.serial (trace_fact heap.ids) trace_content (rows_of heap.traces) fact heap.sound refl heap.sound.traces refl c.state_from.ensures.absent

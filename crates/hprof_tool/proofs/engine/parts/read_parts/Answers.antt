@@ -4,6 +4,7 @@ use Rattle.hprof_items.specs.declared.header.Header.{Header}
 use Rattle.hprof_heap.specs.Gathering.{gathered}
 use Rattle.hprof_tool.proofs.Gathered.{Run-shown, Run-sound}
 use Rattle.hprof_tool.proofs.PartFaults.{fault_of_came}
+use Rattle.hprof_tool.proofs.Answers.{from_nothing}
 use Rattle.hprof_tool.proofs.Reading.{element_at, element_set, same_at, given_if_told, GathersFirst-more, AreReadOut-kept, AreReadOut-more}
 use Rattle.hprof_tool.proofs.engine.parts.read_parts.Goals as goal
 
@@ -16,6 +17,8 @@ returns-in-Err g c =
     let still : index < length c.loop-index.readers = omega arith in
     let same_length : length c.loop-index.readers ≡ length c.args.readers.now = omega arith in
     let read = c.in-Err.ensures.read in
+    let first = c.loop-index.invariant.first in
+    let gathers = from_nothing (gathered c.args.gatherer.now) (gathered c.loop-index.gatherer) first.given c.requires.nothing first.gathers in
     record {
       read = record {
         mid = gathered c.loop-index.gatherer;
@@ -29,7 +32,7 @@ returns-in-Err g c =
           came = read.0;
           consumed = read.1;
           spared = c.in-Err.ensures.pulls;
-          refused = fault_of_came g.R.Source.left g.R.Source.health g.R.Source.pulls c.args.limits was read.0 c.read_part.new.source c.loop-index.gatherer c.read_part.new.sink c.in-Err.fault c.loop-index.invariant.sound read.2;
+          refused = fault_of_came g.R.Source.left g.R.Source.health g.R.Source.pulls c.args.limits first.given was read.0 c.read_part.new.source c.loop-index.gatherer c.read_part.new.sink c.in-Err.fault c.loop-index.invariant.sound gathers read.2;
           unread = λ k behind. same_at (set c.loop-index.readers index c.read_part.new.source) c.args.readers.now k (length-set c.loop-index.readers index c.read_part.new.source ∙ same_length)
               (λ d below. let other : k ≢ index = omega (arith, behind) in
               get_or-set_other c.loop-index.readers index k c.read_part.new.source d other ∙ c.loop-index.invariant.unread k d (omega (arith, behind)) below);

@@ -7,7 +7,7 @@ use Rattle.hprof_tool.specs.declared.program.refused.Refused.TheVariants as refu
 use Rattle.hprof_tool.specs.declared.tool_fault.ToolFault.{ToolFault}
 use Rattle.hprof_tool.specs.declared.tool_fault.ToolFault.TheVariants as tool
 use Rattle.hprof_tool.specs.Joining.{Tell}
-use Rattle.hprof_tool.specs.Program.{IsRefusal, IsFilesRefusal, IsOfJoining, IsOfOpening}
+use Rattle.hprof_tool.specs.Program.{OfParts, IsRefusal, IsFilesRefusal, IsOfJoining, IsOfOpening}
 use Rattle.hprof_tool.proofs.program.joining.join_files.Goals as goal
 
 -- opening answers no refusal of the engine
@@ -25,12 +25,21 @@ module _ {F : Type 0} (remaining : F → Option (List ℕ)) (count : ℕ) where
   of_opening refusals.Create is = tt
   of_opening refusals.OutOfMemory is = tt
 
+  -- a refusal of the engine is one of these refusals, but for want of memory of its own
+  of_engine : (fault : ToolFault) → IsOfJoining (refusals.Engine fault) → OfParts remaining count (IsRefusal (refusals.Engine fault)) → IsFilesRefusal remaining count (refusals.Engine fault)
+  of_engine (tool.Part index fault) kind says = says
+  of_engine tool.NoParts kind says = says
+  of_engine tool.IdSizes kind says = says
+  of_engine (tool.Conflict key) kind says = says
+  of_engine (tool.Write fault) kind says = says
+  of_engine tool.OutOfMemory kind says = kind
+
   -- a refusal to join the files that were opened is one of these refusals
   of_joining : {A : Type 0} (parts : List (Device F)) → length parts ≡ count → (outcome : Result A Refused) → IfErr outcome IsOfJoining
       → IfErr outcome (λ refused. (told : List (List ℕ)) → Tell (λ part. remaining (inner_of part)) parts told → IsRefusal refused told)
       → IfErr outcome (IsFilesRefusal remaining count)
   of_joining parts opened (Ok x) kind says = tt
-  of_joining parts opened (Err (refusals.Engine fault)) kind says = record { parts = parts; opened = opened; holds = says }
+  of_joining parts opened (Err (refusals.Engine fault)) kind says = of_engine fault kind (record { parts = parts; opened = opened; holds = says })
   of_joining parts opened (Err (refusals.Open index)) kind says = absurd kind
   of_joining parts opened (Err refusals.Create) kind says = absurd kind
   of_joining parts opened (Err refusals.OutOfMemory) kind says = tt

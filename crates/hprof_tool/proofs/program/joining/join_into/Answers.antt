@@ -14,6 +14,7 @@ use Rattle.hprof_stream.specs.declared.part_fault.PartFault.TheVariants as part_
 use Rattle.hprof_stream.specs.declared.sink.SinkFault.TheVariants as sinks
 use Rattle.hprof_heap.specs.declared.key.Key.{Key}
 use Rattle.hprof_heap.specs.Dump.{canonical_dump}
+use Rattle.hprof_heap.specs.Gathering.{Given}
 use Rattle.hprof_heap.specs.State.{HaveTwoSizes}
 use Rattle.hprof_tool.specs.declared.joined.Joined.{Joined}
 use Rattle.hprof_tool.specs.declared.tool_fault.ToolFault.{ToolFault}
@@ -21,7 +22,7 @@ use Rattle.hprof_tool.specs.declared.tool_fault.ToolFault.TheVariants as tool
 use Rattle.hprof_tool.specs.declared.program.refused.Refused.{Refused}
 use Rattle.hprof_tool.specs.declared.program.refused.Refused.TheVariants as refusals
 use Rattle.hprof_tool.specs.Joining.{joined_of, Tell, Joins, StopsWriting, Disagree, IsAccepted, IsOfPart, IsPartFault, RefusesPart}
-use Rattle.hprof_tool.specs.Program.{usual_limits, IsWritten, IsFirstAnswer, IsPartRefusal, IsRefusal}
+use Rattle.hprof_tool.specs.Program.{usual_limits, IsWritten, IsFirstAnswer, IsPartRefusal, IsRefusal, IsOfEngine}
 use Rattle.hprof_tool.proofs.program.joining.join_into.Goals as goal
 
 -- no reader tells no part
@@ -37,16 +38,17 @@ are_usual limits item reads bytes =
     ∙ ap (λ (n : ℕ). record { max_item = 4294967295; max_reads = 1099511627776; max_bytes = n }) bytes
 
 -- what a part is refused with is not answered for what failed before
-first_answer : {R : Type 0} (left : R → Option (List ℕ)) (health : R → Health) (pulls : R → ℕ) (limits : Limits) (was : R) (came : List ℕ) (is : R) (fault : PartFault) → IsPartFault left health pulls limits was came is fault → IsFirstAnswer fault
-first_answer left health pulls limits was came is (part_faults.Malformed at reason) why = tt
-first_answer left health pulls limits was came is (part_faults.ItemTooLong at) why = tt
-first_answer left health pulls limits was came is part_faults.OutOfMemory why = tt
-first_answer left health pulls limits was came is (part_faults.Sink sinks.OutOfMemory) why = tt
-first_answer left health pulls limits was came is (part_faults.Sink sinks.Failed) why = absurd why
-first_answer left health pulls limits was came is part_faults.Failed why = absurd why
-first_answer left health pulls limits was came is part_faults.Read why = tt
-first_answer left health pulls limits was came is part_faults.ReadsExceeded why = tt
-first_answer left health pulls limits was came is part_faults.BytesExceeded why = tt
+first_answer : {R : Type 0} (left : R → Option (List ℕ)) (health : R → Health) (pulls : R → ℕ) (limits : Limits) (earlier : List Given) (was : R) (came : List ℕ) (is : R) (fault : PartFault)
+    → IsPartFault left health pulls limits earlier was came is fault → IsFirstAnswer fault
+first_answer left health pulls limits earlier was came is (part_faults.Malformed at reason) why = tt
+first_answer left health pulls limits earlier was came is (part_faults.ItemTooLong at) why = tt
+first_answer left health pulls limits earlier was came is part_faults.OutOfMemory why = tt
+first_answer left health pulls limits earlier was came is (part_faults.Sink sinks.OutOfMemory) why = tt
+first_answer left health pulls limits earlier was came is (part_faults.Sink sinks.Failed) why = absurd why
+first_answer left health pulls limits earlier was came is part_faults.Failed why = absurd why
+first_answer left health pulls limits earlier was came is part_faults.Read why = tt
+first_answer left health pulls limits earlier was came is part_faults.ReadsExceeded why = tt
+first_answer left health pulls limits earlier was came is part_faults.BytesExceeded why = tt
 
 -- what the engine says of a part that it refuses
 part_refusal : {R : Type 0} (left : R → Option (List ℕ)) (health : R → Health) (pulls : R → ℕ) (limits : Limits) (parts : List (List ℕ)) (old new : List R) (index : ℕ) (fault : PartFault) → limits ≡ usual_limits
@@ -58,8 +60,8 @@ part_refusal left health pulls limits parts old new index fault same is = record
   in_order = is.in_order;
   place = is.place;
   accepted = subst (λ (l : Limits). AllByRecursion (IsAccepted l) is.before) same is.accepted;
-  of_part = subst (λ (l : Limits). IsOfPart l.max_item is.bytes fault) same is.of_part;
-  is_first = first_answer left health pulls limits is.at.was is.at.came is.at.is fault is.at.refused;
+  of_part = subst (λ (l : Limits). IsOfPart l is.bytes fault) same is.of_part;
+  is_first = first_answer left health pulls limits is.given is.at.was is.at.came is.at.is fault is.at.refused;
 }
 
 -- what the engine's answer tells of the parts and of the bytes that it wrote
@@ -70,6 +72,7 @@ record EngineTells {R : Type 0} (left : R → Option (List ℕ)) (readers : List
   no_parts : joined ≡ Err tool.NoParts → readers ≡ []
   id_sizes : joined ≡ Err tool.IdSizes → (parts : List (List ℕ)) → Tell left readers parts → HaveTwoSizes parts
   write : (fault : WriteFault) → joined ≡ Err (tool.Write fault) → (parts : List (List ℕ)) → Tell left readers parts → StopsWriting parts old new
+  no_memory : joined ≡ Err tool.OutOfMemory → ⊥
 
 module _ {R : Type 0} (left : R → Option (List ℕ)) (readers : List R) (old new : Option (List ℕ)) where
   of_fault : (joined : Result Joined ToolFault) (fault : ToolFault) → EngineTells left readers old new joined → joined ≡ Err fault
@@ -80,7 +83,7 @@ module _ {R : Type 0} (left : R → Option (List ℕ)) (readers : List R) (old n
   of_fault joined (tool.Conflict key) t same parts told = t.conflict key same parts told
   of_fault joined (tool.Write fault) t same parts told =
       let stops = t.write fault same parts told in (stops.ids, stops.millis, stops.rows, stops.agree)
-  of_fault joined tool.OutOfMemory t same parts told = tt
+  of_fault joined tool.OutOfMemory t same parts told = absurd (t.no_memory same)
 
   -- a refusal says what the engine's fault says, and of a flush that failed that the parts agree
   refusal : (joined : Result Joined ToolFault) (outcome : Result (Unit {0}) Refused) → EngineTells left readers old new joined
@@ -151,6 +154,29 @@ emptied : (outcome : Result (Unit {0}) Refused) (inner : Option (List ℕ)) (buf
 emptied (Ok u) inner buffer none = ap (append_known inner) none ∙ none_added inner
 emptied (Err refused) inner buffer none = tt
 
+-- the engine's answers, but for want of memory of its own, are refusals of the engine
+engine_of : (fault : ToolFault) → (◌≡◌ {A = Result Joined ToolFault} (Err fault) (Err tool.OutOfMemory) → ⊥) → IsOfEngine (refusals.Engine fault)
+engine_of (tool.Part index fault) other = tt
+engine_of tool.NoParts other = tt
+engine_of tool.IdSizes other = tt
+engine_of (tool.Conflict key) other = tt
+engine_of (tool.Write fault) other = tt
+engine_of tool.OutOfMemory other = other refl
+
+of_engine : (joined : Result Joined ToolFault) (outcome : Result (Unit {0}) Refused) → (joined ≡ Err tool.OutOfMemory → ⊥) → OnOk joined (OnErr outcome (outcome ≡ Err (refusals.Engine (tool.Write faults.Failed))))
+    → IfErr joined (λ fault. outcome ≡ Err (refusals.Engine fault)) → IfErr outcome IsOfEngine
+of_engine joined (Ok done) other failed same = tt
+of_engine (Ok j) (Err refused) other failed same =
+    let is : refused ≡ refusals.Engine (tool.Write faults.Failed) = cc in
+    subst IsOfEngine (sym is) tt
+of_engine (Err fault) (Err refused) other failed same =
+    let is : refused ≡ refusals.Engine fault = cc in
+    subst IsOfEngine (sym is) (engine_of fault other)
+
+pub returns-clause-kind : goal.returns-clause-kind
+returns-clause-kind g c =
+    of_engine (joined_of c.join_kept-kept.result) c.end_of_writing-outcome.result c.join_kept-kept.ensures.no_memory c.end_of_writing-outcome.ensures.failed c.end_of_writing-outcome.ensures.refused
+
 pub returns-clause-refused : goal.returns-clause-refused
 returns-clause-refused g c =
     let e = c.join_kept-kept.ensures in
@@ -163,6 +189,7 @@ returns-clause-refused g c =
       no_parts = e.no_parts.0;
       id_sizes = e.id_sizes;
       write = λ fault same. (e.write fault same).1;
+      no_memory = e.no_memory;
     })
     c.end_of_writing-outcome.ensures.failed c.end_of_writing-outcome.ensures.refused
 
@@ -180,6 +207,7 @@ returns-clause-write g c =
       no_parts = e.no_parts.0;
       id_sizes = e.id_sizes;
       write = λ fault same. (e.write fault same).1;
+      no_memory = e.no_memory;
     })
     kept c.end_of_writing-outcome.ensures.refused fault is parts told)
 

@@ -1,0 +1,17 @@
+//! Tests of hprof_heap, through public calls. It has no code of its own.
+#![tactic(auto)]
+
+#[cfg(test)]
+mod dumps;
+#[cfg(test)]
+mod gathering;
+#[cfg(test)]
+mod lent_facts;
+#[cfg(test)]
+mod rooms;
+#[cfg(test)]
+mod samples;
+#[cfg(test)]
+mod stating;
+#[cfg(test)]
+mod tables;

@@ -1,0 +1,138 @@
+//! What facts of all forms come to, one after the other.
+
+use crate::samples::{begun, state_record, state_sub};
+use hprof_heap::{Key, Refusal, Standing, Stated, Table};
+use hprof_items::{Fact, IdSize};
+use hprof_values::IdList;
+use std::test::*;
+
+#[test]
+fn records_in_a_heap(rt: HostRuntime) -> Result<(), Fail> {
+    let ids = IdSize::Four;
+    let mut gatherer = begun(rt.alloc(), ids, 5)?;
+    let load = Fact::Load {
+        serial: 1,
+        class: 2,
+        trace: 3,
+        name: 4,
+    };
+    let other = Fact::Load {
+        serial: 1,
+        class: 2,
+        trace: 9,
+        name: 4,
+    };
+    assert_eq!(rt; state_record(&mut gatherer, ids, load)?, Some(Stated::New));
+    assert_eq!(rt; state_record(&mut gatherer, ids, load)?, Some(Stated::Same));
+    let heap = gatherer.heap().ok_or("no heap")?;
+    assert_eq!(rt; heap.load(1), Some(load));
+    let frame = Fact::Frame {
+        id: 1,
+        method: 2,
+        signature: 3,
+        source: 4,
+        class_serial: 5,
+        line: -3,
+    };
+    assert_eq!(rt; state_record(&mut gatherer, ids, frame)?, Some(Stated::New));
+    let heap = gatherer.heap().ok_or("no heap")?;
+    assert_eq!(rt; heap.frame(1), Some(frame));
+    let trace = Fact::Trace {
+        serial: 6,
+        thread: 7,
+        frames: IdList::new(b"\0\0\0\x01", IdSize::Four).ok_or("no list")?,
+    };
+    assert_eq!(rt; state_record(&mut gatherer, ids, trace)?, Some(Stated::New));
+    assert_eq!(rt;
+        state_record(&mut gatherer, ids, trace)?,
+        Some(Stated::Same)
+    );
+    let heap = gatherer.heap().ok_or("no heap")?;
+    assert_eq!(rt; heap.trace(6), Some(trace));
+    let start = Fact::Start {
+        thread: 7,
+        object: 8,
+        trace: 6,
+        name: 2,
+        group: 3,
+        parent_group: 4,
+    };
+    assert_eq!(rt; state_record(&mut gatherer, ids, start)?, Some(Stated::New));
+    let heap = gatherer.heap().ok_or("no heap")?;
+    assert_eq!(rt; heap.thread(7), Some(start));
+    let unload = Fact::Unload { serial: 1 };
+    let end = Fact::End { thread: 7 };
+    assert_eq!(rt;
+        state_record(&mut gatherer, ids, unload)?,
+        Some(Stated::New)
+    );
+    assert_eq!(rt; state_record(&mut gatherer, ids, end)?, Some(Stated::New));
+    assert_eq!(rt; state_record(&mut gatherer, ids, end)?, Some(Stated::Same));
+    let heap = gatherer.heap().ok_or("no heap")?;
+    assert_eq!(rt; heap.count(), 6);
+    assert_eq!(rt; heap.len(Table::Ends), 1);
+    // From the first that differs on, the heap is shown no more.
+    assert_eq!(rt;
+        state_record(&mut gatherer, ids, other)?,
+        Some(Stated::Differs)
+    );
+    assert_eq!(rt; gatherer.standing(), Standing::InConflict);
+    assert_eq!(rt;
+        gatherer.finish().err(),
+        Some(Refusal::Conflict(Key::Load(1)))
+    );
+    Ok(())
+}
+
+#[test]
+fn sub_records_in_a_heap(rt: HostRuntime) -> Result<(), Fail> {
+    let ids = IdSize::Four;
+    let mut gatherer = begun(rt.alloc(), ids, 5)?;
+    let root = b"\x05\0\0\0\x07";
+    assert_eq!(rt; state_sub(&mut gatherer, ids, root)?, Some(Stated::New));
+    assert_eq!(rt; state_sub(&mut gatherer, ids, root)?, Some(Stated::Same));
+    let heap = gatherer.heap().ok_or("no heap")?;
+    assert_eq!(rt; heap.len(Table::Roots), 1);
+    let instance = b"\x21\0\0\0\x07\0\0\0\x01\0\0\0\x02\0\0\0\x03abc";
+    assert_eq!(rt; state_sub(&mut gatherer, ids, instance)?, Some(Stated::New));
+    assert_eq!(rt;
+        state_sub(&mut gatherer, ids, instance)?,
+        Some(Stated::Same)
+    );
+    let heap = gatherer.heap().ok_or("no heap")?;
+    let fact = Fact::Instance {
+        id: 7,
+        trace: 1,
+        class: 2,
+        bytes: b"abc",
+    };
+    assert_eq!(rt; heap.object(7), Some(fact));
+    assert_eq!(rt; heap.object(8), None);
+    assert_eq!(rt; heap.class(7), None);
+    assert_eq!(rt; heap.len(Table::Objects), 1);
+    assert_eq!(rt; heap.count(), 2);
+    Ok(())
+}
+
+// A longer instance and an array, where an instance of the same identifier is there.
+#[test]
+fn sub_records_that_differ(rt: HostRuntime) -> Result<(), Fail> {
+    let ids = IdSize::Four;
+    let instance = b"\x21\0\0\0\x07\0\0\0\x01\0\0\0\x02\0\0\0\x03abc";
+    let longer: &[u8] = b"\x21\0\0\0\x07\0\0\0\x01\0\0\0\x02\0\0\0\x04abcd";
+    let array: &[u8] = b"\x23\0\0\0\x07\0\0\0\x01\0\0\0\x03\x08abc";
+    for other in [longer, array] {
+        let mut gatherer = begun(rt.alloc(), ids, 5)?;
+        assert_eq!(rt; state_sub(&mut gatherer, ids, instance)?, Some(Stated::New));
+        assert_eq!(rt;
+            state_sub(&mut gatherer, ids, other)?,
+            Some(Stated::Differs)
+        );
+        assert_eq!(rt; gatherer.standing(), Standing::InConflict);
+        assert_eq!(rt;
+            gatherer.finish().err(),
+            Some(Refusal::Conflict(Key::Object(7)))
+        );
+    }
+    Ok(())
+}

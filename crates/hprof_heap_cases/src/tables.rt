@@ -1,0 +1,288 @@
+//! Tables of rows.
+
+ghost use Rattle.std.specs.Prelude.{◌≡◌, Some, IfOk};
+ghost use Rattle.hprof_heap.specs.HeapRows.{name_text};
+ghost use Rattle.hprof_heap.specs.Gathering.{gathered};
+
+use crate::samples::{begun, state_record};
+use hprof_heap::{
+    Content, FrameRow, Gatherer, Key, KeyRow, LoadRow, NameRow, Refusal, Relation, StartRow,
+    Stated, Statement, Table,
+};
+use hprof_items::{Fact, IdSize};
+use std::alloc::{AllocError, Global};
+use std::process::Abort;
+use std::test::*;
+
+// A name that is stated by a row of its own.
+#[derive(Drop)]
+struct Prepared(NameRow);
+
+impl Statement<NameRow> for Prepared {
+    ghost content = { λ name. name_text name.0 };
+
+    fn matches(&self, row: &NameRow) -> bool {
+        row.agrees(&self.0)
+    }
+
+    fn into_row(self, _alloc: Global) -> Result<NameRow, AllocError> {
+        let Prepared(row) = self;
+        Ok(row)
+    }
+}
+
+#[test]
+fn stating_names(rt: HostRuntime) -> Result<(), Fail> {
+    let mut names = Relation::new(rt.alloc());
+    assert_eq!(rt;
+        names.state(1, NameRow::new(rt.alloc(), b"A")?)?,
+        Stated::New
+    );
+    assert_eq!(rt;
+        names.state(1, NameRow::new(rt.alloc(), b"A")?)?,
+        Stated::Same
+    );
+    assert_eq!(rt;
+        names.state(1, NameRow::new(rt.alloc(), b"B")?)?,
+        Stated::Differs
+    );
+    assert_eq!(rt;
+        names.state_from(1, Prepared(NameRow::new(rt.alloc(), b"AB")?))?,
+        Stated::Differs
+    );
+    let first = NameRow::new(rt.alloc(), b"A")?;
+    let row = names.get(1).ok_or("no row")?;
+    assert!(rt; row.agrees(&first));
+    assert!(rt; names.get(2).is_none());
+    assert_eq!(rt; names.len(), 1);
+    assert_eq!(rt;
+        names.state_from(0, Prepared(NameRow::new(rt.alloc(), b"B")?))?,
+        Stated::New
+    );
+    let mut rows = names.rows();
+    let (key, row) = rows.next().ok_or("no first row")?;
+    assert_eq!(rt; key, 0);
+    assert!(rt; !row.agrees(&first));
+    let (key, row) = rows.next().ok_or("no second row")?;
+    assert_eq!(rt; key, 1);
+    assert!(rt; row.agrees(&first));
+    assert!(rt; rows.next().is_none());
+    Ok(())
+}
+
+#[test]
+fn stating_numbers(rt: HostRuntime) -> Result<(), Fail> {
+    let load = LoadRow {
+        class: 9,
+        trace: 1,
+        name: 2,
+    };
+    let mut loads = Relation::new(rt.alloc());
+    assert_eq!(rt; loads.state(1, load)?, Stated::New);
+    assert_eq!(rt; loads.state(1, load)?, Stated::Same);
+    assert_eq!(rt;
+        loads.state(1, LoadRow { trace: 2, ..load })?,
+        Stated::Differs
+    );
+    let frame = FrameRow {
+        method: 1,
+        signature: 2,
+        source: 3,
+        class_serial: 4,
+        line: 1,
+    };
+    let mut frames = Relation::new(rt.alloc());
+    assert_eq!(rt; frames.state(7, frame)?, Stated::New);
+    assert_eq!(rt; frames.state(7, frame)?, Stated::Same);
+    for line in [-1, 2, -2] {
+        assert_eq!(rt;
+            frames.state(7, FrameRow { line, ..frame })?,
+            Stated::Differs
+        );
+    }
+    let start = StartRow {
+        object: 1,
+        trace: 2,
+        name: 3,
+        group: 4,
+        parent_group: 5,
+    };
+    let mut starts = Relation::new(rt.alloc());
+    assert_eq!(rt; starts.state(0, start)?, Stated::New);
+    assert_eq!(rt;
+        starts.state(
+            0,
+            StartRow {
+                parent_group: 6,
+                ..start
+            }
+        )?,
+        Stated::Differs
+    );
+    let mut ends = Relation::new(rt.alloc());
+    assert_eq!(rt; ends.state(3, KeyRow)?, Stated::New);
+    assert_eq!(rt; ends.state(3, KeyRow)?, Stated::Same);
+    assert_eq!(rt; ends.len(), 1);
+    Ok(())
+}
+
+// States a name. Where memory is refused nothing has changed, and it is stated again.
+fn state(
+    rt: &impl Abort,
+    alloc: Global,
+    names: &mut Relation<NameRow>,
+    id: u64,
+    text: &[u8],
+) -> Result<Stated, AllocError> {
+    let count = names.len();
+    let row = NameRow::new(alloc, text)?;
+    if let Ok(stated) = names.state_from(id, Prepared(row)) {
+        return Ok(stated);
+    }
+    assert!(rt; names.get(id).is_none());
+    assert_eq!(rt; names.len(), count);
+    names.state(id, NameRow::new(alloc, text)?)
+}
+
+// A gatherer that was given those of the names that do not differ. They come to what stands beside them.
+fn given_names(
+    rt: &impl Abort,
+    alloc: Global,
+    given: &[(u64, &[u8], Stated)],
+) -> Result<Gatherer, Fail>
+    ensures { IfOk result (λ gatherer. (gathered gatherer).begun ≡ Some IdSize.Four) }
+{
+    let mut gatherer = begun(alloc, IdSize::Four, 1)?;
+    for &(id, text, stated) in given {
+        if stated != Stated::Differs {
+            let name = Fact::Name { id, text };
+            let came = state_record(&mut gatherer, IdSize::Four, name)?;
+            assert_eq!(rt; came, Some(stated));
+        }
+    }
+    Ok(gatherer)
+}
+
+// The same of a heap as of a table: it has these rows, and each name that differs is a conflict.
+fn check_heap(
+    rt: &impl Abort,
+    alloc: Global,
+    given: &[(u64, &[u8], Stated)],
+    expected: &[(u64, &[u8])],
+) -> Result<(), Fail> {
+    for (place, &(id, text, stated)) in given.iter().enumerate() {
+        if stated == Stated::Differs {
+            let mut gatherer = given_names(rt, alloc, &given[..place])?;
+            let name = Fact::Name { id, text };
+            let came = state_record(&mut gatherer, IdSize::Four, name)?;
+            assert_eq!(rt; came, Some(Stated::Differs));
+            let conflict = Refusal::Conflict(Key::Name(id));
+            assert_eq!(rt; gatherer.finish().err(), Some(conflict));
+        }
+    }
+    let heap = given_names(rt, alloc, given)?.finish()?;
+    assert_eq!(rt; heap.len(Table::Names), expected.len());
+    let mut facts = heap.rows(Table::Names);
+    for &(id, text) in expected {
+        let name = Some(Fact::Name { id, text });
+        assert_eq!(rt; facts.next(), name);
+        assert_eq!(rt; heap.name(id), name);
+        assert_eq!(rt; heap.name(id | 1), None);
+    }
+    assert!(rt; facts.next().is_none());
+    Ok(())
+}
+
+// That names of even identifiers which are stated in this order come to what stands beside them, and to these rows.
+fn check_names(
+    rt: &impl Abort,
+    alloc: Global,
+    given: &[(u64, &[u8], Stated)],
+    expected: &[(u64, &[u8])],
+) -> Result<(), Fail> {
+    let mut names = Relation::new(alloc);
+    for &(id, text, stated) in given {
+        assert_eq!(rt; state(rt, alloc, &mut names, id, text)?, stated);
+    }
+    assert_eq!(rt; names.len(), expected.len());
+    let mut rows = names.rows();
+    for &(id, text) in expected {
+        let wanted = NameRow::new(alloc, text)?;
+        let (key, row) = rows.next().ok_or("a row is missing")?;
+        assert_eq!(rt; key, id);
+        assert!(rt; row.agrees(&wanted));
+        let row = names.get(id).ok_or("no row is found")?;
+        assert!(rt; row.agrees(&wanted));
+        assert!(rt; names.get(id | 1).is_none());
+    }
+    assert!(rt; rows.next().is_none());
+    check_heap(rt, alloc, given, expected)
+}
+
+#[test]
+fn names_in_ascending_order(rt: HostRuntime) -> Result<(), Fail> {
+    check_names(
+        &rt,
+        rt.alloc(),
+        &[
+            (2, b"A", Stated::New),
+            (4, b"B", Stated::New),
+            (6, b"C", Stated::New),
+            (8, b"D", Stated::New),
+            (10, b"E", Stated::New),
+            (4, b"B", Stated::Same),
+            (4, b"C", Stated::Differs),
+            (10, b"E", Stated::Same),
+            (10, b"", Stated::Differs),
+        ],
+        &[(2, b"A"), (4, b"B"), (6, b"C"), (8, b"D"), (10, b"E")],
+    )
+}
+
+#[test]
+fn names_in_descending_order(rt: HostRuntime) -> Result<(), Fail> {
+    check_names(
+        &rt,
+        rt.alloc(),
+        &[
+            (6, b"A", Stated::New),
+            (4, b"B", Stated::New),
+            (2, b"C", Stated::New),
+            (6, b"A", Stated::Same),
+            (6, b"B", Stated::Differs),
+            (2, b"C", Stated::Same),
+            (2, b"CC", Stated::Differs),
+        ],
+        &[(2, b"C"), (4, b"B"), (6, b"A")],
+    )
+}
+
+#[test]
+fn names_in_alternating_order(rt: HostRuntime) -> Result<(), Fail> {
+    check_names(
+        &rt,
+        rt.alloc(),
+        &[
+            (20, b"A", Stated::New),
+            (10, b"B", Stated::New),
+            (30, b"C", Stated::New),
+            (14, b"D", Stated::New),
+            (40, b"E", Stated::New),
+            (0, b"F", Stated::New),
+            (30, b"C", Stated::Same),
+            (30, b"D", Stated::Differs),
+            (14, b"D", Stated::Same),
+            (14, b"C", Stated::Differs),
+            (36, b"G", Stated::New),
+        ],
+        &[
+            (0, b"F"),
+            (10, b"B"),
+            (14, b"D"),
+            (20, b"A"),
+            (30, b"C"),
+            (36, b"G"),
+            (40, b"E"),
+        ],
+    )
+}

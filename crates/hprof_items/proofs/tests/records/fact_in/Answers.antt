@@ -1,5 +1,0 @@
-use Rattle.std.proofs.Common.{refl}
-use Rattle.hprof_items.proofs.tests.records.fact_in.Goals as goal
-
-pub read_body-requires-clause-whole : goal.read_body-requires-clause-whole
-read_body-requires-clause-whole c = (c.in-Whole.ensures.found c.in-Whole.head c.in-Whole.field-1 refl).2

@@ -1,0 +1,104 @@
+//! Items that declare much, of which little comes.
+
+ghost use Rattle.std.specs.Prelude.{◌<◌};
+
+use crate::samples::{PART, Seen, feed_in};
+use hprof_items::Reason;
+use hprof_stream::{Limits, PartFault, PartReader};
+use std::alloc::{AllocError, Global};
+use std::fs;
+use std::process::Abort;
+use std::test::*;
+
+// A header, the head of a name that declares 4,294,967,295 bytes, and nine of them.
+const NAME: &[u8; 49] =
+    b"JAVA PROFILE 1.0.2\0\0\0\0\x04\0\0\0\0\0\0\0\x01\x01\0\0\0\0\xff\xff\xff\xff\0\0\0\x01AAAAA";
+
+// A header, the head of a segment that declares as many, and in it an array that declares 4,294,967,040, and six of them.
+const ARRAY: &[u8; 60] =
+    b"JAVA PROFILE 1.0.2\0\0\0\0\x04\0\0\0\0\0\0\0\x01\x1c\0\0\0\0\xff\xff\xff\xff\
+    \x23\0\0\0\x10\0\0\0\x01\xff\xff\xff\0\x08\0\0\0\0\0\0";
+
+// A header, the head of a segment that declares as many, and in it a class that declares 65,535 constants, and one of them.
+const CLASS: &[u8; 83] =
+    b"JAVA PROFILE 1.0.2\0\0\0\0\x04\0\0\0\0\0\0\0\x01\x1c\0\0\0\0\xff\xff\xff\xff\
+    \x20\0\0\0\x10\0\0\0\x01\0\0\0\0\0\0\0\0\0\0\0\0\0\0\0\0\0\0\0\0\0\0\0\0\0\0\0\0\
+    \xff\xff\0\x01\x08\x05";
+
+// A reader that was fed those bytes in pieces, of which so many are held.
+fn declared(rt: &impl Abort, alloc: Global, bytes: &[u8], len: usize, held: usize) -> PartReader
+    requires { 0 < len }
+{
+    let mut sink = Seen::new(alloc, 0);
+    let mut reader = PartReader::new(alloc, Limits::usual());
+    let fed = feed_in(&mut reader, bytes, len, &mut sink);
+    assert!(rt; fed.is_ok(), "{len}");
+    assert_eq!(rt; reader.buffered(), held, "{len}");
+    reader
+}
+
+// How many bytes of addresses the process has.
+fn size(rt: &HostRuntime) -> Result<u64, Fail> {
+    let text = fs::read_to_string(rt, "/proc/self/statm")?;
+    let pages = text.split_whitespace().next().ok_or("no size")?;
+    let pages = pages.parse::<u64>().ok().ok_or("no number")?;
+    Ok(pages.saturating_mul(4_096))
+}
+
+#[test]
+fn a_declared_length_asks_for_no_memory(rt: HostRuntime) -> Result<(), Fail> {
+    let mut readers = Vec::with_capacity(rt.alloc(), 120_000)?;
+    // What they declare adds up to more than memory can hold.
+    for (bytes, held, at) in [
+        (NAME.as_slice(), 18, 31),
+        (ARRAY.as_slice(), 20, 40),
+        (CLASS.as_slice(), 43, 40),
+    ] {
+        let before = size(&rt)?;
+        for _ in 0..20_000 {
+            readers.push((declared(&rt, rt.alloc(), bytes, 60, held), at))?;
+            readers.push((declared(&rt, rt.alloc(), bytes, 7, held), at))?;
+        }
+        // Each has room for a few times what came, and no more: 112 bytes, with what is added to a block.
+        let grown = size(&rt)?.saturating_sub(before);
+        assert!(rt; grown <= 4_480_000, "{grown}");
+    }
+    for (reader, at) in readers {
+        let truncated = PartFault::Malformed {
+            at,
+            reason: Reason::Truncated,
+        };
+        assert_eq!(rt; reader.finish(), Err(truncated));
+    }
+    Ok(())
+}
+
+// Appends so many of the same entry behind their number.
+fn append(class: &mut Vec<u8>, count: u16, entry: &[u8]) -> Result<(), AllocError> {
+    class.extend_from_slice(&count.to_be_bytes())?;
+    for _ in 0..count {
+        class.extend_from_slice(entry)?;
+    }
+    Ok(())
+}
+
+// Walked from its front again at each byte, it would take hours.
+#[test]
+fn a_class_is_walked_on_from_where_it_was_cut(rt: HostRuntime) -> Result<(), Fail> {
+    // The head of a segment, and in it a class with as many entries of each kind as it can have.
+    let mut class = Vec::from_slice(
+        rt.alloc(),
+        b"\x1c\0\0\0\0\0\x0f\0\x1c\x20\0\0\0\x10\0\0\0\x01",
+    )?;
+    class.extend_from_slice(&[0; 28])?;
+    append(&mut class, u16::MAX, b"\0\x01\x08\x05")?;
+    append(&mut class, u16::MAX, b"\0\0\0\x02\x08\x05")?;
+    append(&mut class, u16::MAX, b"\0\0\0\x03\x08")?;
+    assert_eq!(rt; class.len(), 983_077);
+    let mut sink = Seen::new(rt.alloc(), 1);
+    let mut reader = PartReader::new(rt.alloc(), Limits::usual());
+    assert_eq!(rt; feed_in(&mut reader, &PART[..31], 31, &mut sink), Ok(0));
+    assert_eq!(rt; feed_in(&mut reader, &class, 1, &mut sink), Ok(983_067));
+    assert_eq!(rt; sink.numbers.as_slice(), [16].as_slice());
+    Ok(())
+}

@@ -1,0 +1,100 @@
+//! Parts that are read from a source.
+
+ghost use Rattle.std.specs.Prelude.{None};
+
+use crate::samples::{HEADER, PART, Seen};
+use hprof_items::{Device, Health, IdSize, ReadFault, Source};
+use hprof_stream::{Limits, PartFault, PartSummary, SinkFault, read_part};
+use std::test::*;
+
+#[test]
+fn a_whole_part_from_a_source(rt: HostRuntime) {
+    let mut sink = Seen::new(rt.alloc(), 4);
+    let mut source = Device::new(PART.as_slice());
+    let want = PartSummary {
+        header: HEADER,
+        records: 3,
+        facts: 4,
+        ended: false,
+    };
+    assert_eq!(rt;
+        read_part(rt.alloc(), &mut source, Limits::usual(), &mut sink),
+        Ok(want)
+    );
+    assert_eq!(rt; sink.numbers.as_slice(), [2, 1, 16, 0].as_slice());
+}
+
+#[test]
+fn from_a_source(rt: HostRuntime) {
+    let empty = PartSummary {
+        header: HEADER,
+        records: 0,
+        facts: 0,
+        ended: false,
+    };
+    let usual = Limits::usual();
+    for (max_reads, max_bytes, len, want) in [
+        (2, 31, 31, Ok(empty)),
+        (1, 31, 31, Err(PartFault::ReadsExceeded)),
+        (2, 30, 31, Err(PartFault::BytesExceeded)),
+        (2, 59, 59, Err(PartFault::Sink(SinkFault::OutOfMemory))),
+        (2, 89, 89, Err(PartFault::Sink(SinkFault::OutOfMemory))),
+    ] {
+        let limits = Limits {
+            max_item: usual.max_item,
+            max_reads,
+            max_bytes,
+        };
+        let mut sink = Seen::new(rt.alloc(), 1);
+        let mut source = Device::new(&PART[..len]);
+        assert_eq!(rt;
+            read_part(rt.alloc(), &mut source, limits, &mut sink),
+            want,
+            "{max_reads} {max_bytes} {len}"
+        );
+        assert!(rt; source.pulls() <= max_reads, "{max_reads}");
+    }
+}
+
+// Gives the header, and then fails. It keeps the room that it was last given.
+#[derive(Drop)]
+struct Broken {
+    pulls: u64,
+    room: usize,
+    health: Health,
+}
+
+impl Source for Broken {
+    ghost left = { λ _. None };
+
+    ghost health = { λ s. s.health };
+
+    ghost pulls = { λ s. s.pulls };
+
+    fn pull(&mut self, piece: &mut [u8]) -> Result<usize, ReadFault> {
+        self.pulls = self.pulls.saturating_add(1);
+        self.room = piece.len();
+        let len = piece.len().min(31);
+        if self.pulls > 1 {
+            self.health = Health::Failed;
+            return Err(ReadFault::Failed);
+        }
+        piece[..len].copy_from_slice(&PART[..len]);
+        Ok(len)
+    }
+}
+
+#[test]
+fn a_source_that_fails(rt: HostRuntime) {
+    let mut sink = Seen::new(rt.alloc(), 0);
+    let mut source = Broken {
+        pulls: 0,
+        room: 0,
+        health: Health::Well,
+    };
+    let read = read_part(rt.alloc(), &mut source, Limits::usual(), &mut sink);
+    assert_eq!(rt; read, Err(PartFault::Read));
+    assert_eq!(rt; (source.pulls, source.room), (2, 65_536));
+    assert_eq!(rt; source.health, Health::Failed);
+    assert_eq!(rt; sink.begun, Some(IdSize::Four));
+}
