@@ -24,3 +24,4 @@ pub mod Finishing
 pub mod LastItems
 pub mod Sources
 pub mod Rooms
+pub mod Tallies

@@ -11,3 +11,4 @@ pub mod Rest
 pub mod Walking
 pub mod Reader
 pub mod Feeding
+pub mod Tally

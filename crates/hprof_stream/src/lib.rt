@@ -12,6 +12,7 @@ mod reading;
 mod rest;
 mod sink;
 mod summary;
+mod tally;
 
 pub use limits::Limits;
 pub use part_fault::PartFault;
@@ -19,3 +20,4 @@ pub use part_reader::PartReader;
 pub use reading::read_part;
 pub use sink::{Sink, SinkFault};
 pub use summary::PartSummary;
+pub use tally::Tally;

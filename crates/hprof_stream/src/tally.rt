@@ -1,0 +1,88 @@
+//! Counting the facts of a part.
+
+ghost use Rattle.std.specs.Prelude.{◌≡◌, ◌<◌, List, []};
+ghost use Rattle.hprof_items.specs.FactValue.{value_of};
+ghost use Rattle.hprof_stream.specs.Tally.{form_of};
+
+use crate::sink::{Sink, SinkFault};
+use hprof_items::{Fact, Header, IdSize};
+
+/// How many facts of each form a sink was given. It never fails, and takes no memory.
+#[derive(Clone, Copy, Debug, PartialEq, Eq)]
+pub struct Tally {
+    counts: [u64; 12],
+    begun: Option<IdSize>,
+}
+
+/// The place of a fact's form: names, loads, unloads, frames, traces, starts and ends of threads, roots, classes,
+/// instances, arrays of objects, arrays of numbers or truth values.
+fn form_of(fact: &Fact<'_>) -> usize
+    ensures form { result ≡ form_of (value_of fact.now) }
+    ensures below { result < 12 }
+{
+    match *fact {
+        Fact::Name { .. } => 0,
+        Fact::Load { .. } => 1,
+        Fact::Unload { .. } => 2,
+        Fact::Frame { .. } => 3,
+        Fact::Trace { .. } => 4,
+        Fact::Start { .. } => 5,
+        Fact::End { .. } => 6,
+        Fact::Root(_) => 7,
+        Fact::Class { .. } => 8,
+        Fact::Instance { .. } => 9,
+        Fact::ObjArray { .. } => 10,
+        Fact::PrimArray { .. } => 11,
+    }
+}
+
+impl Tally {
+    ghost use Rattle.hprof_items.specs.FactValue.{FactValue};
+    ghost use Rattle.hprof_stream.specs.Tally.{Counts, HasCounted};
+
+    /// A tally that was given nothing.
+    pub fn new() -> Self
+        ensures { HasCounted result [] }
+    {
+        Tally {
+            counts: [0; 12],
+            begun: None,
+        }
+    }
+
+    /// How many facts of each form it was given, in the order of the forms: names, loads, unloads, frames, traces, starts
+    /// and ends of threads, roots, classes, instances, arrays of objects, arrays of numbers or truth values. A count stops at
+    /// the greatest number.
+    pub fn counts(&self) -> [u64; 12]
+        ensures { (facts : List FactValue) → HasCounted self.now facts → Counts facts result }
+    {
+        self.counts
+    }
+}
+
+impl Sink for Tally {
+    ghost use Rattle.std.specs.Prelude.{◌≡◌, false};
+    ghost use Rattle.hprof_stream.specs.Tally.{CountsOne, HasCounted};
+
+    // A header counts nothing.
+    ghost begins = { λ old header new. new.counts ≡ old.counts };
+
+    ghost steps = { CountsOne };
+
+    ghost begun = { λ tally. tally.begun };
+
+    ghost failed = { λ _. false };
+
+    ghost refuses = { λ _ _ _. ⊥ };
+
+    fn begin_part(&mut self, header: Header) -> Result<(), SinkFault> {
+        self.begun = Some(header.ids);
+        Ok(())
+    }
+
+    fn take(&mut self, fact: &Fact<'_>, _spelled: &[u8]) -> Result<(), SinkFault> {
+        let form = form_of(fact);
+        self.counts[form] = self.counts[form].saturating_add(1);
+        Ok(())
+    }
+}
