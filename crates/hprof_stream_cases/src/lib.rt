@@ -16,4 +16,6 @@ mod samples;
 #[cfg(test)]
 mod sources;
 #[cfg(test)]
+mod tallies;
+#[cfg(test)]
 mod texts;
