@@ -14,8 +14,9 @@ fn the_facts_of_a_part(rt: HostRuntime) {
     assert_eq!(rt; tally.counts(), counts);
     let mut tally = Tally::new();
     let mut reader = PartReader::new(rt.alloc(), Limits::usual());
-    assert_eq!(rt; reader.feed(&PART[..40], &mut tally), Ok(()));
-    assert_eq!(rt; reader.feed(&PART[40..], &mut tally), Ok(()));
+    let (front, back) = PART.split_at(40);
+    assert_eq!(rt; reader.feed(front, &mut tally), Ok(()));
+    assert_eq!(rt; reader.feed(back, &mut tally), Ok(()));
     assert_eq!(rt; tally.counts(), counts);
 }
 
