@@ -29,7 +29,6 @@ use Rattle.hprof_heap.specs.declared.relation.Stated.{Stated}
 use Rattle.hprof_heap.specs.Key.{has_key}
 use Rattle.hprof_heap.specs.SortedRows.{row_at}
 use Rattle.hprof_heap.proofs.Keys.{place_of_key, stands_at, has_key_at, same_place}
-use Rattle.hprof_heap.specs.declared.spelled_row.SpelledRow.{SpelledRow}
 use Rattle.hprof_heap.specs.Content.{content_of, load_fact, unload_fact, frame_fact, trace_fact, start_fact, end_fact, spelled_fact, line_with, read_fact, facts_of_rows, IsRight, AreRight}
 use Rattle.hprof_heap.specs.Gathering.{StatesInto, IsNewAmong}
 use Rattle.hprof_heap.specs.declared.table.Table.{Table}
@@ -39,8 +38,7 @@ use Rattle.hprof_heap.specs.HeapValue.{IsHeap}
 use Rattle.hprof_heap.specs.Order.{place_of}
 use Rattle.hprof_heap.specs.NumberRows.{line_numbers, load_numbers, frame_numbers, start_numbers}
 use Rattle.hprof_heap.specs.Relation.{States}
-use Rattle.hprof_heap.specs.Spelled.{Spells}
-use Rattle.hprof_heap.specs.SpelledRow.{spelled_bytes}
+use Rattle.hprof_heap.specs.Spelled.{Spells, spelled_bytes}
 use Rattle.hprof_heap.specs.Tables.{joined}
 use Rattle.hprof_heap.specs.TraceRow.{trace_content}
 use Rattle.hprof_heap.proofs.Inserting.{find-Some, unseen}
@@ -264,7 +262,7 @@ spelled_again ids key fact e fits =
     ap (spelled_fact ids key) (sub_content ids fact e) ∙ spelled_read ids key fact (dump_bytes ids fact) (sub_spells ids fact e fits)
 
 -- what was stated of the spelling was stated of the content
-pub spelled_stated : {E : Type 0} (r : Result Stated E) (ids : IdSize) (key : ℕ) (fact : FactValue) (bytes : List ℕ) (old new : List (ℕ × SpelledRow)) → record_of fact ≡ None
+pub spelled_stated : {E : Type 0} (r : Result Stated E) (ids : IdSize) (key : ℕ) (fact : FactValue) (bytes : List ℕ) (old new : List (ℕ × List ℕ)) → record_of fact ≡ None
     → bytes ≡ dump_bytes ids fact → IfOk r (λ answer. States spelled_bytes old key bytes answer new)
     → IfOk r (λ answer. States spelled_bytes old key (content_of ids fact) answer new)
 spelled_stated r ids key fact bytes old new e spelled ok =

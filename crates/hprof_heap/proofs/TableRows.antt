@@ -9,7 +9,7 @@ use Rattle.hprof_heap.specs.Facts.{Has, AllFit}
 use Rattle.hprof_heap.specs.HeapRows.{HeapRows, AreHeap, tables_of, no_content}
 use Rattle.hprof_heap.specs.NumberRows.{load_numbers, start_numbers}
 use Rattle.hprof_heap.specs.Order.{IsBefore, IsCanonicalOrder}
-use Rattle.hprof_heap.specs.SpelledRow.{spelled_bytes}
+use Rattle.hprof_heap.specs.Spelled.{spelled_bytes}
 use Rattle.hprof_heap.specs.TableRows.{HasSerial, IsWhole, IsSpelled, AreSerials, AreWhole, AreSpelled}
 use Rattle.hprof_heap.specs.Tables.{joined}
 use Rattle.hprof_heap.specs.TraceRow.{trace_content, frames_bytes}

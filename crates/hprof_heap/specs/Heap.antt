@@ -10,6 +10,7 @@ use Rattle.hprof_heap.specs.HeapValue.{HeapValue}
 use Rattle.hprof_heap.specs.RootSet.{roots_of}
 use Rattle.hprof_heap.specs.Order.{place_of}
 use Rattle.hprof_heap.specs.Relation.{rows_of}
+use Rattle.hprof_heap.specs.SpelledTable.{spelled_rows}
 
 -- the rows of its tables
 abbrev pub rows_in : Heap → HeapRows
@@ -24,8 +25,8 @@ rows_in heap = record {
   starts = rows_of heap.starts;
   ends = rows_of heap.ends;
   roots = roots_of heap.roots;
-  classes = rows_of heap.classes;
-  objects = rows_of heap.objects;
+  classes = spelled_rows heap.classes;
+  objects = spelled_rows heap.objects;
 }
 
 -- a heap as a value: its size, its time, and the facts of its tables, one after the other

@@ -11,11 +11,10 @@ use Rattle.hprof_heap.specs.declared.number_rows.FrameRow.{FrameRow}
 use Rattle.hprof_heap.specs.declared.number_rows.StartRow.{StartRow}
 use Rattle.hprof_heap.specs.declared.number_rows.KeyRow.{KeyRow}
 use Rattle.hprof_heap.specs.declared.trace_row.TraceRow.{TraceRow}
-use Rattle.hprof_heap.specs.declared.spelled_row.SpelledRow.{SpelledRow}
 use Rattle.hprof_heap.specs.Content.{load_fact, unload_fact, frame_fact, trace_fact, start_fact, end_fact, spelled_fact, facts_of_rows, IsRight, AreRight}
 use Rattle.hprof_heap.specs.HeapValue.{HeapValue, IsHeap, IsHeap-prop}
 use Rattle.hprof_heap.specs.NumberRows.{load_numbers, frame_numbers, start_numbers}
-use Rattle.hprof_heap.specs.SpelledRow.{spelled_bytes}
+use Rattle.hprof_heap.specs.Spelled.{spelled_bytes}
 use Rattle.hprof_heap.specs.Tables.{joined}
 use Rattle.hprof_heap.specs.TraceRow.{trace_content}
 
@@ -53,7 +52,7 @@ end_facts rows = facts_of_rows end_fact no_content rows
 abbrev pub root_facts : List Root → List FactValue
 root_facts roots = map Rooted roots
 
-abbrev pub spelled_facts : IdSize → List (ℕ × SpelledRow) → List FactValue
+abbrev pub spelled_facts : IdSize → List (ℕ × List ℕ) → List FactValue
 spelled_facts ids rows = facts_of_rows (spelled_fact ids) spelled_bytes rows
 
 -- ---- all tables
@@ -69,8 +68,8 @@ pub record HeapRows : Type 0 where
   pub starts : List (ℕ × StartRow)
   pub ends : List (ℕ × KeyRow)
   pub roots : List Root
-  pub classes : List (ℕ × SpelledRow)
-  pub objects : List (ℕ × SpelledRow)
+  pub classes : List (ℕ × List ℕ)
+  pub objects : List (ℕ × List ℕ)
 
 -- the facts of the ten tables
 abbrev pub tables_of : HeapRows → List (List FactValue)

@@ -12,7 +12,8 @@ pub mod Content
 pub mod Tables
 pub mod TraceRow
 pub mod Spelled
-pub mod SpelledRow
+pub mod Places
+pub mod SpelledTable
 pub mod Fitting
 pub mod HeapValue
 pub mod HeapRows

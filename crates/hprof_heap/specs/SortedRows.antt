@@ -1,5 +1,5 @@
 -- Rows in order of key: one list of them, two lists as one, and what a sorted table keeps of its two.
-use Rattle.std.specs.Prelude.{◌≡◌, ◌+◌, ◌<◌, ◌↔◌, ◌⊎◌, ℕ, length, nat_lt, false, List, [], ◌∷◌, Option, Some, None, is_some, if◌then◌else◌}
+use Rattle.std.specs.Prelude.{◌≡◌, ◌+◌, ◌<◌, ◌↔◌, ◌⊎◌, ℕ, length, nat_lt, false, List, [], ◌∷◌, Option, Some, None, Result, Ok, Err, ⊤, is_some, if◌then◌else◌}
 use Rattle.std.specs.Coded.{le_prop}
 use Rattle.std.specs.List.{AllByRecursion}
 use Rattle.std.specs.List.Sorted.{IsStrictlySortedBy, IsStrictlySortedBy-prop}
@@ -62,3 +62,9 @@ module _ {V A : Type 0} (answers : V → A → Type 0) (makes : V → Type 0) wh
   abbrev pub Visits : List (ℕ × V) → ℕ → Option A → List (ℕ × V) → Type 0
   Visits old key None new = (row_at key old ≡ None) × ((row : V) × makes row × (new ≡ insert_entry nat_cmp old key row))
   Visits old key (Some answer) new = (new ≡ old) × ((row : V) × (row_at key old ≡ Some row) × answers row answer)
+
+-- where no row was made, what the rows lie in is as it was
+abbrev pub LeavesUnmade : {A E : Type 0} → Result (Option A) E → List ℕ → List ℕ → Type 0
+LeavesUnmade (Ok None) old new = ⊤
+LeavesUnmade (Ok (Some answer)) old new = new ≡ old
+LeavesUnmade (Err e) old new = new ≡ old

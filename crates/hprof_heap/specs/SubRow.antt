@@ -5,13 +5,12 @@ use Rattle.hprof_values.specs.declared.ids.IdSize.{IdSize}
 use Rattle.hprof_values.specs.declared.root.Root.{Root}
 use Rattle.hprof_items.specs.FactValue.{FactValue, Rooted}
 use Rattle.hprof_items.specs.Spelling.{Fits}
-use Rattle.hprof_heap.specs.declared.spelled_row.SpelledRow.{SpelledRow}
 use Rattle.hprof_heap.specs.declared.sub_row.SubRow.{SubRow}
 use Rattle.hprof_heap.specs.declared.sub_row.SubRow.TheVariants as rows
 use Rattle.hprof_heap.specs.Content.{spelled_fact}
 use Rattle.hprof_heap.specs.Fitting.{Fits-prop}
 use Rattle.hprof_heap.specs.HeapRows.{root_facts, spelled_facts}
-use Rattle.hprof_heap.specs.SpelledRow.{spelled_bytes}
+use Rattle.hprof_heap.specs.Spelled.{spelled_bytes}
 use Rattle.hprof_heap.specs.TableRows.{IsSpelled, AreSpelled, AreSpelled-prop, all-prop}
 
 -- ---- one sub-record
@@ -32,14 +31,14 @@ abbrev pub AllRootsFit : IdSize → List Root → Type 0
 AllRootsFit ids roots = AllByRecursion (λ root. Fits ids (Rooted root)) roots
 
 -- each of them can be written
-abbrev pub AreWritable : IdSize → List Root → List (ℕ × SpelledRow) → List (ℕ × SpelledRow) → Type 0
+abbrev pub AreWritable : IdSize → List Root → List (ℕ × List ℕ) → List (ℕ × List ℕ) → Type 0
 AreWritable ids roots classes objects = AllRootsFit ids roots × AreSpelled ids classes × AreSpelled ids objects
 
-pub AreWritable-prop : (ids : IdSize) (roots : List Root) (classes objects : List (ℕ × SpelledRow))
+pub AreWritable-prop : (ids : IdSize) (roots : List Root) (classes objects : List (ℕ × List ℕ))
     → IsProp (AreWritable ids roots classes objects)
 AreWritable-prop ids roots classes objects =
     hlevel (all-prop (λ root. Fits ids (Rooted root)) (λ root. Fits-prop ids (Rooted root)) roots, AreSpelled-prop)
 
 -- the facts of roots, classes and objects
-abbrev pub facts_of_subs : IdSize → List Root → List (ℕ × SpelledRow) → List (ℕ × SpelledRow) → List FactValue
+abbrev pub facts_of_subs : IdSize → List Root → List (ℕ × List ℕ) → List (ℕ × List ℕ) → List FactValue
 facts_of_subs ids roots classes objects = root_facts roots ++ (spelled_facts ids classes ++ spelled_facts ids objects)

@@ -6,7 +6,6 @@ use Rattle.std.proofs.Props.{props}
 use Rattle.hprof_values.specs.declared.ids.IdSize.{IdSize}
 use Rattle.hprof_values.specs.Ids.{width_of}
 use Rattle.hprof_items.specs.FactValue.{FactValue}
-use Rattle.hprof_heap.specs.declared.spelled_row.SpelledRow.{SpelledRow}
 use Rattle.hprof_heap.specs.declared.table_rows.TableRows.{TableRows}
 use Rattle.hprof_heap.specs.declared.table_rows.TableRows.TheVariants as tables
 use Rattle.hprof_heap.specs.declared.trace_row.TraceRow.{TraceRow}
@@ -14,8 +13,8 @@ use Rattle.hprof_heap.specs.Content.{spelled_fact}
 use Rattle.hprof_heap.specs.Fitting.{DumpFits-prop}
 use Rattle.hprof_heap.specs.HeapRows.{name_facts, load_facts, unload_facts, frame_facts, trace_facts, start_facts, end_facts, root_facts, spelled_facts}
 use Rattle.hprof_heap.specs.Rows.{rows_left}
-use Rattle.hprof_heap.specs.Spelled.{Spells}
-use Rattle.hprof_heap.specs.SpelledRow.{spelled_bytes}
+use Rattle.hprof_heap.specs.SpelledTable.{spelled_left}
+use Rattle.hprof_heap.specs.Spelled.{Spells, spelled_bytes}
 use Rattle.hprof_heap.specs.TraceRow.{frames_bytes}
 
 -- ---- rows that can be read back
@@ -29,7 +28,7 @@ abbrev pub IsWhole : IdSize → ℕ × TraceRow → Type 0
 IsWhole ids row = HasSerial row × (length (frames_bytes row.1) % width_of ids ≡ 0)
 
 -- the bytes spell the fact of the row
-abbrev pub IsSpelled : IdSize → ℕ × SpelledRow → Type 0
+abbrev pub IsSpelled : IdSize → ℕ × List ℕ → Type 0
 IsSpelled ids row = Spells ids (spelled_fact ids row.0 (spelled_bytes row.1)) (spelled_bytes row.1)
 
 abbrev pub AreSerials : {V : Type 0} → List (ℕ × V) → Type 0
@@ -38,7 +37,7 @@ AreSerials rows = AllByRecursion HasSerial rows
 abbrev pub AreWhole : IdSize → List (ℕ × TraceRow) → Type 0
 AreWhole ids rows = AllByRecursion (IsWhole ids) rows
 
-abbrev pub AreSpelled : IdSize → List (ℕ × SpelledRow) → Type 0
+abbrev pub AreSpelled : IdSize → List (ℕ × List ℕ) → Type 0
 AreSpelled ids rows = AllByRecursion (IsSpelled ids) rows
 
 -- each row that is still to come can be read back
@@ -51,8 +50,8 @@ AreReadable ids (tables.Traces rows) = AreWhole ids (rows_left rows)
 AreReadable ids (tables.Starts rows) = AreSerials (rows_left rows)
 AreReadable ids (tables.Ends rows) = AreSerials (rows_left rows)
 AreReadable ids (tables.Roots roots) = ⊤
-AreReadable ids (tables.Classes rows) = AreSpelled ids (rows_left rows)
-AreReadable ids (tables.Objects rows) = AreSpelled ids (rows_left rows)
+AreReadable ids (tables.Classes rows) = AreSpelled ids (spelled_left rows)
+AreReadable ids (tables.Objects rows) = AreSpelled ids (spelled_left rows)
 
 -- ---- their facts
 
@@ -66,8 +65,8 @@ facts_in_rows ids (tables.Traces rows) = trace_facts ids (rows_left rows)
 facts_in_rows ids (tables.Starts rows) = start_facts (rows_left rows)
 facts_in_rows ids (tables.Ends rows) = end_facts (rows_left rows)
 facts_in_rows ids (tables.Roots roots) = root_facts roots
-facts_in_rows ids (tables.Classes rows) = spelled_facts ids (rows_left rows)
-facts_in_rows ids (tables.Objects rows) = spelled_facts ids (rows_left rows)
+facts_in_rows ids (tables.Classes rows) = spelled_facts ids (spelled_left rows)
+facts_in_rows ids (tables.Objects rows) = spelled_facts ids (spelled_left rows)
 
 -- ---- there is at most one proof that they can be read back
 
@@ -81,10 +80,10 @@ AreSerials-prop rows = all-prop HasSerial (λ row. le_prop) rows
 IsWhole-prop : (ids : IdSize) (row : ℕ × TraceRow) → IsProp (IsWhole ids row)
 IsWhole-prop ids row = hlevel (props, le_prop)
 
-IsSpelled-prop : (ids : IdSize) (row : ℕ × SpelledRow) → IsProp (IsSpelled ids row)
+IsSpelled-prop : (ids : IdSize) (row : ℕ × List ℕ) → IsProp (IsSpelled ids row)
 IsSpelled-prop ids row = hlevel (props, le_prop, DumpFits-prop)
 
-pub AreSpelled-prop : (ids : IdSize) (rows : List (ℕ × SpelledRow)) → IsProp (AreSpelled ids rows)
+pub AreSpelled-prop : (ids : IdSize) (rows : List (ℕ × List ℕ)) → IsProp (AreSpelled ids rows)
 AreSpelled-prop ids rows = all-prop (IsSpelled ids) (IsSpelled-prop ids) rows
 
 pub AreReadable-prop : (ids : IdSize) (rows : TableRows) → IsProp (AreReadable ids rows)
@@ -96,5 +95,5 @@ AreReadable-prop ids (tables.Traces rows) = all-prop (IsWhole ids) (IsWhole-prop
 AreReadable-prop ids (tables.Starts rows) = AreSerials-prop (rows_left rows)
 AreReadable-prop ids (tables.Ends rows) = AreSerials-prop (rows_left rows)
 AreReadable-prop ids (tables.Roots roots) = Unit-prop
-AreReadable-prop ids (tables.Classes rows) = AreSpelled-prop ids (rows_left rows)
-AreReadable-prop ids (tables.Objects rows) = AreSpelled-prop ids (rows_left rows)
+AreReadable-prop ids (tables.Classes rows) = AreSpelled-prop ids (spelled_left rows)
+AreReadable-prop ids (tables.Objects rows) = AreSpelled-prop ids (spelled_left rows)

@@ -13,13 +13,15 @@ ghost use Rattle.hprof_heap.specs.HeapValue.{IsHeap};
 ghost use Rattle.hprof_heap.specs.Order.{IsCanonicalOrder, place_of};
 ghost use Rattle.hprof_heap.specs.Relation.{rows_of};
 ghost use Rattle.hprof_heap.specs.RootSet.{roots_of};
+ghost use Rattle.hprof_heap.specs.SpelledTable.{spelled_rows};
 
 use crate::facts::Facts;
 use crate::name_row::{NameRow, NameText};
 use crate::number_rows::{FrameRow, KeyRow, LoadRow, StartRow};
 use crate::relation::{Relation, Stated};
 use crate::root_set::RootSet;
-use crate::spelled_row::{SpelledBytes, SpelledRow};
+use crate::spelled::spelled_fact;
+use crate::spelled_table::SpelledTable;
 use crate::sub_rows::SubRows;
 use crate::table::Table;
 use crate::table_rows::TableRows;
@@ -41,8 +43,8 @@ pub struct Heap {
     starts: Relation<StartRow>,
     ends: Relation<KeyRow>,
     roots: RootSet,
-    classes: Relation<SpelledRow>,
-    objects: Relation<SpelledRow>,
+    classes: SpelledTable,
+    objects: SpelledTable,
     ghost sound: { AreHeap (record {
       ids = ids;
       millis = millis;
@@ -54,8 +56,8 @@ pub struct Heap {
       starts = rows_of starts;
       ends = rows_of ends;
       roots = roots_of roots;
-      classes = rows_of classes;
-      objects = rows_of objects;
+      classes = spelled_rows classes;
+      objects = spelled_rows objects;
     }) } by { AreHeap-prop _ },
 }
 
@@ -83,8 +85,8 @@ impl Heap {
             starts: Relation::new(alloc),
             ends: Relation::new(alloc),
             roots: RootSet::new(alloc),
-            classes: Relation::new(alloc),
-            objects: Relation::new(alloc),
+            classes: SpelledTable::new(alloc),
+            objects: SpelledTable::new(alloc),
         }
     }
 
@@ -193,7 +195,7 @@ impl Heap {
         ensures err { OnErr result (heap_of self.new ≡ heap_of self.old) }
         ensures absent { OnErr result (IsNewAmong (heap_of self.old).facts (value_of fact.now)) }
     {
-        self.classes.state_from(id, SpelledBytes { bytes })
+        self.classes.state(id, bytes)
     }
 
     /// States an instance or an array, which is spelled by these bytes.
@@ -205,7 +207,7 @@ impl Heap {
         ensures err { OnErr result (heap_of self.new ≡ heap_of self.old) }
         ensures absent { OnErr result (IsNewAmong (heap_of self.old).facts (value_of fact.now)) }
     {
-        self.objects.state_from(id, SpelledBytes { bytes })
+        self.objects.state(id, bytes)
     }
 
     /// States a fact; the bytes are those of the sub-record that spells it, if it is one of a heap dump. One that is
@@ -352,8 +354,8 @@ impl Heap {
         ensures value { option_map value_of result ≡ find (has_key (keys.Class id)) (heap_of self.now).facts }
         ensures lists { IfSome result (ListsHave (heap_of self.now).ids) }
     {
-        let row = self.classes.get(id)?;
-        Some(row.fact(self.ids))
+        let bytes = self.classes.get(id)?;
+        Some(spelled_fact(bytes, self.ids))
     }
 
     /// The instance or the array with that identifier.
@@ -361,8 +363,8 @@ impl Heap {
         ensures value { option_map value_of result ≡ find (has_key (keys.Object id)) (heap_of self.now).facts }
         ensures lists { IfSome result (ListsHave (heap_of self.now).ids) }
     {
-        let row = self.objects.get(id)?;
-        Some(row.fact(self.ids))
+        let bytes = self.objects.get(id)?;
+        Some(spelled_fact(bytes, self.ids))
     }
 
     /// The rows of a table.

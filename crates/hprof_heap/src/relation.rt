@@ -32,15 +32,20 @@ struct Stating<T> {
 impl<V: Content, T: Statement<V> + Drop> Visit<V> for Stating<T> {
     type Answer = bool;
 
-    ghost answers = { λ stating row same. IsTrue same ↔ (V.content row ≡ T.content stating.statement) };
+    // Each row stands in the table, with all that it has.
+    type Room = ();
 
-    ghost makes = { λ stating row. V.content row ≡ T.content stating.statement };
+    ghost held = { λ _. [] };
 
-    fn ask(self, row: &V) -> bool {
+    ghost answers = { λ stating _ row same. IsTrue same ↔ (V.content row ≡ T.content stating.statement) };
+
+    ghost makes = { λ stating _ row _. V.content row ≡ T.content stating.statement };
+
+    fn ask(self, row: &V, _room: &()) -> bool {
         self.statement.matches(row)
     }
 
-    fn make(self) -> Result<V, AllocError> {
+    fn make(self, _room: &mut ()) -> Result<V, AllocError> {
         let Stating { statement, alloc } = self;
         statement.into_row(alloc)
     }
@@ -91,7 +96,7 @@ impl<V: Content + Drop> Relation<V> {
             statement,
             alloc: self.alloc,
         };
-        match self.rows.visit(key, stating)? {
+        match self.rows.visit(key, stating, &mut ())? {
             None => Ok(Stated::New),
             Some(true) => Ok(Stated::Same),
             Some(false) => Ok(Stated::Differs),

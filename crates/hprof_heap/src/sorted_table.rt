@@ -4,7 +4,7 @@ ghost use Rattle.std.specs.Prelude.{◌≡◌, ◌+◌, ◌↔◌, ◌≤◌, �
 ghost use Rattle.std.specs.Ordering.{nat_cmp};
 ghost use Rattle.std.specs.BTreeMap.{insert_entry};
 ghost use Rattle.std.specs.Option.{option_copied};
-ghost use Rattle.hprof_heap.specs.SortedRows.{IsTable, IsTable-prop, IsListOfBoth, row_at, end_of, Visits};
+ghost use Rattle.hprof_heap.specs.SortedRows.{IsTable, IsTable-prop, IsListOfBoth, LeavesUnmade, row_at, end_of, Visits};
 
 use std::alloc::{AllocError, Global};
 use std::collections::btree_map::Entry;
@@ -15,19 +15,26 @@ pub(crate) trait Visit<V> {
     /// What the row that is there answers.
     type Answer;
 
-    // What a row may answer.
-    ghost answers: { Self → V → Self.Answer → Type 0 };
+    /// Where rows have what does not stand in the table.
+    type Room;
 
-    // The rows that may be made.
-    ghost makes: { Self → V → Type 0 };
+    // The bytes of the room.
+    ghost held: { Self.Room → List ℕ };
+
+    // What a row may answer, with those bytes in the room.
+    ghost answers: { Self → List ℕ → V → Self.Answer → Type 0 };
+
+    // The rows that may be made, with the bytes that were in the room and those that then are.
+    ghost makes: { Self → List ℕ → V → List ℕ → Type 0 };
 
     /// Asks the row that is there.
-    fn ask(self, row: &V) -> Self::Answer
-        ensures { answers self row.now result };
+    fn ask(self, row: &V, room: &Self::Room) -> Self::Answer
+        ensures { answers self (held room.now) row.now result };
 
-    /// Makes the row.
-    fn make(self) -> Result<V, AllocError>
-        ensures { IfOk result (makes self) };
+    /// Makes the row. Where memory is refused, the room has what it had.
+    fn make(self, room: &mut Self::Room) -> Result<V, AllocError>
+        ensures ok { IfOk result (λ row. makes self (held room.old) row (held room.new)) }
+        ensures err { OnErr result (held room.new ≡ held room.old) };
 }
 
 /// Rows by key. The run has each row whose key was above all keys that were there; the others stand in the map.
@@ -84,14 +91,23 @@ impl<V> SortedTable<V> {
         }
     }
 
-    /// Puts a row at the end of the run.
-    fn push(&mut self, key: u64, row: V) -> Result<(), AllocError>
+    /// Makes a row at the end of the run.
+    fn make_at_end<T: Visit<V> + Drop>(
+        &mut self,
+        key: u64,
+        visitor: T,
+        room: &mut T::Room,
+    ) -> Result<(), AllocError>
     where
         V: Drop,
         requires { end_of self.old.run.items ≤ key }
-        ensures ok { IfOk result (λ _. entries_of self.new ≡ insert_entry nat_cmp (entries_of self.old) key row) }
+        ensures ok { IfOk result (λ _. (row : V) × T.makes visitor (T.held room.old) row (T.held room.new)
+            × (entries_of self.new ≡ insert_entry nat_cmp (entries_of self.old) key row)) }
         ensures err { OnErr result (entries_of self.new ≡ entries_of self.old) }
+        ensures kept { OnErr result (T.held room.new ≡ T.held room.old) }
     {
+        self.run.reserve(1)?;
+        let row = visitor.make(room)?;
         self.run.push((key, row))?;
         Ok(())
     }
@@ -101,21 +117,23 @@ impl<V> SortedTable<V> {
         &mut self,
         key: u64,
         visitor: T,
+        room: &mut T::Room,
     ) -> Result<Option<T::Answer>, AllocError>
     where
         V: Drop,
-        ensures ok { IfOk result (λ answer. Visits (T.answers visitor) (T.makes visitor) (entries_of self.old) key answer (entries_of self.new)) }
+        ensures ok { IfOk result (λ answer. Visits (T.answers visitor (T.held room.old)) (λ row. T.makes visitor (T.held room.old) row (T.held room.new))
+            (entries_of self.old) key answer (entries_of self.new)) }
         ensures err { OnErr result (entries_of self.new ≡ entries_of self.old) }
         ensures absent { OnErr result (row_at key (entries_of self.old) ≡ None) }
+        ensures kept { LeavesUnmade result (T.held room.old) (T.held room.new) }
     {
         if self.is_above(key) {
-            let row = visitor.make()?;
-            self.push(key, row)?;
+            self.make_at_end(key, visitor, room)?;
             return Ok(None);
         }
         match self.get_in_run(key) {
-            Some(row) => Ok(Some(visitor.ask(row))),
-            None => visit_map(&mut self.below, key, visitor),
+            Some(row) => Ok(Some(visitor.ask(row, room))),
+            None => visit_map(&mut self.below, key, visitor, room),
         }
     }
 
@@ -146,15 +164,18 @@ fn visit_map<V: Drop, T: Visit<V> + Drop>(
     map: &mut BTreeMap<u64, V>,
     key: u64,
     visitor: T,
+    room: &mut T::Room,
 ) -> Result<Option<T::Answer>, AllocError>
-    ensures ok { IfOk result (λ answer. Visits (T.answers visitor) (T.makes visitor) map.old.entries key answer map.new.entries) }
+    ensures ok { IfOk result (λ answer. Visits (T.answers visitor (T.held room.old)) (λ row. T.makes visitor (T.held room.old) row (T.held room.new))
+        map.old.entries key answer map.new.entries) }
     ensures err { OnErr result (map.new.entries ≡ map.old.entries) }
     ensures absent { OnErr result (row_at key map.old.entries ≡ None) }
+    ensures kept { LeavesUnmade result (T.held room.old) (T.held room.new) }
 {
     match map.entry(key)? {
-        Entry::Occupied(entry) => Ok(Some(visitor.ask(entry.get()))),
+        Entry::Occupied(entry) => Ok(Some(visitor.ask(entry.get(), room))),
         Entry::Vacant(entry) => {
-            let row = visitor.make()?;
+            let row = visitor.make(room)?;
             entry.insert(row);
             Ok(None)
         }

@@ -6,7 +6,6 @@ ghost use Rattle.hprof_items.specs.Device.{Writes, LeavesHealth};
 ghost use Rattle.hprof_items.specs.Spelling.{longest_body};
 ghost use Rattle.hprof_items.specs.SubRecord.{dump_bytes};
 
-use crate::spelled_row::SpelledRow;
 use hprof_items::{Fact, Target, WriteFault, spelled_len, write_fact};
 use hprof_values::{IdSize, Root};
 
@@ -16,7 +15,7 @@ pub(crate) enum SubRow<'a> {
     /// A root.
     Root(Root),
     /// A class or an object.
-    Spelled(&'a SpelledRow),
+    Spelled(&'a [u8]),
 }
 
 impl SubRow<'_> {
@@ -31,7 +30,7 @@ impl SubRow<'_> {
     {
         match self {
             SubRow::Root(root) => spelled_len(&Fact::Root(root), ids),
-            SubRow::Spelled(row) => row.bytes.len() as u64,
+            SubRow::Spelled(bytes) => bytes.len() as u64,
         }
     }
 
@@ -44,7 +43,7 @@ impl SubRow<'_> {
     {
         match self {
             SubRow::Root(root) => write_fact(&Fact::Root(root), ids, target),
-            SubRow::Spelled(row) => push_all(&row.bytes, target),
+            SubRow::Spelled(bytes) => push_all(bytes, target),
         }
     }
 }

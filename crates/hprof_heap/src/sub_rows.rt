@@ -1,10 +1,9 @@
 //! The sub-records of a heap, one after the other.
 
-ghost use Rattle.hprof_heap.specs.Rows.{rows_left};
+ghost use Rattle.hprof_heap.specs.SpelledTable.{spelled_left};
 ghost use Rattle.hprof_heap.specs.SubRow.{AreWritable, AreWritable-prop};
 
-use crate::rows::Rows;
-use crate::spelled_row::SpelledRow;
+use crate::spelled_table::SpelledRows;
 use crate::sub_row::SubRow;
 use hprof_values::{IdSize, Root};
 use std::collections::btree_set;
@@ -14,10 +13,10 @@ use std::collections::btree_set;
 pub(crate) struct SubRows<'a> {
     ids: IdSize,
     roots: btree_set::Iter<'a, Root>,
-    classes: Rows<'a, SpelledRow>,
-    objects: Rows<'a, SpelledRow>,
+    classes: SpelledRows<'a>,
+    objects: SpelledRows<'a>,
     // Each of them can be written.
-    ghost sound: { AreWritable ids roots (rows_left classes) (rows_left objects) } by { AreWritable-prop ids roots (rows_left classes) (rows_left objects) },
+    ghost sound: { AreWritable ids roots (spelled_left classes) (spelled_left objects) } by { AreWritable-prop ids roots (spelled_left classes) (spelled_left objects) },
 }
 
 impl<'a> SubRows<'a> {
@@ -29,11 +28,11 @@ impl<'a> SubRows<'a> {
     pub(crate) fn new(
         ids: IdSize,
         roots: btree_set::Iter<'a, Root>,
-        classes: Rows<'a, SpelledRow>,
-        objects: Rows<'a, SpelledRow>,
+        classes: SpelledRows<'a>,
+        objects: SpelledRows<'a>,
     ) -> Self
-        requires { AreWritable ids roots (rows_left classes) (rows_left objects) }
-        ensures all { subs_left result ≡ facts_of_subs ids roots.entry (rows_left classes.entry) (rows_left objects.entry) }
+        requires { AreWritable ids roots (spelled_left classes) (spelled_left objects) }
+        ensures all { subs_left result ≡ facts_of_subs ids roots.entry (spelled_left classes.entry) (spelled_left objects.entry) }
         ensures ids { subs_ids result ≡ ids }
     {
         SubRows {
@@ -58,10 +57,10 @@ impl<'a> SubRows<'a> {
         if let Some(root) = self.roots.next() {
             return Some(SubRow::Root(*root));
         }
-        if let Some((_id, row)) = self.classes.next() {
-            return Some(SubRow::Spelled(row));
+        if let Some((_id, bytes)) = self.classes.next() {
+            return Some(SubRow::Spelled(bytes));
         }
-        let (_id, row) = self.objects.next()?;
-        Some(SubRow::Spelled(row))
+        let (_id, bytes) = self.objects.next()?;
+        Some(SubRow::Spelled(bytes))
     }
 }

@@ -6,12 +6,14 @@ ghost use Rattle.hprof_values.specs.declared.ids.IdSize.{IdSize};
 ghost use Rattle.hprof_items.specs.FactValue.{ListsHave, value_of};
 ghost use Rattle.hprof_heap.specs.HeapRows.{name_facts, load_facts, unload_facts, frame_facts, trace_facts, start_facts, end_facts, root_facts, spelled_facts};
 ghost use Rattle.hprof_heap.specs.Rows.{rows_left};
+ghost use Rattle.hprof_heap.specs.SpelledTable.{spelled_left};
 ghost use Rattle.hprof_heap.specs.TableRows.{AreSerials, AreWhole, AreSpelled, AreReadable, facts_in_rows};
 
 use crate::name_row::NameRow;
 use crate::number_rows::{FrameRow, KeyRow, LoadRow, StartRow};
 use crate::rows::Rows;
-use crate::spelled_row::SpelledRow;
+use crate::spelled::spelled_fact;
+use crate::spelled_table::SpelledRows;
 use crate::trace_row::TraceRow;
 use hprof_items::Fact;
 use hprof_values::{IdSize, Root};
@@ -37,9 +39,9 @@ pub(crate) enum TableRows<'a> {
     /// Roots.
     Roots(btree_set::Iter<'a, Root>),
     /// Classes, by identifier.
-    Classes(Rows<'a, SpelledRow>),
+    Classes(SpelledRows<'a>),
     /// Instances and arrays, by identifier.
-    Objects(Rows<'a, SpelledRow>),
+    Objects(SpelledRows<'a>),
 }
 
 /// The fact of the first row. The rows behind it are left.
@@ -155,12 +157,12 @@ fn next_root<'a>(roots: &mut btree_set::Iter<'a, Root>) -> Option<Fact<'a>>
 }
 
 /// The first class or object.
-fn next_spelled<'a>(rows: &mut Rows<'a, SpelledRow>, ids: IdSize) -> Option<Fact<'a>>
-    requires { AreSpelled ids (rows_left rows.old) }
-    ensures first { YieldsFirstBy value_of (λ rows. spelled_facts ids (rows_left rows)) rows.old result rows.new }
+fn next_spelled<'a>(rows: &mut SpelledRows<'a>, ids: IdSize) -> Option<Fact<'a>>
+    requires { AreSpelled ids (spelled_left rows.old) }
+    ensures first { YieldsFirstBy value_of (λ rows. spelled_facts ids (spelled_left rows)) rows.old result rows.new }
     ensures lists { IfSome result (ListsHave ids) }
-    ensures kept { AreSpelled ids (rows_left rows.new) }
+    ensures kept { AreSpelled ids (spelled_left rows.new) }
 {
-    let (_id, row) = rows.next()?;
-    Some(row.fact(ids))
+    let (_id, bytes) = rows.next()?;
+    Some(spelled_fact(bytes, ids))
 }

@@ -7,7 +7,8 @@ use Rattle.hprof_heap.specs.HeapRows.{name_text, no_content}
 use Rattle.hprof_heap.specs.NumberRows.{load_numbers, frame_numbers, start_numbers}
 use Rattle.hprof_heap.specs.Relation.{rows_of}
 use Rattle.hprof_heap.specs.RootSet.{roots_of}
-use Rattle.hprof_heap.specs.SpelledRow.{spelled_bytes}
+use Rattle.hprof_heap.specs.Spelled.{spelled_bytes}
+use Rattle.hprof_heap.specs.SpelledTable.{spelled_rows}
 use Rattle.hprof_heap.specs.TraceRow.{trace_content}
 use Rattle.hprof_heap.proofs.HeapRows.{length_rows, length_roots, table_length}
 use Rattle.hprof_heap.proofs.heap.Heap.len.Goals as goal
@@ -46,8 +47,8 @@ returns-in-Roots c = rw c.in-Roots.is
 
 pub returns-in-Classes : goal.returns-in-Classes
 returns-in-Classes c = rw c.in-Classes.is
-    (table_length (rows_in c.args.self.now) tables.Classes c.len-in-Classes.result c.args.self.now.sound (c.len-in-Classes.ensures ∙ length_rows (spelled_fact c.args.self.now.ids) spelled_bytes (rows_of c.args.self.now.classes)))
+    (table_length (rows_in c.args.self.now) tables.Classes c.len-in-Classes.result c.args.self.now.sound (c.len-in-Classes.ensures ∙ length_rows (spelled_fact c.args.self.now.ids) spelled_bytes (spelled_rows c.args.self.now.classes)))
 
 pub returns-in-Objects : goal.returns-in-Objects
 returns-in-Objects c = rw c.in-Objects.is
-    (table_length (rows_in c.args.self.now) tables.Objects c.len-in-Objects.result c.args.self.now.sound (c.len-in-Objects.ensures ∙ length_rows (spelled_fact c.args.self.now.ids) spelled_bytes (rows_of c.args.self.now.objects)))
+    (table_length (rows_in c.args.self.now) tables.Objects c.len-in-Objects.result c.args.self.now.sound (c.len-in-Objects.ensures ∙ length_rows (spelled_fact c.args.self.now.ids) spelled_bytes (spelled_rows c.args.self.now.objects)))

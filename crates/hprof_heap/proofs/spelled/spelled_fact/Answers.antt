@@ -1,7 +1,7 @@
 use Rattle.std.proofs.Common.{[], length, sym, ap, ◌∙◌, arith}
 use Rattle.std.proofs.lemmas.List.{append-nil}
 use Rattle.hprof_items.specs.SubRecord.{dump_bytes}
-use Rattle.hprof_heap.proofs.spelled_row.SpelledRow.fact.Goals as goal
+use Rattle.hprof_heap.proofs.spelled.spelled_fact.Goals as goal
 
 pub returns-clause-fact : goal.returns-clause-fact
 returns-clause-fact c = λ fact spells.
