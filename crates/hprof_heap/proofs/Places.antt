@@ -8,8 +8,8 @@ use Rattle.std.specs.Ordering.{nat_cmp}
 use Rattle.std.specs.BTreeMap.{is_at, insert_entry}
 use Rattle.std.specs.Cmp.{nat_cmp_is}
 use Rattle.std.proofs.lemmas.Bool.{cases_order}
-use Rattle.std.proofs.lemmas.List.{drop-append-le, take-append-le, length-append, length-drop, take-length}
-use Rattle.std.proofs.Math.Seq.{drop-append_seam}
+use Rattle.std.proofs.lemmas.List.{drop-append-le, take-append-le, length-append, length-drop}
+use Rattle.std.proofs.Math.Seq.{drop-append_seam, take-length}
 use Rattle.std.proofs.lemmas.Map.Made.{lookup-map_values, keys_of-map_values}
 use Rattle.hprof_heap.specs.declared.spelled_table.Place.{Place}
 use Rattle.hprof_heap.specs.Places.{IsWithin, AreWithin, lying, rows_lying}
