@@ -1,6 +1,6 @@
 -- Rows whose bytes lie among others: they stay where more bytes come behind those.
 use Rattle.std.proofs.Common.{◌≡◌, ◌≢◌, ◌≤◌, ◌-◌, ◌++◌, ℕ, List, [], ◌∷◌, length, map, take, drop, Option, Some, None, Result, Ok, Err, refl, sym, ap, subst, ◌∙◌, inl, inr, arith}
-use Rattle.std.specs.Prelude.{IfOk, OnErr}
+use Rattle.std.specs.Prelude.{◌↔◌, Bool, true, false, ⊤, IsTrue, IfOk, OnErr}
 use Rattle.std.specs.declared.cmp.Ordering.TheVariants.{Less, Equal, Greater}
 use Rattle.std.specs.Map.{lookup}
 use Rattle.std.specs.Option.{option_map}
@@ -12,8 +12,12 @@ use Rattle.std.proofs.lemmas.List.{drop-append-le, take-append-le, length-append
 use Rattle.std.proofs.Math.Seq.{drop-append_seam, take-length}
 use Rattle.std.proofs.lemmas.Map.Made.{lookup-map_values, keys_of-map_values}
 use Rattle.hprof_heap.specs.declared.spelled_table.Place.{Place}
+use Rattle.hprof_heap.specs.declared.relation.Stated.{Stated}
+use Rattle.hprof_heap.specs.declared.relation.Stated.TheVariants.{New, Same, Differs}
 use Rattle.hprof_heap.specs.Places.{IsWithin, AreWithin, lying, rows_lying}
-use Rattle.hprof_heap.specs.SortedRows.{row_at, IsAscending}
+use Rattle.hprof_heap.specs.Relation.{States}
+use Rattle.hprof_heap.specs.SortedRows.{LeavesUnmade, Visits, row_at, IsAscending}
+use Rattle.hprof_heap.specs.Spelled.{spelled_bytes}
 use Rattle.hprof_heap.proofs.SortedRows.{row_at-here, row_at-past}
 
 -- ---- more bytes behind those that were there
@@ -81,3 +85,72 @@ within_found bytes (first ∷ rows) key place within e = elim (cases_order key f
 
 pub ascending_lying : (bytes : List ℕ) (rows : List (ℕ × Place)) → IsAscending rows → IsAscending (rows_lying bytes rows)
 ascending_lying bytes rows up = rw (keys_of-map_values (lying bytes) rows) up
+
+-- ---- a visit of bytes
+
+-- what an answer tells
+abbrev pub stated_by : Option Bool → Stated
+stated_by None = New
+stated_by (Some true) = Same
+stated_by (Some false) = Differs
+
+module _ (old_bytes new_bytes bytes : List ℕ) where
+  -- what a place answers, and the places that may be made
+  abbrev pub Asks : Place → Bool → Type 0
+  Asks place same = IsWithin old_bytes place → (IsTrue same ↔ (lying old_bytes place ≡ bytes))
+
+  abbrev pub Makes : Place → Type 0
+  Makes place = (new_bytes ≡ old_bytes ++ bytes) × (place.start ≡ length old_bytes) × (place.end ≡ length new_bytes)
+
+  module _ (old new : List (ℕ × Place)) (key : ℕ) where
+    made-within : (place : Place) → AreWithin old_bytes old → Makes place → new ≡ insert_entry nat_cmp old key place → AreWithin new_bytes new
+    made-within place within made e =
+        let more : AreWithin new_bytes old = rw made.0 (within-append old_bytes bytes old within) in
+        let there : place.start ≤ place.end = omega (arith, ap length made.0, length-append old_bytes bytes) in
+        rw e (within-insert new_bytes old key place more (there, omega (arith, made.2)))
+
+    -- the places stay within the bytes
+    pub visited-within : {E : Type 0} (r : Result (Option Bool) E) → AreWithin old_bytes old → IfOk r (λ answer. Visits Asks Makes old key answer new)
+        → OnErr r (new ≡ old) → LeavesUnmade r old_bytes new_bytes → AreWithin new_bytes new
+    visited-within (Ok None) within v err kept = made-within v.1.0 within v.1.1 v.1.2
+    visited-within (Ok (Some answer)) within v err kept = rw (v.0, kept) within
+    visited-within (Err e) within v err kept = rw (err, kept) within
+
+    unchanged : new ≡ old → new_bytes ≡ old_bytes → rows_lying new_bytes new ≡ rows_lying old_bytes old
+    unchanged e same = rw (e, same) refl
+
+    -- a visit states the bytes
+    pub visited : (answer : Option Bool) → AreWithin old_bytes old → Visits Asks Makes old key answer new → LeavesUnmade {E = ⊤} (Ok answer) old_bytes new_bytes
+        → States spelled_bytes (rows_lying old_bytes old) key bytes (stated_by answer) (rows_lying new_bytes new)
+    visited None within v kept =
+        let place = v.1.0 in
+        let made = v.1.1 in
+        let lies : lying new_bytes place ≡ bytes =
+            rw made.0 (lying-new old_bytes bytes place made.1 (made.2 ∙ ap length made.0)) in
+        let rest : rows_lying new_bytes old ≡ rows_lying old_bytes old = rw made.0 (rows_lying-append old_bytes bytes old within) in (
+          row_lying old_bytes old key ∙ ap (option_map (lying old_bytes)) v.0,
+          (
+            lying new_bytes place,
+            lies,
+            ap (rows_lying new_bytes) v.1.2 ∙ rows_lying-insert new_bytes old key place
+                ∙ ap (λ (rows : List (ℕ × List ℕ)). insert_entry nat_cmp rows key (lying new_bytes place)) rest,
+          ),
+        )
+    visited (Some true) within v kept =
+        let place = v.1.0 in (
+          unchanged v.0 kept,
+          (
+            lying old_bytes place,
+            row_lying old_bytes old key ∙ ap (option_map (lying old_bytes)) v.1.1,
+            (v.1.2 (within_found old_bytes old key place within v.1.1)).0 refl,
+          ),
+        )
+    visited (Some false) within v kept =
+        let place = v.1.0 in (
+          unchanged v.0 kept,
+          (
+            lying old_bytes place,
+            row_lying old_bytes old key ∙ ap (option_map (lying old_bytes)) v.1.1,
+            λ same. let yes : false ≡ true = (v.1.2 (within_found old_bytes old key place within v.1.1)).1 same in absurd cc,
+          ),
+        )

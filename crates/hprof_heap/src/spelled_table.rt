@@ -1,6 +1,6 @@
 //! The tables of classes and objects.
 
-ghost use Rattle.std.specs.Prelude.{◌≡◌, ◌↔◌, ◌×◌, ◌++◌, List, [], length, IfOk, OnErr, IsTrue, None};
+ghost use Rattle.std.specs.Prelude.{◌≡◌, ◌↔◌, ◌++◌, List, [], length, IfOk, OnErr, IsTrue, None};
 ghost use Rattle.std.specs.Option.{option_copied};
 ghost use Rattle.std.specs.Ordering.{nat_cmp};
 ghost use Rattle.std.specs.BTreeMap.{is_at};

@@ -6,5 +6,5 @@ use Rattle.hprof_heap.proofs.spelled.spelled_fact.Goals as goal
 pub returns-clause-fact : goal.returns-clause-fact
 returns-clause-fact c = λ fact spells.
     let len = sym (ap length spells.spelled) in
-    (c.in-Whole.ensures.only fact [] spells.fits (c.deref.ensures.value ∙ spells.spelled ∙ sym (append-nil (dump_bytes c.args.ids fact)))
-    (omega (arith, len, c.len-len.ensures)) (omega (arith, len, c.len-len.ensures))).0
+    (c.in-Whole.ensures.only fact [] spells.fits (spells.spelled ∙ sym (append-nil (dump_bytes c.args.ids fact)))
+    (omega (arith, len)) (omega (arith, len))).0

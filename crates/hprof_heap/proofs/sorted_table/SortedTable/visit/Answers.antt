@@ -3,22 +3,16 @@ use Rattle.hprof_heap.specs.SortedRows.{end_of}
 use Rattle.hprof_heap.proofs.SortedTable.{at_err, at_err-then, not_above, table-above, table-in_run, table-below, tried_below, tried_below-sound}
 use Rattle.hprof_heap.proofs.sorted_table.SortedTable.visit.Goals as goal
 
-pub returns-in_err-row-clause-absent : goal.returns-in_err-row-clause-absent
-returns-in_err-row-clause-absent g c =
+pub returns-in_err-make_at_end-clause-absent : goal.returns-in_err-make_at_end-clause-absent
+returns-in_err-make_at_end-clause-absent g c =
     at_err c.from_residual.result _ (table-above c.args.key c.args.self.now.run.items c.args.self.now.below.entries c.args.self.now.sound
-    (c.is_above.ensures.0 c.if-is_above.true))
-
-pub returns-in_err-push-clause-absent : goal.returns-in_err-push-clause-absent
-returns-in_err-push-clause-absent g c =
-    at_err c.from_residual-in_err-push.result _
-    (table-above c.args.key c.args.self.now.run.items c.args.self.now.below.entries c.args.self.now.sound
     (c.is_above.ensures.0 c.if-is_above.true))
 
 pub returns-then-is_above-clause-ok : goal.returns-then-is_above-clause-ok
 returns-then-is_above-clause-ok g c = (
   table-above c.args.key c.args.self.now.run.items c.args.self.now.below.entries c.args.self.now.sound
       (c.is_above.ensures.0 c.if-is_above.true),
-  (c.in_ok-row.row, c.in_ok-row.ensures, c.in_ok-push.ensures.ok),
+  c.in_ok-make_at_end.ensures.ok,
 )
 
 pub returns-in-Some-clause-ok : goal.returns-in-Some-clause-ok
@@ -38,7 +32,7 @@ invariant_of-self g c =
     let lt : c.args.key < end_of run = not_above c.is_above.result (end_of run) c.args.key c.is_above.ensures.1 c.if-is_above.false in
     record {
       sound =
-          tried_below-sound (g.T.Visit.answers c.args.visitor) (g.T.Visit.makes c.args.visitor) run c.args.self.now.below.entries
+          tried_below-sound _ _ run c.args.self.now.below.entries
           c.visit_map.new.map.entries c.args.key c.visit_map.result
           c.args.self.now.sound lt (sym c.in-None.ensures) c.visit_map.ensures.ok c.visit_map.ensures.err;
     }
@@ -47,7 +41,7 @@ pub returns-in-None-clause-ok : goal.returns-in-None-clause-ok
 returns-in-None-clause-ok g c =
     let run = c.args.self.now.run.items in
     let lt : c.args.key < end_of run = not_above c.is_above.result (end_of run) c.args.key c.is_above.ensures.1 c.if-is_above.false in
-    tried_below (g.T.Visit.answers c.args.visitor) (g.T.Visit.makes c.args.visitor) run c.args.self.now.below.entries
+    tried_below _ _ run c.args.self.now.below.entries
     c.visit_map.new.map.entries c.args.key c.visit_map.result
     c.args.self.now.sound lt (sym c.in-None.ensures) c.visit_map.ensures.ok
 
