@@ -126,7 +126,7 @@ module _ (old_bytes new_bytes bytes : List ℕ) where
         let place = v.1.0 in
         let made = v.1.1 in
         let lies : lying new_bytes place ≡ bytes =
-            rw made.0 (lying-new old_bytes bytes place made.1 (made.2 ∙ ap length made.0)) in
+        rw made.0 (lying-new old_bytes bytes place made.1 (made.2 ∙ ap length made.0)) in
         let rest : rows_lying new_bytes old ≡ rows_lying old_bytes old = rw made.0 (rows_lying-append old_bytes bytes old within) in (
           row_lying old_bytes old key ∙ ap (option_map (lying old_bytes)) v.0,
           (
