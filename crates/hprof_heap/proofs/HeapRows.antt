@@ -19,7 +19,6 @@ use Rattle.hprof_items.specs.RecordBody.{record_of}
 use Rattle.hprof_items.specs.SubRecord.{dump_bytes}
 use Rattle.hprof_items.proofs.Dumps.{sub_again}
 use Rattle.hprof_items.specs.Spelling.{Fits, FitsAs, longest_body}
-use Rattle.hprof_heap.specs.declared.name_row.NameRow.{NameRow}
 use Rattle.hprof_heap.specs.declared.number_rows.LoadRow.{LoadRow}
 use Rattle.hprof_heap.specs.declared.number_rows.FrameRow.{FrameRow}
 use Rattle.hprof_heap.specs.declared.number_rows.StartRow.{StartRow}
@@ -29,16 +28,16 @@ use Rattle.hprof_heap.specs.declared.relation.Stated.{Stated}
 use Rattle.hprof_heap.specs.Key.{has_key}
 use Rattle.hprof_heap.specs.SortedRows.{row_at}
 use Rattle.hprof_heap.proofs.Keys.{place_of_key, stands_at, has_key_at, same_place}
-use Rattle.hprof_heap.specs.Content.{content_of, load_fact, unload_fact, frame_fact, trace_fact, start_fact, end_fact, spelled_fact, line_with, read_fact, facts_of_rows, IsRight, AreRight}
+use Rattle.hprof_heap.specs.Content.{content_of, load_fact, unload_fact, frame_fact, trace_fact, start_fact, end_fact, spelled_fact, line_with, read_fact, facts_of_rows, IsRight, AreRight, the_bytes}
 use Rattle.hprof_heap.specs.Gathering.{StatesInto, IsNewAmong}
 use Rattle.hprof_heap.specs.declared.table.Table.{Table}
 use Rattle.hprof_heap.specs.Heap.{facts_of_table, number_of_table}
-use Rattle.hprof_heap.specs.HeapRows.{HeapRows, AreHeap, tables_of, heap_of_rows, name_text, no_content, root_facts}
+use Rattle.hprof_heap.specs.HeapRows.{HeapRows, AreHeap, tables_of, heap_of_rows, no_content, root_facts}
 use Rattle.hprof_heap.specs.HeapValue.{IsHeap}
 use Rattle.hprof_heap.specs.Order.{place_of}
 use Rattle.hprof_heap.specs.NumberRows.{line_numbers, load_numbers, frame_numbers, start_numbers}
 use Rattle.hprof_heap.specs.Relation.{States}
-use Rattle.hprof_heap.specs.Spelled.{Spells, spelled_bytes}
+use Rattle.hprof_heap.specs.Spelled.{Spells}
 use Rattle.hprof_heap.specs.Tables.{joined}
 use Rattle.hprof_heap.specs.TraceRow.{trace_content}
 use Rattle.hprof_heap.proofs.Inserting.{find-Some, unseen}
@@ -53,8 +52,8 @@ pub line_again : (line : ℤ) → line_with (slice_index (line_numbers line) 0) 
 line_again (pos n) = refl
 line_again (negsuc n) = refl
 
-pub names_right : (ids : IdSize) (rows : List (ℕ × NameRow)) → AreRight ids 0 Name name_text rows
-names_right ids rows = right_by ids 0 Name name_text rows (λ key row. (refl, refl))
+pub names_right : (ids : IdSize) (rows : List (ℕ × List ℕ)) → AreRight ids 0 Name the_bytes rows
+names_right ids rows = right_by ids 0 Name the_bytes rows (λ key row. (refl, refl))
 
 pub loads_right : (ids : IdSize) (rows : List (ℕ × LoadRow)) → AreRight ids 1 load_fact load_numbers rows
 loads_right ids rows = right_by ids 1 load_fact load_numbers rows (λ key row. (refl, refl))
@@ -87,7 +86,7 @@ all_of_roots (root ∷ roots) = (record { more = code_of_tag (tag_of_root root) 
 -- the facts of each table stand in it
 pub heap_tables : (rows : HeapRows) → AreHeap rows → AreTables 0 (tables_of rows)
 heap_tables rows are = (
-  all_of_rows rows.ids 0 Name name_text rows.names (names_right rows.ids rows.names),
+  all_of_rows rows.ids 0 Name the_bytes rows.names (names_right rows.ids rows.names),
   (
     all_of_rows rows.ids 1 load_fact load_numbers rows.loads (loads_right rows.ids rows.loads),
     (
@@ -103,8 +102,8 @@ heap_tables rows are = (
               (
                 all_of_roots rows.roots,
                 (
-                  all_of_rows rows.ids 8 (spelled_fact rows.ids) spelled_bytes rows.classes are.classes,
-                  (all_of_rows rows.ids 9 (spelled_fact rows.ids) spelled_bytes rows.objects are.objects, tt),
+                  all_of_rows rows.ids 8 (spelled_fact rows.ids) the_bytes rows.classes are.classes,
+                  (all_of_rows rows.ids 9 (spelled_fact rows.ids) the_bytes rows.objects are.objects, tt),
                 ),
               ),
             ),
@@ -263,10 +262,10 @@ spelled_again ids key fact e fits =
 
 -- what was stated of the spelling was stated of the content
 pub spelled_stated : {E : Type 0} (r : Result Stated E) (ids : IdSize) (key : ℕ) (fact : FactValue) (bytes : List ℕ) (old new : List (ℕ × List ℕ)) → record_of fact ≡ None
-    → bytes ≡ dump_bytes ids fact → IfOk r (λ answer. States spelled_bytes old key bytes answer new)
-    → IfOk r (λ answer. States spelled_bytes old key (content_of ids fact) answer new)
+    → bytes ≡ dump_bytes ids fact → IfOk r (λ answer. States the_bytes old key bytes answer new)
+    → IfOk r (λ answer. States the_bytes old key (content_of ids fact) answer new)
 spelled_stated r ids key fact bytes old new e spelled ok =
-    subst (λ (content : List ℕ). IfOk r (λ answer. States spelled_bytes old key content answer new)) (spelled ∙ sym (sub_content ids fact e)) ok
+    subst (λ (content : List ℕ). IfOk r (λ answer. States the_bytes old key content answer new)) (spelled ∙ sym (sub_content ids fact e)) ok
 
 -- ---- looking up
 

@@ -11,13 +11,13 @@ use Rattle.std.proofs.lemmas.Bool.{cases_order}
 use Rattle.std.proofs.lemmas.List.{drop-append-le, take-append-le, length-append, length-drop}
 use Rattle.std.proofs.Math.Seq.{drop-append_seam, take-length}
 use Rattle.std.proofs.lemmas.Map.Made.{lookup-map_values, keys_of-map_values}
-use Rattle.hprof_heap.specs.declared.spelled_table.Place.{Place}
+use Rattle.hprof_heap.specs.declared.bytes_table.Place.{Place}
 use Rattle.hprof_heap.specs.declared.relation.Stated.{Stated}
 use Rattle.hprof_heap.specs.declared.relation.Stated.TheVariants.{New, Same, Differs}
 use Rattle.hprof_heap.specs.Places.{IsWithin, AreWithin, lying, rows_lying}
 use Rattle.hprof_heap.specs.Relation.{States}
 use Rattle.hprof_heap.specs.SortedRows.{LeavesUnmade, Visits, row_at, IsAscending}
-use Rattle.hprof_heap.specs.Spelled.{spelled_bytes}
+use Rattle.hprof_heap.specs.Content.{the_bytes}
 use Rattle.hprof_heap.proofs.SortedRows.{row_at-here, row_at-past}
 
 -- ---- more bytes behind those that were there
@@ -121,7 +121,7 @@ module _ (old_bytes new_bytes bytes : List ℕ) where
 
     -- a visit states the bytes
     pub visited : (answer : Option Bool) → AreWithin old_bytes old → Visits Asks Makes old key answer new → LeavesUnmade {E = ⊤} (Ok answer) old_bytes new_bytes
-        → States spelled_bytes (rows_lying old_bytes old) key bytes (stated_by answer) (rows_lying new_bytes new)
+        → States the_bytes (rows_lying old_bytes old) key bytes (stated_by answer) (rows_lying new_bytes new)
     visited None within v kept =
         let place = v.1.0 in
         let made = v.1.1 in

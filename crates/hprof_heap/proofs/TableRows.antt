@@ -4,12 +4,11 @@ use Rattle.std.specs.List.{AllByRecursion, filter}
 use Rattle.hprof_values.specs.declared.ids.IdSize.{IdSize}
 use Rattle.hprof_items.specs.FactValue.{FactValue}
 use Rattle.hprof_items.specs.Spelling.{Fits}
-use Rattle.hprof_heap.specs.Content.{facts_of_rows, load_fact, unload_fact, trace_fact, start_fact, end_fact, spelled_fact, IsRight, AreRight}
+use Rattle.hprof_heap.specs.Content.{facts_of_rows, load_fact, unload_fact, trace_fact, start_fact, end_fact, spelled_fact, IsRight, AreRight, the_bytes}
 use Rattle.hprof_heap.specs.Facts.{Has, AllFit}
 use Rattle.hprof_heap.specs.HeapRows.{HeapRows, AreHeap, tables_of, no_content}
 use Rattle.hprof_heap.specs.NumberRows.{load_numbers, start_numbers}
 use Rattle.hprof_heap.specs.Order.{IsBefore, IsCanonicalOrder}
-use Rattle.hprof_heap.specs.Spelled.{spelled_bytes}
 use Rattle.hprof_heap.specs.TableRows.{HasSerial, IsWhole, IsSpelled, AreSerials, AreWhole, AreSpelled}
 use Rattle.hprof_heap.specs.Tables.{joined}
 use Rattle.hprof_heap.specs.TraceRow.{trace_content, frames_bytes}
@@ -66,13 +65,13 @@ end_serials rows are =
     (table_fits rows are 6)
 
 pub classes_spelled : (rows : HeapRows) → AreHeap rows → AreSpelled rows.ids rows.classes
-classes_spelled rows are = each_row rows.ids 8 (spelled_fact rows.ids) spelled_bytes (IsSpelled rows.ids)
-    (λ row right fits. row_spells rows.ids 8 row.0 (spelled_bytes row.1) (omega arith) right fits) rows.classes are.classes
+classes_spelled rows are = each_row rows.ids 8 (spelled_fact rows.ids) the_bytes (IsSpelled rows.ids)
+    (λ row right fits. row_spells rows.ids 8 row.0 (the_bytes row.1) (omega arith) right fits) rows.classes are.classes
     (table_fits rows are 8)
 
 pub objects_spelled : (rows : HeapRows) → AreHeap rows → AreSpelled rows.ids rows.objects
-objects_spelled rows are = each_row rows.ids 9 (spelled_fact rows.ids) spelled_bytes (IsSpelled rows.ids)
-    (λ row right fits. row_spells rows.ids 9 row.0 (spelled_bytes row.1) (omega arith) right fits) rows.objects are.objects
+objects_spelled rows are = each_row rows.ids 9 (spelled_fact rows.ids) the_bytes (IsSpelled rows.ids)
+    (λ row right fits. row_spells rows.ids 9 row.0 (the_bytes row.1) (omega arith) right fits) rows.objects are.objects
     (table_fits rows are 9)
 
 -- ---- going over rows

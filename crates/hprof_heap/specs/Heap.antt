@@ -10,14 +10,14 @@ use Rattle.hprof_heap.specs.HeapValue.{HeapValue}
 use Rattle.hprof_heap.specs.RootSet.{roots_of}
 use Rattle.hprof_heap.specs.Order.{place_of}
 use Rattle.hprof_heap.specs.Relation.{rows_of}
-use Rattle.hprof_heap.specs.SpelledTable.{spelled_rows}
+use Rattle.hprof_heap.specs.BytesTable.{byte_rows}
 
 -- the rows of its tables
 abbrev pub rows_in : Heap → HeapRows
 rows_in heap = record {
   ids = heap.ids;
   millis = heap.millis;
-  names = rows_of heap.names;
+  names = byte_rows heap.names;
   loads = rows_of heap.loads;
   unloads = rows_of heap.unloads;
   frames = rows_of heap.frames;
@@ -25,8 +25,8 @@ rows_in heap = record {
   starts = rows_of heap.starts;
   ends = rows_of heap.ends;
   roots = roots_of heap.roots;
-  classes = spelled_rows heap.classes;
-  objects = spelled_rows heap.objects;
+  classes = byte_rows heap.classes;
+  objects = byte_rows heap.objects;
 }
 
 -- a heap as a value: its size, its time, and the facts of its tables, one after the other

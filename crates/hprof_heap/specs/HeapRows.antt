@@ -5,22 +5,16 @@ use Rattle.std.proofs.Props.{props}
 use Rattle.hprof_values.specs.declared.ids.IdSize.{IdSize}
 use Rattle.hprof_values.specs.declared.root.Root.{Root}
 use Rattle.hprof_items.specs.FactValue.{FactValue, Name, Rooted}
-use Rattle.hprof_heap.specs.declared.name_row.NameRow.{NameRow}
 use Rattle.hprof_heap.specs.declared.number_rows.LoadRow.{LoadRow}
 use Rattle.hprof_heap.specs.declared.number_rows.FrameRow.{FrameRow}
 use Rattle.hprof_heap.specs.declared.number_rows.StartRow.{StartRow}
 use Rattle.hprof_heap.specs.declared.number_rows.KeyRow.{KeyRow}
 use Rattle.hprof_heap.specs.declared.trace_row.TraceRow.{TraceRow}
-use Rattle.hprof_heap.specs.Content.{load_fact, unload_fact, frame_fact, trace_fact, start_fact, end_fact, spelled_fact, facts_of_rows, IsRight, AreRight}
+use Rattle.hprof_heap.specs.Content.{load_fact, unload_fact, frame_fact, trace_fact, start_fact, end_fact, spelled_fact, facts_of_rows, IsRight, AreRight, the_bytes}
 use Rattle.hprof_heap.specs.HeapValue.{HeapValue, IsHeap, IsHeap-prop}
 use Rattle.hprof_heap.specs.NumberRows.{load_numbers, frame_numbers, start_numbers}
-use Rattle.hprof_heap.specs.Spelled.{spelled_bytes}
 use Rattle.hprof_heap.specs.Tables.{joined}
 use Rattle.hprof_heap.specs.TraceRow.{trace_content}
-
--- the content of a name's row: its bytes
-abbrev pub name_text : NameRow → List ℕ
-name_text row = row.text.items
 
 -- a row whose key says all has no content
 abbrev pub no_content : KeyRow → List ℕ
@@ -28,8 +22,8 @@ no_content row = []
 
 -- ---- the facts of each table
 
-abbrev pub name_facts : List (ℕ × NameRow) → List FactValue
-name_facts rows = facts_of_rows Name name_text rows
+abbrev pub name_facts : List (ℕ × List ℕ) → List FactValue
+name_facts rows = facts_of_rows Name the_bytes rows
 
 abbrev pub load_facts : List (ℕ × LoadRow) → List FactValue
 load_facts rows = facts_of_rows load_fact load_numbers rows
@@ -53,14 +47,14 @@ abbrev pub root_facts : List Root → List FactValue
 root_facts roots = map Rooted roots
 
 abbrev pub spelled_facts : IdSize → List (ℕ × List ℕ) → List FactValue
-spelled_facts ids rows = facts_of_rows (spelled_fact ids) spelled_bytes rows
+spelled_facts ids rows = facts_of_rows (spelled_fact ids) the_bytes rows
 
 -- ---- all tables
 
 pub record HeapRows : Type 0 where
   pub ids : IdSize
   pub millis : ℕ
-  pub names : List (ℕ × NameRow)
+  pub names : List (ℕ × List ℕ)
   pub loads : List (ℕ × LoadRow)
   pub unloads : List (ℕ × KeyRow)
   pub frames : List (ℕ × FrameRow)
@@ -85,8 +79,8 @@ heap_of_rows rows = record { ids = rows.ids; millis = rows.millis; facts = joine
 pub record AreHeap (rows : HeapRows) : Type 0 where
   pub heap : IsHeap (heap_of_rows rows)
   pub traces : AreRight rows.ids 4 (trace_fact rows.ids) trace_content rows.traces
-  pub classes : AreRight rows.ids 8 (spelled_fact rows.ids) spelled_bytes rows.classes
-  pub objects : AreRight rows.ids 9 (spelled_fact rows.ids) spelled_bytes rows.objects
+  pub classes : AreRight rows.ids 8 (spelled_fact rows.ids) the_bytes rows.classes
+  pub objects : AreRight rows.ids 9 (spelled_fact rows.ids) the_bytes rows.objects
 
 -- ---- it has at most one proof
 

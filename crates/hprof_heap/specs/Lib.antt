@@ -13,7 +13,7 @@ pub mod Tables
 pub mod TraceRow
 pub mod Spelled
 pub mod Places
-pub mod SpelledTable
+pub mod BytesTable
 pub mod Fitting
 pub mod HeapValue
 pub mod HeapRows

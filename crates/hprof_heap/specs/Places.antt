@@ -3,7 +3,7 @@ use Rattle.std.specs.Prelude.{◌≤◌, ℕ, List, length, map, slice_range}
 use Rattle.std.specs.Coded.{le_prop}
 use Rattle.std.specs.List.{AllByRecursion}
 use Rattle.std.proofs.Props.{props}
-use Rattle.hprof_heap.specs.declared.spelled_table.Place.{Place}
+use Rattle.hprof_heap.specs.declared.bytes_table.Place.{Place}
 
 -- the bytes that lie at a place
 abbrev pub lying : List ℕ → Place → List ℕ

@@ -10,7 +10,3 @@ pub record Spells (ids : IdSize) (fact : FactValue) (bytes : List ℕ) : Type 0 
   pub fits : DumpFits ids fact
   pub spelled : bytes ≡ dump_bytes ids fact
   pub short : length bytes ≤ longest_body
-
--- what a row of a class or an object says is its bytes, as they are
-abbrev pub spelled_bytes : List ℕ → List ℕ
-spelled_bytes bytes = bytes

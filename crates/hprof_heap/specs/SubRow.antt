@@ -7,10 +7,9 @@ use Rattle.hprof_items.specs.FactValue.{FactValue, Rooted}
 use Rattle.hprof_items.specs.Spelling.{Fits}
 use Rattle.hprof_heap.specs.declared.sub_row.SubRow.{SubRow}
 use Rattle.hprof_heap.specs.declared.sub_row.SubRow.TheVariants as rows
-use Rattle.hprof_heap.specs.Content.{spelled_fact}
+use Rattle.hprof_heap.specs.Content.{spelled_fact, the_bytes}
 use Rattle.hprof_heap.specs.Fitting.{Fits-prop}
 use Rattle.hprof_heap.specs.HeapRows.{root_facts, spelled_facts}
-use Rattle.hprof_heap.specs.Spelled.{spelled_bytes}
 use Rattle.hprof_heap.specs.TableRows.{IsSpelled, AreSpelled, AreSpelled-prop, all-prop}
 
 -- ---- one sub-record
@@ -18,7 +17,7 @@ use Rattle.hprof_heap.specs.TableRows.{IsSpelled, AreSpelled, AreSpelled-prop, a
 -- the fact that it states
 abbrev pub sub_fact : IdSize → SubRow → FactValue
 sub_fact ids (rows.Root root) = Rooted root
-sub_fact ids (rows.Spelled row) = spelled_fact ids 0 (spelled_bytes row.now)
+sub_fact ids (rows.Spelled row) = spelled_fact ids 0 (the_bytes row.now)
 
 -- the root has a spelling, or the bytes are one
 abbrev pub IsWritable : IdSize → SubRow → Type 0

@@ -9,12 +9,12 @@ use Rattle.hprof_items.specs.SubRecord.{dump_bytes}
 use Rattle.hprof_heap.specs.declared.sub_row.SubRow.{SubRow}
 use Rattle.hprof_heap.specs.declared.sub_rows.SubRows.{SubRows}
 use Rattle.hprof_heap.specs.Dump.{segments_of}
-use Rattle.hprof_heap.specs.SpelledTable.{spelled_left}
+use Rattle.hprof_heap.specs.BytesTable.{byte_rows_left}
 use Rattle.hprof_heap.specs.SubRow.{sub_fact, IsWritable, facts_of_subs}
 
 -- the facts of those that are still to come
 abbrev pub subs_left : SubRows → List FactValue
-subs_left subs = facts_of_subs subs.ids subs.roots (spelled_left subs.classes) (spelled_left subs.objects)
+subs_left subs = facts_of_subs subs.ids subs.roots (byte_rows_left subs.classes) (byte_rows_left subs.objects)
 
 -- the size of their identifiers
 abbrev pub subs_ids : SubRows → IdSize

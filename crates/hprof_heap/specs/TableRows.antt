@@ -9,12 +9,12 @@ use Rattle.hprof_items.specs.FactValue.{FactValue}
 use Rattle.hprof_heap.specs.declared.table_rows.TableRows.{TableRows}
 use Rattle.hprof_heap.specs.declared.table_rows.TableRows.TheVariants as tables
 use Rattle.hprof_heap.specs.declared.trace_row.TraceRow.{TraceRow}
-use Rattle.hprof_heap.specs.Content.{spelled_fact}
+use Rattle.hprof_heap.specs.Content.{spelled_fact, the_bytes}
 use Rattle.hprof_heap.specs.Fitting.{DumpFits-prop}
 use Rattle.hprof_heap.specs.HeapRows.{name_facts, load_facts, unload_facts, frame_facts, trace_facts, start_facts, end_facts, root_facts, spelled_facts}
 use Rattle.hprof_heap.specs.Rows.{rows_left}
-use Rattle.hprof_heap.specs.SpelledTable.{spelled_left}
-use Rattle.hprof_heap.specs.Spelled.{Spells, spelled_bytes}
+use Rattle.hprof_heap.specs.BytesTable.{byte_rows_left}
+use Rattle.hprof_heap.specs.Spelled.{Spells}
 use Rattle.hprof_heap.specs.TraceRow.{frames_bytes}
 
 -- ---- rows that can be read back
@@ -29,7 +29,7 @@ IsWhole ids row = HasSerial row × (length (frames_bytes row.1) % width_of ids �
 
 -- the bytes spell the fact of the row
 abbrev pub IsSpelled : IdSize → ℕ × List ℕ → Type 0
-IsSpelled ids row = Spells ids (spelled_fact ids row.0 (spelled_bytes row.1)) (spelled_bytes row.1)
+IsSpelled ids row = Spells ids (spelled_fact ids row.0 (the_bytes row.1)) (the_bytes row.1)
 
 abbrev pub AreSerials : {V : Type 0} → List (ℕ × V) → Type 0
 AreSerials rows = AllByRecursion HasSerial rows
@@ -50,14 +50,14 @@ AreReadable ids (tables.Traces rows) = AreWhole ids (rows_left rows)
 AreReadable ids (tables.Starts rows) = AreSerials (rows_left rows)
 AreReadable ids (tables.Ends rows) = AreSerials (rows_left rows)
 AreReadable ids (tables.Roots roots) = ⊤
-AreReadable ids (tables.Classes rows) = AreSpelled ids (spelled_left rows)
-AreReadable ids (tables.Objects rows) = AreSpelled ids (spelled_left rows)
+AreReadable ids (tables.Classes rows) = AreSpelled ids (byte_rows_left rows)
+AreReadable ids (tables.Objects rows) = AreSpelled ids (byte_rows_left rows)
 
 -- ---- their facts
 
 -- the facts of the rows that are still to come
 abbrev pub facts_in_rows : IdSize → TableRows → List FactValue
-facts_in_rows ids (tables.Names rows) = name_facts (rows_left rows)
+facts_in_rows ids (tables.Names rows) = name_facts (byte_rows_left rows)
 facts_in_rows ids (tables.Loads rows) = load_facts (rows_left rows)
 facts_in_rows ids (tables.Unloads rows) = unload_facts (rows_left rows)
 facts_in_rows ids (tables.Frames rows) = frame_facts (rows_left rows)
@@ -65,8 +65,8 @@ facts_in_rows ids (tables.Traces rows) = trace_facts ids (rows_left rows)
 facts_in_rows ids (tables.Starts rows) = start_facts (rows_left rows)
 facts_in_rows ids (tables.Ends rows) = end_facts (rows_left rows)
 facts_in_rows ids (tables.Roots roots) = root_facts roots
-facts_in_rows ids (tables.Classes rows) = spelled_facts ids (spelled_left rows)
-facts_in_rows ids (tables.Objects rows) = spelled_facts ids (spelled_left rows)
+facts_in_rows ids (tables.Classes rows) = spelled_facts ids (byte_rows_left rows)
+facts_in_rows ids (tables.Objects rows) = spelled_facts ids (byte_rows_left rows)
 
 -- ---- there is at most one proof that they can be read back
 
@@ -95,5 +95,5 @@ AreReadable-prop ids (tables.Traces rows) = all-prop (IsWhole ids) (IsWhole-prop
 AreReadable-prop ids (tables.Starts rows) = AreSerials-prop (rows_left rows)
 AreReadable-prop ids (tables.Ends rows) = AreSerials-prop (rows_left rows)
 AreReadable-prop ids (tables.Roots roots) = Unit-prop
-AreReadable-prop ids (tables.Classes rows) = AreSpelled-prop ids (spelled_left rows)
-AreReadable-prop ids (tables.Objects rows) = AreSpelled-prop ids (spelled_left rows)
+AreReadable-prop ids (tables.Classes rows) = AreSpelled-prop ids (byte_rows_left rows)
+AreReadable-prop ids (tables.Objects rows) = AreSpelled-prop ids (byte_rows_left rows)

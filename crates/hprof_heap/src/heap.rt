@@ -13,15 +13,14 @@ ghost use Rattle.hprof_heap.specs.HeapValue.{IsHeap};
 ghost use Rattle.hprof_heap.specs.Order.{IsCanonicalOrder, place_of};
 ghost use Rattle.hprof_heap.specs.Relation.{rows_of};
 ghost use Rattle.hprof_heap.specs.RootSet.{roots_of};
-ghost use Rattle.hprof_heap.specs.SpelledTable.{spelled_rows};
+ghost use Rattle.hprof_heap.specs.BytesTable.{byte_rows};
 
+use crate::bytes_table::BytesTable;
 use crate::facts::Facts;
-use crate::name_row::{NameRow, NameText};
 use crate::number_rows::{FrameRow, KeyRow, LoadRow, StartRow};
 use crate::relation::{Relation, Stated};
 use crate::root_set::RootSet;
 use crate::spelled::spelled_fact;
-use crate::spelled_table::SpelledTable;
 use crate::sub_rows::SubRows;
 use crate::table::Table;
 use crate::table_rows::TableRows;
@@ -35,7 +34,7 @@ use std::alloc::{AllocError, Global};
 pub struct Heap {
     ids: IdSize,
     millis: u64,
-    names: Relation<NameRow>,
+    names: BytesTable,
     loads: Relation<LoadRow>,
     unloads: Relation<KeyRow>,
     frames: Relation<FrameRow>,
@@ -43,12 +42,12 @@ pub struct Heap {
     starts: Relation<StartRow>,
     ends: Relation<KeyRow>,
     roots: RootSet,
-    classes: SpelledTable,
-    objects: SpelledTable,
+    classes: BytesTable,
+    objects: BytesTable,
     ghost sound: { AreHeap (record {
       ids = ids;
       millis = millis;
-      names = rows_of names;
+      names = byte_rows names;
       loads = rows_of loads;
       unloads = rows_of unloads;
       frames = rows_of frames;
@@ -56,8 +55,8 @@ pub struct Heap {
       starts = rows_of starts;
       ends = rows_of ends;
       roots = roots_of roots;
-      classes = spelled_rows classes;
-      objects = spelled_rows objects;
+      classes = byte_rows classes;
+      objects = byte_rows objects;
     }) } by { AreHeap-prop _ },
 }
 
@@ -77,7 +76,7 @@ impl Heap {
         Heap {
             ids,
             millis,
-            names: Relation::new(alloc),
+            names: BytesTable::new(alloc),
             loads: Relation::new(alloc),
             unloads: Relation::new(alloc),
             frames: Relation::new(alloc),
@@ -85,8 +84,8 @@ impl Heap {
             starts: Relation::new(alloc),
             ends: Relation::new(alloc),
             roots: RootSet::new(alloc),
-            classes: SpelledTable::new(alloc),
-            objects: SpelledTable::new(alloc),
+            classes: BytesTable::new(alloc),
+            objects: BytesTable::new(alloc),
         }
     }
 
@@ -104,7 +103,7 @@ impl Heap {
         ensures err { OnErr result (heap_of self.new ≡ heap_of self.old) }
         ensures absent { OnErr result (IsNewAmong (heap_of self.old).facts (Name id text.now)) }
     {
-        self.names.state_from(id, NameText { text })
+        self.names.state(id, text)
     }
 
     /// States a class that was loaded.
@@ -297,11 +296,8 @@ impl Heap {
     pub fn name(&self, id: u64) -> Option<Fact<'_>>
         ensures { option_map value_of result ≡ find (has_key (keys.Name id)) (heap_of self.now).facts }
     {
-        let row = self.names.get(id)?;
-        Some(Fact::Name {
-            id,
-            text: &row.text,
-        })
+        let text = self.names.get(id)?;
+        Some(Fact::Name { id, text })
     }
 
     /// The class that was loaded under that serial.

@@ -2,6 +2,7 @@
 //! and the canonical dump of a heap.
 #![tactic(auto)]
 
+mod bytes_table;
 mod canonical;
 mod content;
 mod facts;
@@ -9,7 +10,6 @@ mod gatherer;
 mod heap;
 mod key;
 pub mod laws;
-mod name_row;
 mod number_rows;
 mod relation;
 mod root_set;
@@ -17,7 +17,6 @@ mod rows;
 mod segments;
 mod sorted_table;
 mod spelled;
-mod spelled_table;
 mod standing;
 mod sub_row;
 mod sub_rows;
@@ -25,13 +24,13 @@ mod table;
 mod table_rows;
 mod trace_row;
 
+pub use bytes_table::{BytesRows, BytesTable};
 pub use canonical::write_canonical;
 pub use content::{Content, Statement};
 pub use facts::Facts;
 pub use gatherer::Gatherer;
 pub use heap::Heap;
 pub use key::Key;
-pub use name_row::NameRow;
 pub use number_rows::{FrameRow, KeyRow, LoadRow, StartRow};
 pub use relation::{Relation, Stated};
 pub use rows::Rows;

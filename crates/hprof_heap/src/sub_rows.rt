@@ -1,9 +1,9 @@
 //! The sub-records of a heap, one after the other.
 
-ghost use Rattle.hprof_heap.specs.SpelledTable.{spelled_left};
+ghost use Rattle.hprof_heap.specs.BytesTable.{byte_rows_left};
 ghost use Rattle.hprof_heap.specs.SubRow.{AreWritable, AreWritable-prop};
 
-use crate::spelled_table::SpelledRows;
+use crate::bytes_table::BytesRows;
 use crate::sub_row::SubRow;
 use hprof_values::{IdSize, Root};
 use std::collections::btree_set;
@@ -13,10 +13,10 @@ use std::collections::btree_set;
 pub(crate) struct SubRows<'a> {
     ids: IdSize,
     roots: btree_set::Iter<'a, Root>,
-    classes: SpelledRows<'a>,
-    objects: SpelledRows<'a>,
+    classes: BytesRows<'a>,
+    objects: BytesRows<'a>,
     // Each of them can be written.
-    ghost sound: { AreWritable ids roots (spelled_left classes) (spelled_left objects) } by { AreWritable-prop ids roots (spelled_left classes) (spelled_left objects) },
+    ghost sound: { AreWritable ids roots (byte_rows_left classes) (byte_rows_left objects) } by { AreWritable-prop ids roots (byte_rows_left classes) (byte_rows_left objects) },
 }
 
 impl<'a> SubRows<'a> {
@@ -28,11 +28,11 @@ impl<'a> SubRows<'a> {
     pub(crate) fn new(
         ids: IdSize,
         roots: btree_set::Iter<'a, Root>,
-        classes: SpelledRows<'a>,
-        objects: SpelledRows<'a>,
+        classes: BytesRows<'a>,
+        objects: BytesRows<'a>,
     ) -> Self
-        requires { AreWritable ids roots (spelled_left classes) (spelled_left objects) }
-        ensures all { subs_left result ≡ facts_of_subs ids roots.entry (spelled_left classes.entry) (spelled_left objects.entry) }
+        requires { AreWritable ids roots (byte_rows_left classes) (byte_rows_left objects) }
+        ensures all { subs_left result ≡ facts_of_subs ids roots.entry (byte_rows_left classes.entry) (byte_rows_left objects.entry) }
         ensures ids { subs_ids result ≡ ids }
     {
         SubRows {

@@ -6,14 +6,13 @@ ghost use Rattle.hprof_values.specs.declared.ids.IdSize.{IdSize};
 ghost use Rattle.hprof_items.specs.FactValue.{ListsHave, value_of};
 ghost use Rattle.hprof_heap.specs.HeapRows.{name_facts, load_facts, unload_facts, frame_facts, trace_facts, start_facts, end_facts, root_facts, spelled_facts};
 ghost use Rattle.hprof_heap.specs.Rows.{rows_left};
-ghost use Rattle.hprof_heap.specs.SpelledTable.{spelled_left};
+ghost use Rattle.hprof_heap.specs.BytesTable.{byte_rows_left};
 ghost use Rattle.hprof_heap.specs.TableRows.{AreSerials, AreWhole, AreSpelled, AreReadable, facts_in_rows};
 
-use crate::name_row::NameRow;
+use crate::bytes_table::BytesRows;
 use crate::number_rows::{FrameRow, KeyRow, LoadRow, StartRow};
 use crate::rows::Rows;
 use crate::spelled::spelled_fact;
-use crate::spelled_table::SpelledRows;
 use crate::trace_row::TraceRow;
 use hprof_items::Fact;
 use hprof_values::{IdSize, Root};
@@ -23,7 +22,7 @@ use std::collections::btree_set;
 #[derive(Drop)]
 pub(crate) enum TableRows<'a> {
     /// Names, by identifier.
-    Names(Rows<'a, NameRow>),
+    Names(BytesRows<'a>),
     /// Classes that were loaded, by serial.
     Loads(Rows<'a, LoadRow>),
     /// Classes that were unloaded, by serial.
@@ -39,9 +38,9 @@ pub(crate) enum TableRows<'a> {
     /// Roots.
     Roots(btree_set::Iter<'a, Root>),
     /// Classes, by identifier.
-    Classes(SpelledRows<'a>),
+    Classes(BytesRows<'a>),
     /// Instances and arrays, by identifier.
-    Objects(SpelledRows<'a>),
+    Objects(BytesRows<'a>),
 }
 
 /// The fact of the first row. The rows behind it are left.
@@ -68,15 +67,12 @@ pub(crate) fn next_fact<'a>(rows: &mut TableRows<'a>, ids: IdSize) -> Option<Fac
 
 /// The first name.
 #[inline(always)]
-fn next_name<'a>(rows: &mut Rows<'a, NameRow>) -> Option<Fact<'a>>
-    ensures first { YieldsFirstBy value_of (λ rows. name_facts (rows_left rows)) rows.old result rows.new }
+fn next_name<'a>(rows: &mut BytesRows<'a>) -> Option<Fact<'a>>
+    ensures first { YieldsFirstBy value_of (λ rows. name_facts (byte_rows_left rows)) rows.old result rows.new }
     ensures lists { (ids : IdSize) → IfSome result (ListsHave ids) }
 {
-    let (id, row) = rows.next()?;
-    Some(Fact::Name {
-        id,
-        text: &row.text,
-    })
+    let (id, text) = rows.next()?;
+    Some(Fact::Name { id, text })
 }
 
 /// The first class that was loaded.
@@ -157,11 +153,11 @@ fn next_root<'a>(roots: &mut btree_set::Iter<'a, Root>) -> Option<Fact<'a>>
 }
 
 /// The first class or object.
-fn next_spelled<'a>(rows: &mut SpelledRows<'a>, ids: IdSize) -> Option<Fact<'a>>
-    requires { AreSpelled ids (spelled_left rows.old) }
-    ensures first { YieldsFirstBy value_of (λ rows. spelled_facts ids (spelled_left rows)) rows.old result rows.new }
+fn next_spelled<'a>(rows: &mut BytesRows<'a>, ids: IdSize) -> Option<Fact<'a>>
+    requires { AreSpelled ids (byte_rows_left rows.old) }
+    ensures first { YieldsFirstBy value_of (λ rows. spelled_facts ids (byte_rows_left rows)) rows.old result rows.new }
     ensures lists { IfSome result (ListsHave ids) }
-    ensures kept { AreSpelled ids (spelled_left rows.new) }
+    ensures kept { AreSpelled ids (byte_rows_left rows.new) }
 {
     let (_id, bytes) = rows.next()?;
     Some(spelled_fact(bytes, ids))

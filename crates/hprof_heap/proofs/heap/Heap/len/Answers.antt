@@ -1,21 +1,20 @@
 use Rattle.std.proofs.Common.{◌∙◌}
 use Rattle.hprof_items.specs.FactValue.{Name}
 use Rattle.hprof_heap.specs.declared.table.Table.TheVariants as tables
-use Rattle.hprof_heap.specs.Content.{load_fact, unload_fact, frame_fact, trace_fact, start_fact, end_fact, spelled_fact}
+use Rattle.hprof_heap.specs.Content.{load_fact, unload_fact, frame_fact, trace_fact, start_fact, end_fact, spelled_fact, the_bytes}
 use Rattle.hprof_heap.specs.Heap.{rows_in}
-use Rattle.hprof_heap.specs.HeapRows.{name_text, no_content}
+use Rattle.hprof_heap.specs.HeapRows.{no_content}
 use Rattle.hprof_heap.specs.NumberRows.{load_numbers, frame_numbers, start_numbers}
 use Rattle.hprof_heap.specs.Relation.{rows_of}
 use Rattle.hprof_heap.specs.RootSet.{roots_of}
-use Rattle.hprof_heap.specs.Spelled.{spelled_bytes}
-use Rattle.hprof_heap.specs.SpelledTable.{spelled_rows}
+use Rattle.hprof_heap.specs.BytesTable.{byte_rows}
 use Rattle.hprof_heap.specs.TraceRow.{trace_content}
 use Rattle.hprof_heap.proofs.HeapRows.{length_rows, length_roots, table_length}
 use Rattle.hprof_heap.proofs.heap.Heap.len.Goals as goal
 
 pub returns-in-Names : goal.returns-in-Names
 returns-in-Names c = rw c.in-Names.is
-    (table_length (rows_in c.args.self.now) tables.Names c.len.result c.args.self.now.sound (c.len.ensures ∙ length_rows Name name_text (rows_of c.args.self.now.names)))
+    (table_length (rows_in c.args.self.now) tables.Names c.len.result c.args.self.now.sound (c.len.ensures ∙ length_rows Name the_bytes (byte_rows c.args.self.now.names)))
 
 pub returns-in-Loads : goal.returns-in-Loads
 returns-in-Loads c = rw c.in-Loads.is
@@ -47,8 +46,8 @@ returns-in-Roots c = rw c.in-Roots.is
 
 pub returns-in-Classes : goal.returns-in-Classes
 returns-in-Classes c = rw c.in-Classes.is
-    (table_length (rows_in c.args.self.now) tables.Classes c.len-in-Classes.result c.args.self.now.sound (c.len-in-Classes.ensures ∙ length_rows (spelled_fact c.args.self.now.ids) spelled_bytes (spelled_rows c.args.self.now.classes)))
+    (table_length (rows_in c.args.self.now) tables.Classes c.len-in-Classes.result c.args.self.now.sound (c.len-in-Classes.ensures ∙ length_rows (spelled_fact c.args.self.now.ids) the_bytes (byte_rows c.args.self.now.classes)))
 
 pub returns-in-Objects : goal.returns-in-Objects
 returns-in-Objects c = rw c.in-Objects.is
-    (table_length (rows_in c.args.self.now) tables.Objects c.len-in-Objects.result c.args.self.now.sound (c.len-in-Objects.ensures ∙ length_rows (spelled_fact c.args.self.now.ids) spelled_bytes (spelled_rows c.args.self.now.objects)))
+    (table_length (rows_in c.args.self.now) tables.Objects c.len-in-Objects.result c.args.self.now.sound (c.len-in-Objects.ensures ∙ length_rows (spelled_fact c.args.self.now.ids) the_bytes (byte_rows c.args.self.now.objects)))

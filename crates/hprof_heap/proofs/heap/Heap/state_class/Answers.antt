@@ -1,10 +1,9 @@
 use Rattle.std.proofs.Common.{refl, arith}
 use Rattle.hprof_items.specs.FactValue.{value_of}
-use Rattle.hprof_heap.specs.Content.{spelled_fact}
+use Rattle.hprof_heap.specs.Content.{spelled_fact, the_bytes}
 use Rattle.hprof_heap.specs.Heap.{rows_in}
 use Rattle.hprof_heap.specs.HeapRows.{spelled_facts}
-use Rattle.hprof_heap.specs.SpelledTable.{spelled_rows}
-use Rattle.hprof_heap.specs.Spelled.{spelled_bytes}
+use Rattle.hprof_heap.specs.BytesTable.{byte_rows}
 use Rattle.hprof_heap.proofs.HeapRows.{sub_at_place, spelled_again, spelled_stated, of_key, into_heap, into_heap-sound, unseen_row}
 use Rattle.hprof_heap.proofs.RowFacts.{rows_tried, rows_kept, tried_right}
 use Rattle.hprof_heap.proofs.heap.Heap.state_class.Goals as goal
@@ -13,19 +12,19 @@ pub invariant_of-self : goal.invariant_of-self
 invariant_of-self c =
     let heap = c.args.self.now in
     let fact = value_of c.args.fact.now in
-    let old = spelled_rows heap.classes in
-    let new = spelled_rows c.state.new.self in
+    let old = byte_rows heap.classes in
+    let new = byte_rows c.state.new.self in
     let r = c.state.result in
     let sub = sub_at_place fact 8 c.args.id c.requires.place (omega arith) in
     let ok = spelled_stated r heap.ids c.args.id fact c.args.bytes.now old new sub c.requires.spelled c.state.ensures.ok in
     record {
       sound = record {
         heap = into_heap-sound r (rows_in heap) heap.sound 8 (spelled_facts heap.ids new) fact (of_key 8 c.args.id fact c.requires.place) (omega arith) c.requires.fits
-            (rows_tried heap.ids 8 (spelled_fact heap.ids) spelled_bytes r old new c.args.id fact
+            (rows_tried heap.ids 8 (spelled_fact heap.ids) the_bytes r old new c.args.id fact
             (record { stands = c.requires.place; again = spelled_again heap.ids c.args.id fact sub c.requires.fits }) heap.sound.classes ok)
-            (rows_kept heap.ids 8 (spelled_fact heap.ids) spelled_bytes r old new c.state.ensures.err);
+            (rows_kept heap.ids 8 (spelled_fact heap.ids) the_bytes r old new c.state.ensures.err);
         traces = heap.sound.traces;
-        classes = tried_right heap.ids 8 (spelled_fact heap.ids) spelled_bytes r old new c.args.id fact
+        classes = tried_right heap.ids 8 (spelled_fact heap.ids) the_bytes r old new c.args.id fact
             (record { stands = c.requires.place; again = spelled_again heap.ids c.args.id fact sub c.requires.fits }) heap.sound.classes ok c.state.ensures.err;
         objects = heap.sound.objects;
       };
@@ -35,17 +34,17 @@ pub returns-clause-ok : goal.returns-clause-ok
 returns-clause-ok c =
     let heap = c.args.self.now in
     let fact = value_of c.args.fact.now in
-    let old = spelled_rows heap.classes in
-    let new = spelled_rows c.state.new.self in
+    let old = byte_rows heap.classes in
+    let new = byte_rows c.state.new.self in
     let r = c.state.result in
     let sub = sub_at_place fact 8 c.args.id c.requires.place (omega arith) in
     let ok = spelled_stated r heap.ids c.args.id fact c.args.bytes.now old new sub c.requires.spelled c.state.ensures.ok in
     into_heap r (rows_in heap) heap.sound 8 (spelled_facts heap.ids new) fact (of_key 8 c.args.id fact c.requires.place) (omega arith) c.requires.fits
-    (rows_tried heap.ids 8 (spelled_fact heap.ids) spelled_bytes r old new c.args.id fact
+    (rows_tried heap.ids 8 (spelled_fact heap.ids) the_bytes r old new c.args.id fact
     (record { stands = c.requires.place; again = spelled_again heap.ids c.args.id fact sub c.requires.fits }) heap.sound.classes ok)
 
 pub returns-clause-absent : goal.returns-clause-absent
 returns-clause-absent c =
     let heap = c.args.self.now in
     let fact = value_of c.args.fact.now in
-    unseen_row c.state.result (rows_in heap) 8 c.args.id (spelled_fact heap.ids) spelled_bytes (spelled_rows heap.classes) fact heap.sound c.requires.place heap.sound.classes refl c.state.ensures.absent
+    unseen_row c.state.result (rows_in heap) 8 c.args.id (spelled_fact heap.ids) the_bytes (byte_rows heap.classes) fact heap.sound c.requires.place heap.sound.classes refl c.state.ensures.absent

@@ -1,4 +1,4 @@
-//! The tables of classes and objects.
+//! The tables of names, classes and objects: bytes by key.
 
 ghost use Rattle.std.specs.Prelude.{◌≡◌, ◌↔◌, ◌++◌, List, [], length, IfOk, OnErr, IsTrue, None};
 ghost use Rattle.std.specs.Option.{option_copied};
@@ -31,14 +31,13 @@ fn append(bytes: &mut Vec<u8>, others: &[u8]) -> Result<(), AllocError>
     bytes.extend_from_slice(others)
 }
 
-/// The bytes of a sub-record, which visit their key: those that lie there are compared with them, and else they are put
-/// behind all others.
+/// Bytes that visit their key: those that lie there are compared with them, and else they are put behind all others.
 #[derive(Clone, Copy)]
-struct Spelling<'a> {
+struct StatedBytes<'a> {
     bytes: &'a [u8],
 }
 
-impl Visit<Place> for Spelling<'_> {
+impl Visit<Place> for StatedBytes<'_> {
     type Answer = bool;
 
     // The bytes of all rows.
@@ -46,9 +45,9 @@ impl Visit<Place> for Spelling<'_> {
 
     ghost held = { λ room. room.items };
 
-    ghost answers = { λ spelling held place same. IsWithin held place → (IsTrue same ↔ (lying held place ≡ spelling.bytes.now)) };
+    ghost answers = { λ stated held place same. IsWithin held place → (IsTrue same ↔ (lying held place ≡ stated.bytes.now)) };
 
-    ghost makes = { λ spelling old place new. (new ≡ old ++ spelling.bytes.now) × (place.start ≡ length old) × (place.end ≡ length new) };
+    ghost makes = { λ stated old place new. (new ≡ old ++ stated.bytes.now) × (place.start ≡ length old) × (place.end ≡ length new) };
 
     fn ask(self, place: &Place, room: &Vec<u8>) -> bool {
         match room.get(place.start..place.end) {
@@ -65,39 +64,41 @@ impl Visit<Place> for Spelling<'_> {
     }
 }
 
-/// The bytes of sub-records by key, in order of key. All bytes lie in one vector, as they came, so that a row takes no
-/// memory of its own.
+/// Rows of bytes by key, in order of key. All bytes lie in one vector, as they came, so that a row takes no memory of its
+/// own.
 #[derive(Drop)]
-pub(crate) struct SpelledTable {
+pub struct BytesTable {
     rows: SortedTable<Place>,
     bytes: Vec<u8>,
     ghost sound: { AreWithin bytes.items (entries_of rows) } by { AreWithin-prop bytes.items (entries_of rows) },
 }
 
-impl SpelledTable {
+impl BytesTable {
     ghost use Rattle.hprof_heap.specs.Relation.{States};
-    ghost use Rattle.hprof_heap.specs.Spelled.{spelled_bytes};
-    ghost use Rattle.hprof_heap.specs.SpelledTable.{spelled_rows, spelled_left};
+    ghost use Rattle.hprof_heap.specs.Content.{the_bytes};
+    ghost use Rattle.hprof_heap.specs.BytesTable.{byte_rows, byte_rows_left};
     ghost use Rattle.hprof_heap.specs.SortedRows.{IsAscending};
 
     /// A table with no rows. It takes no memory yet.
-    pub(crate) fn new(alloc: Global) -> Self
-        ensures { spelled_rows result ≡ [] }
+    pub fn new(alloc: Global) -> Self
+        ensures { byte_rows result ≡ [] }
     {
-        SpelledTable {
+        BytesTable {
             rows: SortedTable::new(alloc),
             bytes: Vec::new(alloc),
         }
     }
 
     /// States bytes under a key. A key that is there takes no memory, and keeps its row.
-    pub(crate) fn state(&mut self, key: u64, bytes: &[u8]) -> Result<Stated, AllocError>
-        ensures ok { IfOk result (λ stated. States spelled_bytes (spelled_rows self.old) key bytes.now stated (spelled_rows self.new)) }
-        ensures err { OnErr result (spelled_rows self.new ≡ spelled_rows self.old) }
-        ensures absent { OnErr result (lookup (is_at (nat_cmp key)) (spelled_rows self.old) ≡ None) }
+    pub fn state(&mut self, key: u64, bytes: &[u8]) -> Result<Stated, AllocError>
+        ensures ok { IfOk result (λ stated. States the_bytes (byte_rows self.old) key bytes.now stated (byte_rows self.new)) }
+        ensures err { OnErr result (byte_rows self.new ≡ byte_rows self.old) }
+        ensures absent { OnErr result (lookup (is_at (nat_cmp key)) (byte_rows self.old) ≡ None) }
     {
-        let spelling = Spelling { bytes };
-        match self.rows.visit(key, spelling, &mut self.bytes)? {
+        match self
+            .rows
+            .visit(key, StatedBytes { bytes }, &mut self.bytes)?
+        {
             None => Ok(Stated::New),
             Some(true) => Ok(Stated::Same),
             Some(false) => Ok(Stated::Differs),
@@ -105,26 +106,26 @@ impl SpelledTable {
     }
 
     /// The bytes under a key.
-    pub(crate) fn get(&self, key: u64) -> Option<&[u8]>
-        ensures { option_copied result ≡ lookup (is_at (nat_cmp key)) (spelled_rows self.now) }
+    pub fn get(&self, key: u64) -> Option<&[u8]>
+        ensures { option_copied result ≡ lookup (is_at (nat_cmp key)) (byte_rows self.now) }
     {
         let place = self.rows.get(key)?;
         Some(&self.bytes[place.start..place.end])
     }
 
     /// The number of rows.
-    pub(crate) fn len(&self) -> usize
-        ensures { result ≡ length (spelled_rows self.now) }
+    pub fn len(&self) -> usize
+        ensures { result ≡ length (byte_rows self.now) }
     {
         self.rows.len()
     }
 
     /// The rows, in order of key.
-    pub(crate) fn rows(&self) -> SpelledRows<'_>
-        ensures all { spelled_left result ≡ spelled_rows self.now }
-        ensures ascending { IsAscending (spelled_left result) }
+    pub fn rows(&self) -> BytesRows<'_>
+        ensures all { byte_rows_left result ≡ byte_rows self.now }
+        ensures ascending { IsAscending (byte_rows_left result) }
     {
-        SpelledRows {
+        BytesRows {
             entries: self.rows.iter(),
             bytes: self.bytes.as_slice(),
         }
@@ -133,21 +134,21 @@ impl SpelledTable {
 
 /// The rows of a table with their keys, in order of key.
 #[derive(Drop)]
-pub(crate) struct SpelledRows<'a> {
+pub struct BytesRows<'a> {
     entries: Entries<'a, Place>,
     bytes: &'a [u8],
     ghost sound: { AreWithin bytes.now (entries_left entries) } by { AreWithin-prop bytes.now (entries_left entries) },
 }
 
-impl<'a> Iterator for SpelledRows<'a> {
+impl<'a> Iterator for BytesRows<'a> {
     ghost use Rattle.std.specs.Iterator.{YieldsFirstBy, item_count};
-    ghost use Rattle.hprof_heap.specs.SpelledTable.{spelled_left};
+    ghost use Rattle.hprof_heap.specs.BytesTable.{byte_rows_left};
 
     type Item = (u64, &'a [u8]);
 
-    ghost next_gives = { YieldsFirstBy (λ row. (row.0, row.1.now)) spelled_left };
+    ghost next_gives = { YieldsFirstBy (λ row. (row.0, row.1.now)) byte_rows_left };
 
-    ghost remaining = { item_count spelled_left };
+    ghost remaining = { item_count byte_rows_left };
 
     #[inline(always)]
     fn next(&mut self) -> Option<(u64, &'a [u8])> {
