@@ -19,14 +19,19 @@ pub(crate) struct Place {
     end: usize,
 }
 
-/// Puts bytes behind others. Where there is no room left for them, as much as an eighth of those others take is had
-/// beyond it.
+/// How many bytes may be had twice as long where they are to grow. More of them grow by an eighth: the system then moves
+/// them without a copy.
+const MOST_DOUBLED: usize = 33_554_432;
+
+/// Puts bytes behind others. Where there is no room left for them, more is had than they need, for those that follow.
 fn append(bytes: &mut Vec<u8>, others: &[u8]) -> Result<(), AllocError>
     ensures ok { IfOk result (λ _. bytes.new.items ≡ bytes.old.items ++ others.now) }
     ensures err { OnErr result (bytes.new.items ≡ bytes.old.items) }
 {
-    if others.len() > bytes.capacity() - bytes.len() {
-        bytes.reserve_exact(others.len() + bytes.len() / 8)?;
+    let len = bytes.len();
+    if others.len() > bytes.capacity() - len {
+        let more = if len < MOST_DOUBLED { len } else { len / 8 };
+        bytes.reserve_exact(others.len() + more)?;
     }
     bytes.extend_from_slice(others)
 }

@@ -1,9 +1,9 @@
 //! The room that rows take.
 
-use crate::samples::{array, begun, state_all};
+use crate::samples::{begun, state_all};
 use hprof_heap::Gatherer;
 use hprof_items::{Fact, IdSize};
-use hprof_values::{Basic, IdList};
+use hprof_values::IdList;
 use std::alloc::Global;
 use std::fs;
 use std::process::Abort;
@@ -17,36 +17,30 @@ fn size(rt: &HostRuntime) -> Result<u64, Fail> {
     Ok(pages.saturating_mul(4_096))
 }
 
-// A gatherer that was given 256 names, traces and arrays, all of these bytes.
-fn rows_of(rt: &impl Abort, alloc: Global, bytes: &[u8]) -> Result<Gatherer, Fail> {
+// A gatherer that was given 256 stacks, all of these bytes.
+fn traces_of(rt: &impl Abort, alloc: Global, bytes: &[u8]) -> Result<Gatherer, Fail> {
     let ids = IdSize::Four;
     let mut gatherer = begun(alloc, ids, 1)?;
-    for id in 0..256u32 {
-        let facts = [
-            Fact::Name {
-                id: u64::from(id),
-                text: bytes,
-            },
-            Fact::Trace {
-                serial: id,
-                thread: 1,
-                frames: IdList::new(bytes, ids).ok_or("no list")?,
-            },
-            array(u64::from(id), Basic::Byte, bytes),
-        ];
-        state_all(rt, alloc, &mut gatherer, ids, &facts)?;
+    for serial in 0..256u32 {
+        let frames = IdList::new(bytes, ids).ok_or("no list")?;
+        let trace = Fact::Trace {
+            serial,
+            thread: 1,
+            frames,
+        };
+        state_all(rt, alloc, &mut gatherer, ids, &[trace])?;
     }
     Ok(gatherer)
 }
 
-// The process grows by the 60,672,000 bytes of the rows, and by a hundredth more at most.
+// The process grows by the 20,224,000 bytes of the rows, and by a hundredth more at most.
 #[test]
 fn rows_have_no_room_to_spare(rt: HostRuntime) -> Result<(), Fail> {
     let bytes = vec![in rt.alloc(); 0; 79_000]?;
     let before = size(&rt)?;
-    let heap = rows_of(&rt, rt.alloc(), &bytes)?.finish()?;
+    let heap = traces_of(&rt, rt.alloc(), &bytes)?.finish()?;
     let grown = size(&rt)?.saturating_sub(before);
-    assert_eq!(rt; heap.count(), 768);
-    assert!(rt; grown <= 61_278_720, "{grown}");
+    assert_eq!(rt; heap.count(), 256);
+    assert!(rt; grown <= 20_426_240, "{grown}");
     Ok(())
 }

@@ -1,12 +1,12 @@
 //! Tables of rows.
 
 ghost use Rattle.std.specs.Prelude.{◌≡◌, Some, IfOk};
-ghost use Rattle.hprof_heap.specs.HeapRows.{name_text};
+ghost use Rattle.hprof_heap.specs.NumberRows.{load_numbers};
 ghost use Rattle.hprof_heap.specs.Gathering.{gathered};
 
 use crate::samples::{begun, state_record};
 use hprof_heap::{
-    Content, FrameRow, Gatherer, Key, KeyRow, LoadRow, NameRow, Refusal, Relation, StartRow,
+    BytesTable, Content, FrameRow, Gatherer, Key, KeyRow, LoadRow, Refusal, Relation, StartRow,
     Stated, Statement, Table,
 };
 use hprof_items::{Fact, IdSize};
@@ -14,58 +14,74 @@ use std::alloc::{AllocError, Global};
 use std::process::Abort;
 use std::test::*;
 
-// A name that is stated by a row of its own.
+// A class that was loaded, stated by a row of its own.
 #[derive(Drop)]
-struct Prepared(NameRow);
+struct Prepared(LoadRow);
 
-impl Statement<NameRow> for Prepared {
-    ghost content = { λ name. name_text name.0 };
+impl Statement<LoadRow> for Prepared {
+    ghost content = { λ load. load_numbers load.0 };
 
-    fn matches(&self, row: &NameRow) -> bool {
+    fn matches(&self, row: &LoadRow) -> bool {
         row.agrees(&self.0)
     }
 
-    fn into_row(self, _alloc: Global) -> Result<NameRow, AllocError> {
+    fn into_row(self, _alloc: Global) -> Result<LoadRow, AllocError> {
         let Prepared(row) = self;
         Ok(row)
     }
 }
 
+// The load of the class 1 by that name.
+fn load_of(name: u64) -> LoadRow {
+    LoadRow {
+        class: 1,
+        trace: 2,
+        name,
+    }
+}
+
 #[test]
-fn stating_names(rt: HostRuntime) -> Result<(), Fail> {
-    let mut names = Relation::new(rt.alloc());
-    assert_eq!(rt;
-        names.state(1, NameRow::new(rt.alloc(), b"A")?)?,
-        Stated::New
-    );
-    assert_eq!(rt;
-        names.state(1, NameRow::new(rt.alloc(), b"A")?)?,
-        Stated::Same
-    );
-    assert_eq!(rt;
-        names.state(1, NameRow::new(rt.alloc(), b"B")?)?,
-        Stated::Differs
-    );
-    assert_eq!(rt;
-        names.state_from(1, Prepared(NameRow::new(rt.alloc(), b"AB")?))?,
-        Stated::Differs
-    );
-    let first = NameRow::new(rt.alloc(), b"A")?;
-    let row = names.get(1).ok_or("no row")?;
-    assert!(rt; row.agrees(&first));
-    assert!(rt; names.get(2).is_none());
-    assert_eq!(rt; names.len(), 1);
-    assert_eq!(rt;
-        names.state_from(0, Prepared(NameRow::new(rt.alloc(), b"B")?))?,
-        Stated::New
-    );
-    let mut rows = names.rows();
+fn stating_rows(rt: HostRuntime) -> Result<(), Fail> {
+    let mut loads = Relation::new(rt.alloc());
+    assert_eq!(rt; loads.state(1, load_of(3))?, Stated::New);
+    assert_eq!(rt; loads.state(1, load_of(3))?, Stated::Same);
+    assert_eq!(rt; loads.state(1, load_of(4))?, Stated::Differs);
+    assert_eq!(rt; loads.state_from(1, Prepared(load_of(5)))?, Stated::Differs);
+    let row = loads.get(1).ok_or("no row")?;
+    assert!(rt; row.agrees(&load_of(3)));
+    assert!(rt; loads.get(2).is_none());
+    assert_eq!(rt; loads.len(), 1);
+    assert_eq!(rt; loads.state_from(0, Prepared(load_of(4)))?, Stated::New);
+    let mut rows = loads.rows();
     let (key, row) = rows.next().ok_or("no first row")?;
     assert_eq!(rt; key, 0);
-    assert!(rt; !row.agrees(&first));
+    assert!(rt; row.agrees(&load_of(4)));
     let (key, row) = rows.next().ok_or("no second row")?;
     assert_eq!(rt; key, 1);
-    assert!(rt; row.agrees(&first));
+    assert!(rt; row.agrees(&load_of(3)));
+    assert!(rt; rows.next().is_none());
+    Ok(())
+}
+
+#[test]
+fn stating_bytes(rt: HostRuntime) -> Result<(), Fail> {
+    let mut names = BytesTable::new(rt.alloc());
+    assert_eq!(rt; names.state(1, b"A")?, Stated::New);
+    assert_eq!(rt; names.state(1, b"A")?, Stated::Same);
+    assert_eq!(rt; names.state(1, b"B")?, Stated::Differs);
+    assert_eq!(rt; names.state(1, b"AB")?, Stated::Differs);
+    assert_eq!(rt; names.state(2, b"")?, Stated::New);
+    assert_eq!(rt; names.state(0, b"BC")?, Stated::New);
+    assert_eq!(rt; names.state(2, b"")?, Stated::Same);
+    assert_eq!(rt; names.state(0, b"BC")?, Stated::Same);
+    assert_eq!(rt; names.get(1), Some(b"A".as_slice()));
+    assert!(rt; names.get(3).is_none());
+    assert_eq!(rt; names.len(), 3);
+    let mut rows = names.rows();
+    let expected: [(u64, &[u8]); 3] = [(0, b"BC"), (1, b"A"), (2, b"")];
+    for row in expected {
+        assert_eq!(rt; rows.next(), Some(row));
+    }
     assert!(rt; rows.next().is_none());
     Ok(())
 }
@@ -129,19 +145,17 @@ fn stating_numbers(rt: HostRuntime) -> Result<(), Fail> {
 // States a name. Where memory is refused nothing has changed, and it is stated again.
 fn state(
     rt: &impl Abort,
-    alloc: Global,
-    names: &mut Relation<NameRow>,
+    names: &mut BytesTable,
     id: u64,
     text: &[u8],
 ) -> Result<Stated, AllocError> {
     let count = names.len();
-    let row = NameRow::new(alloc, text)?;
-    if let Ok(stated) = names.state_from(id, Prepared(row)) {
+    if let Ok(stated) = names.state(id, text) {
         return Ok(stated);
     }
     assert!(rt; names.get(id).is_none());
     assert_eq!(rt; names.len(), count);
-    names.state(id, NameRow::new(alloc, text)?)
+    names.state(id, text)
 }
 
 // A gatherer that was given those of the names that do not differ. They come to what stands beside them.
@@ -200,19 +214,15 @@ fn check_names(
     given: &[(u64, &[u8], Stated)],
     expected: &[(u64, &[u8])],
 ) -> Result<(), Fail> {
-    let mut names = Relation::new(alloc);
+    let mut names = BytesTable::new(alloc);
     for &(id, text, stated) in given {
-        assert_eq!(rt; state(rt, alloc, &mut names, id, text)?, stated);
+        assert_eq!(rt; state(rt, &mut names, id, text)?, stated);
     }
     assert_eq!(rt; names.len(), expected.len());
     let mut rows = names.rows();
     for &(id, text) in expected {
-        let wanted = NameRow::new(alloc, text)?;
-        let (key, row) = rows.next().ok_or("a row is missing")?;
-        assert_eq!(rt; key, id);
-        assert!(rt; row.agrees(&wanted));
-        let row = names.get(id).ok_or("no row is found")?;
-        assert!(rt; row.agrees(&wanted));
+        assert_eq!(rt; rows.next(), Some((id, text)));
+        assert_eq!(rt; names.get(id), Some(text));
         assert!(rt; names.get(id | 1).is_none());
     }
     assert!(rt; rows.next().is_none());
