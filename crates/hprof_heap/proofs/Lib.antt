@@ -6,6 +6,7 @@ pub mod Conflicts
 pub mod Inserting
 pub mod SortedRows
 pub mod SortedTable
+pub mod SideBySide
 pub mod Places
 pub mod Stating
 pub mod RowFacts

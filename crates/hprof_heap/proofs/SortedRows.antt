@@ -13,7 +13,7 @@ use Rattle.std.proofs.lemmas.Bool.{ne_eqb, eq-eqb, ltb-true, ltb-false, cases_or
 use Rattle.std.proofs.lemmas.Map.Keys.{sorted_head, sorted_tail}
 use Rattle.hprof_heap.specs.SortedRows.{row_at, IsAscending, Misses, end_of, merged}
 
-less_from : (key other : ℕ) → nat_cmp key other ≡ Less → key < other
+pub less_from : (key other : ℕ) → nat_cmp key other ≡ Less → key < other
 less_from key other e = elim (cases_order key other) [
   | inl same ↦ let e2 : Equal ≡ nat_cmp key other = nat_cmp_is key other Equal same in absurd cc
   | inr apart ↦ elim apart [

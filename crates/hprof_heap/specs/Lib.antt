@@ -14,6 +14,7 @@ pub mod TraceRow
 pub mod Spelled
 pub mod Places
 pub mod BytesTable
+pub mod SideBySide
 pub mod Fitting
 pub mod HeapValue
 pub mod HeapRows

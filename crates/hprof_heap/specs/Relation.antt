@@ -1,5 +1,5 @@
 -- A table of rows by key.
-use Rattle.std.specs.Prelude.{◌≡◌, ◌≢◌, ℕ, List, Some, None}
+use Rattle.std.specs.Prelude.{◌≡◌, ◌≢◌, ℕ, List, Some, None, map}
 use Rattle.std.specs.Ordering.{nat_cmp}
 use Rattle.std.specs.BTreeMap.{is_at, insert_entry}
 use Rattle.std.specs.Map.{lookup}
@@ -20,3 +20,7 @@ module _ {V : Type 0} (content : V → List ℕ) where
       × ((row : V) × (content row ≡ stated) × (new ≡ insert_entry nat_cmp old key row))
   States old key stated Same new = (new ≡ old) × ((row : V) × (lookup (is_at (nat_cmp key)) old ≡ Some row) × (content row ≡ stated))
   States old key stated Differs new = (new ≡ old) × ((row : V) × (lookup (is_at (nat_cmp key)) old ≡ Some row) × (content row ≢ stated))
+
+-- the keys and contents of rows
+abbrev pub contents_of : {V : Type 0} → (V → List ℕ) → List (ℕ × V) → List (ℕ × List ℕ)
+contents_of content rows = map (λ row. (row.0, content row.1)) rows

@@ -9,6 +9,7 @@ ghost use Rattle.hprof_heap.specs.Places.{IsWithin, AreWithin, AreWithin-prop, l
 ghost use Rattle.hprof_heap.specs.SortedTable.{entries_of, entries_left};
 
 use crate::relation::Stated;
+use crate::side_by_side::same_rows;
 use crate::sorted_table::{Entries, SortedTable, Visit};
 use std::alloc::{AllocError, Global};
 
@@ -123,6 +124,13 @@ impl BytesTable {
         ensures { result ≡ length (byte_rows self.now) }
     {
         self.rows.len()
+    }
+
+    /// Whether both have the same rows.
+    pub fn same(&self, other: &Self) -> bool
+        ensures { IsTrue result ↔ (byte_rows self.now ≡ byte_rows other.now) }
+    {
+        same_rows(self.rows(), other.rows())
     }
 
     /// The rows, in order of key.

@@ -15,6 +15,7 @@ mod relation;
 mod root_set;
 mod rows;
 mod segments;
+mod side_by_side;
 mod sorted_table;
 mod spelled;
 mod standing;

@@ -8,6 +8,7 @@ ghost use Rattle.std.specs.Map.{lookup};
 
 use crate::content::{Content, Made, Statement};
 use crate::rows::Rows;
+use crate::side_by_side::same_rows;
 use crate::sorted_table::{SortedTable, Visit};
 use std::alloc::{AllocError, Global};
 
@@ -59,7 +60,7 @@ pub struct Relation<V: Content + Drop> {
 }
 
 impl<V: Content + Drop> Relation<V> {
-    ghost use Rattle.hprof_heap.specs.Relation.{rows_of, States};
+    ghost use Rattle.hprof_heap.specs.Relation.{contents_of, rows_of, States};
     ghost use Rattle.hprof_heap.specs.Rows.{rows_left};
     ghost use Rattle.hprof_heap.specs.SortedRows.{IsAscending};
 
@@ -115,6 +116,13 @@ impl<V: Content + Drop> Relation<V> {
         ensures { result ≡ length (rows_of self.now) }
     {
         self.rows.len()
+    }
+
+    /// Whether both have the same keys with the same contents.
+    pub fn same(&self, other: &Self) -> bool
+        ensures { IsTrue result ↔ (contents_of V.content (rows_of self.now) ≡ contents_of V.content (rows_of other.now)) }
+    {
+        same_rows(self.rows(), other.rows())
     }
 
     /// The rows, in order of key.

@@ -1,6 +1,6 @@
 //! The set of roots.
 
-ghost use Rattle.std.specs.Prelude.{◌≡◌, [], length, false, IfOk, OnErr};
+ghost use Rattle.std.specs.Prelude.{◌≡◌, ◌↔◌, [], length, false, IfOk, OnErr, IsTrue};
 ghost use Rattle.std.specs.List.{list_any};
 ghost use Rattle.std.specs.BTreeMap.{is_at};
 ghost use Rattle.hprof_heap.specs.RootSet.{root_cmp};
@@ -46,6 +46,13 @@ impl RootSet {
         ensures { result ≡ length (roots_of self.now) }
     {
         self.roots.len()
+    }
+
+    /// Whether both have the same roots.
+    pub(crate) fn same(&self, other: &Self) -> bool
+        ensures { IsTrue result ↔ (roots_of self.now ≡ roots_of other.now) }
+    {
+        self.roots == other.roots
     }
 
     /// The roots, in order.
