@@ -7,6 +7,7 @@ pub mod Inserting
 pub mod SortedRows
 pub mod SortedTable
 pub mod SideBySide
+pub mod RootEquality
 pub mod Places
 pub mod Stating
 pub mod RowFacts
