@@ -14,6 +14,7 @@ pub mod RowFacts
 pub mod Tables
 pub mod HeapRows
 pub mod TableRows
+pub mod SameHeaps
 pub mod ClassName
 pub mod Roots
 pub mod NumberRows

@@ -4,6 +4,7 @@
 
 mod bytes_table;
 mod canonical;
+mod comparing;
 mod content;
 mod facts;
 mod gatherer;
@@ -27,6 +28,7 @@ mod trace_row;
 
 pub use bytes_table::{BytesRows, BytesTable};
 pub use canonical::write_canonical;
+pub use comparing::same;
 pub use content::{Content, Statement};
 pub use facts::Facts;
 pub use gatherer::Gatherer;
