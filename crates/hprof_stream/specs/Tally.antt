@@ -1,7 +1,8 @@
 -- How many facts of each form were given.
-use Rattle.std.specs.Prelude.{◌≡◌, ◌==◌, ℕ, ◌-◌, ◌^◌, ◌<◌, min, List, ◌∷◌, [], ◌++◌, length, slice_index}
+use Rattle.std.specs.Prelude.{◌≡◌, ◌==◌, ℕ, Option, ◌-◌, ◌^◌, ◌<◌, min, List, ◌∷◌, [], ◌++◌, length, slice_index}
 use Rattle.std.specs.List.{count_by}
 use Rattle.hprof_items.specs.FactValue.{FactValue, Name, Load, Unload, Frame, Trace, Start, End, Rooted, Class, Instance, ObjArray, PrimArray}
+use Rattle.hprof_values.specs.declared.ids.IdSize.{IdSize}
 use Rattle.hprof_stream.specs.declared.tally.Tally.{Tally}
 
 -- the place of a fact's form among the twelve
@@ -31,3 +32,7 @@ HasCounted tally facts = Counts facts tally.counts
 -- one more fact was counted
 abbrev pub CountsOne : Tally → FactValue → Tally → Type 0
 CountsOne old fact new = (facts : List FactValue) → HasCounted old facts → HasCounted new (facts ++ fact ∷ [])
+
+-- the size that was begun last
+abbrev pub begun_with : Tally → Option IdSize
+begun_with tally = tally.begun

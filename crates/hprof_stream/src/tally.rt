@@ -37,12 +37,14 @@ fn form_of(fact: &Fact<'_>) -> usize
 }
 
 impl Tally {
+    ghost use Rattle.std.specs.Prelude.{None};
     ghost use Rattle.hprof_items.specs.FactValue.{FactValue};
-    ghost use Rattle.hprof_stream.specs.Tally.{Counts, HasCounted};
+    ghost use Rattle.hprof_stream.specs.Tally.{Counts, HasCounted, begun_with};
 
     /// A tally that was given nothing.
     pub fn new() -> Self
-        ensures { HasCounted result [] }
+        ensures counts { HasCounted result [] }
+        ensures begun { begun_with result ≡ None }
     {
         Tally {
             counts: [0; 12],
@@ -62,14 +64,14 @@ impl Tally {
 
 impl Sink for Tally {
     ghost use Rattle.std.specs.Prelude.{◌≡◌, false};
-    ghost use Rattle.hprof_stream.specs.Tally.{CountsOne, HasCounted};
+    ghost use Rattle.hprof_stream.specs.Tally.{CountsOne, HasCounted, begun_with};
 
     // A header counts nothing.
     ghost begins = { λ old header new. new.counts ≡ old.counts };
 
     ghost steps = { CountsOne };
 
-    ghost begun = { λ tally. tally.begun };
+    ghost begun = { begun_with };
 
     ghost failed = { λ _. false };
 

@@ -6,8 +6,9 @@ ghost use Rattle.std.specs.Io.Buffered.{writer_inner, writer_buffer, writer_cont
 ghost use Rattle.hprof_items.specs.declared.health.Health.TheVariants.{Well};
 ghost use Rattle.hprof_items.specs.declared.health.WriteFault.{WriteFault};
 ghost use Rattle.hprof_items.specs.Device.{inner_of, health_of};
-ghost use Rattle.hprof_tool.specs.Joining.{joined_of, Tell, StopsWriting};
-ghost use Rattle.hprof_tool.specs.Program.{IsWritten, IsRefusal, IsJoinOfStream, IsJoinOfFiles, IsFilesRefusal, IsOfEngine, IsOfJoining, IsOfOpening, IsUnwritten};
+ghost use Rattle.hprof_stream.specs.declared.part_fault.PartFault.{PartFault};
+ghost use Rattle.hprof_tool.specs.Joining.{joined_of, Tell, StopsWriting, RefusesPart, AreReadOut};
+ghost use Rattle.hprof_tool.specs.Program.{usual_limits, IsWritten, IsRefusal, IsJoinOfStream, IsJoinOfFiles, IsFilesRefusal, IsOfEngine, IsOfJoining, IsOfOpening, IsUnwritten};
 
 use crate::engine::join::join_kept;
 use crate::joined::Kept;
@@ -74,6 +75,11 @@ fn join_into<R: Source, W: Write + Drop>(
     ensures no_parts { (result.outcome ≡ Err (Refused.Engine ToolFault.NoParts)) ↔ (readers.old ≡ []) }
     ensures refused { IfErr result.outcome (λ refused. (parts : List (List ℕ)) → Tell R.left readers.old parts
         → IsRefusal refused parts) }
+    ensures part { (index : ℕ) (fault : PartFault) → result.outcome ≡ Err (Refused.Engine (ToolFault.Part index fault))
+        → (parts : List (List ℕ)) → Tell R.left readers.old parts
+        → RefusesPart R.left R.health R.pulls usual_limits parts readers.old readers.new index fault }
+    ensures read_out { (index : ℕ) (fault : PartFault) → result.outcome ≡ Err (Refused.Engine (ToolFault.Part index fault))
+        → AreReadOut R.left R.health R.pulls usual_limits readers.old readers.new index }
     ensures unwritten { IsUnwritten result.outcome
         → (result.writer ≡ writer_inner buffered) × (result.unwritten.items ≡ writer_buffer buffered) }
     ensures write { (fault : WriteFault) → result.outcome ≡ Err (Refused.Engine (ToolFault.Write fault))
@@ -108,6 +114,12 @@ fn join_buffered<R: Source, W: Write + Drop>(
     ensures no_parts { result ≡ Err (Refused.Engine ToolFault.NoParts) → readers.old ≡ [] }
     ensures refused { IfErr result (λ refused. (parts : List (List ℕ)) → Tell R.left readers.old parts
         → IsRefusal refused parts) }
+    // A part that is refused was read as far as its fault says, and those before it to their ends.
+    ensures part { (index : ℕ) (fault : PartFault) → result ≡ Err (Refused.Engine (ToolFault.Part index fault))
+        → (parts : List (List ℕ)) → Tell R.left readers.old parts
+        → RefusesPart R.left R.health R.pulls usual_limits parts readers.old readers.new index fault }
+    ensures read_out { (index : ℕ) (fault : PartFault) → result ≡ Err (Refused.Engine (ToolFault.Part index fault))
+        → AreReadOut R.left R.health R.pulls usual_limits readers.old readers.new index }
 {
     let Ok(buffered) = BufWriter::with_capacity(alloc, BUFFER_LEN, writer) else {
         return Err(Refused::OutOfMemory);

@@ -21,7 +21,7 @@ use Rattle.hprof_tool.specs.declared.tool_fault.ToolFault.{ToolFault}
 use Rattle.hprof_tool.specs.declared.tool_fault.ToolFault.TheVariants as tool
 use Rattle.hprof_tool.specs.declared.program.refused.Refused.{Refused}
 use Rattle.hprof_tool.specs.declared.program.refused.Refused.TheVariants as refusals
-use Rattle.hprof_tool.specs.Joining.{joined_of, Tell, Joins, StopsWriting, Disagree, IsAccepted, IsOfPart, IsPartFault, RefusesPart}
+use Rattle.hprof_tool.specs.Joining.{joined_of, read_count, Tell, Joins, StopsWriting, Disagree, IsAccepted, IsOfPart, IsPartFault, RefusesPart, AreReadOut}
 use Rattle.hprof_tool.specs.Program.{usual_limits, IsWritten, IsFirstAnswer, IsPartRefusal, IsRefusal, IsOfEngine}
 use Rattle.hprof_tool.proofs.program.joining.join_into.Goals as goal
 
@@ -172,6 +172,31 @@ of_engine (Ok j) (Err refused) other failed same =
 of_engine (Err fault) (Err refused) other failed same =
     let is : refused ≡ refusals.Engine fault = cc in
     subst IsOfEngine (sym is) (engine_of fault other)
+
+-- a part is refused where the engine refused it
+of_engine_part : (joined : Result Joined ToolFault) (outcome : Result (Unit {0}) Refused) (index : ℕ) (fault : PartFault)
+    → OnOk joined (OnErr outcome (outcome ≡ Err (refusals.Engine (tool.Write faults.Failed)))) → IfErr joined (λ f. outcome ≡ Err (refusals.Engine f))
+    → outcome ≡ Err (refusals.Engine (tool.Part index fault)) → joined ≡ Err (tool.Part index fault)
+of_engine_part (Ok j) (Ok done) index fault failed same is = absurd cc
+of_engine_part (Ok j) (Err refused) index fault failed same is = absurd cc
+of_engine_part (Err f) outcome index fault failed same is =
+    let of_part : f ≡ tool.Part index fault = cc in
+    ap Err of_part
+
+pub returns-clause-part : goal.returns-clause-part
+returns-clause-part g c = λ index fault is parts told.
+    let e = c.join_kept-kept.ensures in
+    let at = of_engine_part (joined_of c.join_kept-kept.result) c.end_of_writing-outcome.result index fault c.end_of_writing-outcome.ensures.failed c.end_of_writing-outcome.ensures.refused is in
+    subst (λ (l : Limits). RefusesPart g.R.Source.left g.R.Source.health g.R.Source.pulls l parts c.args.readers.now c.join_kept-kept.new.readers index fault)
+    (are_usual c.usual.result c.usual.ensures.item c.usual.ensures.reads c.usual.ensures.bytes) (e.part index fault at parts told)
+
+pub returns-clause-read_out : goal.returns-clause-read_out
+returns-clause-read_out g c = λ index fault is.
+    let e = c.join_kept-kept.ensures in
+    let at = of_engine_part (joined_of c.join_kept-kept.result) c.end_of_writing-outcome.result index fault c.end_of_writing-outcome.ensures.failed c.end_of_writing-outcome.ensures.refused is in
+    subst (λ (l : Limits). AreReadOut g.R.Source.left g.R.Source.health g.R.Source.pulls l c.args.readers.now c.join_kept-kept.new.readers index)
+    (are_usual c.usual.result c.usual.ensures.item c.usual.ensures.reads c.usual.ensures.bytes)
+    (subst (λ (r : Result Joined ToolFault). AreReadOut g.R.Source.left g.R.Source.health g.R.Source.pulls c.usual.result c.args.readers.now c.join_kept-kept.new.readers (read_count r (length c.args.readers.now))) at e.read_out)
 
 pub returns-clause-kind : goal.returns-clause-kind
 returns-clause-kind g c =
