@@ -11,8 +11,8 @@ use Rattle.hprof_stream.specs.Run.{Steps, Run}
 use Rattle.hprof_heap.specs.declared.gatherer.Gatherer.{Gatherer}
 use Rattle.hprof_heap.specs.declared.heap.Heap.{Heap}
 use Rattle.hprof_heap.specs.declared.key.Key.{Key}
-use Rattle.hprof_heap.specs.declared.relation.Stated.{Stated}
-use Rattle.hprof_heap.specs.declared.relation.Stated.TheVariants.{New, Same, Differs}
+use Rattle.hprof_tables.specs.declared.relation.Stated.{Stated}
+use Rattle.hprof_tables.specs.declared.relation.Stated.TheVariants.{New, Same, Differs}
 use Rattle.hprof_heap.specs.Key.{HaveOneKey, key_of, key_le, lesser_key}
 use Rattle.hprof_heap.specs.Facts.{Has, SameFacts}
 use Rattle.hprof_heap.specs.Conflict.{HasConflict, IsLeastConflict}

@@ -4,11 +4,7 @@ pub mod Keys
 pub mod Order
 pub mod Conflicts
 pub mod Inserting
-pub mod SortedRows
-pub mod SortedTable
-pub mod SideBySide
 pub mod RootEquality
-pub mod Places
 pub mod Stating
 pub mod RowFacts
 pub mod Tables

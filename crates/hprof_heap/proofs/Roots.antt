@@ -14,8 +14,8 @@ use Rattle.hprof_values.specs.declared.root.Root.{Root}
 use Rattle.hprof_values.specs.declared.root.Root.TheVariants as roots
 use Rattle.hprof_values.proofs.Orders.{then-Equal}
 use Rattle.hprof_items.specs.FactValue.{FactValue, Rooted}
-use Rattle.hprof_heap.specs.declared.relation.Stated.{Stated}
-use Rattle.hprof_heap.specs.declared.relation.Stated.TheVariants.{New, Same, Differs}
+use Rattle.hprof_tables.specs.declared.relation.Stated.{Stated}
+use Rattle.hprof_tables.specs.declared.relation.Stated.TheVariants.{New, Same, Differs}
 use Rattle.hprof_heap.specs.Facts.{Has}
 use Rattle.hprof_heap.specs.HeapRows.{root_facts}
 use Rattle.hprof_heap.specs.Order.{place_of}

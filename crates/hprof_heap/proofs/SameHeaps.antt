@@ -6,13 +6,14 @@ use Rattle.hprof_values.specs.declared.root.Root.{Root}
 use Rattle.hprof_items.specs.FactValue.{FactValue, Name, Rooted}
 use Rattle.hprof_heap.specs.declared.table.Table.{Table}
 use Rattle.hprof_heap.specs.declared.table.Table.TheVariants as tables
-use Rattle.hprof_heap.specs.Content.{content_of, load_fact, unload_fact, frame_fact, trace_fact, start_fact, end_fact, spelled_fact, facts_of_rows, AreRight, the_bytes}
+use Rattle.hprof_heap.specs.Content.{content_of, load_fact, unload_fact, frame_fact, trace_fact, start_fact, end_fact, spelled_fact, facts_of_rows, AreRight}
+use Rattle.hprof_tables.specs.Places.{the_bytes}
 use Rattle.hprof_heap.specs.Heap.{facts_of_table, number_of_table}
 use Rattle.hprof_heap.specs.HeapRows.{HeapRows, AreHeap, HaveSameRecords, HaveSameSubs, heap_of_rows, tables_of, no_content, name_facts, load_facts, unload_facts, frame_facts, trace_facts, start_facts, end_facts, root_facts, spelled_facts}
 use Rattle.hprof_heap.specs.HeapValue.{HeapValue}
 use Rattle.hprof_heap.specs.NumberRows.{load_numbers, frame_numbers, start_numbers}
 use Rattle.hprof_heap.specs.Order.{place_of}
-use Rattle.hprof_heap.specs.Relation.{contents_of}
+use Rattle.hprof_tables.specs.Relation.{contents_of}
 use Rattle.hprof_heap.specs.Tables.{joined}
 use Rattle.hprof_heap.specs.TraceRow.{trace_content}
 use Rattle.hprof_heap.proofs.HeapRows.{names_right, loads_right, unloads_right, frames_right, starts_right, ends_right, table_facts}
@@ -74,17 +75,17 @@ module _ (one other : HeapRows) where
       let names : name_facts one.names ≡ name_facts other.names = ap name_facts records.names in
       let loads : load_facts one.loads ≡ load_facts other.loads = same_facts one.ids 1 load_fact load_numbers one.loads other.loads records.loads in
       let unloads : unload_facts one.unloads ≡ unload_facts other.unloads =
-          same_facts one.ids 2 unload_fact no_content one.unloads other.unloads records.unloads in
+      same_facts one.ids 2 unload_fact no_content one.unloads other.unloads records.unloads in
       let frames : frame_facts one.frames ≡ frame_facts other.frames = same_facts one.ids 3 frame_fact frame_numbers one.frames other.frames records.frames in
       let traces : trace_facts one.ids one.traces ≡ trace_facts other.ids other.traces =
-          same_facts one.ids 4 (trace_fact one.ids) trace_content one.traces other.traces records.traces ∙ ap (λ (i : IdSize). trace_facts i other.traces) ids in
+      same_facts one.ids 4 (trace_fact one.ids) trace_content one.traces other.traces records.traces ∙ ap (λ (i : IdSize). trace_facts i other.traces) ids in
       let starts : start_facts one.starts ≡ start_facts other.starts = same_facts one.ids 5 start_fact start_numbers one.starts other.starts records.starts in
       let ends : end_facts one.ends ≡ end_facts other.ends = same_facts one.ids 6 end_fact no_content one.ends other.ends records.ends in
       let roots : root_facts one.roots ≡ root_facts other.roots = ap root_facts subs.roots in
       let classes : spelled_facts one.ids one.classes ≡ spelled_facts other.ids other.classes =
-          ap (spelled_facts one.ids) subs.classes ∙ ap (λ (i : IdSize). spelled_facts i other.classes) ids in
+      ap (spelled_facts one.ids) subs.classes ∙ ap (λ (i : IdSize). spelled_facts i other.classes) ids in
       let objects : spelled_facts one.ids one.objects ≡ spelled_facts other.ids other.objects =
-          ap (spelled_facts one.ids) subs.objects ∙ ap (λ (i : IdSize). spelled_facts i other.objects) ids in
+      ap (spelled_facts one.ids) subs.objects ∙ ap (λ (i : IdSize). spelled_facts i other.objects) ids in
       let facts : tables_of one ≡ tables_of other = cc in
       ap (λ (i : IdSize). with_facts i one.millis (joined (tables_of one))) ids
       ∙ ap (λ (m : ℕ). with_facts other.ids m (joined (tables_of one))) millis

@@ -10,10 +10,11 @@ use Rattle.hprof_heap.specs.declared.number_rows.FrameRow.{FrameRow}
 use Rattle.hprof_heap.specs.declared.number_rows.StartRow.{StartRow}
 use Rattle.hprof_heap.specs.declared.number_rows.KeyRow.{KeyRow}
 use Rattle.hprof_heap.specs.declared.trace_row.TraceRow.{TraceRow}
-use Rattle.hprof_heap.specs.Content.{load_fact, unload_fact, frame_fact, trace_fact, start_fact, end_fact, spelled_fact, facts_of_rows, IsRight, AreRight, the_bytes}
+use Rattle.hprof_heap.specs.Content.{load_fact, unload_fact, frame_fact, trace_fact, start_fact, end_fact, spelled_fact, facts_of_rows, IsRight, AreRight}
+use Rattle.hprof_tables.specs.Places.{the_bytes}
 use Rattle.hprof_heap.specs.HeapValue.{HeapValue, IsHeap, IsHeap-prop}
 use Rattle.hprof_heap.specs.NumberRows.{load_numbers, frame_numbers, start_numbers}
-use Rattle.hprof_heap.specs.Relation.{contents_of}
+use Rattle.hprof_tables.specs.Relation.{contents_of}
 use Rattle.hprof_heap.specs.Tables.{joined}
 use Rattle.hprof_heap.specs.TraceRow.{trace_content}
 

@@ -7,8 +7,8 @@ use Rattle.std.specs.declared.cmp.Ordering.{Ordering}
 use Rattle.hprof_values.specs.declared.root.Root.{Root}
 use Rattle.hprof_values.specs.contracts.root.RootOrd.TheImpl as root_ord
 use Rattle.hprof_heap.specs.declared.root_set.RootSet.{RootSet}
-use Rattle.hprof_heap.specs.declared.relation.Stated.{Stated}
-use Rattle.hprof_heap.specs.declared.relation.Stated.TheVariants.{New, Same, Differs}
+use Rattle.hprof_tables.specs.declared.relation.Stated.{Stated}
+use Rattle.hprof_tables.specs.declared.relation.Stated.TheVariants.{New, Same, Differs}
 
 -- the order of roots
 abbrev pub root_cmp : Root → Root → Ordering

@@ -7,7 +7,8 @@ use Rattle.hprof_items.specs.FactValue.{FactValue, Rooted}
 use Rattle.hprof_items.specs.Spelling.{Fits}
 use Rattle.hprof_heap.specs.declared.sub_row.SubRow.{SubRow}
 use Rattle.hprof_heap.specs.declared.sub_row.SubRow.TheVariants as rows
-use Rattle.hprof_heap.specs.Content.{spelled_fact, the_bytes}
+use Rattle.hprof_heap.specs.Content.{spelled_fact}
+use Rattle.hprof_tables.specs.Places.{the_bytes}
 use Rattle.hprof_heap.specs.Fitting.{Fits-prop}
 use Rattle.hprof_heap.specs.HeapRows.{root_facts, spelled_facts}
 use Rattle.hprof_heap.specs.TableRows.{IsSpelled, AreSpelled, AreSpelled-prop, all-prop}

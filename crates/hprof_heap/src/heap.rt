@@ -11,14 +11,12 @@ ghost use Rattle.hprof_heap.specs.Key.{has_key};
 ghost use Rattle.hprof_heap.specs.HeapRows.{AreHeap, AreHeap-prop, HaveSameRecords, HaveSameSubs};
 ghost use Rattle.hprof_heap.specs.HeapValue.{IsHeap};
 ghost use Rattle.hprof_heap.specs.Order.{IsCanonicalOrder, place_of};
-ghost use Rattle.hprof_heap.specs.Relation.{rows_of};
+ghost use Rattle.hprof_tables.specs.Relation.{rows_of};
 ghost use Rattle.hprof_heap.specs.RootSet.{roots_of};
-ghost use Rattle.hprof_heap.specs.BytesTable.{byte_rows};
+ghost use Rattle.hprof_tables.specs.BytesTable.{byte_rows};
 
-use crate::bytes_table::BytesTable;
 use crate::facts::Facts;
 use crate::number_rows::{FrameRow, KeyRow, LoadRow, StartRow};
-use crate::relation::{Relation, Stated};
 use crate::root_set::RootSet;
 use crate::spelled::spelled_fact;
 use crate::sub_rows::SubRows;
@@ -26,6 +24,7 @@ use crate::table::Table;
 use crate::table_rows::TableRows;
 use crate::trace_row::{TraceFrames, TraceRow};
 use hprof_items::Fact;
+use hprof_tables::{BytesTable, Relation, Stated};
 use hprof_values::{IdList, IdSize, Root};
 use std::alloc::{AllocError, Global};
 

@@ -3,8 +3,8 @@
 ghost use Rattle.hprof_heap.specs.NumberRows.{load_numbers, frame_numbers, start_numbers};
 ghost use Rattle.std.specs.Prelude.{[]};
 
-use crate::content::Content;
 use hprof_items::Fact;
+use hprof_tables::Content;
 
 /// A class that was loaded, under its serial.
 #[derive(Clone, Copy, Debug, PartialEq, Eq)]

@@ -5,7 +5,7 @@ ghost use Rattle.std.specs.List.{list_any};
 ghost use Rattle.std.specs.BTreeMap.{is_at};
 ghost use Rattle.hprof_heap.specs.RootSet.{root_cmp};
 
-use crate::relation::Stated;
+use hprof_tables::Stated;
 use hprof_values::Root;
 use std::alloc::{AllocError, Global};
 use std::collections::{BTreeSet, btree_set};

@@ -1,10 +1,10 @@
 //! The sub-records of a heap, one after the other.
 
-ghost use Rattle.hprof_heap.specs.BytesTable.{byte_rows_left};
+ghost use Rattle.hprof_tables.specs.BytesTable.{byte_rows_left};
 ghost use Rattle.hprof_heap.specs.SubRow.{AreWritable, AreWritable-prop};
 
-use crate::bytes_table::BytesRows;
 use crate::sub_row::SubRow;
+use hprof_tables::BytesRows;
 use hprof_values::{IdSize, Root};
 use std::collections::btree_set;
 

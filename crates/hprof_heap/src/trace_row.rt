@@ -2,8 +2,8 @@
 
 ghost use Rattle.hprof_heap.specs.TraceRow.{trace_content, frames_content};
 
-use crate::content::{Content, Statement};
 use hprof_items::Fact;
+use hprof_tables::{Content, Statement};
 use hprof_values::{IdList, IdSize};
 use std::alloc::{AllocError, Global};
 

@@ -5,9 +5,10 @@ ghost use Rattle.hprof_items.specs.FactValue.{value_of};
 ghost use Rattle.hprof_items.specs.SubRecord.{dump_bytes};
 ghost use Rattle.hprof_heap.specs.Gathering.{gathered};
 
-use hprof_heap::{Gatherer, Heap, Stated, Table};
+use hprof_heap::{Gatherer, Heap, Table};
 use hprof_items::{Device, Fact, Header, IdSize, Step, Version, fits, read_sub, write_fact};
 use hprof_stream::{Sink, SinkFault};
+use hprof_tables::Stated;
 use hprof_values::Basic;
 use std::alloc::Global;
 use std::process::Abort;

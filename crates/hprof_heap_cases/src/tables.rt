@@ -5,11 +5,9 @@ ghost use Rattle.hprof_heap.specs.NumberRows.{load_numbers};
 ghost use Rattle.hprof_heap.specs.Gathering.{gathered};
 
 use crate::samples::{begun, state_record};
-use hprof_heap::{
-    BytesTable, Content, FrameRow, Gatherer, Key, KeyRow, LoadRow, Refusal, Relation, StartRow,
-    Stated, Statement, Table,
-};
+use hprof_heap::{FrameRow, Gatherer, Key, KeyRow, LoadRow, Refusal, StartRow, Table};
 use hprof_items::{Fact, IdSize};
+use hprof_tables::{BytesTable, Content, Relation, Stated, Statement};
 use std::alloc::{AllocError, Global};
 use std::process::Abort;
 use std::test::*;

@@ -1,0 +1,4 @@
+pub mod SortedRows
+pub mod SortedTable
+pub mod Places
+pub mod SideBySide

@@ -1,0 +1,7 @@
+pub mod SortedRows
+pub mod SortedTable
+pub mod Relation
+pub mod Places
+pub mod BytesTable
+pub mod SideBySide
+pub mod Rows
