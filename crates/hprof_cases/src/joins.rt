@@ -4,7 +4,7 @@ use crate::samples::{
     ARRAY_16, END, HEADER, NAME_1_A, NAME_2_B, OLD_HEADER, STICKY_16, WIDE_HEADER, bytes_of,
     expect_joined, joined, joined_and_kept, plain_dump, plain_part, record,
 };
-use hprof_tool::{Joined, ToolFault, laws};
+use hprof_engine::{Joined, ToolFault, laws};
 use std::test::Fail;
 
 #[test]
