@@ -1,6 +1,6 @@
 //! Counting the facts of a part.
 
-ghost use Rattle.std.specs.Prelude.{◌≡◌, ◌<◌, List, []};
+ghost use Rattle.std.specs.Prelude.{◌≡◌, ◌<◌, List, [], None};
 ghost use Rattle.hprof_items.specs.FactValue.{value_of};
 ghost use Rattle.hprof_stream.specs.Tally.{form_of};
 
@@ -42,7 +42,8 @@ impl Tally {
 
     /// A tally that was given nothing.
     pub fn new() -> Self
-        ensures { HasCounted result [] }
+        ensures counted { HasCounted result [] }
+        ensures begun { result.begun ≡ None }
     {
         Tally {
             counts: [0; 12],
