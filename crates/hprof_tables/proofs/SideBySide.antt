@@ -30,7 +30,7 @@ same_first rows others left left_others same (Some key) first =
     (same.1 key first.0, λ lower lt differ. first.1 lower lt (same.0 lower differ))
 
 -- no key of a list is below its first
-below_first : (key : ℕ) (row : ℕ × List ℕ) (rows : List (ℕ × List ℕ)) → IsAscending (row ∷ rows) → key < row.0 → row_at key (row ∷ rows) ≡ None
+pub below_first : (key : ℕ) (row : ℕ × List ℕ) (rows : List (ℕ × List ℕ)) → IsAscending (row ∷ rows) → key < row.0 → row_at key (row ∷ rows) ≡ None
 below_first key row rows up lt =
     row_at-none key (row ∷ rows) ((λ e. omega arith), AllKeys-weaker (λ k. row.0 < k) (λ k. key ≢ k) rows (λ k h e. omega arith) (ascending_head row rows up))
 
@@ -89,7 +89,7 @@ skip_other row rows other others up lt =
     )
 
 -- nor does one that both have
-no_more : (row : ℕ × List ℕ) (rows : List (ℕ × List ℕ)) → IsAscending (row ∷ rows) → row_at row.0 rows ≡ None
+pub no_more : (row : ℕ × List ℕ) (rows : List (ℕ × List ℕ)) → IsAscending (row ∷ rows) → row_at row.0 rows ≡ None
 no_more row rows up = row_at-none row.0 rows (AllKeys-weaker (λ k. row.0 < k) (λ k. row.0 ≢ k) rows (λ k h e. omega arith) (ascending_head row rows up))
 
 skip_both : (row : ℕ × List ℕ) (rows : List (ℕ × List ℕ)) (other : ℕ × List ℕ) (others : List (ℕ × List ℕ)) → IsAscending (row ∷ rows) → IsAscending (other ∷ others)
@@ -133,7 +133,7 @@ no_others_left rows key found = let e : None ≡ Some found.other = found.has_ot
 
 -- ---- going over both
 
-greater_from : (key other : ℕ) → nat_cmp key other ≡ Greater → other < key
+pub greater_from : (key other : ℕ) → nat_cmp key other ≡ Greater → other < key
 greater_from key other e = elim (cases_order key other) [
   | inl same ↦ let e2 : Equal ≡ nat_cmp key other = nat_cmp_is key other Equal same in absurd cc
   | inr apart ↦ elim apart [

@@ -1,7 +1,7 @@
 //! Two tables, gone over side by side.
 
-ghost use Rattle.std.specs.Prelude.{◌≡◌, ◌↔◌, ℕ, List, IsTrue};
-ghost use Rattle.hprof_tables.specs.SideBySide.{IsFirstDifference};
+ghost use Rattle.std.specs.Prelude.{◌≡◌, ◌↔◌, ℕ, List, IfOk, IsTrue};
+ghost use Rattle.hprof_tables.specs.SideBySide.{AreMissing, IsFirstDifference};
 ghost use Rattle.hprof_tables.specs.SortedRows.{IsAscending};
 ghost use Rattle.std.specs.Iterator.{YieldsFirstBy};
 ghost use Rattle.hprof_tables.specs.BytesTable.{byte_rows_left};
@@ -12,6 +12,7 @@ ghost use Rattle.hprof_tables.specs.Rows.{rows_left};
 use crate::bytes_table::BytesRows;
 use crate::content::Content;
 use crate::rows::Rows;
+use std::alloc::{AllocError, Global};
 use std::cmp::Ordering;
 
 /// Rows with their keys, whatever they are.
@@ -113,4 +114,43 @@ pub(crate) fn first_difference<R: Content + Drop, I: KeyedRows<R> + Drop>(
         }
     }
     None
+}
+
+/// The rows of the others whose keys these lack. Each is gone over once.
+pub(crate) fn missing_rows<R: Content + Drop, I: KeyedRows<R> + Drop>(
+    alloc: Global,
+    mut rows: I,
+    mut others: I,
+) -> Result<Vec<(u64, R)>, AllocError>
+    requires ascending { IsAscending (I.left rows) }
+    requires others_ascending { IsAscending (I.left others) }
+    ensures { IfOk result (λ missing. AreMissing (I.left rows) (I.left others) (contents_of R.content missing.items)) }
+{
+    let mut missing = Vec::new(alloc);
+    let mut first = rows.next_row();
+    let mut other_first = others.next_row();
+    while let Some((other_key, other)) = other_first {
+        let Some((key, row)) = first else {
+            missing.push((other_key, other))?;
+            first = None;
+            other_first = others.next_row();
+            continue;
+        };
+        match key.cmp(&other_key) {
+            Ordering::Less => {
+                first = rows.next_row();
+                other_first = Some((other_key, other));
+            }
+            Ordering::Greater => {
+                missing.push((other_key, other))?;
+                first = Some((key, row));
+                other_first = others.next_row();
+            }
+            Ordering::Equal => {
+                first = rows.next_row();
+                other_first = others.next_row();
+            }
+        }
+    }
+    Ok(missing)
 }
