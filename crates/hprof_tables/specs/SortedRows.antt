@@ -27,6 +27,11 @@ module _ {V : Type 0} where
   merged [] others = others
   merged (row ∷ rows) others = put_among row (merged rows) others
 
+  -- a row that was taken, and those behind it; where none was, none is left
+  abbrev pub behind_first : Option (ℕ × V) → List (ℕ × V) → List (ℕ × V)
+  behind_first None rows = []
+  behind_first (Some row) rows = row ∷ rows
+
   -- the list is that of both: it ascends and has exactly their rows
   pub record IsListOfBoth (run below rows : List (ℕ × V)) : Type 0 where
     pub ascends : IsAscending rows

@@ -3,6 +3,7 @@
 
 mod bytes_table;
 mod content;
+mod merging;
 mod relation;
 mod rows;
 mod side_by_side;
