@@ -1,7 +1,7 @@
-//! Cuts a dump into five parts: its records and sub-records in any order, some of them repeated, in segments of any
+//! Cuts a dump into parts: its records and sub-records in any order, some of them repeated, in segments of any
 //! length. Together they state what the dump states. It uses std alone.
 //!
-//!     recut DUMP PART PART PART PART PART
+//!     recut DUMP PART..
 
 use std::env;
 use std::fs::{self, File};
@@ -99,11 +99,12 @@ fn main() {
     let dump = fs::read(&names[0]).unwrap_or_else(|_| refuse("cannot read"));
     let items = items_of(&dump);
     let mut dice = Dice(0x9e37_79b9_7f4a_7c15);
-    let mut parts: [Vec<&Item>; 5] = Default::default();
+    let count = names.len() - 1;
+    let mut parts: Vec<Vec<&Item>> = vec![Vec::new(); count];
     for item in &items {
-        parts[dice.below(5)].push(item);
+        parts[dice.below(count)].push(item);
         if dice.below(10) == 0 {
-            parts[dice.below(5)].push(item);
+            parts[dice.below(count)].push(item);
         }
     }
     for (later, (part, name)) in (0..).zip(parts.iter_mut().zip(&names[1..])) {

@@ -1,10 +1,10 @@
 //! Parts that do not go together.
 
 use crate::samples::{HEADER, NAME_1_A, NAME_1_B, WIDE_HEADER, bytes_of, expect_refused, record};
+use hprof_engine::ToolFault;
 use hprof_heap::Key;
 use hprof_items::Reason;
 use hprof_stream::PartFault;
-use hprof_tool::ToolFault;
 use std::alloc::{AllocError, Global};
 use std::test::Fail;
 

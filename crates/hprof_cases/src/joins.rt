@@ -4,7 +4,7 @@ use crate::samples::{
     ARRAY_16, END, HEADER, NAME_1_A, NAME_2_B, OLD_HEADER, STICKY_16, WIDE_HEADER, bytes_of,
     expect_joined, joined, joined_and_kept, plain_dump, plain_part, record,
 };
-use hprof_tool::{Joined, ToolFault, laws};
+use hprof_engine::{Joined, ToolFault, laws};
 use std::test::Fail;
 
 #[test]
@@ -108,4 +108,19 @@ fn one_sub_record_in_each_segment(rt: HostRuntime) -> Result<(), Fail> {
     let dump = plain_dump(rt.alloc())?;
     expect_joined(&rt, rt.alloc(), &[&apart], &[&dump], 4)?;
     expect_joined(&rt, rt.alloc(), &[&apart, &apart], &[&dump], 4)
+}
+
+#[test]
+fn joined_dumps_join(rt: HostRuntime) -> Result<(), Fail> {
+    let segment = record(rt.alloc(), 0x1c, &[STICKY_16, ARRAY_16])?;
+    let one = bytes_of(rt.alloc(), &[HEADER, NAME_2_B])?;
+    let other = bytes_of(rt.alloc(), &[OLD_HEADER, &segment])?;
+    let third = bytes_of(rt.alloc(), &[HEADER, NAME_1_A, NAME_2_B])?;
+    let dump = plain_dump(rt.alloc())?;
+    expect_joined(&rt, rt.alloc(), &[&one, &other, &third], &[&dump], 4)?;
+    let (_, first) = joined(rt.alloc(), &[&third, &one])?;
+    let (_, second) = joined(rt.alloc(), &[&other, &one])?;
+    expect_joined(&rt, rt.alloc(), &[&second, &first], &[&dump], 4)?;
+    laws::joined_dumps_join();
+    Ok(())
 }

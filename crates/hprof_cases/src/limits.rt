@@ -1,9 +1,9 @@
 //! Limits, one below what a part needs and just what it needs.
 
 use crate::samples::{END, HEADER, NAME_1_A, NAME_2_B, bytes_of, joined_under, plain_part, record};
+use hprof_engine::{Joined, ToolFault, join_to};
 use hprof_items::{Device, Reason};
 use hprof_stream::{Limits, PartFault, laws};
-use hprof_tool::{Joined, ToolFault, join_to};
 use std::alloc::Global;
 use std::io;
 use std::io::Read;

@@ -1,9 +1,9 @@
 //! Parts that are refused, with the offset and the reason.
 
 use crate::samples::{HEADER, STICKY_16, WIDE_HEADER, bytes_of, joined, record};
+use hprof_engine::ToolFault;
 use hprof_items::Reason;
 use hprof_stream::PartFault;
-use hprof_tool::ToolFault;
 use std::alloc::Global;
 use std::process::Abort;
 use std::test::Fail;

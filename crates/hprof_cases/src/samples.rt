@@ -4,10 +4,10 @@ ghost use Rattle.std.specs.Prelude.{◌≡◌, All, IfOk};
 ghost use Rattle.hprof_items.specs.declared.health.Health.TheVariants.{Well};
 ghost use Rattle.hprof_items.specs.Device.{health_of};
 
+use hprof_engine::{Joined, Kept, ToolFault, join_kept, join_to};
 use hprof_heap::Gatherer;
 use hprof_items::Device;
 use hprof_stream::{Limits, PartFault, PartReader, PartSummary};
-use hprof_tool::{Joined, Kept, ToolFault, join_kept, join_to};
 use std::alloc::{AllocError, Global};
 use std::process::Abort;
 use std::test::Fail;

@@ -3,9 +3,9 @@
 ghost use Rattle.std.specs.Prelude.{◌≡◌};
 
 use crate::samples::{HEADER, NAME_1_A, bytes_of, plain_dump, plain_part};
+use hprof_engine::{Joined, ToolFault, join_to};
 use hprof_items::{Device, WriteFault};
 use hprof_stream::Limits;
-use hprof_tool::{Joined, ToolFault, join_to};
 use std::io;
 use std::io::Write;
 use std::test::Fail;

@@ -10,10 +10,10 @@ use Rattle.hprof_heap.specs.Facts.{Has}
 use Rattle.hprof_heap.specs.Heap.{stands_in}
 use Rattle.hprof_heap.specs.HeapRows.{HeapRows, AreHeap, heap_of_rows, load_facts, tables_of}
 use Rattle.hprof_heap.specs.Order.{place_of}
-use Rattle.hprof_heap.specs.SortedRows.{IsAscending}
+use Rattle.hprof_tables.specs.SortedRows.{IsAscending}
 use Rattle.hprof_heap.specs.Tables.{joined}
 use Rattle.hprof_heap.proofs.HeapRows.{table_facts}
-use Rattle.hprof_heap.proofs.SortedRows.{AllKeys, ascending_head, ascending_tail}
+use Rattle.hprof_tables.proofs.SortedRows.{AllKeys, ascending_head, ascending_tail}
 use Rattle.hprof_heap.proofs.TableRows.{has_joined}
 
 -- ---- two loads that are one

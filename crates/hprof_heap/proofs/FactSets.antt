@@ -52,3 +52,35 @@ SameFacts-again facts others fact same there other = (
   λ has. inr ((same other).0 has),
   λ has. (same other).1 (elim has [ inl e ↦ subst (Has others) (sym e) there | inr h ↦ h ]),
 )
+
+-- ---- the facts of two lists
+
+-- a list has its own facts
+pub SameFacts-refl : (facts : List FactValue) → SameFacts facts facts
+SameFacts-refl facts fact = (λ has. has, λ has. has)
+
+-- a list that has the facts of each of two has those of both
+pub Has-both : (one other more : List FactValue) → ((fact : FactValue) → Has one fact → Has more fact)
+    → ((fact : FactValue) → Has other fact → Has more fact) → (fact : FactValue) → Has (one ++ other) fact → Has more fact
+Has-both one other more first second fact has = elim (Has-parts one other fact has) [ inl h ↦ first fact h | inr h ↦ second fact h ]
+
+-- two lists have the facts that lists with the same facts have
+pub SameFacts-append : (one other first second : List FactValue) → SameFacts one first → SameFacts other second
+    → SameFacts (one ++ other) (first ++ second)
+SameFacts-append one other first second same too fact = (
+  Has-both one other (first ++ second) (λ f has. Has-front first second f ((same f).0 has))
+      (λ f has. Has-back first second f ((too f).0 has)) fact,
+  Has-both first second (one ++ other) (λ f has. Has-front one other f ((same f).1 has))
+      (λ f has. Has-back one other f ((too f).1 has)) fact,
+)
+
+-- in whichever order the lists come
+pub SameFacts-turned : (one other : List FactValue) → SameFacts (one ++ other) (other ++ one)
+SameFacts-turned one other fact = (
+  Has-both one other (other ++ one) (Has-back other one) (Has-front other one) fact,
+  Has-both other one (one ++ other) (Has-back one other) (Has-front one other) fact,
+)
+
+-- a list twice has the facts that it has once
+pub SameFacts-twice : (facts : List FactValue) → SameFacts facts (facts ++ facts)
+SameFacts-twice facts fact = (Has-front facts facts fact, Has-both facts facts facts (λ f has. has) (λ f has. has) fact)

@@ -11,8 +11,8 @@ use Rattle.hprof_stream.specs.Run.{Steps, Run}
 use Rattle.hprof_heap.specs.declared.gatherer.Gatherer.{Gatherer}
 use Rattle.hprof_heap.specs.declared.heap.Heap.{Heap}
 use Rattle.hprof_heap.specs.declared.key.Key.{Key}
-use Rattle.hprof_heap.specs.declared.relation.Stated.{Stated}
-use Rattle.hprof_heap.specs.declared.relation.Stated.TheVariants.{New, Same, Differs}
+use Rattle.hprof_tables.specs.declared.relation.Stated.{Stated}
+use Rattle.hprof_tables.specs.declared.relation.Stated.TheVariants.{New, Same, Differs}
 use Rattle.hprof_heap.specs.Key.{HaveOneKey, key_of, key_le, lesser_key}
 use Rattle.hprof_heap.specs.Facts.{Has, SameFacts}
 use Rattle.hprof_heap.specs.Conflict.{HasConflict, IsLeastConflict}
@@ -59,7 +59,7 @@ HasOther-more : (facts others : List FactValue) (fact : FactValue) → ((one : F
 HasOther-more facts others fact within has = record { other = has.other; has_other = within has.other has.has_other; one_key = has.one_key; differ = has.differ }
 
 -- a fact at a new key
-holds_new : (given : List FactValue) (heap : HeapValue) (mark : Option Key) (fact : FactValue) (new : HeapValue) → Holds given heap.facts mark → Adds heap fact new → Holds (given ++ fact ∷ []) new.facts mark
+pub holds_new : (given : List FactValue) (heap : HeapValue) (mark : Option Key) (fact : FactValue) (new : HeapValue) → Holds given heap.facts mark → Adds heap fact new → Holds (given ++ fact ∷ []) new.facts mark
 holds_new given heap mark fact new holds added = record {
   ordered = added.is_heap.ordered;
   was_given = λ other has. elim ((added.facts other).0 has) [ inl e ↦ Has-back given (fact ∷ []) other (inl e) | inr h ↦ Has-front given (fact ∷ []) other (holds.was_given other h) ];
@@ -74,7 +74,7 @@ holds_new given heap mark fact new holds added = record {
 }
 
 -- a fact that is there
-holds_same : (given facts : List FactValue) (mark : Option Key) (fact : FactValue) → Holds given facts mark → Has facts fact → Holds (given ++ fact ∷ []) facts mark
+pub holds_same : (given facts : List FactValue) (mark : Option Key) (fact : FactValue) → Holds given facts mark → Has facts fact → Holds (given ++ fact ∷ []) facts mark
 holds_same given facts mark fact holds there = record {
   ordered = holds.ordered;
   was_given = λ other has. Has-front given (fact ∷ []) other (holds.was_given other has);
@@ -101,7 +101,7 @@ HasMark-conflict given (Some least) key has conflict = elim (lesser_is least key
 ]
 
 -- a fact that differs from the one that is there
-holds_differs : (given facts : List FactValue) (mark : Option Key) (fact : FactValue) → Holds given facts mark → HasOther facts fact → Holds (given ++ fact ∷ []) facts (marked mark (key_of fact))
+pub holds_differs : (given facts : List FactValue) (mark : Option Key) (fact : FactValue) → Holds given facts mark → HasOther facts fact → Holds (given ++ fact ∷ []) facts (marked mark (key_of fact))
 holds_differs given facts mark fact holds has_other =
     let have = has_other.one_key in
     subst (λ (key : Option Key). Holds (given ++ fact ∷ []) facts (marked mark key)) (sym have.key_of_other) (record {
@@ -333,7 +333,7 @@ some_parts [] least l e = no_least least l
 some_parts (part ∷ parts) least l e = cc
 
 -- the facts with no mark are those that were given
-holds_all : (given facts : List FactValue) → Holds given facts None → SameFacts facts given
+pub holds_all : (given facts : List FactValue) → Holds given facts None → SameFacts facts given
 holds_all given facts holds fact = (holds.was_given fact, λ has. elim (holds.each fact has) [ inl there ↦ there | inr none ↦ absurd none.0 ])
 
 -- a key of two contents is not before the mark
@@ -350,7 +350,7 @@ mark_le given facts least key holds c = elim (holds.each c.one c.has_one) [
     at k fact e f le = let same : k ≡ key = cc in subst (λ (x : Key). key_le least x ≡ true) same le
 
 -- the mark is the least conflict
-holds_least : (given facts : List FactValue) (least : Key) → Holds given facts (Some least) → IsLeastConflict given least
+pub holds_least : (given facts : List FactValue) (least : Key) → Holds given facts (Some least) → IsLeastConflict given least
 holds_least given facts least holds = record { conflict = holds.has_mark; least = λ key c. mark_le given facts least key holds c }
 
 -- a heap is sound, where there is one

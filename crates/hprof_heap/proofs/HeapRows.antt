@@ -24,11 +24,12 @@ use Rattle.hprof_heap.specs.declared.number_rows.FrameRow.{FrameRow}
 use Rattle.hprof_heap.specs.declared.number_rows.StartRow.{StartRow}
 use Rattle.hprof_heap.specs.declared.number_rows.KeyRow.{KeyRow}
 use Rattle.hprof_heap.specs.declared.key.Key.{Key}
-use Rattle.hprof_heap.specs.declared.relation.Stated.{Stated}
+use Rattle.hprof_tables.specs.declared.relation.Stated.{Stated}
 use Rattle.hprof_heap.specs.Key.{has_key}
-use Rattle.hprof_heap.specs.SortedRows.{row_at}
+use Rattle.hprof_tables.specs.SortedRows.{row_at}
 use Rattle.hprof_heap.proofs.Keys.{place_of_key, stands_at, has_key_at, same_place}
-use Rattle.hprof_heap.specs.Content.{content_of, load_fact, unload_fact, frame_fact, trace_fact, start_fact, end_fact, spelled_fact, line_with, read_fact, facts_of_rows, IsRight, AreRight, the_bytes}
+use Rattle.hprof_heap.specs.Content.{content_of, load_fact, unload_fact, frame_fact, trace_fact, start_fact, end_fact, spelled_fact, line_with, read_fact, facts_of_rows, IsRight, AreRight}
+use Rattle.hprof_tables.specs.Places.{the_bytes}
 use Rattle.hprof_heap.specs.Gathering.{StatesInto, IsNewAmong}
 use Rattle.hprof_heap.specs.declared.table.Table.{Table}
 use Rattle.hprof_heap.specs.Heap.{facts_of_table, number_of_table}
@@ -36,7 +37,7 @@ use Rattle.hprof_heap.specs.HeapRows.{HeapRows, AreHeap, tables_of, heap_of_rows
 use Rattle.hprof_heap.specs.HeapValue.{IsHeap}
 use Rattle.hprof_heap.specs.Order.{place_of}
 use Rattle.hprof_heap.specs.NumberRows.{line_numbers, load_numbers, frame_numbers, start_numbers}
-use Rattle.hprof_heap.specs.Relation.{States}
+use Rattle.hprof_tables.specs.Relation.{States}
 use Rattle.hprof_heap.specs.Spelled.{Spells}
 use Rattle.hprof_heap.specs.Tables.{joined}
 use Rattle.hprof_heap.specs.TraceRow.{trace_content}
@@ -117,7 +118,7 @@ heap_tables rows are = (
 -- ---- stating into one table
 
 -- tables with one of them as it was
-with_same : (tables : List (List FactValue)) (place : ℕ) → with_table tables place (table_at tables place) ≡ tables
+pub with_same : (tables : List (List FactValue)) (place : ℕ) → with_table tables place (table_at tables place) ≡ tables
 with_same [] place = refl
 with_same (facts ∷ tables) zero = refl
 with_same (facts ∷ tables) (suc place) = ap (λ (l : List (List FactValue)). facts ∷ l) (with_same tables place)

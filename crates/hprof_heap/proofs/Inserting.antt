@@ -9,8 +9,8 @@ use Rattle.hprof_heap.specs.Conflict.{IsConsistent}
 use Rattle.hprof_heap.specs.Order.{IsBefore, IsCanonicalOrder}
 use Rattle.hprof_heap.specs.Gathering.{Adds, IsNewAmong, StatesInto}
 use Rattle.hprof_heap.specs.HeapValue.{HeapValue, IsHeap}
-use Rattle.hprof_heap.specs.declared.relation.Stated.{Stated}
-use Rattle.hprof_heap.specs.declared.relation.Stated.TheVariants.{New, Same, Differs}
+use Rattle.hprof_tables.specs.declared.relation.Stated.{Stated}
+use Rattle.hprof_tables.specs.declared.relation.Stated.TheVariants.{New, Same, Differs}
 use Rattle.hprof_heap.proofs.Keys.{same_place, same_place-false, same_place-same, HaveOneKey-sym}
 use Rattle.hprof_heap.proofs.FactSets.{All-has, All-from_has, SameFacts-again}
 use Rattle.hprof_heap.proofs.Order.{IsBefore-trans, is_before, is_before-true, is_before-false}

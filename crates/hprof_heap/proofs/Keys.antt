@@ -260,14 +260,14 @@ key_of_its_place (keys.Thread serial) = refl
 key_of_its_place (keys.Class id) = refl
 key_of_its_place (keys.Object id) = refl
 
-is_key-true : (key : Key) (found : Option Key) → is_key key found ≡ true → found ≡ Some key
+pub is_key-true : (key : Key) (found : Option Key) → is_key key found ≡ true → found ≡ Some key
 is_key-true key None e = absurd cc
 is_key-true key (Some other) e =
     let p = and_parts _ _ e in
     ap (λ (k : Key). Some k) (sym (key_is other) ∙ ap (λ (r : ℕ). key_at r (number_of other)) (sym (eqb-true _ _ p.0))
     ∙ ap (λ (n : ℕ). key_at (rank_of key) n) (sym (eqb-true _ _ p.1)) ∙ key_is key)
 
-true-is_key : (key : Key) (found : Option Key) → found ≡ Some key → is_key key found ≡ true
+pub true-is_key : (key : Key) (found : Option Key) → found ≡ Some key → is_key key found ≡ true
 true-is_key key found e = rw e (and_from _ _ (eq-eqb (rank_of key) (rank_of key) refl) (eq-eqb (number_of key) (number_of key) refl))
 
 same_tests : (a b : Bool) → (a ≡ true → b ≡ true) → (b ≡ true → a ≡ true) → a ≡ b

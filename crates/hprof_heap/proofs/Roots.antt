@@ -14,8 +14,8 @@ use Rattle.hprof_values.specs.declared.root.Root.{Root}
 use Rattle.hprof_values.specs.declared.root.Root.TheVariants as roots
 use Rattle.hprof_values.proofs.Orders.{then-Equal}
 use Rattle.hprof_items.specs.FactValue.{FactValue, Rooted}
-use Rattle.hprof_heap.specs.declared.relation.Stated.{Stated}
-use Rattle.hprof_heap.specs.declared.relation.Stated.TheVariants.{New, Same, Differs}
+use Rattle.hprof_tables.specs.declared.relation.Stated.{Stated}
+use Rattle.hprof_tables.specs.declared.relation.Stated.TheVariants.{New, Same, Differs}
 use Rattle.hprof_heap.specs.Facts.{Has}
 use Rattle.hprof_heap.specs.HeapRows.{root_facts}
 use Rattle.hprof_heap.specs.Order.{place_of}
@@ -47,7 +47,7 @@ root_place (roots.Unknown a) (roots.Unknown x) = one a x
 root_place root other = refl
 
 -- two roots stand at one place where they compare as equal
-root_same : (root other : Root) → same_place (Rooted root) (Rooted other) ≡ is_eq (root_cmp root other)
+pub root_same : (root other : Root) → same_place (Rooted root) (Rooted other) ≡ is_eq (root_cmp root other)
 root_same root other = sym (is_eq-slice_cmp (place_of (Rooted root)) (place_of (Rooted other))) ∙ ap is_eq (sym (root_place root other))
 
 insert_step : (o : Ordering) (a b c : List Root) → is_eq o ≡ false → root_facts (match_ordering o a b c) ≡ cond (is_lt o) (root_facts a) (root_facts c)
@@ -79,7 +79,7 @@ same_root root first e = elim (same_place-true (Rooted root) (Rooted first) (roo
   | inr same ↦ same
 ]
 
-has_root : (set : List Root) (root : Root) → list_any (is_at (root_cmp root)) set ≡ true → Has (root_facts set) (Rooted root)
+pub has_root : (set : List Root) (root : Root) → list_any (is_at (root_cmp root)) set ≡ true → Has (root_facts set) (Rooted root)
 has_root [] root e = absurd cc
 has_root (first ∷ set) root e = elim (or_cases (is_at (root_cmp root) first) (list_any (is_at (root_cmp root)) set) e) [
   | inl here ↦ inl (same_root root first here)
@@ -99,7 +99,7 @@ pub roots_tried : {E : Type 0} (r : Result Stated E) (old new : List Root) (root
 roots_tried (Ok answer) old new root ok = roots_state old new root answer ok
 roots_tried (Err e) old new root ok = tt
 
-pub roots_kept : {E : Type 0} (r : Result Stated E) (old new : List Root) → OnErr r (new ≡ old) → OnErr r (root_facts new ≡ root_facts old)
+pub roots_kept : {A E : Type 0} (r : Result A E) (old new : List Root) → OnErr r (new ≡ old) → OnErr r (root_facts new ≡ root_facts old)
 roots_kept (Ok answer) old new kept = tt
 roots_kept (Err e) old new kept = ap root_facts kept
 

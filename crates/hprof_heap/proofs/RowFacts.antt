@@ -12,17 +12,17 @@ use Rattle.std.specs.Cmp.{nat_cmp_is}
 use Rattle.std.proofs.lemmas.Bool.{eqb-true, eq-eqb, lt-ltb, le-ltb, cases_order}
 use Rattle.hprof_values.specs.declared.ids.IdSize.{IdSize}
 use Rattle.hprof_items.specs.FactValue.{FactValue}
-use Rattle.hprof_heap.specs.declared.relation.Stated.{Stated}
-use Rattle.hprof_heap.specs.declared.relation.Stated.TheVariants.{New, Same, Differs}
+use Rattle.hprof_tables.specs.declared.relation.Stated.{Stated}
+use Rattle.hprof_tables.specs.declared.relation.Stated.TheVariants.{New, Same, Differs}
 use Rattle.hprof_heap.specs.Content.{content_of, facts_of_rows, IsRight, AreRight}
 use Rattle.hprof_heap.specs.Facts.{Has}
 use Rattle.hprof_heap.specs.Order.{place_of}
-use Rattle.hprof_heap.specs.Relation.{States}
-use Rattle.hprof_heap.specs.SortedRows.{row_at}
+use Rattle.hprof_tables.specs.Relation.{States}
+use Rattle.hprof_tables.specs.SortedRows.{row_at}
 use Rattle.hprof_heap.proofs.Keys.{same_place, same_place-true, HaveOneKey-sym}
 use Rattle.hprof_heap.proofs.Order.{is_before}
 use Rattle.hprof_heap.proofs.Inserting.{find-Some, inserted}
-use Rattle.hprof_heap.proofs.SortedRows.{row_at-cons, row_at-here, row_at-past}
+use Rattle.hprof_tables.proofs.SortedRows.{row_at-cons, row_at-here, row_at-past}
 use Rattle.hprof_heap.proofs.Stating.{StatesAmong}
 
 -- ---- two places in a table

@@ -4,8 +4,8 @@ use Rattle.std.specs.Prelude.{IfOk, OnErr}
 use Rattle.hprof_values.specs.declared.ids.IdSize.{IdSize}
 use Rattle.hprof_items.specs.FactValue.{FactValue}
 use Rattle.hprof_items.specs.Spelling.{Fits}
-use Rattle.hprof_heap.specs.declared.relation.Stated.{Stated}
-use Rattle.hprof_heap.specs.declared.relation.Stated.TheVariants.{New, Same, Differs}
+use Rattle.hprof_tables.specs.declared.relation.Stated.{Stated}
+use Rattle.hprof_tables.specs.declared.relation.Stated.TheVariants.{New, Same, Differs}
 use Rattle.hprof_heap.specs.HeapValue.{HeapValue, IsHeap}
 use Rattle.hprof_heap.specs.Facts.{Has}
 use Rattle.hprof_heap.specs.Gathering.{Adds, HasOther, StatesInto}

@@ -11,8 +11,8 @@ use Rattle.std.proofs.lemmas.List.Elements.{filter-append}
 use Rattle.std.proofs.lemmas.List.Folds.{find-append}
 use Rattle.std.proofs.lemmas.Slice.Eq.{bytes_eq-Decides}
 use Rattle.hprof_items.specs.FactValue.{FactValue}
-use Rattle.hprof_heap.specs.declared.relation.Stated.{Stated}
-use Rattle.hprof_heap.specs.declared.relation.Stated.TheVariants.{New, Same, Differs}
+use Rattle.hprof_tables.specs.declared.relation.Stated.{Stated}
+use Rattle.hprof_tables.specs.declared.relation.Stated.TheVariants.{New, Same, Differs}
 use Rattle.hprof_heap.specs.Heap.{stands_in}
 use Rattle.hprof_heap.specs.Order.{place_of}
 use Rattle.hprof_heap.specs.Tables.{joined}
@@ -56,7 +56,7 @@ apart m n fact other of of_other differ = false_from_ne_true (same_place fact ot
     differ (ap (λ (ns : List ℕ). slice_index ns 0) same))
 
 -- that of the lesser table stands first
-earlier : (m n : ℕ) (fact other : FactValue) → IsOf m fact → IsOf n other → m < n → is_before fact other ≡ true
+pub earlier : (m n : ℕ) (fact other : FactValue) → IsOf m fact → IsOf n other → m < n → is_before fact other ≡ true
 earlier m n fact other of of_other lt = rw (of.stands, of_other.stands, ← nat_cmp_is m n Less lt) refl
 
 pub later : (m n : ℕ) (fact other : FactValue) → IsOf m fact → IsOf n other → n < m → is_before fact other ≡ false
@@ -96,7 +96,7 @@ pub all_weaker : (P Q : FactValue → Type 0) (facts : List FactValue) → ((fac
 all_weaker P Q [] more all = tt
 all_weaker P Q (first ∷ facts) more all = (more first all.0, all_weaker P Q facts more all.1)
 
-all_append : (P : FactValue → Type 0) (facts others : List FactValue) → AllByRecursion P facts → AllByRecursion P others → AllByRecursion P (facts ++ others)
+pub all_append : (P : FactValue → Type 0) (facts others : List FactValue) → AllByRecursion P facts → AllByRecursion P others → AllByRecursion P (facts ++ others)
 all_append P [] others all too = too
 all_append P (first ∷ facts) others all too = (all.0, all_append P facts others all.1 too)
 
@@ -107,7 +107,7 @@ pub record IsPast (table : ℕ) (fact : FactValue) : Type 0 where
   pub of : IsOf number fact
 
 -- the facts of all tables from one on
-all_past : (tables : List (List FactValue)) (table number : ℕ) → table < number → AreTables number tables → AllByRecursion (IsPast table) (joined tables)
+pub all_past : (tables : List (List FactValue)) (table number : ℕ) → table < number → AreTables number tables → AllByRecursion (IsPast table) (joined tables)
 all_past [] table number lt are = tt
 all_past (facts ∷ tables) table number lt are =
     all_append (IsPast table) facts (joined tables)

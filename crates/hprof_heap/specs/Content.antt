@@ -21,10 +21,6 @@ content_of ids (Start thread object trace name group parent_group) = object ∷ 
 content_of ids (End thread) = []
 content_of ids fact = dump_bytes ids fact
 
--- what a row of bytes says is the bytes, as they are
-abbrev pub the_bytes : List ℕ → List ℕ
-the_bytes bytes = bytes
-
 -- ---- the fact of a key and a content, of each table
 
 abbrev pub load_fact : ℕ → List ℕ → FactValue

@@ -9,8 +9,8 @@ use Rattle.hprof_heap.specs.HeapRows.{HeapRows, heap_of_rows}
 use Rattle.hprof_heap.specs.HeapValue.{HeapValue}
 use Rattle.hprof_heap.specs.RootSet.{roots_of}
 use Rattle.hprof_heap.specs.Order.{place_of}
-use Rattle.hprof_heap.specs.Relation.{rows_of}
-use Rattle.hprof_heap.specs.BytesTable.{byte_rows}
+use Rattle.hprof_tables.specs.Relation.{rows_of}
+use Rattle.hprof_tables.specs.BytesTable.{byte_rows}
 
 -- the rows of its tables
 abbrev pub rows_in : Heap → HeapRows

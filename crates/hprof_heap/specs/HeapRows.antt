@@ -1,5 +1,5 @@
 -- The rows of a heap, table by table, and the facts that they state.
-use Rattle.std.specs.Prelude.{ℕ, List, [], ◌∷◌, map}
+use Rattle.std.specs.Prelude.{◌≡◌, ℕ, List, [], ◌∷◌, map}
 use Rattle.std.specs.Coded.{×_prop, Unit-prop}
 use Rattle.std.proofs.Props.{props}
 use Rattle.hprof_values.specs.declared.ids.IdSize.{IdSize}
@@ -10,9 +10,11 @@ use Rattle.hprof_heap.specs.declared.number_rows.FrameRow.{FrameRow}
 use Rattle.hprof_heap.specs.declared.number_rows.StartRow.{StartRow}
 use Rattle.hprof_heap.specs.declared.number_rows.KeyRow.{KeyRow}
 use Rattle.hprof_heap.specs.declared.trace_row.TraceRow.{TraceRow}
-use Rattle.hprof_heap.specs.Content.{load_fact, unload_fact, frame_fact, trace_fact, start_fact, end_fact, spelled_fact, facts_of_rows, IsRight, AreRight, the_bytes}
+use Rattle.hprof_heap.specs.Content.{load_fact, unload_fact, frame_fact, trace_fact, start_fact, end_fact, spelled_fact, facts_of_rows, IsRight, AreRight}
+use Rattle.hprof_tables.specs.Places.{the_bytes}
 use Rattle.hprof_heap.specs.HeapValue.{HeapValue, IsHeap, IsHeap-prop}
 use Rattle.hprof_heap.specs.NumberRows.{load_numbers, frame_numbers, start_numbers}
+use Rattle.hprof_tables.specs.Relation.{contents_of}
 use Rattle.hprof_heap.specs.Tables.{joined}
 use Rattle.hprof_heap.specs.TraceRow.{trace_content}
 
@@ -81,6 +83,24 @@ pub record AreHeap (rows : HeapRows) : Type 0 where
   pub traces : AreRight rows.ids 4 (trace_fact rows.ids) trace_content rows.traces
   pub classes : AreRight rows.ids 8 (spelled_fact rows.ids) the_bytes rows.classes
   pub objects : AreRight rows.ids 9 (spelled_fact rows.ids) the_bytes rows.objects
+
+-- ---- two heaps
+
+-- their tables of records have the same rows
+pub record HaveSameRecords (one other : HeapRows) : Type 0 where
+  pub names : one.names ≡ other.names
+  pub loads : contents_of load_numbers one.loads ≡ contents_of load_numbers other.loads
+  pub unloads : contents_of no_content one.unloads ≡ contents_of no_content other.unloads
+  pub frames : contents_of frame_numbers one.frames ≡ contents_of frame_numbers other.frames
+  pub traces : contents_of trace_content one.traces ≡ contents_of trace_content other.traces
+  pub starts : contents_of start_numbers one.starts ≡ contents_of start_numbers other.starts
+  pub ends : contents_of no_content one.ends ≡ contents_of no_content other.ends
+
+-- and those of sub-records
+pub record HaveSameSubs (one other : HeapRows) : Type 0 where
+  pub roots : one.roots ≡ other.roots
+  pub classes : one.classes ≡ other.classes
+  pub objects : one.objects ≡ other.objects
 
 -- ---- it has at most one proof
 

@@ -4,22 +4,16 @@ pub mod Facts
 pub mod Conflict
 pub mod Dump
 pub mod State
-pub mod SortedRows
-pub mod SortedTable
-pub mod Relation
 pub mod NumberRows
 pub mod Content
 pub mod Tables
 pub mod TraceRow
 pub mod Spelled
-pub mod Places
-pub mod BytesTable
 pub mod Fitting
 pub mod HeapValue
 pub mod HeapRows
 pub mod RootSet
 pub mod Heap
-pub mod Rows
 pub mod TableRows
 pub mod FactsLeft
 pub mod SubRow
@@ -28,3 +22,4 @@ pub mod ClassName
 pub mod Steady
 pub mod Gathering
 pub mod Segments
+pub mod Join

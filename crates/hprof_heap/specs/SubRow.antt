@@ -1,5 +1,7 @@
 -- Sub-records, as a heap keeps them.
-use Rattle.std.specs.Prelude.{ℕ, List, ◌++◌}
+use Rattle.std.specs.Prelude.{◌≡◌, ℕ, List, ◌++◌, length, Bool, true, false, ⊤}
+use Rattle.std.specs.Coded.{Unit-prop}
+use Rattle.std.proofs.Props.{props}
 use Rattle.std.specs.List.{AllByRecursion}
 use Rattle.hprof_values.specs.declared.ids.IdSize.{IdSize}
 use Rattle.hprof_values.specs.declared.root.Root.{Root}
@@ -7,7 +9,8 @@ use Rattle.hprof_items.specs.FactValue.{FactValue, Rooted}
 use Rattle.hprof_items.specs.Spelling.{Fits}
 use Rattle.hprof_heap.specs.declared.sub_row.SubRow.{SubRow}
 use Rattle.hprof_heap.specs.declared.sub_row.SubRow.TheVariants as rows
-use Rattle.hprof_heap.specs.Content.{spelled_fact, the_bytes}
+use Rattle.hprof_heap.specs.Content.{spelled_fact}
+use Rattle.hprof_tables.specs.Places.{the_bytes}
 use Rattle.hprof_heap.specs.Fitting.{Fits-prop}
 use Rattle.hprof_heap.specs.HeapRows.{root_facts, spelled_facts}
 use Rattle.hprof_heap.specs.TableRows.{IsSpelled, AreSpelled, AreSpelled-prop, all-prop}
@@ -41,3 +44,13 @@ AreWritable-prop ids roots classes objects =
 -- the facts of roots, classes and objects
 abbrev pub facts_of_subs : IdSize → List Root → List (ℕ × List ℕ) → List (ℕ × List ℕ) → List FactValue
 facts_of_subs ids roots classes objects = root_facts roots ++ (spelled_facts ids classes ++ spelled_facts ids objects)
+
+-- where that was found, no roots and no classes are left
+abbrev pub HasEnded : Bool → List Root → List (ℕ × List ℕ) → Type 0
+HasEnded false roots classes = ⊤
+HasEnded true roots classes = (length roots ≡ 0) × (length classes ≡ 0)
+
+-- it has at most one proof
+pub HasEnded-prop : (at_objects : Bool) (roots : List Root) (classes : List (ℕ × List ℕ)) → IsProp (HasEnded at_objects roots classes)
+HasEnded-prop false roots classes = Unit-prop
+HasEnded-prop true roots classes = hlevel props

@@ -9,7 +9,7 @@ use Rattle.hprof_items.specs.SubRecord.{dump_bytes}
 use Rattle.hprof_heap.specs.declared.sub_row.SubRow.{SubRow}
 use Rattle.hprof_heap.specs.declared.sub_rows.SubRows.{SubRows}
 use Rattle.hprof_heap.specs.Dump.{segments_of}
-use Rattle.hprof_heap.specs.BytesTable.{byte_rows_left}
+use Rattle.hprof_tables.specs.BytesTable.{byte_rows_left}
 use Rattle.hprof_heap.specs.SubRow.{sub_fact, IsWritable, facts_of_subs}
 
 -- the facts of those that are still to come

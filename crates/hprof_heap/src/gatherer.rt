@@ -9,10 +9,10 @@ ghost use Rattle.hprof_heap.specs.Steady.{IsSteady, IsSteady-prop};
 
 use crate::heap::Heap;
 use crate::key::Key;
-use crate::relation::Stated;
 use crate::standing::{Refusal, Standing};
 use hprof_items::{Fact, Header, IdSize};
 use hprof_stream::{Sink, SinkFault};
+use hprof_tables::Stated;
 use std::alloc::Global;
 
 /// Takes the headers and facts of any number of parts, and keeps their union. Where a key comes with two contents it

@@ -1,6 +1,6 @@
 //! A heap: one size of identifiers, one time, and facts that agree.
 
-ghost use Rattle.std.specs.Prelude.{◌≡◌, [], ◌∷◌, length, find, min, OnErr, IfOk, IfSome};
+ghost use Rattle.std.specs.Prelude.{◌≡◌, [], ◌∷◌, length, find, min, ◌↔◌, OnErr, IfOk, IfSome, IsTrue};
 ghost use Rattle.std.specs.Option.{option_map};
 ghost use Rattle.hprof_values.specs.Lists.{identifiers_of, identifiers_size};
 ghost use Rattle.hprof_items.specs.FactValue.{Name, Load, Unload, Frame, Trace, Start, End, Rooted, ListsHave, value_of};
@@ -8,17 +8,15 @@ ghost use Rattle.hprof_items.specs.Spelling.{Fits};
 ghost use Rattle.hprof_items.specs.SubRecord.{dump_bytes};
 ghost use Rattle.hprof_heap.specs.declared.key.Key.TheVariants as keys;
 ghost use Rattle.hprof_heap.specs.Key.{has_key};
-ghost use Rattle.hprof_heap.specs.HeapRows.{AreHeap, AreHeap-prop};
+ghost use Rattle.hprof_heap.specs.HeapRows.{AreHeap, AreHeap-prop, HaveSameRecords, HaveSameSubs};
 ghost use Rattle.hprof_heap.specs.HeapValue.{IsHeap};
 ghost use Rattle.hprof_heap.specs.Order.{IsCanonicalOrder, place_of};
-ghost use Rattle.hprof_heap.specs.Relation.{rows_of};
+ghost use Rattle.hprof_tables.specs.Relation.{rows_of};
 ghost use Rattle.hprof_heap.specs.RootSet.{roots_of};
-ghost use Rattle.hprof_heap.specs.BytesTable.{byte_rows};
+ghost use Rattle.hprof_tables.specs.BytesTable.{byte_rows};
 
-use crate::bytes_table::BytesTable;
 use crate::facts::Facts;
 use crate::number_rows::{FrameRow, KeyRow, LoadRow, StartRow};
-use crate::relation::{Relation, Stated};
 use crate::root_set::RootSet;
 use crate::spelled::spelled_fact;
 use crate::sub_rows::SubRows;
@@ -26,8 +24,12 @@ use crate::table::Table;
 use crate::table_rows::TableRows;
 use crate::trace_row::{TraceFrames, TraceRow};
 use hprof_items::Fact;
+use hprof_tables::{BytesTable, Relation, Stated};
 use hprof_values::{IdList, IdSize, Root};
 use std::alloc::{AllocError, Global};
+
+mod differing;
+mod joining;
 
 /// A size of identifiers, a time, and a set of facts in which no key has two contents.
 #[derive(Drop)]
@@ -61,7 +63,7 @@ pub struct Heap {
 }
 
 impl Heap {
-    ghost use Rattle.hprof_heap.specs.Heap.{heap_of, facts_of_table};
+    ghost use Rattle.hprof_heap.specs.Heap.{heap_of, rows_in, facts_of_table};
     ghost use Rattle.hprof_heap.specs.Gathering.{StatesInto, IsNewAmong};
     ghost use Rattle.hprof_heap.specs.TableRows.{AreReadable, facts_in_rows};
     ghost use Rattle.hprof_heap.specs.ClassName.{NamesClass};
@@ -402,6 +404,28 @@ impl Heap {
             self.classes.rows(),
             self.objects.rows(),
         )
+    }
+
+    /// Whether both have the same rows of records.
+    pub(crate) fn same_records(&self, other: &Heap) -> bool
+        ensures { IsTrue result ↔ HaveSameRecords (rows_in self.now) (rows_in other.now) }
+    {
+        self.names.same(&other.names)
+            && self.loads.same(&other.loads)
+            && self.unloads.same(&other.unloads)
+            && self.frames.same(&other.frames)
+            && self.traces.same(&other.traces)
+            && self.starts.same(&other.starts)
+            && self.ends.same(&other.ends)
+    }
+
+    /// Whether both have the same rows of sub-records.
+    pub(crate) fn same_subs(&self, other: &Heap) -> bool
+        ensures { IsTrue result ↔ HaveSameSubs (rows_in self.now) (rows_in other.now) }
+    {
+        self.roots.same(&other.roots)
+            && self.classes.same(&other.classes)
+            && self.objects.same(&other.objects)
     }
 
     /// The number of facts in a table.

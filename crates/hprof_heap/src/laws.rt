@@ -1,16 +1,18 @@
 //! Laws of the definitions. None of these functions does anything.
 
-ghost use Rattle.std.specs.Prelude.{◌≡◌, ℕ, List};
+ghost use Rattle.std.specs.Prelude.{◌≡◌, ℕ, List, Result, Ok};
 ghost use Rattle.hprof_values.specs.declared.ids.IdSize.{IdSize};
 ghost use Rattle.hprof_items.specs.FactValue.{FactValue};
 ghost use Rattle.hprof_stream.specs.Part.{IsPart};
 ghost use Rattle.hprof_heap.specs.declared.gatherer.Gatherer.{Gatherer};
+ghost use Rattle.hprof_heap.specs.declared.join_refusal.JoinRefusal.{JoinRefusal};
 ghost use Rattle.hprof_heap.specs.declared.key.Key.{Key};
 ghost use Rattle.hprof_heap.specs.Conflict.{IsConsistent, IsLeastConflict};
 ghost use Rattle.hprof_heap.specs.Dump.{canonical_dump};
 ghost use Rattle.hprof_heap.specs.Facts.{SameFacts};
 ghost use Rattle.hprof_heap.specs.Gathering.{Given, Gathers, Tells, answer_of, gathered, nothing_gathered};
 ghost use Rattle.hprof_heap.specs.HeapValue.{HeapValue, IsHeap};
+ghost use Rattle.hprof_heap.specs.Join.{IsBetween, IsJoin, IsUnion};
 ghost use Rattle.hprof_heap.specs.Order.{IsCanonicalOrder};
 ghost use Rattle.hprof_heap.specs.Segments.{IsPacked, packed};
 
@@ -57,4 +59,30 @@ pub fn sub_records_are_packed_in_one_way()
 pub fn dump_reads_back()
     ensures { (ids : IdSize) (millis : ℕ) (rows : List FactValue) → IsHeap (record { ids = ids; millis = millis; facts = rows })
         → IsPart (canonical_dump ids millis rows) ids millis rows }
+{}
+
+/// Two heaps come to one thing, the heap of both or a refusal, and in either order to the same. A heap that is joined with an
+/// equal one is unchanged.
+pub fn two_heaps_have_one_join()
+    ensures exists { (one other : HeapValue) → IsHeap one → IsHeap other → (outcome : Result HeapValue JoinRefusal) × IsJoin one other outcome }
+    ensures both_orders { (one other : HeapValue) (outcome turned : Result HeapValue JoinRefusal) → IsHeap one → IsHeap other
+        → IsJoin one other outcome → IsJoin other one turned → outcome ≡ turned }
+    ensures unchanged { (heap : HeapValue) (outcome : Result HeapValue JoinRefusal) → IsHeap heap → IsJoin heap heap outcome → outcome ≡ Ok heap }
+{}
+
+/// Three heaps that can be joined in one grouping can be joined in the other, and come to the same heap.
+pub fn groups_of_heaps_do_not_matter()
+    ensures left { (one other third both all : HeapValue) → IsHeap one → IsHeap other → IsHeap third
+        → IsUnion one other both → IsUnion both third all
+        → (rest : HeapValue) × IsUnion other third rest × IsUnion one rest all }
+    ensures right { (one other third rest all : HeapValue) → IsHeap one → IsHeap other → IsHeap third
+        → IsUnion other third rest → IsUnion one rest all
+        → (both : HeapValue) × IsUnion one other both × IsUnion both third all }
+    ensures once { (one other all more : HeapValue) → IsUnion one other all → IsUnion one other more → all ≡ more }
+{}
+
+/// A join for which memory was wanting can be made again, and then comes to what it would have come to.
+pub fn a_join_can_be_made_again()
+    ensures { (one other between : HeapValue) (outcome : Result HeapValue JoinRefusal) → IsHeap other
+        → IsBetween one other between → IsJoin between other outcome → IsJoin one other outcome }
 {}

@@ -1,21 +1,18 @@
-//! The heap that parts state together: tables of rows, the gatherer that unites the facts of any number of parts,
+//! The heap that parts state together, the rows of its tables, the gatherer that unites the facts of any number of parts,
 //! and the canonical dump of a heap.
 #![tactic(auto)]
 
-mod bytes_table;
 mod canonical;
-mod content;
+mod comparing;
 mod facts;
 mod gatherer;
 mod heap;
+mod join_refusal;
 mod key;
 pub mod laws;
 mod number_rows;
-mod relation;
 mod root_set;
-mod rows;
 mod segments;
-mod sorted_table;
 mod spelled;
 mod standing;
 mod sub_row;
@@ -24,16 +21,14 @@ mod table;
 mod table_rows;
 mod trace_row;
 
-pub use bytes_table::{BytesRows, BytesTable};
 pub use canonical::write_canonical;
-pub use content::{Content, Statement};
+pub use comparing::same;
 pub use facts::Facts;
 pub use gatherer::Gatherer;
 pub use heap::Heap;
+pub use join_refusal::JoinRefusal;
 pub use key::Key;
 pub use number_rows::{FrameRow, KeyRow, LoadRow, StartRow};
-pub use relation::{Relation, Stated};
-pub use rows::Rows;
 pub use standing::{Refusal, Standing};
 pub use table::Table;
 pub use trace_row::TraceRow;

@@ -3,8 +3,9 @@
 ghost use Rattle.hprof_heap.specs.NumberRows.{load_numbers, frame_numbers, start_numbers};
 ghost use Rattle.std.specs.Prelude.{[]};
 
-use crate::content::Content;
 use hprof_items::Fact;
+use hprof_tables::Content;
+use std::alloc::{AllocError, Global};
 
 /// A class that was loaded, under its serial.
 #[derive(Clone, Copy, Debug, PartialEq, Eq)]
@@ -41,6 +42,10 @@ impl Content for LoadRow {
 
     fn agrees(&self, other: &Self) -> bool {
         self == other
+    }
+
+    fn copied(&self, _alloc: Global) -> Result<Self, AllocError> {
+        Ok(*self)
     }
 }
 
@@ -86,6 +91,10 @@ impl Content for FrameRow {
     fn agrees(&self, other: &Self) -> bool {
         self == other
     }
+
+    fn copied(&self, _alloc: Global) -> Result<Self, AllocError> {
+        Ok(*self)
+    }
 }
 
 /// A thread that was started, under its serial.
@@ -130,6 +139,10 @@ impl Content for StartRow {
     fn agrees(&self, other: &Self) -> bool {
         self == other
     }
+
+    fn copied(&self, _alloc: Global) -> Result<Self, AllocError> {
+        Ok(*self)
+    }
 }
 
 /// A row whose key says all: an unloaded class, a thread that ended.
@@ -141,5 +154,9 @@ impl Content for KeyRow {
 
     fn agrees(&self, _other: &Self) -> bool {
         true
+    }
+
+    fn copied(&self, _alloc: Global) -> Result<Self, AllocError> {
+        Ok(KeyRow)
     }
 }

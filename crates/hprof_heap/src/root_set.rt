@@ -1,11 +1,11 @@
 //! The set of roots.
 
-ghost use Rattle.std.specs.Prelude.{◌≡◌, [], length, false, IfOk, OnErr};
+ghost use Rattle.std.specs.Prelude.{◌≡◌, ◌↔◌, [], length, false, IfOk, OnErr, IsTrue};
 ghost use Rattle.std.specs.List.{list_any};
 ghost use Rattle.std.specs.BTreeMap.{is_at};
 ghost use Rattle.hprof_heap.specs.RootSet.{root_cmp};
 
-use crate::relation::Stated;
+use hprof_tables::Stated;
 use hprof_values::Root;
 use std::alloc::{AllocError, Global};
 use std::collections::{BTreeSet, btree_set};
@@ -14,10 +14,11 @@ use std::collections::{BTreeSet, btree_set};
 #[derive(Drop)]
 pub(crate) struct RootSet {
     roots: BTreeSet<Root>,
+    alloc: Global,
 }
 
 impl RootSet {
-    ghost use Rattle.hprof_heap.specs.RootSet.{roots_of, StatesRoot};
+    ghost use Rattle.hprof_heap.specs.RootSet.{roots_of, IsUnionOfRoots, StatesRoot};
 
     /// A set with no roots. It takes no memory yet.
     pub(crate) fn new(alloc: Global) -> Self
@@ -25,6 +26,7 @@ impl RootSet {
     {
         RootSet {
             roots: BTreeSet::new(alloc),
+            alloc,
         }
     }
 
@@ -46,6 +48,23 @@ impl RootSet {
         ensures { result ≡ length (roots_of self.now) }
     {
         self.roots.len()
+    }
+
+    /// Whether both have the same roots.
+    pub(crate) fn same(&self, other: &Self) -> bool
+        ensures { IsTrue result ↔ (roots_of self.now ≡ roots_of other.now) }
+    {
+        self.roots == other.roots
+    }
+
+    /// Takes the roots of another. Both are gone over side by side; where memory is refused, nothing changes.
+    pub(crate) fn join(&mut self, other: &Self) -> Result<(), AllocError>
+        ensures ok { IfOk result (λ _. IsUnionOfRoots (roots_of self.old) (roots_of other.now) (roots_of self.new)) }
+        ensures err { OnErr result (roots_of self.new ≡ roots_of self.old) }
+    {
+        let all = self.roots.union(&other.roots).copied().collect(self.alloc)?;
+        self.roots = all;
+        Ok(())
     }
 
     /// The roots, in order.

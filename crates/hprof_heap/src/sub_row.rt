@@ -6,7 +6,7 @@ ghost use Rattle.hprof_items.specs.Device.{Writes, LeavesHealth};
 ghost use Rattle.hprof_items.specs.Spelling.{longest_body};
 ghost use Rattle.hprof_items.specs.SubRecord.{dump_bytes};
 
-use hprof_items::{Fact, Target, WriteFault, spelled_len, write_fact};
+use hprof_items::{Fact, Target, WriteFault, push_all, spelled_len, write_fact};
 use hprof_values::{IdSize, Root};
 
 /// A root, or a class or an object with its bytes.
@@ -46,18 +46,4 @@ impl SubRow<'_> {
             SubRow::Spelled(bytes) => push_all(bytes, target),
         }
     }
-}
-
-/// Pushes all of the bytes.
-fn push_all<W: Target>(bytes: &[u8], target: &mut W) -> Result<(), WriteFault>
-    requires { W.health target.old ≡ Well }
-    ensures bytes { Writes (W.written target.old) (W.written target.new) result bytes.now }
-    ensures health { LeavesHealth result (W.health target.new) }
-{
-    let mut rest = bytes;
-    while !rest.is_empty() {
-        let count = target.push(rest)?;
-        (_, rest) = rest.split_at(count);
-    }
-    Ok(())
 }

@@ -1,10 +1,10 @@
 //! The sub-records of a heap, one after the other.
 
-ghost use Rattle.hprof_heap.specs.BytesTable.{byte_rows_left};
-ghost use Rattle.hprof_heap.specs.SubRow.{AreWritable, AreWritable-prop};
+ghost use Rattle.hprof_tables.specs.BytesTable.{byte_rows_left};
+ghost use Rattle.hprof_heap.specs.SubRow.{AreWritable, AreWritable-prop, HasEnded, HasEnded-prop};
 
-use crate::bytes_table::BytesRows;
 use crate::sub_row::SubRow;
+use hprof_tables::BytesRows;
 use hprof_values::{IdSize, Root};
 use std::collections::btree_set;
 
@@ -15,6 +15,9 @@ pub(crate) struct SubRows<'a> {
     roots: btree_set::Iter<'a, Root>,
     classes: BytesRows<'a>,
     objects: BytesRows<'a>,
+    // Whether roots and classes were found to be at their ends, so that they are not asked again for each object.
+    at_objects: bool,
+    ghost ended: { HasEnded at_objects roots (byte_rows_left classes) } by { HasEnded-prop at_objects roots (byte_rows_left classes) },
     // Each of them can be written.
     ghost sound: { AreWritable ids roots (byte_rows_left classes) (byte_rows_left objects) } by { AreWritable-prop ids roots (byte_rows_left classes) (byte_rows_left objects) },
 }
@@ -40,6 +43,7 @@ impl<'a> SubRows<'a> {
             roots,
             classes,
             objects,
+            at_objects: false,
         }
     }
 
@@ -54,11 +58,14 @@ impl<'a> SubRows<'a> {
     pub(crate) fn next(&mut self) -> Option<SubRow<'a>>
         ensures { YieldsSub self.old result self.new }
     {
-        if let Some(root) = self.roots.next() {
-            return Some(SubRow::Root(*root));
-        }
-        if let Some((_id, bytes)) = self.classes.next() {
-            return Some(SubRow::Spelled(bytes));
+        if !self.at_objects {
+            if let Some(root) = self.roots.next() {
+                return Some(SubRow::Root(*root));
+            }
+            if let Some((_id, bytes)) = self.classes.next() {
+                return Some(SubRow::Spelled(bytes));
+            }
+            self.at_objects = true;
         }
         let (_id, bytes) = self.objects.next()?;
         Some(SubRow::Spelled(bytes))

@@ -5,16 +5,15 @@ ghost use Rattle.std.specs.Iterator.{YieldsFirstBy};
 ghost use Rattle.hprof_values.specs.declared.ids.IdSize.{IdSize};
 ghost use Rattle.hprof_items.specs.FactValue.{ListsHave, value_of};
 ghost use Rattle.hprof_heap.specs.HeapRows.{name_facts, load_facts, unload_facts, frame_facts, trace_facts, start_facts, end_facts, root_facts, spelled_facts};
-ghost use Rattle.hprof_heap.specs.Rows.{rows_left};
-ghost use Rattle.hprof_heap.specs.BytesTable.{byte_rows_left};
+ghost use Rattle.hprof_tables.specs.Rows.{rows_left};
+ghost use Rattle.hprof_tables.specs.BytesTable.{byte_rows_left};
 ghost use Rattle.hprof_heap.specs.TableRows.{AreSerials, AreWhole, AreSpelled, AreReadable, facts_in_rows};
 
-use crate::bytes_table::BytesRows;
 use crate::number_rows::{FrameRow, KeyRow, LoadRow, StartRow};
-use crate::rows::Rows;
 use crate::spelled::spelled_fact;
 use crate::trace_row::TraceRow;
 use hprof_items::Fact;
+use hprof_tables::{BytesRows, Rows};
 use hprof_values::{IdSize, Root};
 use std::collections::btree_set;
 

@@ -1,9 +1,10 @@
 //! The rows of stack traces.
 
+ghost use Rattle.std.specs.Prelude.{⊤};
 ghost use Rattle.hprof_heap.specs.TraceRow.{trace_content, frames_content};
 
-use crate::content::{Content, Statement};
 use hprof_items::Fact;
+use hprof_tables::{Content, Statement};
 use hprof_values::{IdList, IdSize};
 use std::alloc::{AllocError, Global};
 
@@ -49,10 +50,21 @@ impl Content for TraceRow {
     fn agrees(&self, other: &Self) -> bool {
         self.thread == other.thread && self.frames.as_slice() == other.frames.as_slice()
     }
+
+    fn copied(&self, alloc: Global) -> Result<Self, AllocError> {
+        let frames = Vec::from_slice(alloc, &self.frames)?;
+        Ok(TraceRow {
+            thread: self.thread,
+            frames,
+        })
+    }
 }
 
 impl Statement<TraceRow> for TraceFrames<'_> {
     ghost content = { frames_content };
+
+    // Its frames take memory of their own.
+    ghost refuses = { λ _. ⊤ };
 
     fn matches(&self, row: &TraceRow) -> bool {
         row.thread == self.thread && row.frames.as_slice() == self.frames.bytes()

@@ -1,8 +1,9 @@
 //! Tests of the facts of each table, and of the names of classes.
 
 use crate::samples::{array, begun, check_rows, heap_of, state_all, state_fact};
-use hprof_heap::{Stated, Table};
+use hprof_heap::Table;
 use hprof_items::{Fact, IdSize};
+use hprof_tables::Stated;
 use hprof_values::{Basic, ConstantList, FieldList, IdList, Root, StaticList};
 use std::test::*;
 

@@ -2,9 +2,13 @@
 #![tactic(auto)]
 
 #[cfg(test)]
+mod comparing;
+#[cfg(test)]
 mod dumps;
 #[cfg(test)]
 mod gathering;
+#[cfg(test)]
+mod joining;
 #[cfg(test)]
 mod lent_facts;
 #[cfg(test)]

@@ -5,9 +5,10 @@ ghost use Rattle.hprof_items.specs.FactValue.{value_of};
 ghost use Rattle.hprof_items.specs.SubRecord.{dump_bytes};
 ghost use Rattle.hprof_heap.specs.Gathering.{gathered};
 
-use hprof_heap::{Gatherer, Heap, Stated, Table};
+use hprof_heap::{Gatherer, Heap, LoadRow, Table};
 use hprof_items::{Device, Fact, Header, IdSize, Step, Version, fits, read_sub, write_fact};
 use hprof_stream::{Sink, SinkFault};
+use hprof_tables::Stated;
 use hprof_values::Basic;
 use std::alloc::Global;
 use std::process::Abort;
@@ -174,5 +175,14 @@ pub(crate) fn array(id: u64, elem: Basic, bytes: &[u8]) -> Fact<'_> {
         trace: 1,
         elem,
         bytes,
+    }
+}
+
+// The load of the class 1 by that name.
+pub(crate) fn load_of(name: u64) -> LoadRow {
+    LoadRow {
+        class: 1,
+        trace: 2,
+        name,
     }
 }

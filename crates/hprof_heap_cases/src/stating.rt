@@ -1,8 +1,9 @@
 //! What facts of all forms come to, one after the other.
 
 use crate::samples::{begun, state_record, state_sub};
-use hprof_heap::{Key, Refusal, Standing, Stated, Table};
+use hprof_heap::{Key, Refusal, Standing, Table};
 use hprof_items::{Fact, IdSize};
+use hprof_tables::Stated;
 use hprof_values::IdList;
 use std::test::*;
 

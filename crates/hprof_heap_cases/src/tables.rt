@@ -4,12 +4,10 @@ ghost use Rattle.std.specs.Prelude.{◌≡◌, Some, IfOk};
 ghost use Rattle.hprof_heap.specs.NumberRows.{load_numbers};
 ghost use Rattle.hprof_heap.specs.Gathering.{gathered};
 
-use crate::samples::{begun, state_record};
-use hprof_heap::{
-    BytesTable, Content, FrameRow, Gatherer, Key, KeyRow, LoadRow, Refusal, Relation, StartRow,
-    Stated, Statement, Table,
-};
+use crate::samples::{begun, load_of, state_record};
+use hprof_heap::{FrameRow, Gatherer, Key, KeyRow, LoadRow, Refusal, StartRow, Table};
 use hprof_items::{Fact, IdSize};
+use hprof_tables::{BytesTable, Content, Relation, Stated, Statement};
 use std::alloc::{AllocError, Global};
 use std::process::Abort;
 use std::test::*;
@@ -21,6 +19,8 @@ struct Prepared(LoadRow);
 impl Statement<LoadRow> for Prepared {
     ghost content = { λ load. load_numbers load.0 };
 
+    ghost refuses = { λ _. ⊥ };
+
     fn matches(&self, row: &LoadRow) -> bool {
         row.agrees(&self.0)
     }
@@ -28,15 +28,6 @@ impl Statement<LoadRow> for Prepared {
     fn into_row(self, _alloc: Global) -> Result<LoadRow, AllocError> {
         let Prepared(row) = self;
         Ok(row)
-    }
-}
-
-// The load of the class 1 by that name.
-fn load_of(name: u64) -> LoadRow {
-    LoadRow {
-        class: 1,
-        trace: 2,
-        name,
     }
 }
 

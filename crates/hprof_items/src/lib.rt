@@ -51,4 +51,4 @@ pub use step::Step;
 pub use sub_reading::{read_sub, read_sub_into};
 pub use target::Target;
 pub use walk::{Walk, go_on};
-pub use writing::{write_head, write_header};
+pub use writing::{push_all, write_head, write_header};

@@ -20,8 +20,9 @@ use crate::target::Target;
 use byteorder::{BigEndian, ByteOrder};
 use hprof_values::IdSize;
 
-/// Pushes all of the bytes.
-pub(crate) fn push_all<W: Target>(bytes: &[u8], target: &mut W) -> Result<(), WriteFault>
+/// Pushes all of the bytes: what one push did not take is pushed again. At a fault some of them were written, from the
+/// front.
+pub fn push_all<W: Target>(bytes: &[u8], target: &mut W) -> Result<(), WriteFault>
     requires { W.health target.old ≡ Well }
     ensures bytes { Writes (W.written target.old) (W.written target.new) result bytes.now }
     ensures health { LeavesHealth result (W.health target.new) }

@@ -1,7 +1,1 @@
-pub mod Dumps
-pub mod Gathered
-pub mod PartFaults
-pub mod Reading
-pub mod Stated
-pub mod Answers
 pub mod Ends

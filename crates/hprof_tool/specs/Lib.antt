@@ -1,3 +1,2 @@
-pub mod Joining
 pub mod Program
 pub mod Status

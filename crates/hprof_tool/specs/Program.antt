@@ -12,14 +12,14 @@ use Rattle.hprof_stream.specs.declared.part_fault.PartFault.{PartFault}
 use Rattle.hprof_stream.specs.declared.part_fault.PartFault.TheVariants as faults
 use Rattle.hprof_stream.specs.declared.sink.SinkFault.TheVariants as sinks
 use Rattle.hprof_heap.specs.State.{HaveTwoSizes}
-use Rattle.hprof_tool.specs.declared.joined.Joined.{Joined}
-use Rattle.hprof_tool.specs.declared.tool_fault.ToolFault.{ToolFault}
-use Rattle.hprof_tool.specs.declared.tool_fault.ToolFault.TheVariants as tool
+use Rattle.hprof_engine.specs.declared.joined.Joined.{Joined}
+use Rattle.hprof_engine.specs.declared.tool_fault.ToolFault.{ToolFault}
+use Rattle.hprof_engine.specs.declared.tool_fault.ToolFault.TheVariants as tool
 use Rattle.hprof_tool.specs.declared.program.refused.Refused.{Refused}
 use Rattle.hprof_tool.specs.declared.program.refused.Refused.TheVariants as refusals
 use Rattle.hprof_tool.specs.declared.status.Status.{Status}
 use Rattle.hprof_tool.specs.declared.status.Status.TheVariants as statuses
-use Rattle.hprof_tool.specs.Joining.{Tell, Agree, Joins, Disagree, IsAccepted, IsOfPart, IsBeforeWriting}
+use Rattle.hprof_engine.specs.Joining.{Tell, Agree, Joins, Disagree, IsAccepted, IsOfPart, IsBeforeWriting}
 
 -- the parts agree, and the canonical dump of what they state was written
 abbrev pub IsWritten : List (List ℕ) → Option (List ℕ) → Option (List ℕ) → Type 0

@@ -7,13 +7,11 @@ ghost use Rattle.hprof_items.specs.declared.health.Health.TheVariants.{Well};
 ghost use Rattle.hprof_items.specs.declared.health.WriteFault.{WriteFault};
 ghost use Rattle.hprof_items.specs.Device.{inner_of, health_of};
 ghost use Rattle.hprof_stream.specs.declared.part_fault.PartFault.{PartFault};
-ghost use Rattle.hprof_tool.specs.Joining.{joined_of, Tell, StopsWriting, RefusesPart, AreReadOut};
+ghost use Rattle.hprof_engine.specs.Joining.{joined_of, Tell, StopsWriting, RefusesPart, AreReadOut};
 ghost use Rattle.hprof_tool.specs.Program.{usual_limits, IsWritten, IsRefusal, IsJoinOfStream, IsJoinOfFiles, IsFilesRefusal, IsOfEngine, IsOfJoining, IsOfOpening, IsUnwritten};
 
-use crate::engine::join::join_kept;
-use crate::joined::Kept;
 use crate::program::refused::{Refused, WRITE_FAILED};
-use crate::tool_fault::ToolFault;
+use hprof_engine::{Kept, ToolFault, join_kept};
 use hprof_items::{Device, Source, WriteFault};
 use hprof_stream::Limits;
 use std::alloc::Global;

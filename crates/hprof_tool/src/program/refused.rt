@@ -2,7 +2,7 @@
 
 ghost use Rattle.std.specs.Prelude.{◌≡◌};
 
-use crate::tool_fault::ToolFault;
+use hprof_engine::ToolFault;
 use hprof_items::WriteFault;
 use std::alloc::{AllocError, AllocFailed, Global};
 

@@ -1,7 +1,7 @@
 use Rattle.std.proofs.Common.{◌≡◌, refl, sym, ap, subst, inl, inr}
 use Rattle.hprof_items.specs.FactValue.{value_of}
-use Rattle.hprof_heap.specs.declared.relation.Stated.{Stated}
-use Rattle.hprof_heap.specs.declared.relation.Stated.TheVariants.{New, Same, Differs}
+use Rattle.hprof_tables.specs.declared.relation.Stated.{Stated}
+use Rattle.hprof_tables.specs.declared.relation.Stated.TheVariants.{New, Same, Differs}
 use Rattle.hprof_heap.specs.Heap.{heap_of}
 use Rattle.hprof_heap.specs.Gathering.{gathered, lent_heap, Takes}
 use Rattle.hprof_heap.proofs.Steady.{states_ids, steady_after, took}

@@ -1,8 +1,8 @@
 use Rattle.std.proofs.Common.{ℕ, Some, None}
 use Rattle.hprof_heap.specs.declared.number_rows.LoadRow.{LoadRow}
 use Rattle.hprof_heap.specs.Heap.{rows_in}
-use Rattle.hprof_heap.specs.Relation.{rows_of}
-use Rattle.hprof_heap.specs.Rows.{rows_left}
+use Rattle.hprof_tables.specs.Relation.{rows_of}
+use Rattle.hprof_tables.specs.Rows.{rows_left}
 use Rattle.hprof_heap.proofs.ClassName.{passed_nothing, passed_one, passed_named, passed_all, named_among}
 use Rattle.hprof_heap.proofs.heap.Heap.class_name.Goals as goal
 

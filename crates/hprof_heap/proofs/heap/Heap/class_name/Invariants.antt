@@ -1,5 +1,5 @@
-use Rattle.hprof_heap.specs.Relation.{rows_of}
-use Rattle.hprof_heap.specs.Rows.{rows_left}
+use Rattle.hprof_tables.specs.Relation.{rows_of}
+use Rattle.hprof_tables.specs.Rows.{rows_left}
 use Rattle.hprof_heap.proofs.ClassName.{Passed}
 use Rattle.hprof_heap.proofs.heap.Heap.class_name.Given as goal
 

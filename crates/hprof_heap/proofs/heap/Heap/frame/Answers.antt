@@ -6,7 +6,7 @@ use Rattle.std.specs.Prelude.{ℤ, pos}
 use Rattle.hprof_heap.specs.Content.{frame_fact}
 use Rattle.hprof_heap.specs.NumberRows.{frame_numbers}
 use Rattle.hprof_heap.specs.Heap.{rows_in}
-use Rattle.hprof_heap.specs.Relation.{rows_of}
+use Rattle.hprof_tables.specs.Relation.{rows_of}
 use Rattle.hprof_heap.proofs.HeapRows.{look_up_row, frames_right, line_again}
 use Rattle.hprof_heap.proofs.heap.Heap.frame.Goals as goal
 

@@ -5,7 +5,7 @@ use Rattle.hprof_heap.specs.declared.key.Key.TheVariants as keys
 use Rattle.hprof_heap.specs.Content.{load_fact}
 use Rattle.hprof_heap.specs.NumberRows.{load_numbers}
 use Rattle.hprof_heap.specs.Heap.{rows_in}
-use Rattle.hprof_heap.specs.Relation.{rows_of}
+use Rattle.hprof_tables.specs.Relation.{rows_of}
 use Rattle.hprof_heap.proofs.HeapRows.{look_up_row, loads_right}
 use Rattle.hprof_heap.proofs.heap.Heap.load.Goals as goal
 

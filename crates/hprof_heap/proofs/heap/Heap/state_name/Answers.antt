@@ -1,9 +1,9 @@
 use Rattle.std.proofs.Common.{[], ◌∷◌, refl, arith}
 use Rattle.hprof_items.specs.FactValue.{Name}
-use Rattle.hprof_heap.specs.Content.{the_bytes}
+use Rattle.hprof_tables.specs.Places.{the_bytes}
 use Rattle.hprof_heap.specs.Heap.{rows_in}
 use Rattle.hprof_heap.specs.HeapRows.{name_facts}
-use Rattle.hprof_heap.specs.BytesTable.{byte_rows}
+use Rattle.hprof_tables.specs.BytesTable.{byte_rows}
 use Rattle.hprof_heap.proofs.HeapRows.{names_right, into_heap, into_heap-sound, unseen_row}
 use Rattle.hprof_heap.proofs.RowFacts.{rows_tried, rows_kept}
 use Rattle.hprof_heap.proofs.heap.Heap.state_name.Goals as goal

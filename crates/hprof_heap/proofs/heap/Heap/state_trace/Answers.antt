@@ -5,11 +5,11 @@ use Rattle.hprof_values.specs.Fields.{field_bytes}
 use Rattle.hprof_values.specs.Lists.{id_widths, identifiers_of}
 use Rattle.hprof_items.specs.FactValue.{Trace}
 use Rattle.hprof_heap.specs.declared.trace_row.TraceRow.{TraceRow}
-use Rattle.hprof_heap.specs.declared.relation.Stated.{Stated}
+use Rattle.hprof_tables.specs.declared.relation.Stated.{Stated}
 use Rattle.hprof_heap.specs.Content.{content_of, trace_fact}
 use Rattle.hprof_heap.specs.Heap.{rows_in}
 use Rattle.hprof_heap.specs.HeapRows.{trace_facts}
-use Rattle.hprof_heap.specs.Relation.{rows_of, States}
+use Rattle.hprof_tables.specs.Relation.{rows_of, States}
 use Rattle.hprof_heap.specs.TraceRow.{trace_content}
 use Rattle.hprof_heap.proofs.HeapRows.{trace_again, into_heap, into_heap-sound, unseen_row}
 use Rattle.hprof_heap.proofs.RowFacts.{rows_tried, rows_kept, tried_right}

@@ -5,7 +5,7 @@ use Rattle.hprof_heap.specs.declared.key.Key.TheVariants as keys
 use Rattle.hprof_heap.specs.Content.{trace_fact}
 use Rattle.hprof_heap.specs.Heap.{rows_in}
 use Rattle.hprof_heap.specs.Key.{has_key}
-use Rattle.hprof_heap.specs.Relation.{rows_of}
+use Rattle.hprof_tables.specs.Relation.{rows_of}
 use Rattle.hprof_heap.specs.TraceRow.{trace_content, frames_bytes}
 use Rattle.hprof_heap.proofs.HeapRows.{look_up_row, found_fits, row_whole}
 use Rattle.hprof_heap.proofs.RowFacts.{right_found}

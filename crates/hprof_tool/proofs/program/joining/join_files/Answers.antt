@@ -4,9 +4,9 @@ use Rattle.hprof_items.specs.declared.device.Device.{Device}
 use Rattle.hprof_items.specs.Device.{inner_of}
 use Rattle.hprof_tool.specs.declared.program.refused.Refused.{Refused}
 use Rattle.hprof_tool.specs.declared.program.refused.Refused.TheVariants as refusals
-use Rattle.hprof_tool.specs.declared.tool_fault.ToolFault.{ToolFault}
-use Rattle.hprof_tool.specs.declared.tool_fault.ToolFault.TheVariants as tool
-use Rattle.hprof_tool.specs.Joining.{Tell}
+use Rattle.hprof_engine.specs.declared.tool_fault.ToolFault.{ToolFault}
+use Rattle.hprof_engine.specs.declared.tool_fault.ToolFault.TheVariants as tool
+use Rattle.hprof_engine.specs.Joining.{Tell}
 use Rattle.hprof_tool.specs.Program.{OfParts, IsRefusal, IsFilesRefusal, IsOfJoining, IsOfOpening}
 use Rattle.hprof_tool.proofs.program.joining.join_files.Goals as goal
 

@@ -16,12 +16,12 @@ use Rattle.hprof_heap.specs.declared.key.Key.{Key}
 use Rattle.hprof_heap.specs.Dump.{canonical_dump}
 use Rattle.hprof_heap.specs.Gathering.{Given}
 use Rattle.hprof_heap.specs.State.{HaveTwoSizes}
-use Rattle.hprof_tool.specs.declared.joined.Joined.{Joined}
-use Rattle.hprof_tool.specs.declared.tool_fault.ToolFault.{ToolFault}
-use Rattle.hprof_tool.specs.declared.tool_fault.ToolFault.TheVariants as tool
+use Rattle.hprof_engine.specs.declared.joined.Joined.{Joined}
+use Rattle.hprof_engine.specs.declared.tool_fault.ToolFault.{ToolFault}
+use Rattle.hprof_engine.specs.declared.tool_fault.ToolFault.TheVariants as tool
 use Rattle.hprof_tool.specs.declared.program.refused.Refused.{Refused}
 use Rattle.hprof_tool.specs.declared.program.refused.Refused.TheVariants as refusals
-use Rattle.hprof_tool.specs.Joining.{joined_of, read_count, Tell, Joins, StopsWriting, Disagree, IsAccepted, IsOfPart, IsPartFault, RefusesPart, AreReadOut}
+use Rattle.hprof_engine.specs.Joining.{joined_of, read_count, Tell, Joins, StopsWriting, Disagree, IsAccepted, IsOfPart, IsPartFault, RefusesPart, AreReadOut}
 use Rattle.hprof_tool.specs.Program.{usual_limits, IsWritten, IsFirstAnswer, IsPartRefusal, IsRefusal, IsOfEngine}
 use Rattle.hprof_tool.proofs.program.joining.join_into.Goals as goal
 

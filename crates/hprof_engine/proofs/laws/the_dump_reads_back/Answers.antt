@@ -1,0 +1,5 @@
+use Rattle.hprof_heap.proofs.Dump.{dump_is_part}
+use Rattle.hprof_engine.proofs.laws.the_dump_reads_back.Goals as goal
+
+pub returns : goal.returns
+returns c = dump_is_part

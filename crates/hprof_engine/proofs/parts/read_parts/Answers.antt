@@ -1,0 +1,70 @@
+use Rattle.std.proofs.lemmas.List.{length-set}
+use Rattle.std.proofs.Common.{◌≡◌, ◌≢◌, ◌<◌, length, set, get_or, Some, ap, ◌∙◌, arith, get_or-set_other}
+use Rattle.hprof_items.specs.declared.header.Header.{Header}
+use Rattle.hprof_heap.specs.Gathering.{gathered}
+use Rattle.hprof_engine.proofs.Gathered.{Run-shown, Run-sound}
+use Rattle.hprof_engine.proofs.PartFaults.{fault_of_came}
+use Rattle.hprof_engine.proofs.Answers.{from_nothing}
+use Rattle.hprof_engine.proofs.Reading.{element_at, element_set, same_at, given_if_told, GathersFirst-more, AreReadOut-kept, AreReadOut-more}
+use Rattle.hprof_engine.proofs.parts.read_parts.Goals as goal
+
+pub returns-in-Err : goal.returns-in-Err
+returns-in-Err g c =
+    let index = c.loop-index.index in
+    let found = c.index-readers-index.result in
+    let was = get_or c.loop-index.readers index found in
+    let within : index < length c.args.readers.now = omega arith in
+    let still : index < length c.loop-index.readers = omega arith in
+    let same_length : length c.loop-index.readers ≡ length c.args.readers.now = omega arith in
+    let read = c.in-Err.ensures.read in
+    let first = c.loop-index.invariant.first in
+    let gathers = from_nothing (gathered c.args.gatherer.now) (gathered c.loop-index.gatherer) first.given c.requires.nothing first.gathers in
+    record {
+      read = record {
+        mid = gathered c.loop-index.gatherer;
+        before = c.loop-index.invariant.first;
+        out = AreReadOut-kept g.R.Source.left g.R.Source.health g.R.Source.pulls c.args.limits c.args.readers.now c.loop-index.readers index c.read_part.new.source c.loop-index.invariant.out;
+        at = record {
+          was = was;
+          is = c.read_part.new.source;
+          was_there = element_at c.args.readers.now c.loop-index.readers index found within (c.loop-index.invariant.unread index found (omega arith) within) c.index-readers-index.is ∙ ap Some c.index-readers-index.is;
+          is_there = element_set c.loop-index.readers index c.read_part.new.source still;
+          came = read.0;
+          consumed = read.1;
+          spared = c.in-Err.ensures.pulls;
+          refused = fault_of_came g.R.Source.left g.R.Source.health g.R.Source.pulls c.args.limits first.given was read.0 c.read_part.new.source c.loop-index.gatherer c.read_part.new.sink c.in-Err.fault c.loop-index.invariant.sound gathers read.2;
+          unread = λ k behind. same_at (set c.loop-index.readers index c.read_part.new.source) c.args.readers.now k (length-set c.loop-index.readers index c.read_part.new.source ∙ same_length)
+              (λ d below. let other : k ≢ index = omega (arith, behind) in
+              get_or-set_other c.loop-index.readers index k c.read_part.new.source d other ∙ c.loop-index.invariant.unread k d (omega (arith, behind)) below);
+        };
+      };
+    }
+
+pub loop-index-preserved : goal.loop-index-preserved
+loop-index-preserved g c =
+    let index = c.loop-index.index in
+    let found = c.index-readers-index.result in
+    let was = get_or c.loop-index.readers index found in
+    let within : index < length c.args.readers.now = omega arith in
+    let read = c.in_default.ensures.read in
+    let header : Header = c.in_default.field-0.header in
+    let facts = read.2.6.0 in
+    let there = element_at c.args.readers.now c.loop-index.readers index found within (c.loop-index.invariant.unread index found (omega arith) within) c.index-readers-index.is ∙ ap Some c.index-readers-index.is in
+    let is = given_if_told c.args.limits (g.R.Source.left was) (g.R.Source.left c.read_part.new.source) read.0 (record { header = header; facts = facts }) read.1 read.2.1 (read.2.4, read.2.3) read.2.6.1 in
+    let run = Run-shown c.loop-index.gatherer c.read_part.new.sink (Some header) facts read.2.6.2 in
+    record {
+      unread = λ k d after below.
+          let other : k ≢ index = omega arith in
+          get_or-set_other c.loop-index.readers index k c.read_part.new.source d other ∙ c.loop-index.invariant.unread k d (omega arith) below;
+      first = GathersFirst-more g.R.Source.left c.args.limits c.args.readers.now index was (gathered c.args.gatherer.now) (gathered c.loop-index.gatherer) (gathered c.read_part.new.sink) header facts there c.loop-index.invariant.first run is;
+      out = AreReadOut-more g.R.Source.left g.R.Source.health g.R.Source.pulls c.args.limits c.args.readers.now c.loop-index.readers index was c.read_part.new.source there (omega arith) c.loop-index.invariant.out (record {
+        came = read.0;
+        consumed = read.1;
+        pulled = read.2.0;
+        at_end = read.2.1;
+        accepted = (read.2.4, read.2.3);
+        well = read.2.2;
+        spared = c.in_default.ensures.pulls;
+      });
+      sound = Run-sound (gathered c.loop-index.gatherer) (gathered c.read_part.new.sink) (Some header) facts run c.loop-index.invariant.sound;
+    }

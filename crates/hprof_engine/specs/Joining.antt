@@ -1,0 +1,229 @@
+-- What joining parts answers, and what it writes.
+use Rattle.std.specs.Prelude.{◌≡◌, ◌⊎◌, ℕ, ◌+◌, ◌<◌, ◌≤◌, Bool, true, false, List, [], ◌∷◌, ◌++◌, length, take, map, Option, Some, None, Result, Ok, Err, ⊤, slice_get}
+use Rattle.std.specs.List.{AllByRecursion}
+use Rattle.std.specs.Io.KnownBytes.{Appends, Consumes, IsAtEnd}
+use Rattle.hprof_items.specs.declared.header.Header.{Header}
+use Rattle.hprof_items.specs.declared.health.Health.{Health}
+use Rattle.hprof_items.specs.declared.health.Health.TheVariants as healths
+use Rattle.hprof_values.specs.declared.ids.IdSize.{IdSize}
+use Rattle.hprof_items.specs.FactValue.{FactValue}
+use Rattle.hprof_stream.specs.declared.limits.Limits.{Limits}
+use Rattle.hprof_stream.specs.declared.part_fault.PartFault.{PartFault}
+use Rattle.hprof_stream.specs.declared.part_fault.PartFault.TheVariants as faults
+use Rattle.hprof_stream.specs.declared.sink.SinkFault.TheVariants as sinks
+use Rattle.hprof_stream.specs.Part.{IsPart, all_facts}
+use Rattle.hprof_stream.specs.Item.{header_before}
+use Rattle.hprof_stream.specs.Reader.{BeginsWhole, whole_len, IsUnheld, Pulled, PulledOut, CameLast}
+use Rattle.hprof_stream.specs.Fault.{HasNoFault, IsFirstFault, HasNoSettledFault, is_lasting}
+use Rattle.hprof_heap.specs.declared.key.Key.{Key}
+use Rattle.hprof_heap.specs.Conflict.{IsConsistent, IsLeastConflict}
+use Rattle.hprof_heap.specs.Dump.{canonical_dump}
+use Rattle.hprof_heap.specs.Order.{IsCanonicalOrder}
+use Rattle.hprof_heap.specs.Gathering.{Gathered, Given, Gathers, IsNewBehind}
+use Rattle.hprof_heap.specs.State.{IsState}
+use Rattle.hprof_engine.specs.declared.tool_fault.ToolFault.{ToolFault}
+use Rattle.hprof_engine.specs.declared.tool_fault.ToolFault.TheVariants as tool
+use Rattle.hprof_engine.specs.declared.joined.Joined.{Joined}
+use Rattle.hprof_engine.specs.declared.joined.Kept.{Kept}
+
+-- the readers tell these parts, and no more
+abbrev pub Tell : {R : Type 0} → (R → Option (List ℕ)) → List R → List (List ℕ) → Type 0
+Tell left readers parts = map left readers ≡ map Some parts
+
+-- the facts that the parts state agree, and these are they, in canonical order, with the size and the earliest time
+pub record Agree (parts : List (List ℕ)) (ids : IdSize) (millis : ℕ) (rows : List FactValue) : Type 0 where
+  pub state : IsState parts ids millis rows
+  pub consistent : IsConsistent rows
+  pub ordered : IsCanonicalOrder rows
+
+-- the parts were joined: what they state was written, and how many parts and facts there are
+pub record Joins (parts : List (List ℕ)) (old new : Option (List ℕ)) (joined : Joined) : Type 0 where
+  pub ids : IdSize
+  pub millis : ℕ
+  pub rows : List FactValue
+  pub agree : Agree parts ids millis rows
+  pub written : Appends old new (canonical_dump ids millis rows)
+  pub parts_count : joined.parts ≡ length parts
+  pub facts_count : joined.facts ≡ length rows
+
+-- writing stopped: the parts agree, and a front of their dump was written
+pub record StopsWriting (parts : List (List ℕ)) (old new : Option (List ℕ)) : Type 0 where
+  pub ids : IdSize
+  pub millis : ℕ
+  pub rows : List FactValue
+  pub agree : Agree parts ids millis rows
+  pub count : ℕ
+  pub written : Appends old new (take count (canonical_dump ids millis rows))
+
+-- the parts do not agree, and this is the least key with two contents
+pub record Disagree (parts : List (List ℕ)) (key : Key) : Type 0 where
+  pub ids : IdSize
+  pub millis : ℕ
+  pub facts : List FactValue
+  pub state : IsState parts ids millis facts
+  pub least : IsLeastConflict facts key
+
+-- a part was read to its end: its bytes are items and no more, and neither they nor one item are over its limit
+abbrev pub IsAccepted : Limits → List ℕ → Type 0
+IsAccepted limits bytes = HasNoFault limits.max_item bytes × (length bytes ≤ limits.max_bytes)
+
+-- what a reader had to tell, if it told, is a part that was read to its end and states what was given
+abbrev pub IsGiven : Limits → Option (List ℕ) → Given → Type 0
+IsGiven limits None part = ⊤
+IsGiven limits (Some bytes) part =
+    IsAccepted limits bytes × IsPart bytes part.header.ids part.header.millis part.facts
+
+abbrev pub AreGiven : Limits → List (Option (List ℕ)) → List Given → Type 0
+AreGiven limits [] [] = ⊤
+AreGiven limits (left ∷ lefts) (part ∷ parts) = IsGiven limits left part × AreGiven limits lefts parts
+AreGiven limits [] (part ∷ parts) = ⊥
+AreGiven limits (left ∷ lefts) [] = ⊥
+
+module _ {R : Type 0} (left : R → Option (List ℕ)) (health : R → Health) (pulls : R → ℕ) where
+  -- with which fault a part is refused of which these bytes came, and were judged as far as they may be taken; where
+  -- memory was wanted, nothing was read, or all but the last piece was judged, and an item could not be held, or one that
+  -- ends in that piece, and states a fact that is new, could not be kept; each pull but one behind the end, or one that
+  -- failed, gave a byte
+  --   earlier: what the parts before it gave;  was, is: the reader, before and afterwards
+  abbrev pub IsPartFault : Limits → List Given → R → List ℕ → R → PartFault → Type 0
+  IsPartFault limits earlier was came is (faults.Malformed at reason) =
+      (health is ≡ healths.Well) × IsFirstFault limits.max_item (take limits.max_bytes came) (faults.Malformed at reason)
+      × (is_lasting reason ≡ true → CameLast left pulls limits was came is)
+      × (is_lasting reason ≡ false → PulledOut left pulls limits was came is × IsAtEnd (left is) × (length came ≤ limits.max_bytes))
+  IsPartFault limits earlier was came is (faults.ItemTooLong at) =
+      (health is ≡ healths.Well) × IsFirstFault limits.max_item (take limits.max_bytes came) (faults.ItemTooLong at) × CameLast left pulls limits was came is
+  IsPartFault limits earlier was came is faults.BytesExceeded =
+      (health is ≡ healths.Well) × (limits.max_bytes < length came) × HasNoSettledFault limits.max_item (take limits.max_bytes came) × CameLast left pulls limits was came is
+  IsPartFault limits earlier was came is faults.Read =
+      (health is ≡ healths.Failed) × (length came ≤ limits.max_bytes) × HasNoSettledFault limits.max_item came × PulledOut left pulls limits was came is
+  IsPartFault limits earlier was came is faults.ReadsExceeded =
+      (health is ≡ healths.Well) × Pulled left pulls was came limits.max_reads is × (length came ≤ limits.max_bytes) × HasNoSettledFault limits.max_item came
+  IsPartFault limits earlier was came is faults.OutOfMemory =
+      (health is ≡ healths.Well) × (((came ≡ []) × (was ≡ is)) ⊎ ((last : CameLast left pulls limits was came is) × IsUnheld limits last.front last.piece))
+  IsPartFault limits earlier was came is (faults.Sink sinks.OutOfMemory) =
+      (health is ≡ healths.Well) × ((last : CameLast left pulls limits was came is) × ((told : Option Header)
+      × (whole : BeginsWhole limits.max_item (take limits.max_bytes came) told) × (length last.front < whole_len whole)
+      × IsNewBehind earlier (header_before whole.before) (all_facts whole.items) whole.last.facts))
+  IsPartFault limits earlier was came is (faults.Sink sinks.Failed) = ⊥
+  IsPartFault limits earlier was came is faults.Failed = ⊥
+
+-- a fault of an item is the first of the whole part; a part with too many bytes has more than may be taken, and one that takes
+-- too many reads at least as many as these
+abbrev pub IsOfPart : Limits → List ℕ → PartFault → Type 0
+IsOfPart limits bytes (faults.Malformed at reason) = IsFirstFault limits.max_item bytes (faults.Malformed at reason)
+IsOfPart limits bytes (faults.ItemTooLong at) = IsFirstFault limits.max_item bytes (faults.ItemTooLong at)
+IsOfPart limits bytes faults.BytesExceeded = limits.max_bytes < length bytes
+IsOfPart limits bytes faults.ReadsExceeded = limits.max_reads ≤ length bytes
+IsOfPart limits bytes other = ⊤
+
+module _ {R : Type 0} (left : R → Option (List ℕ)) (health : R → Health) (pulls : R → ℕ) where
+  -- a reader was read to its end over these bytes, which were accepted: it is well, each pull gave a byte, and the last
+  -- one that there is nothing more
+  pub record IsReadOut (limits : Limits) (was is : R) : Type 0 where
+    pub came : List ℕ
+    pub consumed : Consumes (left was) (left is) came
+    pub pulled : PulledOut left pulls limits was came is
+    pub at_end : IsAtEnd (left is)
+    pub accepted : IsAccepted limits came
+    pub well : health is ≡ healths.Well
+    pub spared : pulls is ≤ pulls was + limits.max_reads
+
+  -- so many readers, from the first on, were read to their ends
+  abbrev pub AreReadOut : Limits → List R → List R → ℕ → Type 0
+  AreReadOut limits old new count =
+      (k : ℕ) → k < count → (was : R) × (is : R) × (slice_get old k ≡ Some was) × (slice_get new k ≡ Some is) × IsReadOut limits was is
+
+  -- the reader at that place was read over these bytes and was refused with the fault; those behind it were not touched
+  --   earlier: what the parts before it gave
+  pub record RefusesAt (limits : Limits) (earlier : List Given) (old new : List R) (index : ℕ) (fault : PartFault) : Type 0 where
+    pub was : R
+    pub is : R
+    pub was_there : slice_get old index ≡ Some was
+    pub is_there : slice_get new index ≡ Some is
+    pub came : List ℕ
+    pub consumed : Consumes (left was) (left is) came
+    pub spared : pulls is ≤ pulls was + limits.max_reads
+    pub refused : IsPartFault left health pulls limits earlier was came is fault
+    pub unread : (k : ℕ) → index < k → slice_get new k ≡ slice_get old k
+
+  -- the part at that place was refused with the fault; all parts before it were read to their ends
+  pub record RefusesPart (limits : Limits) (parts : List (List ℕ)) (old new : List R) (index : ℕ) (fault : PartFault) : Type 0 where
+    pub before : List (List ℕ)
+    pub bytes : List ℕ
+    pub after : List (List ℕ)
+    pub in_order : parts ≡ before ++ bytes ∷ after
+    pub place : length before ≡ index
+    pub accepted : AllByRecursion (IsAccepted limits) before
+    pub given : List Given
+    pub stated : AreGiven limits (map Some before) given
+    pub at : RefusesAt limits given old new index fault
+    pub told : left at.was ≡ Some bytes
+    pub of_part : IsOfPart limits bytes fault
+
+-- ---- reading all parts
+
+module _ {R : Type 0} (left : R → Option (List ℕ)) where
+  -- so many readers were read to their ends, and the gatherer was given their parts
+  pub record GathersFirst (limits : Limits) (old : List R) (count : ℕ) (from to : Gathered) : Type 0 where
+    pub given : List Given
+    pub of_readers : AreGiven limits (map left (take count old)) given
+    pub gathers : Gathers from given to
+
+module _ {R : Type 0} (left : R → Option (List ℕ)) (health : R → Health) (pulls : R → ℕ) where
+  -- the reader at that place was refused, and those before it were not
+  pub record RefusesReader (limits : Limits) (old new : List R) (index : ℕ) (fault : PartFault) (from : Gathered) : Type 0 where
+    pub mid : Gathered
+    pub before : GathersFirst left limits old index from mid
+    pub out : AreReadOut left health pulls limits old new index
+    pub at : RefusesAt left health pulls limits before.given old new index fault
+
+  -- all readers were read to their ends, or one was refused
+  abbrev pub ReadsAll : Limits → List R → Gathered → Result (Unit {0}) ToolFault → List R → Gathered → Type 0
+  ReadsAll limits old from (Ok done) new to = GathersFirst left limits old (length old) from to × AreReadOut left health pulls limits old new (length old)
+  ReadsAll limits old from (Err (tool.Part index fault)) new to = RefusesReader limits old new index fault from
+  ReadsAll limits old from (Err other) new to = ⊥
+
+-- what was joined, without the heap
+abbrev pub joined_of : Result Kept ToolFault → Result Joined ToolFault
+joined_of (Ok kept) = Ok kept.joined
+joined_of (Err fault) = Err fault
+
+-- how many of the readers were read to their ends, by the answer: all, or those before the one that was refused
+abbrev pub read_count : {A : Type 0} → Result A ToolFault → ℕ → ℕ
+read_count (Err (tool.Part index fault)) all = index
+read_count other all = all
+
+-- all parts were read
+abbrev pub AreRead : {A : Type 0} → Result A ToolFault → Type 0
+AreRead (Err (tool.Part index fault)) = ⊥
+AreRead other = ⊤
+
+-- ---- no other answer
+
+-- want of memory was answered, or a limit was met
+abbrev pub is_want : PartFault → Bool
+is_want faults.OutOfMemory = true
+is_want (faults.Sink sinks.OutOfMemory) = true
+is_want (faults.ItemTooLong at) = true
+is_want faults.ReadsExceeded = true
+is_want faults.BytesExceeded = true
+is_want (faults.Sink sinks.Failed) = false
+is_want (faults.Malformed at reason) = false
+is_want faults.Failed = false
+is_want faults.Read = false
+
+abbrev pub IsHindered : Result Joined ToolFault → Type 0
+IsHindered (Err (tool.Part index fault)) = is_want fault ≡ true
+IsHindered (Err tool.OutOfMemory) = ⊤
+IsHindered other = ⊥
+
+abbrev pub IsOkOrConflict : Result Joined ToolFault → Type 0
+IsOkOrConflict (Ok joined) = ⊤
+IsOkOrConflict (Err (tool.Conflict key)) = ⊤
+IsOkOrConflict other = ⊥
+
+-- what is refused before anything is written
+abbrev pub IsBeforeWriting : {A : Type 0} → Result A ToolFault → Type 0
+IsBeforeWriting (Ok joined) = ⊥
+IsBeforeWriting (Err (tool.Write fault)) = ⊥
+IsBeforeWriting (Err other) = ⊤

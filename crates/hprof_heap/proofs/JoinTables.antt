@@ -1,0 +1,391 @@
+-- Joining one table of a heap with that of another.
+use Rattle.std.proofs.Common.{◌≡◌, ℕ, zero, suc, ◌+◌, ◌<◌, List, [], ◌∷◌, ◌++◌, length, Result, Ok, Err, refl, sym, ap, subst, ◌∙◌, append_assoc, inl, inr, arith}
+use Rattle.std.specs.Prelude.{IfOk, OnErr}
+use Rattle.std.specs.List.{AllByRecursion}
+use Rattle.hprof_values.specs.declared.ids.IdSize.{IdSize}
+use Rattle.hprof_items.specs.FactValue.{FactValue, Name}
+use Rattle.hprof_tables.specs.Relation.{contents_of}
+use Rattle.hprof_tables.specs.Places.{the_bytes}
+use Rattle.hprof_tables.specs.Union.{AreUnion}
+use Rattle.hprof_values.specs.declared.root.Root.{Root}
+use Rattle.hprof_heap.specs.declared.trace_row.TraceRow.{TraceRow}
+use Rattle.hprof_heap.specs.declared.number_rows.LoadRow.{LoadRow}
+use Rattle.hprof_heap.specs.declared.number_rows.FrameRow.{FrameRow}
+use Rattle.hprof_heap.specs.declared.number_rows.StartRow.{StartRow}
+use Rattle.hprof_heap.specs.declared.number_rows.KeyRow.{KeyRow}
+use Rattle.hprof_heap.specs.declared.heap.Heap.{Heap}
+use Rattle.hprof_heap.specs.declared.table.Table.{Table}
+use Rattle.hprof_heap.specs.declared.table.Table.TheVariants as tables
+use Rattle.hprof_heap.specs.Conflict.{IsConsistent}
+use Rattle.hprof_heap.specs.Content.{load_fact, unload_fact, frame_fact, trace_fact, start_fact, end_fact, spelled_fact, facts_of_rows, AreRight}
+use Rattle.hprof_heap.specs.Facts.{Has, SameFacts}
+use Rattle.hprof_heap.specs.Heap.{facts_of_table, number_of_table, stands_in, rows_in, heap_of}
+use Rattle.hprof_heap.specs.HeapRows.{HeapRows, AreHeap, heap_of_rows, tables_of, no_content, root_facts}
+use Rattle.hprof_heap.specs.HeapValue.{HeapValue, IsHeap}
+use Rattle.hprof_heap.specs.Join.{TakesFacts}
+use Rattle.hprof_heap.specs.NumberRows.{load_numbers, frame_numbers, start_numbers}
+use Rattle.hprof_heap.specs.Order.{IsBefore, IsCanonicalOrder}
+use Rattle.hprof_heap.specs.RootSet.{IsUnionOfRoots}
+use Rattle.hprof_heap.specs.Tables.{joined}
+use Rattle.hprof_heap.specs.TraceRow.{trace_content}
+use Rattle.hprof_heap.proofs.Conflicts.{IsConsistent-key}
+use Rattle.hprof_heap.proofs.FactSets.{Has-parts, Has-front, Has-back, All-has, All-from_has, SameFacts-refl, SameFacts-trans, SameFacts-append, SameFacts-turned}
+use Rattle.hprof_heap.proofs.HeapRows.{heap_tables, table_facts, with_same, names_right, loads_right, unloads_right, frames_right, starts_right, ends_right}
+use Rattle.hprof_heap.proofs.Order.{is_before-true}
+use Rattle.hprof_heap.proofs.Roots.{roots_kept}
+use Rattle.hprof_heap.proofs.SameHeaps.{bytes_again}
+use Rattle.hprof_heap.proofs.Stating.{with_facts}
+use Rattle.hprof_heap.proofs.TableRows.{has_joined, table_fits, passed_ordered}
+use Rattle.hprof_heap.proofs.Tables.{IsOf, AllOf, AreTables, IsPast, table_at, with_table, all_append, all_past, earlier}
+use Rattle.hprof_heap.proofs.UnionRows.{AgreeAtPlaces, IsTableOfBoth, union_facts, tried_union_right}
+use Rattle.hprof_heap.proofs.UnionRoots.{tried_roots}
+
+-- ---- order of lists, one behind the other
+
+ordered_append : (facts others : List FactValue) → ((fact other : FactValue) → Has facts fact → Has others other → IsBefore fact other)
+    → IsCanonicalOrder facts → IsCanonicalOrder others → IsCanonicalOrder (facts ++ others)
+ordered_append [] others before ordered too = too
+ordered_append (first ∷ facts) others before ordered too = (
+  all_append (IsBefore first) facts others ordered.0
+      (All-from_has (IsBefore first) others (λ other has. before first other (inl refl) has)),
+  ordered_append facts others (λ fact other has has_other. before fact other (inr has) has_other) ordered.1 too,
+)
+
+ordered_front : (facts others : List FactValue) → IsCanonicalOrder (facts ++ others) → IsCanonicalOrder facts
+ordered_front [] others ordered = tt
+ordered_front (first ∷ facts) others ordered = (
+  All-from_has (IsBefore first) facts
+      (λ fact has. All-has (IsBefore first) (facts ++ others) fact ordered.0 (Has-front facts others fact has)),
+  ordered_front facts others ordered.1,
+)
+
+ordered_back : (facts others : List FactValue) → IsCanonicalOrder (facts ++ others) → IsCanonicalOrder others
+ordered_back [] others ordered = ordered
+ordered_back (first ∷ facts) others ordered = ordered_back facts others ordered.1
+
+-- ---- tables with other facts in one of them
+
+-- a fact of a table stands before those of later tables
+before_later : (table : ℕ) (facts others : List FactValue) → AllOf table facts → AllByRecursion (IsPast table) others
+    → (fact other : FactValue) → Has facts fact → Has others other → IsBefore fact other
+before_later table facts others of past fact other has has_other =
+    let is = All-has (IsPast table) others other past has_other in
+    is_before-true fact other (earlier table is.number fact other (All-has (IsOf table) facts fact of has) is.of is.above)
+
+-- they are tables still
+are_with : (tables : List (List FactValue)) (table number place : ℕ) (new : List FactValue) → table ≡ number + place
+    → AreTables number tables → AllOf table new → AreTables number (with_table tables place new)
+are_with [] table number place new e are of = tt
+are_with (facts ∷ tables) table number zero new e are of =
+    let here : table ≡ number = omega arith in (subst (λ (n : ℕ). AllOf n new) here of, are.1)
+are_with (facts ∷ tables) table number (suc place) new e are of =
+    (are.0, are_with tables table (suc number) place new (omega arith) are.1 of)
+
+-- their facts are in order
+ordered_with : (tables : List (List FactValue)) (table number place : ℕ) (new : List FactValue) → table ≡ number + place
+    → AreTables number tables → AllOf table new → IsCanonicalOrder new → IsCanonicalOrder (joined tables)
+    → IsCanonicalOrder (joined (with_table tables place new))
+ordered_with [] table number place new e are of ordered all = tt
+ordered_with (facts ∷ tables) table number zero new e are of ordered all =
+    ordered_append new (joined tables)
+    (before_later table new (joined tables) of (all_past tables table (suc number) (omega arith) are.1)) ordered
+    (ordered_back facts (joined tables) all)
+ordered_with (facts ∷ tables) table number (suc place) new e are of ordered all =
+    let with : List (List FactValue) = with_table tables place new in
+    let past = all_past with number (suc number) (omega arith) (are_with tables table (suc number) place new (omega arith) are.1 of) in
+    ordered_append facts (joined with) (before_later number facts (joined with) are.0 past) (ordered_front facts (joined tables) all)
+    (ordered_with tables table (suc number) place new (omega arith) are.1 of ordered (ordered_back facts (joined tables) all))
+
+-- of three lists the last two may change places
+swapped : (facts more rest : List FactValue) → SameFacts ((facts ++ more) ++ rest) ((facts ++ rest) ++ more)
+swapped facts more rest =
+    rw (append_assoc facts more rest, append_assoc facts rest more)
+    (SameFacts-append facts (more ++ rest) facts (rest ++ more) (SameFacts-refl facts) (SameFacts-turned more rest))
+
+-- what is taken into one of the tables is taken into all of their facts
+same_with : (tables : List (List FactValue)) (place : ℕ) (more new : List FactValue) → place < length tables
+    → SameFacts new (table_at tables place ++ more) → SameFacts (joined (with_table tables place new)) (joined tables ++ more)
+same_with [] place more new lt same = absurd (omega arith)
+same_with (facts ∷ tables) zero more new lt same =
+    let rest : List FactValue = joined tables in
+    SameFacts-trans (new ++ rest) ((facts ++ more) ++ rest) ((facts ++ rest) ++ more)
+    (SameFacts-append new rest (facts ++ more) rest same (SameFacts-refl rest)) (swapped facts more rest)
+same_with (facts ∷ tables) (suc place) more new lt same =
+    let with : List FactValue = joined (with_table tables place new) in
+    subst (SameFacts (facts ++ with)) (sym (append_assoc facts (joined tables) more))
+    (SameFacts-append facts with facts (joined tables ++ more) (SameFacts-refl facts) (same_with tables place more new (omega arith) same))
+
+-- each of the tables has facts of its own
+of_table : (tables : List (List FactValue)) (table number place : ℕ) → table ≡ number + place → AreTables number tables
+    → AllOf table (table_at tables place)
+of_table [] table number place e are = tt
+of_table (facts ∷ tables) table number zero e are = let here : number ≡ table = omega arith in subst (λ (n : ℕ). AllOf n facts) here are.0
+of_table (facts ∷ tables) table number (suc place) e are = of_table tables table (suc number) place (omega arith) are.1
+
+-- ---- two heaps
+
+-- there are ten tables
+within : (table : Table) → number_of_table table < 10
+within tables.Names = omega arith
+within table = omega arith
+
+-- the facts of each stand in order
+table_ordered : (rows : HeapRows) (table : Table) → AreHeap rows → IsCanonicalOrder (table_at (tables_of rows) (number_of_table table))
+table_ordered rows table are =
+    subst IsCanonicalOrder (table_facts rows table are)
+    (passed_ordered (stands_in (number_of_table table)) (joined (tables_of rows)) are.heap.ordered)
+
+-- two heaps of one size that agree
+pub record CanJoin (rows others : HeapRows) : Type 0 where
+  pub are : AreHeap rows
+  pub others_are : AreHeap others
+  pub one_size : rows.ids ≡ others.ids
+  pub agree : IsConsistent ((heap_of_rows rows).facts ++ (heap_of_rows others).facts)
+
+pub can_join : (heap other : Heap) → (heap_of heap).ids ≡ (heap_of other).ids → IsConsistent ((heap_of heap).facts ++ (heap_of other).facts)
+    → CanJoin (rows_in heap) (rows_in other)
+can_join heap other one_size agree = record { are = heap.sound; others_are = other.sound; one_size = one_size; agree = agree }
+
+module _ {rows others : HeapRows} (can : CanJoin rows others) where
+  -- the other, told by the size of the first
+  abbrev sized : HeapRows
+  sized = record others { ids = rows.ids }
+
+  is_sized : sized ≡ others
+  is_sized = ap (λ (i : IdSize). record others { ids = i }) can.one_size
+
+  sized_are : AreHeap sized
+  sized_are = subst AreHeap (sym is_sized) can.others_are
+
+  -- the facts of a table of both
+  abbrev pub mine : Table → List FactValue
+  mine table = table_at (tables_of rows) (number_of_table table)
+
+  abbrev pub its : Table → List FactValue
+  its table = table_at (tables_of sized) (number_of_table table)
+
+  its_facts : (table : Table) → facts_of_table table (joined (tables_of others)) ≡ its table
+  its_facts table =
+      ap (λ (other : HeapRows). facts_of_table table (joined (tables_of other))) (sym is_sized) ∙ table_facts sized table sized_are
+
+  agree_in : (table : Table) → AgreeAtPlaces (mine table) (its table)
+  agree_in table one other has has_other same =
+      let facts : List FactValue = joined (tables_of rows) in
+      let more : List FactValue = joined (tables_of others) in
+      let it : Has more other =
+      subst (λ (some : HeapRows). Has (joined (tables_of some)) other) is_sized
+      (has_joined (tables_of sized) (number_of_table table) other has_other) in
+      IsConsistent-key (facts ++ more) one other can.agree
+      (Has-front facts more one (has_joined (tables_of rows) (number_of_table table) one has)) (Has-back facts more other it) same
+
+  -- facts that are those of a table of both
+  abbrev pub IsTaken : Table → List FactValue → Type 0
+  IsTaken table new = IsTableOfBoth (mine table) (its table) new
+
+  -- the heap with these in its table
+  abbrev pub heap_with : Table → List FactValue → HeapValue
+  heap_with table new = with_facts rows.ids rows.millis (joined (with_table (tables_of rows) (number_of_table table) new))
+
+  taken_of : (table : Table) (new : List FactValue) → IsTaken table new → AllOf (number_of_table table) new
+  taken_of table new both =
+      let number : ℕ = number_of_table table in
+      let of = of_table (tables_of rows) number 0 number (omega arith) (heap_tables rows can.are) in
+      let of_too = of_table (tables_of sized) number 0 number (omega arith) (heap_tables sized sized_are) in
+      All-from_has (IsOf number) new
+      (λ fact has. All-has (IsOf number) (mine table ++ its table) fact (all_append (IsOf number) (mine table) (its table) of of_too)
+      ((both.same fact).0 has))
+
+  -- takes the facts of the other's
+  takes_table : (table : Table) (new : List FactValue) → IsTaken table new
+      → TakesFacts (heap_of_rows rows) (facts_of_table table (joined (tables_of others))) (heap_with table new)
+  takes_table table new both =
+      let facts : List FactValue = joined (tables_of rows) in
+      let same = same_with (tables_of rows) (number_of_table table) (its table) new (within table) both.same in
+      rw (its_facts table) (record {
+        ids = refl;
+        millis = refl;
+        facts = same;
+        is_heap = record {
+          is_millis = can.are.heap.is_millis;
+          fit = λ fact has. elim (Has-parts facts (its table) fact ((same fact).0 has)) [
+            | inl h ↦ can.are.heap.fit fact h
+            | inr h ↦ table_fits sized sized_are (number_of_table table) fact h
+          ];
+          ordered = ordered_with (tables_of rows) (number_of_table table) 0 (number_of_table table) new (omega arith)
+              (heap_tables rows can.are) (taken_of table new both) both.ordered can.are.heap.ordered;
+        };
+      })
+
+  -- where nothing was taken it is a heap as it was
+  keeps_table : (table : Table) (new : List FactValue) → new ≡ mine table → IsHeap (heap_with table new)
+  keeps_table table new e = rw (e, with_same (tables_of rows) (number_of_table table)) can.are.heap
+
+  -- what joining the table comes to, where memory may have been refused
+  pub record IsJoined {A E : Type 0} (r : Result A E) (table : Table) (new : List FactValue) : Type 0 where
+    pub takes : IfOk r (λ _. TakesFacts (heap_of_rows rows) (facts_of_table table (joined (tables_of others))) (heap_with table new))
+    pub is_heap : IsHeap (heap_with table new)
+
+  joined_by : {A E : Type 0} (r : Result A E) (table : Table) (new : List FactValue) → IfOk r (λ _. IsTaken table new)
+      → OnErr r (new ≡ mine table) → IsJoined r table new
+  joined_by (Ok done) table new ok err = let takes = takes_table table new ok in record { takes = takes; is_heap = takes.is_heap }
+  joined_by (Err e) table new ok err = record { takes = tt; is_heap = keeps_table table new err }
+
+  -- ---- rows by key
+
+  module _ {V : Type 0} (table : Table) (fact : ℕ → List ℕ → FactValue) (content : V → List ℕ) (old other : List (ℕ × V))
+      (mine_is : mine table ≡ facts_of_rows fact content old) (its_is : its table ≡ facts_of_rows fact content other)
+      (right : AreRight rows.ids (number_of_table table) fact content old)
+      (right_too : AreRight rows.ids (number_of_table table) fact content other) where
+    rows_taken : {A E : Type 0} (r : Result A E) (new : List (ℕ × V))
+        → IfOk r (λ _. AreUnion (contents_of content old) (contents_of content other) (contents_of content new))
+        → IfOk r (λ _. IsTaken table (facts_of_rows fact content new))
+    rows_taken (Ok done) new ok =
+        rw (mine_is, its_is) (union_facts rows.ids (number_of_table table) fact content old other right right_too new
+        (subst IsCanonicalOrder mine_is (table_ordered rows table can.are))
+        (subst IsCanonicalOrder its_is (table_ordered sized table sized_are)) (rw (← mine_is, ← its_is) (agree_in table)) ok)
+    rows_taken (Err e) new ok = tt
+
+    rows_kept : {A E : Type 0} (r : Result A E) (new : List (ℕ × V)) → OnErr r (new ≡ old)
+        → OnErr r (facts_of_rows fact content new ≡ mine table)
+    rows_kept (Ok done) new err = tt
+    rows_kept (Err e) new err = ap (facts_of_rows fact content) err ∙ sym mine_is
+
+    rows_joined : {A E : Type 0} (r : Result A E) (new : List (ℕ × V))
+        → IfOk r (λ _. AreUnion (contents_of content old) (contents_of content other) (contents_of content new)) → OnErr r (new ≡ old)
+        → IsJoined r table (facts_of_rows fact content new)
+    rows_joined r new ok err = joined_by r table (facts_of_rows fact content new) (rows_taken r new ok) (rows_kept r new err)
+
+  -- ---- each table
+
+  -- the rows with one table joined
+  pub record AreJoined {A E : Type 0} (r : Result A E) (table : Table) (new : HeapRows) : Type 0 where
+    pub takes : IfOk r (λ _. TakesFacts (heap_of_rows rows) (facts_of_table table (joined (tables_of others))) (heap_of_rows new))
+    pub are_heap : AreHeap new
+
+  module _ {A E : Type 0} (r : Result A E) where
+    bytes_union : (old other new : List (ℕ × List ℕ)) → IfOk r (λ _. AreUnion old other new)
+        → IfOk r (λ _. AreUnion (contents_of the_bytes old) (contents_of the_bytes other) (contents_of the_bytes new))
+    bytes_union old other new ok = rw (bytes_again old, bytes_again other, bytes_again new) ok
+
+    pub names_joined : (new : List (ℕ × List ℕ)) → IfOk r (λ _. AreUnion rows.names others.names new) → OnErr r (new ≡ rows.names)
+        → AreJoined r tables.Names (record rows { names = new })
+    names_joined new ok err =
+        let table = rows_joined tables.Names Name the_bytes rows.names others.names refl refl (names_right rows.ids rows.names)
+        (names_right rows.ids others.names) r new (bytes_union rows.names others.names new ok) err in
+        record {
+          takes = table.takes;
+          are_heap = record { heap = table.is_heap; traces = can.are.traces; classes = can.are.classes; objects = can.are.objects };
+        }
+
+    pub loads_joined : (new : List (ℕ × LoadRow))
+        → IfOk r (λ _. AreUnion (contents_of load_numbers rows.loads) (contents_of load_numbers others.loads) (contents_of load_numbers new))
+        → OnErr r (new ≡ rows.loads) → AreJoined r tables.Loads (record rows { loads = new })
+    loads_joined new ok err =
+        let table = rows_joined tables.Loads load_fact load_numbers rows.loads others.loads refl refl (loads_right rows.ids rows.loads)
+        (loads_right rows.ids others.loads) r new ok err in
+        record {
+          takes = table.takes;
+          are_heap = record { heap = table.is_heap; traces = can.are.traces; classes = can.are.classes; objects = can.are.objects };
+        }
+
+    pub unloads_joined : (new : List (ℕ × KeyRow))
+        → IfOk r (λ _. AreUnion (contents_of no_content rows.unloads) (contents_of no_content others.unloads) (contents_of no_content new))
+        → OnErr r (new ≡ rows.unloads) → AreJoined r tables.Unloads (record rows { unloads = new })
+    unloads_joined new ok err =
+        let table = rows_joined tables.Unloads unload_fact no_content rows.unloads others.unloads refl refl (unloads_right rows.ids rows.unloads)
+        (unloads_right rows.ids others.unloads) r new ok err in
+        record {
+          takes = table.takes;
+          are_heap = record { heap = table.is_heap; traces = can.are.traces; classes = can.are.classes; objects = can.are.objects };
+        }
+
+    pub frames_joined : (new : List (ℕ × FrameRow))
+        → IfOk r (λ _. AreUnion (contents_of frame_numbers rows.frames) (contents_of frame_numbers others.frames) (contents_of frame_numbers new))
+        → OnErr r (new ≡ rows.frames) → AreJoined r tables.Frames (record rows { frames = new })
+    frames_joined new ok err =
+        let table = rows_joined tables.Frames frame_fact frame_numbers rows.frames others.frames refl refl (frames_right rows.ids rows.frames)
+        (frames_right rows.ids others.frames) r new ok err in
+        record {
+          takes = table.takes;
+          are_heap = record { heap = table.is_heap; traces = can.are.traces; classes = can.are.classes; objects = can.are.objects };
+        }
+
+    pub traces_joined : (new : List (ℕ × TraceRow))
+        → IfOk r (λ _. AreUnion (contents_of trace_content rows.traces) (contents_of trace_content others.traces) (contents_of trace_content new))
+        → OnErr r (new ≡ rows.traces) → AreJoined r tables.Traces (record rows { traces = new })
+    traces_joined new ok err =
+        let table = rows_joined tables.Traces (trace_fact rows.ids) trace_content rows.traces others.traces refl refl can.are.traces
+        sized_are.traces r new ok err in
+        record {
+          takes = table.takes;
+          are_heap = record {
+            heap = table.is_heap;
+            traces = tried_union_right rows.ids 4 (trace_fact rows.ids) trace_content rows.traces others.traces can.are.traces
+                sized_are.traces r new ok err;
+            classes = can.are.classes;
+            objects = can.are.objects;
+          };
+        }
+
+    pub starts_joined : (new : List (ℕ × StartRow))
+        → IfOk r (λ _. AreUnion (contents_of start_numbers rows.starts) (contents_of start_numbers others.starts) (contents_of start_numbers new))
+        → OnErr r (new ≡ rows.starts) → AreJoined r tables.Starts (record rows { starts = new })
+    starts_joined new ok err =
+        let table = rows_joined tables.Starts start_fact start_numbers rows.starts others.starts refl refl (starts_right rows.ids rows.starts)
+        (starts_right rows.ids others.starts) r new ok err in
+        record {
+          takes = table.takes;
+          are_heap = record { heap = table.is_heap; traces = can.are.traces; classes = can.are.classes; objects = can.are.objects };
+        }
+
+    pub ends_joined : (new : List (ℕ × KeyRow))
+        → IfOk r (λ _. AreUnion (contents_of no_content rows.ends) (contents_of no_content others.ends) (contents_of no_content new))
+        → OnErr r (new ≡ rows.ends) → AreJoined r tables.Ends (record rows { ends = new })
+    ends_joined new ok err =
+        let table = rows_joined tables.Ends end_fact no_content rows.ends others.ends refl refl (ends_right rows.ids rows.ends)
+        (ends_right rows.ids others.ends) r new ok err in
+        record {
+          takes = table.takes;
+          are_heap = record { heap = table.is_heap; traces = can.are.traces; classes = can.are.classes; objects = can.are.objects };
+        }
+
+    pub roots_joined : (new : List Root) → IfOk r (λ _. IsUnionOfRoots rows.roots others.roots new) → OnErr r (new ≡ rows.roots)
+        → AreJoined r tables.Roots (record rows { roots = new })
+    roots_joined new ok err =
+        let table = joined_by r tables.Roots (root_facts new) (tried_roots r rows.roots others.roots new ok) (roots_kept r rows.roots new err) in
+        record {
+          takes = table.takes;
+          are_heap = record { heap = table.is_heap; traces = can.are.traces; classes = can.are.classes; objects = can.are.objects };
+        }
+
+    pub classes_joined : (new : List (ℕ × List ℕ)) → IfOk r (λ _. AreUnion rows.classes others.classes new) → OnErr r (new ≡ rows.classes)
+        → AreJoined r tables.Classes (record rows { classes = new })
+    classes_joined new ok err =
+        let table = rows_joined tables.Classes (spelled_fact rows.ids) the_bytes rows.classes others.classes refl refl can.are.classes
+        sized_are.classes r new (bytes_union rows.classes others.classes new ok) err in
+        record {
+          takes = table.takes;
+          are_heap = record {
+            heap = table.is_heap;
+            traces = can.are.traces;
+            classes = tried_union_right rows.ids 8 (spelled_fact rows.ids) the_bytes rows.classes others.classes can.are.classes sized_are.classes r new
+                (bytes_union rows.classes others.classes new ok) err;
+            objects = can.are.objects;
+          };
+        }
+
+    pub objects_joined : (new : List (ℕ × List ℕ)) → IfOk r (λ _. AreUnion rows.objects others.objects new) → OnErr r (new ≡ rows.objects)
+        → AreJoined r tables.Objects (record rows { objects = new })
+    objects_joined new ok err =
+        let table = rows_joined tables.Objects (spelled_fact rows.ids) the_bytes rows.objects others.objects refl refl can.are.objects
+        sized_are.objects r new (bytes_union rows.objects others.objects new ok) err in
+        record {
+          takes = table.takes;
+          are_heap = record {
+            heap = table.is_heap;
+            traces = can.are.traces;
+            classes = can.are.classes;
+            objects = tried_union_right rows.ids 9 (spelled_fact rows.ids) the_bytes rows.objects others.objects can.are.objects sized_are.objects r new
+                (bytes_union rows.objects others.objects new ok) err;
+          };
+        }

@@ -1,6 +1,0 @@
-use Rattle.hprof_heap.specs.SortedTable.{entries_left}
-use Rattle.hprof_heap.proofs.Places.{ascending_lying}
-use Rattle.hprof_heap.proofs.bytes_table.BytesTable.rows.Goals as goal
-
-pub returns-clause-ascending : goal.returns-clause-ascending
-returns-clause-ascending c = ascending_lying c.as_slice.result.now (entries_left c.iter.result) (rw c.iter.ensures.all c.iter.ensures.both.ascends)

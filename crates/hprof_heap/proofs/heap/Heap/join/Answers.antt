@@ -1,0 +1,8 @@
+use Rattle.std.proofs.Common.{rules, ◌≡◌, refl}
+use Rattle.hprof_values.specs.declared.ids.IdSize.{IdSize}
+use Rattle.hprof_heap.proofs.heap.Heap.join.Goals as goal
+
+pub returns-in-Some : goal.returns-in-Some
+returns-in-Some c =
+    let one_size : c.args.self.now.ids ≡ c.args.other.now.ids = search rules in
+    (one_size, c.first_difference.ensures.some c.in-Some.key c.in-Some.is, refl)

@@ -1,5 +1,0 @@
-use Rattle.hprof_heap.proofs.SortedTable.{table-both}
-use Rattle.hprof_heap.proofs.sorted_table.SortedTable.iter.Goals as goal
-
-pub returns-clause-both : goal.returns-clause-both
-returns-clause-both g c = table-both c.args.self.now.run.items c.args.self.now.below.entries c.args.self.now.sound

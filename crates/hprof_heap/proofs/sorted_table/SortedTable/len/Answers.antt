@@ -1,6 +1,0 @@
-use Rattle.std.proofs.Common.{arith}
-use Rattle.hprof_heap.proofs.SortedRows.{merged-length}
-use Rattle.hprof_heap.proofs.sorted_table.SortedTable.len.Goals as goal
-
-pub returns : goal.returns
-returns g c = omega (arith, merged-length c.args.self.now.run.items c.args.self.now.below.entries)

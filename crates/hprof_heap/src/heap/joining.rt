@@ -1,0 +1,80 @@
+//! Joining two heaps.
+
+ghost use Rattle.std.specs.Prelude.{◌≡◌, ◌++◌, IfOk, OnErr};
+ghost use Rattle.hprof_heap.specs.Conflict.{IsConsistent};
+ghost use Rattle.hprof_heap.specs.Heap.{heap_of, facts_of_table};
+ghost use Rattle.hprof_heap.specs.Join.{IsBetween, JoinsInto, TakesFacts};
+
+use super::Heap;
+use crate::join_refusal::JoinRefusal;
+use crate::table::Table;
+use std::alloc::AllocError;
+
+/// All tables, in order.
+const TABLES: [Table; 10] = [
+    Table::Names,
+    Table::Loads,
+    Table::Unloads,
+    Table::Frames,
+    Table::Traces,
+    Table::Starts,
+    Table::Ends,
+    Table::Roots,
+    Table::Classes,
+    Table::Objects,
+];
+
+impl Heap {
+    /// Takes the facts of one table of another heap. Where memory is refused, nothing changes.
+    fn join_table(&mut self, table: Table, other: &Heap) -> Result<(), AllocError>
+        requires ids { (heap_of self.old).ids ≡ (heap_of other.now).ids }
+        requires agree { IsConsistent ((heap_of self.old).facts ++ (heap_of other.now).facts) }
+        ensures ok { IfOk result (λ _. TakesFacts (heap_of self.old) (facts_of_table table (heap_of other.now).facts) (heap_of self.new)) }
+        ensures err { OnErr result (heap_of self.new ≡ heap_of self.old) }
+    {
+        match table {
+            Table::Names => self.names.join(&other.names),
+            Table::Loads => self.loads.join(&other.loads),
+            Table::Unloads => self.unloads.join(&other.unloads),
+            Table::Frames => self.frames.join(&other.frames),
+            Table::Traces => self.traces.join(&other.traces),
+            Table::Starts => self.starts.join(&other.starts),
+            Table::Ends => self.ends.join(&other.ends),
+            Table::Roots => self.roots.join(&other.roots),
+            Table::Classes => self.classes.join(&other.classes),
+            Table::Objects => self.objects.join(&other.objects),
+        }
+    }
+
+    /// Takes the facts of another heap, table by table. Where memory is refused, it has some of them.
+    fn join_tables(&mut self, other: &Heap) -> Result<(), AllocError>
+        requires ids { (heap_of self.old).ids ≡ (heap_of other.now).ids }
+        requires agree { IsConsistent ((heap_of self.old).facts ++ (heap_of other.now).facts) }
+        ensures ok { IfOk result (λ _. TakesFacts (heap_of self.old) (heap_of other.now).facts (heap_of self.new)) }
+        ensures err { OnErr result (IsBetween (heap_of self.old) (heap_of other.now) (heap_of self.new)) }
+    {
+        for table in &TABLES {
+            self.join_table(*table, other)?;
+        }
+        Ok(())
+    }
+
+    /// Takes the facts of another heap, and the earlier of both times. What refuses it is found before anything is taken:
+    /// two sizes of identifiers, or the least key with two contents. The tables of both are gone over side by side. Where
+    /// memory is refused, the heap has some of the other's facts, and the same join can be made again.
+    pub fn join(&mut self, other: &Heap) -> Result<(), JoinRefusal>
+        ensures { JoinsInto (heap_of self.old) (heap_of other.now) result (heap_of self.new) }
+    {
+        if self.ids != other.ids {
+            return Err(JoinRefusal::IdSizes);
+        }
+        if let Some(key) = self.first_difference(other) {
+            return Err(JoinRefusal::Conflict(key));
+        }
+        if self.join_tables(other).is_err() {
+            return Err(JoinRefusal::OutOfMemory);
+        }
+        self.keep_earlier(other.millis);
+        Ok(())
+    }
+}

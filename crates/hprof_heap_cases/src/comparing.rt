@@ -1,0 +1,176 @@
+//! Tables and heaps compared with one another.
+
+use crate::samples::{array, begun, heap_of, load_of};
+use hprof_heap::same;
+use hprof_items::{Fact, IdSize};
+use hprof_tables::{BytesTable, Relation, Stated};
+use hprof_values::{Basic, ConstantList, FieldList, IdList, Root, StaticList};
+use std::alloc::Global;
+use std::process::Abort;
+use std::test::*;
+
+#[test]
+fn tables_of_numbers(rt: HostRuntime) -> Result<(), Fail> {
+    let mut one = Relation::new(rt.alloc());
+    let mut other = Relation::new(rt.alloc());
+    assert!(rt; one.same(&other));
+    assert_eq!(rt; one.state(1, load_of(5))?, Stated::New);
+    assert!(rt; !one.same(&other));
+    assert!(rt; !other.same(&one));
+    assert_eq!(rt; other.state(1, load_of(5))?, Stated::New);
+    assert!(rt; one.same(&other));
+    assert_eq!(rt; one.state(2, load_of(6))?, Stated::New);
+    assert_eq!(rt; other.state(2, load_of(7))?, Stated::New);
+    assert!(rt; !one.same(&other));
+    Ok(())
+}
+
+#[test]
+fn tables_of_bytes(rt: HostRuntime) -> Result<(), Fail> {
+    let mut one = BytesTable::new(rt.alloc());
+    let mut other = BytesTable::new(rt.alloc());
+    assert!(rt; one.same(&other));
+    assert_eq!(rt; one.state(1, b"A")?, Stated::New);
+    assert_eq!(rt; one.state(2, b"B")?, Stated::New);
+    assert_eq!(rt; other.state(2, b"B")?, Stated::New);
+    assert!(rt; !one.same(&other));
+    assert!(rt; !other.same(&one));
+    assert_eq!(rt; other.state(1, b"A")?, Stated::New);
+    assert!(rt; one.same(&other));
+    assert!(rt; other.same(&one));
+    assert_eq!(rt; one.state(3, b"AB")?, Stated::New);
+    assert_eq!(rt; other.state(4, b"AB")?, Stated::New);
+    assert!(rt; !one.same(&other));
+    Ok(())
+}
+
+fn class_of<'a>(id: u64, size: u32) -> Option<Fact<'a>> {
+    Some(Fact::Class {
+        id,
+        trace: 1,
+        parent: 0,
+        loader: 0,
+        signers: 0,
+        domain: 0,
+        reserved1: 0,
+        reserved2: 0,
+        size,
+        constants: ConstantList::new(b"", IdSize::Four)?,
+        statics: StaticList::new(b"", IdSize::Four)?,
+        fields: FieldList::new(b"", IdSize::Four)?,
+    })
+}
+
+fn start_of<'a>(thread: u32, name: u64) -> Fact<'a> {
+    Fact::Start {
+        thread,
+        object: 8,
+        trace: 6,
+        name,
+        group: 3,
+        parent_group: 4,
+    }
+}
+
+fn frame_of<'a>(id: u64, line: i32) -> Fact<'a> {
+    Fact::Frame {
+        id,
+        method: 2,
+        signature: 3,
+        source: 4,
+        class_serial: 5,
+        line,
+    }
+}
+
+fn trace_of<'a>(serial: u32, frame: &'a [u8]) -> Option<Fact<'a>> {
+    Some(Fact::Trace {
+        serial,
+        thread: 7,
+        frames: IdList::new(frame, IdSize::Four)?,
+    })
+}
+
+fn loaded<'a>(serial: u32, name: u64) -> Fact<'a> {
+    Fact::Load {
+        serial,
+        class: 1,
+        trace: 2,
+        name,
+    }
+}
+
+// That heaps of one fact and of the other differ, from one another and from one without facts.
+fn check_differ(
+    rt: &impl Abort,
+    alloc: Global,
+    fact: Fact<'_>,
+    other: Fact<'_>,
+) -> Result<(), Fail> {
+    let heap = heap_of(rt, alloc, IdSize::Four, &[fact])?;
+    let again = heap_of(rt, alloc, IdSize::Four, &[fact])?;
+    let changed = heap_of(rt, alloc, IdSize::Four, &[other])?;
+    let empty = heap_of(rt, alloc, IdSize::Four, &[])?;
+    assert!(rt; same(&heap, &again));
+    assert!(rt; !same(&heap, &changed));
+    assert!(rt; !same(&heap, &empty));
+    assert!(rt; !same(&empty, &heap));
+    Ok(())
+}
+
+#[test]
+fn heaps_that_differ_in_a_record(rt: HostRuntime) -> Result<(), Fail> {
+    let name = Fact::Name { id: 1, text: b"A" };
+    let other_name = Fact::Name { id: 1, text: b"B" };
+    check_differ(&rt, rt.alloc(), name, other_name)?;
+    check_differ(&rt, rt.alloc(), loaded(1, 2), loaded(1, 3))?;
+    let unload = Fact::Unload { serial: 1 };
+    check_differ(&rt, rt.alloc(), unload, Fact::Unload { serial: 2 })?;
+    check_differ(&rt, rt.alloc(), frame_of(1, -3), frame_of(1, -2))?;
+    let trace = trace_of(6, b"\0\0\0\x01").ok_or("no list")?;
+    let other_trace = trace_of(6, b"\0\0\0\x02").ok_or("no list")?;
+    check_differ(&rt, rt.alloc(), trace, other_trace)?;
+    check_differ(&rt, rt.alloc(), start_of(7, 2), start_of(7, 3))?;
+    let end = Fact::End { thread: 7 };
+    check_differ(&rt, rt.alloc(), end, Fact::End { thread: 8 })
+}
+
+#[test]
+fn heaps_that_differ_in_a_sub_record(rt: HostRuntime) -> Result<(), Fail> {
+    let root = Fact::Root(Root::Unknown { id: 1 });
+    let other_root = Fact::Root(Root::Sticky { id: 1 });
+    check_differ(&rt, rt.alloc(), root, other_root)?;
+    let class = class_of(16, 0).ok_or("no list")?;
+    let other_class = class_of(16, 4).ok_or("no list")?;
+    check_differ(&rt, rt.alloc(), class, other_class)?;
+    let bytes = array(16, Basic::Byte, b"abcd");
+    check_differ(&rt, rt.alloc(), bytes, array(16, Basic::Int, b"abcd"))
+}
+
+#[test]
+fn heaps_of_the_same_facts(rt: HostRuntime) -> Result<(), Fail> {
+    let name = Fact::Name { id: 1, text: b"A" };
+    let other_name = Fact::Name { id: 2, text: b"B" };
+    let class = class_of(16, 0).ok_or("no list")?;
+    let object = array(16, Basic::Byte, b"abcd");
+    let facts = [name, other_name, loaded(1, 2), class, object];
+    let heap = heap_of(&rt, rt.alloc(), IdSize::Four, &facts)?;
+    let facts = [object, loaded(1, 2), other_name, name, class];
+    let other = heap_of(&rt, rt.alloc(), IdSize::Four, &facts)?;
+    assert!(rt; same(&heap, &other));
+    assert!(rt; same(&other, &heap));
+    Ok(())
+}
+
+#[test]
+fn heaps_of_two_sizes_or_times(rt: HostRuntime) -> Result<(), Fail> {
+    let heap = begun(rt.alloc(), IdSize::Four, 1)?.finish()?;
+    let again = begun(rt.alloc(), IdSize::Four, 1)?.finish()?;
+    let later = begun(rt.alloc(), IdSize::Four, 2)?.finish()?;
+    let wider = begun(rt.alloc(), IdSize::Eight, 1)?.finish()?;
+    assert!(rt; same(&heap, &again));
+    assert!(rt; !same(&heap, &later));
+    assert!(rt; !same(&later, &heap));
+    assert!(rt; !same(&heap, &wider));
+    Ok(())
+}

@@ -1,0 +1,168 @@
+//! The report `check`: what was read of each part, and what their heap has.
+
+ghost use Rattle.std.specs.Prelude.{◌≡◌, ◌↔◌, List, ℕ, flat_map, IsTrue};
+ghost use Rattle.hprof_items.specs.declared.health.Health.TheVariants.{Well};
+ghost use Rattle.hprof_items.specs.Device.{Writes, LeavesHealth};
+ghost use Rattle.hprof_items.specs.FactValue.{value_of};
+ghost use Rattle.hprof_heap.specs.Heap.{heap_of};
+ghost use Rattle.hprof_reports.specs.Check.{version_text, yes_or_no, part_line, part_lines, table_word, table_line, all_tables, IsBadName, AreBadNames, IsCheck};
+
+use crate::line::{write_count, write_pieces};
+use hprof_heap::{Heap, Table};
+use hprof_items::{Fact, Target, Version, WriteFault};
+use hprof_stream::PartSummary;
+use hprof_text::is_modified;
+use itoa::Buffer;
+
+/// The tables in their order.
+const TABLES: [Table; 10] = [
+    Table::Names,
+    Table::Loads,
+    Table::Unloads,
+    Table::Frames,
+    Table::Traces,
+    Table::Starts,
+    Table::Ends,
+    Table::Roots,
+    Table::Classes,
+    Table::Objects,
+];
+
+/// The number of a version.
+fn version_text(version: Version) -> &'static [u8]
+    ensures { result.now ≡ version_text version }
+{
+    match version {
+        Version::V101 => b"1.0.1",
+        Version::V102 => b"1.0.2",
+    }
+}
+
+/// The word for an answer.
+fn yes_or_no(answer: bool) -> &'static [u8]
+    ensures { result.now ≡ yes_or_no answer }
+{
+    if answer { b"yes" } else { b"no" }
+}
+
+/// The word for the facts of a table.
+fn table_word(table: Table) -> &'static [u8]
+    ensures { result.now ≡ table_word table }
+{
+    match table {
+        Table::Names => b"names",
+        Table::Loads => b"loads",
+        Table::Unloads => b"unloads",
+        Table::Frames => b"frames",
+        Table::Traces => b"traces",
+        Table::Starts => b"starts",
+        Table::Ends => b"ends",
+        Table::Roots => b"roots",
+        Table::Classes => b"classes",
+        Table::Objects => b"objects",
+    }
+}
+
+/// Writes the line of a part, which has that number. At a fault some of it was written, from the front.
+fn write_part<W: Target>(
+    number: usize,
+    part: &PartSummary,
+    target: &mut W,
+) -> Result<(), WriteFault>
+    requires { W.health target.old ≡ Well }
+    ensures bytes { Writes (W.written target.old) (W.written target.new) result (part_line number part.now) }
+    ensures health { LeavesHealth result (W.health target.new) }
+{
+    let mut number_digits = Buffer::new();
+    let mut width_digits = Buffer::new();
+    let mut millis_digits = Buffer::new();
+    let mut records_digits = Buffer::new();
+    let mut facts_digits = Buffer::new();
+    let pieces = [
+        b"part ",
+        number_digits.format(number).as_bytes(),
+        b": version ",
+        version_text(part.header.version),
+        b" ids ",
+        width_digits.format(part.header.ids.width()).as_bytes(),
+        b" time ",
+        millis_digits.format(part.header.millis).as_bytes(),
+        b" records ",
+        records_digits.format(part.records).as_bytes(),
+        b" facts ",
+        facts_digits.format(part.facts).as_bytes(),
+        b" end ",
+        yes_or_no(part.ended),
+        b"\n",
+    ];
+    write_pieces(&pieces, target)
+}
+
+/// Writes a line for each part. At a fault some of them were written, from the front.
+fn write_parts<W: Target>(parts: &[PartSummary], target: &mut W) -> Result<(), WriteFault>
+    requires { W.health target.old ≡ Well }
+    ensures bytes { Writes (W.written target.old) (W.written target.new) result (part_lines 0 parts.now) }
+    ensures health { LeavesHealth result (W.health target.new) }
+{
+    for (number, part) in parts.iter().enumerate() {
+        write_part(number, part, target)?;
+    }
+    Ok(())
+}
+
+/// Writes a line for each table. At a fault some of them were written, from the front.
+fn write_tables<W: Target>(heap: &Heap, target: &mut W) -> Result<(), WriteFault>
+    requires { W.health target.old ≡ Well }
+    ensures bytes { Writes (W.written target.old) (W.written target.new) result
+        (flat_map (table_line (heap_of heap.now).facts) all_tables) }
+    ensures health { LeavesHealth result (W.health target.new) }
+{
+    for table in &TABLES {
+        write_count(table_word(*table), heap.len(*table) as u64, target)?;
+    }
+    Ok(())
+}
+
+/// Whether a fact is a name that is not modified UTF-8.
+fn is_bad_name(fact: &Fact<'_>) -> bool
+    ensures { IsTrue result ↔ IsBadName (value_of fact.now) }
+{
+    match *fact {
+        Fact::Name { text, .. } => !is_modified(text),
+        _ => false,
+    }
+}
+
+/// How many names are not modified UTF-8.
+fn count_bad_names(heap: &Heap) -> usize
+    ensures { AreBadNames (heap_of heap.now).facts result }
+{
+    let names = heap.len(Table::Names);
+    let mut bad = 0;
+    for fact in heap.rows(Table::Names) {
+        if is_bad_name(&fact) {
+            prove!(bad < names);
+            bad += 1;
+        }
+    }
+    bad
+}
+
+/// Writes the report `check`: a line for each part in order, which says what was read of it, a line for each table
+/// of the heap, which says how many facts it has, and how many names are not modified UTF-8. It takes no memory and
+/// flushes nothing. At a fault some of the report was written, from the front.
+pub fn write_check<W: Target>(
+    summaries: &[PartSummary],
+    heap: &Heap,
+    target: &mut W,
+) -> Result<(), WriteFault>
+    requires { W.health target.old ≡ Well }
+    ensures bytes { (text : List ℕ) × IsCheck summaries.now (heap_of heap.now).facts text
+        × Writes (W.written target.old) (W.written target.new) result text }
+    ensures health { LeavesHealth result (W.health target.new) }
+{
+    let bad = count_bad_names(heap);
+    write_parts(summaries, target)?;
+    write_tables(heap, target)?;
+    write_count(b"bad names", bad as u64, target)
+}

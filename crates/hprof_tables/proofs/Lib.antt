@@ -1,0 +1,9 @@
+pub mod SortedRows
+pub mod SortedTable
+pub mod Places
+pub mod SideBySide
+pub mod Merged
+pub mod Unions
+pub mod Contents
+pub mod Taking
+pub mod Missing

@@ -1,0 +1,208 @@
+-- Rows whose keys are new, taken into the run of a table.
+use Rattle.std.proofs.Common.{◌≡◌, ◌≢◌, ◌<◌, ◌≤◌, ◌⊎◌, ℕ, List, [], ◌∷◌, length, Option, Some, None, refl, sym, ap, subst, ◌∙◌, inl, inr, arith}
+use Rattle.std.specs.Prelude.{is_some}
+use Rattle.std.specs.List.{AllByRecursion}
+use Rattle.std.specs.Option.{option_or}
+use Rattle.std.proofs.lemmas.Bool.{cases_order}
+use Rattle.hprof_tables.specs.SortedRows.{row_at, IsAscending, IsTable, Misses, end_of, merged}
+use Rattle.hprof_tables.specs.Union.{AreApart, AreUnion}
+use Rattle.hprof_tables.proofs.SortedRows.{AllKeys, AllKeys-weaker, ascending_head, ascending_tail, below_end, is_none, row_at-here, row_at-past, merged-row, merged-ascending}
+use Rattle.hprof_tables.proofs.SortedTable.{table-row, table-ascending, table-in_run, table-below}
+
+module _ {V : Type 0} where
+  -- ---- rows that have no key in common
+
+  -- what is found, or else nothing
+  or_none : (found : Option V) → option_or found None ≡ found
+  or_none None = refl
+  or_none (Some row) = refl
+
+  -- what is found is not nothing
+  found-none : (row : V) → Some row ≡ None → ⊥
+  found-none row e = cc
+
+  -- behind the first row the others have none in common either
+  apart_tail : (rows : List (ℕ × V)) (other : ℕ × V) (others : List (ℕ × V)) → AreApart rows (other ∷ others) → AreApart rows others
+  apart_tail rows other others apart key = elim (cases_order key other.0) [
+    | inl here ↦ elim (apart key) [
+      | inl none ↦ inl none
+      | inr none ↦ absurd (found-none other.1 (sym (row_at-here key other others here) ∙ none))
+    ]
+    | inr off ↦
+        let past : key ≢ other.0 = λ e. elim off [ inl lt ↦ omega arith | inr gt ↦ omega arith ] in
+        elim (apart key) [
+          | inl none ↦ inl none
+          | inr none ↦ inr (sym (row_at-past key other others past) ∙ none)
+        ]
+  ]
+
+  -- the first list misses each key of the second
+  pub apart_all : (rows others : List (ℕ × V)) → AreApart rows others → AllKeys (Misses rows) others
+  apart_all rows [] apart = tt
+  apart_all rows (other ∷ others) apart = (missed (apart other.0), apart_all rows others (apart_tail rows other others apart))
+    where
+      missed : (row_at other.0 rows ≡ None) ⊎ (row_at other.0 (other ∷ others) ≡ None) → Misses rows other.0
+      missed (inl none) = ap is_some none
+      missed (inr none) = absurd (found-none other.1 (sym (row_at-here other.0 other others refl) ∙ none))
+
+  -- nothing is taken into rows
+  pub nothing_taken : (rows fresh : List (ℕ × V)) → IsAscending rows → length fresh ≡ 0 → AreUnion rows fresh rows
+  nothing_taken rows [] up none = record { ascends = up; each = λ key. sym (or_none (row_at key rows)) }
+  nothing_taken rows (row ∷ fresh) up none = cc
+
+  -- ---- each key of a list
+
+  AllKeys-two : (P Q R : ℕ → Type 0) (rows : List (ℕ × V)) → ((key : ℕ) → P key → Q key → R key) → AllKeys P rows → AllKeys Q rows → AllKeys R rows
+  AllKeys-two P Q R [] more one two = tt
+  AllKeys-two P Q R (row ∷ rows) more one two = (more row.0 one.0 two.0, AllKeys-two P Q R rows more one.1 two.1)
+
+  -- a row is found
+  abbrev IsThere : List (ℕ × V) → ℕ → Type 0
+  IsThere rows key = (row : V) × (row_at key rows ≡ Some row)
+
+  -- each key of a list finds a row there
+  all_found : (rows : List (ℕ × V)) → IsAscending rows → AllKeys (IsThere rows) rows
+  all_found [] up = tt
+  all_found (row ∷ rows) up = (
+    (row.1, row_at-here row.0 row rows refl),
+    AllKeys-two (λ key. row.0 < key) (IsThere rows) (IsThere (row ∷ rows)) rows
+        (λ key lt there. let past : key ≢ row.0 = λ e. omega arith in (there.0, row_at-past key row rows past ∙ there.1))
+        (ascending_head row rows up) (all_found rows (ascending_tail row rows up)),
+  )
+
+  -- and what holds of each key holds of one that is found
+  key_found : (P : ℕ → Type 0) (rows : List (ℕ × V)) (key : ℕ) → AllKeys P rows → IsThere rows key → P key
+  key_found P [] key all there = absurd (found-none there.0 (sym there.1))
+  key_found P (row ∷ rows) key all there = elim (cases_order key row.0) [
+    | inl here ↦ subst P (sym here) all.0
+    | inr off ↦
+        let past : key ≢ row.0 = λ e. elim off [ inl lt ↦ omega arith | inr gt ↦ omega arith ] in
+        key_found P rows key all.1 (there.0, sym (row_at-past key row rows past) ∙ there.1)
+  ]
+
+  -- ---- the run with more rows
+
+  end-below : (bound : ℕ) (rows : List (ℕ × V)) → AllKeys (λ key. key < bound) rows → end_of rows ≤ bound
+  end-below bound [] below = omega arith
+  end-below bound (row ∷ []) below = let lt : row.0 < bound = below.0 in omega arith
+  end-below bound (row ∷ next ∷ rows) below = end-below bound (next ∷ rows) below.1
+
+  module _ (run below fresh : List (ℕ × V)) (sound : IsTable run below) (up : IsAscending fresh) (apart : AreApart (merged run below) fresh) where
+    -- a row of the table is not among the others
+    not_fresh : (key : ℕ) → IsThere (merged run below) key → row_at key fresh ≡ None
+    not_fresh key there = elim (apart key) [
+      | inl none ↦ absurd (found-none there.0 (sym there.1 ∙ none))
+      | inr none ↦ none
+    ]
+
+    apart_run : AreApart run fresh
+    apart_run key = by_run (row_at key run) refl
+      where
+        by_run : (found : Option V) → row_at key run ≡ found → (row_at key run ≡ None) ⊎ (row_at key fresh ≡ None)
+        by_run None e = inl e
+        by_run (Some row) e = inr (not_fresh key (row, table-in_run key run below row sound e))
+
+    all_row : (key : ℕ) → row_at key (merged run fresh) ≡ option_or (row_at key run) (row_at key fresh)
+    all_row key = merged-row key run fresh (apart_all run fresh apart_run)
+
+    all_ascends : IsAscending (merged run fresh)
+    all_ascends = merged-ascending run fresh sound.run_ascends up (apart_all run fresh apart_run)
+
+    end_later : end_of run ≤ end_of (merged run fresh)
+    end_later =
+        end-below (end_of (merged run fresh)) run
+        (AllKeys-weaker (IsThere run) (λ key. key < end_of (merged run fresh)) run
+        (λ key there. key_found (λ k. k < end_of (merged run fresh)) (merged run fresh) key (below_end (merged run fresh) all_ascends)
+        (there.0, all_row key ∙ ap (λ (found : Option V). option_or found (row_at key fresh)) there.1))
+        (all_found run sound.run_ascends))
+
+    missed_below : (key : ℕ) → (key < end_of run) × Misses run key → IsThere below key
+        → (key < end_of (merged run fresh)) × Misses (merged run fresh) key
+    missed_below key is there =
+        let none : row_at key run ≡ None = is_none (row_at key run) is.1 in
+        let lt : key < end_of run = is.0 in
+        let le = end_later in (
+          omega arith,
+          ap is_some (all_row key ∙ ap (λ (found : Option V). option_or found (row_at key fresh)) none
+              ∙ not_fresh key (there.0, table-below key run below sound none ∙ there.1)),
+        )
+
+    pub merge_sound : IsTable (merged run fresh) below
+    merge_sound = record {
+      run_ascends = all_ascends;
+      below_ascends = sound.below_ascends;
+      are_below =
+          AllKeys-two (λ key. (key < end_of run) × Misses run key) (IsThere below)
+          (λ key. (key < end_of (merged run fresh)) × Misses (merged run fresh) key) below missed_below sound.are_below
+          (all_found below sound.below_ascends);
+    }
+
+    -- at a key two of the three have nothing
+    turned : (found other more : Option V) → (option_or found other ≡ None) ⊎ (more ≡ None)
+        → option_or (option_or found more) other ≡ option_or (option_or found other) more
+    turned None None more one = or_none more
+    turned None (Some row) None one = refl
+    turned None (Some row) (Some more) (inl none) = absurd (found-none row none)
+    turned None (Some row) (Some more) (inr none) = absurd (found-none more none)
+    turned (Some row) other more one = refl
+
+    pub merge_union : AreUnion (merged run below) fresh (merged (merged run fresh) below)
+    merge_union = record {
+      ascends = table-ascending (merged run fresh) below merge_sound;
+      each = λ key.
+          table-row key (merged run fresh) below merge_sound
+          ∙ ap (λ (found : Option V). option_or found (row_at key below)) (all_row key)
+          ∙ turned (row_at key run) (row_at key below) (row_at key fresh) (either key (apart key))
+          ∙ ap (λ (found : Option V). option_or found (row_at key fresh)) (sym (table-row key run below sound));
+    }
+      where
+        either : (key : ℕ) → (row_at key (merged run below) ≡ None) ⊎ (row_at key fresh ≡ None)
+            → (option_or (row_at key run) (row_at key below) ≡ None) ⊎ (row_at key fresh ≡ None)
+        either key (inl none) = inl (sym (table-row key run below sound) ∙ none)
+        either key (inr none) = inr none
+
+    -- the same of lists that are these
+    pub table_is : (all after : List (ℕ × V)) → all ≡ merged run fresh → after ≡ below → IsTable all after
+    table_is all after e e_after = rw (e, e_after) merge_sound
+
+    pub union_is : (all after : List (ℕ × V)) → all ≡ merged run fresh → after ≡ below → AreUnion (merged run below) fresh (merged all after)
+    union_is all after e e_after = rw (e, e_after) merge_union
+
+  -- ---- each row of a union is one of both
+
+  abbrev pub AllRows : (ℕ → V → Type 0) → List (ℕ × V) → Type 0
+  AllRows P rows = AllByRecursion (λ row. P row.0 row.1) rows
+
+  row_found : (P : ℕ → V → Type 0) (rows : List (ℕ × V)) (key : ℕ) (row : V) → AllRows P rows → row_at key rows ≡ Some row → P key row
+  row_found P [] key row all e = absurd (found-none row (sym e))
+  row_found P (first ∷ rows) key row all e = elim (cases_order key first.0) [
+    | inl here ↦
+        let both : Some first.1 ≡ Some row = sym (row_at-here key first rows here) ∙ e in
+        let it : first.1 ≡ row = cc in
+        subst (λ (k : ℕ). P k row) (sym here) (subst (P first.0) it all.0)
+    | inr off ↦
+        let past : key ≢ first.0 = λ same. elim off [ inl lt ↦ omega arith | inr gt ↦ omega arith ] in
+        row_found P rows key row all.1 (sym (row_at-past key first rows past) ∙ e)
+  ]
+
+  pub all_rows : (P : ℕ → V → Type 0) (rows : List (ℕ × V)) → IsAscending rows → ((key : ℕ) (row : V) → row_at key rows ≡ Some row → P key row) → AllRows P rows
+  all_rows P [] up each = tt
+  all_rows P (first ∷ rows) up each = (
+    each first.0 first.1 (row_at-here first.0 first rows refl),
+    all_rows P rows (ascending_tail first rows up) (λ key row e. each key row (row_at-past key first rows (behind key row e) ∙ e)),
+  )
+    where
+      behind : (key : ℕ) (row : V) → row_at key rows ≡ Some row → key ≢ first.0
+      behind key row e =
+          let lt : first.0 < key = key_found (λ k. first.0 < k) rows key (ascending_head first rows up) (row, e) in
+          λ same. omega arith
+
+  pub union_rows : (P : ℕ → V → Type 0) (rows fresh all : List (ℕ × V)) → AllRows P rows → AllRows P fresh → AreUnion rows fresh all → AllRows P all
+  union_rows P rows fresh all old new union =
+      all_rows P all union.ascends (λ key row e. either key row (row_at key rows) refl (sym (union.each key) ∙ e))
+    where
+      either : (key : ℕ) (row : V) (found : Option V) → row_at key rows ≡ found → option_or (row_at key rows) (row_at key fresh) ≡ Some row → P key row
+      either key row None is e =
+          row_found P fresh key row new (sym (ap (λ (f : Option V). option_or f (row_at key fresh)) is) ∙ e)
+      either key row (Some one) is e =
+          row_found P rows key row old (is ∙ sym (ap (λ (f : Option V). option_or f (row_at key fresh)) is) ∙ e)

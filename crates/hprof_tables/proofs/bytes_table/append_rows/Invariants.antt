@@ -1,0 +1,13 @@
+use Rattle.std.proofs.Common.{◌≡◌}
+use Rattle.hprof_tables.specs.Places.{AreWithin, IsBehind, rows_lying}
+use Rattle.hprof_tables.specs.Relation.{contents_of}
+use Rattle.hprof_tables.proofs.bytes_table.append_rows.Given as goal
+
+-- the bytes of the rows that were taken lie at their places, behind those that were there
+abbrev pub invariant-loop-key : goal.invariant-loop-key
+invariant-loop-key l =
+    record {
+      behind : IsBehind l.fn.bytes.items l.bytes.items;
+      within : AreWithin l.bytes.items l.places.items;
+      lying : rows_lying l.bytes.items l.places.items ≡ contents_of (λ row. row.0.now) l.yielded;
+    }

@@ -1,0 +1,6 @@
+use Rattle.std.proofs.Common.{arith}
+use Rattle.hprof_tables.proofs.SortedRows.{merged-length}
+use Rattle.hprof_tables.proofs.sorted_table.SortedTable.len.Goals as goal
+
+pub returns : goal.returns
+returns g c = omega (arith, merged-length c.args.self.now.run.items c.args.self.now.below.entries)

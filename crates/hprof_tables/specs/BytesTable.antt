@@ -1,0 +1,22 @@
+-- What tables of classes and objects show.
+use Rattle.std.specs.Prelude.{◌≡◌, ℕ, List, ⊤}
+use Rattle.hprof_tables.specs.declared.relation.Stated.{Stated}
+use Rattle.hprof_tables.specs.declared.relation.Stated.TheVariants.{New, Same, Differs}
+use Rattle.hprof_tables.specs.declared.bytes_table.BytesTable.{BytesTable}
+use Rattle.hprof_tables.specs.declared.bytes_table.BytesRows.{BytesRows}
+use Rattle.hprof_tables.specs.Places.{rows_lying}
+use Rattle.hprof_tables.specs.SortedTable.{entries_of, entries_left}
+
+-- the bytes of the rows with their keys, in order of key
+abbrev pub byte_rows : BytesTable → List (ℕ × List ℕ)
+byte_rows table = rows_lying table.bytes.items (entries_of table.rows)
+
+-- those that are still to come
+abbrev pub byte_rows_left : BytesRows → List (ℕ × List ℕ)
+byte_rows_left rows = rows_lying rows.bytes.now (entries_left rows.entries)
+
+-- only bytes that are new are put behind the others; else all that there is stays as it was
+abbrev pub LeavesBytes : {X : Type 0} → Stated → X → X → Type 0
+LeavesBytes New old new = ⊤
+LeavesBytes Same old new = new ≡ old
+LeavesBytes Differs old new = new ≡ old

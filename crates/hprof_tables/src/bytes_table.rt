@@ -1,0 +1,237 @@
+//! The tables of names, classes and objects: bytes by key.
+
+ghost use Rattle.std.specs.Prelude.{◌≡◌, ◌↔◌, ◌++◌, ◌+◌, ◌<◌, ◌≤◌, ◌⊎◌, List, [], length, IfOk, OnOk, OnErr, IsTrue, None, vec_len, vec_capacity};
+ghost use Rattle.std.specs.Option.{option_copied};
+ghost use Rattle.std.specs.Ordering.{nat_cmp};
+ghost use Rattle.std.specs.BTreeMap.{is_at};
+ghost use Rattle.std.specs.Map.{lookup};
+ghost use Rattle.hprof_tables.specs.Places.{IsWithin, AreWithin, AreWithin-prop, IsBehind, lying, rows_lying, spare_behind, the_bytes};
+ghost use Rattle.hprof_tables.specs.Relation.{contents_of};
+ghost use Rattle.hprof_tables.specs.SortedTable.{entries_of, entries_left};
+
+use crate::relation::Stated;
+use crate::side_by_side::{LentBytes, first_difference, missing_rows, same_rows};
+use crate::sorted_table::{Entries, SortedTable, Visit};
+use std::alloc::{AllocError, Global};
+
+/// Where the bytes of a row lie: at `start` and behind it, before `end`.
+#[derive(Clone, Copy)]
+pub(crate) struct Place {
+    start: usize,
+    end: usize,
+}
+
+/// How many bytes may be had twice as long where they are to grow. More of them grow by an eighth: the system then moves
+/// them without a copy.
+const MOST_DOUBLED: usize = 33_554_432;
+
+/// Puts bytes behind others. Where there is no room left for them, more is had than they need, for those that follow.
+fn append(bytes: &mut Vec<u8>, others: &[u8]) -> Result<(), AllocError>
+    ensures ok { IfOk result (λ _. bytes.new.items ≡ bytes.old.items ++ others.now) }
+    ensures err { OnErr result (bytes.new.items ≡ bytes.old.items) }
+    ensures full { OnErr result (vec_capacity bytes.old < vec_len bytes.old + length others.now) }
+    ensures spare { OnOk result (vec_capacity bytes.old < vec_len bytes.old + length others.now
+        → vec_len bytes.old + (length others.now + spare_behind (vec_len bytes.old)) ≤ vec_capacity bytes.new) }
+{
+    let len = bytes.len();
+    if others.len() > bytes.capacity() - len {
+        let more = if len < MOST_DOUBLED { len } else { len / 8 };
+        bytes.reserve_exact(others.len() + more)?;
+    }
+    bytes.extend_from_slice(others)
+}
+
+/// Bytes that visit their key: those that lie there are compared with them, and else they are put behind all others.
+#[derive(Clone, Copy)]
+struct StatedBytes<'a> {
+    bytes: &'a [u8],
+}
+
+impl Visit<Place> for StatedBytes<'_> {
+    type Answer = bool;
+
+    // The bytes of all rows.
+    type Room = Vec<u8>;
+
+    ghost held = { λ room. room.items };
+
+    ghost answers = { λ stated held place same. IsWithin held place → (IsTrue same ↔ (lying held place ≡ stated.bytes.now)) };
+
+    ghost makes = { λ stated old place new. (new ≡ old ++ stated.bytes.now) × (place.start ≡ length old) × (place.end ≡ length new) };
+
+    ghost refuses = { λ stated room. vec_capacity room < vec_len room + length stated.bytes.now };
+
+    fn ask(self, place: &Place, room: &Vec<u8>) -> bool {
+        match room.get(place.start..place.end) {
+            Some(bytes) => bytes == self.bytes,
+            None => false,
+        }
+    }
+
+    fn make(self, room: &mut Vec<u8>) -> Result<Place, AllocError> {
+        let start = room.len();
+        append(room, self.bytes)?;
+        let end = room.len();
+        Ok(Place { start, end })
+    }
+}
+
+/// Puts the bytes of rows behind others, and tells where they lie. Where memory is refused, some of them were put there.
+fn append_rows(
+    alloc: Global,
+    bytes: &mut Vec<u8>,
+    lent: Vec<(u64, LentBytes<'_>)>,
+) -> Result<Vec<(u64, Place)>, AllocError>
+    ensures behind { IsBehind bytes.old.items bytes.new.items }
+    ensures within { IfOk result (λ places. AreWithin bytes.new.items places.items) }
+    ensures lying { IfOk result (λ places. rows_lying bytes.new.items places.items ≡ contents_of (λ row. row.0.now) lent.entry.items) }
+{
+    let mut places = Vec::new(alloc);
+    places.reserve_exact(lent.len())?;
+    for (key, row) in lent {
+        let place = StatedBytes { bytes: row.0 }.make(bytes)?;
+        places.push((key, place))?;
+    }
+    Ok(places)
+}
+
+/// Rows of bytes by key, in order of key. All bytes lie in one vector, as they came, so that a row takes no memory of its
+/// own.
+#[derive(Drop)]
+pub struct BytesTable {
+    rows: SortedTable<Place>,
+    bytes: Vec<u8>,
+    alloc: Global,
+    ghost sound: { AreWithin bytes.items (entries_of rows) } by { AreWithin-prop bytes.items (entries_of rows) },
+}
+
+impl BytesTable {
+    ghost use Rattle.hprof_tables.specs.Relation.{States};
+    ghost use Rattle.hprof_tables.specs.BytesTable.{byte_rows, byte_rows_left, LeavesBytes};
+    ghost use Rattle.hprof_tables.specs.SortedTable.{LacksRoom};
+    ghost use Rattle.hprof_tables.specs.SideBySide.{IsFirstDifference};
+    ghost use Rattle.hprof_tables.specs.SortedRows.{IsAscending};
+    ghost use Rattle.hprof_tables.specs.Union.{AreApart, AreUnion};
+
+    /// A table with no rows. It takes no memory yet.
+    pub fn new(alloc: Global) -> Self
+        ensures none { byte_rows result ≡ [] }
+        ensures no_room { (vec_capacity result.rows.run ≡ 0) × (vec_capacity result.bytes ≡ 0) }
+    {
+        BytesTable {
+            rows: SortedTable::new(alloc),
+            bytes: Vec::new(alloc),
+            alloc,
+        }
+    }
+
+    /// States bytes under a key. A key that is there takes no memory, and keeps its row.
+    pub fn state(&mut self, key: u64, bytes: &[u8]) -> Result<Stated, AllocError>
+        ensures ok { IfOk result (λ stated. States the_bytes (byte_rows self.old) key bytes.now stated (byte_rows self.new)) }
+        ensures err { OnErr result (byte_rows self.new ≡ byte_rows self.old) }
+        ensures absent { OnErr result (lookup (is_at (nat_cmp key)) (byte_rows self.old) ≡ None) }
+        ensures full { OnErr result (LacksRoom self.old.rows key ⊎ (vec_capacity self.old.bytes < vec_len self.old.bytes + length bytes.now)) }
+        ensures kept { IfOk result (λ stated. LeavesBytes stated self.old.bytes self.new.bytes) }
+    {
+        match self
+            .rows
+            .visit(key, StatedBytes { bytes }, &mut self.bytes)?
+        {
+            None => Ok(Stated::New),
+            Some(true) => Ok(Stated::Same),
+            Some(false) => Ok(Stated::Differs),
+        }
+    }
+
+    /// The bytes under a key.
+    pub fn get(&self, key: u64) -> Option<&[u8]>
+        ensures { option_copied result ≡ lookup (is_at (nat_cmp key)) (byte_rows self.now) }
+    {
+        let place = self.rows.get(key)?;
+        Some(&self.bytes[place.start..place.end])
+    }
+
+    /// The number of rows.
+    pub fn len(&self) -> usize
+        ensures { result ≡ length (byte_rows self.now) }
+    {
+        self.rows.len()
+    }
+
+    /// Whether both have the same rows.
+    pub fn same(&self, other: &Self) -> bool
+        ensures { IsTrue result ↔ (byte_rows self.now ≡ byte_rows other.now) }
+    {
+        same_rows(self.rows(), other.rows())
+    }
+
+    /// The least key under which both have a row, with different bytes.
+    pub fn first_difference(&self, other: &Self) -> Option<u64>
+        ensures { IsFirstDifference (byte_rows self.now) (byte_rows other.now) result }
+    {
+        first_difference(self.rows(), other.rows())
+    }
+
+    /// Takes rows whose keys are new. Where memory is refused, some of their bytes were put behind those of the rows.
+    fn take_rows(&mut self, lent: Vec<(u64, LentBytes<'_>)>) -> Result<(), AllocError>
+        requires ascending { IsAscending (contents_of (λ row. row.0.now) lent.items) }
+        requires apart { AreApart (byte_rows self.old) (contents_of (λ row. row.0.now) lent.items) }
+        ensures ok { IfOk result (λ _. AreUnion (byte_rows self.old) (contents_of (λ row. row.0.now) lent.entry.items) (byte_rows self.new)) }
+        ensures err { OnErr result (entries_of self.new.rows ≡ entries_of self.old.rows) }
+        ensures behind { IsBehind self.old.bytes.items self.new.bytes.items }
+    {
+        let fresh = append_rows(self.alloc, &mut self.bytes, lent)?;
+        self.rows.merge(self.alloc, fresh)
+    }
+
+    /// Takes the rows of another whose keys are new. Both are gone over side by side; where memory is refused, nothing
+    /// changes.
+    pub fn join(&mut self, other: &Self) -> Result<(), AllocError>
+        ensures ok { IfOk result (λ _. AreUnion (byte_rows self.old) (byte_rows other.now) (byte_rows self.new)) }
+        ensures err { OnErr result (byte_rows self.new ≡ byte_rows self.old) }
+    {
+        let missing = missing_rows(self.alloc, self.rows(), other.rows())?;
+        let len = self.bytes.len();
+        let taken = self.take_rows(missing);
+        if taken.is_err() {
+            self.bytes.truncate(len);
+        }
+        taken
+    }
+
+    /// The rows, in order of key.
+    pub fn rows(&self) -> BytesRows<'_>
+        ensures all { byte_rows_left result ≡ byte_rows self.now }
+        ensures ascending { IsAscending (byte_rows_left result) }
+    {
+        BytesRows {
+            entries: self.rows.iter(),
+            bytes: self.bytes.as_slice(),
+        }
+    }
+}
+
+/// The rows of a table with their keys, in order of key.
+#[derive(Drop)]
+pub struct BytesRows<'a> {
+    entries: Entries<'a, Place>,
+    bytes: &'a [u8],
+    ghost sound: { AreWithin bytes.now (entries_left entries) } by { AreWithin-prop bytes.now (entries_left entries) },
+}
+
+impl<'a> Iterator for BytesRows<'a> {
+    ghost use Rattle.std.specs.Iterator.{YieldsFirstBy, item_count};
+    ghost use Rattle.hprof_tables.specs.BytesTable.{byte_rows_left};
+
+    type Item = (u64, &'a [u8]);
+
+    ghost next_gives = { YieldsFirstBy (λ row. (row.0, row.1.now)) byte_rows_left };
+
+    ghost remaining = { item_count byte_rows_left };
+
+    #[inline(always)]
+    fn next(&mut self) -> Option<(u64, &'a [u8])> {
+        let (key, place) = self.entries.next()?;
+        Some((key, &self.bytes[place.start..place.end]))
+    }
+}

@@ -1,0 +1,15 @@
+//! Tables of rows by key, which know nothing of facts: rows of any content, and rows of bytes, which lie in one vector.
+#![tactic(auto)]
+
+mod bytes_table;
+mod content;
+mod merging;
+mod relation;
+mod rows;
+mod side_by_side;
+mod sorted_table;
+
+pub use bytes_table::{BytesRows, BytesTable};
+pub use content::{Content, Statement};
+pub use relation::{Relation, Stated};
+pub use rows::Rows;

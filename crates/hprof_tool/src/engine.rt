@@ -1,4 +1,0 @@
-//! What the program's commands do.
-
-pub(crate) mod join;
-pub(crate) mod parts;
