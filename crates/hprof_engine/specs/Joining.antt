@@ -188,14 +188,17 @@ abbrev pub joined_of : Result Kept ToolFault → Result Joined ToolFault
 joined_of (Ok kept) = Ok kept.joined
 joined_of (Err fault) = Err fault
 
--- how many of the readers were read to their ends, by the answer: all, or those before the one that was refused
+-- how many of the readers were read to their ends, by the answer: all, or those before the one that was refused; memory that
+-- is not a part's own is wanted before any is read
 abbrev pub read_count : {A : Type 0} → Result A ToolFault → ℕ → ℕ
 read_count (Err (tool.Part index fault)) all = index
+read_count (Err tool.OutOfMemory) all = 0
 read_count other all = all
 
 -- all parts were read
 abbrev pub AreRead : {A : Type 0} → Result A ToolFault → Type 0
 AreRead (Err (tool.Part index fault)) = ⊥
+AreRead (Err tool.OutOfMemory) = ⊥
 AreRead other = ⊤
 
 -- ---- no other answer
@@ -212,18 +215,18 @@ is_want (faults.Malformed at reason) = false
 is_want faults.Failed = false
 is_want faults.Read = false
 
-abbrev pub IsHindered : Result Joined ToolFault → Type 0
+abbrev pub IsHindered : {A : Type 0} → Result A ToolFault → Type 0
 IsHindered (Err (tool.Part index fault)) = is_want fault ≡ true
 IsHindered (Err tool.OutOfMemory) = ⊤
 IsHindered other = ⊥
 
-abbrev pub IsOkOrConflict : Result Joined ToolFault → Type 0
-IsOkOrConflict (Ok joined) = ⊤
+abbrev pub IsOkOrConflict : {A : Type 0} → Result A ToolFault → Type 0
+IsOkOrConflict (Ok done) = ⊤
 IsOkOrConflict (Err (tool.Conflict key)) = ⊤
 IsOkOrConflict other = ⊥
 
 -- what is refused before anything is written
 abbrev pub IsBeforeWriting : {A : Type 0} → Result A ToolFault → Type 0
-IsBeforeWriting (Ok joined) = ⊥
+IsBeforeWriting (Ok done) = ⊥
 IsBeforeWriting (Err (tool.Write fault)) = ⊥
 IsBeforeWriting (Err other) = ⊤

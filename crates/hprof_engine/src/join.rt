@@ -16,9 +16,9 @@ ghost use Rattle.hprof_heap.specs.State.{IsState, HaveTwoSizes};
 ghost use Rattle.hprof_engine.specs.Joining.{joined_of, Tell, Joins, StopsWriting, Disagree, IsAccepted, RefusesPart, AreReadOut, read_count, AreRead, IsHindered, IsOkOrConflict, IsBeforeWriting};
 
 use crate::joined::{Joined, Kept};
-use crate::parts::read_parts;
+use crate::read::read_heap;
 use crate::tool_fault::ToolFault;
-use hprof_heap::{Gatherer, Refusal, write_canonical};
+use hprof_heap::write_canonical;
 use hprof_items::{Source, Target};
 use hprof_stream::Limits;
 use std::alloc::Global;
@@ -74,18 +74,7 @@ pub fn join_kept<R: Source, W: Target>(
         → All (λ reader. R.health reader ≡ Well) readers.new → W.health target.new ≡ Well
         → (IsHindered (joined_of result) → ⊥) → IsOkOrConflict (joined_of result) }
 {
-    let mut gatherer = Gatherer::new(alloc);
-    if let Err(fault) = read_parts(alloc, readers, limits, &mut gatherer) {
-        return Err(fault);
-    }
-    let heap = match gatherer.finish() {
-        Ok(heap) => heap,
-        Err(Refusal::NoParts) => return Err(ToolFault::NoParts),
-        Err(Refusal::IdSizes) => return Err(ToolFault::IdSizes),
-        Err(Refusal::Conflict(key)) => return Err(ToolFault::Conflict(key)),
-        // All parts were read, so the gatherer answered no fault.
-        Err(Refusal::Failed) => unreachable!(),
-    };
+    let heap = read_heap(alloc, readers, limits, &mut ())?;
     let facts = heap.count();
     match write_canonical(&heap, target) {
         Ok(()) => {

@@ -1,12 +1,16 @@
-//! The engine that joins parts into one canonical dump.
+//! The engine that reads parts into one heap, and joins them into one canonical dump.
 #![tactic(auto)]
 
 mod join;
 mod joined;
 pub mod laws;
 mod parts;
+mod read;
+mod summaries;
 mod tool_fault;
 
 pub use join::{join_kept, join_to};
 pub use joined::{Joined, Kept};
+pub use read::read_heap;
+pub use summaries::Summaries;
 pub use tool_fault::ToolFault;

@@ -1,30 +1,37 @@
 //! Reading all parts into one gatherer.
 
-ghost use Rattle.std.specs.Prelude.{◌≡◌, All};
+ghost use Rattle.std.specs.Prelude.{◌≡◌, length, All, OnOk};
 ghost use Rattle.hprof_items.specs.declared.health.Health.TheVariants.{Well};
 ghost use Rattle.hprof_heap.specs.Gathering.{gathered, nothing_gathered};
 ghost use Rattle.hprof_engine.specs.Joining.{ReadsAll};
+ghost use Rattle.hprof_engine.specs.Summaries.{KeepsFirst};
 
+use crate::summaries::Summaries;
 use crate::tool_fault::ToolFault;
 use hprof_heap::Gatherer;
 use hprof_items::Source;
 use hprof_stream::{Limits, read_part};
 use std::alloc::Global;
 
-/// Reads each part in order, and gives its header and facts to the gatherer. The first part that is refused ends it.
-pub(crate) fn read_parts<R: Source>(
+/// Reads each part in order, gives its header and facts to the gatherer, and tells its summary. The first part that is
+/// refused ends it.
+pub(crate) fn read_parts<R: Source, S: Summaries>(
     alloc: Global,
     readers: &mut [R],
     limits: Limits,
     gatherer: &mut Gatherer,
+    summaries: &mut S,
 ) -> Result<(), ToolFault>
     requires well { All (λ reader. R.health reader ≡ Well) readers.old }
     requires nothing { gathered gatherer.old ≡ nothing_gathered }
+    requires room { S.has_room summaries.old (length readers.old) }
     ensures read { ReadsAll R.left R.health R.pulls limits readers.old (gathered gatherer.old) result readers.new (gathered gatherer.new) }
+    ensures summaries { OnOk result (KeepsFirst R.left S.keeps readers.old (length readers.old) summaries.old summaries.new) }
 {
     for (index, reader) in readers.iter_mut().enumerate() {
-        if let Err(fault) = read_part(alloc, reader, limits, gatherer) {
-            return Err(ToolFault::Part { index, fault });
+        match read_part(alloc, reader, limits, gatherer) {
+            Ok(summary) => summaries.keep(summary),
+            Err(fault) => return Err(ToolFault::Part { index, fault }),
         }
     }
     Ok(())
