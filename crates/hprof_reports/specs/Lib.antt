@@ -1,3 +1,4 @@
 pub mod Line
 pub mod Counts
 pub mod Check
+pub mod Checking

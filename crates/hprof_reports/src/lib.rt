@@ -2,10 +2,12 @@
 #![tactic(auto)]
 
 mod check;
+mod check_parts;
 pub mod laws;
 mod line;
 
 pub use check::write_check;
+pub use check_parts::check_to;
 
 #[cfg(test)]
 mod tests;
