@@ -1,6 +1,7 @@
 -- What the program's calls come to.
-use Rattle.std.specs.Prelude.{◌≡◌, ◌≢◌, ℕ, ◌<◌, List, [], ◌∷◌, ◌++◌, length, Option, Some, Result, Err, ⊤}
+use Rattle.std.specs.Prelude.{◌≡◌, ◌≢◌, ℕ, ◌<◌, List, [], ◌∷◌, ◌++◌, length, take, Option, Some, Result, Err, ⊤}
 use Rattle.std.specs.List.{AllByRecursion}
+use Rattle.std.specs.Io.KnownBytes.{Appends}
 use Rattle.clap.specs.declared.error.ErrorKind.{ErrorKind}
 use Rattle.clap.specs.declared.error.ErrorKind.TheVariants as kinds
 use Rattle.hprof_items.specs.declared.device.Device.{Device}
@@ -11,19 +12,39 @@ use Rattle.hprof_stream.specs.declared.limits.Limits.{Limits}
 use Rattle.hprof_stream.specs.declared.part_fault.PartFault.{PartFault}
 use Rattle.hprof_stream.specs.declared.part_fault.PartFault.TheVariants as faults
 use Rattle.hprof_stream.specs.declared.sink.SinkFault.TheVariants as sinks
+use Rattle.hprof_heap.specs.Dump.{canonical_dump}
 use Rattle.hprof_heap.specs.State.{HaveTwoSizes}
-use Rattle.hprof_engine.specs.declared.joined.Joined.{Joined}
 use Rattle.hprof_engine.specs.declared.tool_fault.ToolFault.{ToolFault}
 use Rattle.hprof_engine.specs.declared.tool_fault.ToolFault.TheVariants as tool
 use Rattle.hprof_tool.specs.declared.program.refused.Refused.{Refused}
 use Rattle.hprof_tool.specs.declared.program.refused.Refused.TheVariants as refusals
 use Rattle.hprof_tool.specs.declared.status.Status.{Status}
 use Rattle.hprof_tool.specs.declared.status.Status.TheVariants as statuses
-use Rattle.hprof_engine.specs.Joining.{Tell, Agree, Joins, Disagree, IsAccepted, IsOfPart, IsBeforeWriting}
+use Rattle.hprof_tool.specs.declared.program.product.Product.{Product}
+use Rattle.hprof_tool.specs.declared.program.product.Product.TheVariants as products
+use Rattle.hprof_engine.specs.Joining.{Tell, Agree, Disagree, IsAccepted, IsOfPart, IsBeforeWriting}
+use Rattle.hprof_reports.specs.Checking.{IsCheckOfParts}
 
--- the parts agree, and the canonical dump of what they state was written
-abbrev pub IsWritten : List (List ℕ) → Option (List ℕ) → Option (List ℕ) → Type 0
-IsWritten parts old new = (joined : Joined) × Joins parts old new joined
+-- the parts agree, and these bytes are the canonical dump of what they state
+pub record IsDump (parts : List (List ℕ)) (dump : List ℕ) : Type 0 where
+  pub ids : IdSize
+  pub millis : ℕ
+  pub rows : List FactValue
+  pub agree : Agree parts ids millis rows
+  pub is : dump ≡ canonical_dump ids millis rows
+
+-- the parts agree, and these bytes are made of them
+abbrev pub IsProduct : Product → List (List ℕ) → List ℕ → Type 0
+IsProduct products.Dump parts bytes = IsDump parts bytes
+IsProduct products.Check parts bytes = IsCheckOfParts parts bytes
+
+-- it was made of the parts, and written
+abbrev pub IsMade : Product → List (List ℕ) → Option (List ℕ) → Option (List ℕ) → Type 0
+IsMade product parts old new = (bytes : List ℕ) × IsProduct product parts bytes × Appends old new bytes
+
+-- writing stopped: it was made of the parts, and a front of it was written
+abbrev pub IsStopped : Product → List (List ℕ) → Option (List ℕ) → Option (List ℕ) → Type 0
+IsStopped product parts old new = (bytes : List ℕ) × (count : ℕ) × IsProduct product parts bytes × Appends old new (take count bytes)
 
 -- the parts agree
 abbrev pub HaveOneState : List (List ℕ) → Type 0
@@ -51,7 +72,7 @@ pub record IsPartRefusal (parts : List (List ℕ)) (index : ℕ) (fault : PartFa
   pub of_part : IsOfPart usual_limits bytes fault
   pub is_first : IsFirstAnswer fault
 
--- what a refusal to join says of the parts
+-- what a refusal says of the parts
 abbrev pub IsRefusal : Refused → List (List ℕ) → Type 0
 IsRefusal (refusals.Engine (tool.Part index fault)) parts = IsPartRefusal parts index fault
 IsRefusal (refusals.Engine tool.NoParts) parts = parts ≡ []
@@ -70,16 +91,21 @@ pub record OfParts {F : Type 0} (remaining : F → Option (List ℕ)) (count : �
   pub opened : length parts ≡ count
   pub holds : (told : List (List ℕ)) → Tell (λ part. remaining (inner_of part)) parts told → Holds told
 
--- the part that a stream gave, where it told one, was joined into another
+-- what is made of the part that a stream gave, where it told one, was written to another
 --   remaining, contents: what a stream has left to tell, and what one tells that it holds
-abbrev pub IsJoinOfStream : {I O : Type 0} → (I → Option (List ℕ)) → (O → Option (List ℕ)) → I → O → O → Type 0
-IsJoinOfStream remaining contents input old new =
-    (part : List ℕ) → remaining input ≡ Some part → IsWritten (part ∷ []) (contents old) (contents new)
+abbrev pub IsMadeOfStream : {I O : Type 0} → Product → (I → Option (List ℕ)) → (O → Option (List ℕ)) → I → O → O → Type 0
+IsMadeOfStream product remaining contents input old new =
+    (part : List ℕ) → remaining input ≡ Some part → IsMade product (part ∷ []) (contents old) (contents new)
 
 -- so many files were joined into one that had been created, and this it is now
 abbrev pub IsJoinOfFiles : {F : Type 0} → (F → Option (List ℕ)) → (F → Option (List ℕ)) → ℕ → F → Type 0
 IsJoinOfFiles {F} remaining contents count new =
-    (old : F) × OfParts remaining count (λ parts. IsWritten parts (contents old) (contents new))
+    (old : F) × OfParts remaining count (λ parts. IsMade products.Dump parts (contents old) (contents new))
+
+-- a report on so many files was written to a stream
+abbrev pub IsReportOfFiles : {F O : Type 0} → Product → (F → Option (List ℕ)) → (O → Option (List ℕ)) → ℕ → O → O → Type 0
+IsReportOfFiles report remaining contents count old new =
+    OfParts remaining count (λ parts. IsMade report parts (contents old) (contents new))
 
 -- what a refusal to join so many files says
 abbrev pub IsFilesRefusal : {F : Type 0} → (F → Option (List ℕ)) → ℕ → Refused → Type 0
@@ -89,18 +115,22 @@ IsFilesRefusal remaining count (refusals.Open index) = index < count
 IsFilesRefusal remaining count refusals.Create = ⊤
 IsFilesRefusal remaining count refusals.OutOfMemory = ⊤
 
--- the engine refused; it answers no want of memory of its own
-abbrev pub IsOfEngine : Refused → Type 0
-IsOfEngine (refusals.Engine tool.OutOfMemory) = ⊥
-IsOfEngine (refusals.Engine fault) = ⊤
-IsOfEngine other = ⊥
+-- what a refusal to report on so many files says
+abbrev pub IsReportRefusal : {F : Type 0} → (F → Option (List ℕ)) → ℕ → Refused → Type 0
+IsReportRefusal remaining count refusals.Create = ⊥
+IsReportRefusal remaining count other = IsFilesRefusal remaining count other
+
+-- how the program refuses what the engine refuses: want of memory is the program's own
+abbrev pub refused_of : ToolFault → Refused
+refused_of tool.OutOfMemory = refusals.OutOfMemory
+refused_of other = refusals.Engine other
 
 -- the engine refused, or there was no memory
-abbrev pub IsOfJoining : Refused → Type 0
-IsOfJoining (refusals.Engine tool.OutOfMemory) = ⊥
-IsOfJoining (refusals.Engine fault) = ⊤
-IsOfJoining refusals.OutOfMemory = ⊤
-IsOfJoining other = ⊥
+abbrev pub IsOfMaking : Refused → Type 0
+IsOfMaking (refusals.Engine tool.OutOfMemory) = ⊥
+IsOfMaking (refusals.Engine fault) = ⊤
+IsOfMaking refusals.OutOfMemory = ⊤
+IsOfMaking other = ⊥
 
 -- one of so many files could not be opened, or there was no memory
 abbrev pub IsOfOpening : ℕ → Refused → Type 0
@@ -110,7 +140,8 @@ IsOfOpening count other = ⊥
 
 -- the engine refused before anything was written
 abbrev pub IsUnwritten : Result (Unit {0}) Refused → Type 0
-IsUnwritten (Err (refusals.Engine fault)) = let joined : Result Joined ToolFault = Err fault in IsBeforeWriting joined
+IsUnwritten (Err (refusals.Engine fault)) = let made : Result (Unit {0}) ToolFault = Err fault in IsBeforeWriting made
+IsUnwritten (Err refusals.OutOfMemory) = ⊤
 IsUnwritten other = ⊥
 
 -- the status of words that ask for help, or are not understood, by the kind that clap tells

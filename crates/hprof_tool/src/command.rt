@@ -1,6 +1,6 @@
 //! The words of the command line.
 
-use clap::{Arg, ArgAction, Command, Error};
+use clap::{Arg, ArgAction, ArgMatches, Command, Error};
 use std::alloc::{AllocError, Global};
 
 /// What the words ask for.
@@ -15,6 +15,20 @@ pub(crate) enum Task<'a> {
         /// The names of the parts, in order.
         parts: Vec<&'a str>,
     },
+    /// To report what the parts in files have.
+    Check {
+        /// The names of the parts, in order.
+        parts: Vec<&'a str>,
+    },
+}
+
+/// The names of the parts, any number of them.
+fn parts_arg<'a>(alloc: Global) -> Arg<'a> {
+    Arg::new(alloc, "part")
+        .value_name("PART")
+        .help("The parts, each a whole dump")
+        .num_args(0..)
+        .action(ArgAction::Append)
 }
 
 /// The program's command line.
@@ -24,32 +38,40 @@ fn command<'a>(alloc: Global) -> Result<Command<'a>, AllocError> {
         .help("The new file for the dump")
         .required(true)
         .action(ArgAction::Set);
-    let parts = Arg::new(alloc, "part")
-        .value_name("PART")
-        .help("The parts, each a whole dump")
-        .num_args(0..)
-        .action(ArgAction::Append);
     let join = Command::new(alloc, "join")
         .about("Joins parts of a Java heap into one canonical dump")
         .arg(out)?
-        .arg(parts)?;
+        .arg(parts_arg(alloc))?;
+    let check = Command::new(alloc, "check")
+        .about("Says how many facts the parts have")
+        .arg(parts_arg(alloc))?;
     Command::new(alloc, "hprof")
         .about(
             "Reads and joins Java heap dumps; without a command, from standard input to standard output",
         )
         .disable_help_subcommand(true)
-        .subcommand(join)
+        .subcommand(join)?
+        .subcommand(check)
+}
+
+/// The names of the parts that were given to a command.
+fn parts_of<'a>(alloc: Global, matches: &ArgMatches<'a>) -> Result<Vec<&'a str>, AllocError> {
+    let mut parts = Vec::new(alloc);
+    parts.extend_from_slice(matches.get_strs("part").unwrap_or(&[]))?;
+    Ok(parts)
 }
 
 /// What the words ask for, the first of which is the program's name.
 pub(crate) fn task_of<'a>(alloc: Global, words: &'a [String]) -> Result<Task<'a>, Error> {
     let matches = command(alloc)?.try_get_matches_from(words)?;
-    let Some((_, join)) = matches.subcommand() else {
+    let Some((name, words)) = matches.subcommand() else {
         return Ok(Task::Pass);
     };
-    let mut parts = Vec::new(alloc);
-    parts.extend_from_slice(join.get_strs("part").unwrap_or(&[]))?;
+    let parts = parts_of(alloc, words)?;
+    if name == "check" {
+        return Ok(Task::Check { parts });
+    }
     // The words were understood, so the name that is required is there.
-    let out = join.get_str("out").unwrap_or("");
+    let out = words.get_str("out").unwrap_or("");
     Ok(Task::Join { out, parts })
 }

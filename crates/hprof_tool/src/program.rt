@@ -1,12 +1,14 @@
 //! The program: what its words ask for, over files and standard streams that the caller passes.
 
 ghost use Rattle.std.specs.Prelude.{◌≡◌, ◌≢◌, length};
-ghost use Rattle.hprof_tool.specs.Program.{IsJoinOfStream, IsJoinOfFiles};
+ghost use Rattle.hprof_tool.specs.declared.program.product.Product.TheVariants.{Dump};
+ghost use Rattle.hprof_tool.specs.Program.{IsMadeOfStream, IsJoinOfFiles, IsReportOfFiles};
 
 use crate::command::{Task, task_of};
 use crate::status::Status;
 use answers::{answer_no_words, answer_outcome, answer_words};
-use joining::{join_files, join_stream};
+use joining::{join_files, join_stream, report_files};
+use product::Product;
 use std::alloc::Global;
 use std::env::Args;
 use std::io;
@@ -15,6 +17,8 @@ use std::rt::Files;
 
 mod answers;
 mod joining;
+mod making;
+pub(crate) mod product;
 mod refused;
 
 /// Joins the part on `input` to `output`.
@@ -24,7 +28,7 @@ fn pass<I: Read + Drop, O: Write + Drop, E: Write>(
     output: O,
     errors: &mut E,
 ) -> Status
-    ensures done { result ≡ Status.Done → (written : O) × IsJoinOfStream I.remaining O.contents input output written }
+    ensures done { result ≡ Status.Done → (written : O) × IsMadeOfStream Dump I.remaining O.contents input output written }
     ensures understood { result ≢ Status.NotUnderstood }
 {
     answer_outcome(alloc, join_stream(alloc, input, output), errors)
@@ -45,13 +49,34 @@ fn join<F: Files, E: Write>(
     answer_outcome(alloc, join_files(alloc, files, out, names), errors)
 }
 
+/// Writes a report on parts in files to `output`.
+fn report<F: Files, O: Write + Drop, E: Write>(
+    alloc: Global,
+    files: &F,
+    report: Product,
+    names: &[&str],
+    output: O,
+    errors: &mut E,
+) -> Status
+    ensures done { result ≡ Status.Done → (written : O)
+        × IsReportOfFiles report F.File.remaining O.contents (length names.now) output written }
+    ensures understood { result ≢ Status.NotUnderstood }
+{
+    answer_outcome(
+        alloc,
+        report_files(alloc, files, report, names, output),
+        errors,
+    )
+}
+
 /// The words as a list.
 fn list_of(alloc: Global, words: io::Result<Args>) -> io::Result<Vec<String>> {
     Ok(words?.collect(alloc)?)
 }
 
 /// Does what the words ask for: without a word behind the program's name it joins the part on `input` to `output`;
-/// `join OUT PART..` joins parts in files to a new file. Refusals are told on `errors`.
+/// `join OUT PART..` joins parts in files to a new file, and `check PART..` writes a report on parts in files to `output`.
+/// Refusals are told on `errors`.
 pub fn run<F: Files, I: Read + Drop, O: Write + Drop, E: Write>(
     alloc: Global,
     files: &F,
@@ -67,6 +92,7 @@ pub fn run<F: Files, I: Read + Drop, O: Write + Drop, E: Write>(
     match task_of(alloc, &words) {
         Ok(Task::Pass) => pass(alloc, input, output, errors),
         Ok(Task::Join { out, parts }) => join(alloc, files, out, &parts, errors),
+        Ok(Task::Check { parts }) => report(alloc, files, Product::Check, &parts, output, errors),
         Err(error) => answer_words(alloc, &error, &mut output, errors),
     }
 }

@@ -43,3 +43,16 @@ impl<T: Drop> From<AllocFailed<T>> for Refused {
         Refused::OutOfMemory
     }
 }
+
+impl From<ToolFault> for Refused {
+    ghost use Rattle.hprof_tool.specs.Program.{refused_of};
+
+    ghost from_gives = { λ fault refused. refused ≡ refused_of fault };
+
+    fn from(fault: ToolFault) -> Refused {
+        match fault {
+            ToolFault::OutOfMemory => Refused::OutOfMemory,
+            fault => Refused::Engine(fault),
+        }
+    }
+}
