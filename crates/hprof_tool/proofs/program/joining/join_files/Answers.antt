@@ -7,7 +7,7 @@ use Rattle.hprof_tool.specs.declared.program.refused.Refused.TheVariants as refu
 use Rattle.hprof_engine.specs.declared.tool_fault.ToolFault.{ToolFault}
 use Rattle.hprof_engine.specs.declared.tool_fault.ToolFault.TheVariants as tool
 use Rattle.hprof_engine.specs.Joining.{Tell}
-use Rattle.hprof_tool.specs.Program.{OfParts, IsRefusal, IsFilesRefusal, IsOfJoining, IsOfOpening}
+use Rattle.hprof_tool.specs.Program.{OfParts, IsRefusal, IsFilesRefusal, IsOfMaking, IsOfOpening}
 use Rattle.hprof_tool.proofs.program.joining.join_files.Goals as goal
 
 -- opening answers no refusal of the engine
@@ -26,7 +26,7 @@ module _ {F : Type 0} (remaining : F → Option (List ℕ)) (count : ℕ) where
   of_opening refusals.OutOfMemory is = tt
 
   -- a refusal of the engine is one of these refusals, but for want of memory of its own
-  of_engine : (fault : ToolFault) → IsOfJoining (refusals.Engine fault) → OfParts remaining count (IsRefusal (refusals.Engine fault)) → IsFilesRefusal remaining count (refusals.Engine fault)
+  of_engine : (fault : ToolFault) → IsOfMaking (refusals.Engine fault) → OfParts remaining count (IsRefusal (refusals.Engine fault)) → IsFilesRefusal remaining count (refusals.Engine fault)
   of_engine (tool.Part index fault) kind says = says
   of_engine tool.NoParts kind says = says
   of_engine tool.IdSizes kind says = says
@@ -35,7 +35,7 @@ module _ {F : Type 0} (remaining : F → Option (List ℕ)) (count : ℕ) where
   of_engine tool.OutOfMemory kind says = kind
 
   -- a refusal to join the files that were opened is one of these refusals
-  of_joining : {A : Type 0} (parts : List (Device F)) → length parts ≡ count → (outcome : Result A Refused) → IfErr outcome IsOfJoining
+  of_joining : {A : Type 0} (parts : List (Device F)) → length parts ≡ count → (outcome : Result A Refused) → IfErr outcome IsOfMaking
       → IfErr outcome (λ refused. (told : List (List ℕ)) → Tell (λ part. remaining (inner_of part)) parts told → IsRefusal refused told)
       → IfErr outcome (IsFilesRefusal remaining count)
   of_joining parts opened (Ok x) kind says = tt
@@ -60,5 +60,5 @@ returns-in_err-parts-clause-refused g c =
 
 pub returns-clause-refused : goal.returns-clause-refused
 returns-clause-refused g c =
-    let e = c.join_buffered-outcome.ensures in
-    of_joining _ _ c.deref_mut.result.now (ap length c.deref_mut.ensures.value ∙ c.in_ok-parts.ensures.count) c.join_buffered-outcome.result e.kind e.refused
+    let e = c.make_buffered-outcome.ensures in
+    of_joining _ _ c.deref_mut.result.now (ap length c.deref_mut.ensures.value ∙ c.in_ok-parts.ensures.count) c.make_buffered-outcome.result e.kind e.refused

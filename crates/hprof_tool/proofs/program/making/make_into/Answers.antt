@@ -1,0 +1,64 @@
+use Rattle.std.proofs.Common.{◌≡◌, ap, ◌∙◌}
+use Rattle.std.specs.Io.Buffered.{writer_inner, writer_buffer}
+use Rattle.hprof_engine.specs.declared.tool_fault.ToolFault.TheVariants as tool
+use Rattle.hprof_tool.proofs.Making.{part_refusal, refusal, stops, written_out, emptied, of_making, engine_answered, memory_answered}
+use Rattle.hprof_tool.proofs.program.making.make_into.Goals as goal
+
+pub returns-clause-part : goal.returns-clause-part
+returns-clause-part g c = λ index fault is parts told.
+    let end = c.end_of_writing-outcome.ensures in
+    c.make-made.ensures.part index fault (engine_answered c.make-made.result c.end_of_writing-outcome.result (tool.Part index fault) (λ same. cc) end.failed end.refused is) parts told
+
+pub returns-clause-read_out : goal.returns-clause-read_out
+returns-clause-read_out g c = λ index fault is.
+    let end = c.end_of_writing-outcome.ensures in
+    c.make-made.ensures.read_out index fault (engine_answered c.make-made.result c.end_of_writing-outcome.result (tool.Part index fault) (λ same. cc) end.failed end.refused is)
+
+pub returns-clause-memory : goal.returns-clause-memory
+returns-clause-memory g c = λ is.
+    let end = c.end_of_writing-outcome.ensures in
+    c.make-made.ensures.memory (memory_answered c.make-made.result c.end_of_writing-outcome.result end.failed end.refused is)
+
+pub returns-clause-kind : goal.returns-clause-kind
+returns-clause-kind g c =
+    let end = c.end_of_writing-outcome.ensures in
+    of_making c.make-made.result c.end_of_writing-outcome.result end.failed end.refused
+
+pub returns-clause-refused : goal.returns-clause-refused
+returns-clause-refused g c =
+    let e = c.make-made.ensures in
+    let end = c.end_of_writing-outcome.ensures in
+    refusal g.R.Source.left c.args.product c.args.readers.now _ _ c.make-made.result c.end_of_writing-outcome.result
+    (record {
+      ok = e.ok;
+      part = λ index fault same parts told. part_refusal g.R.Source.left g.R.Source.health g.R.Source.pulls parts c.args.readers.now c.make-made.new.readers index fault (e.part index fault same parts told);
+      conflict = e.conflict;
+      no_parts = e.no_parts.0;
+      id_sizes = e.id_sizes;
+      write = e.write;
+    })
+    end.failed end.refused
+
+pub returns-clause-write : goal.returns-clause-write
+returns-clause-write g c =
+    let e = c.make-made.ensures in
+    let kept = rw c.into_inner-buffered.ensures at c.end_of_writing-outcome.ensures.bytes in
+    λ fault is parts told. rw (← c.new-target.ensures.inner, c.into_parts-writer.ensures.inner, c.into_parts-writer.ensures.buffer)
+    (stops g.R.Source.left c.args.product c.args.readers.now _ _ c.make-made.result c.end_of_writing-outcome.result _
+    (record {
+      ok = e.ok;
+      part = λ index fault same parts told. part_refusal g.R.Source.left g.R.Source.health g.R.Source.pulls parts c.args.readers.now c.make-made.new.readers index fault (e.part index fault same parts told);
+      conflict = e.conflict;
+      no_parts = e.no_parts.0;
+      id_sizes = e.id_sizes;
+      write = e.write;
+    })
+    kept c.end_of_writing-outcome.ensures.refused fault is parts told)
+
+pub returns-clause-ok : goal.returns-clause-ok
+returns-clause-ok g c =
+    let kept = rw c.into_inner-buffered.ensures at c.end_of_writing-outcome.ensures.bytes in
+    let writer = c.end_of_writing-outcome.new.buffered in
+    let same = emptied c.end_of_writing-outcome.result (g.W.Write.contents (writer_inner writer)) (writer_buffer writer) c.end_of_writing-outcome.ensures.flushed in
+    rw (← c.new-target.ensures.inner, c.into_parts-writer.ensures.inner)
+    (written_out g.R.Source.left c.args.product c.args.readers.now _ _ c.make-made.result c.end_of_writing-outcome.result _ _ c.make-made.ensures.ok c.end_of_writing-outcome.ensures.done kept same)
