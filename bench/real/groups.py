@@ -14,11 +14,12 @@ import sys
 import tempfile
 from pathlib import Path
 
-from measure import COLLECTORS, HERE, PROGRAM, check_same, run
+import measure
+from measure import COLLECTORS, HERE, PROGRAM, check_same
 
 
 def join(out, parts):
-    return run([PROGRAM, "join", out, *parts], out)[0]
+    return measure.join(PROGRAM, out, parts)[0]
 
 
 def main():

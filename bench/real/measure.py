@@ -1,9 +1,10 @@
 #!/usr/bin/env python3
-"""Joins real dumps, which a Java program makes of its own heap, and times it beside a plain Rust program.
+"""Joins and checks real dumps, which a Java program makes of its own heap, and times it beside a plain Rust program.
 
 For each collector and size: `hprof join` takes the dump; joined again it gives the same bytes; cut into five parts with
 all records and sub-records in any order, some repeated, it gives the same bytes; and the plain program writes the same.
-Then it runs both programs in turn and prints the fastest times, the peak memories and the ratios.
+`hprof check` of the dump and of the five parts prints what the plain program does. Then it runs both programs in turn and
+prints the fastest times, the peak memories and the ratios.
 
     bench/real/measure.py [--turns N] [MEGABYTES..]       (5 turns; 1 10 100)
 
@@ -25,16 +26,27 @@ PROGRAM = HERE.parent.parent / "crates" / "hprof" / "out" / "hprof"
 COLLECTORS = ["Serial", "G1", "Z"]
 
 
-def run(words, out):
-    """The seconds that a command takes which writes a new file, and its peak memory in bytes."""
-    out.unlink(missing_ok=True)
+def run(words, stdout=None):
+    """The seconds that a command takes, and its peak memory in bytes."""
     start = time.perf_counter()
-    process = subprocess.Popen(words)
+    process = subprocess.Popen(words, stdout=stdout)
     _, status, usage = os.wait4(process.pid, 0)
     seconds = time.perf_counter() - start
     if status != 0:
         sys.exit(f"{words[0]} ended with status {status}")
     return seconds, usage.ru_maxrss * 1024
+
+
+def join(program, out, parts):
+    """Joins the parts to a new file."""
+    out.unlink(missing_ok=True)
+    return run([program, "join", out, *parts])
+
+
+def report(program, out, parts):
+    """Writes the report `check` of the parts to a file."""
+    with open(out, "wb") as file:
+        return run([program, "check", *parts], file)
 
 
 def check_same(one, other, what):
@@ -44,26 +56,32 @@ def check_same(one, other, what):
 
 def check(folder, dump):
     """Checks what is written, and leaves nothing behind."""
-    once, twice, plain, cut = (folder / name for name in ("once", "twice", "plain.out", "cut"))
+    plain = folder / "plain"
+    once, twice, other, cut = (folder / name for name in ("once", "twice", "other", "cut"))
     parts = [folder / f"part{index}" for index in range(5)]
-    run([PROGRAM, "join", once, dump], once)
-    run([PROGRAM, "join", twice, once], twice)
-    check_same(once, twice, "joined again")
-    run([folder / "plain", plain, dump], plain)
-    check_same(once, plain, "the plain program")
     subprocess.run([folder / "recut", dump, *parts], check=True)
-    run([PROGRAM, "join", cut, *parts], cut)
+    join(PROGRAM, once, [dump])
+    join(PROGRAM, twice, [once])
+    check_same(once, twice, "joined again")
+    join(plain, other, [dump])
+    check_same(once, other, "the plain program")
+    join(PROGRAM, cut, parts)
     check_same(once, cut, "cut into five parts")
-    for path in (once, twice, plain, cut, *parts):
+    for checked in ([dump], [once], parts):
+        report(PROGRAM, twice, checked)
+        report(plain, other, checked)
+        check_same(twice, other, "the report of the plain program")
+    for path in (once, twice, other, cut, *parts):
         path.unlink()
 
 
-def measure(folder, dump, turns):
+def measure(folder, dump, turns, work):
+    """The fastest seconds of both programs in turn, and their peak memories."""
     out = folder / "out"
     ours, plain = [], []
     for _ in range(turns):
-        ours.append(run([PROGRAM, "join", out, dump], out))
-        plain.append(run([folder / "plain", out, dump], out))
+        ours.append(work(PROGRAM, out, [dump]))
+        plain.append(work(folder / "plain", out, [dump]))
     out.unlink()
     fastest = [min(seconds for seconds, _ in rows) for rows in (ours, plain)]
     peaks = [max(peak for _, peak in rows) for rows in (ours, plain)]
@@ -75,8 +93,8 @@ def main():
     words.add_argument("--turns", type=int, default=5)
     words.add_argument("megabytes", type=int, nargs="*", default=[1, 10, 100])
     words = words.parse_args()
-    print("| collector | dump | ours | plain | ratio | our peak | times the dump | plain peak |")
-    print("|---|---|---|---|---|---|---|---|")
+    print("| collector | dump | command | ours | plain | ratio | our peak | times the dump | plain peak |")
+    print("|---|---|---|---|---|---|---|---|---|")
     with tempfile.TemporaryDirectory() as folder:
         folder = Path(folder)
         subprocess.run(["javac", "-d", folder, HERE / "Fill.java"], check=True)
@@ -91,12 +109,15 @@ def main():
                 subprocess.run(java, check=True)
                 check(folder, dump)
                 size = dump.stat().st_size
-                (ours, plain), peaks = measure(folder, dump, words.turns)
-                print(
-                    f"| {collector} | {size / 1e6:.1f} MB | {ours:.3f} s | {plain:.3f} s | {ours / plain:.2f} "
-                    f"| {peaks[0] / 1e6:.0f} MB | {peaks[0] / size:.2f} | {peaks[1] / 1e6:.0f} MB |",
-                    flush=True,
-                )
+                for work in (join, report):
+                    (ours, plain), peaks = measure(folder, dump, words.turns, work)
+                    command = "join" if work is join else "check"
+                    print(
+                        f"| {collector} | {size / 1e6:.1f} MB | {command} | {ours:.3f} s | {plain:.3f} s "
+                        f"| {ours / plain:.2f} | {peaks[0] / 1e6:.0f} MB | {peaks[0] / size:.2f} "
+                        f"| {peaks[1] / 1e6:.0f} MB |",
+                        flush=True,
+                    )
 
 
 if __name__ == "__main__":

@@ -1,15 +1,18 @@
-//! A plain program with the same tables, to measure hprof's join beside: it reads parts in pieces, goes over them in
-//! place, unites their facts in BTreeMaps of boxed spellings, and writes the canonical dump. It uses std alone.
+//! A plain program with the same tables, to measure hprof's `join` and `check` beside: it reads parts in pieces, goes over
+//! them in place, unites their facts in BTreeMaps of boxed spellings, and writes the canonical dump, or how many facts there
+//! are. It uses std alone.
 //!
-//!     plain OUT PART..
+//!     plain join OUT PART..
+//!     plain check PART..
 
 use std::collections::btree_map::Entry;
 use std::collections::{BTreeMap, BTreeSet};
 use std::env;
 use std::fs::File;
-use std::io::{BufWriter, Read, Write};
+use std::io::{self, BufWriter, Read, Write};
 
 mod format;
+mod text;
 use format::{HEAD_LEN, HEADER_LEN, number, refuse, sub_len};
 
 const PIECE_LEN: usize = 65_536;
@@ -84,6 +87,17 @@ impl Heap {
     }
 }
 
+/// What was read of a part.
+#[derive(Default)]
+struct Summary {
+    version: String,
+    width: usize,
+    millis: u64,
+    records: u64,
+    facts: u64,
+    ended: bool,
+}
+
 /// Where in a part reading stands.
 enum Place {
     Start,
@@ -95,7 +109,7 @@ enum Place {
 }
 
 /// Takes the whole items at the front of the bytes, and gives how many bytes they have.
-fn take(heap: &mut Heap, place: &mut Place, bytes: &[u8]) -> usize {
+fn take(heap: &mut Heap, part: &mut Summary, place: &mut Place, bytes: &[u8]) -> usize {
     let mut at = 0;
     loop {
         let rest = &bytes[at..];
@@ -105,6 +119,9 @@ fn take(heap: &mut Heap, place: &mut Place, bytes: &[u8]) -> usize {
                     return at;
                 }
                 heap.begin(&rest[..HEADER_LEN]);
+                part.version = String::from_utf8_lossy(&rest[13..18]).into_owned();
+                part.width = number(&rest[19..23]) as usize;
+                part.millis = number(&rest[23..31]);
                 at += HEADER_LEN;
                 *place = Place::Between;
             }
@@ -120,10 +137,15 @@ fn take(heap: &mut Heap, place: &mut Place, bytes: &[u8]) -> usize {
                             return at;
                         }
                         heap.record(rest[0], &rest[HEAD_LEN..HEAD_LEN + len]);
+                        part.facts += 1;
                         at += len;
                     }
-                    _ => *place = Place::Over(len),
+                    tag => {
+                        part.ended |= tag == 0x2c;
+                        *place = Place::Over(len);
+                    }
                 }
+                part.records += 1;
                 at += HEAD_LEN;
             }
             Place::Within(0) | Place::Over(0) => *place = Place::Between,
@@ -135,6 +157,7 @@ fn take(heap: &mut Heap, place: &mut Place, bytes: &[u8]) -> usize {
                     refuse("past the end");
                 }
                 heap.sub_record(&rest[..len]);
+                part.facts += 1;
                 at += len;
                 *place = Place::Within(left - len);
             }
@@ -150,12 +173,13 @@ fn take(heap: &mut Heap, place: &mut Place, bytes: &[u8]) -> usize {
     }
 }
 
-fn read_part(heap: &mut Heap, name: &str) {
+fn read_part(heap: &mut Heap, name: &str) -> Summary {
     let mut file = File::open(name).unwrap_or_else(|_| refuse("cannot open"));
     let mut piece = vec![0; PIECE_LEN];
     // What is held of a part is at the front of the piece, which grows where an item is longer.
     let mut held = 0;
     let mut place = Place::Start;
+    let mut part = Summary::default();
     loop {
         if held == piece.len() {
             piece.resize(2 * held, 0);
@@ -164,13 +188,14 @@ fn read_part(heap: &mut Heap, name: &str) {
         if count == 0 {
             break;
         }
-        let taken = take(heap, &mut place, &piece[..held + count]);
+        let taken = take(heap, &mut part, &mut place, &piece[..held + count]);
         piece.copy_within(taken..held + count, 0);
         held = held + count - taken;
     }
     if held != 0 || !matches!(place, Place::Between) {
         refuse("truncated");
     }
+    part
 }
 
 fn head(tag: u8, len: usize) -> [u8; HEAD_LEN] {
@@ -220,16 +245,68 @@ fn write(heap: &Heap, out: &mut impl Write) -> std::io::Result<()> {
     out.write_all(&head(0x2c, 0))
 }
 
-fn main() {
-    let names: Vec<String> = env::args().skip(1).collect();
-    let mut heap = Heap::default();
-    for name in &names[1..] {
-        read_part(&mut heap, name);
+/// How many facts each table has.
+fn counts(heap: &Heap) -> [(&'static str, usize); 10] {
+    [
+        ("names", heap.names.len()),
+        ("loads", heap.loads.len()),
+        ("unloads", heap.unloads.len()),
+        ("frames", heap.frames.len()),
+        ("traces", heap.traces.len()),
+        ("starts", heap.starts.len()),
+        ("ends", heap.ends.len()),
+        ("roots", heap.roots.len()),
+        ("classes", heap.classes.len()),
+        ("objects", heap.objects.len()),
+    ]
+}
+
+fn report(parts: &[Summary], heap: &Heap, out: &mut impl Write) -> io::Result<()> {
+    for (number, part) in parts.iter().enumerate() {
+        let Summary { version, width, millis, records, facts, ended } = part;
+        let ended = if *ended { "yes" } else { "no" };
+        writeln!(
+            out,
+            "part {number}: version {version} ids {width} time {millis} records {records} facts {facts} end {ended}"
+        )?;
     }
-    let file = File::create_new(&names[0]).unwrap_or_else(|_| refuse("cannot create"));
+    for (word, count) in counts(heap) {
+        writeln!(out, "{word} {count}")?;
+    }
+    let bad = heap.names.values().filter(|body| !text::is_modified(&body[heap.width..])).count();
+    writeln!(out, "bad names {bad}")
+}
+
+/// Reads the parts, and what was read of each.
+fn read_parts(names: &[String]) -> (Vec<Summary>, Heap) {
+    let mut heap = Heap::default();
+    let parts = names.iter().map(|name| read_part(&mut heap, name)).collect();
+    (parts, heap)
+}
+
+fn join(out: &str, names: &[String]) {
+    let (_, heap) = read_parts(names);
+    let file = File::create_new(out).unwrap_or_else(|_| refuse("cannot create"));
     let mut out = BufWriter::with_capacity(PIECE_LEN, file);
     write(&heap, &mut out).unwrap_or_else(|_| refuse("write failed"));
     out.flush().unwrap_or_else(|_| refuse("write failed"));
     // Freeing millions of rows is no work that anyone waits for.
     std::mem::forget(heap);
+}
+
+fn check(names: &[String]) {
+    let (parts, heap) = read_parts(names);
+    let mut out = BufWriter::with_capacity(PIECE_LEN, io::stdout());
+    report(&parts, &heap, &mut out).unwrap_or_else(|_| refuse("write failed"));
+    out.flush().unwrap_or_else(|_| refuse("write failed"));
+    std::mem::forget(heap);
+}
+
+fn main() {
+    let words: Vec<String> = env::args().skip(1).collect();
+    match words[0].as_str() {
+        "join" => join(&words[1], &words[2..]),
+        "check" => check(&words[1..]),
+        _ => refuse("join or check"),
+    }
 }
