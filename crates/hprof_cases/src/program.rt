@@ -26,10 +26,10 @@ impl Write for Sheet<'_> {
 
 /// What a run of the program came to: its status, and what it wrote to its two streams.
 #[derive(Drop)]
-struct Ran {
-    status: Status,
-    output: Vec<u8>,
-    errors: Vec<u8>,
+pub(crate) struct Ran {
+    pub(crate) status: Status,
+    pub(crate) output: Vec<u8>,
+    pub(crate) errors: Vec<u8>,
 }
 
 /// Runs the program on words behind its name, and gives its status and what it told of errors.
@@ -52,7 +52,7 @@ pub(crate) fn ended<F: Files, I: Read + Drop, O: Write + Drop>(
 }
 
 /// Runs the program on words behind its name, with those bytes on standard input.
-fn outcome_of<F: Files>(
+pub(crate) fn outcome_of<F: Files>(
     alloc: Global,
     files: &F,
     words: &[&str],
@@ -352,6 +352,8 @@ fn help(rt: HostRuntime) -> Result<(), Fail> {
         (&["-h"], "join"),
         (&["join", "--help"], "OUT"),
         (&["join", "-h"], "OUT"),
+        (&["-h"], "check"),
+        (&["check", "--help"], "PART"),
     ] {
         let ran = outcome_of(rt.alloc(), &rt, words, &[])?;
         assert_eq!(rt; ran.status.code(), 0, "{words:?}");

@@ -105,7 +105,7 @@ fn passed_over_records(rt: HostRuntime) -> Result<(), Fail> {
 
 /// What the JDK writes: a name, its class, a trace without frames, and a segment with the class dump, its root and an
 /// instance, the root before the class where it is canonical.
-fn as_the_jdk_writes(alloc: Global, canonical: bool) -> Result<Vec<u8>, AllocError> {
+pub(crate) fn as_the_jdk_writes(alloc: Global, canonical: bool) -> Result<Vec<u8>, AllocError> {
     let name = record(alloc, 0x01, &[b"\0\0\0\0\0\0\0\x10T".as_slice()])?;
     let load = b"\0\0\0\x01\0\0\0\0\0\0\0\x20\0\0\0\x01\0\0\0\0\0\0\0\x10".as_slice();
     let load = record(alloc, 0x02, &[load])?;

@@ -12,11 +12,11 @@ use std::test::Fail;
 
 /// A writer that takes some bytes, so many at a call, and then fails or takes none.
 #[derive(Drop)]
-struct Limited {
-    taken: Vec<u8>,
-    room: usize,
-    at_once: usize,
-    sticks: bool,
+pub(crate) struct Limited {
+    pub(crate) taken: Vec<u8>,
+    pub(crate) room: usize,
+    pub(crate) at_once: usize,
+    pub(crate) sticks: bool,
 }
 
 impl Write for Limited {

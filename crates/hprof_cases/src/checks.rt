@@ -1,0 +1,149 @@
+//! The report `check`.
+
+use crate::program::{outcome_of, path_of, written};
+use crate::records::as_the_jdk_writes;
+use crate::samples::{HEADER, NAME_1_A, NAME_1_B, bytes_of, plain_part, readers_of, record};
+use crate::writers::Limited;
+use hprof_engine::ToolFault;
+use hprof_items::{Device, WriteFault};
+use hprof_reports::check_to;
+use hprof_stream::Limits;
+use hprof_tool::Status;
+use std::alloc::Global;
+use std::fs;
+use std::process::Abort;
+use std::test::Fail;
+
+/// The report on the plain part.
+const PLAIN: &str = "part 0: version 1.0.2 ids 4 time 1 records 3 facts 4 end no\nnames 2\nloads 0\nunloads 0\nframes 0\n\
+    traces 0\nstarts 0\nends 0\nroots 1\nclasses 0\nobjects 1\nbad names 0\n";
+
+/// Checks that this is the report on the parts.
+fn expect_report(
+    rt: &impl Abort,
+    alloc: Global,
+    parts: &[&[u8]],
+    report: &str,
+) -> Result<(), Fail> {
+    let mut readers = readers_of(alloc, parts)?;
+    let mut target = Device::new(Vec::new(alloc));
+    let answer = check_to(alloc, &mut readers, &mut target, Limits::usual());
+    assert_eq!(rt; answer, Ok(()));
+    let bytes = target.into_inner();
+    assert_eq!(rt; str::from_utf8(&bytes)?, report);
+    Ok(())
+}
+
+#[test]
+fn the_plain_part(rt: HostRuntime) -> Result<(), Fail> {
+    let part = plain_part(rt.alloc())?;
+    expect_report(&rt, rt.alloc(), &[&part], PLAIN)
+}
+
+#[test]
+fn the_plain_part_twice(rt: HostRuntime) -> Result<(), Fail> {
+    let part = plain_part(rt.alloc())?;
+    let report = "part 0: version 1.0.2 ids 4 time 1 records 3 facts 4 end no\n\
+        part 1: version 1.0.2 ids 4 time 1 records 3 facts 4 end no\nnames 2\nloads 0\nunloads 0\nframes 0\n\
+        traces 0\nstarts 0\nends 0\nroots 1\nclasses 0\nobjects 1\nbad names 0\n";
+    expect_report(&rt, rt.alloc(), &[&part, &part], report)
+}
+
+#[test]
+fn a_bad_name(rt: HostRuntime) -> Result<(), Fail> {
+    let name = record(rt.alloc(), 0x01, &[b"\0\0\0\x01\0".as_slice()])?;
+    let part = bytes_of(rt.alloc(), &[HEADER, &name])?;
+    let report =
+        "part 0: version 1.0.2 ids 4 time 1 records 1 facts 1 end no\nnames 1\nloads 0\nunloads 0\nframes 0\n\
+        traces 0\nstarts 0\nends 0\nroots 0\nclasses 0\nobjects 0\nbad names 1\n";
+    expect_report(&rt, rt.alloc(), &[&part], report)
+}
+
+#[test]
+fn a_part_as_the_jdk_writes_it(rt: HostRuntime) -> Result<(), Fail> {
+    let part = as_the_jdk_writes(rt.alloc(), false)?;
+    let report =
+        "part 0: version 1.0.2 ids 8 time 1 records 5 facts 6 end yes\nnames 1\nloads 1\nunloads 0\nframes 0\n\
+        traces 1\nstarts 0\nends 0\nroots 1\nclasses 1\nobjects 1\nbad names 0\n";
+    expect_report(&rt, rt.alloc(), &[&part], report)
+}
+
+#[test]
+fn no_parts(rt: HostRuntime) -> Result<(), Fail> {
+    let mut readers: [Device<&[u8]>; 0] = [];
+    let mut target = Device::new(Vec::new(rt.alloc()));
+    let answer = check_to(rt.alloc(), &mut readers, &mut target, Limits::usual());
+    assert_eq!(rt; answer, Err(ToolFault::NoParts));
+    assert_eq!(rt; target.into_inner().len(), 0);
+    Ok(())
+}
+
+#[test]
+fn a_report_cut_at_each_byte(rt: HostRuntime) -> Result<(), Fail> {
+    let part = plain_part(rt.alloc())?;
+    let len = PLAIN.len();
+    for room in 0..=len {
+        for (sticks, fault) in [(false, WriteFault::Failed), (true, WriteFault::Stuck)] {
+            let mut target = Device::new(Limited {
+                taken: Vec::new(rt.alloc()),
+                room,
+                at_once: 1,
+                sticks,
+            });
+            let mut readers = [Device::new(part.as_slice())];
+            let answer = check_to(rt.alloc(), &mut readers, &mut target, Limits::usual());
+            let expected = if room < len {
+                Err(ToolFault::Write(fault))
+            } else {
+                Ok(())
+            };
+            assert_eq!(rt; answer, expected);
+            assert_eq!(rt; target.into_inner().taken.as_slice(), &PLAIN.as_bytes()[..room]);
+        }
+    }
+    Ok(())
+}
+
+#[test]
+fn the_program_prints_a_report(rt: HostRuntime) -> Result<(), Fail> {
+    let plain = plain_part(rt.alloc())?;
+    let part = written(&rt, "check-plain", &[&plain])?;
+    let ran = outcome_of(rt.alloc(), &rt, &["check", part.as_str()], &[])?;
+    assert_eq!(rt; ran.status.code(), 0);
+    assert_eq!(rt; str::from_utf8(&ran.output)?, PLAIN);
+    assert_eq!(rt; ran.errors.len(), 0);
+    fs::remove_file(&rt, part.as_str())?;
+    Ok(())
+}
+
+#[test]
+fn the_program_refuses_to_report(rt: HostRuntime) -> Result<(), Fail> {
+    let one = written(&rt, "check-one", &[HEADER, NAME_1_A])?;
+    let other = written(&rt, "check-other", &[HEADER, NAME_1_B])?;
+    let cut = written(&rt, "check-cut", &[HEADER, &NAME_1_A[..10]])?;
+    let missing = path_of(&rt, "check-missing")?;
+    for (words, text) in [
+        (["check"].as_slice(), "hprof: no parts\n"),
+        (
+            &["check", one.as_str(), other.as_str()],
+            "hprof: conflict at name 1\n",
+        ),
+        (
+            &["check", one.as_str(), cut.as_str()],
+            "hprof: part 1: malformed at 31: truncated\n",
+        ),
+        (
+            &["check", one.as_str(), missing.as_str()],
+            "hprof: cannot open part 1\n",
+        ),
+    ] {
+        let ran = outcome_of(rt.alloc(), &rt, words, &[])?;
+        assert_eq!(rt; ran.status, Status::Refused);
+        assert_eq!(rt; ran.output.len(), 0);
+        assert_eq!(rt; str::from_utf8(&ran.errors)?, text);
+    }
+    for path in [&one, &other, &cut] {
+        fs::remove_file(&rt, path.as_str())?;
+    }
+    Ok(())
+}
