@@ -1,6 +1,6 @@
 //! The report `check`.
 
-use crate::program::{outcome_of, path_of, written};
+use crate::program::{FailsOnce, ended, outcome_of, path_of, written};
 use crate::records::as_the_jdk_writes;
 use crate::samples::{HEADER, NAME_1_A, NAME_1_B, bytes_of, plain_part, readers_of, record};
 use crate::writers::Limited;
@@ -130,7 +130,7 @@ fn the_program_refuses_to_report(rt: HostRuntime) -> Result<(), Fail> {
         ),
         (
             &["check", one.as_str(), cut.as_str()],
-            "hprof: part 1: malformed at 31: truncated\n",
+            "hprof: part 1: malformed at 31: Truncated\n",
         ),
         (
             &["check", one.as_str(), missing.as_str()],
@@ -145,5 +145,18 @@ fn the_program_refuses_to_report(rt: HostRuntime) -> Result<(), Fail> {
     for path in [&one, &other, &cut] {
         fs::remove_file(&rt, path.as_str())?;
     }
+    Ok(())
+}
+
+#[test]
+fn a_report_that_cannot_be_printed(rt: HostRuntime) -> Result<(), Fail> {
+    let part = written(&rt, "check-unprinted", &[HEADER, NAME_1_A])?;
+    let mut writes = 0;
+    let words = ["check", part.as_str()];
+    let (status, errors) = ended(rt.alloc(), &rt, &words, &[], FailsOnce(&mut writes))?;
+    assert_eq!(rt; status, Status::Refused);
+    assert_eq!(rt; errors.as_slice(), b"hprof: write failed\n".as_slice());
+    assert_eq!(rt; writes, 1);
+    fs::remove_file(&rt, part.as_str())?;
     Ok(())
 }

@@ -94,7 +94,7 @@ fn no_words(rt: HostRuntime) -> Result<(), Fail> {
 
 /// A writer that counts its writes, of which the first fails.
 #[derive(Drop)]
-struct FailsOnce<'a>(&'a mut u32);
+pub(crate) struct FailsOnce<'a>(pub(crate) &'a mut u32);
 
 impl Write for FailsOnce<'_> {
     fn write(&mut self, bytes: &[u8]) -> io::Result<usize> {
