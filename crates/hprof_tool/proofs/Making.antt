@@ -13,11 +13,13 @@ use Rattle.hprof_stream.specs.declared.part_fault.PartFault.{PartFault}
 use Rattle.hprof_stream.specs.declared.part_fault.PartFault.TheVariants as part_faults
 use Rattle.hprof_stream.specs.declared.sink.SinkFault.TheVariants as sinks
 use Rattle.hprof_heap.specs.declared.key.Key.{Key}
+use Rattle.hprof_heap.specs.Dump.{canonical_dump}
 use Rattle.hprof_heap.specs.Gathering.{Given}
 use Rattle.hprof_heap.specs.State.{HaveTwoSizes}
 use Rattle.hprof_engine.specs.declared.tool_fault.ToolFault.{ToolFault}
 use Rattle.hprof_engine.specs.declared.tool_fault.ToolFault.TheVariants as tool
-use Rattle.hprof_engine.specs.Joining.{Tell, Disagree, IsAccepted, IsOfPart, IsPartFault, RefusesPart}
+use Rattle.hprof_engine.specs.declared.joined.Joined.{Joined}
+use Rattle.hprof_engine.specs.Joining.{Tell, Joins, StopsWriting, Disagree, IsAccepted, IsOfPart, IsPartFault, RefusesPart}
 use Rattle.hprof_tool.specs.declared.program.product.Product.{Product}
 use Rattle.hprof_tool.specs.declared.program.product.Product.TheVariants as products
 use Rattle.hprof_tool.specs.declared.program.refused.Refused.{Refused}
@@ -89,6 +91,16 @@ wanted_memory tool.OutOfMemory same = refl
 state_of : (product : Product) (parts : List (List ℕ)) (bytes : List ℕ) → IsProduct product parts bytes → HaveOneState parts
 state_of products.Dump parts bytes is = (is.ids, is.millis, is.rows, is.agree)
 state_of products.Check parts bytes is = (is.ids, is.millis, is.rows, is.agree)
+
+-- what was joined was made into a dump
+pub made_dump : (parts : List (List ℕ)) (old new : Option (List ℕ)) (joined : Joined) → Joins parts old new joined → IsMade products.Dump parts old new
+made_dump parts old new joined is =
+    (canonical_dump is.ids is.millis is.rows, record { ids = is.ids; millis = is.millis; rows = is.rows; agree = is.agree; is = refl }, is.written)
+
+-- and so far as it was written
+pub stopped_dump : (parts : List (List ℕ)) (old new : Option (List ℕ)) → StopsWriting parts old new → IsStopped products.Dump parts old new
+stopped_dump parts old new is =
+    (canonical_dump is.ids is.millis is.rows, is.count, record { ids = is.ids; millis = is.millis; rows = is.rows; agree = is.agree; is = refl }, is.written)
 
 -- what the engine's answer tells of the parts and of the bytes that it wrote
 pub record EngineTells {R : Type 0} (left : R → Option (List ℕ)) (product : Product) (readers : List R) (old new : Option (List ℕ)) (made : Result (Unit {0}) ToolFault) : Type 0 where
