@@ -4,7 +4,6 @@ use Rattle.std.specs.Prelude.{IfErr, OnOk, OnErr, IsOk}
 use Rattle.std.specs.Io.KnownBytes.{Appends, Keeps, append_known}
 use Rattle.std.proofs.KnownBytes.{Appends-kept}
 use Rattle.std.proofs.Math.Seq.{take-length}
-use Rattle.std.specs.List.{AllByRecursion}
 use Rattle.hprof_items.specs.declared.health.Health.{Health}
 use Rattle.hprof_items.specs.declared.health.WriteFault.{WriteFault}
 use Rattle.hprof_items.specs.declared.health.WriteFault.TheVariants as faults
@@ -19,7 +18,7 @@ use Rattle.hprof_heap.specs.State.{HaveTwoSizes}
 use Rattle.hprof_engine.specs.declared.tool_fault.ToolFault.{ToolFault}
 use Rattle.hprof_engine.specs.declared.tool_fault.ToolFault.TheVariants as tool
 use Rattle.hprof_engine.specs.declared.joined.Joined.{Joined}
-use Rattle.hprof_engine.specs.Joining.{Tell, Joins, StopsWriting, Disagree, IsAccepted, IsOfPart, IsPartFault, RefusesPart}
+use Rattle.hprof_engine.specs.Joining.{Tell, Joins, StopsWriting, Disagree, IsPartFault, RefusesPart}
 use Rattle.hprof_tool.specs.declared.program.product.Product.{Product}
 use Rattle.hprof_tool.specs.declared.program.product.Product.TheVariants as products
 use Rattle.hprof_tool.specs.declared.program.refused.Refused.{Refused}

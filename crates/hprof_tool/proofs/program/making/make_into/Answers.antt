@@ -1,4 +1,3 @@
-use Rattle.std.proofs.Common.{◌≡◌, ap, ◌∙◌}
 use Rattle.std.specs.Io.Buffered.{writer_inner, writer_buffer}
 use Rattle.hprof_engine.specs.declared.tool_fault.ToolFault.TheVariants as tool
 use Rattle.hprof_tool.proofs.Making.{part_refusal, refusal, stops, written_out, emptied, of_making, engine_answered, memory_answered}
