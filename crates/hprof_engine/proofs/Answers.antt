@@ -212,33 +212,33 @@ module _ {R : Type 0} (left : R → Option (List ℕ)) (health : R → Health) (
       (well_at new index is.at.is well is.at.is_there) unhindered
 
   -- the fault of an answer is that with which reading ended
-  pub part_refused : (limits : Limits) (old new : List R) (index : ℕ) (fault : PartFault) (answer : ToolFault) (from to : Gathered) → ◌≡◌ {A = Result Joined ToolFault} (Err answer) (Err (tool.Part index fault))
+  pub part_refused : {A : Type 0} (limits : Limits) (old new : List R) (index : ℕ) (fault : PartFault) (answer : ToolFault) (from to : Gathered) → ◌≡◌ {A = Result A ToolFault} (Err answer) (Err (tool.Part index fault))
       → ReadsAll left health pulls limits old from (Err answer) new to → RefusesReader left health pulls limits old new index fault from
   part_refused limits old new index fault answer from to e reads =
       let same : answer ≡ tool.Part index fault = cc in
       subst (λ (f : ToolFault). ReadsAll left health pulls limits old from (Err f) new to) same reads
 
   -- where reading ended with a fault, the readers before the one that was refused were read to their ends
-  pub stopped_read_out : (limits : Limits) (old new : List R) (answer : ToolFault) (from to : Gathered) → ReadsAll left health pulls limits old from (Err answer) new to
-      → AreReadOut left health pulls limits old new (read_count {A = Joined} (Err answer) (length old))
-  stopped_read_out limits old new (tool.Part index fault) from to reads = reads.out
-  stopped_read_out limits old new tool.NoParts from to reads = absurd reads
-  stopped_read_out limits old new tool.IdSizes from to reads = absurd reads
-  stopped_read_out limits old new (tool.Conflict key) from to reads = absurd reads
-  stopped_read_out limits old new (tool.Write fault) from to reads = absurd reads
-  stopped_read_out limits old new tool.OutOfMemory from to reads = absurd reads
+  pub stopped_read_out : (A : Type 0) (limits : Limits) (old new : List R) (answer : ToolFault) (from to : Gathered) → ReadsAll left health pulls limits old from (Err answer) new to
+      → AreReadOut left health pulls limits old new (read_count {A = A} (Err answer) (length old))
+  stopped_read_out A limits old new (tool.Part index fault) from to reads = reads.out
+  stopped_read_out A limits old new tool.NoParts from to reads = absurd reads
+  stopped_read_out A limits old new tool.IdSizes from to reads = absurd reads
+  stopped_read_out A limits old new (tool.Conflict key) from to reads = absurd reads
+  stopped_read_out A limits old new (tool.Write fault) from to reads = absurd reads
+  stopped_read_out A limits old new tool.OutOfMemory from to reads = absurd reads
 
   -- reading ends with a fault only where something hinders it
-  pub reading_hindered : (limits : Limits) (parts : List (List ℕ)) (ids : IdSize) (millis : ℕ) (facts : List FactValue) (old new : List R) (answer : ToolFault) (from to : Gathered) → limits.max_item ≤ longest_body
+  pub reading_hindered : (A : Type 0) (limits : Limits) (parts : List (List ℕ)) (ids : IdSize) (millis : ℕ) (facts : List FactValue) (old new : List R) (answer : ToolFault) (from to : Gathered) → limits.max_item ≤ longest_body
       → Tell left old parts → IsState parts ids millis facts → All (λ reader. health reader ≡ healths.Well) new → ReadsAll left health pulls limits old from (Err answer) new to
-      → (IsHindered (Err answer) → ⊥) → IsOkOrConflict (Err answer)
-  reading_hindered limits parts ids millis facts old new (tool.Part index fault) from to le told state well reads unhindered =
+      → (IsHindered {A = A} (Err answer) → ⊥) → IsOkOrConflict {A = A} (Err answer)
+  reading_hindered A limits parts ids millis facts old new (tool.Part index fault) from to le told state well reads unhindered =
       absurd (never_refused limits parts ids millis facts old new index fault le state (refuses_part limits parts old new index fault from told reads) well unhindered)
-  reading_hindered limits parts ids millis facts old new tool.NoParts from to le told state well reads unhindered = absurd reads
-  reading_hindered limits parts ids millis facts old new tool.IdSizes from to le told state well reads unhindered = absurd reads
-  reading_hindered limits parts ids millis facts old new (tool.Conflict key) from to le told state well reads unhindered = absurd reads
-  reading_hindered limits parts ids millis facts old new (tool.Write fault) from to le told state well reads unhindered = absurd reads
-  reading_hindered limits parts ids millis facts old new tool.OutOfMemory from to le told state well reads unhindered = absurd reads
+  reading_hindered A limits parts ids millis facts old new tool.NoParts from to le told state well reads unhindered = absurd reads
+  reading_hindered A limits parts ids millis facts old new tool.IdSizes from to le told state well reads unhindered = absurd reads
+  reading_hindered A limits parts ids millis facts old new (tool.Conflict key) from to le told state well reads unhindered = absurd reads
+  reading_hindered A limits parts ids millis facts old new (tool.Write fault) from to le told state well reads unhindered = absurd reads
+  reading_hindered A limits parts ids millis facts old new tool.OutOfMemory from to le told state well reads unhindered = absurd reads
 
 -- parts that state something together are some
 pub some_parts : {R : Type 0} (left : R → Option (List ℕ)) (old : List R) (parts : List (List ℕ)) (ids : IdSize) (millis : ℕ) (facts : List FactValue) → Tell left old parts → IsState parts ids millis facts → old ≡ [] → ⊥
@@ -255,12 +255,12 @@ pub told_of : (given : List Given) (refusal known : Refusal) → refusal ≡ kno
 told_of given refusal known e tells = subst (λ (r : Refusal). Tells given (Err r)) e tells
 
 -- a conflict is told at its key
-pub told_conflict : (given : List Given) (refusal : Refusal) (key named : Key) → refusal ≡ refusals.Conflict key → ◌≡◌ {A = Result Joined ToolFault} (Err (tool.Conflict key)) (Err (tool.Conflict named)) → Tells given (Err refusal)
+pub told_conflict : {A : Type 0} (given : List Given) (refusal : Refusal) (key named : Key) → refusal ≡ refusals.Conflict key → ◌≡◌ {A = Result A ToolFault} (Err (tool.Conflict key)) (Err (tool.Conflict named)) → Tells given (Err refusal)
     → Tells given (Err (refusals.Conflict named))
 told_conflict given refusal key named e same tells =
     let one : key ≡ named = cc in
     told_of given refusal (refusals.Conflict named) (e ∙ ap refusals.Conflict one) tells
 
 -- the fault of an answer is that of the writer
-pub write_fault : (fault other : WriteFault) → ◌≡◌ {A = Result Joined ToolFault} (Err (tool.Write fault)) (Err (tool.Write other)) → fault ≡ other
+pub write_fault : {A : Type 0} (fault other : WriteFault) → ◌≡◌ {A = Result A ToolFault} (Err (tool.Write fault)) (Err (tool.Write other)) → fault ≡ other
 write_fault fault other e = cc
