@@ -1,9 +1,10 @@
 -- What the answers of a join say of the parts.
 use Rattle.std.proofs.Common.{◌≡◌, inl, inr, ℕ, suc, ◌≤◌, true, List, [], ◌∷◌, ◌++◌, length, take, map, Option, Some, Result, Ok, Err, refl, sym, ap, subst, ◌∙◌}
-use Rattle.std.specs.Prelude.{slice_get}
+use Rattle.std.specs.Prelude.{slice_get, IsErrAnd}
 use Rattle.std.specs.List.{All, AllByRecursion}
 use Rattle.std.specs.Io.KnownBytes.{Appends}
 use Rattle.std.proofs.Math.Seq.{take-length}
+use Rattle.std.proofs.lemmas.Result.{err_from_is_err_and}
 use Rattle.std.proofs.lemmas.Option.{get_or_from_slice_get, slice_get_within}
 use Rattle.hprof_items.specs.declared.health.Health.{Health}
 use Rattle.hprof_items.specs.declared.health.Health.TheVariants as healths
@@ -17,6 +18,7 @@ use Rattle.hprof_stream.specs.declared.limits.Limits.{Limits}
 use Rattle.hprof_stream.specs.declared.part_fault.PartFault.{PartFault}
 use Rattle.hprof_stream.specs.declared.part_fault.PartFault.TheVariants as faults
 use Rattle.hprof_stream.specs.declared.sink.SinkFault.TheVariants as sinks
+use Rattle.hprof_stream.specs.declared.summary.PartSummary.{PartSummary}
 use Rattle.hprof_stream.specs.Fault.{IsFirstFault}
 use Rattle.hprof_stream.specs.Part.{IsPart}
 use Rattle.hprof_stream.proofs.Faults.{first_fault_once, no_fault_no_first}
@@ -32,6 +34,7 @@ use Rattle.hprof_heap.proofs.Order.{order_agrees}
 use Rattle.hprof_engine.specs.declared.joined.Joined.{Joined}
 use Rattle.hprof_engine.specs.declared.tool_fault.ToolFault.{ToolFault}
 use Rattle.hprof_engine.specs.declared.tool_fault.ToolFault.TheVariants as tool
+use Rattle.hprof_engine.specs.Summaries.{AreSummaries, KeepsSummaries, AreSummarised, KeepsFirst}
 use Rattle.hprof_engine.specs.Joining.{Tell, Agree, Joins, Disagree, IsPartFault, IsOfPart, IsAccepted, RefusesPart, AreGiven, RefusesReader, AreReadOut, read_count, ReadsAll, is_want, IsHindered, IsOkOrConflict}
 use Rattle.hprof_engine.proofs.PartFaults.{of_part}
 use Rattle.hprof_stream.proofs.Parts.{part_sound}
@@ -176,6 +179,23 @@ module _ {R : Type 0} (left : R → Option (List ℕ)) (limits : Limits) (old : 
     pub two_sizes : Tells given (Err refusals.IdSizes) → HaveTwoSizes parts
     two_sizes tells = given_sizes limits parts given given_by_parts tells
 
+-- ---- the summaries of all parts
+
+-- the summaries of what readers told are those of the parts that they told
+summaries_of_parts : (parts : List (List ℕ)) (summaries : List PartSummary) → AreSummarised (map Some parts) summaries → AreSummaries parts summaries
+summaries_of_parts [] [] are = tt
+summaries_of_parts [] (summary ∷ summaries) are = absurd are
+summaries_of_parts (bytes ∷ parts) [] are = absurd are
+summaries_of_parts (bytes ∷ parts) (summary ∷ summaries) are = (are.0, summaries_of_parts parts summaries are.1)
+
+-- where all readers were read to their ends, the summaries of their parts were told
+pub keeps_summaries : {R S : Type 0} (left : R → Option (List ℕ)) (keeps : S → PartSummary → S → Type 0) (old : List R) (from to : S) → KeepsFirst left keeps old (length old) from to
+    → (parts : List (List ℕ)) → Tell left old parts → KeepsSummaries keeps parts from to
+keeps_summaries {R} left keeps old from to first parts told =
+    let of_all = subst (λ (rs : List R). AreSummarised (map left rs) first.summaries) (take-length old) first.of_readers in
+    let of_told = subst (λ (ls : List (Option (List ℕ))). AreSummarised ls first.summaries) told of_all in
+    (first.summaries, summaries_of_parts parts first.summaries of_told, first.kept)
+
 -- ---- a part was refused
 
 module _ {R : Type 0} (left : R → Option (List ℕ)) (health : R → Health) (pulls : R → ℕ) where
@@ -264,3 +284,9 @@ told_conflict given refusal key named e same tells =
 -- the fault of an answer is that of the writer
 pub write_fault : {A : Type 0} (fault other : WriteFault) → ◌≡◌ {A = Result A ToolFault} (Err (tool.Write fault)) (Err (tool.Write other)) → fault ≡ other
 write_fault fault other e = cc
+
+-- a result that is an error, and the only one that it can be
+pub the_fault : {A : Type 0} (result : Result A ToolFault) (fault : ToolFault) → IsErrAnd result (λ e. e ≡ fault) → result ≡ Err fault
+the_fault result fault is =
+    let p = err_from_is_err_and result is in
+    p.1 ∙ ap Err p.2
