@@ -149,18 +149,6 @@ module _ {R : Type 0} (left : R → Option (List ℕ)) (limits : Limits) (old : 
           ordered = ordered;
         }
 
-    pub joins : (heap : HeapValue) (joined : Joined) (before after : Option (List ℕ)) → Tells given (Ok heap) → Appends before after (canonical_dump heap.ids heap.millis heap.facts)
-        → joined.parts ≡ length old → joined.facts ≡ length heap.facts → Joins parts before after joined
-    joins heap joined before after tells written parts_count facts_count = record {
-      ids = heap.ids;
-      millis = heap.millis;
-      rows = heap.facts;
-      agree = agree heap tells;
-      written = written;
-      parts_count = parts_count ∙ told_length left old parts told;
-      facts_count = facts_count;
-    }
-
     pub disagree : (key : Key) → Tells given (Err (refusals.Conflict key)) → Disagree parts key
     disagree key tells =
         let some : given ≡ [] → ⊥ = tells.1 in
@@ -178,6 +166,19 @@ module _ {R : Type 0} (left : R → Option (List ℕ)) (limits : Limits) (old : 
 
     pub two_sizes : Tells given (Err refusals.IdSizes) → HaveTwoSizes parts
     two_sizes tells = given_sizes limits parts given given_by_parts tells
+
+-- what the parts state was written
+pub joins : {R : Type 0} (left : R → Option (List ℕ)) (old : List R) (parts : List (List ℕ)) (heap : HeapValue) (joined : Joined) (before after : Option (List ℕ)) → Tell left old parts
+    → Agree parts heap.ids heap.millis heap.facts → Appends before after (canonical_dump heap.ids heap.millis heap.facts) → joined.parts ≡ length old → joined.facts ≡ length heap.facts → Joins parts before after joined
+joins left old parts heap joined before after told agree written parts_count facts_count = record {
+  ids = heap.ids;
+  millis = heap.millis;
+  rows = heap.facts;
+  agree = agree;
+  written = written;
+  parts_count = parts_count ∙ told_length left old parts told;
+  facts_count = facts_count;
+}
 
 -- ---- the summaries of all parts
 
@@ -290,3 +291,12 @@ pub the_fault : {A : Type 0} (result : Result A ToolFault) (fault : ToolFault) �
 the_fault result fault is =
     let p = err_from_is_err_and result is in
     p.1 ∙ ap Err p.2
+
+-- what hinders an answer hinders one of another kind with the same fault
+pub as_hindered : (A B : Type 0) (fault : ToolFault) → ((IsHindered {A = A} (Err fault) → ⊥) → IsOkOrConflict {A = A} (Err fault)) → (IsHindered {A = B} (Err fault) → ⊥) → IsOkOrConflict {A = B} (Err fault)
+as_hindered A B (tool.Part index fault) is = is
+as_hindered A B tool.NoParts is = is
+as_hindered A B tool.IdSizes is = is
+as_hindered A B (tool.Conflict key) is = is
+as_hindered A B (tool.Write fault) is = is
+as_hindered A B tool.OutOfMemory is = is
