@@ -1,4 +1,4 @@
-use Rattle.std.proofs.Common.{length, Result, ap, refl, sym, subst, ◌∙◌}
+use Rattle.std.proofs.Common.{length, Result, ap, sym, subst, ◌∙◌}
 use Rattle.hprof_items.specs.Device.{health_after}
 use Rattle.hprof_heap.specs.declared.heap.Heap.{Heap}
 use Rattle.hprof_heap.specs.Heap.{heap_of}
