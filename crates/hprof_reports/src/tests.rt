@@ -66,44 +66,35 @@ fn parts_and_bad_names(rt: HostRuntime) -> Result<(), Fail> {
     check_text(&rt, rt.alloc(), &[ended, plain], &heap, text)
 }
 
-// What checking this part so often answers, and the bytes that are written.
-fn check_copies(
-    alloc: Global,
-    part: &[u8],
-    count: usize,
-) -> Result<(Result<(), ToolFault>, Vec<u8>), Fail> {
-    let mut readers = Vec::new(alloc);
-    for _ in 0..count {
-        readers.push(Device::new(part))?;
-    }
-    let mut device = Device::new(Vec::new(alloc));
-    let answer = check_to(alloc, &mut readers, &mut device, Limits::usual());
-    Ok((answer, device.into_inner()))
-}
-
 #[test]
 fn checks_one_part(rt: HostRuntime) -> Result<(), Fail> {
-    let (answer, bytes) = check_copies(rt.alloc(), PLAIN, 1)?;
-    assert_eq!(rt; answer, Ok(()));
+    let mut readers = [Device::new(PLAIN)];
+    let mut target = Device::new(Vec::new(rt.alloc()));
+    assert_eq!(rt; check_to(rt.alloc(), &mut readers, &mut target, Limits::usual()), Ok(()));
+    let bytes = target.into_inner();
     assert_eq!(rt; str::from_utf8(&bytes)?, PLAIN_TEXT);
     Ok(())
 }
 
 #[test]
 fn checks_a_part_twice(rt: HostRuntime) -> Result<(), Fail> {
-    let (answer, bytes) = check_copies(rt.alloc(), PLAIN, 2)?;
     let text = "part 0: version 1.0.2 ids 4 time 1 records 3 facts 4 end no\n\
         part 1: version 1.0.2 ids 4 time 1 records 3 facts 4 end no\nnames 2\nloads 0\nunloads 0\nframes 0\ntraces 0\n\
         starts 0\nends 0\nroots 1\nclasses 0\nobjects 1\nbad names 0\n";
-    assert_eq!(rt; answer, Ok(()));
+    let mut readers = [Device::new(PLAIN), Device::new(PLAIN)];
+    let mut target = Device::new(Vec::new(rt.alloc()));
+    assert_eq!(rt; check_to(rt.alloc(), &mut readers, &mut target, Limits::usual()), Ok(()));
+    let bytes = target.into_inner();
     assert_eq!(rt; str::from_utf8(&bytes)?, text);
     Ok(())
 }
 
 #[test]
 fn checks_no_parts(rt: HostRuntime) -> Result<(), Fail> {
-    let (answer, bytes) = check_copies(rt.alloc(), PLAIN, 0)?;
-    assert_eq!(rt; answer, Err(ToolFault::NoParts));
+    let mut readers: [Device<&[u8]>; 0] = [];
+    let mut target = Device::new(Vec::new(rt.alloc()));
+    assert_eq!(rt; check_to(rt.alloc(), &mut readers, &mut target, Limits::usual()), Err(ToolFault::NoParts));
+    let bytes = target.into_inner();
     assert_eq!(rt; bytes.len(), 0);
     Ok(())
 }
