@@ -1,9 +1,10 @@
 -- What the answers of a join say of the parts.
 use Rattle.std.proofs.Common.{◌≡◌, inl, inr, ℕ, suc, ◌≤◌, true, List, [], ◌∷◌, ◌++◌, length, take, map, Option, Some, Result, Ok, Err, refl, sym, ap, subst, ◌∙◌}
-use Rattle.std.specs.Prelude.{slice_get}
+use Rattle.std.specs.Prelude.{slice_get, IsErrAnd}
 use Rattle.std.specs.List.{All, AllByRecursion}
 use Rattle.std.specs.Io.KnownBytes.{Appends}
 use Rattle.std.proofs.Math.Seq.{take-length}
+use Rattle.std.proofs.lemmas.Result.{err_from_is_err_and}
 use Rattle.std.proofs.lemmas.Option.{get_or_from_slice_get, slice_get_within}
 use Rattle.hprof_items.specs.declared.health.Health.{Health}
 use Rattle.hprof_items.specs.declared.health.Health.TheVariants as healths
@@ -17,6 +18,7 @@ use Rattle.hprof_stream.specs.declared.limits.Limits.{Limits}
 use Rattle.hprof_stream.specs.declared.part_fault.PartFault.{PartFault}
 use Rattle.hprof_stream.specs.declared.part_fault.PartFault.TheVariants as faults
 use Rattle.hprof_stream.specs.declared.sink.SinkFault.TheVariants as sinks
+use Rattle.hprof_stream.specs.declared.summary.PartSummary.{PartSummary}
 use Rattle.hprof_stream.specs.Fault.{IsFirstFault}
 use Rattle.hprof_stream.specs.Part.{IsPart}
 use Rattle.hprof_stream.proofs.Faults.{first_fault_once, no_fault_no_first}
@@ -32,6 +34,7 @@ use Rattle.hprof_heap.proofs.Order.{order_agrees}
 use Rattle.hprof_engine.specs.declared.joined.Joined.{Joined}
 use Rattle.hprof_engine.specs.declared.tool_fault.ToolFault.{ToolFault}
 use Rattle.hprof_engine.specs.declared.tool_fault.ToolFault.TheVariants as tool
+use Rattle.hprof_engine.specs.Summaries.{AreSummaries, KeepsSummaries, AreSummarised, KeepsFirst}
 use Rattle.hprof_engine.specs.Joining.{Tell, Agree, Joins, Disagree, IsPartFault, IsOfPart, IsAccepted, RefusesPart, AreGiven, RefusesReader, AreReadOut, read_count, ReadsAll, is_want, IsHindered, IsOkOrConflict}
 use Rattle.hprof_engine.proofs.PartFaults.{of_part}
 use Rattle.hprof_stream.proofs.Parts.{part_sound}
@@ -146,18 +149,6 @@ module _ {R : Type 0} (left : R → Option (List ℕ)) (limits : Limits) (old : 
           ordered = ordered;
         }
 
-    pub joins : (heap : HeapValue) (joined : Joined) (before after : Option (List ℕ)) → Tells given (Ok heap) → Appends before after (canonical_dump heap.ids heap.millis heap.facts)
-        → joined.parts ≡ length old → joined.facts ≡ length heap.facts → Joins parts before after joined
-    joins heap joined before after tells written parts_count facts_count = record {
-      ids = heap.ids;
-      millis = heap.millis;
-      rows = heap.facts;
-      agree = agree heap tells;
-      written = written;
-      parts_count = parts_count ∙ told_length left old parts told;
-      facts_count = facts_count;
-    }
-
     pub disagree : (key : Key) → Tells given (Err (refusals.Conflict key)) → Disagree parts key
     disagree key tells =
         let some : given ≡ [] → ⊥ = tells.1 in
@@ -175,6 +166,36 @@ module _ {R : Type 0} (left : R → Option (List ℕ)) (limits : Limits) (old : 
 
     pub two_sizes : Tells given (Err refusals.IdSizes) → HaveTwoSizes parts
     two_sizes tells = given_sizes limits parts given given_by_parts tells
+
+-- what the parts state was written
+pub joins : {R : Type 0} (left : R → Option (List ℕ)) (old : List R) (parts : List (List ℕ)) (heap : HeapValue) (joined : Joined) (before after : Option (List ℕ)) → Tell left old parts
+    → Agree parts heap.ids heap.millis heap.facts → Appends before after (canonical_dump heap.ids heap.millis heap.facts) → joined.parts ≡ length old → joined.facts ≡ length heap.facts → Joins parts before after joined
+joins left old parts heap joined before after told agree written parts_count facts_count = record {
+  ids = heap.ids;
+  millis = heap.millis;
+  rows = heap.facts;
+  agree = agree;
+  written = written;
+  parts_count = parts_count ∙ told_length left old parts told;
+  facts_count = facts_count;
+}
+
+-- ---- the summaries of all parts
+
+-- the summaries of what readers told are those of the parts that they told
+summaries_of_parts : (parts : List (List ℕ)) (summaries : List PartSummary) → AreSummarised (map Some parts) summaries → AreSummaries parts summaries
+summaries_of_parts [] [] are = tt
+summaries_of_parts [] (summary ∷ summaries) are = absurd are
+summaries_of_parts (bytes ∷ parts) [] are = absurd are
+summaries_of_parts (bytes ∷ parts) (summary ∷ summaries) are = (are.0, summaries_of_parts parts summaries are.1)
+
+-- where all readers were read to their ends, the summaries of their parts were told
+pub keeps_summaries : {R S : Type 0} (left : R → Option (List ℕ)) (keeps : S → PartSummary → S → Type 0) (old : List R) (from to : S) → KeepsFirst left keeps old (length old) from to
+    → (parts : List (List ℕ)) → Tell left old parts → KeepsSummaries keeps parts from to
+keeps_summaries {R} left keeps old from to first parts told =
+    let of_all = subst (λ (rs : List R). AreSummarised (map left rs) first.summaries) (take-length old) first.of_readers in
+    let of_told = subst (λ (ls : List (Option (List ℕ))). AreSummarised ls first.summaries) told of_all in
+    (first.summaries, summaries_of_parts parts first.summaries of_told, first.kept)
 
 -- ---- a part was refused
 
@@ -212,33 +233,33 @@ module _ {R : Type 0} (left : R → Option (List ℕ)) (health : R → Health) (
       (well_at new index is.at.is well is.at.is_there) unhindered
 
   -- the fault of an answer is that with which reading ended
-  pub part_refused : (limits : Limits) (old new : List R) (index : ℕ) (fault : PartFault) (answer : ToolFault) (from to : Gathered) → ◌≡◌ {A = Result Joined ToolFault} (Err answer) (Err (tool.Part index fault))
+  pub part_refused : {A : Type 0} (limits : Limits) (old new : List R) (index : ℕ) (fault : PartFault) (answer : ToolFault) (from to : Gathered) → ◌≡◌ {A = Result A ToolFault} (Err answer) (Err (tool.Part index fault))
       → ReadsAll left health pulls limits old from (Err answer) new to → RefusesReader left health pulls limits old new index fault from
   part_refused limits old new index fault answer from to e reads =
       let same : answer ≡ tool.Part index fault = cc in
       subst (λ (f : ToolFault). ReadsAll left health pulls limits old from (Err f) new to) same reads
 
   -- where reading ended with a fault, the readers before the one that was refused were read to their ends
-  pub stopped_read_out : (limits : Limits) (old new : List R) (answer : ToolFault) (from to : Gathered) → ReadsAll left health pulls limits old from (Err answer) new to
-      → AreReadOut left health pulls limits old new (read_count {A = Joined} (Err answer) (length old))
-  stopped_read_out limits old new (tool.Part index fault) from to reads = reads.out
-  stopped_read_out limits old new tool.NoParts from to reads = absurd reads
-  stopped_read_out limits old new tool.IdSizes from to reads = absurd reads
-  stopped_read_out limits old new (tool.Conflict key) from to reads = absurd reads
-  stopped_read_out limits old new (tool.Write fault) from to reads = absurd reads
-  stopped_read_out limits old new tool.OutOfMemory from to reads = absurd reads
+  pub stopped_read_out : (A : Type 0) (limits : Limits) (old new : List R) (answer : ToolFault) (from to : Gathered) → ReadsAll left health pulls limits old from (Err answer) new to
+      → AreReadOut left health pulls limits old new (read_count {A = A} (Err answer) (length old))
+  stopped_read_out A limits old new (tool.Part index fault) from to reads = reads.out
+  stopped_read_out A limits old new tool.NoParts from to reads = absurd reads
+  stopped_read_out A limits old new tool.IdSizes from to reads = absurd reads
+  stopped_read_out A limits old new (tool.Conflict key) from to reads = absurd reads
+  stopped_read_out A limits old new (tool.Write fault) from to reads = absurd reads
+  stopped_read_out A limits old new tool.OutOfMemory from to reads = absurd reads
 
   -- reading ends with a fault only where something hinders it
-  pub reading_hindered : (limits : Limits) (parts : List (List ℕ)) (ids : IdSize) (millis : ℕ) (facts : List FactValue) (old new : List R) (answer : ToolFault) (from to : Gathered) → limits.max_item ≤ longest_body
+  pub reading_hindered : (A : Type 0) (limits : Limits) (parts : List (List ℕ)) (ids : IdSize) (millis : ℕ) (facts : List FactValue) (old new : List R) (answer : ToolFault) (from to : Gathered) → limits.max_item ≤ longest_body
       → Tell left old parts → IsState parts ids millis facts → All (λ reader. health reader ≡ healths.Well) new → ReadsAll left health pulls limits old from (Err answer) new to
-      → (IsHindered (Err answer) → ⊥) → IsOkOrConflict (Err answer)
-  reading_hindered limits parts ids millis facts old new (tool.Part index fault) from to le told state well reads unhindered =
+      → (IsHindered {A = A} (Err answer) → ⊥) → IsOkOrConflict {A = A} (Err answer)
+  reading_hindered A limits parts ids millis facts old new (tool.Part index fault) from to le told state well reads unhindered =
       absurd (never_refused limits parts ids millis facts old new index fault le state (refuses_part limits parts old new index fault from told reads) well unhindered)
-  reading_hindered limits parts ids millis facts old new tool.NoParts from to le told state well reads unhindered = absurd reads
-  reading_hindered limits parts ids millis facts old new tool.IdSizes from to le told state well reads unhindered = absurd reads
-  reading_hindered limits parts ids millis facts old new (tool.Conflict key) from to le told state well reads unhindered = absurd reads
-  reading_hindered limits parts ids millis facts old new (tool.Write fault) from to le told state well reads unhindered = absurd reads
-  reading_hindered limits parts ids millis facts old new tool.OutOfMemory from to le told state well reads unhindered = absurd reads
+  reading_hindered A limits parts ids millis facts old new tool.NoParts from to le told state well reads unhindered = absurd reads
+  reading_hindered A limits parts ids millis facts old new tool.IdSizes from to le told state well reads unhindered = absurd reads
+  reading_hindered A limits parts ids millis facts old new (tool.Conflict key) from to le told state well reads unhindered = absurd reads
+  reading_hindered A limits parts ids millis facts old new (tool.Write fault) from to le told state well reads unhindered = absurd reads
+  reading_hindered A limits parts ids millis facts old new tool.OutOfMemory from to le told state well reads unhindered = absurd reads
 
 -- parts that state something together are some
 pub some_parts : {R : Type 0} (left : R → Option (List ℕ)) (old : List R) (parts : List (List ℕ)) (ids : IdSize) (millis : ℕ) (facts : List FactValue) → Tell left old parts → IsState parts ids millis facts → old ≡ [] → ⊥
@@ -255,12 +276,27 @@ pub told_of : (given : List Given) (refusal known : Refusal) → refusal ≡ kno
 told_of given refusal known e tells = subst (λ (r : Refusal). Tells given (Err r)) e tells
 
 -- a conflict is told at its key
-pub told_conflict : (given : List Given) (refusal : Refusal) (key named : Key) → refusal ≡ refusals.Conflict key → ◌≡◌ {A = Result Joined ToolFault} (Err (tool.Conflict key)) (Err (tool.Conflict named)) → Tells given (Err refusal)
+pub told_conflict : {A : Type 0} (given : List Given) (refusal : Refusal) (key named : Key) → refusal ≡ refusals.Conflict key → ◌≡◌ {A = Result A ToolFault} (Err (tool.Conflict key)) (Err (tool.Conflict named)) → Tells given (Err refusal)
     → Tells given (Err (refusals.Conflict named))
 told_conflict given refusal key named e same tells =
     let one : key ≡ named = cc in
     told_of given refusal (refusals.Conflict named) (e ∙ ap refusals.Conflict one) tells
 
 -- the fault of an answer is that of the writer
-pub write_fault : (fault other : WriteFault) → ◌≡◌ {A = Result Joined ToolFault} (Err (tool.Write fault)) (Err (tool.Write other)) → fault ≡ other
+pub write_fault : {A : Type 0} (fault other : WriteFault) → ◌≡◌ {A = Result A ToolFault} (Err (tool.Write fault)) (Err (tool.Write other)) → fault ≡ other
 write_fault fault other e = cc
+
+-- a result that is an error, and the only one that it can be
+pub the_fault : {A : Type 0} (result : Result A ToolFault) (fault : ToolFault) → IsErrAnd result (λ e. e ≡ fault) → result ≡ Err fault
+the_fault result fault is =
+    let p = err_from_is_err_and result is in
+    p.1 ∙ ap Err p.2
+
+-- what hinders an answer hinders one of another kind with the same fault
+pub as_hindered : (A B : Type 0) (fault : ToolFault) → ((IsHindered {A = A} (Err fault) → ⊥) → IsOkOrConflict {A = A} (Err fault)) → (IsHindered {A = B} (Err fault) → ⊥) → IsOkOrConflict {A = B} (Err fault)
+as_hindered A B (tool.Part index fault) is = is
+as_hindered A B tool.NoParts is = is
+as_hindered A B tool.IdSizes is = is
+as_hindered A B (tool.Conflict key) is = is
+as_hindered A B (tool.Write fault) is = is
+as_hindered A B tool.OutOfMemory is = is

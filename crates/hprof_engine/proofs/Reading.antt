@@ -8,10 +8,12 @@ use Rattle.hprof_items.specs.declared.header.Header.{Header}
 use Rattle.hprof_items.specs.declared.health.Health.{Health}
 use Rattle.hprof_items.specs.FactValue.{FactValue}
 use Rattle.hprof_stream.specs.declared.limits.Limits.{Limits}
-use Rattle.hprof_stream.specs.Part.{IsPart}
+use Rattle.hprof_stream.specs.declared.summary.PartSummary.{PartSummary}
+use Rattle.hprof_stream.specs.Part.{IsPart, IsSummary}
 use Rattle.hprof_stream.specs.Run.{Run}
 use Rattle.hprof_heap.specs.Gathering.{Gathered, Given, Begins, Takes}
 use Rattle.hprof_engine.specs.Joining.{IsAccepted, IsGiven, AreGiven, GathersFirst, IsReadOut, AreReadOut}
+use Rattle.hprof_engine.specs.Summaries.{KeepsAll, IsSummarised, AreSummarised, KeepsFirst}
 use Rattle.hprof_engine.proofs.Gathered.{Gathers-more}
 
 -- the front with one more
@@ -32,6 +34,20 @@ AreGiven-more limits [] left [] part are is = (is, tt)
 AreGiven-more limits (first ∷ lefts) left (one ∷ given) part are is = (are.0, AreGiven-more limits lefts left given part are.1 is)
 AreGiven-more limits [] left (one ∷ given) part are is = absurd are
 AreGiven-more limits (first ∷ lefts) left [] part are is = absurd are
+
+-- one more reader, and the summary of what it told
+AreSummarised-more : (lefts : List (Option (List ℕ))) (left : Option (List ℕ)) (summaries : List PartSummary) (summary : PartSummary) → AreSummarised lefts summaries → IsSummarised left summary
+    → AreSummarised (lefts ++ left ∷ []) (summaries ++ summary ∷ [])
+AreSummarised-more [] left [] summary are is = (is, tt)
+AreSummarised-more (first ∷ lefts) left (one ∷ summaries) summary are is = (are.0, AreSummarised-more lefts left summaries summary are.1 is)
+AreSummarised-more [] left (one ∷ summaries) summary are is = absurd are
+AreSummarised-more (first ∷ lefts) left [] summary are is = absurd are
+
+-- one more summary was told
+KeepsAll-more : {S : Type 0} (keeps : S → PartSummary → S → Type 0) (summaries : List PartSummary) (summary : PartSummary) (old mid new : S) → KeepsAll keeps summaries old mid → keeps mid summary new
+    → KeepsAll keeps (summaries ++ summary ∷ []) old new
+KeepsAll-more {S} keeps [] summary old mid new kept is = (new, subst (λ (s : S). keeps s summary new) (sym kept) is, refl)
+KeepsAll-more keeps (one ∷ summaries) summary old mid new kept is = (kept.0, kept.1, KeepsAll-more keeps summaries summary kept.0 mid new kept.2 is)
 
 -- the element at a place, found by what stands there
 pub element_at : {R : Type 0} (old cur : List R) (index : ℕ) (was : R) → index < length old → get_or cur index was ≡ get_or old index was → was ≡ get_or cur index was → slice_get old index ≡ Some was
@@ -64,7 +80,19 @@ given_if_told limits (Some bytes) (Some rest) came part consumes ends sound is =
     let whole : came ≡ bytes = sym (append-nil came) ∙ ap (λ (r : List ℕ). came ++ r) (sym ends) ∙ sym consumes in
     (subst (λ (b : List ℕ). IsAccepted limits b) whole sound, subst (λ (b : List ℕ). IsPart b part.header.ids part.header.millis part.facts) whole is)
 
+-- what a reader told that was read to its end has the summary of what came
+pub summarised_if_told : (left rest : Option (List ℕ)) (came : List ℕ) (summary : PartSummary) → Consumes left rest came → IsAtEnd rest → IsSummary came summary → IsSummarised left summary
+summarised_if_told None rest came summary consumes ends is = tt
+summarised_if_told (Some bytes) None came summary consumes ends is = absurd consumes
+summarised_if_told (Some bytes) (Some rest) came summary consumes ends is =
+    let whole : came ≡ bytes = sym (append-nil came) ∙ ap (λ (r : List ℕ). came ++ r) (sym ends) ∙ sym consumes in
+    subst (λ (b : List ℕ). IsSummary b summary) whole is
+
 module _ {R : Type 0} (left : R → Option (List ℕ)) where
+  -- what the readers told, with one more
+  lefts_more : (old : List R) (i : ℕ) (was : R) → slice_get old i ≡ Some was → map left (take (i + 1) old) ≡ map left (take i old) ++ left was ∷ []
+  lefts_more old i was there = ap (λ (n : ℕ). map left (take n old)) (add-one i) ∙ ap (map left) (take_one old i was there) ∙ map_one left (take i old) was
+
   -- no reader was read
   pub GathersFirst-none : (limits : Limits) (old : List R) (from : Gathered) → GathersFirst left limits old 0 from from
   GathersFirst-none limits old from = record { given = []; of_readers = tt; gathers = refl }
@@ -75,13 +103,25 @@ module _ {R : Type 0} (left : R → Option (List ℕ)) where
       → GathersFirst left limits old (i + 1) from new
   GathersFirst-more limits old i was from mid new header facts there first run is =
       let part : Given = record { header = header; facts = facts } in
-      let lefts : map left (take (i + 1) old) ≡ map left (take i old) ++ left was ∷ [] =
-      ap (λ (n : ℕ). map left (take n old)) (add-one i) ∙ ap (map left) (take_one old i was there) ∙ map_one left (take i old) was in
       record {
         given = first.given ++ part ∷ [];
-        of_readers = subst (λ (l : List (Option (List ℕ))). AreGiven limits l (first.given ++ part ∷ [])) (sym lefts) (AreGiven-more limits (map left (take i old)) (left was) first.given part first.of_readers is);
+        of_readers = subst (λ (l : List (Option (List ℕ))). AreGiven limits l (first.given ++ part ∷ [])) (sym (lefts_more old i was there)) (AreGiven-more limits (map left (take i old)) (left was) first.given part first.of_readers is);
         gathers = Gathers-more from mid new first.given header facts first.gathers run;
       }
+
+  module _ {S : Type 0} (keeps : S → PartSummary → S → Type 0) where
+    -- nothing was told
+    pub KeepsFirst-none : (old : List R) (from : S) → KeepsFirst left keeps old 0 from from
+    KeepsFirst-none old from = record { summaries = []; of_readers = tt; kept = refl }
+
+    -- one more summary was
+    pub KeepsFirst-more : (old : List R) (i : ℕ) (was : R) (from mid new : S) (summary : PartSummary) → slice_get old i ≡ Some was
+        → KeepsFirst left keeps old i from mid → keeps mid summary new → IsSummarised (left was) summary → KeepsFirst left keeps old (i + 1) from new
+    KeepsFirst-more old i was from mid new summary there first kept is = record {
+      summaries = first.summaries ++ summary ∷ [];
+      of_readers = subst (λ (l : List (Option (List ℕ))). AreSummarised l (first.summaries ++ summary ∷ [])) (sym (lefts_more old i was there)) (AreSummarised-more (map left (take i old)) (left was) first.summaries summary first.of_readers is);
+      kept = KeepsAll-more keeps first.summaries summary from mid new first.kept kept;
+    }
 
 -- what was written to another place changes nothing here
 get_set_other : {R : Type 0} (xs : List R) (i k : ℕ) (x : R) → k < i → slice_get (set xs i x) k ≡ slice_get xs k

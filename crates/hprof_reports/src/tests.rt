@@ -1,5 +1,6 @@
 // The texts are by hand.
 use super::*;
+use hprof_engine::ToolFault;
 use hprof_heap::{Gatherer, Heap};
 use hprof_items::Device;
 use hprof_stream::{Limits, PartSummary, read_part};
@@ -12,6 +13,11 @@ use std::test::*;
 const PLAIN: &[u8] = b"JAVA PROFILE 1.0.2\0\0\0\0\x04\0\0\0\0\0\0\0\x01\
     \x01\0\0\0\0\0\0\0\x05\0\0\0\x01A\x01\0\0\0\0\0\0\0\x05\0\0\0\x02B\
     \x1c\0\0\0\0\0\0\0\x15\x05\0\0\0\x10\x23\0\0\0\x10\0\0\0\x01\0\0\0\x02\x08\x01\x02";
+
+// The report of that part.
+const PLAIN_TEXT: &str =
+    "part 0: version 1.0.2 ids 4 time 1 records 3 facts 4 end no\nnames 2\nloads 0\nunloads 0\nframes 0\n\
+    traces 0\nstarts 0\nends 0\nroots 1\nclasses 0\nobjects 1\nbad names 0\n";
 
 // A part with identifiers of 8 bytes and the time 300: the names 1 = A, 2 = the byte 0 and 3 = the byte ff, and the end of
 // a dump.
@@ -45,10 +51,7 @@ fn check_text(
 #[test]
 fn one_part(rt: HostRuntime) -> Result<(), Fail> {
     let (part, heap) = read(rt.alloc(), PLAIN)?;
-    let text =
-        "part 0: version 1.0.2 ids 4 time 1 records 3 facts 4 end no\nnames 2\nloads 0\nunloads 0\nframes 0\n\
-        traces 0\nstarts 0\nends 0\nroots 1\nclasses 0\nobjects 1\nbad names 0\n";
-    check_text(&rt, rt.alloc(), &[part], &heap, text)?;
+    check_text(&rt, rt.alloc(), &[part], &heap, PLAIN_TEXT)?;
     laws::one_check();
     Ok(())
 }
@@ -61,4 +64,37 @@ fn parts_and_bad_names(rt: HostRuntime) -> Result<(), Fail> {
         part 1: version 1.0.2 ids 4 time 1 records 3 facts 4 end no\nnames 3\nloads 0\nunloads 0\nframes 0\ntraces 0\n\
         starts 0\nends 0\nroots 0\nclasses 0\nobjects 0\nbad names 2\n";
     check_text(&rt, rt.alloc(), &[ended, plain], &heap, text)
+}
+
+#[test]
+fn checks_one_part(rt: HostRuntime) -> Result<(), Fail> {
+    let mut readers = [Device::new(PLAIN)];
+    let mut target = Device::new(Vec::new(rt.alloc()));
+    assert_eq!(rt; check_to(rt.alloc(), &mut readers, &mut target, Limits::usual()), Ok(()));
+    let bytes = target.into_inner();
+    assert_eq!(rt; str::from_utf8(&bytes)?, PLAIN_TEXT);
+    Ok(())
+}
+
+#[test]
+fn checks_a_part_twice(rt: HostRuntime) -> Result<(), Fail> {
+    let text = "part 0: version 1.0.2 ids 4 time 1 records 3 facts 4 end no\n\
+        part 1: version 1.0.2 ids 4 time 1 records 3 facts 4 end no\nnames 2\nloads 0\nunloads 0\nframes 0\ntraces 0\n\
+        starts 0\nends 0\nroots 1\nclasses 0\nobjects 1\nbad names 0\n";
+    let mut readers = [Device::new(PLAIN), Device::new(PLAIN)];
+    let mut target = Device::new(Vec::new(rt.alloc()));
+    assert_eq!(rt; check_to(rt.alloc(), &mut readers, &mut target, Limits::usual()), Ok(()));
+    let bytes = target.into_inner();
+    assert_eq!(rt; str::from_utf8(&bytes)?, text);
+    Ok(())
+}
+
+#[test]
+fn checks_no_parts(rt: HostRuntime) -> Result<(), Fail> {
+    let mut readers: [Device<&[u8]>; 0] = [];
+    let mut target = Device::new(Vec::new(rt.alloc()));
+    assert_eq!(rt; check_to(rt.alloc(), &mut readers, &mut target, Limits::usual()), Err(ToolFault::NoParts));
+    let bytes = target.into_inner();
+    assert_eq!(rt; bytes.len(), 0);
+    Ok(())
 }

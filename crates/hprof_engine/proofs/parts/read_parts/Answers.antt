@@ -1,12 +1,19 @@
 use Rattle.std.proofs.lemmas.List.{length-set}
-use Rattle.std.proofs.Common.{◌≡◌, ◌≢◌, ◌<◌, length, set, get_or, Some, ap, ◌∙◌, arith, get_or-set_other}
+use Rattle.std.proofs.Common.{◌≡◌, ◌≢◌, ℕ, ◌+◌, ◌-◌, ◌<◌, length, set, get_or, Some, ap, subst, ◌∙◌, arith, get_or-set_other}
 use Rattle.hprof_items.specs.declared.header.Header.{Header}
 use Rattle.hprof_heap.specs.Gathering.{gathered}
 use Rattle.hprof_engine.proofs.Gathered.{Run-shown, Run-sound}
 use Rattle.hprof_engine.proofs.PartFaults.{fault_of_came}
 use Rattle.hprof_engine.proofs.Answers.{from_nothing}
-use Rattle.hprof_engine.proofs.Reading.{element_at, element_set, same_at, given_if_told, GathersFirst-more, AreReadOut-kept, AreReadOut-more}
+use Rattle.hprof_engine.proofs.Reading.{element_at, element_set, same_at, given_if_told, summarised_if_told, GathersFirst-more, KeepsFirst-more, AreReadOut-kept, AreReadOut-more}
+use Rattle.hprof_engine.specs.Summaries.{KeepsFirst}
 use Rattle.hprof_engine.proofs.parts.read_parts.Goals as goal
+
+-- room for all that are to come is room for the next one and for those behind it
+room_behind : {S : Type 0} (has_room : S → ℕ → Type 0) (count index : ℕ) (summaries : S) → index < count → has_room summaries (count - index) → has_room summaries (count - (index + 1) + 1)
+room_behind has_room count index summaries within room =
+    let same : count - index ≡ count - (index + 1) + 1 = omega (arith, within) in
+    subst (λ (more : ℕ). has_room summaries more) same room
 
 pub returns-in-Err : goal.returns-in-Err
 returns-in-Err g c =
@@ -38,6 +45,7 @@ returns-in-Err g c =
               get_or-set_other c.loop-index.readers index k c.read_part.new.source d other ∙ c.loop-index.invariant.unread k d (omega (arith, behind)) below);
         };
       };
+      summaries = tt;
     }
 
 pub loop-index-preserved : goal.loop-index-preserved
@@ -46,8 +54,8 @@ loop-index-preserved g c =
     let found = c.index-readers-index.result in
     let was = get_or c.loop-index.readers index found in
     let within : index < length c.args.readers.now = omega arith in
-    let read = c.in_default.ensures.read in
-    let header : Header = c.in_default.field-0.header in
+    let read = c.in-Ok.ensures.read in
+    let header : Header = c.in-Ok.summary.header in
     let facts = read.2.6.0 in
     let there = element_at c.args.readers.now c.loop-index.readers index found within (c.loop-index.invariant.unread index found (omega arith) within) c.index-readers-index.is ∙ ap Some c.index-readers-index.is in
     let is = given_if_told c.args.limits (g.R.Source.left was) (g.R.Source.left c.read_part.new.source) read.0 (record { header = header; facts = facts }) read.1 read.2.1 (read.2.4, read.2.3) read.2.6.1 in
@@ -64,7 +72,21 @@ loop-index-preserved g c =
         at_end = read.2.1;
         accepted = (read.2.4, read.2.3);
         well = read.2.2;
-        spared = c.in_default.ensures.pulls;
+        spared = c.in-Ok.ensures.pulls;
       });
+      kept = KeepsFirst-more g.R.Source.left g.S.Summaries.keeps c.args.readers.now index was c.args.summaries.now c.loop-index.summaries c.keep.new.self c.in-Ok.summary there c.loop-index.invariant.kept c.keep.ensures.keeps
+          (summarised_if_told (g.R.Source.left was) (g.R.Source.left c.read_part.new.source) read.0 c.in-Ok.summary read.1 read.2.1 read.2.5);
+      room = c.keep.ensures.room (length c.args.readers.now - (index + 1)) (room_behind g.S.Summaries.has_room (length c.args.readers.now) index c.loop-index.summaries within c.loop-index.invariant.room);
       sound = Run-sound (gathered c.loop-index.gatherer) (gathered c.read_part.new.sink) (Some header) facts run c.loop-index.invariant.sound;
     }
+
+pub keep-requires : goal.keep-requires
+keep-requires g c =
+    let index = c.loop-index.index in
+    let within : index < length c.args.readers.now = omega arith in
+    (length c.args.readers.now - (index + 1), room_behind g.S.Summaries.has_room (length c.args.readers.now) index c.loop-index.summaries within c.loop-index.invariant.room)
+
+pub returns-clause-summaries : goal.returns-clause-summaries
+returns-clause-summaries g c =
+    let all : c.loop-index.index ≡ length c.args.readers.now = omega arith in
+    subst (λ (count : ℕ). KeepsFirst g.R.Source.left g.S.Summaries.keeps c.args.readers.now count c.args.summaries.now c.loop-index.summaries) all c.loop-index.invariant.kept

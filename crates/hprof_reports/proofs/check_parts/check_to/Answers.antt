@@ -1,0 +1,36 @@
+use Rattle.std.proofs.Common.{◌≡◌, Ok, Result, sym, subst}
+use Rattle.std.specs.Prelude.{MatchResult, IsErrAnd}
+use Rattle.hprof_engine.specs.declared.tool_fault.ToolFault.{ToolFault}
+use Rattle.hprof_engine.specs.declared.tool_fault.ToolFault.TheVariants as tool
+use Rattle.hprof_heap.specs.declared.heap.Heap.{Heap}
+use Rattle.hprof_heap.specs.Heap.{heap_of}
+use Rattle.hprof_engine.specs.Joining.{IsHindered, IsOkOrConflict}
+use Rattle.hprof_engine.proofs.Answers.{the_fault, as_hindered}
+use Rattle.hprof_reports.proofs.Checked.{items_are_summaries, wrote_all, wrote_some, checks, stops_checking, health_left}
+use Rattle.hprof_reports.proofs.check_parts.check_to.Goals as goal
+
+pub returns-in_err-heap-clause-no_other : goal.returns-in_err-heap-clause-no_other
+returns-in_err-heap-clause-no_other g c = λ parts ids millis facts told state well healthy.
+    let fault : ToolFault = c.in_err-heap.field-0.0 in
+    let is = the_fault c.from_residual.result fault c.from_residual.ensures.1 in
+    subst (λ (r : Result (Unit {0}) ToolFault). (IsHindered r → ⊥) → IsOkOrConflict r) (sym is)
+    (as_hindered Heap (Unit {0}) fault (c.in_err-heap.ensures.no_other parts ids millis facts told state well))
+
+pub returns-clause-ok : goal.returns-clause-ok
+returns-clause-ok g c =
+    let cases : MatchResult c.write_check.result (λ x. c.map_err.result ≡ Ok x) (λ e. IsErrAnd c.map_err.result (λ r. r ≡ tool.Write e)) = c.map_err.ensures.cases in
+    wrote_all _ c.write_check.result c.map_err.result cases (λ done is parts told.
+    let read = items_are_summaries c.new-summaries.result c.reserve_exact.new.self c.read_heap.new.summaries (λ v. v.items) _ (λ from summary to kept. kept) parts c.new-summaries.ensures.items c.reserve_exact.ensures.items (c.in_ok-heap.ensures.summaries parts told) in
+    checks parts (heap_of c.in_ok-heap.heap) c.deref.result.now c.read_heap.new.summaries.items (c.in_ok-heap.ensures.ok parts told) c.deref.ensures.value read (g.W.Target.written c.args.target.now)
+    (g.W.Target.written c.write_check.new.target) c.write_check.result c.write_check.ensures.bytes done is)
+
+pub returns-clause-write : goal.returns-clause-write
+returns-clause-write g c = λ fault same.
+    let cases : MatchResult c.write_check.result (λ x. c.map_err.result ≡ Ok x) (λ e. IsErrAnd c.map_err.result (λ r. r ≡ tool.Write e)) = c.map_err.ensures.cases in
+    let is = wrote_some c.write_check.result c.map_err.result fault cases same in (
+      health_left c.write_check.result (g.W.Target.health c.write_check.new.target) fault c.write_check.ensures.health is,
+      λ parts told.
+          let read = items_are_summaries c.new-summaries.result c.reserve_exact.new.self c.read_heap.new.summaries (λ v. v.items) _ (λ from summary to kept. kept) parts c.new-summaries.ensures.items c.reserve_exact.ensures.items (c.in_ok-heap.ensures.summaries parts told) in
+          stops_checking parts (heap_of c.in_ok-heap.heap) c.deref.result.now c.read_heap.new.summaries.items (c.in_ok-heap.ensures.ok parts told) c.deref.ensures.value read (g.W.Target.written c.args.target.now)
+          (g.W.Target.written c.write_check.new.target) c.write_check.result c.write_check.ensures.bytes fault is,
+    )
