@@ -35,21 +35,6 @@ fn expect_report(
 }
 
 #[test]
-fn the_plain_part(rt: HostRuntime) -> Result<(), Fail> {
-    let part = plain_part(rt.alloc())?;
-    expect_report(&rt, rt.alloc(), &[&part], PLAIN)
-}
-
-#[test]
-fn the_plain_part_twice(rt: HostRuntime) -> Result<(), Fail> {
-    let part = plain_part(rt.alloc())?;
-    let report = "part 0: version 1.0.2 ids 4 time 1 records 3 facts 4 end no\n\
-        part 1: version 1.0.2 ids 4 time 1 records 3 facts 4 end no\nnames 2\nloads 0\nunloads 0\nframes 0\n\
-        traces 0\nstarts 0\nends 0\nroots 1\nclasses 0\nobjects 1\nbad names 0\n";
-    expect_report(&rt, rt.alloc(), &[&part, &part], report)
-}
-
-#[test]
 fn a_bad_name(rt: HostRuntime) -> Result<(), Fail> {
     let name = record(rt.alloc(), 0x01, &[b"\0\0\0\x01\0".as_slice()])?;
     let part = bytes_of(rt.alloc(), &[HEADER, &name])?;
@@ -66,16 +51,6 @@ fn a_part_as_the_jdk_writes_it(rt: HostRuntime) -> Result<(), Fail> {
         "part 0: version 1.0.2 ids 8 time 1 records 5 facts 6 end yes\nnames 1\nloads 1\nunloads 0\nframes 0\n\
         traces 1\nstarts 0\nends 0\nroots 1\nclasses 1\nobjects 1\nbad names 0\n";
     expect_report(&rt, rt.alloc(), &[&part], report)
-}
-
-#[test]
-fn no_parts(rt: HostRuntime) -> Result<(), Fail> {
-    let mut readers: [Device<&[u8]>; 0] = [];
-    let mut target = Device::new(Vec::new(rt.alloc()));
-    let answer = check_to(rt.alloc(), &mut readers, &mut target, Limits::usual());
-    assert_eq!(rt; answer, Err(ToolFault::NoParts));
-    assert_eq!(rt; target.into_inner().len(), 0);
-    Ok(())
 }
 
 #[test]
@@ -153,7 +128,7 @@ fn a_report_that_cannot_be_printed(rt: HostRuntime) -> Result<(), Fail> {
     let part = written(&rt, "check-unprinted", &[HEADER, NAME_1_A])?;
     let mut writes = 0;
     let words = ["check", part.as_str()];
-    let (status, errors) = ended(rt.alloc(), &rt, &words, &[], FailsOnce(&mut writes))?;
+    let (status, errors) = ended(rt.alloc(), &rt, &words, HEADER, FailsOnce(&mut writes))?;
     assert_eq!(rt; status, Status::Refused);
     assert_eq!(rt; errors.as_slice(), b"hprof: write failed\n".as_slice());
     assert_eq!(rt; writes, 1);
