@@ -15,7 +15,7 @@ import tempfile
 from pathlib import Path
 
 import measure
-from measure import COLLECTORS, HERE, PROGRAM, check_same
+from measure import COLLECTORS, PROGRAM, check_same
 
 
 def join(out, parts):
@@ -28,14 +28,9 @@ def main():
     print("|---|---|---|---|---|---|")
     with tempfile.TemporaryDirectory() as folder:
         folder = Path(folder)
-        subprocess.run(["javac", "-d", folder, HERE / "Fill.java"], check=True)
-        subprocess.run(["rustc", "-O", "--edition", "2024", "-o", folder / "recut", HERE / "recut.rs"], check=True)
+        measure.build(folder, ["recut"])
         for collector in COLLECTORS:
-            dump = folder / "dump.hprof"
-            dump.unlink(missing_ok=True)
-            memory = f"-Xmx{max(256, 5 * megabytes)}m"
-            java = ["java", memory, f"-XX:+Use{collector}GC", "-cp", folder, "Fill", dump, str(megabytes)]
-            subprocess.run(java, check=True)
+            dump = measure.dump_of(folder, collector, megabytes)
             parts = [folder / f"part{index}" for index in range(8)]
             subprocess.run([folder / "recut", dump, *parts], check=True)
             whole, every, first, second, both = (folder / name for name in ("whole", "every", "first", "second", "both"))

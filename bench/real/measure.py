@@ -49,6 +49,9 @@ def report(program, out, parts):
         return run([program, "check", *parts], file)
 
 
+COMMANDS = {"join": join, "check": report}
+
+
 def check_same(one, other, what):
     if not filecmp.cmp(one, other, shallow=False):
         sys.exit(f"{what}: other bytes")
@@ -88,6 +91,33 @@ def measure(folder, dump, turns, work):
     return fastest, peaks
 
 
+def build(folder, programs):
+    """Builds the Java program that fills a heap, and Rust programs of this folder."""
+    subprocess.run(["javac", "-d", folder, HERE / "Fill.java"], check=True)
+    for name in programs:
+        subprocess.run(["rustc", "-O", "--edition", "2024", "-o", folder / name, HERE / f"{name}.rs"], check=True)
+
+
+def dump_of(folder, collector, megabytes):
+    """A dump of about so many megabytes of a heap under that collector."""
+    dump = folder / "dump.hprof"
+    dump.unlink(missing_ok=True)
+    memory = f"-Xmx{max(256, 5 * megabytes)}m"
+    java = ["java", memory, f"-XX:+Use{collector}GC", "-cp", folder, "Fill", dump, str(megabytes)]
+    subprocess.run(java, check=True)
+    return dump
+
+
+def print_row(folder, collector, dump, turns, command):
+    (ours, plain), peaks = measure(folder, dump, turns, COMMANDS[command])
+    size = dump.stat().st_size
+    print(
+        f"| {collector} | {size / 1e6:.1f} MB | {command} | {ours:.3f} s | {plain:.3f} s | {ours / plain:.2f} "
+        f"| {peaks[0] / 1e6:.0f} MB | {peaks[0] / size:.2f} | {peaks[1] / 1e6:.0f} MB |",
+        flush=True,
+    )
+
+
 def main():
     words = argparse.ArgumentParser()
     words.add_argument("--turns", type=int, default=5)
@@ -97,27 +127,13 @@ def main():
     print("|---|---|---|---|---|---|---|---|---|")
     with tempfile.TemporaryDirectory() as folder:
         folder = Path(folder)
-        subprocess.run(["javac", "-d", folder, HERE / "Fill.java"], check=True)
-        for name in ("plain", "recut"):
-            subprocess.run(["rustc", "-O", "--edition", "2024", "-o", folder / name, HERE / f"{name}.rs"], check=True)
+        build(folder, ["plain", "recut"])
         for megabytes in words.megabytes:
             for collector in COLLECTORS:
-                dump = folder / "dump.hprof"
-                dump.unlink(missing_ok=True)
-                memory = f"-Xmx{max(256, 5 * megabytes)}m"
-                java = ["java", memory, f"-XX:+Use{collector}GC", "-cp", folder, "Fill", dump, str(megabytes)]
-                subprocess.run(java, check=True)
+                dump = dump_of(folder, collector, megabytes)
                 check(folder, dump)
-                size = dump.stat().st_size
-                for work in (join, report):
-                    (ours, plain), peaks = measure(folder, dump, words.turns, work)
-                    command = "join" if work is join else "check"
-                    print(
-                        f"| {collector} | {size / 1e6:.1f} MB | {command} | {ours:.3f} s | {plain:.3f} s "
-                        f"| {ours / plain:.2f} | {peaks[0] / 1e6:.0f} MB | {peaks[0] / size:.2f} "
-                        f"| {peaks[1] / 1e6:.0f} MB |",
-                        flush=True,
-                    )
+                for command in COMMANDS:
+                    print_row(folder, collector, dump, words.turns, command)
 
 
 if __name__ == "__main__":
