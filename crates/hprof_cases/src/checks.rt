@@ -92,8 +92,13 @@ fn the_program_prints_a_report(rt: HostRuntime) -> Result<(), Fail> {
 }
 
 /// Checks that the program refuses to report on the parts, with that line.
-fn expect_no_report(rt: &HostRuntime, words: &[&str], line: &str) -> Result<(), Fail> {
-    let ran = outcome_of(rt.alloc(), rt, words, &[])?;
+fn expect_no_report(
+    rt: &impl Abort,
+    files: &HostRuntime,
+    words: &[&str],
+    line: &str,
+) -> Result<(), Fail> {
+    let ran = outcome_of(files.alloc(), files, words, &[])?;
     assert_eq!(rt; ran.status, Status::Refused);
     assert_eq!(rt; ran.output.len(), 0);
     assert_eq!(rt; str::from_utf8(&ran.errors)?, line);
@@ -106,14 +111,14 @@ fn parts_without_a_report(rt: HostRuntime) -> Result<(), Fail> {
     let other = written(&rt, "check-other", &[HEADER, NAME_1_B])?;
     let cut = written(&rt, "check-cut", &[HEADER, &NAME_1_A[..10]])?;
     let missing = path_of(&rt, "check-missing")?;
-    expect_no_report(&rt, &["check"], "hprof: no parts\n")?;
+    expect_no_report(&rt, &rt, &["check"], "hprof: no parts\n")?;
     let words = ["check", one.as_str(), other.as_str()];
-    expect_no_report(&rt, &words, "hprof: conflict at name 1\n")?;
+    expect_no_report(&rt, &rt, &words, "hprof: conflict at name 1\n")?;
     let words = ["check", one.as_str(), cut.as_str()];
     let line = "hprof: part 1: malformed at 31: Truncated\n";
-    expect_no_report(&rt, &words, line)?;
+    expect_no_report(&rt, &rt, &words, line)?;
     let words = ["check", one.as_str(), missing.as_str()];
-    expect_no_report(&rt, &words, "hprof: cannot open part 1\n")?;
+    expect_no_report(&rt, &rt, &words, "hprof: cannot open part 1\n")?;
     for path in [&one, &other, &cut] {
         fs::remove_file(&rt, path.as_str())?;
     }
