@@ -80,9 +80,12 @@ all_of_rows ids table fact content [] right = tt
 all_of_rows ids table fact content (row ∷ rows) right =
     (record { more = row.0 ∷ []; stands = right.0.0 }, all_of_rows ids table fact content rows right.1)
 
+pub root_of_table : (root : Root) → IsOf 7 (Rooted root)
+root_of_table root = record { more = code_of_tag (tag_of_root root) ∷ root_numbers root; stands = refl }
+
 all_of_roots : (roots : List Root) → AllOf 7 (root_facts roots)
 all_of_roots [] = tt
-all_of_roots (root ∷ roots) = (record { more = code_of_tag (tag_of_root root) ∷ root_numbers root; stands = refl }, all_of_roots roots)
+all_of_roots (root ∷ roots) = (root_of_table root, all_of_roots roots)
 
 -- the facts of each table stand in it
 pub heap_tables : (rows : HeapRows) → AreHeap rows → AreTables 0 (tables_of rows)

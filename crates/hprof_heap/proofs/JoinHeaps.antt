@@ -9,7 +9,7 @@ use Rattle.hprof_heap.specs.Facts.{Has, SameFacts}
 use Rattle.hprof_heap.specs.Heap.{facts_of_table, number_of_table}
 use Rattle.hprof_heap.specs.HeapRows.{HeapRows, AreHeap, heap_of_rows, tables_of}
 use Rattle.hprof_heap.specs.HeapValue.{HeapValue, IsHeap}
-use Rattle.hprof_heap.specs.Join.{IsBetween, TakesFacts}
+use Rattle.hprof_heap.specs.Join.{IsBetween, LacksFact, TakesFacts}
 use Rattle.hprof_heap.specs.Tables.{joined}
 use Rattle.hprof_heap.proofs.Conflicts.{IsConsistent-same}
 use Rattle.hprof_heap.proofs.FactSets.{Has-front, Has-back, Has-both, SameFacts-refl, SameFacts-sym, SameFacts-trans, SameFacts-append}
@@ -104,6 +104,10 @@ module _ (old other : HeapValue) (one_size : old.ids ≡ other.ids) (agree : IsC
         ((some.takes.facts fact).0 has);
     is_heap = some.takes.is_heap;
   }
+
+  -- a fact that it lacks the first lacks too
+  pub still_lacks : (now : HeapValue) → IsBetween old other now → LacksFact now other → LacksFact old other
+  still_lacks now between lacks = (lacks.0, lacks.1, λ has. lacks.2 (between.kept lacks.0 has))
 
   -- it still agrees with the other
   pub still_agree : (now : HeapValue) → IsBetween old other now → IsConsistent (now.facts ++ other.facts)

@@ -3,9 +3,10 @@ use Rattle.std.proofs.Common.{◌≡◌, ℕ, zero, suc, ◌+◌, ◌<◌, List,
 use Rattle.std.specs.Prelude.{IfOk, OnErr}
 use Rattle.std.specs.List.{AllByRecursion}
 use Rattle.hprof_values.specs.declared.ids.IdSize.{IdSize}
-use Rattle.hprof_items.specs.FactValue.{FactValue, Name}
+use Rattle.hprof_items.specs.FactValue.{FactValue, Name, Rooted}
 use Rattle.hprof_tables.specs.Relation.{contents_of}
 use Rattle.hprof_tables.specs.Places.{the_bytes}
+use Rattle.hprof_tables.specs.SideBySide.{LacksOne}
 use Rattle.hprof_tables.specs.Union.{AreUnion}
 use Rattle.hprof_values.specs.declared.root.Root.{Root}
 use Rattle.hprof_heap.specs.declared.trace_row.TraceRow.{TraceRow}
@@ -22,22 +23,23 @@ use Rattle.hprof_heap.specs.Facts.{Has, SameFacts}
 use Rattle.hprof_heap.specs.Heap.{facts_of_table, number_of_table, stands_in, rows_in, heap_of}
 use Rattle.hprof_heap.specs.HeapRows.{HeapRows, AreHeap, heap_of_rows, tables_of, no_content, root_facts}
 use Rattle.hprof_heap.specs.HeapValue.{HeapValue, IsHeap}
-use Rattle.hprof_heap.specs.Join.{TakesFacts}
+use Rattle.hprof_heap.specs.Join.{LacksFact, TakesFacts}
 use Rattle.hprof_heap.specs.NumberRows.{load_numbers, frame_numbers, start_numbers}
 use Rattle.hprof_heap.specs.Order.{IsBefore, IsCanonicalOrder}
-use Rattle.hprof_heap.specs.RootSet.{IsUnionOfRoots}
+use Rattle.hprof_heap.specs.RootSet.{IsUnionOfRoots, LacksRoot}
 use Rattle.hprof_heap.specs.Tables.{joined}
 use Rattle.hprof_heap.specs.TraceRow.{trace_content}
 use Rattle.hprof_heap.proofs.Conflicts.{IsConsistent-key}
 use Rattle.hprof_heap.proofs.FactSets.{Has-parts, Has-front, Has-back, All-has, All-from_has, SameFacts-refl, SameFacts-trans, SameFacts-append, SameFacts-turned}
-use Rattle.hprof_heap.proofs.HeapRows.{heap_tables, table_facts, with_same, names_right, loads_right, unloads_right, frames_right, starts_right, ends_right}
+use Rattle.hprof_heap.proofs.HeapRows.{heap_tables, root_of_table, unseen_in_heap, unseen_row, table_facts, with_same, names_right, loads_right, unloads_right, frames_right, starts_right, ends_right}
 use Rattle.hprof_heap.proofs.Order.{is_before-true}
-use Rattle.hprof_heap.proofs.Roots.{roots_kept}
-use Rattle.hprof_heap.proofs.SameHeaps.{bytes_again}
+use Rattle.hprof_heap.proofs.Roots.{find_root, has_root, roots_kept}
+use Rattle.hprof_heap.proofs.RowFacts.{right_found}
+use Rattle.hprof_heap.proofs.SameHeaps.{bytes_again, from_contents}
 use Rattle.hprof_heap.proofs.Stating.{with_facts}
 use Rattle.hprof_heap.proofs.TableRows.{has_joined, table_fits, passed_ordered}
 use Rattle.hprof_heap.proofs.Tables.{IsOf, AllOf, AreTables, IsPast, table_at, with_table, all_append, all_past, earlier}
-use Rattle.hprof_heap.proofs.UnionRows.{AgreeAtPlaces, IsTableOfBoth, union_facts, tried_union_right}
+use Rattle.hprof_heap.proofs.UnionRows.{AgreeAtPlaces, IsTableOfBoth, contents_right, has_stated, union_facts, tried_union_right}
 use Rattle.hprof_heap.proofs.UnionRoots.{tried_roots}
 
 -- ---- order of lists, one behind the other
@@ -168,15 +170,18 @@ module _ {rows others : HeapRows} (can : CanJoin rows others) where
   its_facts table =
       ap (λ (other : HeapRows). facts_of_table table (joined (tables_of other))) (sym is_sized) ∙ table_facts sized table sized_are
 
+  -- a fact of its table is one of its facts
+  has_other : (table : Table) (fact : FactValue) → Has (its table) fact → Has (joined (tables_of others)) fact
+  has_other table fact has =
+      subst (λ (some : HeapRows). Has (joined (tables_of some)) fact) is_sized (has_joined (tables_of sized) (number_of_table table) fact has)
+
   agree_in : (table : Table) → AgreeAtPlaces (mine table) (its table)
-  agree_in table one other has has_other same =
+  agree_in table one other has_mine has same =
       let facts : List FactValue = joined (tables_of rows) in
       let more : List FactValue = joined (tables_of others) in
-      let it : Has more other =
-      subst (λ (some : HeapRows). Has (joined (tables_of some)) other) is_sized
-      (has_joined (tables_of sized) (number_of_table table) other has_other) in
+      let it : Has more other = has_other table other has in
       IsConsistent-key (facts ++ more) one other can.agree
-      (Has-front facts more one (has_joined (tables_of rows) (number_of_table table) one has)) (Has-back facts more other it) same
+      (Has-front facts more one (has_joined (tables_of rows) (number_of_table table) one has_mine)) (Has-back facts more other it) same
 
   -- facts that are those of a table of both
   abbrev pub IsTaken : Table → List FactValue → Type 0
@@ -255,11 +260,37 @@ module _ {rows others : HeapRows} (can : CanJoin rows others) where
         → IsJoined r table (facts_of_rows fact content new)
     rows_joined r new ok err = joined_by r table (facts_of_rows fact content new) (rows_taken r new ok) (rows_kept r new err)
 
+    -- where the other has a row at a key that is new it has a fact that is new
+    rows_lack : {A E : Type 0} (r : Result A E) → OnErr r (LacksOne (contents_of content old) (contents_of content other))
+        → OnErr r (LacksFact (heap_of_rows rows) (heap_of_rows others))
+    rows_lack (Ok done) lacks = tt
+    rows_lack (Err e) lacks =
+        let number : ℕ = number_of_table table in
+        let its_rows : List (ℕ × List ℕ) = contents_of content other in
+        let stated : FactValue = fact lacks.0 lacks.1 in
+        let has : Has (its table) stated =
+        rw (its_is, from_contents rows.ids number fact content other) (has_stated rows.ids number fact its_rows lacks.0 lacks.1 lacks.2) in
+        let at =
+        (right_found rows.ids number fact the_bytes its_rows lacks.0 lacks.1 (contents_right rows.ids number fact content other right_too) lacks.2).0 in
+        let unseen = unseen_row (Err e) rows number lacks.0 fact the_bytes (contents_of content old) stated can.are at
+        (contents_right rows.ids number fact content old right) (mine_is ∙ from_contents rows.ids number fact content old) lacks.3 in
+        (stated, has_other table stated has, unseen.absent)
+
   -- ---- each table
+
+  -- where the other has a root that is new it has a fact that is new
+  roots_lack : {A E : Type 0} (r : Result A E) → OnErr r (LacksRoot rows.roots others.roots)
+      → OnErr r (LacksFact (heap_of_rows rows) (heap_of_rows others))
+  roots_lack (Ok done) lacks = tt
+  roots_lack (Err e) lacks =
+      let stated : FactValue = Rooted lacks.0 in
+      let unseen = unseen_in_heap (Err e) rows 7 stated can.are (root_of_table lacks.0) (find_root rows.roots lacks.0 lacks.2) in
+      (stated, has_other tables.Roots stated (has_root others.roots lacks.0 lacks.1), unseen.absent)
 
   -- the rows with one table joined
   pub record AreJoined {A E : Type 0} (r : Result A E) (table : Table) (new : HeapRows) : Type 0 where
     pub takes : IfOk r (λ _. TakesFacts (heap_of_rows rows) (facts_of_table table (joined (tables_of others))) (heap_of_rows new))
+    pub lacks : OnErr r (LacksFact (heap_of_rows rows) (heap_of_rows others))
     pub are_heap : AreHeap new
 
   module _ {A E : Type 0} (r : Result A E) where
@@ -267,57 +298,74 @@ module _ {rows others : HeapRows} (can : CanJoin rows others) where
         → IfOk r (λ _. AreUnion (contents_of the_bytes old) (contents_of the_bytes other) (contents_of the_bytes new))
     bytes_union old other new ok = rw (bytes_again old, bytes_again other, bytes_again new) ok
 
+    bytes_lack : (old other : List (ℕ × List ℕ)) → OnErr r (LacksOne old other) → OnErr r (LacksOne (contents_of the_bytes old) (contents_of the_bytes other))
+    bytes_lack old other lacks = rw (bytes_again old, bytes_again other) lacks
+
     pub names_joined : (new : List (ℕ × List ℕ)) → IfOk r (λ _. AreUnion rows.names others.names new) → OnErr r (new ≡ rows.names)
-        → AreJoined r tables.Names (record rows { names = new })
-    names_joined new ok err =
+        → OnErr r (LacksOne rows.names others.names) → AreJoined r tables.Names (record rows { names = new })
+    names_joined new ok err absent =
         let table = rows_joined tables.Names Name the_bytes rows.names others.names refl refl (names_right rows.ids rows.names)
         (names_right rows.ids others.names) r new (bytes_union rows.names others.names new ok) err in
         record {
           takes = table.takes;
+          lacks = rows_lack tables.Names Name the_bytes rows.names others.names refl refl
+              (names_right rows.ids rows.names) (names_right rows.ids others.names) r (bytes_lack rows.names others.names absent);
           are_heap = record { heap = table.is_heap; traces = can.are.traces; classes = can.are.classes; objects = can.are.objects };
         }
 
     pub loads_joined : (new : List (ℕ × LoadRow))
         → IfOk r (λ _. AreUnion (contents_of load_numbers rows.loads) (contents_of load_numbers others.loads) (contents_of load_numbers new))
-        → OnErr r (new ≡ rows.loads) → AreJoined r tables.Loads (record rows { loads = new })
-    loads_joined new ok err =
+        → OnErr r (new ≡ rows.loads) → OnErr r (LacksOne (contents_of load_numbers rows.loads) (contents_of load_numbers others.loads))
+        → AreJoined r tables.Loads (record rows { loads = new })
+    loads_joined new ok err absent =
         let table = rows_joined tables.Loads load_fact load_numbers rows.loads others.loads refl refl (loads_right rows.ids rows.loads)
         (loads_right rows.ids others.loads) r new ok err in
         record {
           takes = table.takes;
+          lacks = rows_lack tables.Loads load_fact load_numbers rows.loads others.loads refl refl
+              (loads_right rows.ids rows.loads) (loads_right rows.ids others.loads) r absent;
           are_heap = record { heap = table.is_heap; traces = can.are.traces; classes = can.are.classes; objects = can.are.objects };
         }
 
     pub unloads_joined : (new : List (ℕ × KeyRow))
         → IfOk r (λ _. AreUnion (contents_of no_content rows.unloads) (contents_of no_content others.unloads) (contents_of no_content new))
-        → OnErr r (new ≡ rows.unloads) → AreJoined r tables.Unloads (record rows { unloads = new })
-    unloads_joined new ok err =
+        → OnErr r (new ≡ rows.unloads) → OnErr r (LacksOne (contents_of no_content rows.unloads) (contents_of no_content others.unloads))
+        → AreJoined r tables.Unloads (record rows { unloads = new })
+    unloads_joined new ok err absent =
         let table = rows_joined tables.Unloads unload_fact no_content rows.unloads others.unloads refl refl (unloads_right rows.ids rows.unloads)
         (unloads_right rows.ids others.unloads) r new ok err in
         record {
           takes = table.takes;
+          lacks = rows_lack tables.Unloads unload_fact no_content rows.unloads others.unloads refl refl
+              (unloads_right rows.ids rows.unloads) (unloads_right rows.ids others.unloads) r absent;
           are_heap = record { heap = table.is_heap; traces = can.are.traces; classes = can.are.classes; objects = can.are.objects };
         }
 
     pub frames_joined : (new : List (ℕ × FrameRow))
         → IfOk r (λ _. AreUnion (contents_of frame_numbers rows.frames) (contents_of frame_numbers others.frames) (contents_of frame_numbers new))
-        → OnErr r (new ≡ rows.frames) → AreJoined r tables.Frames (record rows { frames = new })
-    frames_joined new ok err =
+        → OnErr r (new ≡ rows.frames) → OnErr r (LacksOne (contents_of frame_numbers rows.frames) (contents_of frame_numbers others.frames))
+        → AreJoined r tables.Frames (record rows { frames = new })
+    frames_joined new ok err absent =
         let table = rows_joined tables.Frames frame_fact frame_numbers rows.frames others.frames refl refl (frames_right rows.ids rows.frames)
         (frames_right rows.ids others.frames) r new ok err in
         record {
           takes = table.takes;
+          lacks = rows_lack tables.Frames frame_fact frame_numbers rows.frames others.frames refl refl
+              (frames_right rows.ids rows.frames) (frames_right rows.ids others.frames) r absent;
           are_heap = record { heap = table.is_heap; traces = can.are.traces; classes = can.are.classes; objects = can.are.objects };
         }
 
     pub traces_joined : (new : List (ℕ × TraceRow))
         → IfOk r (λ _. AreUnion (contents_of trace_content rows.traces) (contents_of trace_content others.traces) (contents_of trace_content new))
-        → OnErr r (new ≡ rows.traces) → AreJoined r tables.Traces (record rows { traces = new })
-    traces_joined new ok err =
+        → OnErr r (new ≡ rows.traces) → OnErr r (LacksOne (contents_of trace_content rows.traces) (contents_of trace_content others.traces))
+        → AreJoined r tables.Traces (record rows { traces = new })
+    traces_joined new ok err absent =
         let table = rows_joined tables.Traces (trace_fact rows.ids) trace_content rows.traces others.traces refl refl can.are.traces
         sized_are.traces r new ok err in
         record {
           takes = table.takes;
+          lacks = rows_lack tables.Traces (trace_fact rows.ids) trace_content rows.traces others.traces refl refl
+              can.are.traces sized_are.traces r absent;
           are_heap = record {
             heap = table.is_heap;
             traces = tried_union_right rows.ids 4 (trace_fact rows.ids) trace_content rows.traces others.traces can.are.traces
@@ -329,42 +377,51 @@ module _ {rows others : HeapRows} (can : CanJoin rows others) where
 
     pub starts_joined : (new : List (ℕ × StartRow))
         → IfOk r (λ _. AreUnion (contents_of start_numbers rows.starts) (contents_of start_numbers others.starts) (contents_of start_numbers new))
-        → OnErr r (new ≡ rows.starts) → AreJoined r tables.Starts (record rows { starts = new })
-    starts_joined new ok err =
+        → OnErr r (new ≡ rows.starts) → OnErr r (LacksOne (contents_of start_numbers rows.starts) (contents_of start_numbers others.starts))
+        → AreJoined r tables.Starts (record rows { starts = new })
+    starts_joined new ok err absent =
         let table = rows_joined tables.Starts start_fact start_numbers rows.starts others.starts refl refl (starts_right rows.ids rows.starts)
         (starts_right rows.ids others.starts) r new ok err in
         record {
           takes = table.takes;
+          lacks = rows_lack tables.Starts start_fact start_numbers rows.starts others.starts refl refl
+              (starts_right rows.ids rows.starts) (starts_right rows.ids others.starts) r absent;
           are_heap = record { heap = table.is_heap; traces = can.are.traces; classes = can.are.classes; objects = can.are.objects };
         }
 
     pub ends_joined : (new : List (ℕ × KeyRow))
         → IfOk r (λ _. AreUnion (contents_of no_content rows.ends) (contents_of no_content others.ends) (contents_of no_content new))
-        → OnErr r (new ≡ rows.ends) → AreJoined r tables.Ends (record rows { ends = new })
-    ends_joined new ok err =
+        → OnErr r (new ≡ rows.ends) → OnErr r (LacksOne (contents_of no_content rows.ends) (contents_of no_content others.ends))
+        → AreJoined r tables.Ends (record rows { ends = new })
+    ends_joined new ok err absent =
         let table = rows_joined tables.Ends end_fact no_content rows.ends others.ends refl refl (ends_right rows.ids rows.ends)
         (ends_right rows.ids others.ends) r new ok err in
         record {
           takes = table.takes;
+          lacks = rows_lack tables.Ends end_fact no_content rows.ends others.ends refl refl
+              (ends_right rows.ids rows.ends) (ends_right rows.ids others.ends) r absent;
           are_heap = record { heap = table.is_heap; traces = can.are.traces; classes = can.are.classes; objects = can.are.objects };
         }
 
     pub roots_joined : (new : List Root) → IfOk r (λ _. IsUnionOfRoots rows.roots others.roots new) → OnErr r (new ≡ rows.roots)
-        → AreJoined r tables.Roots (record rows { roots = new })
-    roots_joined new ok err =
+        → OnErr r (LacksRoot rows.roots others.roots) → AreJoined r tables.Roots (record rows { roots = new })
+    roots_joined new ok err absent =
         let table = joined_by r tables.Roots (root_facts new) (tried_roots r rows.roots others.roots new ok) (roots_kept r rows.roots new err) in
         record {
           takes = table.takes;
+          lacks = roots_lack r absent;
           are_heap = record { heap = table.is_heap; traces = can.are.traces; classes = can.are.classes; objects = can.are.objects };
         }
 
     pub classes_joined : (new : List (ℕ × List ℕ)) → IfOk r (λ _. AreUnion rows.classes others.classes new) → OnErr r (new ≡ rows.classes)
-        → AreJoined r tables.Classes (record rows { classes = new })
-    classes_joined new ok err =
+        → OnErr r (LacksOne rows.classes others.classes) → AreJoined r tables.Classes (record rows { classes = new })
+    classes_joined new ok err absent =
         let table = rows_joined tables.Classes (spelled_fact rows.ids) the_bytes rows.classes others.classes refl refl can.are.classes
         sized_are.classes r new (bytes_union rows.classes others.classes new ok) err in
         record {
           takes = table.takes;
+          lacks = rows_lack tables.Classes (spelled_fact rows.ids) the_bytes rows.classes others.classes refl refl
+              can.are.classes sized_are.classes r (bytes_lack rows.classes others.classes absent);
           are_heap = record {
             heap = table.is_heap;
             traces = can.are.traces;
@@ -375,12 +432,14 @@ module _ {rows others : HeapRows} (can : CanJoin rows others) where
         }
 
     pub objects_joined : (new : List (ℕ × List ℕ)) → IfOk r (λ _. AreUnion rows.objects others.objects new) → OnErr r (new ≡ rows.objects)
-        → AreJoined r tables.Objects (record rows { objects = new })
-    objects_joined new ok err =
+        → OnErr r (LacksOne rows.objects others.objects) → AreJoined r tables.Objects (record rows { objects = new })
+    objects_joined new ok err absent =
         let table = rows_joined tables.Objects (spelled_fact rows.ids) the_bytes rows.objects others.objects refl refl can.are.objects
         sized_are.objects r new (bytes_union rows.objects others.objects new ok) err in
         record {
           takes = table.takes;
+          lacks = rows_lack tables.Objects (spelled_fact rows.ids) the_bytes rows.objects others.objects refl refl
+              can.are.objects sized_are.objects r (bytes_lack rows.objects others.objects absent);
           are_heap = record {
             heap = table.is_heap;
             traces = can.are.traces;

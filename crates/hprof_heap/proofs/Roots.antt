@@ -18,8 +18,8 @@ use Rattle.hprof_tables.specs.declared.relation.Stated.{Stated}
 use Rattle.hprof_tables.specs.declared.relation.Stated.TheVariants.{New, Same, Differs}
 use Rattle.hprof_heap.specs.Facts.{Has}
 use Rattle.hprof_heap.specs.HeapRows.{root_facts}
-use Rattle.hprof_heap.specs.Order.{place_of}
-use Rattle.hprof_heap.specs.RootSet.{root_cmp, StatesRoot}
+use Rattle.hprof_heap.specs.Order.{place_of, root_cmp}
+use Rattle.hprof_heap.specs.RootSet.{StatesRoot}
 use Rattle.hprof_heap.proofs.Keys.{same_place, same_place-true}
 use Rattle.hprof_heap.proofs.Inserting.{inserted}
 use Rattle.hprof_heap.proofs.Stating.{StatesAmong}
@@ -65,7 +65,7 @@ insert_roots (first ∷ set) root none =
     ∙ ap (λ (l : List FactValue). cond (is_lt (root_cmp root first)) (Rooted root ∷ Rooted first ∷ root_facts set) (Rooted first ∷ l)) (insert_roots set root parts.1)
     ∙ ap (λ (o : Ordering). cond (is_lt o) (Rooted root ∷ Rooted first ∷ root_facts set) (Rooted first ∷ inserted (root_facts set) (Rooted root))) (root_place root first)
 
-find_root : (set : List Root) (root : Root) → list_any (is_at (root_cmp root)) set ≡ false → find (same_place (Rooted root)) (root_facts set) ≡ None
+pub find_root : (set : List Root) (root : Root) → list_any (is_at (root_cmp root)) set ≡ false → find (same_place (Rooted root)) (root_facts set) ≡ None
 find_root [] root none = refl
 find_root (first ∷ set) root none =
     let parts = or_parts (is_at (root_cmp root) first) (list_any (is_at (root_cmp root)) set) none in
@@ -73,7 +73,7 @@ find_root (first ∷ set) root none =
     ∙ find_root set root parts.1
 
 -- a root at the place of another one is that one
-same_root : (root first : Root) → is_eq (root_cmp root first) ≡ true → Rooted root ≡ Rooted first
+pub same_root : (root first : Root) → is_eq (root_cmp root first) ≡ true → Rooted root ≡ Rooted first
 same_root root first e = elim (same_place-true (Rooted root) (Rooted first) (root_same root first ∙ e)) [
   | inl have ↦ let none : None ≡ Some have.key = have.key_of_one in absurd cc
   | inr same ↦ same

@@ -1,5 +1,5 @@
 -- The facts of the roots of two sets.
-use Rattle.std.proofs.Common.{◌≡◌, Bool, true, ◌||◌, List, [], ◌∷◌, ◌++◌, Result, Ok, Err, refl, sym, ap, subst, ◌∙◌, inl, inr}
+use Rattle.std.proofs.Common.{◌≡◌, Bool, true, false, ◌||◌, ◌⊎◌, List, [], ◌∷◌, ◌++◌, Result, Ok, Err, refl, sym, subst, ◌∙◌, inl, inr}
 use Rattle.std.specs.Prelude.{IfOk}
 use Rattle.std.specs.BTreeMap.{is_at}
 use Rattle.std.specs.List.{AllByRecursion, list_any}
@@ -13,19 +13,47 @@ use Rattle.hprof_values.specs.declared.root.Root.{Root}
 use Rattle.hprof_items.specs.FactValue.{FactValue, Rooted}
 use Rattle.hprof_heap.specs.Facts.{Has}
 use Rattle.hprof_heap.specs.HeapRows.{root_facts}
-use Rattle.hprof_heap.specs.Order.{place_of, IsBefore, IsCanonicalOrder}
-use Rattle.hprof_heap.specs.RootSet.{root_cmp, IsUnionOfRoots}
+use Rattle.hprof_heap.specs.Order.{place_of, root_cmp, IsBefore, IsCanonicalOrder}
+use Rattle.hprof_heap.specs.RootSet.{IsUnionOfRoots, LacksRoot}
 use Rattle.hprof_heap.proofs.FactSets.{Has-parts, Has-front, Has-back}
-use Rattle.hprof_heap.proofs.Roots.{root_place, root_same, has_root}
+use Rattle.hprof_heap.proofs.Roots.{root_place, root_same, same_root, has_root}
 use Rattle.hprof_heap.proofs.UnionRows.{IsTableOfBoth}
 
 -- the root is one of these
-abbrev IsIn : List Root → Root → Bool
+abbrev pub IsIn : List Root → Root → Bool
 IsIn set root = list_any (is_at (root_cmp root)) set
 
 -- each root is at its own place
 at_itself : (root : Root) → is_eq (root_cmp root root) ≡ true
 at_itself root = sym (root_same root root) ∙ (bytes_eq-Decides (place_of (Rooted root)) (place_of (Rooted root))).1 refl
+
+-- ---- roots that are not there
+
+-- each root that is among the others is in the set
+abbrev pub AreAllIn : List Root → List Root → Type 0
+AreAllIn set others = (root : Root) → IsIn others root ≡ true → IsIn set root ≡ true
+
+-- one of the others is not in the set, or all are
+lacks_or_all : (set others : List Root) → LacksRoot set others ⊎ AreAllIn set others
+lacks_or_all set [] = inr (λ root is. absurd cc)
+lacks_or_all set (first ∷ others) = elim (lacks_or_all set others) [
+  | inl lacks ↦ inl (lacks.0, or_right (is_eq (root_cmp lacks.0 first)) (IsIn others lacks.0) lacks.1, lacks.2)
+  | inr all ↦ by_first (IsIn set first) refl all
+]
+  where
+    by_first : (is : Bool) → IsIn set first ≡ is → AreAllIn set others → LacksRoot set (first ∷ others) ⊎ AreAllIn set (first ∷ others)
+    by_first false e all = inl (first, or_left (is_eq (root_cmp first first)) (IsIn others first) (at_itself first), e)
+    by_first true e all = inr (λ root is. elim (or_cases (is_eq (root_cmp root first)) (IsIn others root) is) [
+      | inl here ↦
+          let fact : Rooted root ≡ Rooted first = same_root root first here in
+          let same : root ≡ first = cc in
+          subst (λ (r : Root). IsIn set r ≡ true) (sym same) e
+      | inr there ↦ all root there
+    ])
+
+-- where not all are in the set one is not
+pub lacks_root : (set others : List Root) → (AreAllIn set others → ⊥) → LacksRoot set others
+lacks_root set others not_all = elim (lacks_or_all set others) [ inl lacks ↦ lacks | inr all ↦ absurd (not_all all) ]
 
 -- the root that a fact states
 record Roots (set : List Root) (fact : FactValue) : Type 0 where

@@ -1,5 +1,5 @@
 -- The facts of two tables as one: those of the rows of both, where facts at one place are the same.
-use Rattle.std.proofs.Common.{◌≡◌, ◌≢◌, ◌<◌, ◌⊎◌, ℕ, Bool, true, List, [], ◌∷◌, ◌++◌, map, Option, Some, None, Result, Ok, Err, refl, sym, ap, subst, ◌∙◌, inl, inr, arith}
+use Rattle.std.proofs.Common.{◌≡◌, ◌≢◌, ◌<◌, ◌⊎◌, ℕ, true, List, [], ◌∷◌, ◌++◌, map, Option, Some, None, Result, Ok, Err, refl, sym, ap, subst, ◌∙◌, inl, inr, arith}
 use Rattle.std.specs.Prelude.{IfOk, OnErr}
 use Rattle.std.specs.List.{AllByRecursion}
 use Rattle.std.specs.List.Sorted.{IsStrictlySortedBy}
@@ -47,7 +47,7 @@ module _ (ids : IdSize) (table : ℕ) (fact : ℕ → List ℕ → FactValue) wh
 
   -- ---- a row and its fact
 
-  has_stated : (rows : List (ℕ × List ℕ)) (key : ℕ) (content : List ℕ) → row_at key rows ≡ Some content → Has (stated rows) (fact key content)
+  pub has_stated : (rows : List (ℕ × List ℕ)) (key : ℕ) (content : List ℕ) → row_at key rows ≡ Some content → Has (stated rows) (fact key content)
   has_stated [] key content e = absurd cc
   has_stated (row ∷ rows) key content e = elim (cases_order key row.0) [
     | inl here ↦
@@ -178,7 +178,7 @@ module _ {V : Type 0} (ids : IdSize) (table : ℕ) (fact : ℕ → List ℕ → 
   RightRows rows = AreRight ids table fact content rows
 
   -- rows are right where their contents are
-  contents_right : (rows : List (ℕ × V)) → RightRows rows → Right ids table fact (contents_of content rows)
+  pub contents_right : (rows : List (ℕ × V)) → RightRows rows → Right ids table fact (contents_of content rows)
   contents_right [] right = tt
   contents_right (row ∷ rows) right = (right.0, contents_right rows right.1)
 

@@ -26,6 +26,10 @@ pub record IsBetween (one other new : HeapValue) : Type 0 where
   pub from_both : (fact : FactValue) → Has new.facts fact → Has (one.facts ++ other.facts) fact
   pub is_heap : IsHeap new
 
+-- the other has a fact that the first has not
+abbrev pub LacksFact : HeapValue → HeapValue → Type 0
+LacksFact one other = (fact : FactValue) × Has other.facts fact × (Has one.facts fact → ⊥)
+
 -- what two heaps come to: the heap of both, or two sizes, or else the least key with two contents; memory is not wanted
 abbrev pub IsJoin : HeapValue → HeapValue → Result HeapValue JoinRefusal → Type 0
 IsJoin one other (Ok all) = IsUnion one other all
@@ -33,12 +37,13 @@ IsJoin one other (Err refusals.IdSizes) = one.ids ≢ other.ids
 IsJoin one other (Err (refusals.Conflict key)) = (one.ids ≡ other.ids) × IsLeastConflict (one.facts ++ other.facts) key
 IsJoin one other (Err refusals.OutOfMemory) = ⊥
 
--- what joining a heap with another leaves: the heap of both; nothing changes where they have two sizes or do not agree
+-- what joining a heap with another leaves: the heap of both; nothing changes where they have two sizes or do not agree; memory
+-- is wanted only where the other has a fact that is new
 abbrev pub JoinsInto : HeapValue → HeapValue → Result (Unit {0}) JoinRefusal → HeapValue → Type 0
 JoinsInto old other (Ok done) new = IsUnion old other new
 JoinsInto old other (Err refusals.IdSizes) new = (old.ids ≢ other.ids) × (new ≡ old)
 JoinsInto old other (Err (refusals.Conflict key)) new = (old.ids ≡ other.ids) × IsLeastConflict (old.facts ++ other.facts) key × (new ≡ old)
-JoinsInto old other (Err refusals.OutOfMemory) new = IsBetween old other new
+JoinsInto old other (Err refusals.OutOfMemory) new = IsBetween old other new × LacksFact old other
 
 -- ---- table by table
 

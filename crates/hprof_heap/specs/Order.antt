@@ -3,7 +3,10 @@ use Rattle.std.specs.Prelude.{◌≡◌, ℕ, List, [], ◌∷◌, ⊤}
 use Rattle.std.specs.List.{AllByRecursion}
 use Rattle.std.specs.Cmp.Lexicographic.{slice_cmp}
 use Rattle.std.specs.Ordering.{nat_cmp}
+use Rattle.std.specs.declared.cmp.Ordering.{Ordering}
 use Rattle.std.specs.declared.cmp.Ordering.TheVariants.{Less}
+use Rattle.hprof_values.specs.declared.root.Root.{Root}
+use Rattle.hprof_values.specs.contracts.root.RootOrd.TheImpl as root_ord
 use Rattle.hprof_values.specs.Root.{tag_of_root, root_numbers}
 use Rattle.hprof_values.specs.SubTag.{code_of_tag}
 use Rattle.hprof_items.specs.FactValue.{FactValue, Name, Load, Unload, Frame, Trace, Start, End, Rooted, Class, Instance, ObjArray, PrimArray}
@@ -31,3 +34,7 @@ IsBefore fact other = slice_cmp nat_cmp (place_of fact) (place_of other) ≡ Les
 abbrev pub IsCanonicalOrder : List FactValue → Type 0
 IsCanonicalOrder [] = ⊤
 IsCanonicalOrder (fact ∷ facts) = AllByRecursion (IsBefore fact) facts × IsCanonicalOrder facts
+
+-- the order of roots
+abbrev pub root_cmp : Root → Root → Ordering
+root_cmp = (root_ord.ghosts).cmp

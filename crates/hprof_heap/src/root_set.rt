@@ -3,7 +3,8 @@
 ghost use Rattle.std.specs.Prelude.{◌≡◌, ◌↔◌, [], length, false, IfOk, OnErr, IsTrue};
 ghost use Rattle.std.specs.List.{list_any};
 ghost use Rattle.std.specs.BTreeMap.{is_at};
-ghost use Rattle.hprof_heap.specs.RootSet.{root_cmp};
+ghost use Rattle.std.specs.List.Sorted.{IsStrictlySortedBy, IsStrictlySortedBy-prop};
+ghost use Rattle.hprof_heap.specs.Order.{root_cmp};
 
 use hprof_tables::Stated;
 use hprof_values::Root;
@@ -15,10 +16,11 @@ use std::collections::{BTreeSet, btree_set};
 pub(crate) struct RootSet {
     roots: BTreeSet<Root>,
     alloc: Global,
+    ghost sound: { IsStrictlySortedBy root_cmp roots.keys } by { IsStrictlySortedBy-prop root_cmp roots.keys },
 }
 
 impl RootSet {
-    ghost use Rattle.hprof_heap.specs.RootSet.{roots_of, IsUnionOfRoots, StatesRoot};
+    ghost use Rattle.hprof_heap.specs.RootSet.{roots_of, IsUnionOfRoots, LacksRoot, StatesRoot};
 
     /// A set with no roots. It takes no memory yet.
     pub(crate) fn new(alloc: Global) -> Self
@@ -57,11 +59,16 @@ impl RootSet {
         self.roots == other.roots
     }
 
-    /// Takes the roots of another. Both are gone over side by side; where memory is refused, nothing changes.
+    /// Takes the roots of another. Both are gone over side by side; where memory is refused, nothing changes. No memory is
+    /// wanted where all of them are there.
     pub(crate) fn join(&mut self, other: &Self) -> Result<(), AllocError>
         ensures ok { IfOk result (λ _. IsUnionOfRoots (roots_of self.old) (roots_of other.now) (roots_of self.new)) }
         ensures err { OnErr result (roots_of self.new ≡ roots_of self.old) }
+        ensures absent { OnErr result (LacksRoot (roots_of self.old) (roots_of other.now)) }
     {
+        if other.roots.is_subset(&self.roots) {
+            return Ok(());
+        }
         let all = self.roots.union(&other.roots).copied().collect(self.alloc)?;
         self.roots = all;
         Ok(())

@@ -106,3 +106,9 @@ union_missing rows others missing all are union = record {
   ascends = union.ascends;
   each = λ key. union.each key ∙ ap (option_or (row_at key rows)) (are.each key) ∙ or_only (row_at key rows) (row_at key others);
 }
+
+-- rows of bytes that were missing of what iterators had left
+pub bytes_missing : (left other_left rows others missing : List (ℕ × List ℕ)) → left ≡ rows → other_left ≡ others
+    → AreMissing left other_left missing → AreMissing rows others missing
+bytes_missing left other_left rows others missing e e_others are =
+    subst (λ (l : List (ℕ × List ℕ)). AreMissing rows l missing) e_others (subst (λ (l : List (ℕ × List ℕ)). AreMissing l other_left missing) e are)

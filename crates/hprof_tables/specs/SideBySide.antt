@@ -24,3 +24,7 @@ only_other (Some content) other = None
 pub record AreMissing (rows others missing : List (ℕ × List ℕ)) : Type 0 where
   pub ascends : IsAscending missing
   pub each : (key : ℕ) → row_at key missing ≡ only_other (row_at key rows) (row_at key others)
+
+-- others have a row at a key at which rows have none
+abbrev pub LacksOne : List (ℕ × List ℕ) → List (ℕ × List ℕ) → Type 0
+LacksOne rows others = (key : ℕ) × (content : List ℕ) × (row_at key others ≡ Some content) × (row_at key rows ≡ None)

@@ -77,6 +77,7 @@ impl Visit<Place> for StatedBytes<'_> {
 }
 
 /// Puts the bytes of rows behind others, and tells where they lie. Where memory is refused, some of them were put there.
+/// Where there is no row, no memory is wanted.
 fn append_rows(
     alloc: Global,
     bytes: &mut Vec<u8>,
@@ -85,6 +86,7 @@ fn append_rows(
     ensures behind { IsBehind bytes.old.items bytes.new.items }
     ensures within { IfOk result (λ places. AreWithin bytes.new.items places.items) }
     ensures lying { IfOk result (λ places. rows_lying bytes.new.items places.items ≡ contents_of (λ row. row.0.now) lent.entry.items) }
+    ensures some { OnErr result (0 < length lent.entry.items) }
 {
     let mut places = Vec::new(alloc);
     places.reserve_exact(lent.len())?;
@@ -109,7 +111,7 @@ impl BytesTable {
     ghost use Rattle.hprof_tables.specs.Relation.{States};
     ghost use Rattle.hprof_tables.specs.BytesTable.{byte_rows, byte_rows_left, LeavesBytes};
     ghost use Rattle.hprof_tables.specs.SortedTable.{LacksRoom};
-    ghost use Rattle.hprof_tables.specs.SideBySide.{IsFirstDifference};
+    ghost use Rattle.hprof_tables.specs.SideBySide.{IsFirstDifference, LacksOne};
     ghost use Rattle.hprof_tables.specs.SortedRows.{IsAscending};
     ghost use Rattle.hprof_tables.specs.Union.{AreApart, AreUnion};
 
@@ -172,23 +174,26 @@ impl BytesTable {
         first_difference(self.rows(), other.rows())
     }
 
-    /// Takes rows whose keys are new. Where memory is refused, some of their bytes were put behind those of the rows.
+    /// Takes rows whose keys are new. Where memory is refused, some of their bytes were put behind those of the rows. Where
+    /// there is none, no memory is wanted.
     fn take_rows(&mut self, lent: Vec<(u64, LentBytes<'_>)>) -> Result<(), AllocError>
         requires ascending { IsAscending (contents_of (λ row. row.0.now) lent.items) }
         requires apart { AreApart (byte_rows self.old) (contents_of (λ row. row.0.now) lent.items) }
         ensures ok { IfOk result (λ _. AreUnion (byte_rows self.old) (contents_of (λ row. row.0.now) lent.entry.items) (byte_rows self.new)) }
         ensures err { OnErr result (entries_of self.new.rows ≡ entries_of self.old.rows) }
         ensures behind { IsBehind self.old.bytes.items self.new.bytes.items }
+        ensures some { OnErr result (0 < length lent.entry.items) }
     {
         let fresh = append_rows(self.alloc, &mut self.bytes, lent)?;
         self.rows.merge(self.alloc, fresh)
     }
 
     /// Takes the rows of another whose keys are new. Both are gone over side by side; where memory is refused, nothing
-    /// changes.
+    /// changes. No memory is wanted where no key is new.
     pub fn join(&mut self, other: &Self) -> Result<(), AllocError>
         ensures ok { IfOk result (λ _. AreUnion (byte_rows self.old) (byte_rows other.now) (byte_rows self.new)) }
         ensures err { OnErr result (byte_rows self.new ≡ byte_rows self.old) }
+        ensures absent { OnErr result (LacksOne (byte_rows self.old) (byte_rows other.now)) }
     {
         let missing = missing_rows(self.alloc, self.rows(), other.rows())?;
         let len = self.bytes.len();

@@ -1,6 +1,6 @@
 //! A table of rows by key.
 
-ghost use Rattle.std.specs.Prelude.{◌≡◌, ℕ, List, [], length, IfOk, OnErr, IsTrue, ◌↔◌, ◌⊎◌, None, vec_capacity};
+ghost use Rattle.std.specs.Prelude.{◌≡◌, ◌<◌, ℕ, List, [], length, IfOk, OnErr, IsTrue, ◌↔◌, ◌⊎◌, None, vec_capacity};
 ghost use Rattle.std.specs.Option.{option_copied};
 ghost use Rattle.std.specs.Ordering.{nat_cmp};
 ghost use Rattle.std.specs.BTreeMap.{is_at};
@@ -55,12 +55,13 @@ impl<V: Content, T: Statement<V> + Drop> Visit<V> for Stating<T> {
     }
 }
 
-/// Copies of rows.
+/// Copies of rows. Where there is none, no memory is wanted.
 fn copies<V: Content + Drop>(
     alloc: Global,
     lent: Vec<(u64, &V)>,
 ) -> Result<Vec<(u64, V)>, AllocError>
-    ensures { IfOk result (λ rows. contents_of V.content rows.items ≡ contents_of (λ row. V.content row.now) lent.entry.items) }
+    ensures ok { IfOk result (λ rows. contents_of V.content rows.items ≡ contents_of (λ row. V.content row.now) lent.entry.items) }
+    ensures some { OnErr result (0 < length lent.entry.items) }
 {
     let mut rows = Vec::new(alloc);
     rows.reserve_exact(lent.len())?;
@@ -79,7 +80,7 @@ pub struct Relation<V: Content + Drop> {
 
 impl<V: Content + Drop> Relation<V> {
     ghost use Rattle.hprof_tables.specs.Relation.{rows_of, States};
-    ghost use Rattle.hprof_tables.specs.SideBySide.{IsFirstDifference};
+    ghost use Rattle.hprof_tables.specs.SideBySide.{IsFirstDifference, LacksOne};
     ghost use Rattle.hprof_tables.specs.Union.{AreUnion};
     ghost use Rattle.hprof_tables.specs.Rows.{rows_left};
     ghost use Rattle.hprof_tables.specs.SortedRows.{IsAscending};
@@ -157,11 +158,12 @@ impl<V: Content + Drop> Relation<V> {
     }
 
     /// Takes the rows of another whose keys are new. Both are gone over side by side; where memory is refused, nothing
-    /// changes.
+    /// changes. No memory is wanted where no key is new.
     pub fn join(&mut self, other: &Self) -> Result<(), AllocError>
         ensures ok { IfOk result (λ _. AreUnion (contents_of V.content (rows_of self.old)) (contents_of V.content (rows_of other.now))
             (contents_of V.content (rows_of self.new))) }
         ensures err { OnErr result (rows_of self.new ≡ rows_of self.old) }
+        ensures absent { OnErr result (LacksOne (contents_of V.content (rows_of self.old)) (contents_of V.content (rows_of other.now))) }
     {
         let missing = missing_rows(self.alloc, self.rows(), other.rows())?;
         let fresh = copies(self.alloc, missing)?;

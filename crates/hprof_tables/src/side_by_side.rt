@@ -1,7 +1,7 @@
 //! Two tables, gone over side by side.
 
-ghost use Rattle.std.specs.Prelude.{◌≡◌, ◌↔◌, ℕ, List, IfOk, IsTrue};
-ghost use Rattle.hprof_tables.specs.SideBySide.{AreMissing, IsFirstDifference};
+ghost use Rattle.std.specs.Prelude.{◌≡◌, ◌↔◌, ℕ, List, IfOk, OnErr, IsTrue};
+ghost use Rattle.hprof_tables.specs.SideBySide.{AreMissing, IsFirstDifference, LacksOne};
 ghost use Rattle.hprof_tables.specs.SortedRows.{IsAscending};
 ghost use Rattle.std.specs.Iterator.{YieldsFirstBy};
 ghost use Rattle.hprof_tables.specs.BytesTable.{byte_rows_left};
@@ -124,7 +124,7 @@ pub(crate) fn first_difference<R: Content + Drop, I: KeyedRows<R> + Drop>(
     None
 }
 
-/// The rows of the others whose keys these lack. Each is gone over once.
+/// The rows of the others whose keys these lack. Each is gone over once. Where there is none, no memory is wanted.
 pub(crate) fn missing_rows<S, I, R, J>(
     alloc: Global,
     mut rows: I,
@@ -137,7 +137,8 @@ where
     J: KeyedRows<R> + Drop,
     requires ascending { IsAscending (I.left rows) }
     requires others_ascending { IsAscending (J.left others) }
-    ensures { IfOk result (λ missing. AreMissing (I.left rows) (J.left others) (contents_of R.content missing.items)) }
+    ensures ok { IfOk result (λ missing. AreMissing (I.left rows) (J.left others) (contents_of R.content missing.items)) }
+    ensures absent { OnErr result (LacksOne (I.left rows) (J.left others)) }
 {
     let mut missing = Vec::new(alloc);
     let mut first = rows.next_row();

@@ -149,6 +149,7 @@ impl<V> SortedTable<V> {
     }
 
     /// Takes rows whose keys are new. They and those of the run are gone over once, side by side; the map stays as it is.
+    /// Where there is none, no memory is wanted.
     pub(crate) fn merge(&mut self, alloc: Global, fresh: Vec<(u64, V)>) -> Result<(), AllocError>
     where
         V: Drop,
@@ -156,6 +157,7 @@ impl<V> SortedTable<V> {
         requires apart { AreApart (entries_of self.old) fresh.items }
         ensures ok { IfOk result (λ _. AreUnion (entries_of self.old) fresh.items (entries_of self.new)) }
         ensures err { OnErr result (entries_of self.new ≡ entries_of self.old) }
+        ensures some { OnErr result (0 < length fresh.items) }
     {
         if fresh.is_empty() {
             return Ok(());

@@ -3,7 +3,7 @@
 ghost use Rattle.std.specs.Prelude.{◌≡◌, ◌++◌, IfOk, OnErr};
 ghost use Rattle.hprof_heap.specs.Conflict.{IsConsistent};
 ghost use Rattle.hprof_heap.specs.Heap.{heap_of, facts_of_table};
-ghost use Rattle.hprof_heap.specs.Join.{IsBetween, JoinsInto, TakesFacts};
+ghost use Rattle.hprof_heap.specs.Join.{IsBetween, JoinsInto, LacksFact, TakesFacts};
 
 use super::Heap;
 use crate::join_refusal::JoinRefusal;
@@ -31,6 +31,7 @@ impl Heap {
         requires agree { IsConsistent ((heap_of self.old).facts ++ (heap_of other.now).facts) }
         ensures ok { IfOk result (λ _. TakesFacts (heap_of self.old) (facts_of_table table (heap_of other.now).facts) (heap_of self.new)) }
         ensures err { OnErr result (heap_of self.new ≡ heap_of self.old) }
+        ensures absent { OnErr result (LacksFact (heap_of self.old) (heap_of other.now)) }
     {
         match table {
             Table::Names => self.names.join(&other.names),
@@ -52,6 +53,7 @@ impl Heap {
         requires agree { IsConsistent ((heap_of self.old).facts ++ (heap_of other.now).facts) }
         ensures ok { IfOk result (λ _. TakesFacts (heap_of self.old) (heap_of other.now).facts (heap_of self.new)) }
         ensures err { OnErr result (IsBetween (heap_of self.old) (heap_of other.now) (heap_of self.new)) }
+        ensures absent { OnErr result (LacksFact (heap_of self.old) (heap_of other.now)) }
     {
         for table in &TABLES {
             self.join_table(*table, other)?;
@@ -61,7 +63,8 @@ impl Heap {
 
     /// Takes the facts of another heap, and the earlier of both times. What refuses it is found before anything is taken:
     /// two sizes of identifiers, or the least key with two contents. The tables of both are gone over side by side. Where
-    /// memory is refused, the heap has some of the other's facts, and the same join can be made again.
+    /// memory is refused, the heap has some of the other's facts, and the same join can be made again. No memory is wanted
+    /// where it has all of them.
     pub fn join(&mut self, other: &Heap) -> Result<(), JoinRefusal>
         ensures { JoinsInto (heap_of self.old) (heap_of other.now) result (heap_of self.new) }
     {

@@ -1,6 +1,6 @@
 use Rattle.std.proofs.Common.{◌∷◌, ℕ, List, [], sym, ap, subst, ◌∙◌}
 use Rattle.hprof_tables.specs.Relation.{contents_of}
-use Rattle.hprof_tables.proofs.Missing.{Search, search_taken, search_ended, search_ends, search_past, search_less, search_greater, search_equal, contents-append}
+use Rattle.hprof_tables.proofs.Missing.{Search, search_taken, search_ended, search_ends, search_past, search_less, search_greater, search_equal, lacked_past, lacked_greater, contents-append, on_err}
 use Rattle.hprof_tables.proofs.SideBySide.{behind, taken}
 use Rattle.hprof_tables.proofs.side_by_side.missing_rows.Goals as goal
 
@@ -69,7 +69,26 @@ loop-other_first-preserved g c =
     (taken content other_left c.loop-other_first.others c.next_row-other_first-in-Equal.result c.next_row-other_first-in-Equal.new.self
     c.next_row-other_first-in-Equal.ensures)
 
-pub returns : goal.returns
-returns g c =
+pub returns-clause-ok : goal.returns-clause-ok
+returns-clause-ok g c =
     search_ends (g.I.KeyedRows.left c.args.rows) (g.J.KeyedRows.left c.args.others) g.R.Content.content c.loop-other_first.other_first _ _ _
     c.loop-other_first.invariant c.in_default.is
+
+pub returns-in_err-push-clause-absent : goal.returns-in_err-push-clause-absent
+returns-in_err-push-clause-absent g c =
+    let all = g.I.KeyedRows.left c.args.rows in
+    let others = g.J.KeyedRows.left c.args.others in
+    on_err c.from_residual.result
+    (lacked_past all others _ _ _
+    (search_ended all others g.S.Content.content g.R.Content.content c.loop-other_first.first c.loop-other_first.other_first
+    (c.in-Some.other_key, c.in-Some.other) _ _ _ c.loop-other_first.invariant c.in_default-first.is c.in-Some.is))
+
+pub returns-in_err-push-in-Greater-clause-absent : goal.returns-in_err-push-in-Greater-clause-absent
+returns-in_err-push-in-Greater-clause-absent g c =
+    let all = g.I.KeyedRows.left c.args.rows in
+    let others = g.J.KeyedRows.left c.args.others in
+    on_err c.from_residual-in_err-push-in-Greater.result
+    (lacked_greater all others _ _ _ _ _
+    (search_taken all others g.S.Content.content g.R.Content.content c.loop-other_first.first c.loop-other_first.other_first
+    (c.in-Some-first.key, c.in-Some-first.row) (c.in-Some.other_key, c.in-Some.other) _ _ _ c.loop-other_first.invariant c.in-Some-first.is c.in-Some.is)
+    (sym c.in-Greater.ensures))

@@ -1,5 +1,4 @@
 use Rattle.std.proofs.Common.{rules, ◌≡◌, refl}
-use Rattle.hprof_values.specs.declared.ids.IdSize.{IdSize}
 use Rattle.hprof_heap.proofs.heap.Heap.join.Goals as goal
 
 pub returns-in-Some : goal.returns-in-Some

@@ -1,0 +1,12 @@
+use Rattle.std.proofs.lemmas.Result.{on_err_weaker}
+use Rattle.hprof_tables.specs.BytesTable.{byte_rows}
+use Rattle.hprof_tables.proofs.Missing.{missing_lacks}
+use Rattle.hprof_tables.proofs.Contents.{bytes_missing}
+use Rattle.hprof_tables.proofs.bytes_table.BytesTable.join.Goals as goal
+
+pub returns-then-is_err-clause-absent : goal.returns-then-is_err-clause-absent
+returns-then-is_err-clause-absent c =
+    on_err_weaker c.take_rows-taken.result
+    (missing_lacks (λ row. row.0.now) (byte_rows c.args.self.now) (byte_rows c.args.other.now) c.in_ok-missing.missing.items
+    (bytes_missing _ _ (byte_rows c.args.self.now) (byte_rows c.args.other.now) _ c.rows.ensures.all c.rows-2.ensures.all c.in_ok-missing.ensures.ok))
+    c.take_rows-taken.ensures.some
