@@ -70,9 +70,13 @@ fn parts_and_bad_names(rt: HostRuntime) -> Result<(), Fail> {
 fn checks_one_part(rt: HostRuntime) -> Result<(), Fail> {
     let mut readers = [Device::new(PLAIN)];
     let mut target = Device::new(Vec::new(rt.alloc()));
-    assert_eq!(rt; check_to(rt.alloc(), &mut readers, &mut target, Limits::usual()), Ok(()));
+    assert_eq!(rt;
+        check_to(rt.alloc(), &mut readers, &mut target, Limits::usual()),
+        Ok(())
+    );
     let bytes = target.into_inner();
     assert_eq!(rt; str::from_utf8(&bytes)?, PLAIN_TEXT);
+    laws::one_check_of_parts();
     Ok(())
 }
 
@@ -83,7 +87,10 @@ fn checks_a_part_twice(rt: HostRuntime) -> Result<(), Fail> {
         starts 0\nends 0\nroots 1\nclasses 0\nobjects 1\nbad names 0\n";
     let mut readers = [Device::new(PLAIN), Device::new(PLAIN)];
     let mut target = Device::new(Vec::new(rt.alloc()));
-    assert_eq!(rt; check_to(rt.alloc(), &mut readers, &mut target, Limits::usual()), Ok(()));
+    assert_eq!(rt;
+        check_to(rt.alloc(), &mut readers, &mut target, Limits::usual()),
+        Ok(())
+    );
     let bytes = target.into_inner();
     assert_eq!(rt; str::from_utf8(&bytes)?, text);
     Ok(())
@@ -93,7 +100,10 @@ fn checks_a_part_twice(rt: HostRuntime) -> Result<(), Fail> {
 fn checks_no_parts(rt: HostRuntime) -> Result<(), Fail> {
     let mut readers: [Device<&[u8]>; 0] = [];
     let mut target = Device::new(Vec::new(rt.alloc()));
-    assert_eq!(rt; check_to(rt.alloc(), &mut readers, &mut target, Limits::usual()), Err(ToolFault::NoParts));
+    assert_eq!(rt;
+        check_to(rt.alloc(), &mut readers, &mut target, Limits::usual()),
+        Err(ToolFault::NoParts)
+    );
     let bytes = target.into_inner();
     assert_eq!(rt; bytes.len(), 0);
     Ok(())
