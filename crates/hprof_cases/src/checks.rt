@@ -15,7 +15,8 @@ use std::process::Abort;
 use std::test::Fail;
 
 /// The report on the plain part.
-const PLAIN: &str = "part 0: version 1.0.2 ids 4 time 1 records 3 facts 4 end no\nnames 2\nloads 0\nunloads 0\nframes 0\n\
+const PLAIN: &str =
+    "part 0: version 1.0.2 ids 4 time 1 records 3 facts 4 end no\nnames 2\nloads 0\nunloads 0\nframes 0\n\
     traces 0\nstarts 0\nends 0\nroots 1\nclasses 0\nobjects 1\nbad names 0\n";
 
 /// Checks that this is the report on the parts.
@@ -73,7 +74,10 @@ fn a_report_cut_at_each_byte(rt: HostRuntime) -> Result<(), Fail> {
                 Ok(())
             };
             assert_eq!(rt; answer, expected);
-            assert_eq!(rt; target.into_inner().taken.as_slice(), &PLAIN.as_bytes()[..room]);
+            assert_eq!(rt;
+                target.into_inner().taken.as_slice(),
+                &PLAIN.as_bytes()[..room]
+            );
         }
     }
     Ok(())

@@ -70,7 +70,10 @@ pub(crate) fn bytes_of(alloc: Global, texts: &[&[u8]]) -> Result<Vec<u8>, AllocE
 }
 
 /// Devices that read the parts.
-pub(crate) fn readers_of<'a>(alloc: Global, parts: &[&'a [u8]]) -> Result<Vec<Device<&'a [u8]>>, AllocError>
+pub(crate) fn readers_of<'a>(
+    alloc: Global,
+    parts: &[&'a [u8]],
+) -> Result<Vec<Device<&'a [u8]>>, AllocError>
     ensures { IfOk result (λ readers. All (λ reader. health_of reader ≡ Well) readers.items) }
 {
     let mut readers = Vec::new(alloc);
