@@ -284,7 +284,9 @@ module _ {rows others : HeapRows} (can : CanJoin rows others) where
   roots_lack (Ok done) lacks = tt
   roots_lack (Err e) lacks =
       let stated : FactValue = Rooted lacks.0 in
-      let unseen = unseen_in_heap (Err e) rows 7 stated can.are (root_of_table lacks.0) (find_root rows.roots lacks.0 lacks.2) in
+      let unseen =
+      unseen_in_heap (Err e) rows
+      7 stated can.are (root_of_table lacks.0) (find_root rows.roots lacks.0 lacks.2) in
       (stated, has_other tables.Roots stated (has_root others.roots lacks.0 lacks.1), unseen.absent)
 
   -- the rows with one table joined
