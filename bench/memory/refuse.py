@@ -1,8 +1,8 @@
 #!/usr/bin/env python3
 """Runs the program with each of its requests for memory refused in turn.
 
-A run in which a request was refused has to answer want of memory, with status 1 and no output file, or what the run
-with ample memory answers; nothing else may come in its place. It needs the built program (`rt run` in crates/hprof
+A run in which a request was refused has to answer want of memory, with status 1, no output file and nothing printed, or
+what the run with ample memory answers; nothing else may come in its place. It needs the built program (`rt run` in crates/hprof
 leaves it as crates/hprof/out/hprof) and cc. It is no part of the gate.
 """
 
@@ -49,6 +49,7 @@ def main():
         cases = {
             "join": ["join", out, one, two],
             "conflict": ["join", out, one, one, two.with_name("three")],
+            "check": ["check", one, two],
         }
         two.with_name("three").write_bytes(HEADER + name(3, b"other"))
         wrong = 0
