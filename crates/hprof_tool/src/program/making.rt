@@ -7,6 +7,7 @@ ghost use Rattle.hprof_items.specs.declared.health.Health.TheVariants.{Well};
 ghost use Rattle.hprof_items.specs.declared.health.WriteFault.{WriteFault};
 ghost use Rattle.hprof_stream.specs.declared.part_fault.PartFault.{PartFault};
 ghost use Rattle.hprof_engine.specs.Joining.{Tell, RefusesPart, AreReadOut};
+ghost use Rattle.hprof_tool.specs.declared.program.product.Product.TheVariants.{Dump};
 ghost use Rattle.hprof_tool.specs.Program.{usual_limits, refused_of, IsMade, IsStopped, IsRefusal, IsOfMaking, IsUnwritten};
 
 use crate::program::product::Product;
@@ -63,6 +64,7 @@ fn make_into<R: Source, W: Write + Drop>(
     // at a fault of the writer a front of what is made stands in the writer and behind it in the buffer.
     ensures kind { IfErr result.outcome IsOfMaking }
     ensures memory { result.outcome ≡ Err Refused.OutOfMemory → readers.new ≡ readers.old }
+    ensures no_memory { product ≡ Dump → result.outcome ≡ Err Refused.OutOfMemory → ⊥ }
     ensures no_parts { (result.outcome ≡ Err (Refused.Engine ToolFault.NoParts)) ↔ (readers.old ≡ []) }
     ensures refused { IfErr result.outcome (λ refused. (parts : List (List ℕ)) → Tell R.left readers.old parts
         → IsRefusal refused parts) }

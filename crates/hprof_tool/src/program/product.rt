@@ -7,6 +7,7 @@ ghost use Rattle.hprof_stream.specs.declared.part_fault.PartFault.{PartFault};
 ghost use Rattle.hprof_heap.specs.declared.key.Key.{Key};
 ghost use Rattle.hprof_heap.specs.State.{HaveTwoSizes};
 ghost use Rattle.hprof_engine.specs.Joining.{Tell, Disagree, RefusesPart, AreReadOut, IsBeforeWriting};
+ghost use Rattle.hprof_tool.specs.declared.program.product.Product.TheVariants.{Dump};
 ghost use Rattle.hprof_tool.specs.Program.{usual_limits, IsMade, IsStopped};
 
 use hprof_engine::{ToolFault, join_kept};
@@ -52,6 +53,7 @@ impl Product {
         ensures read_out { (index : ℕ) (fault : PartFault) → result ≡ Err (ToolFault.Part index fault)
             → AreReadOut R.left R.health R.pulls usual_limits readers.old readers.new index }
         ensures memory { result ≡ Err ToolFault.OutOfMemory → readers.new ≡ readers.old }
+        ensures no_memory { self ≡ Dump → result ≡ Err ToolFault.OutOfMemory → ⊥ }
         ensures unwritten { IsBeforeWriting result → target.new ≡ target.old }
         ensures write { (fault : WriteFault) → result ≡ Err (ToolFault.Write fault)
             → (parts : List (List ℕ)) → Tell R.left readers.old parts

@@ -61,3 +61,8 @@ returns-clause-ok g c =
     let same = emptied c.end_of_writing-outcome.result (g.W.Write.contents (writer_inner writer)) (writer_buffer writer) c.end_of_writing-outcome.ensures.flushed in
     rw (← c.new-target.ensures.inner, c.into_parts-writer.ensures.inner)
     (written_out g.R.Source.left c.args.product c.args.readers.now _ _ c.make-made.result c.end_of_writing-outcome.result _ _ c.make-made.ensures.ok c.end_of_writing-outcome.ensures.done kept same)
+
+pub returns-clause-no_memory : goal.returns-clause-no_memory
+returns-clause-no_memory g c = λ dump is.
+    let end = c.end_of_writing-outcome.ensures in
+    c.make-made.ensures.no_memory dump (memory_answered c.make-made.result c.end_of_writing-outcome.result end.failed end.refused is)
