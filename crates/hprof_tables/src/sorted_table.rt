@@ -1,6 +1,6 @@
 //! A table of rows by key, which takes rows in ascending order of key at the cost of a push.
 
-ghost use Rattle.std.specs.Prelude.{◌≡◌, ◌+◌, ◌↔◌, ◌≤◌, ◌⊎◌, ℕ, List, [], length, IsTrue, IfOk, IfSome, OnErr, None, ◌<◌, vec_len, vec_capacity};
+ghost use Rattle.std.specs.Prelude.{◌≡◌, ◌+◌, ◌↔◌, ◌≤◌, ◌⊎◌, ℕ, List, [], length, max, IsTrue, IfOk, IfSome, OnErr, None, ◌<◌, vec_len, vec_capacity};
 ghost use Rattle.std.specs.Ordering.{nat_cmp};
 ghost use Rattle.std.specs.BTreeMap.{insert_entry};
 ghost use Rattle.std.specs.Option.{option_copied};
@@ -158,6 +158,7 @@ impl<V> SortedTable<V> {
         ensures ok { IfOk result (λ _. AreUnion (entries_of self.old) fresh.items (entries_of self.new)) }
         ensures err { OnErr result (entries_of self.new ≡ entries_of self.old) }
         ensures some { OnErr result (0 < length fresh.items) }
+        ensures room { IfOk result (λ _. vec_capacity self.new.run ≤ max (vec_capacity self.old.run) (vec_len self.old.run + length fresh.items)) }
     {
         if fresh.is_empty() {
             return Ok(());
