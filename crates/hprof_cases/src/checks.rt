@@ -2,7 +2,9 @@
 
 use crate::program::{FailsOnce, ended, outcome_of, path_of, written};
 use crate::records::as_the_jdk_writes;
-use crate::samples::{HEADER, NAME_1_A, NAME_1_B, bytes_of, plain_part, readers_of, record};
+use crate::samples::{
+    HEADER, NAME_1_A, NAME_1_B, WIDE_HEADER, bytes_of, plain_part, readers_of, record,
+};
 use crate::writers::Limited;
 use hprof_engine::ToolFault;
 use hprof_items::{Device, WriteFault};
@@ -52,6 +54,23 @@ fn a_part_as_the_jdk_writes_it(rt: HostRuntime) -> Result<(), Fail> {
         "part 0: version 1.0.2 ids 8 time 1 records 5 facts 6 end yes\nnames 1\nloads 1\nunloads 0\nframes 0\n\
         traces 1\nstarts 0\nends 0\nroots 1\nclasses 1\nobjects 1\nbad names 0\n";
     expect_report(&rt, rt.alloc(), &[&part], report)
+}
+
+#[test]
+fn many_parts(rt: HostRuntime) -> Result<(), Fail> {
+    let part = bytes_of(rt.alloc(), &[HEADER, NAME_1_A])?;
+    let parts = [part.as_slice(); 12];
+    let mut report = String::new(rt.alloc());
+    for number in ["0", "1", "2", "3", "4", "5", "6", "7", "8", "9", "10", "11"] {
+        report.push_str("part ")?;
+        report.push_str(number)?;
+        report.push_str(": version 1.0.2 ids 4 time 1 records 1 facts 1 end no\n")?;
+    }
+    report.push_str(
+        "names 1\nloads 0\nunloads 0\nframes 0\ntraces 0\nstarts 0\nends 0\nroots 0\nclasses 0\n\
+        objects 0\nbad names 0\n",
+    )?;
+    expect_report(&rt, rt.alloc(), &parts, &report)
 }
 
 #[test]
@@ -113,17 +132,22 @@ fn expect_no_report(
 fn parts_without_a_report(rt: HostRuntime) -> Result<(), Fail> {
     let one = written(&rt, "check-one", &[HEADER, NAME_1_A])?;
     let other = written(&rt, "check-other", &[HEADER, NAME_1_B])?;
+    let wide = written(&rt, "check-wide", &[WIDE_HEADER])?;
     let cut = written(&rt, "check-cut", &[HEADER, &NAME_1_A[..10]])?;
     let missing = path_of(&rt, "check-missing")?;
     expect_no_report(&rt, &rt, &["check"], "hprof: no parts\n")?;
     let words = ["check", one.as_str(), other.as_str()];
     expect_no_report(&rt, &rt, &words, "hprof: conflict at name 1\n")?;
+    let words = ["check", one.as_str(), wide.as_str()];
+    expect_no_report(&rt, &rt, &words, "hprof: identifier sizes differ\n")?;
     let words = ["check", one.as_str(), cut.as_str()];
     let line = "hprof: part 1: malformed at 31: Truncated\n";
     expect_no_report(&rt, &rt, &words, line)?;
     let words = ["check", one.as_str(), missing.as_str()];
     expect_no_report(&rt, &rt, &words, "hprof: cannot open part 1\n")?;
-    for path in [&one, &other, &cut] {
+    let words = ["check", missing.as_str(), one.as_str(), missing.as_str()];
+    expect_no_report(&rt, &rt, &words, "hprof: cannot open part 0\n")?;
+    for path in [&one, &other, &wide, &cut] {
         fs::remove_file(&rt, path.as_str())?;
     }
     Ok(())

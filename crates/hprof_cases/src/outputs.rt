@@ -75,6 +75,23 @@ fn long_dump_to_a_file_that_fails(rt: HostRuntime) -> Result<(), Fail> {
 }
 
 #[test]
+fn help_that_cannot_be_written(rt: HostRuntime) -> Result<(), Fail> {
+    for trouble in [Trouble::Fails, Trouble::Sticks] {
+        let mut taken = Vec::new(rt.alloc());
+        let output = Narrow {
+            inner: &mut taken,
+            room: 0,
+            trouble,
+        };
+        let (status, errors) = ended(rt.alloc(), &rt, &["--help"], [].as_slice(), output)?;
+        assert_eq!(rt; status, Status::Refused, "{trouble:?}");
+        assert_eq!(rt; errors.as_slice(), WRITE_FAILED, "{trouble:?}");
+        assert_eq!(rt; taken.len(), 0, "{trouble:?}");
+    }
+    Ok(())
+}
+
+#[test]
 fn help_that_cannot_be_flushed(rt: HostRuntime) -> Result<(), Fail> {
     let mut taken = Vec::new(rt.alloc());
     let output = Narrow {

@@ -291,6 +291,9 @@ fn later_part_that_cannot_be_opened(rt: HostRuntime) -> Result<(), Fail> {
     expect_refused(&rt, rt.alloc(), out, &[one, lost, two], text)?;
     let text = b"hprof: cannot open part 2\n";
     expect_refused(&rt, rt.alloc(), out, &[one, two, lost], text)?;
+    // Of two that cannot be opened the first is named.
+    let text = b"hprof: cannot open part 1\n";
+    expect_refused(&rt, rt.alloc(), out, &[one, lost, two, lost], text)?;
     for path in [one, two] {
         fs::remove_file(&rt, path)?;
     }

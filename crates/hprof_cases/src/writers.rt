@@ -10,7 +10,7 @@ use std::io;
 use std::io::Write;
 use std::test::Fail;
 
-/// A writer that takes some bytes, so many at a call, and then fails or takes none.
+/// A writer that takes some bytes, so many at a call, and then fails or takes none. A write of no bytes fails.
 #[derive(Drop)]
 pub(crate) struct Limited {
     pub(crate) taken: Vec<u8>,
@@ -21,7 +21,7 @@ pub(crate) struct Limited {
 
 impl Write for Limited {
     fn write(&mut self, bytes: &[u8]) -> io::Result<usize> {
-        if self.room == 0 && !self.sticks {
+        if bytes.is_empty() || self.room == 0 && !self.sticks {
             return Err(io::Error::from(io::ErrorKind::Other));
         }
         let count = self.room.min(bytes.len()).min(self.at_once);

@@ -300,3 +300,12 @@ as_hindered A B tool.IdSizes is = is
 as_hindered A B (tool.Conflict key) is = is
 as_hindered A B (tool.Write fault) is = is
 as_hindered A B tool.OutOfMemory is = is
+
+-- how many readers were read to their ends is told by the fault
+pub same_count : (A B : Type 0) (fault : ToolFault) (all : ℕ) → read_count {A = A} (Err fault) all ≡ read_count {A = B} (Err fault) all
+same_count A B (tool.Part index fault) all = refl
+same_count A B tool.NoParts all = refl
+same_count A B tool.IdSizes all = refl
+same_count A B (tool.Conflict key) all = refl
+same_count A B (tool.Write fault) all = refl
+same_count A B tool.OutOfMemory all = refl

@@ -1,9 +1,9 @@
 //! Reading all parts into one gatherer.
 
-ghost use Rattle.std.specs.Prelude.{◌≡◌, length, All, OnOk};
+ghost use Rattle.std.specs.Prelude.{◌≡◌, length, All};
 ghost use Rattle.hprof_items.specs.declared.health.Health.TheVariants.{Well};
 ghost use Rattle.hprof_heap.specs.Gathering.{gathered, nothing_gathered};
-ghost use Rattle.hprof_engine.specs.Joining.{ReadsAll};
+ghost use Rattle.hprof_engine.specs.Joining.{ReadsAll, read_count};
 ghost use Rattle.hprof_engine.specs.Summaries.{KeepsFirst};
 
 use crate::summaries::Summaries;
@@ -26,7 +26,7 @@ pub(crate) fn read_parts<R: Source, S: Summaries>(
     requires nothing { gathered gatherer.old ≡ nothing_gathered }
     requires room { S.has_room summaries.old (length readers.old) }
     ensures read { ReadsAll R.left R.health R.pulls limits readers.old (gathered gatherer.old) result readers.new (gathered gatherer.new) }
-    ensures summaries { OnOk result (KeepsFirst R.left S.keeps readers.old (length readers.old) summaries.old summaries.new) }
+    ensures summaries { KeepsFirst R.left S.keeps readers.old (read_count result (length readers.old)) summaries.old summaries.new }
 {
     for (index, reader) in readers.iter_mut().enumerate() {
         match read_part(alloc, reader, limits, gatherer) {

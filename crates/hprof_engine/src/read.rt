@@ -11,7 +11,7 @@ ghost use Rattle.hprof_heap.specs.declared.key.Key.{Key};
 ghost use Rattle.hprof_heap.specs.Heap.{heap_of};
 ghost use Rattle.hprof_heap.specs.State.{IsState, HaveTwoSizes};
 ghost use Rattle.hprof_engine.specs.Joining.{Tell, Agree, Disagree, IsAccepted, RefusesPart, AreReadOut, read_count, AreRead, IsHindered, IsOkOrConflict};
-ghost use Rattle.hprof_engine.specs.Summaries.{KeepsSummaries};
+ghost use Rattle.hprof_engine.specs.Summaries.{KeepsFirst, KeepsSummaries};
 
 use crate::parts::read_parts;
 use crate::summaries::Summaries;
@@ -36,6 +36,9 @@ pub fn read_heap<R: Source, S: Summaries>(
         → let heap = heap_of answer in Agree parts heap.ids heap.millis heap.facts) }
     ensures summaries { IfOk result (λ _. (parts : List (List ℕ)) → Tell R.left readers.old parts
         → KeepsSummaries S.keeps parts summaries.old summaries.new) }
+
+    // At a refusal too, the summary was told of each that was read to its end, and of no other.
+    ensures told { KeepsFirst R.left S.keeps readers.old (read_count result (length readers.old)) summaries.old summaries.new }
 
     // What Conflict means: the parts have one size, and this is the least key with two contents.
     ensures conflict { (key : Key) → result ≡ Err (ToolFault.Conflict key)

@@ -1,6 +1,6 @@
 //! What is told what was read of each part.
 
-ghost use Rattle.std.specs.Prelude.{◌≡◌, ◌++◌, ◌∷◌, [], ◌+◌, ◌≤◌, ℕ, ⊤, vec_len, vec_capacity};
+ghost use Rattle.std.specs.Prelude.{◌≡◌, ◌++◌, ◌∷◌, [], ◌+◌, ◌≤◌, ◌×◌, ℕ, ⊤, vec_len, vec_capacity};
 
 use hprof_stream::PartSummary;
 
@@ -25,12 +25,10 @@ pub trait Summaries {
 impl Summaries for Vec<PartSummary> {
     ghost has_room = { λ kept more. vec_len kept + more ≤ vec_capacity kept };
 
-    ghost keeps = { λ old summary new. new.items ≡ old.items ++ summary ∷ [] };
+    ghost keeps = { λ old summary new. (new.items ≡ old.items ++ summary ∷ []) × (vec_capacity new ≡ vec_capacity old) };
 
     fn keep(&mut self, summary: PartSummary) {
-        if self.push(summary).is_err() {
-            unreachable!();
-        }
+        self.push_reserved(summary);
     }
 }
 

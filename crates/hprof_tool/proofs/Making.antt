@@ -1,6 +1,6 @@
 -- What making something of parts tells.
-use Rattle.std.proofs.Common.{◌≡◌, ℕ, List, [], ◌∷◌, length, take, Option, Some, None, append-nil, Result, Ok, Err, refl, sym, ap, subst, ◌∙◌}
-use Rattle.std.specs.Prelude.{IfErr, OnOk, OnErr, IsOk}
+use Rattle.std.proofs.Common.{◌≡◌, ℕ, List, [], ◌∷◌, length, take, Option, Some, None, append-nil, Result, Unit, Ok, Err, refl, sym, ap, subst, ◌∙◌, arith}
+use Rattle.std.specs.Prelude.{IfErr, IsErrAnd, OnOk, OnErr, IsOk}
 use Rattle.std.specs.Io.KnownBytes.{Appends, Keeps, append_known}
 use Rattle.std.proofs.KnownBytes.{Appends-kept}
 use Rattle.std.proofs.Math.Seq.{take-length}
@@ -18,12 +18,12 @@ use Rattle.hprof_heap.specs.State.{HaveTwoSizes}
 use Rattle.hprof_engine.specs.declared.tool_fault.ToolFault.{ToolFault}
 use Rattle.hprof_engine.specs.declared.tool_fault.ToolFault.TheVariants as tool
 use Rattle.hprof_engine.specs.declared.joined.Joined.{Joined}
-use Rattle.hprof_engine.specs.Joining.{Tell, Joins, StopsWriting, Disagree, IsPartFault, RefusesPart}
+use Rattle.hprof_engine.specs.Joining.{Tell, Joins, StopsWriting, Disagree, IsPartFault, RefusesPart, AreReadOut, read_count}
 use Rattle.hprof_tool.specs.declared.program.product.Product.{Product}
 use Rattle.hprof_tool.specs.declared.program.product.Product.TheVariants as products
 use Rattle.hprof_tool.specs.declared.program.refused.Refused.{Refused}
 use Rattle.hprof_tool.specs.declared.program.refused.Refused.TheVariants as refusals
-use Rattle.hprof_tool.specs.Program.{usual_limits, refused_of, IsProduct, IsMade, IsStopped, HaveOneState, IsFirstAnswer, IsPartRefusal, IsRefusal, IsOfMaking}
+use Rattle.hprof_tool.specs.Program.{usual_limits, refused_of, count_read, IsProduct, IsMade, IsStopped, HaveOneState, IsFirstAnswer, IsPartRefusal, IsRefusal, IsOfMaking}
 
 -- no reader tells no part
 no_parts_told : {R : Type 0} (left : R → Option (List ℕ)) (readers : List R) (parts : List (List ℕ)) → readers ≡ [] → Tell left readers parts → parts ≡ []
@@ -197,3 +197,38 @@ pub memory_answered : (made : Result (Unit {0}) ToolFault) (outcome : Result (Un
 memory_answered (Ok u) (Ok done) failed same is = absurd cc
 memory_answered (Ok u) (Err refused) failed same is = absurd cc
 memory_answered (Err known) outcome failed same is = ap Err (wanted_memory known (same_refusal outcome (refused_of known) refusals.OutOfMemory same is))
+
+-- how many readers were read to their ends is told by the refusal
+pub same_count_read : (A B : Type 0) (refused : Refused) (all : ℕ) → count_read {A = A} (Err refused) all ≡ count_read {A = B} (Err refused) all
+same_count_read A B (refusals.Engine fault) all = refl
+same_count_read A B (refusals.Open index) all = refl
+same_count_read A B refusals.Create all = refl
+same_count_read A B refusals.OutOfMemory all = refl
+
+-- and is what the engine says
+count_of_fault : (fault : ToolFault) (all : ℕ) → read_count {A = Unit {0}} (Err fault) all ≡ count_read {A = Unit {0}} (Err (refused_of fault)) all
+count_of_fault (tool.Part index fault) all = refl
+count_of_fault tool.NoParts all = refl
+count_of_fault tool.IdSizes all = refl
+count_of_fault (tool.Conflict key) all = refl
+count_of_fault (tool.Write fault) all = refl
+count_of_fault tool.OutOfMemory all = refl
+
+pub count_of_made : (made : Result (Unit {0}) ToolFault) (outcome : Result (Unit {0}) Refused) (all : ℕ)
+    → OnOk made (OnErr outcome (outcome ≡ Err (refusals.Engine (tool.Write faults.Failed)))) → IfErr made (λ known. outcome ≡ Err (refused_of known))
+    → read_count made all ≡ count_read outcome all
+count_of_made (Ok u) (Ok done) all failed same = refl
+count_of_made (Ok u) (Err refused) all failed same =
+    let is : refused ≡ refusals.Engine (tool.Write faults.Failed) = cc in
+    subst (λ (r : Refused). all ≡ count_read {A = Unit {0}} (Err r) all) (sym is) refl
+count_of_made (Err known) outcome all failed same =
+    subst (λ (r : Result (Unit {0}) Refused). read_count {A = Unit {0}} (Err known) all ≡ count_read r all) (sym same) (count_of_fault known all)
+
+-- a result that is an error, and the only one that it can be
+pub the_refusal : {A : Type 0} (result : Result A Refused) (refused : Refused) → IsErrAnd result (λ e. e ≡ refused) → result ≡ Err refused
+the_refusal (Ok x) refused is = absurd is
+the_refusal (Err e) refused is = ap Err is
+
+-- where nothing is wanted to have been read to its end, nothing need have been
+pub none_read : {R : Type 0} (left : R → Option (List ℕ)) (health : R → Health) (pulls : R → ℕ) (old new : List R) → AreReadOut left health pulls usual_limits old new 0
+none_read left health pulls old new k below = absurd (omega (arith, below))

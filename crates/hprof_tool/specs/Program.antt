@@ -1,5 +1,5 @@
 -- What the program's calls come to.
-use Rattle.std.specs.Prelude.{◌≡◌, ◌≢◌, ℕ, ◌<◌, List, [], ◌∷◌, ◌++◌, length, take, Option, Some, Result, Err, ⊤}
+use Rattle.std.specs.Prelude.{◌≡◌, ◌≢◌, ℕ, ◌<◌, List, [], ◌∷◌, ◌++◌, length, take, Option, Some, Result, Ok, Err, ⊤}
 use Rattle.std.specs.List.{AllByRecursion}
 use Rattle.std.specs.Io.KnownBytes.{Appends}
 use Rattle.clap.specs.declared.error.ErrorKind.{ErrorKind}
@@ -22,7 +22,7 @@ use Rattle.hprof_tool.specs.declared.status.Status.{Status}
 use Rattle.hprof_tool.specs.declared.status.Status.TheVariants as statuses
 use Rattle.hprof_tool.specs.declared.program.product.Product.{Product}
 use Rattle.hprof_tool.specs.declared.program.product.Product.TheVariants as products
-use Rattle.hprof_engine.specs.Joining.{Tell, Agree, Disagree, IsAccepted, IsOfPart, IsBeforeWriting}
+use Rattle.hprof_engine.specs.Joining.{Tell, Agree, Disagree, IsAccepted, IsOfPart, IsBeforeWriting, read_count}
 use Rattle.hprof_reports.specs.Checking.{IsCheckOfParts}
 
 -- the parts agree, and these bytes are the canonical dump of what they state
@@ -137,6 +137,14 @@ abbrev pub IsOfOpening : ℕ → Refused → Type 0
 IsOfOpening count (refusals.Open index) = index < count
 IsOfOpening count refusals.OutOfMemory = ⊤
 IsOfOpening count other = ⊥
+
+-- how many of the parts were read to their ends, by what the program answers
+abbrev pub count_read : {A : Type 0} → Result A Refused → ℕ → ℕ
+count_read (Ok done) all = all
+count_read (Err (refusals.Engine fault)) all = let made : Result (Unit {0}) ToolFault = Err fault in read_count made all
+count_read (Err (refusals.Open index)) all = 0
+count_read (Err refusals.Create) all = 0
+count_read (Err refusals.OutOfMemory) all = 0
 
 -- the engine refused before anything was written
 abbrev pub IsUnwritten : Result (Unit {0}) Refused → Type 0

@@ -1,6 +1,6 @@
 //! Making something of parts into a writer, through a buffer.
 
-ghost use Rattle.std.specs.Prelude.{◌≡◌, ◌↔◌, ℕ, List, [], All, Err, IsOk, OnOk, OnErr, IfOk, IfErr};
+ghost use Rattle.std.specs.Prelude.{◌≡◌, ◌↔◌, ℕ, List, [], length, All, Err, IsOk, OnOk, OnErr, IfOk, IfErr};
 ghost use Rattle.std.specs.Io.KnownBytes.{Keeps, append_known};
 ghost use Rattle.std.specs.Io.Buffered.{writer_inner, writer_buffer, writer_contents};
 ghost use Rattle.hprof_items.specs.declared.health.Health.TheVariants.{Well};
@@ -8,7 +8,7 @@ ghost use Rattle.hprof_items.specs.declared.health.WriteFault.{WriteFault};
 ghost use Rattle.hprof_stream.specs.declared.part_fault.PartFault.{PartFault};
 ghost use Rattle.hprof_engine.specs.Joining.{Tell, RefusesPart, AreReadOut};
 ghost use Rattle.hprof_tool.specs.declared.program.product.Product.TheVariants.{Dump};
-ghost use Rattle.hprof_tool.specs.Program.{usual_limits, refused_of, IsMade, IsStopped, IsRefusal, IsOfMaking, IsUnwritten};
+ghost use Rattle.hprof_tool.specs.Program.{usual_limits, refused_of, count_read, IsMade, IsStopped, IsRefusal, IsOfMaking, IsUnwritten};
 
 use crate::program::product::Product;
 use crate::program::refused::{Refused, WRITE_FAILED};
@@ -71,14 +71,16 @@ fn make_into<R: Source, W: Write + Drop>(
     ensures part { (index : ℕ) (fault : PartFault) → result.outcome ≡ Err (Refused.Engine (ToolFault.Part index fault))
         → (parts : List (List ℕ)) → Tell R.left readers.old parts
         → RefusesPart R.left R.health R.pulls usual_limits parts readers.old readers.new index fault }
-    ensures read_out { (index : ℕ) (fault : PartFault) → result.outcome ≡ Err (Refused.Engine (ToolFault.Part index fault))
-        → AreReadOut R.left R.health R.pulls usual_limits readers.old readers.new index }
     ensures unwritten { IsUnwritten result.outcome
         → (result.writer ≡ writer_inner buffered) × (result.unwritten.items ≡ writer_buffer buffered) }
     ensures write { (fault : WriteFault) → result.outcome ≡ Err (Refused.Engine (ToolFault.Write fault))
         → (parts : List (List ℕ)) → Tell R.left readers.old parts
         → IsStopped product parts (writer_contents W.contents buffered)
         (append_known (W.contents result.writer) result.unwritten.items) }
+
+    // Each part that was read to its end, which are all, or those before the one that was refused: nothing was read behind
+    // the end.
+    ensures read_out { AreReadOut R.left R.health R.pulls usual_limits readers.old readers.new (count_read result.outcome (length readers.old)) }
 {
     let mut target = Device::new(buffered);
     let made = product.make(alloc, readers, &mut target);
@@ -108,12 +110,14 @@ pub(crate) fn make_buffered<R: Source, W: Write + Drop>(
     ensures no_parts { result ≡ Err (Refused.Engine ToolFault.NoParts) → readers.old ≡ [] }
     ensures refused { IfErr result (λ refused. (parts : List (List ℕ)) → Tell R.left readers.old parts
         → IsRefusal refused parts) }
-    // A part that is refused was read as far as its fault says, and those before it to their ends.
+    // A part that is refused was read as far as its fault says.
     ensures part { (index : ℕ) (fault : PartFault) → result ≡ Err (Refused.Engine (ToolFault.Part index fault))
         → (parts : List (List ℕ)) → Tell R.left readers.old parts
         → RefusesPart R.left R.health R.pulls usual_limits parts readers.old readers.new index fault }
-    ensures read_out { (index : ℕ) (fault : PartFault) → result ≡ Err (Refused.Engine (ToolFault.Part index fault))
-        → AreReadOut R.left R.health R.pulls usual_limits readers.old readers.new index }
+
+    // Each part that was read to its end, which are all, or those before the one that was refused: nothing was read behind
+    // the end.
+    ensures read_out { AreReadOut R.left R.health R.pulls usual_limits readers.old readers.new (count_read result (length readers.old)) }
 {
     let Ok(buffered) = BufWriter::with_capacity(alloc, BUFFER_LEN, writer) else {
         return Err(Refused::OutOfMemory);

@@ -45,7 +45,7 @@ returns-in-Err g c =
               get_or-set_other c.loop-index.readers index k c.read_part.new.source d other ∙ c.loop-index.invariant.unread k d (omega (arith, behind)) below);
         };
       };
-      summaries = tt;
+      summaries = c.loop-index.invariant.kept;
     }
 
 pub loop-index-preserved : goal.loop-index-preserved

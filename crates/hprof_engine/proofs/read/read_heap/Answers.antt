@@ -1,4 +1,4 @@
-use Rattle.std.proofs.Common.{◌≤◌, length, Result, refl, sym, subst, ◌∙◌, arith}
+use Rattle.std.proofs.Common.{ℕ, ◌≤◌, length, Unit, Result, refl, sym, subst, ◌∙◌, arith}
 use Rattle.hprof_items.specs.Spelling.{longest_body}
 use Rattle.hprof_heap.specs.declared.heap.Heap.{Heap}
 use Rattle.hprof_heap.specs.declared.standing.Refusal.TheVariants as refusals
@@ -6,7 +6,8 @@ use Rattle.hprof_heap.specs.Gathering.{gathered}
 use Rattle.hprof_heap.specs.Heap.{heap_of}
 use Rattle.hprof_engine.specs.declared.tool_fault.ToolFault.{ToolFault}
 use Rattle.hprof_engine.specs.Joining.{AreReadOut, read_count, IsHindered, IsOkOrConflict}
-use Rattle.hprof_engine.proofs.Answers.{no_readers, all_accepted, agree, disagree, two_sizes, from_nothing, refuses_part, part_refused, stopped_read_out, reading_hindered, some_parts, not_two_sizes, told_of, told_conflict, keeps_summaries, the_fault}
+use Rattle.hprof_engine.specs.Summaries.{KeepsFirst}
+use Rattle.hprof_engine.proofs.Answers.{no_readers, all_accepted, agree, disagree, two_sizes, from_nothing, refuses_part, part_refused, stopped_read_out, reading_hindered, some_parts, not_two_sizes, told_of, told_conflict, keeps_summaries, the_fault, same_count}
 use Rattle.hprof_engine.proofs.read.read_heap.Goals as goal
 
 pub returns-in_err-read_parts-clause-part : goal.returns-in_err-read_parts-clause-part
@@ -35,6 +36,16 @@ returns-in_err-read_parts-clause-read_out g c =
     subst (λ (r : Result Heap ToolFault). AreReadOut left health pulls c.args.limits c.args.readers.now c.read_parts.new.readers (read_count r (length c.args.readers.now))) (sym is)
     (stopped_read_out left health pulls Heap c.args.limits c.args.readers.now c.read_parts.new.readers c.in_err-read_parts.field-0.0
     (gathered c.new-gatherer.result) (gathered c.read_parts.new.gatherer) c.in_err-read_parts.ensures.read)
+
+pub returns-in_err-read_parts-clause-told : goal.returns-in_err-read_parts-clause-told
+returns-in_err-read_parts-clause-told g c =
+    let left = g.R.Source.left in
+    let keeps = g.S.Summaries.keeps in
+    let all = length c.args.readers.now in
+    let fault = c.in_err-read_parts.field-0.0 in
+    let is = the_fault c.from_residual.result fault c.from_residual.ensures.1 in
+    subst (λ (r : Result Heap ToolFault). KeepsFirst left keeps c.args.readers.now (read_count r all) c.args.summaries.now c.read_parts.new.summaries) (sym is)
+    (subst (λ (count : ℕ). KeepsFirst left keeps c.args.readers.now count c.args.summaries.now c.read_parts.new.summaries) (same_count (Unit {0}) Heap fault all) c.in_err-read_parts.ensures.summaries)
 
 pub returns-in-Ok-clause-ok : goal.returns-in-Ok-clause-ok
 returns-in-Ok-clause-ok g c = λ parts told.

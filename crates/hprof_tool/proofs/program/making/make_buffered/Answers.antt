@@ -1,7 +1,15 @@
-use Rattle.std.proofs.Common.{Err, sym, ap, ◌∙◌}
+use Rattle.std.proofs.Common.{ℕ, length, Unit, Result, sym, subst}
+use Rattle.hprof_engine.specs.Joining.{AreReadOut}
+use Rattle.hprof_tool.specs.declared.program.refused.Refused.{Refused}
+use Rattle.hprof_tool.specs.Program.{usual_limits, count_read}
+use Rattle.hprof_tool.proofs.Making.{same_count_read, the_refusal, none_read}
 use Rattle.hprof_tool.proofs.program.making.make_buffered.Goals as goal
 
 pub returns-in_err-outcome-clause-read_out : goal.returns-in_err-outcome-clause-read_out
-returns-in_err-outcome-clause-read_out g c = λ index fault same.
-    let is = rw same at c.from_residual.ensures.1 in
-    c.make_into-outcome.ensures.read_out index fault (c.in_err-outcome.was ∙ ap Err (sym is))
+returns-in_err-outcome-clause-read_out g c =
+    let all = length c.args.readers.now in
+    let refused = c.in_err-outcome.field-0.0 in
+    let is = the_refusal c.from_residual.result refused c.from_residual.ensures.1 in
+    subst (λ (r : Result g.W Refused). AreReadOut g.R.Source.left g.R.Source.health g.R.Source.pulls usual_limits c.args.readers.now c.make_into.new.readers (count_read r all)) (sym is)
+    (subst (λ (count : ℕ). AreReadOut g.R.Source.left g.R.Source.health g.R.Source.pulls usual_limits c.args.readers.now c.make_into.new.readers count)
+    (same_count_read (Unit {0}) g.W refused all) c.make_into-outcome.ensures.read_out)

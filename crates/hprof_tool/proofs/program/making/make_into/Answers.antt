@@ -1,6 +1,9 @@
+use Rattle.std.proofs.Common.{ℕ, length, subst}
 use Rattle.std.specs.Io.Buffered.{writer_inner, writer_buffer}
 use Rattle.hprof_engine.specs.declared.tool_fault.ToolFault.TheVariants as tool
-use Rattle.hprof_tool.proofs.Making.{part_refusal, refusal, stops, written_out, emptied, of_making, engine_answered, memory_answered}
+use Rattle.hprof_engine.specs.Joining.{AreReadOut}
+use Rattle.hprof_tool.specs.Program.{usual_limits}
+use Rattle.hprof_tool.proofs.Making.{part_refusal, refusal, stops, written_out, emptied, of_making, engine_answered, memory_answered, count_of_made}
 use Rattle.hprof_tool.proofs.program.making.make_into.Goals as goal
 
 pub returns-clause-part : goal.returns-clause-part
@@ -9,9 +12,10 @@ returns-clause-part g c = λ index fault is parts told.
     c.make-made.ensures.part index fault (engine_answered c.make-made.result c.end_of_writing-outcome.result (tool.Part index fault) (λ same. cc) end.failed end.refused is) parts told
 
 pub returns-clause-read_out : goal.returns-clause-read_out
-returns-clause-read_out g c = λ index fault is.
+returns-clause-read_out g c =
     let end = c.end_of_writing-outcome.ensures in
-    c.make-made.ensures.read_out index fault (engine_answered c.make-made.result c.end_of_writing-outcome.result (tool.Part index fault) (λ same. cc) end.failed end.refused is)
+    subst (λ (count : ℕ). AreReadOut g.R.Source.left g.R.Source.health g.R.Source.pulls usual_limits c.args.readers.now c.make-made.new.readers count)
+    (count_of_made c.make-made.result c.end_of_writing-outcome.result (length c.args.readers.now) end.failed end.refused) c.make-made.ensures.read_out
 
 pub returns-clause-memory : goal.returns-clause-memory
 returns-clause-memory g c = λ is.
@@ -34,7 +38,7 @@ returns-clause-refused g c =
       conflict = e.conflict;
       no_parts = e.no_parts.0;
       id_sizes = e.id_sizes;
-      write = e.write;
+      write = λ fault same. (e.write fault same).1;
     })
     end.failed end.refused
 
@@ -50,7 +54,7 @@ returns-clause-write g c =
       conflict = e.conflict;
       no_parts = e.no_parts.0;
       id_sizes = e.id_sizes;
-      write = e.write;
+      write = λ fault same. (e.write fault same).1;
     })
     kept c.end_of_writing-outcome.ensures.refused fault is parts told)
 
