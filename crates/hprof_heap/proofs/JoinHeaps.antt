@@ -1,15 +1,17 @@
 -- Joining two heaps, table by table.
-use Rattle.std.proofs.Common.{◌≡◌, List, [], ◌∷◌, ◌++◌, map, refl, sym, ap, subst, ◌∙◌, append_assoc}
+use Rattle.std.proofs.Common.{◌≡◌, List, [], ◌∷◌, ◌++◌, map, cond, refl, inl, inr, sym, ap, subst, ◌∙◌, append_assoc}
 use Rattle.std.proofs.lemmas.List.{append-nil}
+use Rattle.std.specs.List.{filter}
+use Rattle.std.specs.Prelude.{Bool, true, false}
 use Rattle.hprof_items.specs.FactValue.{FactValue}
 use Rattle.hprof_heap.specs.declared.table.Table.{Table}
 use Rattle.hprof_heap.specs.declared.table.Table.TheVariants as tables
 use Rattle.hprof_heap.specs.Conflict.{IsConsistent}
 use Rattle.hprof_heap.specs.Facts.{Has, SameFacts}
-use Rattle.hprof_heap.specs.Heap.{facts_of_table, number_of_table}
+use Rattle.hprof_heap.specs.Heap.{facts_of_table, number_of_table, stands_in}
 use Rattle.hprof_heap.specs.HeapRows.{HeapRows, AreHeap, heap_of_rows, tables_of}
 use Rattle.hprof_heap.specs.HeapValue.{HeapValue, IsHeap}
-use Rattle.hprof_heap.specs.Join.{IsBetween, LacksFact, TakesFacts}
+use Rattle.hprof_heap.specs.Join.{IsBetween, LacksFact, LacksFactIn, TakesFacts}
 use Rattle.hprof_heap.specs.Tables.{joined}
 use Rattle.hprof_heap.proofs.Conflicts.{IsConsistent-same}
 use Rattle.hprof_heap.proofs.FactSets.{Has-front, Has-back, Has-both, SameFacts-refl, SameFacts-sym, SameFacts-trans, SameFacts-append}
@@ -40,6 +42,24 @@ pub all_facts : (rows : HeapRows) → AreHeap rows → facts_of_tables all_table
 all_facts rows are =
     ap joined (by_each (λ table. facts_of_table table (joined (tables_of rows))) (λ table. table_at (tables_of rows) (number_of_table table))
     all_tables (λ table. table_facts rows table are))
+
+-- ---- facts that are lacking
+
+passed_of : (t : Bool) (first : FactValue) (passed facts : List FactValue) (fact : FactValue) → (Has passed fact → Has facts fact)
+    → Has (cond t (first ∷ passed) passed) fact → Has (first ∷ facts) fact
+passed_of true first passed facts fact of (inl is) = inl is
+passed_of true first passed facts fact of (inr has) = inr (of has)
+passed_of false first passed facts fact of has = inr (of has)
+
+-- a fact that passes a test among others is one of them
+has_of : (test : FactValue → Bool) (facts : List FactValue) (fact : FactValue) → Has (filter test facts) fact → Has facts fact
+has_of test [] fact has = has
+has_of test (first ∷ facts) fact has =
+    passed_of (test first) first (filter test facts) facts fact (has_of test facts fact) has
+
+-- one that is lacking in a table is lacking
+pub lacks_in : (table : Table) (one other : HeapValue) → LacksFactIn table one other → LacksFact one other
+lacks_in table one other lacks = (lacks.0, has_of (stands_in (number_of_table table)) other.facts lacks.0 lacks.1, lacks.2)
 
 -- ---- taking facts
 
@@ -104,10 +124,6 @@ module _ (old other : HeapValue) (one_size : old.ids ≡ other.ids) (agree : IsC
         ((some.takes.facts fact).0 has);
     is_heap = some.takes.is_heap;
   }
-
-  -- a fact that it lacks the first lacks too
-  pub still_lacks : (now : HeapValue) → IsBetween old other now → LacksFact now other → LacksFact old other
-  still_lacks now between lacks = (lacks.0, lacks.1, λ has. lacks.2 (between.kept lacks.0 has))
 
   -- it still agrees with the other
   pub still_agree : (now : HeapValue) → IsBetween old other now → IsConsistent (now.facts ++ other.facts)

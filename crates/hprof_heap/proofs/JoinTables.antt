@@ -23,7 +23,7 @@ use Rattle.hprof_heap.specs.Facts.{Has, SameFacts}
 use Rattle.hprof_heap.specs.Heap.{facts_of_table, number_of_table, stands_in, rows_in, heap_of}
 use Rattle.hprof_heap.specs.HeapRows.{HeapRows, AreHeap, heap_of_rows, tables_of, no_content, root_facts}
 use Rattle.hprof_heap.specs.HeapValue.{HeapValue, IsHeap}
-use Rattle.hprof_heap.specs.Join.{LacksFact, TakesFacts}
+use Rattle.hprof_heap.specs.Join.{LacksFactIn, TakesFacts}
 use Rattle.hprof_heap.specs.NumberRows.{load_numbers, frame_numbers, start_numbers}
 use Rattle.hprof_heap.specs.Order.{IsBefore, IsCanonicalOrder}
 use Rattle.hprof_heap.specs.RootSet.{IsUnionOfRoots, LacksRoot}
@@ -170,7 +170,11 @@ module _ {rows others : HeapRows} (can : CanJoin rows others) where
   its_facts table =
       ap (λ (other : HeapRows). facts_of_table table (joined (tables_of other))) (sym is_sized) ∙ table_facts sized table sized_are
 
-  -- a fact of its table is one of its facts
+  -- a fact of its table is one of those of its facts that stand there
+  in_its : (table : Table) (fact : FactValue) → Has (its table) fact → Has (facts_of_table table (joined (tables_of others))) fact
+  in_its table fact has = subst (λ (facts : List FactValue). Has facts fact) (sym (its_facts table)) has
+
+  -- and one of all of its facts
   has_other : (table : Table) (fact : FactValue) → Has (its table) fact → Has (joined (tables_of others)) fact
   has_other table fact has =
       subst (λ (some : HeapRows). Has (joined (tables_of some)) fact) is_sized (has_joined (tables_of sized) (number_of_table table) fact has)
@@ -262,7 +266,7 @@ module _ {rows others : HeapRows} (can : CanJoin rows others) where
 
     -- where the other has a row at a key that is new it has a fact that is new
     rows_lack : {A E : Type 0} (r : Result A E) → OnErr r (LacksOne (contents_of content old) (contents_of content other))
-        → OnErr r (LacksFact (heap_of_rows rows) (heap_of_rows others))
+        → OnErr r (LacksFactIn table (heap_of_rows rows) (heap_of_rows others))
     rows_lack (Ok done) lacks = tt
     rows_lack (Err e) lacks =
         let number : ℕ = number_of_table table in
@@ -274,25 +278,25 @@ module _ {rows others : HeapRows} (can : CanJoin rows others) where
         (right_found rows.ids number fact the_bytes its_rows lacks.0 lacks.1 (contents_right rows.ids number fact content other right_too) lacks.2).0 in
         let unseen = unseen_row (Err e) rows number lacks.0 fact the_bytes (contents_of content old) stated can.are at
         (contents_right rows.ids number fact content old right) (mine_is ∙ from_contents rows.ids number fact content old) lacks.3 in
-        (stated, has_other table stated has, unseen.absent)
+        (stated, in_its table stated has, unseen.absent)
 
   -- ---- each table
 
   -- where the other has a root that is new it has a fact that is new
   roots_lack : {A E : Type 0} (r : Result A E) → OnErr r (LacksRoot rows.roots others.roots)
-      → OnErr r (LacksFact (heap_of_rows rows) (heap_of_rows others))
+      → OnErr r (LacksFactIn tables.Roots (heap_of_rows rows) (heap_of_rows others))
   roots_lack (Ok done) lacks = tt
   roots_lack (Err e) lacks =
       let stated : FactValue = Rooted lacks.0 in
       let unseen =
       unseen_in_heap (Err e) rows
       7 stated can.are (root_of_table lacks.0) (find_root rows.roots lacks.0 lacks.2) in
-      (stated, has_other tables.Roots stated (has_root others.roots lacks.0 lacks.1), unseen.absent)
+      (stated, in_its tables.Roots stated (has_root others.roots lacks.0 lacks.1), unseen.absent)
 
   -- the rows with one table joined
   pub record AreJoined {A E : Type 0} (r : Result A E) (table : Table) (new : HeapRows) : Type 0 where
     pub takes : IfOk r (λ _. TakesFacts (heap_of_rows rows) (facts_of_table table (joined (tables_of others))) (heap_of_rows new))
-    pub lacks : OnErr r (LacksFact (heap_of_rows rows) (heap_of_rows others))
+    pub lacks : OnErr r (LacksFactIn table (heap_of_rows rows) (heap_of_rows others))
     pub are_heap : AreHeap new
 
   module _ {A E : Type 0} (r : Result A E) where

@@ -4,7 +4,9 @@ use Rattle.hprof_heap.specs.declared.join_refusal.JoinRefusal.{JoinRefusal}
 use Rattle.hprof_heap.specs.declared.join_refusal.JoinRefusal.TheVariants as refusals
 use Rattle.hprof_items.specs.FactValue.{FactValue}
 use Rattle.hprof_heap.specs.Conflict.{IsConsistent, IsLeastConflict}
+use Rattle.hprof_heap.specs.declared.table.Table.{Table}
 use Rattle.hprof_heap.specs.Facts.{Has, SameFacts}
+use Rattle.hprof_heap.specs.Heap.{facts_of_table}
 use Rattle.hprof_heap.specs.HeapValue.{HeapValue, IsHeap}
 
 -- the heap of both: they have one size, which is its size; the earlier time; the facts of both, in canonical order, so that
@@ -30,6 +32,10 @@ pub record IsBetween (one other new : HeapValue) : Type 0 where
 abbrev pub LacksFact : HeapValue → HeapValue → Type 0
 LacksFact one other = (fact : FactValue) × Has other.facts fact × (Has one.facts fact → ⊥)
 
+-- the other has such a fact in that table
+abbrev pub LacksFactIn : Table → HeapValue → HeapValue → Type 0
+LacksFactIn table one other = (fact : FactValue) × Has (facts_of_table table other.facts) fact × (Has one.facts fact → ⊥)
+
 -- what two heaps come to: the heap of both, or two sizes, or else the least key with two contents; memory is not wanted
 abbrev pub IsJoin : HeapValue → HeapValue → Result HeapValue JoinRefusal → Type 0
 IsJoin one other (Ok all) = IsUnion one other all
@@ -38,12 +44,12 @@ IsJoin one other (Err (refusals.Conflict key)) = (one.ids ≡ other.ids) × IsLe
 IsJoin one other (Err refusals.OutOfMemory) = ⊥
 
 -- what joining a heap with another leaves: the heap of both; nothing changes where they have two sizes or do not agree; memory
--- is wanted only where the other has a fact that is new
+-- is wanted only for a fact of the other that is lacking still
 abbrev pub JoinsInto : HeapValue → HeapValue → Result (Unit {0}) JoinRefusal → HeapValue → Type 0
 JoinsInto old other (Ok done) new = IsUnion old other new
 JoinsInto old other (Err refusals.IdSizes) new = (old.ids ≢ other.ids) × (new ≡ old)
 JoinsInto old other (Err (refusals.Conflict key)) new = (old.ids ≡ other.ids) × IsLeastConflict (old.facts ++ other.facts) key × (new ≡ old)
-JoinsInto old other (Err refusals.OutOfMemory) new = IsBetween old other new × LacksFact old other
+JoinsInto old other (Err refusals.OutOfMemory) new = IsBetween old other new × LacksFact new other
 
 -- ---- table by table
 

@@ -7,13 +7,13 @@ use Rattle.std.specs.Ordering.{nat_cmp}
 use Rattle.std.specs.BTreeMap.{is_at, insert_entry}
 use Rattle.std.specs.Cmp.{nat_cmp_is}
 use Rattle.std.proofs.lemmas.Bool.{cases_order}
-use Rattle.std.proofs.lemmas.List.{drop-append-le, take-append-le, length-append, length-drop, append_assoc}
+use Rattle.std.proofs.lemmas.List.{flat_map_more, drop-append-le, take-append-le, length-append, length-drop, append_assoc}
 use Rattle.std.proofs.Math.Seq.{drop-append_seam, take-length}
 use Rattle.std.proofs.lemmas.Map.Made.{lookup-map_values, keys_of-map_values}
 use Rattle.hprof_tables.specs.declared.bytes_table.Place.{Place}
 use Rattle.hprof_tables.specs.declared.relation.Stated.{Stated}
 use Rattle.hprof_tables.specs.declared.relation.Stated.TheVariants.{New, Same, Differs}
-use Rattle.hprof_tables.specs.Places.{IsWithin, AreWithin, IsBehind, lying, rows_lying, the_bytes}
+use Rattle.hprof_tables.specs.Places.{IsWithin, AreWithin, IsBehind, all_bytes, lying, rows_lying, the_bytes}
 use Rattle.hprof_tables.specs.Relation.{States}
 use Rattle.hprof_tables.specs.SortedRows.{LeavesUnmade, Visits, row_at, IsAscending}
 use Rattle.hprof_tables.proofs.Missing.{contents-append}
@@ -158,6 +158,12 @@ module _ (old_bytes new_bytes bytes : List ℕ) where
 
 pub behind_more : (old now row new : List ℕ) → IsBehind old now → new ≡ now ++ row → IsBehind old new
 behind_more old now row new behind e = (behind.0 ++ row, e ∙ ap (λ (l : List ℕ). l ++ row) behind.1 ∙ append_assoc old behind.0 row)
+
+-- those of one row more
+pub put_more : (old now row new : List ℕ) (done : List (ℕ × List ℕ)) (key : ℕ) → now ≡ old ++ all_bytes done → new ≡ now ++ row
+    → new ≡ old ++ all_bytes (done ++ (key, row) ∷ [])
+put_more old now row new done key put e =
+    e ∙ ap (λ (l : List ℕ). l ++ row) put ∙ flat_map_more (λ (one : ℕ × List ℕ). one.1) old done (key, row)
 
 within-last : (bytes : List ℕ) (rows : List (ℕ × Place)) (key : ℕ) (place : Place) → AreWithin bytes rows → IsWithin bytes place
     → AreWithin bytes (rows ++ (key, place) ∷ [])

@@ -1,10 +1,11 @@
 -- What tables of classes and objects show.
-use Rattle.std.specs.Prelude.{◌≡◌, ℕ, List, ⊤}
+use Rattle.std.specs.Prelude.{◌≡◌, ◌++◌, ℕ, List, ⊤}
 use Rattle.hprof_tables.specs.declared.relation.Stated.{Stated}
 use Rattle.hprof_tables.specs.declared.relation.Stated.TheVariants.{New, Same, Differs}
 use Rattle.hprof_tables.specs.declared.bytes_table.BytesTable.{BytesTable}
 use Rattle.hprof_tables.specs.declared.bytes_table.BytesRows.{BytesRows}
-use Rattle.hprof_tables.specs.Places.{rows_lying}
+use Rattle.hprof_tables.specs.Places.{all_bytes, rows_lying}
+use Rattle.hprof_tables.specs.SideBySide.{AreMissing}
 use Rattle.hprof_tables.specs.SortedTable.{entries_of, entries_left}
 
 -- the bytes of the rows with their keys, in order of key
@@ -20,3 +21,7 @@ abbrev pub LeavesBytes : {X : Type 0} → Stated → X → X → Type 0
 LeavesBytes New old new = ⊤
 LeavesBytes Same old new = new ≡ old
 LeavesBytes Differs old new = new ≡ old
+
+-- behind the bytes that were there come those of the rows of others whose keys the rows lack, each once, and no more
+abbrev pub PutsMissing : List (ℕ × List ℕ) → List (ℕ × List ℕ) → List ℕ → List ℕ → Type 0
+PutsMissing rows others old new = (missing : List (ℕ × List ℕ)) × AreMissing rows others missing × (new ≡ old ++ all_bytes missing)

@@ -1,7 +1,7 @@
 -- Rows whose bytes lie among others.
 use Rattle.std.specs.Prelude.{◌≡◌, ◌≤◌, ◌++◌, ◌/◌, ℕ, List, nat_lt, if◌then◌else◌, length, map, slice_range}
 use Rattle.std.specs.Coded.{le_prop}
-use Rattle.std.specs.List.{AllByRecursion}
+use Rattle.std.specs.List.{AllByRecursion, flat_map}
 use Rattle.std.proofs.Props.{props}
 use Rattle.hprof_tables.specs.declared.bytes_table.Place.{Place}
 
@@ -16,6 +16,10 @@ lying bytes place = slice_range bytes place.start place.end
 -- rows with the bytes that lie at their places
 abbrev pub rows_lying : List ℕ → List (ℕ × Place) → List (ℕ × List ℕ)
 rows_lying bytes rows = map (λ row. (row.0, lying bytes row.1)) rows
+
+-- the bytes of rows, one after the other
+abbrev pub all_bytes : List (ℕ × List ℕ) → List ℕ
+all_bytes rows = flat_map (λ row. row.1) rows
 
 -- so many bytes are there
 abbrev pub IsWithin : List ℕ → Place → Type 0

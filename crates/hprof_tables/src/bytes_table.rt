@@ -5,7 +5,7 @@ ghost use Rattle.std.specs.Option.{option_copied};
 ghost use Rattle.std.specs.Ordering.{nat_cmp};
 ghost use Rattle.std.specs.BTreeMap.{is_at};
 ghost use Rattle.std.specs.Map.{lookup};
-ghost use Rattle.hprof_tables.specs.Places.{IsWithin, AreWithin, AreWithin-prop, IsBehind, lying, rows_lying, spare_behind, the_bytes};
+ghost use Rattle.hprof_tables.specs.Places.{IsWithin, AreWithin, AreWithin-prop, IsBehind, all_bytes, lying, rows_lying, spare_behind, the_bytes};
 ghost use Rattle.hprof_tables.specs.Relation.{contents_of};
 ghost use Rattle.hprof_tables.specs.SortedTable.{entries_of, entries_left};
 
@@ -84,6 +84,7 @@ fn append_rows(
     lent: Vec<(u64, LentBytes<'_>)>,
 ) -> Result<Vec<(u64, Place)>, AllocError>
     ensures behind { IsBehind bytes.old.items bytes.new.items }
+    ensures put { IfOk result (λ _. bytes.new.items ≡ bytes.old.items ++ all_bytes (contents_of (λ row. row.0.now) lent.entry.items)) }
     ensures within { IfOk result (λ places. AreWithin bytes.new.items places.items) }
     ensures lying { IfOk result (λ places. rows_lying bytes.new.items places.items ≡ contents_of (λ row. row.0.now) lent.entry.items) }
     ensures some { OnErr result (0 < length lent.entry.items) }
@@ -109,7 +110,7 @@ pub struct BytesTable {
 
 impl BytesTable {
     ghost use Rattle.hprof_tables.specs.Relation.{States};
-    ghost use Rattle.hprof_tables.specs.BytesTable.{byte_rows, byte_rows_left, LeavesBytes};
+    ghost use Rattle.hprof_tables.specs.BytesTable.{byte_rows, byte_rows_left, LeavesBytes, PutsMissing};
     ghost use Rattle.hprof_tables.specs.SortedTable.{LacksRoom};
     ghost use Rattle.hprof_tables.specs.SideBySide.{IsFirstDifference, LacksOne};
     ghost use Rattle.hprof_tables.specs.SortedRows.{IsAscending};
@@ -182,6 +183,7 @@ impl BytesTable {
         ensures ok { IfOk result (λ _. AreUnion (byte_rows self.old) (contents_of (λ row. row.0.now) lent.entry.items) (byte_rows self.new)) }
         ensures err { OnErr result (entries_of self.new.rows ≡ entries_of self.old.rows) }
         ensures behind { IsBehind self.old.bytes.items self.new.bytes.items }
+        ensures put { IfOk result (λ _. self.new.bytes.items ≡ self.old.bytes.items ++ all_bytes (contents_of (λ row. row.0.now) lent.entry.items)) }
         ensures some { OnErr result (0 < length lent.entry.items) }
     {
         let fresh = append_rows(self.alloc, &mut self.bytes, lent)?;
@@ -194,6 +196,8 @@ impl BytesTable {
         ensures ok { IfOk result (λ _. AreUnion (byte_rows self.old) (byte_rows other.now) (byte_rows self.new)) }
         ensures err { OnErr result (byte_rows self.new ≡ byte_rows self.old) }
         ensures absent { OnErr result (LacksOne (byte_rows self.old) (byte_rows other.now)) }
+        ensures put { IfOk result (λ _. PutsMissing (byte_rows self.old) (byte_rows other.now) self.old.bytes.items self.new.bytes.items) }
+        ensures kept { OnErr result (self.new.bytes.items ≡ self.old.bytes.items) }
     {
         let missing = missing_rows(self.alloc, self.rows(), other.rows())?;
         let len = self.bytes.len();

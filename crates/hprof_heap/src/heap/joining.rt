@@ -3,7 +3,7 @@
 ghost use Rattle.std.specs.Prelude.{◌≡◌, ◌++◌, IfOk, OnErr};
 ghost use Rattle.hprof_heap.specs.Conflict.{IsConsistent};
 ghost use Rattle.hprof_heap.specs.Heap.{heap_of, facts_of_table};
-ghost use Rattle.hprof_heap.specs.Join.{IsBetween, JoinsInto, LacksFact, TakesFacts};
+ghost use Rattle.hprof_heap.specs.Join.{IsBetween, JoinsInto, LacksFact, LacksFactIn, TakesFacts};
 
 use super::Heap;
 use crate::join_refusal::JoinRefusal;
@@ -31,7 +31,7 @@ impl Heap {
         requires agree { IsConsistent ((heap_of self.old).facts ++ (heap_of other.now).facts) }
         ensures ok { IfOk result (λ _. TakesFacts (heap_of self.old) (facts_of_table table (heap_of other.now).facts) (heap_of self.new)) }
         ensures err { OnErr result (heap_of self.new ≡ heap_of self.old) }
-        ensures absent { OnErr result (LacksFact (heap_of self.old) (heap_of other.now)) }
+        ensures absent { OnErr result (LacksFactIn table (heap_of self.old) (heap_of other.now)) }
     {
         match table {
             Table::Names => self.names.join(&other.names),
@@ -53,7 +53,7 @@ impl Heap {
         requires agree { IsConsistent ((heap_of self.old).facts ++ (heap_of other.now).facts) }
         ensures ok { IfOk result (λ _. TakesFacts (heap_of self.old) (heap_of other.now).facts (heap_of self.new)) }
         ensures err { OnErr result (IsBetween (heap_of self.old) (heap_of other.now) (heap_of self.new)) }
-        ensures absent { OnErr result (LacksFact (heap_of self.old) (heap_of other.now)) }
+        ensures absent { OnErr result (LacksFact (heap_of self.new) (heap_of other.now)) }
     {
         for table in &TABLES {
             self.join_table(*table, other)?;

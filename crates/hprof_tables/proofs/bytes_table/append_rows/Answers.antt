@@ -1,9 +1,9 @@
-use Rattle.std.proofs.Common.{◌≡◌, ◌++◌, ◌∷◌, [], sym, ap, subst, ◌∙◌, rules}
+use Rattle.std.proofs.Common.{◌≡◌, ◌++◌, ◌∷◌, [], ℕ, List, sym, ap, subst, ◌∙◌, rules}
 use Rattle.std.proofs.lemmas.List.{append-nil}
-use Rattle.hprof_tables.specs.Places.{AreWithin, rows_lying}
+use Rattle.hprof_tables.specs.Places.{AreWithin, all_bytes, rows_lying}
 use Rattle.hprof_tables.specs.Relation.{contents_of}
 use Rattle.hprof_tables.proofs.Missing.{contents-append}
-use Rattle.hprof_tables.proofs.Places.{behind_more, within-next, lying-next}
+use Rattle.hprof_tables.proofs.Places.{behind_more, put_more, within-next, lying-next}
 use Rattle.hprof_tables.proofs.bytes_table.append_rows.Goals as goal
 
 pub loop-key-init : goal.loop-key-init
@@ -11,6 +11,7 @@ loop-key-init c =
     let none : c.reserve_exact.new.self.items ≡ [] = search rules in
     record {
       behind = ([], sym (append-nil c.args.bytes.now.items));
+      put = sym (append-nil c.args.bytes.now.items);
       within = subst (AreWithin c.args.bytes.now.items) (sym none) tt;
       lying = ap (rows_lying c.args.bytes.now.items) none;
     }
@@ -26,6 +27,9 @@ loop-key-preserved c =
     let pushed : c.push.new.self.items ≡ c.loop-key.places.items ++ (key, place) ∷ [] = c.in_ok-push.ensures.items in
     record {
       behind = behind_more c.args.bytes.now.items now row new c.loop-key.invariant.behind made.0;
+      put = put_more c.args.bytes.now.items now row new (contents_of (λ row. row.0.now) c.loop-key.yielded) key c.loop-key.invariant.put made.0
+          ∙ ap (λ (those : List (ℕ × List ℕ)). c.args.bytes.now.items ++ all_bytes those)
+          (sym (contents-append (λ row. row.0.now) c.loop-key.yielded (key, c.in-Some.row)));
       within = subst (AreWithin new) (sym pushed)
           (within-next now row new c.loop-key.places.items key place made.0 made.1 made.2 c.loop-key.invariant.within);
       lying = ap (rows_lying new) pushed

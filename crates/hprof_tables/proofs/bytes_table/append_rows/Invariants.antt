@@ -1,5 +1,5 @@
-use Rattle.std.proofs.Common.{◌≡◌}
-use Rattle.hprof_tables.specs.Places.{AreWithin, IsBehind, rows_lying}
+use Rattle.std.proofs.Common.{◌≡◌, ◌++◌}
+use Rattle.hprof_tables.specs.Places.{AreWithin, IsBehind, all_bytes, rows_lying}
 use Rattle.hprof_tables.specs.Relation.{contents_of}
 use Rattle.hprof_tables.proofs.bytes_table.append_rows.Given as goal
 
@@ -8,6 +8,7 @@ abbrev pub invariant-loop-key : goal.invariant-loop-key
 invariant-loop-key l =
     record {
       behind : IsBehind l.fn.bytes.items l.bytes.items;
+      put : l.bytes.items ≡ l.fn.bytes.items ++ all_bytes (contents_of (λ row. row.0.now) l.yielded);
       within : AreWithin l.bytes.items l.places.items;
       lying : rows_lying l.bytes.items l.places.items ≡ contents_of (λ row. row.0.now) l.yielded;
     }

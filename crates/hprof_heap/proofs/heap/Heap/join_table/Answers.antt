@@ -17,7 +17,7 @@ returns-in-Names-clause-ok c =
 pub returns-in-Names-clause-absent : goal.returns-in-Names-clause-absent
 returns-in-Names-clause-absent c =
     let can = can_join c.args.self.now c.args.other.now c.requires.ids c.requires.agree in
-    (names_joined can c.join.result (byte_rows c.join.new.self) c.join.ensures.ok c.join.ensures.err c.join.ensures.absent).lacks
+    rw c.in-Names.is (names_joined can c.join.result (byte_rows c.join.new.self) c.join.ensures.ok c.join.ensures.err c.join.ensures.absent).lacks
 
 pub invariant_of-self-in-Loads : goal.invariant_of-self-in-Loads
 invariant_of-self-in-Loads c =
@@ -35,7 +35,7 @@ pub returns-in-Loads-clause-absent : goal.returns-in-Loads-clause-absent
 returns-in-Loads-clause-absent c =
     let can = can_join c.args.self.now c.args.other.now c.requires.ids c.requires.agree in
     let join = c.join-in-Loads in
-    (loads_joined can join.result (rows_of join.new.self) join.ensures.ok join.ensures.err join.ensures.absent).lacks
+    rw c.in-Loads.is (loads_joined can join.result (rows_of join.new.self) join.ensures.ok join.ensures.err join.ensures.absent).lacks
 
 pub invariant_of-self-in-Unloads : goal.invariant_of-self-in-Unloads
 invariant_of-self-in-Unloads c =
@@ -53,7 +53,7 @@ pub returns-in-Unloads-clause-absent : goal.returns-in-Unloads-clause-absent
 returns-in-Unloads-clause-absent c =
     let can = can_join c.args.self.now c.args.other.now c.requires.ids c.requires.agree in
     let join = c.join-in-Unloads in
-    (unloads_joined can join.result (rows_of join.new.self) join.ensures.ok join.ensures.err join.ensures.absent).lacks
+    rw c.in-Unloads.is (unloads_joined can join.result (rows_of join.new.self) join.ensures.ok join.ensures.err join.ensures.absent).lacks
 
 pub invariant_of-self-in-Frames : goal.invariant_of-self-in-Frames
 invariant_of-self-in-Frames c =
@@ -71,7 +71,7 @@ pub returns-in-Frames-clause-absent : goal.returns-in-Frames-clause-absent
 returns-in-Frames-clause-absent c =
     let can = can_join c.args.self.now c.args.other.now c.requires.ids c.requires.agree in
     let join = c.join-in-Frames in
-    (frames_joined can join.result (rows_of join.new.self) join.ensures.ok join.ensures.err join.ensures.absent).lacks
+    rw c.in-Frames.is (frames_joined can join.result (rows_of join.new.self) join.ensures.ok join.ensures.err join.ensures.absent).lacks
 
 pub invariant_of-self-in-Traces : goal.invariant_of-self-in-Traces
 invariant_of-self-in-Traces c =
@@ -89,7 +89,7 @@ pub returns-in-Traces-clause-absent : goal.returns-in-Traces-clause-absent
 returns-in-Traces-clause-absent c =
     let can = can_join c.args.self.now c.args.other.now c.requires.ids c.requires.agree in
     let join = c.join-in-Traces in
-    (traces_joined can join.result (rows_of join.new.self) join.ensures.ok join.ensures.err join.ensures.absent).lacks
+    rw c.in-Traces.is (traces_joined can join.result (rows_of join.new.self) join.ensures.ok join.ensures.err join.ensures.absent).lacks
 
 pub invariant_of-self-in-Starts : goal.invariant_of-self-in-Starts
 invariant_of-self-in-Starts c =
@@ -107,7 +107,7 @@ pub returns-in-Starts-clause-absent : goal.returns-in-Starts-clause-absent
 returns-in-Starts-clause-absent c =
     let can = can_join c.args.self.now c.args.other.now c.requires.ids c.requires.agree in
     let join = c.join-in-Starts in
-    (starts_joined can join.result (rows_of join.new.self) join.ensures.ok join.ensures.err join.ensures.absent).lacks
+    rw c.in-Starts.is (starts_joined can join.result (rows_of join.new.self) join.ensures.ok join.ensures.err join.ensures.absent).lacks
 
 pub invariant_of-self-in-Ends : goal.invariant_of-self-in-Ends
 invariant_of-self-in-Ends c =
@@ -125,7 +125,7 @@ pub returns-in-Ends-clause-absent : goal.returns-in-Ends-clause-absent
 returns-in-Ends-clause-absent c =
     let can = can_join c.args.self.now c.args.other.now c.requires.ids c.requires.agree in
     let join = c.join-in-Ends in
-    (ends_joined can join.result (rows_of join.new.self) join.ensures.ok join.ensures.err join.ensures.absent).lacks
+    rw c.in-Ends.is (ends_joined can join.result (rows_of join.new.self) join.ensures.ok join.ensures.err join.ensures.absent).lacks
 
 pub invariant_of-self-in-Roots : goal.invariant_of-self-in-Roots
 invariant_of-self-in-Roots c =
@@ -143,7 +143,7 @@ pub returns-in-Roots-clause-absent : goal.returns-in-Roots-clause-absent
 returns-in-Roots-clause-absent c =
     let can = can_join c.args.self.now c.args.other.now c.requires.ids c.requires.agree in
     let join = c.join-in-Roots in
-    (roots_joined can join.result (roots_of join.new.self) join.ensures.ok join.ensures.err join.ensures.absent).lacks
+    rw c.in-Roots.is (roots_joined can join.result (roots_of join.new.self) join.ensures.ok join.ensures.err join.ensures.absent).lacks
 
 pub invariant_of-self-in-Classes : goal.invariant_of-self-in-Classes
 invariant_of-self-in-Classes c =
@@ -161,7 +161,7 @@ pub returns-in-Classes-clause-absent : goal.returns-in-Classes-clause-absent
 returns-in-Classes-clause-absent c =
     let can = can_join c.args.self.now c.args.other.now c.requires.ids c.requires.agree in
     let join = c.join-in-Classes in
-    (classes_joined can join.result (byte_rows join.new.self) join.ensures.ok join.ensures.err join.ensures.absent).lacks
+    rw c.in-Classes.is (classes_joined can join.result (byte_rows join.new.self) join.ensures.ok join.ensures.err join.ensures.absent).lacks
 
 pub invariant_of-self-in-Objects : goal.invariant_of-self-in-Objects
 invariant_of-self-in-Objects c =
@@ -179,4 +179,4 @@ pub returns-in-Objects-clause-absent : goal.returns-in-Objects-clause-absent
 returns-in-Objects-clause-absent c =
     let can = can_join c.args.self.now c.args.other.now c.requires.ids c.requires.agree in
     let join = c.join-in-Objects in
-    (objects_joined can join.result (byte_rows join.new.self) join.ensures.ok join.ensures.err join.ensures.absent).lacks
+    rw c.in-Objects.is (objects_joined can join.result (byte_rows join.new.self) join.ensures.ok join.ensures.err join.ensures.absent).lacks

@@ -4,8 +4,9 @@ use Rattle.hprof_tables.proofs.Missing.{on_err}
 use Rattle.hprof_heap.specs.declared.table.Table.{Table}
 use Rattle.hprof_heap.specs.declared.table.Table.TheVariants.{Names}
 use Rattle.hprof_heap.specs.Heap.{heap_of, rows_in}
-use Rattle.hprof_heap.specs.Join.{IsBetween}
-use Rattle.hprof_heap.proofs.JoinHeaps.{TakesSome, all_tables, all_facts, takes_none, takes_next, takes_between, still_agree, still_lacks}
+use Rattle.hprof_heap.specs.HeapValue.{HeapValue}
+use Rattle.hprof_heap.specs.Join.{IsBetween, LacksFact}
+use Rattle.hprof_heap.proofs.JoinHeaps.{TakesSome, all_tables, all_facts, takes_none, takes_next, takes_between, still_agree, lacks_in}
 use Rattle.hprof_heap.proofs.Writing.{drop_from}
 use Rattle.hprof_heap.proofs.heap.Heap.join_tables.Goals as goal
 
@@ -33,13 +34,11 @@ returns-in_err-join_table-clause-err c =
 
 pub returns-in_err-join_table-clause-absent : goal.returns-in_err-join_table-clause-absent
 returns-in_err-join_table-clause-absent c =
-    let old = heap_of c.args.self.now in
     let other = heap_of c.args.other.now in
     let now = heap_of c.loop-table.self in
     on_err c.from_residual.result
-    (still_lacks old other c.requires.ids c.requires.agree now
-    (takes_between old other c.requires.ids c.requires.agree (drop c.loop-table.table-index all_tables) now c.loop-table.invariant)
-    c.in_err-join_table.ensures.absent)
+    (subst (λ (new : HeapValue). LacksFact new other) (sym c.in_err-join_table.ensures.err)
+    (lacks_in (get_or all_tables c.loop-table.table-index Names) now other c.in_err-join_table.ensures.absent))
 
 pub loop-table-preserved : goal.loop-table-preserved
 loop-table-preserved c =
