@@ -1,6 +1,6 @@
 //! What is told what was read of each part.
 
-ghost use Rattle.std.specs.Prelude.{◌≡◌, ◌++◌, ◌∷◌, [], ◌+◌, ◌≤◌, ◌×◌, ℕ, ⊤, vec_len, vec_capacity};
+ghost use Rattle.std.specs.Prelude.{◌≡◌, ◌++◌, ◌∷◌, [], ◌+◌, ◌≤◌, ℕ, ⊤, vec_len, vec_capacity};
 
 use hprof_stream::PartSummary;
 
