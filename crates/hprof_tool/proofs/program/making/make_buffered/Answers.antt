@@ -1,4 +1,4 @@
-use Rattle.std.proofs.Common.{ℕ, length, Unit, Result, sym, subst}
+use Rattle.std.proofs.Common.{ℕ, length, Result, sym, subst}
 use Rattle.hprof_engine.specs.Joining.{AreReadOut}
 use Rattle.hprof_tool.specs.declared.program.refused.Refused.{Refused}
 use Rattle.hprof_tool.specs.Program.{usual_limits, count_read}

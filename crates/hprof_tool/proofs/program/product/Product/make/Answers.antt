@@ -1,4 +1,4 @@
-use Rattle.std.proofs.Common.{ℕ, length, Unit, Result, Err, sym, ap, subst}
+use Rattle.std.proofs.Common.{ℕ, length, Result, Err, sym, ap, subst}
 use Rattle.hprof_stream.specs.declared.limits.Limits.{Limits}
 use Rattle.hprof_engine.specs.declared.joined.Joined.{Joined}
 use Rattle.hprof_engine.specs.declared.tool_fault.ToolFault.{ToolFault}
