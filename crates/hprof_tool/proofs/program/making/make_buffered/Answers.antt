@@ -10,6 +10,6 @@ returns-in_err-outcome-clause-read_out g c =
     let all = length c.args.readers.now in
     let refused = c.in_err-outcome.field-0.0 in
     let is = the_refusal c.from_residual.result refused c.from_residual.ensures.1 in
-    subst (λ (r : Result g.row.W.Denot Refused). AreReadOut g.R.Source.left g.R.Source.health g.R.Source.pulls usual_limits c.args.readers.now c.make_into.new.readers (count_read r all)) (sym is)
-    (subst (λ (count : ℕ). AreReadOut g.R.Source.left g.R.Source.health g.R.Source.pulls usual_limits c.args.readers.now c.make_into.new.readers count)
+    subst (λ (r : Result g.row.W.Denot Refused). AreReadOut g.R.Source.left g.R.Source.health g.R.Source.pulls usual_limits c.args.readers.now c.make_into-outcome.new.readers (count_read r all)) (sym is)
+    (subst (λ (count : ℕ). AreReadOut g.R.Source.left g.R.Source.health g.R.Source.pulls usual_limits c.args.readers.now c.make_into-outcome.new.readers count)
     (same_count_read (Unit {0}) _ refused all) c.make_into-outcome.ensures.read_out)
