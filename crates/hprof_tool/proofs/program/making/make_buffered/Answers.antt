@@ -1,4 +1,4 @@
-use Rattle.std.proofs.Common.{ℕ, length, Result, sym, subst}
+use Rattle.std.proofs.Common.{◌≡◌, ℕ, length, Result, Err, sym, ap, subst, ◌∙◌}
 use Rattle.hprof_engine.specs.Joining.{AreReadOut}
 use Rattle.hprof_tool.specs.declared.program.refused.Refused.{Refused}
 use Rattle.hprof_tool.specs.Program.{usual_limits, count_read}
@@ -10,6 +10,9 @@ returns-in_err-outcome-clause-read_out g c =
     let all = length c.args.readers.now in
     let refused = c.in_err-outcome.field-0.0 in
     let is = the_refusal c.from_residual.result refused c.from_residual.ensures.1 in
-    subst (λ (r : Result g.row.W.Denot Refused). AreReadOut g.R.Source.left g.R.Source.health g.R.Source.pulls usual_limits c.args.readers.now c.make_into-outcome.new.readers (count_read r all)) (sym is)
-    (subst (λ (count : ℕ). AreReadOut g.R.Source.left g.R.Source.health g.R.Source.pulls usual_limits c.args.readers.now c.make_into-outcome.new.readers count)
-    (same_count_read (Unit {0}) _ refused all) c.make_into-outcome.ensures.read_out)
+    let unit : count_read c.make_into-outcome.result.outcome all ≡ count_read {A = Unit {0}} (Err refused) all =
+        ap (λ (o : Result (Unit {0}) Refused). count_read o all) c.in_err-outcome.was in
+    let given : count_read {A = Unit {0}} (Err refused) all ≡ count_read c.from_residual.result all =
+        same_count_read (Unit {0}) g.row.W.Denot refused all ∙ ap (λ (r : Result g.row.W.Denot Refused). count_read r all) (sym is) in
+    subst (λ (count : ℕ). AreReadOut g.R.Source.left g.R.Source.health g.R.Source.pulls usual_limits c.args.readers.now c.make_into-outcome.new.readers count) (unit ∙ given)
+    c.make_into-outcome.ensures.read_out
