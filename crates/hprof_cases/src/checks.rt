@@ -21,6 +21,14 @@ const PLAIN: &str =
     "part 0: version 1.0.2 ids 4 time 1 records 3 facts 4 end no\nnames 2\nloads 0\nunloads 0\nframes 0\n\
     traces 0\nstarts 0\nends 0\nroots 1\nclasses 0\nobjects 1\nbad names 0\n";
 
+/// The report on the plain part and on the plain part two times again.
+const THRICE: &str =
+    "part 0: version 1.0.2 ids 4 time 1 records 3 facts 4 end no\n\
+    part 1: version 1.0.2 ids 4 time 1 records 3 facts 4 end no\n\
+    part 2: version 1.0.2 ids 4 time 1 records 3 facts 4 end no\n\
+    names 2\nloads 0\nunloads 0\nframes 0\ntraces 0\nstarts 0\nends 0\nroots 1\nclasses 0\n\
+    objects 1\nbad names 0\n";
+
 /// Checks that this is the report on the parts.
 fn expect_report(
     rt: &impl Abort,
@@ -109,6 +117,19 @@ fn the_program_prints_a_report(rt: HostRuntime) -> Result<(), Fail> {
     let ran = outcome_of(rt.alloc(), &rt, &["check", part.as_str()], &[])?;
     assert_eq!(rt; ran.status.code(), 0);
     assert_eq!(rt; str::from_utf8(&ran.output)?, PLAIN);
+    assert_eq!(rt; ran.errors.len(), 0);
+    fs::remove_file(&rt, part.as_str())?;
+    Ok(())
+}
+
+#[test]
+fn the_program_reports_on_three_parts(rt: HostRuntime) -> Result<(), Fail> {
+    let plain = plain_part(rt.alloc())?;
+    let part = written(&rt, "check-thrice", &[&plain])?;
+    let words = ["check", part.as_str(), part.as_str(), part.as_str()];
+    let ran = outcome_of(rt.alloc(), &rt, &words, &[])?;
+    assert_eq!(rt; ran.status, Status::Done);
+    assert_eq!(rt; str::from_utf8(&ran.output)?, THRICE);
     assert_eq!(rt; ran.errors.len(), 0);
     fs::remove_file(&rt, part.as_str())?;
     Ok(())
