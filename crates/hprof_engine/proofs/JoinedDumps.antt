@@ -27,7 +27,8 @@ use Rattle.hprof_engine.proofs.PartByPart.{Says, OneOf, SayTogether, says_once, 
 -- ---- some of the parts
 
 module _ (some parts : List (List ℕ)) (within : (bytes : List ℕ) → Contains some bytes → Contains parts bytes) (ids other : IdSize)
-    (millis more : ℕ) (facts rows : List FactValue) (few : SayTogether some ids millis facts) (all : SayTogether parts other more rows) where
+    (millis more : ℕ) (facts rows : List FactValue) (few : SayTogether some ids millis facts) (all : SayTogether parts other more rows)
+      where
   -- one of some parts is one of all
   one_of_all : (one : OneOf some ids) → (it : OneOf parts other) × (one.says.millis ≡ it.says.millis) × (one.says.facts ≡ it.says.facts)
   one_of_all one =
@@ -70,7 +71,8 @@ some_disagree some parts within ids millis rows key dis agree =
     let few = say_together some dis.ids dis.millis dis.facts dis.state in
     let all = say_together parts ids millis rows agree.state in
     no_conflict rows key agree.consistent
-    (HasConflict-more dis.facts rows key (some_facts some parts within dis.ids ids dis.millis millis dis.facts rows few all) dis.least.conflict)
+    (HasConflict-more dis.facts rows key (some_facts some parts within dis.ids ids dis.millis millis dis.facts rows few all)
+      dis.least.conflict)
 
 -- ---- parts that are divided
 
@@ -211,9 +213,11 @@ agree_alike parts others ids common millis facts rows say alike agree =
     }
 
 -- parts agree where the dumps of two lists do, among which they are divided
-pub dumps_join : (parts ones others : List (List ℕ)) (ids : IdSize) (millis one_millis other_millis : ℕ) (rows one_rows other_rows : List FactValue)
+pub dumps_join : (parts ones others : List (List ℕ)) (ids : IdSize) (millis one_millis other_millis : ℕ)
+  (rows one_rows other_rows : List FactValue)
     → AreDivided parts ones others → Agree ones ids one_millis one_rows → Agree others ids other_millis other_rows
-    → Agree parts ids millis rows ↔ Agree (canonical_dump ids one_millis one_rows ∷ canonical_dump ids other_millis other_rows ∷ []) ids millis rows
+    → Agree parts ids millis rows ↔ Agree (canonical_dump ids one_millis one_rows ∷ canonical_dump ids other_millis other_rows ∷ []) ids
+      millis rows
 dumps_join parts ones others ids millis one_millis other_millis rows one_rows other_rows divided one other =
     let dump = canonical_dump ids one_millis one_rows in
     let dump_too = canonical_dump ids other_millis other_rows in

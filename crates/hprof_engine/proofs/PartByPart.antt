@@ -117,7 +117,8 @@ module _ (parts : List (List ℕ)) (ids : IdSize) (states : List PartState) (of_
   said state there = record {
     millis = state.millis;
     facts = state.facts;
-    part = subst (λ (i : IdSize). IsPart state.bytes i state.millis state.facts) (holds_of (λ part. part.ids ≡ ids) states state sizes there)
+    part = subst (λ (i : IdSize). IsPart state.bytes i state.millis state.facts)
+      (holds_of (λ part. part.ids ≡ ids) states state sizes there)
         (holds_of StatesIt states state each there);
   }
 
@@ -164,7 +165,8 @@ module _ (parts : List (List ℕ)) (ids : IdSize) (states : List PartState) (of_
     stated = λ fact has. let of = has_of (λ part. part.facts) states fact ((same fact).0 has) in (listed of.0 of.1, of.2);
     states = λ fact one has.
         let it = is_listed one in
-        (same fact).1 (has_all (λ part. part.facts) states it.state fact it.there (subst (λ (l : List FactValue). Has l fact) (sym it.facts) has));
+        (same fact).1 (has_all (λ part. part.facts) states it.state fact it.there (subst (λ (l : List FactValue). Has l fact)
+          (sym it.facts) has));
   }
 
   -- and the other way round

@@ -1,5 +1,6 @@
 -- What joining parts answers, and what it writes.
-use Rattle.std.specs.Prelude.{◌≡◌, ◌⊎◌, ℕ, ◌+◌, ◌<◌, ◌≤◌, Bool, true, false, List, [], ◌∷◌, ◌++◌, length, take, map, Option, Some, None, Result, Ok, Err, ⊤, slice_get}
+use Rattle.std.specs.Prelude.{◌≡◌, ◌⊎◌, ℕ, ◌+◌, ◌<◌, ◌≤◌, Bool, true, false, List, [], ◌∷◌, ◌++◌, length, take, map, Option, Some, None}
+use Rattle.std.specs.Prelude.{Result, Ok, Err, ⊤, slice_get}
 use Rattle.std.specs.List.{AllByRecursion}
 use Rattle.std.specs.Io.KnownBytes.{Appends, Consumes, IsAtEnd}
 use Rattle.hprof_items.specs.declared.header.Header.{Header}
@@ -91,15 +92,20 @@ module _ {R : Type 0} (left : R → Option (List ℕ)) (health : R → Health) (
       × (is_lasting reason ≡ true → CameLast left pulls limits was came is)
       × (is_lasting reason ≡ false → PulledOut left pulls limits was came is × IsAtEnd (left is) × (length came ≤ limits.max_bytes))
   IsPartFault limits earlier was came is (faults.ItemTooLong at) =
-      (health is ≡ healths.Well) × IsFirstFault limits.max_item (take limits.max_bytes came) (faults.ItemTooLong at) × CameLast left pulls limits was came is
+      (health is ≡ healths.Well) × IsFirstFault limits.max_item (take limits.max_bytes came) (faults.ItemTooLong at)
+        × CameLast left pulls limits was came is
   IsPartFault limits earlier was came is faults.BytesExceeded =
-      (health is ≡ healths.Well) × (limits.max_bytes < length came) × HasNoSettledFault limits.max_item (take limits.max_bytes came) × CameLast left pulls limits was came is
+      (health is ≡ healths.Well) × (limits.max_bytes < length came) × HasNoSettledFault limits.max_item (take limits.max_bytes came)
+        × CameLast left pulls limits was came is
   IsPartFault limits earlier was came is faults.Read =
-      (health is ≡ healths.Failed) × (length came ≤ limits.max_bytes) × HasNoSettledFault limits.max_item came × PulledOut left pulls limits was came is
+      (health is ≡ healths.Failed) × (length came ≤ limits.max_bytes) × HasNoSettledFault limits.max_item came
+        × PulledOut left pulls limits was came is
   IsPartFault limits earlier was came is faults.ReadsExceeded =
-      (health is ≡ healths.Well) × Pulled left pulls was came limits.max_reads is × (length came ≤ limits.max_bytes) × HasNoSettledFault limits.max_item came
+      (health is ≡ healths.Well) × Pulled left pulls was came limits.max_reads is × (length came ≤ limits.max_bytes)
+        × HasNoSettledFault limits.max_item came
   IsPartFault limits earlier was came is faults.OutOfMemory =
-      (health is ≡ healths.Well) × (((came ≡ []) × (was ≡ is)) ⊎ ((last : CameLast left pulls limits was came is) × IsUnheld limits last.front last.piece))
+      (health is ≡ healths.Well) × (((came ≡ []) × (was ≡ is)) ⊎ ((last : CameLast left pulls limits was came is)
+        × IsUnheld limits last.front last.piece))
   IsPartFault limits earlier was came is (faults.Sink sinks.OutOfMemory) =
       (health is ≡ healths.Well) × ((last : CameLast left pulls limits was came is) × ((told : Option Header)
       × (whole : BeginsWhole limits.max_item (take limits.max_bytes came) told) × (length last.front < whole_len whole)
@@ -179,7 +185,8 @@ module _ {R : Type 0} (left : R → Option (List ℕ)) (health : R → Health) (
 
   -- all readers were read to their ends, or one was refused
   abbrev pub ReadsAll : Limits → List R → Gathered → Result (Unit {0}) ToolFault → List R → Gathered → Type 0
-  ReadsAll limits old from (Ok done) new to = GathersFirst left limits old (length old) from to × AreReadOut left health pulls limits old new (length old)
+  ReadsAll limits old from (Ok done) new to = GathersFirst left limits old (length old) from to
+    × AreReadOut left health pulls limits old new (length old)
   ReadsAll limits old from (Err (tool.Part index fault)) new to = RefusesReader limits old new index fault from
   ReadsAll limits old from (Err other) new to = ⊥
 

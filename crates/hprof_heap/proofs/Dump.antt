@@ -1,5 +1,6 @@
 -- The canonical dump is a part: its records, and what they state.
-use Rattle.std.proofs.Common.{◌≡◌, ℕ, ◌≤◌, Bool, true, false, List, [], ◌∷◌, ◌++◌, length, Option, Some, None, map, refl, sym, ap, subst, append-nil, arith}
+use Rattle.std.proofs.Common.{◌≡◌, ℕ, ◌≤◌, Bool, true, false, List, [], ◌∷◌, ◌++◌, length, Option, Some, None, map, refl, sym, ap, subst}
+use Rattle.std.proofs.Common.{append-nil, arith}
 use Rattle.std.specs.Prelude.{not}
 use Rattle.std.specs.List.{AllByRecursion, filter, flat_map}
 use Rattle.std.specs.Option.{is_some}
@@ -18,7 +19,8 @@ use Rattle.hprof_items.specs.Spelling.{Fits, FitsAs, spelling, spelled_as, longe
 use Rattle.hprof_items.specs.SubRecord.{dump_bytes}
 use Rattle.hprof_stream.specs.Record.{IsRecord, IsSubFact, states, ends, dumps}
 use Rattle.hprof_stream.specs.Part.{Stated, all_bytes, all_facts, IsPart}
-use Rattle.hprof_heap.specs.Dump.{canonical_dump, is_record_fact, is_sub_fact, most_in_segment, segments_of, segment_bytes, record_facts_bytes, sub_facts_bytes}
+use Rattle.hprof_heap.specs.Dump.{canonical_dump, is_record_fact, is_sub_fact, most_in_segment, segments_of, segment_bytes}
+use Rattle.hprof_heap.specs.Dump.{record_facts_bytes, sub_facts_bytes}
 use Rattle.hprof_heap.specs.HeapValue.{IsHeap}
 use Rattle.hprof_heap.specs.Order.{IsCanonicalOrder}
 use Rattle.hprof_heap.specs.Segments.{IsSegment}
@@ -130,7 +132,8 @@ segment_short ids (first ∷ second ∷ others) is subs = rw length-flat_map (om
 
 segment_is : (ids : IdSize) (segment : List FactValue) → AreSegment ids segment → IsOne ids (segment_record ids segment)
 segment_is ids segment are =
-    dumps (record { tag = 0x1c; is_dump = refl; time = 0; is_time = omega arith; each = are.1; short = segment_short ids segment are.0 are.1; spelled = refl })
+    dumps (record { tag = 0x1c; is_dump = refl; time = 0; is_time = omega arith; each = are.1; short =
+      segment_short ids segment are.0 are.1; spelled = refl })
 
 segments_are : (ids : IdSize) (subs : List FactValue) → AllByRecursion (IsSubFact ids) subs
     → AllByRecursion (AreSegment ids) (segments_of ids subs)

@@ -1,5 +1,6 @@
 -- The rows of a heap: each table has facts of its own, and stating one into a table states it into the heap.
-use Rattle.std.proofs.Common.{◌≡◌, ℕ, zero, suc, ◌<◌, ◌≤◌, List, [], ◌∷◌, length, drop, ◌%◌, Bool, cond, find, Option, Some, None, Result, Ok, Err, refl, sym, ap, subst, ◌∙◌, arith}
+use Rattle.std.proofs.Common.{◌≡◌, ℕ, zero, suc, ◌<◌, ◌≤◌, List, [], ◌∷◌, length, drop, ◌%◌, Bool, cond, find, Option, Some, None, Result}
+use Rattle.std.proofs.Common.{Ok, Err, refl, sym, ap, subst, ◌∙◌, arith}
 use Rattle.std.specs.Prelude.{ℤ, pos, negsuc, IfOk, OnErr, slice_index, bytes_eq}
 use Rattle.std.specs.Option.{option_map}
 use Rattle.std.proofs.lemmas.Bool.{false_from_ne_true}
@@ -14,7 +15,8 @@ use Rattle.hprof_values.specs.Fields.{exactly, field_bytes}
 use Rattle.hprof_values.specs.Lists.{id_widths, ids_in}
 use Rattle.hprof_values.specs.Ids.{width_of}
 use Rattle.hprof_values.proofs.IdLists.{ids_again}
-use Rattle.hprof_items.specs.FactValue.{FactValue, Name, Load, Unload, Frame, Trace, Start, End, Rooted, Class, Instance, ObjArray, PrimArray}
+use Rattle.hprof_items.specs.FactValue.{FactValue, Name, Load, Unload, Frame, Trace, Start, End, Rooted, Class, Instance, ObjArray}
+use Rattle.hprof_items.specs.FactValue.{PrimArray}
 use Rattle.hprof_items.specs.RecordBody.{record_of}
 use Rattle.hprof_items.specs.SubRecord.{dump_bytes}
 use Rattle.hprof_items.proofs.Dumps.{sub_again}
@@ -28,7 +30,8 @@ use Rattle.hprof_tables.specs.declared.relation.Stated.{Stated}
 use Rattle.hprof_heap.specs.Key.{has_key}
 use Rattle.hprof_tables.specs.SortedRows.{row_at}
 use Rattle.hprof_heap.proofs.Keys.{place_of_key, stands_at, has_key_at, same_place}
-use Rattle.hprof_heap.specs.Content.{content_of, load_fact, unload_fact, frame_fact, trace_fact, start_fact, end_fact, spelled_fact, line_with, read_fact, facts_of_rows, IsRight, AreRight}
+use Rattle.hprof_heap.specs.Content.{content_of, load_fact, unload_fact, frame_fact, trace_fact, start_fact, end_fact, spelled_fact}
+use Rattle.hprof_heap.specs.Content.{line_with, read_fact, facts_of_rows, IsRight, AreRight}
 use Rattle.hprof_tables.specs.Places.{the_bytes}
 use Rattle.hprof_heap.specs.Gathering.{StatesInto, IsNewAmong}
 use Rattle.hprof_heap.specs.declared.table.Table.{Table}
@@ -64,7 +67,8 @@ unloads_right ids rows = right_by ids 2 unload_fact no_content rows (λ key row.
 
 pub frames_right : (ids : IdSize) (rows : List (ℕ × FrameRow)) → AreRight ids 3 frame_fact frame_numbers rows
 frames_right ids rows = right_by ids 3 frame_fact frame_numbers rows
-    (λ key row. (refl, ap (λ (line : ℤ). row.method ∷ row.signature ∷ row.source ∷ row.class_serial ∷ line_numbers line) (line_again row.line)))
+    (λ key row. (refl, ap (λ (line : ℤ). row.method ∷ row.signature ∷ row.source ∷ row.class_serial ∷ line_numbers line)
+      (line_again row.line)))
 
 pub starts_right : (ids : IdSize) (rows : List (ℕ × StartRow)) → AreRight ids 5 start_fact start_numbers rows
 starts_right ids rows = right_by ids 5 start_fact start_numbers rows (λ key row. (refl, refl))
@@ -126,10 +130,12 @@ with_same [] place = refl
 with_same (facts ∷ tables) zero = refl
 with_same (facts ∷ tables) (suc place) = ap (λ (l : List (List FactValue)). facts ∷ l) (with_same tables place)
 
-kept_joined : {E : Type 0} (r : Result Stated E) (tables : List (List FactValue)) (place : ℕ) (new : List FactValue) → OnErr r (new ≡ table_at tables place)
+kept_joined : {E : Type 0} (r : Result Stated E) (tables : List (List FactValue)) (place : ℕ) (new : List FactValue)
+  → OnErr r (new ≡ table_at tables place)
     → OnErr r (joined (with_table tables place new) ≡ joined tables)
 kept_joined (Ok answer) tables place new kept = tt
-kept_joined (Err e) tables place new kept = ap (λ (l : List FactValue). joined (with_table tables place l)) kept ∙ ap joined (with_same tables place)
+kept_joined (Err e) tables place new kept = ap (λ (l : List FactValue). joined (with_table tables place l)) kept
+  ∙ ap joined (with_same tables place)
 
 module _ {E : Type 0} (r : Result Stated E) (rows : HeapRows) (are : AreHeap rows) (place : ℕ) (new : List FactValue) (fact : FactValue)
     (of : IsOf place fact) (within : place < length (tables_of rows)) (fits : Fits rows.ids fact)
@@ -143,7 +149,8 @@ module _ {E : Type 0} (r : Result Stated E) (rows : HeapRows) (are : AreHeap row
   -- and it is still a heap
   pub into_heap-sound : OnErr r (new ≡ table_at (tables_of rows) place)
       → IsHeap (with_facts rows.ids rows.millis (joined (with_table (tables_of rows) place new)))
-  into_heap-sound kept = tried_among-sound r rows.ids rows.millis (joined (tables_of rows)) (joined (with_table (tables_of rows) place new)) fact
+  into_heap-sound kept = tried_among-sound r rows.ids rows.millis (joined (tables_of rows))
+    (joined (with_table (tables_of rows) place new)) fact
       (states_tables r (tables_of rows) place new fact (heap_tables rows are) of within among)
       (kept_joined r (tables_of rows) place new kept) fits are.heap
 
@@ -170,24 +177,29 @@ unseen_in_heap (Ok answer) rows place fact are of none = tt
 unseen_in_heap (Err e) rows place fact are of none = unseen (heap_of_rows rows) fact (
     find_from (same_place fact) (tables_of rows) place 0 place
     (λ n other in_table differ. false_from_ne_true (same_place fact other) (λ yes.
-    let same : place ∷ of.more ≡ n ∷ in_table.more = sym of.stands ∙ (bytes_eq-Decides (place_of fact) (place_of other)).0 yes ∙ in_table.stands in
+    let same : place ∷ of.more ≡ n ∷ in_table.more = sym of.stands ∙ (bytes_eq-Decides (place_of fact) (place_of other)).0 yes
+      ∙ in_table.stands in
     differ (sym (ap (λ (ns : List ℕ). slice_index ns 0) same))))
     (omega arith) (heap_tables rows are)
     ∙ none
     )
 
 -- so is one whose key has no row
-pub unseen_row : {E V : Type 0} (r : Result Stated E) (rows : HeapRows) (table key : ℕ) (fact : ℕ → List ℕ → FactValue) (content : V → List ℕ) (of_table : List (ℕ × V))
+pub unseen_row : {E V : Type 0} (r : Result Stated E) (rows : HeapRows) (table key : ℕ) (fact : ℕ → List ℕ → FactValue) (content : V
+  → List ℕ) (of_table : List (ℕ × V))
     (stated : FactValue) → AreHeap rows → place_of stated ≡ table ∷ key ∷ [] → AreRight rows.ids table fact content of_table
-    → table_at (tables_of rows) table ≡ facts_of_rows fact content of_table → OnErr r (row_at key of_table ≡ None) → OnErr r (IsNewAmong (heap_of_rows rows).facts stated)
+    → table_at (tables_of rows) table ≡ facts_of_rows fact content of_table → OnErr r (row_at key of_table ≡ None)
+      → OnErr r (IsNewAmong (heap_of_rows rows).facts stated)
 unseen_row (Ok answer) rows table key fact content of_table stated are at right facts none = tt
 unseen_row (Err e) rows table key fact content of_table stated are at right facts none =
     unseen_in_heap (Err e) rows table stated are (of_key table key stated at)
-    (ap (find (same_place stated)) facts ∙ find_rows rows.ids table fact content of_table key stated at right ∙ ap (option_map (λ row. fact key (content row))) none)
+    (ap (find (same_place stated)) facts ∙ find_rows rows.ids table fact content of_table key stated at right
+      ∙ ap (option_map (λ row. fact key (content row))) none)
 
 -- ---- the number of facts
 
-pub length_rows : {V : Type 0} (fact : ℕ → List ℕ → FactValue) (content : V → List ℕ) (rows : List (ℕ × V)) → length rows ≡ length (facts_of_rows fact content rows)
+pub length_rows : {V : Type 0} (fact : ℕ → List ℕ → FactValue) (content : V → List ℕ) (rows : List (ℕ × V))
+  → length rows ≡ length (facts_of_rows fact content rows)
 length_rows fact content [] = refl
 length_rows fact content (row ∷ rows) = ap suc (length_rows fact content rows)
 
@@ -210,7 +222,8 @@ table_length rows table n are e = e ∙ sym (ap length (table_facts rows table a
 pub trace_again : (ids : IdSize) (serial thread : ℕ) (frames : List ℕ) → Fits ids (Trace serial thread frames)
     → trace_fact ids serial (content_of ids (Trace serial thread frames)) ≡ Trace serial thread frames
 trace_again ids serial thread frames fits =
-    ap (Trace serial thread) (ids_again ids frames (field_bytes (id_widths ids (length frames)) frames) (record { fits = fits.0.rest; spelled = refl })).1
+    ap (Trace serial thread) (ids_again ids frames (field_bytes (id_widths ids (length frames)) frames)
+      (record { fits = fits.0.rest; spelled = refl })).1
 
 -- ---- classes and objects
 
@@ -230,7 +243,8 @@ sub_of_place (ObjArray id trace class elements) le = refl
 sub_of_place (PrimArray id trace elem bytes) le = refl
 
 pub sub_at_place : (fact : FactValue) (table key : ℕ) → place_of fact ≡ table ∷ key ∷ [] → 7 ≤ table → record_of fact ≡ None
-sub_at_place fact table key at le = let first : slice_index (place_of fact) 0 ≡ table = ap (λ (ns : List ℕ). slice_index ns 0) at in sub_of_place fact (omega arith)
+sub_at_place fact table key at le = let first : slice_index (place_of fact) 0 ≡ table =
+  ap (λ (ns : List ℕ). slice_index ns 0) at in sub_of_place fact (omega arith)
 
 -- their content is their spelling
 pub sub_content : (ids : IdSize) (fact : FactValue) → record_of fact ≡ None → content_of ids fact ≡ dump_bytes ids fact
@@ -260,12 +274,14 @@ spelled_read ids key fact bytes spells =
     ap read_fact (sub_again ids (exactly bytes) fact [] bytes spells.fits (spells.spelled ∙ sym (append-nil (dump_bytes ids fact)))
     (record { room = len; longest = len; there = len }))
 
-pub spelled_again : (ids : IdSize) (key : ℕ) (fact : FactValue) → record_of fact ≡ None → Fits ids fact → spelled_fact ids key (content_of ids fact) ≡ fact
+pub spelled_again : (ids : IdSize) (key : ℕ) (fact : FactValue) → record_of fact ≡ None → Fits ids fact
+  → spelled_fact ids key (content_of ids fact) ≡ fact
 spelled_again ids key fact e fits =
     ap (spelled_fact ids key) (sub_content ids fact e) ∙ spelled_read ids key fact (dump_bytes ids fact) (sub_spells ids fact e fits)
 
 -- what was stated of the spelling was stated of the content
-pub spelled_stated : {E : Type 0} (r : Result Stated E) (ids : IdSize) (key : ℕ) (fact : FactValue) (bytes : List ℕ) (old new : List (ℕ × List ℕ)) → record_of fact ≡ None
+pub spelled_stated : {E : Type 0} (r : Result Stated E) (ids : IdSize) (key : ℕ) (fact : FactValue) (bytes : List ℕ)
+  (old new : List (ℕ × List ℕ)) → record_of fact ≡ None
     → bytes ≡ dump_bytes ids fact → IfOk r (λ answer. States the_bytes old key bytes answer new)
     → IfOk r (λ answer. States the_bytes old key (content_of ids fact) answer new)
 spelled_stated r ids key fact bytes old new e spelled ok =
@@ -283,7 +299,8 @@ find_alike p q (first ∷ facts) same =
 pub look_up : (rows : HeapRows) (table number : ℕ) (key : Key) → AreHeap rows → place_of_key key ≡ table ∷ number ∷ []
     → find (has_key key) (joined (tables_of rows)) ≡ find (stands_at (table ∷ number ∷ [])) (table_at (tables_of rows) table)
 look_up rows table number key are at =
-    find_alike (has_key key) (stands_at (table ∷ number ∷ [])) (joined (tables_of rows)) (λ fact. has_key_at key (table ∷ number ∷ []) fact at)
+    find_alike (has_key key) (stands_at (table ∷ number ∷ [])) (joined (tables_of rows)) (λ fact.
+      has_key_at key (table ∷ number ∷ []) fact at)
     ∙ find_from (stands_at (table ∷ number ∷ [])) (tables_of rows) table 0 table
     (λ n fact of differ. false_from_ne_true (stands_at (table ∷ number ∷ []) fact) (λ yes.
     let same : table ∷ number ∷ [] ≡ n ∷ of.more = (bytes_eq-Decides (table ∷ number ∷ []) (place_of fact)).0 yes ∙ of.stands in
@@ -291,9 +308,11 @@ look_up rows table number key are at =
     (omega arith) (heap_tables rows are)
 
 -- and is that of the key's row
-pub look_up_row : {V : Type 0} (rows : HeapRows) (table number : ℕ) (key : Key) (fact : ℕ → List ℕ → FactValue) (content : V → List ℕ) (of_table : List (ℕ × V))
+pub look_up_row : {V : Type 0} (rows : HeapRows) (table number : ℕ) (key : Key) (fact : ℕ → List ℕ → FactValue) (content : V → List ℕ)
+  (of_table : List (ℕ × V))
     (any : FactValue) (found : Option V) → AreHeap rows → place_of_key key ≡ table ∷ number ∷ [] → place_of any ≡ table ∷ number ∷ []
-    → AreRight rows.ids table fact content of_table → table_at (tables_of rows) table ≡ facts_of_rows fact content of_table → row_at number of_table ≡ found
+    → AreRight rows.ids table fact content of_table → table_at (tables_of rows) table ≡ facts_of_rows fact content of_table
+      → row_at number of_table ≡ found
     → find (has_key key) (joined (tables_of rows)) ≡ option_map (λ row. fact number (content row)) found
 look_up_row rows table number key fact content of_table any found are at at_any right facts e =
     look_up rows table number key are at ∙ ap (find (stands_at (table ∷ number ∷ []))) facts
@@ -304,7 +323,8 @@ look_up_row rows table number key fact content of_table any found are at at_any 
 -- ---- rows that are found
 
 -- what is found among the facts of a heap fits
-pub found_fits : (rows : HeapRows) (p : FactValue → Bool) (fact : FactValue) → AreHeap rows → find p (joined (tables_of rows)) ≡ Some fact → Fits rows.ids fact
+pub found_fits : (rows : HeapRows) (p : FactValue → Bool) (fact : FactValue) → AreHeap rows → find p (joined (tables_of rows))
+  ≡ Some fact → Fits rows.ids fact
 found_fits rows p fact are e = are.heap.fit fact (find-Some p (joined (tables_of rows)) fact e).0
 
 -- the row of a class or an object spells its fact

@@ -1,5 +1,6 @@
 -- Joining one table of a heap with that of another.
-use Rattle.std.proofs.Common.{◌≡◌, ℕ, zero, suc, ◌+◌, ◌<◌, List, [], ◌∷◌, ◌++◌, length, Result, Ok, Err, refl, sym, ap, subst, ◌∙◌, append_assoc, inl, inr, arith}
+use Rattle.std.proofs.Common.{◌≡◌, ℕ, zero, suc, ◌+◌, ◌<◌, List, [], ◌∷◌, ◌++◌, length, Result, Ok, Err, refl, sym, ap, subst, ◌∙◌}
+use Rattle.std.proofs.Common.{append_assoc, inl, inr, arith}
 use Rattle.std.specs.Prelude.{IfOk, OnErr}
 use Rattle.std.specs.List.{AllByRecursion}
 use Rattle.hprof_values.specs.declared.ids.IdSize.{IdSize}
@@ -18,7 +19,8 @@ use Rattle.hprof_heap.specs.declared.heap.Heap.{Heap}
 use Rattle.hprof_heap.specs.declared.table.Table.{Table}
 use Rattle.hprof_heap.specs.declared.table.Table.TheVariants as tables
 use Rattle.hprof_heap.specs.Conflict.{IsConsistent}
-use Rattle.hprof_heap.specs.Content.{load_fact, unload_fact, frame_fact, trace_fact, start_fact, end_fact, spelled_fact, facts_of_rows, AreRight}
+use Rattle.hprof_heap.specs.Content.{load_fact, unload_fact, frame_fact, trace_fact, start_fact, end_fact, spelled_fact, facts_of_rows}
+use Rattle.hprof_heap.specs.Content.{AreRight}
 use Rattle.hprof_heap.specs.Facts.{Has, SameFacts}
 use Rattle.hprof_heap.specs.Heap.{facts_of_table, number_of_table, stands_in, rows_in, heap_of}
 use Rattle.hprof_heap.specs.HeapRows.{HeapRows, AreHeap, heap_of_rows, tables_of, no_content, root_facts}
@@ -30,8 +32,10 @@ use Rattle.hprof_heap.specs.RootSet.{IsUnionOfRoots, LacksRoot}
 use Rattle.hprof_heap.specs.Tables.{joined}
 use Rattle.hprof_heap.specs.TraceRow.{trace_content}
 use Rattle.hprof_heap.proofs.Conflicts.{IsConsistent-key}
-use Rattle.hprof_heap.proofs.FactSets.{Has-parts, Has-front, Has-back, All-has, All-from_has, SameFacts-refl, SameFacts-trans, SameFacts-append, SameFacts-turned}
-use Rattle.hprof_heap.proofs.HeapRows.{heap_tables, root_of_table, unseen_in_heap, unseen_row, table_facts, with_same, names_right, loads_right, unloads_right, frames_right, starts_right, ends_right}
+use Rattle.hprof_heap.proofs.FactSets.{Has-parts, Has-front, Has-back, All-has, All-from_has, SameFacts-refl, SameFacts-trans}
+use Rattle.hprof_heap.proofs.FactSets.{SameFacts-append, SameFacts-turned}
+use Rattle.hprof_heap.proofs.HeapRows.{heap_tables, root_of_table, unseen_in_heap, unseen_row, table_facts, with_same, names_right}
+use Rattle.hprof_heap.proofs.HeapRows.{loads_right, unloads_right, frames_right, starts_right, ends_right}
 use Rattle.hprof_heap.proofs.Order.{is_before-true}
 use Rattle.hprof_heap.proofs.Roots.{find_root, has_root, roots_kept}
 use Rattle.hprof_heap.proofs.RowFacts.{right_found}
@@ -177,7 +181,8 @@ module _ {rows others : HeapRows} (can : CanJoin rows others) where
   -- and one of all of its facts
   has_other : (table : Table) (fact : FactValue) → Has (its table) fact → Has (joined (tables_of others)) fact
   has_other table fact has =
-      subst (λ (some : HeapRows). Has (joined (tables_of some)) fact) is_sized (has_joined (tables_of sized) (number_of_table table) fact has)
+      subst (λ (some : HeapRows). Has (joined (tables_of some)) fact) is_sized
+        (has_joined (tables_of sized) (number_of_table table) fact has)
 
   agree_in : (table : Table) → AgreeAtPlaces (mine table) (its table)
   agree_in table one other has_mine has same =
@@ -275,7 +280,8 @@ module _ {rows others : HeapRows} (can : CanJoin rows others) where
         let has : Has (its table) stated =
         rw (its_is, from_contents rows.ids number fact content other) (has_stated rows.ids number fact its_rows lacks.0 lacks.1 lacks.2) in
         let at =
-        (right_found rows.ids number fact the_bytes its_rows lacks.0 lacks.1 (contents_right rows.ids number fact content other right_too) lacks.2).0 in
+        (right_found rows.ids number fact the_bytes its_rows lacks.0 lacks.1
+          (contents_right rows.ids number fact content other right_too) lacks.2).0 in
         let unseen = unseen_row (Err e) rows number lacks.0 fact the_bytes (contents_of content old) stated can.are at
         (contents_right rows.ids number fact content old right) (mine_is ∙ from_contents rows.ids number fact content old) lacks.3 in
         (stated, in_its table stated has, unseen.absent)
@@ -304,7 +310,8 @@ module _ {rows others : HeapRows} (can : CanJoin rows others) where
         → IfOk r (λ _. AreUnion (contents_of the_bytes old) (contents_of the_bytes other) (contents_of the_bytes new))
     bytes_union old other new ok = rw (bytes_again old, bytes_again other, bytes_again new) ok
 
-    bytes_lack : (old other : List (ℕ × List ℕ)) → OnErr r (LacksOne old other) → OnErr r (LacksOne (contents_of the_bytes old) (contents_of the_bytes other))
+    bytes_lack : (old other : List (ℕ × List ℕ)) → OnErr r (LacksOne old other)
+      → OnErr r (LacksOne (contents_of the_bytes old) (contents_of the_bytes other))
     bytes_lack old other lacks = rw (bytes_again old, bytes_again other) lacks
 
     pub names_joined : (new : List (ℕ × List ℕ)) → IfOk r (λ _. AreUnion rows.names others.names new) → OnErr r (new ≡ rows.names)
@@ -320,7 +327,8 @@ module _ {rows others : HeapRows} (can : CanJoin rows others) where
         }
 
     pub loads_joined : (new : List (ℕ × LoadRow))
-        → IfOk r (λ _. AreUnion (contents_of load_numbers rows.loads) (contents_of load_numbers others.loads) (contents_of load_numbers new))
+        → IfOk r (λ _. AreUnion (contents_of load_numbers rows.loads) (contents_of load_numbers others.loads)
+          (contents_of load_numbers new))
         → OnErr r (new ≡ rows.loads) → OnErr r (LacksOne (contents_of load_numbers rows.loads) (contents_of load_numbers others.loads))
         → AreJoined r tables.Loads (record rows { loads = new })
     loads_joined new ok err absent =
@@ -338,7 +346,8 @@ module _ {rows others : HeapRows} (can : CanJoin rows others) where
         → OnErr r (new ≡ rows.unloads) → OnErr r (LacksOne (contents_of no_content rows.unloads) (contents_of no_content others.unloads))
         → AreJoined r tables.Unloads (record rows { unloads = new })
     unloads_joined new ok err absent =
-        let table = rows_joined tables.Unloads unload_fact no_content rows.unloads others.unloads refl refl (unloads_right rows.ids rows.unloads)
+        let table = rows_joined tables.Unloads unload_fact no_content rows.unloads others.unloads refl refl
+          (unloads_right rows.ids rows.unloads)
         (unloads_right rows.ids others.unloads) r new ok err in
         record {
           takes = table.takes;
@@ -348,11 +357,13 @@ module _ {rows others : HeapRows} (can : CanJoin rows others) where
         }
 
     pub frames_joined : (new : List (ℕ × FrameRow))
-        → IfOk r (λ _. AreUnion (contents_of frame_numbers rows.frames) (contents_of frame_numbers others.frames) (contents_of frame_numbers new))
+        → IfOk r (λ _. AreUnion (contents_of frame_numbers rows.frames) (contents_of frame_numbers others.frames)
+          (contents_of frame_numbers new))
         → OnErr r (new ≡ rows.frames) → OnErr r (LacksOne (contents_of frame_numbers rows.frames) (contents_of frame_numbers others.frames))
         → AreJoined r tables.Frames (record rows { frames = new })
     frames_joined new ok err absent =
-        let table = rows_joined tables.Frames frame_fact frame_numbers rows.frames others.frames refl refl (frames_right rows.ids rows.frames)
+        let table = rows_joined tables.Frames frame_fact frame_numbers rows.frames others.frames refl refl
+          (frames_right rows.ids rows.frames)
         (frames_right rows.ids others.frames) r new ok err in
         record {
           takes = table.takes;
@@ -362,7 +373,8 @@ module _ {rows others : HeapRows} (can : CanJoin rows others) where
         }
 
     pub traces_joined : (new : List (ℕ × TraceRow))
-        → IfOk r (λ _. AreUnion (contents_of trace_content rows.traces) (contents_of trace_content others.traces) (contents_of trace_content new))
+        → IfOk r (λ _. AreUnion (contents_of trace_content rows.traces) (contents_of trace_content others.traces)
+          (contents_of trace_content new))
         → OnErr r (new ≡ rows.traces) → OnErr r (LacksOne (contents_of trace_content rows.traces) (contents_of trace_content others.traces))
         → AreJoined r tables.Traces (record rows { traces = new })
     traces_joined new ok err absent =
@@ -382,11 +394,13 @@ module _ {rows others : HeapRows} (can : CanJoin rows others) where
         }
 
     pub starts_joined : (new : List (ℕ × StartRow))
-        → IfOk r (λ _. AreUnion (contents_of start_numbers rows.starts) (contents_of start_numbers others.starts) (contents_of start_numbers new))
+        → IfOk r (λ _. AreUnion (contents_of start_numbers rows.starts) (contents_of start_numbers others.starts)
+          (contents_of start_numbers new))
         → OnErr r (new ≡ rows.starts) → OnErr r (LacksOne (contents_of start_numbers rows.starts) (contents_of start_numbers others.starts))
         → AreJoined r tables.Starts (record rows { starts = new })
     starts_joined new ok err absent =
-        let table = rows_joined tables.Starts start_fact start_numbers rows.starts others.starts refl refl (starts_right rows.ids rows.starts)
+        let table = rows_joined tables.Starts start_fact start_numbers rows.starts others.starts refl refl
+          (starts_right rows.ids rows.starts)
         (starts_right rows.ids others.starts) r new ok err in
         record {
           takes = table.takes;
@@ -412,7 +426,8 @@ module _ {rows others : HeapRows} (can : CanJoin rows others) where
     pub roots_joined : (new : List Root) → IfOk r (λ _. IsUnionOfRoots rows.roots others.roots new) → OnErr r (new ≡ rows.roots)
         → OnErr r (LacksRoot rows.roots others.roots) → AreJoined r tables.Roots (record rows { roots = new })
     roots_joined new ok err absent =
-        let table = joined_by r tables.Roots (root_facts new) (tried_roots r rows.roots others.roots new ok) (roots_kept r rows.roots new err) in
+        let table = joined_by r tables.Roots (root_facts new) (tried_roots r rows.roots others.roots new ok)
+          (roots_kept r rows.roots new err) in
         record {
           takes = table.takes;
           lacks = roots_lack r absent;
@@ -431,7 +446,8 @@ module _ {rows others : HeapRows} (can : CanJoin rows others) where
           are_heap = record {
             heap = table.is_heap;
             traces = can.are.traces;
-            classes = tried_union_right rows.ids 8 (spelled_fact rows.ids) the_bytes rows.classes others.classes can.are.classes sized_are.classes r new
+            classes = tried_union_right rows.ids 8 (spelled_fact rows.ids) the_bytes rows.classes others.classes can.are.classes
+              sized_are.classes r new
                 (bytes_union rows.classes others.classes new ok) err;
             objects = can.are.objects;
           };
@@ -450,7 +466,8 @@ module _ {rows others : HeapRows} (can : CanJoin rows others) where
             heap = table.is_heap;
             traces = can.are.traces;
             classes = can.are.classes;
-            objects = tried_union_right rows.ids 9 (spelled_fact rows.ids) the_bytes rows.objects others.objects can.are.objects sized_are.objects r new
+            objects = tried_union_right rows.ids 9 (spelled_fact rows.ids) the_bytes rows.objects others.objects can.are.objects
+              sized_are.objects r new
                 (bytes_union rows.objects others.objects new ok) err;
           };
         }

@@ -1,5 +1,6 @@
 -- What joining two heaps comes to.
-use Rattle.std.proofs.Common.{◌≡◌, ◌≢◌, ℕ, min, true, List, [], ◌∷◌, ◌++◌, find, Option, Some, None, Result, Ok, Err, refl, sym, ap, subst, ◌∙◌, append_assoc, ◌⊎◌, inl, inr, arith, le_refl, lt_of_le_of_lt}
+use Rattle.std.proofs.Common.{◌≡◌, ◌≢◌, ℕ, min, true, List, [], ◌∷◌, ◌++◌, find, Option, Some, None, Result, Ok, Err, refl, sym, ap, subst}
+use Rattle.std.proofs.Common.{◌∙◌, append_assoc, ◌⊎◌, inl, inr, arith, le_refl, lt_of_le_of_lt}
 use Rattle.std.proofs.Math.Nat.{min-le_left, min-eq_left, min_comm}
 use Rattle.std.proofs.lemmas.List.{append-nil}
 use Rattle.hprof_values.specs.declared.ids.IdSize.{IdSize}
@@ -19,7 +20,8 @@ use Rattle.hprof_heap.specs.HeapValue.{HeapValue, IsHeap}
 use Rattle.hprof_heap.specs.Join.{IsUnion, IsBetween, IsJoin}
 use Rattle.hprof_heap.proofs.Conflicts.{IsConsistent-same, IsConsistent-some, IsLeastConflict-same, one_least, no_conflict}
 use Rattle.hprof_heap.proofs.FactEquality.{one_or_two}
-use Rattle.hprof_heap.proofs.FactSets.{Has-parts, Has-front, Has-back, Has-both, SameFacts-refl, SameFacts-sym, SameFacts-trans, SameFacts-append, SameFacts-turned, SameFacts-twice}
+use Rattle.hprof_heap.proofs.FactSets.{Has-parts, Has-front, Has-back, Has-both, SameFacts-refl, SameFacts-sym, SameFacts-trans}
+use Rattle.hprof_heap.proofs.FactSets.{SameFacts-append, SameFacts-turned, SameFacts-twice}
 use Rattle.hprof_heap.proofs.Gathering.{Holds, holds_new, holds_same, holds_differs, holds_all, holds_least}
 use Rattle.hprof_heap.proofs.Inserting.{agreeing-order, find-Some, inserted, inserted-adds, states-sound}
 use Rattle.hprof_heap.proofs.Keys.{same_place, same_place-true, HaveOneKey-sym}

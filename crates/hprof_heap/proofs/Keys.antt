@@ -1,7 +1,9 @@
 -- The order of keys.
 use Rattle.std.specs.Prelude.{◌==◌, unwrap_or, if◌then◌else◌}
-use Rattle.std.proofs.Common.{◌≡◌, ℕ, zero, suc, ◌<◌, ◌≤◌, Bool, true, false, cond, List, [], ◌∷◌, Option, Some, None, refl, sym, ap, ◌∙◌, ◌⊎◌, inl, inr, arith}
-use Rattle.std.proofs.lemmas.Bool.{ltb-true, lt-ltb, eqb-true, eq-eqb, leb-true, le-leb, or_cases, and_parts, and_from, or_left, or_right, cases_order, cases_lt, both_ways}
+use Rattle.std.proofs.Common.{◌≡◌, ℕ, zero, suc, ◌<◌, ◌≤◌, Bool, true, false, cond, List, [], ◌∷◌, Option, Some, None, refl, sym, ap, ◌∙◌}
+use Rattle.std.proofs.Common.{◌⊎◌, inl, inr, arith}
+use Rattle.std.proofs.lemmas.Bool.{ltb-true, lt-ltb, eqb-true, eq-eqb, leb-true, le-leb, or_cases, and_parts, and_from, or_left, or_right}
+use Rattle.std.proofs.lemmas.Bool.{cases_order, cases_lt, both_ways}
 use Rattle.std.specs.Prelude.{bytes_eq}
 use Rattle.std.proofs.lemmas.Bool.Decides.{not_from_Decides}
 use Rattle.std.proofs.lemmas.Slice.Eq.{bytes_eq-Decides}
@@ -10,7 +12,8 @@ use Rattle.hprof_values.specs.declared.root.Root.TheVariants as roots
 use Rattle.hprof_values.specs.declared.sub_tag.SubTag.TheVariants as tags
 use Rattle.hprof_values.specs.Root.{tag_of_root, root_numbers}
 use Rattle.hprof_values.specs.SubTag.{code_of_tag, tag_of_code}
-use Rattle.hprof_items.specs.FactValue.{FactValue, Name, Load, Unload, Frame, Trace, Start, End, Rooted, Class, Instance, ObjArray, PrimArray}
+use Rattle.hprof_items.specs.FactValue.{FactValue, Name, Load, Unload, Frame, Trace, Start, End, Rooted, Class, Instance, ObjArray}
+use Rattle.hprof_items.specs.FactValue.{PrimArray}
 use Rattle.hprof_items.specs.SubRecord.{root_of}
 use Rattle.hprof_heap.specs.declared.key.Key.{Key}
 use Rattle.hprof_heap.specs.declared.key.Key.TheVariants as keys
@@ -47,7 +50,8 @@ key_le-refl key = true-key_le key key (inr (refl, omega arith))
 -- keys are in one order
 pub key_le-trans : (key other more : Key) → key_le key other ≡ true → key_le other more ≡ true → key_le key more ≡ true
 key_le-trans key other more a b =
-    true-key_le key more (IsUpTo-trans (rank_of key) (number_of key) (rank_of other) (number_of other) (rank_of more) (number_of more) (key_le-true key other a) (key_le-true other more b))
+    true-key_le key more (IsUpTo-trans (rank_of key) (number_of key) (rank_of other) (number_of other) (rank_of more) (number_of more)
+      (key_le-true key other a) (key_le-true other more b))
 
 -- of two keys one is no greater
 pub key_le-total : (key other : Key) → (key_le key other ≡ true) ⊎ (key_le other key ≡ true)
@@ -90,7 +94,8 @@ IsUpTo-both r n s m (inr a) (inr b) = (a.0, omega arith)
 -- two keys, each no greater than the other, are one
 pub key_le-antisym : (key other : Key) → key_le key other ≡ true → key_le other key ≡ true → key ≡ other
 key_le-antisym key other a b =
-    let same = IsUpTo-both (rank_of key) (number_of key) (rank_of other) (number_of other) (key_le-true key other a) (key_le-true other key b) in
+    let same = IsUpTo-both (rank_of key) (number_of key) (rank_of other) (number_of other) (key_le-true key other a)
+      (key_le-true other key b) in
     sym (key_is key) ∙ ap (λ (r : ℕ). key_at r (number_of key)) same.0 ∙ ap (λ (n : ℕ). key_at (rank_of other) n) same.1 ∙ key_is other
 
 -- the lesser of two keys is one of them, and no greater than either
@@ -137,7 +142,8 @@ key_place (Trace serial thread frames) key e = keyed_place _ (keys.Trace serial)
 key_place (Start thread object trace name group parent_group) key e = keyed_place _ (keys.Thread thread) key refl e
 key_place (End thread) key e = absurd cc
 key_place (Rooted root) key e = absurd cc
-key_place (Class id trace parent loader signers domain reserved1 reserved2 size constants statics fields) key e = keyed_place _ (keys.Class id) key refl e
+key_place (Class id trace parent loader signers domain reserved1 reserved2 size constants statics fields) key e =
+  keyed_place _ (keys.Class id) key refl e
 key_place (Instance id trace class bytes) key e = keyed_place _ (keys.Object id) key refl e
 key_place (ObjArray id trace class elements) key e = keyed_place _ (keys.Object id) key refl e
 key_place (PrimArray id trace elem bytes) key e = keyed_place _ (keys.Object id) key refl e
@@ -145,8 +151,10 @@ key_place (PrimArray id trace elem bytes) key e = keyed_place _ (keys.Object id)
 -- the key of the facts of that table with that number
 abbrev key_in : (table number : ℕ) → Option Key
 key_in table number =
-    if table == 0 then Some (keys.Name number) else (if table == 1 then Some (keys.Load number) else (if table == 3 then Some (keys.Frame number)
-    else (if table == 4 then Some (keys.Trace number) else (if table == 5 then Some (keys.Thread number) else (if table == 8 then Some (keys.Class number)
+    if table == 0 then Some (keys.Name number) else (if table == 1 then Some (keys.Load number) else
+      (if table == 3 then Some (keys.Frame number)
+    else (if table == 4 then Some (keys.Trace number) else (if table == 5 then Some (keys.Thread number) else
+      (if table == 8 then Some (keys.Class number)
     else (if table == 9 then Some (keys.Object number) else None))))))
 
 -- the key of the facts that stand at a place
@@ -190,7 +198,8 @@ root_is (roots.Unknown id) = refl
 unkeyed_at : List ℕ → FactValue
 unkeyed_at [] = Unload 0
 unkeyed_at (table ∷ []) = Unload 0
-unkeyed_at (table ∷ number ∷ more) = if table == 2 then Unload number else (if table == 6 then End number else Rooted (root_with number more))
+unkeyed_at (table ∷ number ∷ more) =
+  if table == 2 then Unload number else (if table == 6 then End number else Rooted (root_with number more))
 
 unkeyed_is : (fact : FactValue) → key_of fact ≡ None → fact ≡ unkeyed_at (place_of fact)
 unfolding unkeyed_at
@@ -212,7 +221,8 @@ abbrev pub same_place : FactValue → FactValue → Bool
 same_place fact other = bytes_eq (place_of fact) (place_of other)
 
 -- two facts at one place have one key, or are one
-one_place : (one other : FactValue) (key : Option Key) → key_of one ≡ key → place_of one ≡ place_of other → HaveOneKey one other ⊎ (one ≡ other)
+one_place : (one other : FactValue) (key : Option Key) → key_of one ≡ key → place_of one ≡ place_of other → HaveOneKey one other
+  ⊎ (one ≡ other)
 one_place one other None e same =
     let none : key_of other ≡ None = place_key other ∙ ap key_of_place (sym same) ∙ sym (place_key one) ∙ e in
     inr (unkeyed_is one e ∙ ap unkeyed_at same ∙ sym (unkeyed_is other none))

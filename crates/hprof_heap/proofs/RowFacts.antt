@@ -1,5 +1,6 @@
 -- The facts that the rows of a table state, for any content and any fact of a key and a content.
-use Rattle.std.proofs.Common.{◌≡◌, ◌≢◌, ℕ, Bool, true, false, cond, eqb, ltb, List, [], ◌∷◌, find, Option, Some, None, Result, Ok, Err, refl, sym, ap, subst, ◌∙◌, inl, inr, arith}
+use Rattle.std.proofs.Common.{◌≡◌, ◌≢◌, ℕ, Bool, true, false, cond, eqb, ltb, List, [], ◌∷◌, find, Option, Some, None, Result, Ok, Err}
+use Rattle.std.proofs.Common.{refl, sym, ap, subst, ◌∙◌, inl, inr, arith}
 use Rattle.std.specs.Prelude.{IfOk, OnErr, bytes_eq}
 use Rattle.std.specs.declared.cmp.Ordering.{Ordering}
 use Rattle.std.specs.declared.cmp.Ordering.TheVariants.{Less, Equal, Greater}
@@ -51,7 +52,8 @@ place_lt : (table key other : ℕ) → is_lt (slice_cmp nat_cmp (table ∷ key �
 place_lt table key other = rw (← nat_cmp_is table table Equal refl) (ap is_lt (then_nothing (nat_cmp key other)) ∙ lt_by key other)
 
 -- two facts of a table stand at one place where their keys are one
-pub same_place_by : (table : ℕ) (one other : FactValue) (key more : ℕ) → place_of one ≡ table ∷ key ∷ [] → place_of other ≡ table ∷ more ∷ []
+pub same_place_by : (table : ℕ) (one other : FactValue) (key more : ℕ) → place_of one ≡ table ∷ key ∷ []
+  → place_of other ≡ table ∷ more ∷ []
     → same_place one other ≡ eqb key more
 same_place_by table one other key more at at_too = rw (at, at_too) (place_eq table key more)
 
@@ -139,7 +141,8 @@ module _ {V : Type 0} (ids : IdSize) (table : ℕ) (fact : ℕ → List ℕ → 
   ]
 
   -- the row that is there is right
-  pub right_found : (rows : List (ℕ × V)) (key : ℕ) (row : V) → Right rows → row_at key rows ≡ Some row → IsRight ids table fact key (content row)
+  pub right_found : (rows : List (ℕ × V)) (key : ℕ) (row : V) → Right rows → row_at key rows ≡ Some row
+    → IsRight ids table fact key (content row)
   right_found [] key row right e = absurd cc
   right_found (first ∷ rows) key row right e = elim (cases_order key first.0) [
     | inl same ↦
@@ -197,13 +200,15 @@ module _ {V : Type 0} (ids : IdSize) (table : ℕ) (fact : ℕ → List ℕ → 
   rows_right old new key stated Differs of right s = rw s.0 right
 
   -- the same where memory may have been refused
-  pub rows_tried : {E : Type 0} (r : Result Stated E) (old new : List (ℕ × V)) (key : ℕ) (stated : FactValue) → IsOfTable key stated → Right old
+  pub rows_tried : {E : Type 0} (r : Result Stated E) (old new : List (ℕ × V)) (key : ℕ) (stated : FactValue) → IsOfTable key stated
+    → Right old
       → IfOk r (λ answer. States content old key (content_of ids stated) answer new)
       → IfOk r (λ answer. StatesAmong (facts old) stated answer (facts new))
   rows_tried (Ok answer) old new key stated of right ok = rows_state old new key stated answer of right ok
   rows_tried (Err e) old new key stated of right ok = tt
 
-  pub tried_right : {E : Type 0} (r : Result Stated E) (old new : List (ℕ × V)) (key : ℕ) (stated : FactValue) → IsOfTable key stated → Right old
+  pub tried_right : {E : Type 0} (r : Result Stated E) (old new : List (ℕ × V)) (key : ℕ) (stated : FactValue) → IsOfTable key stated
+    → Right old
       → IfOk r (λ answer. States content old key (content_of ids stated) answer new) → OnErr r (new ≡ old) → Right new
   tried_right (Ok answer) old new key stated of right ok err = rows_right old new key stated answer of right ok
   tried_right (Err e) old new key stated of right ok err = rw err right

@@ -4,7 +4,8 @@ use Rattle.std.specs.List.{AllByRecursion, filter}
 use Rattle.hprof_values.specs.declared.ids.IdSize.{IdSize}
 use Rattle.hprof_items.specs.FactValue.{FactValue}
 use Rattle.hprof_items.specs.Spelling.{Fits}
-use Rattle.hprof_heap.specs.Content.{facts_of_rows, load_fact, unload_fact, trace_fact, start_fact, end_fact, spelled_fact, IsRight, AreRight}
+use Rattle.hprof_heap.specs.Content.{facts_of_rows, load_fact, unload_fact, trace_fact, start_fact, end_fact, spelled_fact, IsRight}
+use Rattle.hprof_heap.specs.Content.{AreRight}
 use Rattle.hprof_tables.specs.Places.{the_bytes}
 use Rattle.hprof_heap.specs.Facts.{Has, AllFit}
 use Rattle.hprof_heap.specs.HeapRows.{HeapRows, AreHeap, tables_of, no_content}

@@ -1,5 +1,6 @@
 -- The facts of two tables as one: those of the rows of both, where facts at one place are the same.
-use Rattle.std.proofs.Common.{◌≡◌, ◌≢◌, ◌<◌, ◌⊎◌, ℕ, true, List, [], ◌∷◌, ◌++◌, map, Option, Some, None, Result, Ok, Err, refl, sym, ap, subst, ◌∙◌, inl, inr, arith}
+use Rattle.std.proofs.Common.{◌≡◌, ◌≢◌, ◌<◌, ◌⊎◌, ℕ, true, List, [], ◌∷◌, ◌++◌, map, Option, Some, None, Result, Ok, Err, refl, sym, ap}
+use Rattle.std.proofs.Common.{subst, ◌∙◌, inl, inr, arith}
 use Rattle.std.specs.Prelude.{IfOk, OnErr}
 use Rattle.std.specs.List.{AllByRecursion}
 use Rattle.std.specs.List.Sorted.{IsStrictlySortedBy}
@@ -47,7 +48,8 @@ module _ (ids : IdSize) (table : ℕ) (fact : ℕ → List ℕ → FactValue) wh
 
   -- ---- a row and its fact
 
-  pub has_stated : (rows : List (ℕ × List ℕ)) (key : ℕ) (content : List ℕ) → row_at key rows ≡ Some content → Has (stated rows) (fact key content)
+  pub has_stated : (rows : List (ℕ × List ℕ)) (key : ℕ) (content : List ℕ) → row_at key rows ≡ Some content
+    → Has (stated rows) (fact key content)
   has_stated [] key content e = absurd cc
   has_stated (row ∷ rows) key content e = elim (cases_order key row.0) [
     | inl here ↦
@@ -66,7 +68,8 @@ module _ (ids : IdSize) (table : ℕ) (fact : ℕ → List ℕ → FactValue) wh
     is_there : row_at key rows ≡ Some content
     states : of ≡ fact key content
 
-  above : (bound : ℕ) (rows : List (ℕ × List ℕ)) (key : ℕ) (content : List ℕ) → AllKeys (λ k. bound < k) rows → row_at key rows ≡ Some content → bound < key
+  above : (bound : ℕ) (rows : List (ℕ × List ℕ)) (key : ℕ) (content : List ℕ) → AllKeys (λ k. bound < k) rows
+    → row_at key rows ≡ Some content → bound < key
   above bound [] key content all e = absurd cc
   above bound (row ∷ rows) key content all e = elim (cases_order key row.0) [
     | inl here ↦ let lt : bound < row.0 = all.0 in omega arith
@@ -91,7 +94,8 @@ module _ (ids : IdSize) (table : ℕ) (fact : ℕ → List ℕ → FactValue) wh
   ascending_of (row ∷ rows) right ordered =
       ascending_cons row rows (keys rows right.1 ordered.0) (ascending_of rows right.1 ordered.1)
     where
-      keys : (those : List (ℕ × List ℕ)) → Right those → AllByRecursion (IsBefore (fact row.0 row.1)) (stated those) → AllKeys (λ key. row.0 < key) those
+      keys : (those : List (ℕ × List ℕ)) → Right those → AllByRecursion (IsBefore (fact row.0 row.1)) (stated those)
+        → AllKeys (λ key. row.0 < key) those
       keys [] those before = tt
       keys (one ∷ those) right_too before = (
         ltb-true row.0 one.0
@@ -101,9 +105,11 @@ module _ (ids : IdSize) (table : ℕ) (fact : ℕ → List ℕ → FactValue) wh
 
   pub ordered_of : (rows : List (ℕ × List ℕ)) → Right rows → IsAscending rows → IsCanonicalOrder (stated rows)
   ordered_of [] right up = tt
-  ordered_of (row ∷ rows) right up = (before rows right.1 (ascending_head row rows up), ordered_of rows right.1 (ascending_tail row rows up))
+  ordered_of (row ∷ rows) right up =
+    (before rows right.1 (ascending_head row rows up), ordered_of rows right.1 (ascending_tail row rows up))
     where
-      before : (those : List (ℕ × List ℕ)) → Right those → AllKeys (λ key. row.0 < key) those → AllByRecursion (IsBefore (fact row.0 row.1)) (stated those)
+      before : (those : List (ℕ × List ℕ)) → Right those → AllKeys (λ key. row.0 < key) those
+        → AllByRecursion (IsBefore (fact row.0 row.1)) (stated those)
       before [] those lt = tt
       before (one ∷ those) right_too lt = (
         is_before-true (fact row.0 row.1) (fact one.0 one.1)
@@ -121,7 +127,8 @@ module _ (ids : IdSize) (table : ℕ) (fact : ℕ → List ℕ → FactValue) wh
     from_old key content e = union.each key ∙ ap (λ (found : Option (List ℕ)). option_or found (row_at key other)) e
 
     -- a row of the new table is one of the first, or else of the other
-    of_both : (key : ℕ) (content : List ℕ) → row_at key new ≡ Some content → (row_at key old ≡ Some content) ⊎ (row_at key other ≡ Some content)
+    of_both : (key : ℕ) (content : List ℕ) → row_at key new ≡ Some content → (row_at key old ≡ Some content)
+      ⊎ (row_at key other ≡ Some content)
     of_both key content e = by_old (row_at key old) refl
       where
         by_old : (found : Option (List ℕ)) → row_at key old ≡ found → (row_at key old ≡ Some content) ⊎ (row_at key other ≡ Some content)
@@ -147,14 +154,17 @@ module _ (ids : IdSize) (table : ℕ) (fact : ℕ → List ℕ → FactValue) wh
             (agree (fact key mine) (fact key content) (has_stated old key mine is) (has_stated other key content e) (one_place mine is))
             (has_stated new key mine (from_old key mine is))
 
-    pub union_stated : IsAscending old → IsAscending other → AgreeAtPlaces (stated old) (stated other) → IsTableOfBoth (stated old) (stated other) (stated new)
+    pub union_stated : IsAscending old → IsAscending other → AgreeAtPlaces (stated old) (stated other)
+      → IsTableOfBoth (stated old) (stated other) (stated new)
     union_stated up up_too agree = record {
       same = λ of. (
         λ has.
             let row = stating new union.ascends of has in
             elim (of_both row.key row.content row.is_there) [
-              | inl e ↦ Has-front (stated old) (stated other) of (subst (Has (stated old)) (sym row.states) (has_stated old row.key row.content e))
-              | inr e ↦ Has-back (stated old) (stated other) of (subst (Has (stated other)) (sym row.states) (has_stated other row.key row.content e))
+              | inl e ↦ Has-front (stated old) (stated other) of (subst (Has (stated old)) (sym row.states)
+                (has_stated old row.key row.content e))
+              | inr e ↦ Has-back (stated old) (stated other) of (subst (Has (stated other)) (sym row.states)
+                (has_stated other row.key row.content e))
             ],
         λ has. elim (Has-parts (stated old) (stated other) of has) [
           | inl mine ↦
@@ -199,7 +209,8 @@ module _ {V : Type 0} (ids : IdSize) (table : ℕ) (fact : ℕ → List ℕ → 
         let second = contents_right other right_too in
         let e = from_contents ids table fact content old in
         let f = from_contents ids table fact content other in
-        rw (e, f, from_contents ids table fact content new) (union_stated ids table fact (contents_of content old) (contents_of content other)
+        rw (e, f, from_contents ids table fact content new) (union_stated ids table fact (contents_of content old)
+          (contents_of content other)
         (contents_of content new) first second union
         (ascending_of ids table fact (contents_of content old) first (subst IsCanonicalOrder e ordered))
         (ascending_of ids table fact (contents_of content other) second (subst IsCanonicalOrder f ordered_too))

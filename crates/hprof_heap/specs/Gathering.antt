@@ -1,5 +1,6 @@
 -- What a gatherer holds, and what headers and facts do to it.
-use Rattle.std.specs.Prelude.{◌≡◌, ◌≢◌, ◌||◌, Bool, true, false, not, min, List, [], ◌∷◌, ◌++◌, map, Option, Some, None, Result, Ok, Err, if◌then◌else◌}
+use Rattle.std.specs.Prelude.{◌≡◌, ◌≢◌, ◌||◌, Bool, true, false, not, min, List, [], ◌∷◌, ◌++◌, map, Option, Some, None, Result, Ok, Err}
+use Rattle.std.specs.Prelude.{if◌then◌else◌}
 use Rattle.std.specs.List.{AllByRecursion, flat_map}
 use Rattle.hprof_items.specs.declared.header.Header.{Header}
 use Rattle.hprof_values.specs.declared.ids.IdSize.{IdSize}
@@ -93,7 +94,8 @@ pub record IsNewAmong (facts : List FactValue) (fact : FactValue) : Type 0 where
 -- a fact was given that is new to the heap, while one size was begun
 abbrev pub LacksRow : Gathered → List FactValue → Type 0
 LacksRow gathered [] = ⊥
-LacksRow gathered (fact ∷ rest) = (gathered.two_sizes ≡ false) × ((heap : HeapValue) × (gathered.heap ≡ Some heap) × IsNewAmong heap.facts fact)
+LacksRow gathered (fact ∷ rest) = (gathered.two_sizes ≡ false) × ((heap : HeapValue) × (gathered.heap ≡ Some heap)
+  × IsNewAmong heap.facts fact)
 
 -- another fact than this one is there with its key
 pub record HasOther (facts : List FactValue) (fact : FactValue) : Type 0 where

@@ -10,7 +10,8 @@ use Rattle.hprof_heap.specs.declared.number_rows.FrameRow.{FrameRow}
 use Rattle.hprof_heap.specs.declared.number_rows.StartRow.{StartRow}
 use Rattle.hprof_heap.specs.declared.number_rows.KeyRow.{KeyRow}
 use Rattle.hprof_heap.specs.declared.trace_row.TraceRow.{TraceRow}
-use Rattle.hprof_heap.specs.Content.{load_fact, unload_fact, frame_fact, trace_fact, start_fact, end_fact, spelled_fact, facts_of_rows, IsRight, AreRight}
+use Rattle.hprof_heap.specs.Content.{load_fact, unload_fact, frame_fact, trace_fact, start_fact, end_fact, spelled_fact, facts_of_rows}
+use Rattle.hprof_heap.specs.Content.{IsRight, AreRight}
 use Rattle.hprof_tables.specs.Places.{the_bytes}
 use Rattle.hprof_heap.specs.HeapValue.{HeapValue, IsHeap, IsHeap-prop}
 use Rattle.hprof_heap.specs.NumberRows.{load_numbers, frame_numbers, start_numbers}
@@ -71,7 +72,8 @@ pub record HeapRows : Type 0 where
 abbrev pub tables_of : HeapRows → List (List FactValue)
 tables_of rows =
     name_facts rows.names ∷ load_facts rows.loads ∷ unload_facts rows.unloads ∷ frame_facts rows.frames ∷ trace_facts rows.ids rows.traces
-    ∷ start_facts rows.starts ∷ end_facts rows.ends ∷ root_facts rows.roots ∷ spelled_facts rows.ids rows.classes ∷ spelled_facts rows.ids rows.objects ∷ []
+    ∷ start_facts rows.starts ∷ end_facts rows.ends ∷ root_facts rows.roots ∷ spelled_facts rows.ids rows.classes ∷ spelled_facts
+      rows.ids rows.objects ∷ []
 
 -- the heap that the rows are: the facts of the tables, one after the other
 abbrev pub heap_of_rows : HeapRows → HeapValue
@@ -104,12 +106,15 @@ pub record HaveSameSubs (one other : HeapRows) : Type 0 where
 
 -- ---- it has at most one proof
 
-IsRight-prop : (ids : IdSize) (table : ℕ) (fact : ℕ → List ℕ → FactValue) (key : ℕ) (content : List ℕ) → IsProp (IsRight ids table fact key content)
+IsRight-prop : (ids : IdSize) (table : ℕ) (fact : ℕ → List ℕ → FactValue) (key : ℕ) (content : List ℕ)
+  → IsProp (IsRight ids table fact key content)
 IsRight-prop ids table fact key content = hlevel props
 
-AreRight-prop : {V : Type 0} (ids : IdSize) (table : ℕ) (fact : ℕ → List ℕ → FactValue) (content : V → List ℕ) (rows : List (ℕ × V)) → IsProp (AreRight ids table fact content rows)
+AreRight-prop : {V : Type 0} (ids : IdSize) (table : ℕ) (fact : ℕ → List ℕ → FactValue) (content : V → List ℕ) (rows : List (ℕ × V))
+  → IsProp (AreRight ids table fact content rows)
 AreRight-prop ids table fact content [] = Unit-prop
-AreRight-prop ids table fact content (row ∷ rows) = ×_prop (IsRight-prop ids table fact row.0 (content row.1)) (AreRight-prop ids table fact content rows)
+AreRight-prop ids table fact content (row ∷ rows) =
+  ×_prop (IsRight-prop ids table fact row.0 (content row.1)) (AreRight-prop ids table fact content rows)
 
 pub AreHeap-prop : (rows : HeapRows) → IsProp (AreHeap rows)
 AreHeap-prop rows = hlevel (IsHeap-prop, AreRight-prop)

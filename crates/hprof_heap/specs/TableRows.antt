@@ -12,7 +12,8 @@ use Rattle.hprof_heap.specs.declared.trace_row.TraceRow.{TraceRow}
 use Rattle.hprof_heap.specs.Content.{spelled_fact}
 use Rattle.hprof_tables.specs.Places.{the_bytes}
 use Rattle.hprof_heap.specs.Fitting.{DumpFits-prop}
-use Rattle.hprof_heap.specs.HeapRows.{name_facts, load_facts, unload_facts, frame_facts, trace_facts, start_facts, end_facts, root_facts, spelled_facts}
+use Rattle.hprof_heap.specs.HeapRows.{name_facts, load_facts, unload_facts, frame_facts, trace_facts, start_facts, end_facts, root_facts}
+use Rattle.hprof_heap.specs.HeapRows.{spelled_facts}
 use Rattle.hprof_tables.specs.Rows.{rows_left}
 use Rattle.hprof_tables.specs.BytesTable.{byte_rows_left}
 use Rattle.hprof_heap.specs.Spelled.{Spells}

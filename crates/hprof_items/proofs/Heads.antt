@@ -1,5 +1,6 @@
 -- A head that is read is the head that was written, and what was written is read again.
-use Rattle.std.proofs.Common.{◌≡◌, ℕ, ◌≤◌, inl, inr, Bool, true, false, cond, eqb, ltb, ◌||◌, List, ◌++◌, length, drop, Option, Some, refl, sym, ap, subst, ◌∙◌, arith, ◌∷◌, append_assoc}
+use Rattle.std.proofs.Common.{◌≡◌, ℕ, ◌≤◌, inl, inr, Bool, true, false, cond, eqb, ltb, ◌||◌, List, ◌++◌, length, drop, Option, Some, refl}
+use Rattle.std.proofs.Common.{sym, ap, subst, ◌∙◌, arith, ◌∷◌, append_assoc}
 use Rattle.std.proofs.lemmas.Bool.{cond-false, cond-true, le-ltb, eqb-true, or_cases}
 use Rattle.byteorder.specs.Endian.{big_bytes, big_number}
 use Rattle.byteorder.specs.Numbers.{big_from-lt, big_number-reads_back}
@@ -27,7 +28,8 @@ unfoldable pub fields : List ℕ → Head
 fields bytes = record { tag = slice_index bytes 0; time = big_number 4 (drop 1 bytes); length = big_number 4 (drop 5 bytes) }
 
 -- bytes with those fields at their places
-pub fields_found : (bytes : List ℕ) → IsBytes bytes → 9 ≤ length bytes → bytes ≡ head_bytes (fields bytes).tag (fields bytes).time (fields bytes).length ++ drop 9 bytes
+pub fields_found : (bytes : List ℕ) → IsBytes bytes → 9 ≤ length bytes → bytes ≡ head_bytes (fields bytes).tag (fields bytes).time
+  (fields bytes).length ++ drop 9 bytes
 unfolding fields
 fields_found bytes are long =
     let first : bytes ≡ slice_index bytes 0 ∷ drop 1 bytes = drop-cons bytes 0 0 (omega arith) in
@@ -36,7 +38,8 @@ fields_found bytes are long =
     first
     ∙ ap (λ (r : List ℕ). slice_index bytes 0 ∷ r) time
     ∙ ap (λ (r : List ℕ). slice_index bytes 0 ∷ (big_bytes 4 (big_number 4 (drop 1 bytes)) ++ r)) len
-    ∙ ap (λ (r : List ℕ). slice_index bytes 0 ∷ r) (sym (append_assoc (big_bytes 4 (big_number 4 (drop 1 bytes))) (big_bytes 4 (big_number 4 (drop 5 bytes))) (drop 9 bytes)))
+    ∙ ap (λ (r : List ℕ). slice_index bytes 0 ∷ r)
+      (sym (append_assoc (big_bytes 4 (big_number 4 (drop 1 bytes))) (big_bytes 4 (big_number 4 (drop 5 bytes))) (drop 9 bytes)))
 
 -- the tests that a head passed
 judged_found : (ids : IdSize) (longest : ℕ) (x head : Head) (n : ℕ) → judged_head ids longest x ≡ Whole head n
@@ -56,7 +59,8 @@ judged_again ids longest head right =
     ∙ cond-false (is_too_long longest head) TooLong (Whole head 9) right.taken
 
 -- what is read is spelled so, and right
-pub head_found : (ids : IdSize) (longest : ℕ) (bytes : List ℕ) (head : Head) (n : ℕ) → IsBytes bytes → head_at ids longest bytes ≡ Whole head n
+pub head_found : (ids : IdSize) (longest : ℕ) (bytes : List ℕ) (head : Head) (n : ℕ) → IsBytes bytes → head_at ids longest bytes
+  ≡ Whole head n
     → (bytes ≡ head_bytes head.tag head.time head.length ++ drop n bytes) × (n ≡ 9) × IsRightHead ids longest head
 unfolding head_at fields
 head_found ids longest bytes head n are e =
@@ -71,7 +75,8 @@ head_found ids longest bytes head n are e =
       taken = judged.1;
     } in
     subst (λ (x : Head). (bytes ≡ head_bytes x.tag x.time x.length ++ drop n bytes) × (n ≡ 9) × IsRightHead ids longest x) judged.2
-    (subst (λ (m : ℕ). (bytes ≡ head_bytes read.tag read.time read.length ++ drop m bytes) × (m ≡ 9) × IsRightHead ids longest read) judged.3
+    (subst (λ (m : ℕ). (bytes ≡ head_bytes read.tag read.time read.length ++ drop m bytes) × (m ≡ 9) × IsRightHead ids longest read)
+      judged.3
     (fields_found bytes are there.0, refl, right))
 
 -- what is spelled so and right is read, whatever follows
@@ -84,7 +89,8 @@ head_again ids longest head rest right =
     let long : 9 ≤ length bytes = omega arith in
     let time : big_number 4 (drop 1 bytes) ≡ head.time = big_number-reads_back 4 head.time (big_bytes 4 head.length ++ rest) right.time in
     let len : big_number 4 (drop 5 bytes) ≡ head.length = big_number-reads_back 4 head.length rest right.length in
-    cond-false (ltb (length bytes) 9) Short (judged_head ids longest (read (big_number 4 (drop 1 bytes)) (big_number 4 (drop 5 bytes)))) (le-ltb _ _ long)
+    cond-false (ltb (length bytes) 9) Short (judged_head ids longest (read (big_number 4 (drop 1 bytes)) (big_number 4 (drop 5 bytes))))
+      (le-ltb _ _ long)
     ∙ ap (λ (m : ℕ). judged_head ids longest (read m (big_number 4 (drop 5 bytes)))) time
     ∙ ap (λ (m : ℕ). judged_head ids longest (read head.time m)) len
     ∙ judged_again ids longest head right
@@ -112,7 +118,8 @@ by_code tag known e = (known, ap record_of_code (eqb-true tag (code_of_record kn
 named : (tag : ℕ) → is_fact_tag tag ≡ true → Named tag
 named tag =
     either _ _ (either _ _ (either _ _ (either _ _ (either _ _ (either _ _ (by_code tag tags.Utf8) (by_code tag tags.LoadClass))
-    (by_code tag tags.UnloadClass)) (by_code tag tags.Frame)) (by_code tag tags.Trace)) (by_code tag tags.StartThread)) (by_code tag tags.EndThread)
+    (by_code tag tags.UnloadClass)) (by_code tag tags.Frame)) (by_code tag tags.Trace)) (by_code tag tags.StartThread))
+      (by_code tag tags.EndThread)
 
 -- the head of such a record has the length of such a body
 pub fact_head : (ids : IdSize) (longest : ℕ) (head : Head) → IsRightHead ids longest head → kind_of head.tag ≡ FactRecord

@@ -1,5 +1,6 @@
 -- More bytes behind those that are there: what was read stays, and a test that did not want for bytes answers the same.
-use Rattle.std.proofs.Common.{◌≡◌, ℕ, zero, suc, ◌+◌, ◌≤◌, ◌⊎◌, inl, inr, List, [], ◌∷◌, ◌++◌, length, take, drop, Option, Some, None, Result, Ok, Err, refl, sym, ap, ◌∙◌, arith}
+use Rattle.std.proofs.Common.{◌≡◌, ℕ, zero, suc, ◌+◌, ◌≤◌, ◌⊎◌, inl, inr, List, [], ◌∷◌, ◌++◌, length, take, drop, Option, Some, None}
+use Rattle.std.proofs.Common.{Result, Ok, Err, refl, sym, ap, ◌∙◌, arith}
 use Rattle.std.proofs.lemmas.List.{drop-append-le, get_or-drop, length-drop, take-append-le}
 use Rattle.std.proofs.Math.ListN.{get_or-append}
 use Rattle.std.proofs.Math.Seq.{drop-drop}
@@ -15,7 +16,8 @@ use Rattle.hprof_values.specs.declared.stop.Stop.{Stop}
 use Rattle.hprof_values.specs.declared.stop.Stop.TheVariants.{Short}
 use Rattle.hprof_values.specs.Basic.{basic_of_code}
 use Rattle.hprof_values.specs.Fields.{fields_in, Bounds, ◌>>=◌, reached, IsWithin, with_more}
-use Rattle.hprof_values.specs.Entries.{lead_width, bits_width, entry_len, type_in, typed_entry, entry_in, entries_in, judged_type, entry_end, entries_end, list_in, list_end}
+use Rattle.hprof_values.specs.Entries.{lead_width, bits_width, entry_len, type_in, typed_entry, entry_in, entries_in, judged_type}
+use Rattle.hprof_values.specs.Entries.{entry_end, entries_end, list_in, list_end}
 use Rattle.hprof_values.proofs.FieldGroups.{sum_widths, then_ok, then_stop, then_more, reached_passed, reached_more}
 
 -- ---- what was read

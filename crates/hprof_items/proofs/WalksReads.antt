@@ -1,5 +1,6 @@
 -- More bytes behind a sub-record: no answer about it changes but the one that more are needed.
-use Rattle.std.proofs.Common.{◌≡◌, ℕ, ◌+◌, ◌*◌, ◌≤◌, Bool, true, false, cond, List, [], ◌∷◌, ◌++◌, length, drop, Result, Ok, Err, refl, ap, ◌∙◌, inl, inr, arith}
+use Rattle.std.proofs.Common.{◌≡◌, ℕ, ◌+◌, ◌*◌, ◌≤◌, Bool, true, false, cond, List, [], ◌∷◌, ◌++◌, length, drop, Result, Ok, Err, refl, ap}
+use Rattle.std.proofs.Common.{◌∙◌, inl, inr, arith}
 use Rattle.std.proofs.lemmas.Bool.{eqb-false, ne_eqb}
 use Rattle.std.specs.Prelude.{◌==◌, slice_index}
 use Rattle.hprof_values.specs.declared.ids.IdSize.{IdSize}
@@ -20,7 +21,8 @@ use Rattle.hprof_values.specs.Root.{root_fields}
 use Rattle.hprof_values.specs.SubTag.{tag_of_code}
 use Rattle.hprof_items.specs.FactValue.{FactValue, Rooted, Instance, ObjArray, PrimArray}
 use Rattle.hprof_items.specs.ClassDump.{class_widths, class_of, class_at}
-use Rattle.hprof_items.specs.SubRecord.{instance_widths, obj_array_widths, prim_array_widths, root_of, root_at, cut, instance_at, obj_array_at, element_type, prim_array_at, dump_at, judged_tag, sub_at, tag_at}
+use Rattle.hprof_items.specs.SubRecord.{instance_widths, obj_array_widths, prim_array_widths, root_of, root_at, cut, instance_at}
+use Rattle.hprof_items.specs.SubRecord.{obj_array_at, element_type, prim_array_at, dump_at, judged_tag, sub_at, tag_at}
 use Rattle.hprof_values.proofs.FieldGroups.{sum_widths, then_more, reached_passed, reached_more}
 use Rattle.hprof_items.proofs.WalksMore.{byte_more, fields_more_at, cut_more, IsSettled, then_more_at, list_more, list_in_more}
 

@@ -1,5 +1,6 @@
 -- What several writes, one after the other, do together.
-use Rattle.std.proofs.Common.{◌≡◌, ℕ, ◌+◌, ◌≤◌, List, [], ◌++◌, length, take, Option, Result, Ok, Err, refl, sym, ap, subst, ◌∙◌, append_assoc, append-nil, arith}
+use Rattle.std.proofs.Common.{◌≡◌, ℕ, ◌+◌, ◌≤◌, List, [], ◌++◌, length, take, Option, Result, Ok, Err, refl, sym, ap, subst, ◌∙◌}
+use Rattle.std.proofs.Common.{append_assoc, append-nil, arith}
 use Rattle.std.proofs.lemmas.List.{take-append-le, length-append, nil_from_length}
 use Rattle.std.proofs.Math.Seq.{take-append_seam, take-append-add}
 use Rattle.std.proofs.KnownBytes.{Appends-nil, Appends-trans, Appends-kept}
@@ -23,7 +24,8 @@ WritesFront-more old new a b w =
     (w.0, omega (arith, w.1, length-append a b), subst (Appends old new) (sym (take-append-le w.0 a b w.1)) w.2)
 
 -- all of the front, and then a part of what follows
-pub WritesFront-then : (old mid new : Option (List ℕ)) (a b : List ℕ) → Appends old mid a → WritesFront mid new b → WritesFront old new (a ++ b)
+pub WritesFront-then : (old mid new : Option (List ℕ)) (a b : List ℕ) → Appends old mid a → WritesFront mid new b
+  → WritesFront old new (a ++ b)
 WritesFront-then old mid new a b first w = (
   length a + w.0,
   omega (arith, w.1, length-append a b),
@@ -37,7 +39,8 @@ Writes-then old mid new x (Ok y) a b first second = Appends-trans old mid new a 
 Writes-then old mid new x (Err f) a b first second = WritesFront-then old mid new a b first second
 
 -- a write of a front that stopped, which is what `Writes` says at `Err`
-pub Writes-stops : {B : Type 0} (old new : Option (List ℕ)) (r : Result B WriteFault) (f : WriteFault) (a b : List ℕ) → r ≡ Err f → WritesFront old new a → Writes old new r (a ++ b)
+pub Writes-stops : {B : Type 0} (old new : Option (List ℕ)) (r : Result B WriteFault) (f : WriteFault) (a b : List ℕ) → r ≡ Err f
+  → WritesFront old new a → Writes old new r (a ++ b)
 Writes-stops old new (Ok y) f a b stop first = absurd cc
 Writes-stops old new (Err e) f a b stop first = WritesFront-more old new a b first
 
@@ -54,7 +57,8 @@ pub Pushed-none : (old : Option (List ℕ)) (all : List ℕ) → Pushed old old 
 Pushed-none old all = record { front = []; parts = refl; appended = Appends-nil old }
 
 -- a push of the piece that comes next
-pub Pushed-more : (old mid new : Option (List ℕ)) (all rest piece others : List ℕ) → Pushed old mid all rest → rest ≡ piece ++ others → Appends mid new piece → Pushed old new all others
+pub Pushed-more : (old mid new : Option (List ℕ)) (all rest piece others : List ℕ) → Pushed old mid all rest → rest ≡ piece ++ others
+  → Appends mid new piece → Pushed old new all others
 Pushed-more old mid new all rest piece others p split appends = record {
   front = p.front ++ piece;
   parts = p.parts ∙ ap (λ (r : List ℕ). p.front ++ r) split ∙ sym (append_assoc p.front piece others);
@@ -71,5 +75,6 @@ pub Pushed-stopped : (old mid new : Option (List ℕ)) (all rest : List ℕ) →
 Pushed-stopped old mid new all rest p kept = (
   length p.front,
   omega (arith, ap length p.parts, length-append p.front rest),
-  subst (Appends old new) (sym (ap (take (length p.front)) p.parts ∙ take-append_seam p.front rest)) (Appends-kept old mid new p.front p.appended kept),
+  subst (Appends old new) (sym (ap (take (length p.front)) p.parts ∙ take-append_seam p.front rest))
+    (Appends-kept old mid new p.front p.appended kept),
 )

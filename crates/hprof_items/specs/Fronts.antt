@@ -6,7 +6,8 @@ use Rattle.hprof_items.specs.declared.object_reading.ObjArrayFront.{ObjArrayFron
 use Rattle.hprof_items.specs.declared.object_reading.PrimArrayFront.{PrimArrayFront}
 
 abbrev pub class_front : ClassFront → List ℕ
-class_front front = front.id ∷ front.trace ∷ front.parent ∷ front.loader ∷ front.signers ∷ front.domain ∷ front.reserved1 ∷ front.reserved2 ∷ front.size ∷ []
+class_front front = front.id ∷ front.trace ∷ front.parent ∷ front.loader ∷ front.signers ∷ front.domain ∷ front.reserved1
+  ∷ front.reserved2 ∷ front.size ∷ []
 
 abbrev pub instance_front : InstanceFront → List ℕ
 instance_front front = front.id ∷ front.trace ∷ front.class ∷ front.len ∷ []

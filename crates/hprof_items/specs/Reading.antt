@@ -1,5 +1,6 @@
 -- Reading at the front of some bytes: what stands there, or else the first test that fails, from the left.
-use Rattle.std.specs.Prelude.{◌≡◌, ◌==◌, ◌&&◌, ℕ, ◌^◌, ◌<◌, Bool, true, false, nat_lt, List, length, take, drop, slice_index, Result, Err, Option, Some, None, bytes_eq, if◌then◌else◌}
+use Rattle.std.specs.Prelude.{◌≡◌, ◌==◌, ◌&&◌, ℕ, ◌^◌, ◌<◌, Bool, true, false, nat_lt, List, length, take, drop, slice_index, Result, Err}
+use Rattle.std.specs.Prelude.{Option, Some, None, bytes_eq, if◌then◌else◌}
 use Rattle.byteorder.specs.Endian.{big_number}
 use Rattle.hprof_values.specs.declared.ids.IdSize.{IdSize}
 use Rattle.hprof_values.specs.declared.ids.IdSize.TheVariants.{Four, Eight}
@@ -66,7 +67,8 @@ judged_head ids longest head =
 unfoldable pub head_at : IdSize → ℕ → List ℕ → Step Head
 head_at ids longest bytes =
     if nat_lt (length bytes) 9 then Short
-    else judged_head ids longest (record { tag = slice_index bytes 0; time = big_number 4 (drop 1 bytes); length = big_number 4 (drop 5 bytes) })
+    else judged_head ids longest (record { tag = slice_index bytes 0; time = big_number 4 (drop 1 bytes); length =
+      big_number 4 (drop 5 bytes) })
 
 -- a head that is read: its fields lie in their ranges, and no test fails
 pub record IsRightHead (ids : IdSize) (longest : ℕ) (head : Head) : Type 0 where

@@ -1,5 +1,6 @@
 -- What the lines of the report `check` are made of, and how far it was written.
-use Rattle.std.proofs.Common.{◌≡◌, ℕ, zero, ◌+◌, ◌<◌, false, List, [], ◌++◌, Option, Result, Err, length, get_or, drop, refl, sym, ap, subst, ◌∙◌, add-one, append_assoc, append-nil, codes, drop-cons}
+use Rattle.std.proofs.Common.{◌≡◌, ℕ, zero, ◌+◌, ◌<◌, false, List, [], ◌++◌, Option, Result, Err, length, get_or, drop, refl, sym, ap}
+use Rattle.std.proofs.Common.{subst, ◌∙◌, add-one, append_assoc, append-nil, codes, drop-cons}
 use Rattle.std.specs.Fmt.{decimal}
 use Rattle.std.specs.Io.KnownBytes.{Appends}
 use Rattle.std.specs.List.{flat_map}
@@ -73,7 +74,8 @@ pub check_after_parts : {B : Type 0} (parts : List PartSummary) (facts : List Fa
     → Writes mid new r (flat_map (table_line facts) all_tables ++ count_line (codes "bad names") bad)
     → Writes old new r (check_text parts facts bad)
 check_after_parts parts facts bad old mid new r appends rest =
-    subst (Writes old new r) (sym (append_assoc (part_lines 0 parts) (flat_map (table_line facts) all_tables) (count_line (codes "bad names") bad)))
+    subst (Writes old new r) (sym (append_assoc (part_lines 0 parts) (flat_map (table_line facts) all_tables)
+      (count_line (codes "bad names") bad)))
     (Writes-then old mid new zero r (part_lines 0 parts) (flat_map (table_line facts) all_tables ++ count_line (codes "bad names") bad)
     appends rest)
 
@@ -82,5 +84,7 @@ pub check_stops_at_parts : {B : Type 0} (parts : List PartSummary) (facts : List
     (r : Result B WriteFault) (f : WriteFault) → r ≡ Err f → WritesFront old new (part_lines 0 parts)
     → Writes old new r (check_text parts facts bad)
 check_stops_at_parts parts facts bad old new r f stop writes =
-    subst (Writes old new r) (sym (append_assoc (part_lines 0 parts) (flat_map (table_line facts) all_tables) (count_line (codes "bad names") bad)))
-    (Writes-stops old new r f (part_lines 0 parts) (flat_map (table_line facts) all_tables ++ count_line (codes "bad names") bad) stop writes)
+    subst (Writes old new r) (sym (append_assoc (part_lines 0 parts) (flat_map (table_line facts) all_tables)
+      (count_line (codes "bad names") bad)))
+    (Writes-stops old new r f (part_lines 0 parts) (flat_map (table_line facts) all_tables ++ count_line (codes "bad names") bad) stop
+      writes)

@@ -1,5 +1,6 @@
 -- Bytes are split into items in one way, so the fault with which they are refused is one.
-use Rattle.std.proofs.Common.{◌≡◌, inl, inr, ℕ, true, false, eqb, List, [], ◌++◌, length, Option, Some, refl, sym, ap, subst, ◌∙◌, append_assoc, arith}
+use Rattle.std.proofs.Common.{◌≡◌, inl, inr, ℕ, true, false, eqb, List, [], ◌++◌, length, Option, Some, refl, sym, ap, subst, ◌∙◌}
+use Rattle.std.proofs.Common.{append_assoc, arith}
 use Rattle.std.proofs.lemmas.Bool.{cases_Bool, eqb-true, both_ways, and_right}
 use Rattle.std.proofs.lemmas.List.{nil_from_length}
 use Rattle.hprof_values.specs.declared.reason.Reason.{Reason}
@@ -13,8 +14,10 @@ use Rattle.hprof_items.proofs.Steps.{whole_parts}
 use Rattle.hprof_stream.specs.declared.part_fault.PartFault.{PartFault}
 use Rattle.hprof_stream.specs.declared.part_fault.PartFault.TheVariants.{Malformed, ItemTooLong}
 use Rattle.hprof_stream.specs.Part.{Stated, all_bytes, all_facts}
-use Rattle.hprof_stream.specs.Item.{Place, Start, Between, Within, Found, header_before, may_end, AreItems, none, more, records_begun, begun_at, IsItem, item_at}
-use Rattle.hprof_stream.specs.Fault.{Splits, is_whole, fault_at, is_done, HasNoFault, IsFirstFault, is_lasting, is_settled, HasNoSettledFault, StatesSoFar}
+use Rattle.hprof_stream.specs.Item.{Place, Start, Between, Within, Found, header_before, may_end, AreItems, none, more, records_begun}
+use Rattle.hprof_stream.specs.Item.{begun_at, IsItem, item_at}
+use Rattle.hprof_stream.specs.Fault.{Splits, is_whole, fault_at, is_done, HasNoFault, IsFirstFault, is_lasting, is_settled}
+use Rattle.hprof_stream.specs.Fault.{HasNoSettledFault, StatesSoFar}
 use Rattle.hprof_stream.proofs.Items.{item_again}
 use Rattle.hprof_stream.proofs.Refusals.{item_none, item_lasting}
 use Rattle.hprof_stream.proofs.ItemLists.{AreItems-then, all_bytes-then}
@@ -78,7 +81,8 @@ pub states_once : (longest : ℕ) (bytes : List ℕ) (header other : Option Head
     → StatesSoFar longest bytes header facts → StatesSoFar longest bytes other others
     → (header ≡ other) × (facts ≡ others)
 states_once longest bytes header other facts others one two =
-    let once = splits_once longest bytes one.items two.items one.place two.place one.rest two.rest one.splits two.splits one.ends two.ends in
+    let once = splits_once longest bytes one.items two.items one.place two.place one.rest two.rest one.splits two.splits one.ends
+      two.ends in
     (sym one.has_header ∙ ap header_before once.1 ∙ two.has_header, sym one.has_facts ∙ ap all_facts once.0 ∙ two.has_facts)
 
 -- items from one place begin one number of records

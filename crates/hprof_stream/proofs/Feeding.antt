@@ -1,5 +1,6 @@
 -- What a reader has read once it went on over more bytes.
-use Rattle.std.proofs.Common.{◌≡◌, ◌⊎◌, ℕ, ◌+◌, ◌-◌, ◌<◌, ◌≤◌, min, Bool, true, false, cond, ◌||◌, List, [], ◌++◌, length, take, drop, Option, Some, None, Result, Ok, Err, inl, inr, refl, sym, ap, subst, ◌∙◌, append_assoc, arith}
+use Rattle.std.proofs.Common.{◌≡◌, ◌⊎◌, ℕ, ◌+◌, ◌-◌, ◌<◌, ◌≤◌, min, Bool, true, false, cond, ◌||◌, List, [], ◌++◌, length, take, drop}
+use Rattle.std.proofs.Common.{Option, Some, None, Result, Ok, Err, inl, inr, refl, sym, ap, subst, ◌∙◌, append_assoc, arith}
 use Rattle.std.proofs.Math.Seq.{take-append-add}
 use Rattle.std.proofs.lemmas.List.{length-append, length-take, length-drop, take_min, take_all}
 use Rattle.std.proofs.lemmas.List.Folds.{list_any-append}
@@ -21,7 +22,8 @@ use Rattle.hprof_stream.specs.declared.progress.Progress.{Progress}
 use Rattle.hprof_stream.specs.declared.rest.Rest.{Rest}
 use Rattle.hprof_stream.specs.declared.sink.SinkFault.{SinkFault}
 use Rattle.hprof_stream.specs.Part.{Stated, all_bytes, all_facts, is_end}
-use Rattle.hprof_stream.specs.Item.{Place, Start, Between, Within, header_before, IsItem, AreItems, none, records_begun, is_skipped_kind, is_skipped_head, held_of, item_at}
+use Rattle.hprof_stream.specs.Item.{Place, Start, Between, Within, header_before, IsItem, AreItems, none, records_begun, is_skipped_kind}
+use Rattle.hprof_stream.specs.Item.{is_skipped_head, held_of, item_at}
 use Rattle.hprof_stream.specs.Fault.{Splits, is_whole, IsFirstFault, HasNoSettledFault, is_settled}
 use Rattle.hprof_stream.specs.Progress.{start_of, place_of}
 use Rattle.hprof_stream.specs.Rest.{passing_by, passing_of, IsWalkOf, IsRest, passed_len, rest_len}
@@ -335,7 +337,8 @@ IsWithinItem-read limits bytes facts reader read some = (
 
 -- ---- what was refused
 
-module _ {S : Type 0} (begins : S → Header → S → Type 0) (steps : S → FactValue → S → Type 0) (refuses : S → List FactValue → SinkFault → Type 0)
+module _ {S : Type 0} (begins : S → Header → S → Type 0) (steps : S → FactValue → S → Type 0) (refuses : S → List FactValue → SinkFault
+  → Type 0)
     (failed : S → Bool) where
   -- what was refused stays so, whatever follows
   Stops-more : (progress : Progress) (bytes more : List ℕ) (old new : S) (fault : PartFault) (told : Option Header)
@@ -398,7 +401,8 @@ module _ {S : Type 0} (begins : S → Header → S → Type 0) (steps : S → Fa
       subst (λ (l : Limits). IsItem l.max_item (place_of at) stop.0 stop.1) walked.has_limits stop.3 in
       let ran = RanUpTo-walked begins steps limits whole facts before at rest old mid walked stop.0 stop.1 stop.2 told stays is stop.4
       stop.5 stop.6 in
-      let refused = subst (λ (b : List ℕ). (r : RanUpTo begins steps limits.max_item b facts before told old mid) × Refuses refuses failed mid r.whole.last.facts fault new)
+      let refused = subst (λ (b : List ℕ). (r : RanUpTo begins steps limits.max_item b facts before told old mid)
+        × Refuses refuses failed mid r.whole.last.facts fault new)
       taken (ran, stop.7) in
       (mid, refused.0, refused.1)
   IsFeedFault-stopped limits bytes whole facts before told at rest old mid new faults.OutOfMemory taken walked stays stop = absurd stop
@@ -497,7 +501,8 @@ CannotHold progress left result =
     × ((still : List ℕ) → (still ≡ []) ⊎ (left ≡ [])
     → 0 < length (held_of progress.limits.max_item (place_of progress) (still ++ left)))
 
-module _ {S : Type 0} (begins : S → Header → S → Type 0) (steps : S → FactValue → S → Type 0) (refuses : S → List FactValue → SinkFault → Type 0)
+module _ {S : Type 0} (begins : S → Header → S → Type 0) (steps : S → FactValue → S → Type 0) (refuses : S → List FactValue → SinkFault
+  → Type 0)
     (failed : S → Bool) (limits : Limits) (bytes piece taken left : List ℕ) (facts : List FactValue) (from to : PartReader) (at : Progress)
     (rest : Rest) (old new : S) (read : HasRead limits bytes facts from) (within : length (bytes ++ piece) ≤ limits.max_bytes)
     (all : taken ≡ piece) (reads : ReadsOn begins steps refuses failed from.progress read.unfinished taken old (Ok left) at rest new) where

@@ -1,5 +1,6 @@
 -- What a reading finds at the front of some bytes is the item that stands there, by what it is.
-use Rattle.std.proofs.Common.{◌≡◌, ℕ, ◌+◌, ◌-◌, ◌^◌, ◌<◌, ◌≤◌, true, List, [], ◌∷◌, ◌++◌, length, take, drop, Option, Some, Result, Ok, Err, refl, sym, ap, subst, ◌∙◌, append-nil, arith}
+use Rattle.std.proofs.Common.{◌≡◌, ℕ, ◌+◌, ◌-◌, ◌^◌, ◌<◌, ◌≤◌, true, List, [], ◌∷◌, ◌++◌, length, take, drop, Option, Some, Result, Ok, Err}
+use Rattle.std.proofs.Common.{refl, sym, ap, subst, ◌∙◌, append-nil, arith}
 use Rattle.std.proofs.lemmas.List.{take_at, length-append, length-take, length-drop}
 use Rattle.std.proofs.Math.Seq.{take-append-add}
 use Rattle.hprof_values.specs.declared.ids.IdSize.{IdSize}
@@ -31,7 +32,8 @@ use Rattle.hprof_items.proofs.RecordBodies.{record_found}
 use Rattle.hprof_items.proofs.Dumps.{sub_found}
 use Rattle.hprof_stream.specs.Record.{IsFactRecord, IsEndRecord, IsSubFact, IsSkippedRecord}
 use Rattle.hprof_stream.specs.Part.{Stated}
-use Rattle.hprof_stream.specs.Item.{Place, Start, Between, Within, place_in, Found, IsItem, is_header, is_fact, is_dump_end, is_dump, is_sub, is_skipped, found_header, found_fact, found_record, found_behind, found_sub}
+use Rattle.hprof_stream.specs.Item.{Place, Start, Between, Within, place_in, Found, IsItem, is_header, is_fact, is_dump_end, is_dump}
+use Rattle.hprof_stream.specs.Item.{is_sub, is_skipped, found_header, found_fact, found_record, found_behind, found_sub}
 use Rattle.hprof_stream.proofs.Tags.{code_is, dump_tag, end_tag, fact_taken, end_is_empty}
 use Rattle.hprof_stream.proofs.SubFacts.{sub_some, sub_fact, record_fact}
 use Rattle.hprof_stream.proofs.Lengths.{length-header}
@@ -103,7 +105,8 @@ same_found longest place bytes made found m n e k is =
 -- ---- items
 
 -- a header that was found is an item
-pub found_header_item : (longest : ℕ) (bytes : List ℕ) (found : Found) (n : ℕ) → IsBytes bytes → found_header (header_at bytes) ≡ Whole found n
+pub found_header_item : (longest : ℕ) (bytes : List ℕ) (found : Found) (n : ℕ) → IsBytes bytes → found_header (header_at bytes)
+  ≡ Whole found n
     → IsFound longest Start bytes found n
 found_header_item longest bytes found n are e =
     let step = header_step (header_at bytes) found n e in
@@ -150,7 +153,8 @@ found_fact_item longest header head bytes found n are kind right spelled e =
     let long = long_enough (length bytes) (9 + len) (found_fact header read (9 + len)) found n e in
     let step = fact_step header read (9 + len) found n long.1 in
     let tag = fact_head header.ids longest head right kind in
-    let states = fact_states header.ids head.tag head.time len tag.0 bytes step.0 are right.time right.length tag.1 tag.2 spelled long.0 step.1 in
+    let states = fact_states header.ids head.tag head.time len tag.0 bytes step.0 are right.time right.length tag.1 tag.2 spelled long.0
+      step.1 in
     let taken : len ≤ longest = fact_taken longest head kind right.taken in
     let fits : length (take (9 + len) bytes) ≤ 9 + longest = omega (arith, taken, length-take (9 + len) bytes) in
     same_found longest (Between header) bytes (record { next = Between header; facts = step.0 ∷ [] }) found (9 + len) n step.3 step.2
@@ -234,7 +238,8 @@ found_record_item longest header bytes found n are e =
     found_kind_item longest header (kind_of head.tag) head bytes found n are refl read.2 spelled step.3
 
 -- a sub-record that was found is an item
-pub found_sub_item : (longest : ℕ) (header : Header) (room : ℕ) (bytes : List ℕ) (found : Found) (n : ℕ) → IsBytes bytes → room ≤ longest_body
+pub found_sub_item : (longest : ℕ) (header : Header) (room : ℕ) (bytes : List ℕ) (found : Found) (n : ℕ) → IsBytes bytes
+  → room ≤ longest_body
     → found_sub header room (sub_at header.ids (bounds_within room longest bytes) bytes) ≡ Whole found n
     → IsFound longest (Within header room) bytes found n
 found_sub_item longest header room bytes found n are small e =

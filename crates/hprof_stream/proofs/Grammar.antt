@@ -1,6 +1,7 @@
 -- Items from the first byte on, up to where a part may end, are a header and records: the head of a heap dump and the
 -- sub-records behind it are one record.
-use Rattle.std.proofs.Common.{◌≡◌, ℕ, zero, suc, ◌+◌, ◌-◌, ◌^◌, ◌<◌, ◌≤◌, Bool, true, false, ◌||◌, List, [], ◌∷◌, ◌++◌, length, Option, Some, refl, sym, ap, subst, ◌∙◌, append_assoc, append-nil, arith}
+use Rattle.std.proofs.Common.{◌≡◌, ℕ, zero, suc, ◌+◌, ◌-◌, ◌^◌, ◌<◌, ◌≤◌, Bool, true, false, ◌||◌, List, [], ◌∷◌, ◌++◌, length, Option}
+use Rattle.std.proofs.Common.{Some, refl, sym, ap, subst, ◌∙◌, append_assoc, append-nil, arith}
 use Rattle.std.proofs.lemmas.List.{length-append}
 use Rattle.std.specs.Prelude.{◌==◌, slice_index}
 use Rattle.std.specs.List.{flat_map, list_any, AllByRecursion}
@@ -14,7 +15,8 @@ use Rattle.hprof_items.specs.SubRecord.{dump_bytes}
 use Rattle.hprof_items.proofs.WalksMore.{byte_more}
 use Rattle.hprof_stream.specs.Record.{IsSubFact, IsRecord, states, ends, dumps, skips}
 use Rattle.hprof_stream.specs.Part.{Stated, all_bytes, all_facts, is_end, IsWritten, IsPart}
-use Rattle.hprof_stream.specs.Item.{Place, Start, Between, Within, header_before, place_in, may_end, IsItem, is_header, is_fact, is_dump_end, is_dump, is_sub, is_skipped, AreItems, none, more, begun_at, records_begun}
+use Rattle.hprof_stream.specs.Item.{Place, Start, Between, Within, header_before, place_in, may_end, IsItem, is_header, is_fact}
+use Rattle.hprof_stream.specs.Item.{is_dump_end, is_dump, is_sub, is_skipped, AreItems, none, more, begun_at, records_begun}
 use Rattle.hprof_stream.specs.Fault.{HasNoFault}
 use Rattle.hprof_stream.proofs.SubFacts.{sub_no_end, sub_fits}
 use Rattle.hprof_stream.proofs.Lengths.{header_no_end}

@@ -7,7 +7,8 @@ use Rattle.hprof_items.specs.declared.header.Header.{Header}
 use Rattle.hprof_items.specs.RecordBody.{record_body}
 use Rattle.hprof_items.specs.Spelling.{longest_body}
 use Rattle.hprof_stream.specs.Part.{Stated, all_bytes, all_facts}
-use Rattle.hprof_stream.specs.Item.{Place, Start, Between, Within, HasRoom, header_before, place_in, place_behind, IsItem, is_header, is_fact, is_dump_end, is_dump, is_sub, is_skipped, AreItems, none, more, begun_at, records_begun}
+use Rattle.hprof_stream.specs.Item.{Place, Start, Between, Within, HasRoom, header_before, place_in, place_behind, IsItem, is_header}
+use Rattle.hprof_stream.specs.Item.{is_fact, is_dump_end, is_dump, is_sub, is_skipped, AreItems, none, more, begun_at, records_begun}
 use Rattle.hprof_stream.proofs.Lengths.{length-header, length-record}
 use Rattle.hprof_stream.proofs.SubFacts.{sub_some, sub_fits}
 

@@ -1,6 +1,7 @@
 -- What a reading finds at the front of some bytes is the item that stands there, and the item that stands there is
 -- found.
-use Rattle.std.proofs.Common.{◌≡◌, ℕ, ◌+◌, ◌^◌, ◌<◌, ◌≤◌, true, ltb, List, [], ◌∷◌, ◌++◌, length, take, drop, Option, Result, refl, sym, ap, ◌∙◌, append_assoc, append-nil, arith}
+use Rattle.std.proofs.Common.{◌≡◌, ℕ, ◌+◌, ◌^◌, ◌<◌, ◌≤◌, true, ltb, List, [], ◌∷◌, ◌++◌, length, take, drop, Option, Result, refl, sym, ap}
+use Rattle.std.proofs.Common.{◌∙◌, append_assoc, append-nil, arith}
 use Rattle.std.proofs.lemmas.Bool.{cond-false, le-ltb}
 use Rattle.std.proofs.lemmas.List.{take_at, length-append}
 use Rattle.hprof_values.specs.declared.ids.IdSize.{IdSize}
@@ -29,8 +30,10 @@ use Rattle.hprof_items.proofs.RecordBodies.{record_again, record_code_again}
 use Rattle.hprof_items.proofs.Dumps.{sub_again}
 use Rattle.hprof_stream.specs.Record.{IsSubFact}
 use Rattle.hprof_stream.specs.Part.{Stated}
-use Rattle.hprof_stream.specs.Item.{Place, Start, Between, Within, HasRoom, place_in, Found, IsItem, is_header, is_fact, is_dump_end, is_dump, is_sub, is_skipped, found_header, found_fact, found_record, found_behind, found_sub, item_at}
-use Rattle.hprof_stream.proofs.Tags.{kind_of_fact, dump_kind, dump_is_no_fact, dump_is_no_end, skipped_is_no_fact, skipped_is_no_end, body_legal, fact_head_right, other_head_right, any_legal}
+use Rattle.hprof_stream.specs.Item.{Place, Start, Between, Within, HasRoom, place_in, Found, IsItem, is_header, is_fact, is_dump_end}
+use Rattle.hprof_stream.specs.Item.{is_dump, is_sub, is_skipped, found_header, found_fact, found_record, found_behind, found_sub, item_at}
+use Rattle.hprof_stream.proofs.Tags.{kind_of_fact, dump_kind, dump_is_no_fact, dump_is_no_end, skipped_is_no_fact, skipped_is_no_end}
+use Rattle.hprof_stream.proofs.Tags.{body_legal, fact_head_right, other_head_right, any_legal}
 use Rattle.hprof_stream.proofs.SubFacts.{sub_fits, record_fits}
 use Rattle.hprof_stream.proofs.Lengths.{length-header, length-record}
 use Rattle.hprof_stream.proofs.FoundItems.{behind_sub, found_header_item, found_record_item, found_sub_item}

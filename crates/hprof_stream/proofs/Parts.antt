@@ -1,5 +1,6 @@
 -- A part's header and records are items, when every length is taken, so a part has no fault, and states one thing.
-use Rattle.std.proofs.Common.{◌≡◌, ℕ, zero, suc, ◌+◌, ◌-◌, ◌<◌, ◌≤◌, List, [], ◌∷◌, ◌++◌, length, Some, refl, sym, ap, subst, ◌∙◌, append-nil, arith}
+use Rattle.std.proofs.Common.{◌≡◌, ℕ, zero, suc, ◌+◌, ◌-◌, ◌<◌, ◌≤◌, List, [], ◌∷◌, ◌++◌, length, Some, refl, sym, ap, subst, ◌∙◌}
+use Rattle.std.proofs.Common.{append-nil, arith}
 use Rattle.std.proofs.lemmas.List.{length-append}
 use Rattle.std.specs.List.{flat_map, AllByRecursion}
 use Rattle.hprof_values.specs.declared.ids.IdSize.{IdSize}
@@ -13,7 +14,8 @@ use Rattle.hprof_items.specs.Spelling.{longest_body}
 use Rattle.hprof_items.specs.SubRecord.{dump_bytes}
 use Rattle.hprof_stream.specs.Record.{IsFactRecord, IsDumpRecord, IsSubFact, IsRecord, states, ends, dumps, skips}
 use Rattle.hprof_stream.specs.Part.{Stated, all_bytes, all_facts, IsWritten, IsPart}
-use Rattle.hprof_stream.specs.Item.{Place, Start, Between, Within, header_before, place_in, IsItem, is_header, is_fact, is_dump_end, is_dump, is_sub, is_skipped, AreItems, none, more, begun_at, records_begun}
+use Rattle.hprof_stream.specs.Item.{Place, Start, Between, Within, header_before, place_in, IsItem, is_header, is_fact, is_dump_end}
+use Rattle.hprof_stream.specs.Item.{is_dump, is_sub, is_skipped, AreItems, none, more, begun_at, records_begun}
 use Rattle.hprof_stream.specs.Fault.{HasNoFault}
 use Rattle.hprof_stream.proofs.Lengths.{length-record}
 use Rattle.hprof_stream.proofs.ItemLists.{AreItems-then, all_bytes-then, all_facts-then, records_begun-then}

@@ -1,5 +1,6 @@
 -- What is found or refused stays so, whatever bytes follow, and what is short of bytes is short itself.
-use Rattle.std.proofs.Common.{◌≡◌, ℕ, ◌+◌, ◌<◌, ◌≤◌, max, true, false, cond, ltb, List, [], ◌++◌, length, take, drop, slice_index, Option, Some, None, Result, Ok, Err, refl, inl, inr, sym, ap, subst, ◌∙◌, arith}
+use Rattle.std.proofs.Common.{◌≡◌, ℕ, ◌+◌, ◌<◌, ◌≤◌, max, true, false, cond, ltb, List, [], ◌++◌, length, take, drop, slice_index, Option}
+use Rattle.std.proofs.Common.{Some, None, Result, Ok, Err, refl, inl, inr, sym, ap, subst, ◌∙◌, arith}
 use Rattle.std.proofs.lemmas.Bool.{cond-false, cond_both, le-ltb, ltb-false, ltb-true}
 use Rattle.std.proofs.lemmas.List.{take-append-le, drop-append-le, length-append, length-drop}
 use Rattle.hprof_values.specs.declared.ids.IdSize.{IdSize}
@@ -20,14 +21,16 @@ use Rattle.hprof_items.specs.declared.step.Step.{Step}
 use Rattle.hprof_items.specs.declared.step.Step.TheVariants.{Whole, Short, TooLong, Fault}
 use Rattle.hprof_items.specs.FactValue.{FactValue}
 use Rattle.hprof_items.specs.Head.{kind_of}
-use Rattle.hprof_items.specs.Reading.{version_of, ids_of, timed_header, sized_header, header_at, judged_head, head_at, body_as, body_at, is_legal, is_too_long}
+use Rattle.hprof_items.specs.Reading.{version_of, ids_of, timed_header, sized_header, header_at, judged_head, head_at, body_as, body_at}
+use Rattle.hprof_items.specs.Reading.{is_legal, is_too_long}
 use Rattle.hprof_items.specs.RecordBody.{record_at}
 use Rattle.hprof_items.specs.SubReading.{bounds_within}
 use Rattle.hprof_items.specs.SubRecord.{sub_at}
 use Rattle.hprof_items.proofs.Steps.{went_on}
 use Rattle.hprof_items.proofs.WalksMore.{byte_more, number_more, IsSettled}
 use Rattle.hprof_items.proofs.WalksReads.{sub_more}
-use Rattle.hprof_stream.specs.Item.{Place, Start, Between, Within, Found, found_header, found_fact, found_record, found_behind, found_sub, item_at, is_skipped_kind, is_skipped_head, held_of}
+use Rattle.hprof_stream.specs.Item.{Place, Start, Between, Within, Found, found_header, found_fact, found_record, found_behind, found_sub}
+use Rattle.hprof_stream.specs.Item.{item_at, is_skipped_kind, is_skipped_head, held_of}
 use Rattle.hprof_stream.specs.Fault.{is_lasting}
 use Rattle.hprof_stream.proofs.Stops.{number, StopsIn, sub_stops}
 use Rattle.hprof_stream.proofs.Tags.{fact_taken}

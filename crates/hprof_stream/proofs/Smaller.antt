@@ -1,5 +1,6 @@
 -- A smaller limit changes the answer only to an item that is too long.
-use Rattle.std.proofs.Common.{◌≡◌, ◌⊎◌, inl, inr, ℕ, ◌+◌, ◌-◌, ◌≤◌, false, List, [], ◌∷◌, ◌++◌, length, drop, take, Result, Ok, Err, Some, refl, sym, ap, ◌∙◌, append_assoc, arith}
+use Rattle.std.proofs.Common.{◌≡◌, ◌⊎◌, inl, inr, ℕ, ◌+◌, ◌-◌, ◌≤◌, false, List, [], ◌∷◌, ◌++◌, length, drop, take, Result, Ok, Err, Some}
+use Rattle.std.proofs.Common.{refl, sym, ap, ◌∙◌, append_assoc, arith}
 use Rattle.std.proofs.lemmas.Bool.{cases_lt}
 use Rattle.std.proofs.lemmas.List.{length-append}
 use Rattle.hprof_items.specs.declared.header.Header.{Header}
@@ -22,7 +23,8 @@ use Rattle.hprof_stream.specs.declared.part_fault.PartFault.{PartFault}
 use Rattle.hprof_stream.specs.declared.part_fault.PartFault.TheVariants.{Malformed, ItemTooLong}
 use Rattle.hprof_stream.specs.Record.{IsFactRecord, IsSubFact}
 use Rattle.hprof_stream.specs.Part.{Stated, all_bytes}
-use Rattle.hprof_stream.specs.Item.{Place, Start, Between, Within, place_in, Found, IsItem, is_header, is_fact, is_dump_end, is_dump, is_sub, is_skipped, AreItems, none, more, found_behind, found_record, found_fact, found_sub, item_at}
+use Rattle.hprof_stream.specs.Item.{Place, Start, Between, Within, place_in, Found, IsItem, is_header, is_fact, is_dump_end, is_dump}
+use Rattle.hprof_stream.specs.Item.{is_sub, is_skipped, AreItems, none, more, found_behind, found_record, found_fact, found_sub, item_at}
 use Rattle.hprof_stream.specs.Fault.{Splits, fault_at, HasNoFault, IsFirstFault}
 use Rattle.hprof_stream.proofs.FoundItems.{sub_step}
 use Rattle.hprof_stream.proofs.Items.{item_again}

@@ -1,5 +1,6 @@
 -- Reading a part from a source: what the reader was fed so far, and what that comes to.
-use Rattle.std.proofs.Common.{◌≡◌, ℕ, Bool, true, false, ◌+◌, ◌<◌, List, [], ◌++◌, length, take, Option, Some, None, Result, Ok, Err, inl, inr, refl, sym, ap, subst, ◌∙◌, append-nil, arith}
+use Rattle.std.proofs.Common.{◌≡◌, ℕ, Bool, true, false, ◌+◌, ◌<◌, List, [], ◌++◌, length, take, Option, Some, None, Result, Ok, Err, inl}
+use Rattle.std.proofs.Common.{inr, refl, sym, ap, subst, ◌∙◌, append-nil, arith}
 use Rattle.std.proofs.KnownBytes.{Consumes-nil, Consumes-trans}
 use Rattle.std.proofs.lemmas.List.{length-append, nil_from_length}
 use Rattle.std.specs.Io.KnownBytes.{Consumes, IsAtEnd}
@@ -20,7 +21,8 @@ use Rattle.hprof_stream.specs.Fault.{is_whole, is_settled, IsFirstFault, StatesS
 use Rattle.hprof_stream.specs.Progress.{place_of}
 use Rattle.hprof_stream.specs.Run.{Run}
 use Rattle.hprof_stream.specs.Feeding.{FeedsAll}
-use Rattle.hprof_stream.specs.Reader.{header_of, HasRead, RanOver, RanUpTo, IsFeedFault, Feeds, Finishes, IsPull, Pulled, none, once_more, PulledOut, CameLast, IsJudged, RefusesAtLast, ReadsPart}
+use Rattle.hprof_stream.specs.Reader.{header_of, HasRead, RanOver, RanUpTo, IsFeedFault, Feeds, Finishes, IsPull, Pulled, none, once_more}
+use Rattle.hprof_stream.specs.Reader.{PulledOut, CameLast, IsJudged, RefusesAtLast, ReadsPart}
 use Rattle.hprof_stream.proofs.Runs.{Run-then}
 use Rattle.hprof_stream.proofs.Faults.{short_unsettled}
 use Rattle.hprof_stream.proofs.ItemLists.{items_headers, items_size, header_at_place, header_behind}
@@ -106,7 +108,8 @@ module _ {S : Type 0} (begins : S → Header → S → Type 0) (steps : S → Fa
     ran = ran;
   }
 
-module _ {S : Type 0} (begins : S → Header → S → Type 0) (steps : S → FactValue → S → Type 0) (refuses : S → List FactValue → SinkFault → Type 0)
+module _ {S : Type 0} (begins : S → Header → S → Type 0) (steps : S → FactValue → S → Type 0) (refuses : S → List FactValue → SinkFault
+  → Type 0)
     (failed : S → Bool) where
   -- a fault of feeding, from where reading began
   pub IsFeedFault-from : (limits : Limits) (bytes : List ℕ) (facts : List FactValue) (before after : Option Header) (old mid new : S)

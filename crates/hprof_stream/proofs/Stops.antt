@@ -1,5 +1,6 @@
 -- What the tests of a sub-record stop with: more bytes are wanted only of an item that may be longer, and a fault lasts.
-use Rattle.std.proofs.Common.{◌≡◌, ℕ, zero, suc, ◌+◌, ◌*◌, ◌≤◌, true, cond, ltb, List, [], ◌∷◌, drop, Option, Some, None, Result, Ok, Err, refl, arith}
+use Rattle.std.proofs.Common.{◌≡◌, ℕ, zero, suc, ◌+◌, ◌*◌, ◌≤◌, true, cond, ltb, List, [], ◌∷◌, drop, Option, Some, None, Result, Ok, Err}
+use Rattle.std.proofs.Common.{refl, arith}
 use Rattle.std.proofs.lemmas.Bool.{cond_both, ltb-false, ltb-true, eqb-true}
 use Rattle.std.specs.Prelude.{◌==◌, slice_index}
 use Rattle.hprof_values.specs.declared.ids.IdSize.{IdSize}
@@ -20,7 +21,8 @@ use Rattle.hprof_values.specs.Root.{root_fields}
 use Rattle.hprof_values.specs.SubTag.{tag_of_code}
 use Rattle.hprof_items.specs.ClassDump.{class_widths, class_of, class_at}
 use Rattle.hprof_items.specs.FactValue.{FactValue, Rooted, Instance, ObjArray, PrimArray}
-use Rattle.hprof_items.specs.SubRecord.{instance_widths, obj_array_widths, prim_array_widths, root_of, root_at, cut, instance_at, obj_array_at, element_type, prim_array_at, dump_at, judged_tag, sub_at}
+use Rattle.hprof_items.specs.SubRecord.{instance_widths, obj_array_widths, prim_array_widths, root_of, root_at, cut, instance_at}
+use Rattle.hprof_items.specs.SubRecord.{obj_array_at, element_type, prim_array_at, dump_at, judged_tag, sub_at}
 use Rattle.hprof_values.specs.Lists.{ids_in}
 use Rattle.hprof_stream.specs.Fault.{is_lasting}
 

@@ -19,7 +19,8 @@ use Rattle.hprof_values.specs.SubTag.{tag_of_code}
 use Rattle.hprof_values.proofs.FieldGroups.{sum_widths, then_ok, reached_passed}
 use Rattle.hprof_items.specs.ClassDump.{class_widths, class_of, class_at}
 use Rattle.hprof_items.specs.FactValue.{FactValue, Rooted, Instance, ObjArray, PrimArray}
-use Rattle.hprof_items.specs.SubRecord.{instance_widths, obj_array_widths, prim_array_widths, root_of, root_at, cut, instance_at, obj_array_at, element_type, prim_array_at, dump_at, judged_tag, sub_at}
+use Rattle.hprof_items.specs.SubRecord.{instance_widths, obj_array_widths, prim_array_widths, root_of, root_at, cut, instance_at}
+use Rattle.hprof_items.specs.SubRecord.{obj_array_at, element_type, prim_array_at, dump_at, judged_tag, sub_at}
 use Rattle.hprof_items.proofs.SubRecords.{answer_parts}
 use Rattle.hprof_items.proofs.WalksMore.{entry_lies}
 use Rattle.hprof_stream.proofs.Stops.{number}

@@ -6,7 +6,8 @@ use Rattle.hprof_values.specs.declared.root.Root.{Root}
 use Rattle.hprof_values.specs.declared.root.Root.TheVariants as roots
 use Rattle.hprof_values.specs.Root.{root_bytes}
 use Rattle.hprof_values.specs.declared.record_tag.RecordTag.{RecordTag}
-use Rattle.hprof_items.specs.FactValue.{FactValue, Name, Load, Unload, Frame, Trace, Start, End, Rooted, Class, Instance, ObjArray, PrimArray}
+use Rattle.hprof_items.specs.FactValue.{FactValue, Name, Load, Unload, Frame, Trace, Start, End, Rooted, Class, Instance, ObjArray}
+use Rattle.hprof_items.specs.FactValue.{PrimArray}
 use Rattle.hprof_items.specs.RecordBody.{record_of, record_body, BodyFits}
 use Rattle.hprof_items.specs.Spelling.{Fits, FitsAs, longest_body}
 use Rattle.hprof_items.specs.SubRecord.{dump_bytes, DumpFits}

@@ -1,5 +1,6 @@
 -- What a reader of a part has read, and what reading on does.
-use Rattle.std.specs.Prelude.{◌≡◌, ◌⊎◌, ℕ, ◌+◌, ◌-◌, ◌^◌, ◌≤◌, ◌<◌, min, max, Bool, true, false, List, ◌++◌, length, take, [], Option, Some, None, Result, Ok, Err, vec_capacity}
+use Rattle.std.specs.Prelude.{◌≡◌, ◌⊎◌, ℕ, ◌+◌, ◌-◌, ◌^◌, ◌≤◌, ◌<◌, min, max, Bool, true, false, List, ◌++◌, length, take, [], Option, Some}
+use Rattle.std.specs.Prelude.{None, Result, Ok, Err, vec_capacity}
 use Rattle.std.specs.List.{list_any}
 use Rattle.std.specs.Io.KnownBytes.{Consumes, IsAtEnd}
 use Rattle.hprof_items.specs.declared.header.Header.{Header}
@@ -114,7 +115,8 @@ module _ {S : Type 0} (begins : S → Header → S → Type 0) (steps : S → Fa
     pub has_facts : all_facts whole.items ≡ facts ++ handed
     pub ran : Run begins steps old (became from (header_before whole.before)) handed new
 
-module _ {S : Type 0} (begins : S → Header → S → Type 0) (steps : S → FactValue → S → Type 0) (refuses : S → List FactValue → SinkFault → Type 0) (failed : S → Bool) where
+module _ {S : Type 0} (begins : S → Header → S → Type 0) (steps : S → FactValue → S → Type 0) (refuses : S → List FactValue → SinkFault
+  → Type 0) (failed : S → Bool) where
   -- a fault of an item, which no further byte changes: the first fault of the bytes that are taken
   abbrev pub IsItemFault : Limits → List ℕ → List FactValue → Option Header → Option Header → S → PartFault → S → Type 0
   IsItemFault limits bytes facts before after old fault new =
@@ -144,7 +146,8 @@ module _ {S : Type 0} (begins : S → Header → S → Type 0) (steps : S → Fa
   -- further, when nothing of the piece had been handed on
   abbrev pub LacksMemory : Limits → List ℕ → List FactValue → Option Header → List ℕ → S → Option Header → S → Type 0
   LacksMemory limits bytes facts before piece old after new =
-      ((length (bytes ++ piece) ≤ limits.max_bytes) × HasNoSettledFault limits.max_item (bytes ++ piece) × IsWithinItem limits.max_item (bytes ++ piece)
+      ((length (bytes ++ piece) ≤ limits.max_bytes) × HasNoSettledFault limits.max_item (bytes ++ piece)
+        × IsWithinItem limits.max_item (bytes ++ piece)
       × RanOver begins steps limits.max_item (bytes ++ piece) facts before after old new)
       ⊎ ((length bytes < limits.max_bytes) × IsWithinItem limits.max_item bytes × (after ≡ before) × (old ≡ new))
 
@@ -163,7 +166,8 @@ module _ {S : Type 0} (begins : S → Header → S → Type 0) (steps : S → Fa
 -- what the end of the input makes of bytes that were fed with no fault and state these facts
 abbrev pub Finishes : Limits → List ℕ → List FactValue → Option Header → Result PartSummary PartFault → Type 0
 Finishes limits bytes facts header (Ok summary) =
-    HasNoFault limits.max_item bytes × IsSummary bytes summary × IsPart bytes summary.header.ids summary.header.millis facts × (header ≡ Some summary.header)
+    HasNoFault limits.max_item bytes × IsSummary bytes summary × IsPart bytes summary.header.ids summary.header.millis facts
+      × (header ≡ Some summary.header)
 Finishes limits bytes facts header (Err fault) = IsFirstFault limits.max_item bytes fault × (is_settled fault ≡ false)
 
 -- ---- a part from a source
@@ -172,7 +176,8 @@ Finishes limits bytes facts header (Err fault) = IsFirstFault limits.max_item by
 -- one in which the front ended
 abbrev pub IsUnheld : Limits → List ℕ → List ℕ → Type 0
 IsUnheld limits front piece =
-    ((length (front ++ piece) ≤ limits.max_bytes) × HasNoSettledFault limits.max_item (front ++ piece) × IsWithinItem limits.max_item (front ++ piece))
+    ((length (front ++ piece) ≤ limits.max_bytes) × HasNoSettledFault limits.max_item (front ++ piece)
+      × IsWithinItem limits.max_item (front ++ piece))
     ⊎ ((length front < limits.max_bytes) × IsWithinItem limits.max_item front)
 
 module _ {R : Type 0} (left : R → Option (List ℕ)) (pulls : R → ℕ) where
@@ -185,7 +190,8 @@ module _ {R : Type 0} (left : R → Option (List ℕ)) (pulls : R → ℕ) where
   -- so many pulls, one after the other, gave these bytes, and each of them one or more
   pub data Pulled (was : R) : List ℕ → ℕ → R → Type 0 where
     none : Pulled was [] 0 was
-    once_more : {came piece : List ℕ} {count : ℕ} {mid is : R} → Pulled was came count mid → IsPull mid piece is → 0 < length piece → Pulled was (came ++ piece) (count + 1) is
+    once_more : {came piece : List ℕ} {count : ℕ} {mid is : R} → Pulled was came count mid → IsPull mid piece is → 0 < length piece
+      → Pulled was (came ++ piece) (count + 1) is
 
   -- these bytes came, and then one pull more gave nothing; there were no more pulls than may be made
   pub record PulledOut (limits : Limits) (was : R) (came : List ℕ) (is : R) : Type 0 where
@@ -211,7 +217,8 @@ module _ {R : Type 0} (left : R → Option (List ℕ)) (pulls : R → ℕ) where
     pub within : length front ≤ limits.max_bytes
     pub unsettled : HasNoSettledFault limits.max_item front
 
-module _ {S : Type 0} (begins : S → Header → S → Type 0) (steps : S → FactValue → S → Type 0) (refuses : S → List FactValue → SinkFault → Type 0) (failed : S → Bool) where
+module _ {S : Type 0} (begins : S → Header → S → Type 0) (steps : S → FactValue → S → Type 0) (refuses : S → List FactValue → SinkFault
+  → Type 0) (failed : S → Bool) where
   -- nothing is wrong in the bytes, which are no more than may come, and the sink has run over all that is whole
   abbrev pub IsJudged : Limits → List ℕ → S → S → Type 0
   IsJudged limits came old new =
@@ -235,24 +242,30 @@ module _ {S : Type 0} (begins : S → Header → S → Type 0) (steps : S → Fa
     pub refused : Refuses refuses failed mid ran.whole.last.facts fault new
 
 module _ {R : Type 0} (left : R → Option (List ℕ)) (health : R → Health) (pulls : R → ℕ)
-    {S : Type 0} (begins : S → Header → S → Type 0) (steps : S → FactValue → S → Type 0) (refuses : S → List FactValue → SinkFault → Type 0) (failed : S → Bool) where
+    {S : Type 0} (begins : S → Header → S → Type 0) (steps : S → FactValue → S → Type 0) (refuses : S → List FactValue → SinkFault
+      → Type 0) (failed : S → Bool) where
   -- what reading a part to its end comes to, where these bytes came from a source
   --   was, is: the source, before and afterwards
   abbrev pub ReadsPart : Limits → R → List ℕ → R → S → Result PartSummary PartFault → S → Type 0
   ReadsPart limits was came is old (Ok summary) new =
-      PulledOut left pulls limits was came is × IsAtEnd (left is) × (health is ≡ healths.Well) × (length came ≤ limits.max_bytes) × HasNoFault limits.max_item came × IsSummary came summary
-      × ((facts : List FactValue) × IsPart came summary.header.ids summary.header.millis facts × Run begins steps old (Some summary.header) facts new)
+      PulledOut left pulls limits was came is × IsAtEnd (left is) × (health is ≡ healths.Well) × (length came ≤ limits.max_bytes)
+        × HasNoFault limits.max_item came × IsSummary came summary
+      × ((facts : List FactValue) × IsPart came summary.header.ids summary.header.millis facts
+        × Run begins steps old (Some summary.header) facts new)
   ReadsPart limits was came is old (Err faults.Read) new =
       PulledOut left pulls limits was came is × (health is ≡ healths.Failed) × IsJudged begins steps refuses failed limits came old new
   ReadsPart limits was came is old (Err faults.ReadsExceeded) new =
       Pulled left pulls was came limits.max_reads is × (health is ≡ healths.Well) × IsJudged begins steps refuses failed limits came old new
   ReadsPart limits was came is old (Err (faults.Malformed at Truncated)) new =
-      PulledOut left pulls limits was came is × IsAtEnd (left is) × (health is ≡ healths.Well) × (length came ≤ limits.max_bytes) × IsFirstFault limits.max_item came (faults.Malformed at Truncated)
+      PulledOut left pulls limits was came is × IsAtEnd (left is) × (health is ≡ healths.Well) × (length came ≤ limits.max_bytes)
+        × IsFirstFault limits.max_item came (faults.Malformed at Truncated)
       × ((header : Option Header) × RanOver begins steps limits.max_item came [] None header old new)
   ReadsPart limits was came is old (Err faults.OutOfMemory) new =
       (health is ≡ healths.Well) × (((came ≡ []) × (was ≡ is) × (old ≡ new))
       ⊎ ((last : CameLast left pulls limits was came is) × LacksAtLast begins steps refuses failed limits last.front last.piece old new))
   ReadsPart limits was came is old (Err (faults.Sink fault)) new =
-      (health is ≡ healths.Well) × ((last : CameLast left pulls limits was came is) × RefusesAtLast begins steps refuses failed limits last.front came old fault new)
+      (health is ≡ healths.Well) × ((last : CameLast left pulls limits was came is)
+        × RefusesAtLast begins steps refuses failed limits last.front came old fault new)
   ReadsPart limits was came is old (Err fault) new =
-      CameLast left pulls limits was came is × (health is ≡ healths.Well) × ((header : Option Header) × IsFeedFault begins steps refuses failed limits came [] None header old fault new)
+      CameLast left pulls limits was came is × (health is ≡ healths.Well)
+        × ((header : Option Header) × IsFeedFault begins steps refuses failed limits came [] None header old fault new)

@@ -1,7 +1,8 @@
 -- How many facts of each form were given.
 use Rattle.std.specs.Prelude.{◌≡◌, ◌==◌, ℕ, Option, ◌-◌, ◌^◌, ◌<◌, min, List, ◌∷◌, [], ◌++◌, length, slice_index}
 use Rattle.std.specs.List.{count_by}
-use Rattle.hprof_items.specs.FactValue.{FactValue, Name, Load, Unload, Frame, Trace, Start, End, Rooted, Class, Instance, ObjArray, PrimArray}
+use Rattle.hprof_items.specs.FactValue.{FactValue, Name, Load, Unload, Frame, Trace, Start, End, Rooted, Class, Instance, ObjArray}
+use Rattle.hprof_items.specs.FactValue.{PrimArray}
 use Rattle.hprof_values.specs.declared.ids.IdSize.{IdSize}
 use Rattle.hprof_stream.specs.declared.tally.Tally.{Tally}
 

@@ -1,5 +1,6 @@
 -- How a reader goes over bytes: what its functions that are not public do.
-use Rattle.std.specs.Prelude.{◌≡◌, ◌||◌, ℕ, ◌+◌, ◌≤◌, ◌<◌, ◌⊎◌, Bool, List, ◌++◌, length, drop, [], Option, Some, None, Result, Ok, Err, true, ⊤}
+use Rattle.std.specs.Prelude.{◌≡◌, ◌||◌, ℕ, ◌+◌, ◌≤◌, ◌<◌, ◌⊎◌, Bool, List, ◌++◌, length, drop, [], Option, Some, None, Result, Ok, Err}
+use Rattle.std.specs.Prelude.{true, ⊤}
 use Rattle.std.specs.List.{list_any}
 use Rattle.std.specs.Borrow.{Bor}
 use Rattle.hprof_values.specs.declared.ids.IdSize.{IdSize}
@@ -48,11 +49,13 @@ module _ {S : Type 0} (refuses : S → List FactValue → SinkFault → Type 0) 
   --   told: the header that was read by then
   abbrev pub Stops : Progress → List ℕ → S → PartFault → Option Header → S → Type 0
   Stops progress bytes old (faults.Malformed at reason) told new =
-      (item_at progress.limits.max_item (place_of progress) bytes ≡ Fault reason) × (at ≡ progress.at) × (told ≡ progress.header) × (old ≡ new)
+      (item_at progress.limits.max_item (place_of progress) bytes ≡ Fault reason) × (at ≡ progress.at) × (told ≡ progress.header)
+        × (old ≡ new)
   Stops progress bytes old (faults.ItemTooLong at) told new =
       (item_at progress.limits.max_item (place_of progress) bytes ≡ TooLong) × (at ≡ progress.at) × (told ≡ progress.header) × (old ≡ new)
   Stops progress bytes old (faults.Sink fault) told new =
-      (one : Stated) × (next : Place) × (back : List ℕ) × IsItem progress.limits.max_item (place_of progress) one next × (header_before next ≡ told)
+      (one : Stated) × (next : Place) × (back : List ℕ) × IsItem progress.limits.max_item (place_of progress) one next
+        × (header_before next ≡ told)
       × (one.facts ≡ [] → progress.header ≡ None) × (bytes ≡ one.bytes ++ back) × Refuses old one.facts fault new
   Stops progress bytes old faults.OutOfMemory told new = ⊥
   Stops progress bytes old faults.Failed told new = ⊥
@@ -61,14 +64,16 @@ module _ {S : Type 0} (refuses : S → List FactValue → SinkFault → Type 0) 
   Stops progress bytes old faults.BytesExceeded told new = ⊥
 
 -- whether and how one item at the front of the bytes was stepped over: by so many bytes, not yet, or never
-module _ {S : Type 0} (begins : S → Header → S → Type 0) (steps : S → FactValue → S → Type 0) (refuses : S → List FactValue → SinkFault → Type 0) (failed : S → Bool) where
+module _ {S : Type 0} (begins : S → Header → S → Type 0) (steps : S → FactValue → S → Type 0) (refuses : S → List FactValue → SinkFault
+  → Type 0) (failed : S → Bool) where
   abbrev pub StepsOver : Progress → List ℕ → S → Result (Option ℕ) PartFault → Progress → S → Type 0
   StepsOver from bytes old (Ok None) to new =
       (item_at from.limits.max_item (place_of from) bytes ≡ Short) × (from ≡ to) × (old ≡ new)
   StepsOver from bytes old (Ok (Some n)) to new =
       Walks begins steps from.limits.max_item from bytes old to (drop n bytes) new × (0 < n) × (n ≤ length bytes)
       × ((found : Found) × (item_at from.limits.max_item (place_of from) bytes ≡ Whole found n))
-  StepsOver from bytes old (Err fault) to new = Stops refuses failed from bytes old fault to.header new × (to ≡ record from { header = to.header })
+  StepsOver from bytes old (Err fault) to new = Stops refuses failed from bytes old fault to.header new
+    × (to ≡ record from { header = to.header })
 
   -- whole items were walked over, and of the next one these bytes were shown, and it was refused
   pub record Halts (from : Progress) (bytes : List ℕ) (old : S) (fault : PartFault) (to : Progress) (new : S) : Type 0 where
@@ -91,7 +96,8 @@ module _ {S : Type 0} (begins : S → Header → S → Type 0) (steps : S → Fa
   abbrev pub GoesOn : Progress → (front bytes : List ℕ) → S → Progress → (left : List ℕ) → Rest → S → Type 0
   GoesOn from front bytes old to left rest new =
       (Walks begins steps from.limits.max_item from (front ++ bytes) old to left new × IsRest from.limits.max_item (place_of to) [] rest)
-      ⊎ ((to ≡ from) × (old ≡ new) × ((still : List ℕ) × (front ++ bytes ≡ still ++ left) × IsRest from.limits.max_item (place_of from) still rest))
+      ⊎ ((to ≡ from) × (old ≡ new) × ((still : List ℕ) × (front ++ bytes ≡ still ++ left)
+        × IsRest from.limits.max_item (place_of from) still rest))
 
   -- memory was wanted for an item of which bytes are held, when more came, before anything was handed on
   pub record WantsMemory (from : Progress) (front bytes : List ℕ) (old : S) (to : Progress) (new : S) : Type 0 where
@@ -114,7 +120,8 @@ module _ {S : Type 0} (begins : S → Header → S → Type 0) (steps : S → Fa
   -- stopped
   abbrev pub ReadsOn : Progress → (front bytes : List ℕ) → S → Result (List ℕ) PartFault → Progress → Rest → S → Type 0
   ReadsOn from front bytes old (Ok left) to rest new =
-      (still : List ℕ) × Walks begins steps from.limits.max_item from (front ++ bytes) old to (still ++ left) new × IsRest from.limits.max_item (place_of to) still rest
+      (still : List ℕ) × Walks begins steps from.limits.max_item from (front ++ bytes) old to (still ++ left) new
+        × IsRest from.limits.max_item (place_of to) still rest
       × (item_at from.limits.max_item (place_of to) (still ++ left) ≡ Short) × ((still ≡ []) ⊎ (left ≡ []))
   ReadsOn from front bytes old (Err fault) to rest new = IsHalted from front bytes old fault to new
 
@@ -131,7 +138,8 @@ IsBegun (Some header) begun = begun ≡ Some header.ids
 -- what the sink is to be given fits the size that was begun last, and so do its lists, and a sub-record has these bytes
 abbrev pub GivesFit : Option IdSize → ItemValue → List ℕ → Type 0
 GivesFit begun (items.Fact fact) bytes = FitsBegun begun (value_of fact) × ListsHaveBegun begun fact × SpellsBegun begun (value_of fact) []
-GivesFit begun (items.Sub fact) bytes = FitsBegun begun (value_of fact) × ListsHaveBegun begun fact × SpellsBegun begun (value_of fact) bytes
+GivesFit begun (items.Sub fact) bytes = FitsBegun begun (value_of fact) × ListsHaveBegun begun fact
+  × SpellsBegun begun (value_of fact) bytes
 GivesFit begun item bytes = ⊤
 
 -- the header that was read once this item was

@@ -1,5 +1,6 @@
 -- Rows whose bytes lie among others: they stay where more bytes come behind those.
-use Rattle.std.proofs.Common.{◌≡◌, ◌≢◌, ◌≤◌, ◌+◌, ◌-◌, ◌++◌, ℕ, List, [], ◌∷◌, length, take, drop, Option, Some, None, Result, Ok, Err, refl, sym, ap, subst, ◌∙◌, inl, inr, arith}
+use Rattle.std.proofs.Common.{◌≡◌, ◌≢◌, ◌≤◌, ◌+◌, ◌-◌, ◌++◌, ℕ, List, [], ◌∷◌, length, take, drop, Option, Some, None, Result, Ok, Err}
+use Rattle.std.proofs.Common.{refl, sym, ap, subst, ◌∙◌, inl, inr, arith}
 use Rattle.std.specs.Prelude.{◌↔◌, Bool, true, false, ⊤, IsTrue, IfOk, OnErr}
 use Rattle.std.specs.declared.cmp.Ordering.TheVariants.{Less, Equal, Greater}
 use Rattle.std.specs.Option.{option_map}
@@ -27,10 +28,12 @@ lying-append bytes more place within =
     ap (take (place.end - place.start)) (drop-append-le place.start bytes more (omega arith))
     ∙ take-append-le (place.end - place.start) (drop place.start bytes) more room
 
-pub rows_lying-append : (bytes more : List ℕ) (rows : List (ℕ × Place)) → AreWithin bytes rows → rows_lying (bytes ++ more) rows ≡ rows_lying bytes rows
+pub rows_lying-append : (bytes more : List ℕ) (rows : List (ℕ × Place)) → AreWithin bytes rows → rows_lying (bytes ++ more) rows
+  ≡ rows_lying bytes rows
 rows_lying-append bytes more [] within = refl
 rows_lying-append bytes more (row ∷ rows) within =
-    rw (lying-append bytes more row.1 within.0) (ap (λ (rest : List (ℕ × List ℕ)). (row.0, lying bytes row.1) ∷ rest) (rows_lying-append bytes more rows within.1))
+    rw (lying-append bytes more row.1 within.0) (ap (λ (rest : List (ℕ × List ℕ)). (row.0, lying bytes row.1) ∷ rest)
+      (rows_lying-append bytes more rows within.1))
 
 pub within-append : (bytes more : List ℕ) (rows : List (ℕ × Place)) → AreWithin bytes rows → AreWithin (bytes ++ more) rows
 within-append bytes more [] within = tt
@@ -38,14 +41,16 @@ within-append bytes more (row ∷ rows) within =
     ((within.0.0, omega (arith, length-append bytes more)), within-append bytes more rows within.1)
 
 -- those that were put there
-pub lying-new : (bytes more : List ℕ) (place : Place) → place.start ≡ length bytes → place.end ≡ length (bytes ++ more) → lying (bytes ++ more) place ≡ more
+pub lying-new : (bytes more : List ℕ) (place : Place) → place.start ≡ length bytes → place.end ≡ length (bytes ++ more)
+  → lying (bytes ++ more) place ≡ more
 lying-new bytes more place start end =
     let len : place.end - place.start ≡ length more = omega (arith, length-append bytes more) in
     rw (len, start) (ap (take (length more)) (drop-append_seam bytes more) ∙ take-length more)
 
 -- ---- rows
 
-pub row_lying : (bytes : List ℕ) (rows : List (ℕ × Place)) (key : ℕ) → row_at key (rows_lying bytes rows) ≡ option_map (lying bytes) (row_at key rows)
+pub row_lying : (bytes : List ℕ) (rows : List (ℕ × Place)) (key : ℕ) → row_at key (rows_lying bytes rows) ≡ option_map (lying bytes)
+  (row_at key rows)
 row_lying bytes rows key = lookup-map_values (lying bytes) (is_at (nat_cmp key)) rows
 
 pub rows_lying-insert : (bytes : List ℕ) (rows : List (ℕ × Place)) (key : ℕ) (place : Place)
@@ -71,7 +76,8 @@ within-insert bytes (first ∷ rows) key place within new = elim (cases_order ke
   ]
 ]
 
-pub within_found : (bytes : List ℕ) (rows : List (ℕ × Place)) (key : ℕ) (place : Place) → AreWithin bytes rows → row_at key rows ≡ Some place → IsWithin bytes place
+pub within_found : (bytes : List ℕ) (rows : List (ℕ × Place)) (key : ℕ) (place : Place) → AreWithin bytes rows
+  → row_at key rows ≡ Some place → IsWithin bytes place
 within_found bytes [] key place within e = absurd cc
 within_found bytes (first ∷ rows) key place within e = elim (cases_order key first.0) [
   | inl same ↦
@@ -102,14 +108,16 @@ module _ (old_bytes new_bytes bytes : List ℕ) where
   Makes place = (new_bytes ≡ old_bytes ++ bytes) × (place.start ≡ length old_bytes) × (place.end ≡ length new_bytes)
 
   module _ (old new : List (ℕ × Place)) (key : ℕ) where
-    made-within : (place : Place) → AreWithin old_bytes old → Makes place → new ≡ insert_entry nat_cmp old key place → AreWithin new_bytes new
+    made-within : (place : Place) → AreWithin old_bytes old → Makes place → new ≡ insert_entry nat_cmp old key place
+      → AreWithin new_bytes new
     made-within place within made e =
         let more : AreWithin new_bytes old = rw made.0 (within-append old_bytes bytes old within) in
         let there : place.start ≤ place.end = omega (arith, ap length made.0, length-append old_bytes bytes) in
         rw e (within-insert new_bytes old key place more (there, omega (arith, made.2)))
 
     -- the places stay within the bytes
-    pub visited-within : {E : Type 0} (r : Result (Option Bool) E) → AreWithin old_bytes old → IfOk r (λ answer. Visits Asks Makes old key answer new)
+    pub visited-within : {E : Type 0} (r : Result (Option Bool) E) → AreWithin old_bytes old
+      → IfOk r (λ answer. Visits Asks Makes old key answer new)
         → OnErr r (new ≡ old) → LeavesUnmade r old_bytes new_bytes → AreWithin new_bytes new
     visited-within (Ok None) within v err kept = made-within v.1.0 within v.1.1 v.1.2
     visited-within (Ok (Some answer)) within v err kept = rw (v.0, kept) within
@@ -119,7 +127,8 @@ module _ (old_bytes new_bytes bytes : List ℕ) where
     unchanged e same = rw (e, same) refl
 
     -- a visit states the bytes
-    pub visited : (answer : Option Bool) → AreWithin old_bytes old → Visits Asks Makes old key answer new → LeavesUnmade {E = ⊤} (Ok answer) old_bytes new_bytes
+    pub visited : (answer : Option Bool) → AreWithin old_bytes old → Visits Asks Makes old key answer new
+      → LeavesUnmade {E = ⊤} (Ok answer) old_bytes new_bytes
         → States the_bytes (rows_lying old_bytes old) key bytes (stated_by answer) (rows_lying new_bytes new)
     visited None within v kept =
         let place = v.1.0 in
@@ -175,7 +184,8 @@ module _ (now row new : List ℕ) (rows : List (ℕ × Place)) (key : ℕ) (plac
   pub within-next : AreWithin now rows → AreWithin new (rows ++ (key, place) ∷ [])
   within-next within =
       let len : length new ≡ length now + length row = ap length e ∙ length-append now row in
-      within-last new rows key place (subst (λ (l : List ℕ). AreWithin l rows) (sym e) (within-append now row rows within)) (omega arith, omega arith)
+      within-last new rows key place (subst (λ (l : List ℕ). AreWithin l rows) (sym e) (within-append now row rows within))
+        (omega arith, omega arith)
 
   pub lying-next : (done : List (ℕ × List ℕ)) → AreWithin now rows → rows_lying now rows ≡ done
       → rows_lying new (rows ++ (key, place) ∷ []) ≡ done ++ (key, row) ∷ []

@@ -1,5 +1,6 @@
 -- A sorted table: what is found in it, where a row goes, and what a visit of a key does.
-use Rattle.std.proofs.Common.{◌≡◌, ◌<◌, ◌≤◌, ◌+◌, ◌-◌, ◌⊎◌, zero, suc, get_or, Result, Ok, Err, ◌++◌, ◌≢◌, ℕ, Bool, true, false, cond, eqb, List, [], ◌∷◌, length, Option, Some, None, refl, sym, ap, subst, ◌∙◌, inl, inr, arith}
+use Rattle.std.proofs.Common.{◌≡◌, ◌<◌, ◌≤◌, ◌+◌, ◌-◌, ◌⊎◌, zero, suc, get_or, Result, Ok, Err, ◌++◌, ◌≢◌, ℕ, Bool, true, false, cond, eqb}
+use Rattle.std.proofs.Common.{List, [], ◌∷◌, length, Option, Some, None, refl, sym, ap, subst, ◌∙◌, inl, inr, arith}
 use Rattle.std.specs.Prelude.{is_some, IfOk, OnErr, slice_get}
 use Rattle.std.specs.declared.cmp.Ordering.TheVariants.{Less, Equal, Greater}
 use Rattle.std.specs.List.{HoldsAt}
@@ -18,7 +19,9 @@ use Rattle.std.proofs.Math.ListN.{get_or-map}
 use Rattle.std.proofs.lemmas.Map.Keys.{below_from_sorted, IsDistinct-from_sorted}
 use Rattle.std.proofs.lemmas.Map.Lookups.{exact_unsigned}
 use Rattle.hprof_tables.specs.SortedRows.{row_at, IsAscending, Misses, IsTable, IsListOfBoth, Visits, end_of, merged}
-use Rattle.hprof_tables.proofs.SortedRows.{is_none, AllKeys, AllKeys-weaker, ascending_head, ascending_tail, row_at-cons, row_at-here, row_at-past, row_at-none, row_at-append, end_of-append, below_end, ascending-append, insert-all, insert-ascending, insert-row, merged-row, merged-ascending, merged-length}
+use Rattle.hprof_tables.proofs.SortedRows.{is_none, AllKeys, AllKeys-weaker, ascending_head, ascending_tail, row_at-cons, row_at-here}
+use Rattle.hprof_tables.proofs.SortedRows.{row_at-past, row_at-none, row_at-append, end_of-append, below_end, ascending-append, insert-all}
+use Rattle.hprof_tables.proofs.SortedRows.{insert-ascending, insert-row, merged-row, merged-ascending, merged-length}
 
 -- what a test of a key against an end denies
 pub not_above : (t : Bool) (bound key : ℕ) → (bound ≤ key → t ≡ true) → t ≡ false → key < bound

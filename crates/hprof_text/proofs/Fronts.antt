@@ -1,5 +1,6 @@
 -- Units that stand in front of bytes, as far as a loop has come.
-use Rattle.std.proofs.Common.{◌≡◌, ℕ, ◌+◌, ◌/◌, ◌%◌, ◌^◌, ◌<◌, ◌==◌, true, false, List, [], ◌∷◌, ◌++◌, length, get_or, take, Option, Some, None, arith, refl, sym, ap, ◌∙◌, append_assoc}
+use Rattle.std.proofs.Common.{◌≡◌, ℕ, ◌+◌, ◌/◌, ◌%◌, ◌^◌, ◌<◌, ◌==◌, true, false, List, [], ◌∷◌, ◌++◌, length, get_or, take, Option, Some}
+use Rattle.std.proofs.Common.{None, arith, refl, sym, ap, ◌∙◌, append_assoc}
 use Rattle.std.specs.List.{All, flat_map}
 use Rattle.std.proofs.lemmas.Bool.Decides.{nat_tests}
 use Rattle.std.proofs.lemmas.List.{append-nil, length-append, take_more}
@@ -60,9 +61,11 @@ pub units_go_on : (us vs rest : List ℕ) → All fits us → All fits vs
     → (ws : List ℕ) × (vs ≡ us ++ ws) × IsModifiedUtf8 ws rest
 units_go_on [] vs rest small large e = (vs, refl, record { in_range = large; encoded = e })
 units_go_on (u ∷ us) [] rest small large e =
-    absurd (nil_begins_none u (flat_map unit_bytes us ++ rest) (All-head fits u us small) (sym (append_assoc (unit_bytes u) (flat_map unit_bytes us) rest) ∙ e))
+    absurd (nil_begins_none u (flat_map unit_bytes us ++ rest) (All-head fits u us small)
+      (sym (append_assoc (unit_bytes u) (flat_map unit_bytes us) rest) ∙ e))
 units_go_on (u ∷ us) (v ∷ vs) rest small large e =
-    let regrouped : unit_bytes u ++ (flat_map unit_bytes us ++ rest) ≡ unit_bytes v ++ flat_map unit_bytes vs = sym (append_assoc (unit_bytes u) (flat_map unit_bytes us) rest) ∙ e in
+    let regrouped : unit_bytes u ++ (flat_map unit_bytes us ++ rest) ≡ unit_bytes v ++ flat_map unit_bytes vs =
+      sym (append_assoc (unit_bytes u) (flat_map unit_bytes us) rest) ∙ e in
     let same = same_unit u v (flat_map unit_bytes us ++ rest) (flat_map unit_bytes vs) regrouped in
     let more = units_go_on us vs rest (All-tail fits u us small) (All-tail fits v vs large) same.1 in
     let whole : v ∷ vs ≡ u ∷ (us ++ more.0) = cc (same.0, more.1) in

@@ -1,5 +1,7 @@
 -- The hexadecimal digits of an identifier, and the identifier that digits write.
-use Rattle.std.proofs.Common.{◌≡◌, ◌≢◌, ℕ, zero, suc, ◌+◌, ◌-◌, ◌*◌, ◌/◌, ◌%◌, ◌^◌, ◌<◌, ◌≤◌, true, false, cond, ◌==◌, List, [], ◌∷◌, ◌++◌, length, get_or, take, drop, set, Option, Some, None, Result, Ok, Err, arith, refl, sym, ap, ◌∙◌, inl, inr, add-one, codes, replicate, ltb}
+use Rattle.std.proofs.Common.{◌≡◌, ◌≢◌, ℕ, zero, suc, ◌+◌, ◌-◌, ◌*◌, ◌/◌, ◌%◌, ◌^◌, ◌<◌, ◌≤◌, true, false, cond, ◌==◌, List, [], ◌∷◌, ◌++◌}
+use Rattle.std.proofs.Common.{length, get_or, take, drop, set, Option, Some, None, Result, Ok, Err, arith, refl, sym, ap, ◌∙◌, inl, inr}
+use Rattle.std.proofs.Common.{add-one, codes, replicate, ltb}
 use Rattle.std.proofs.Math.Nat.{pow-le-pow_right, pow-suc}
 use Rattle.std.specs.Fmt.{digits, digits_onto, digit_glyph}
 use Rattle.std.specs.Option.{SomeIff}
@@ -98,7 +100,8 @@ lower_onto (suc k) n acc lower =
       | inl last ↦ rw (onto_last k n acc last) (All-cons IsLowerDigit (digit_glyph false n) acc (lower_glyph n last) lower)
       | inr more ↦
           rw (onto_more k n acc more)
-          (lower_onto k (n / 16) (digit_glyph false (n % 16) ∷ acc) (All-cons IsLowerDigit (digit_glyph false (n % 16)) acc (lower_glyph (n % 16) (omega arith)) lower))
+          (lower_onto k (n / 16) (digit_glyph false (n % 16) ∷ acc) (All-cons IsLowerDigit (digit_glyph false (n % 16)) acc
+            (lower_glyph (n % 16) (omega arith)) lower))
     ]
 
 glyph_not_zero : (d : ℕ) → 0 < d → digit_glyph false d ≢ 48

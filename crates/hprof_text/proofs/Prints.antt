@@ -1,5 +1,6 @@
 -- What is printed of the units in front, as far as a loop has come, and that it is ASCII.
-use Rattle.std.proofs.Common.{◌≡◌, ◌≢◌, ℕ, ◌+◌, ◌/◌, ◌%◌, ◌<◌, ◌≤◌, ◌==◌, Bool, true, false, List, [], ◌∷◌, ◌++◌, length, get_or, take, codes, cond, inl, inr, arith, refl, sym, ap, ◌∙◌}
+use Rattle.std.proofs.Common.{◌≡◌, ◌≢◌, ℕ, ◌+◌, ◌/◌, ◌%◌, ◌<◌, ◌≤◌, ◌==◌, Bool, true, false, List, [], ◌∷◌, ◌++◌, length, get_or, take}
+use Rattle.std.proofs.Common.{codes, cond, inl, inr, arith, refl, sym, ap, ◌∙◌}
 use Rattle.std.specs.List.{AllPass, flat_map, list_all}
 use Rattle.std.specs.Prelude.{nat_lt}
 use Rattle.std.specs.Str.{IsAscii}
@@ -38,7 +39,8 @@ flat_map-unit_bytes-plain : (xs : List ℕ) → AllPass is_plain xs → flat_map
 flat_map-unit_bytes-plain [] plain = refl
 flat_map-unit_bytes-plain (x ∷ xs) plain =
     let range = is_plain-range x (All-head plain_holds x xs plain) in
-    rw (unit_bytes-one x (omega (arith, range.0)) (omega (arith, range.1)), flat_map-unit_bytes-plain xs (All-tail plain_holds x xs plain)) refl
+    rw (unit_bytes-one x (omega (arith, range.0)) (omega (arith, range.1)), flat_map-unit_bytes-plain xs
+      (All-tail plain_holds x xs plain)) refl
 
 flat_map-printed_unit-plain : (xs : List ℕ) → AllPass is_plain xs → flat_map printed_unit xs ≡ xs
 flat_map-printed_unit-plain [] plain = refl
@@ -95,7 +97,8 @@ pub prints_stop : (bytes rest text : List ℕ) → PrintsFront bytes rest text �
 prints_stop bytes rest text p none has = front_stop p.0 bytes rest p.1 none has
 
 -- where no unit stands next, all bytes are printed or they have no units
-pub prints_if_units : (bytes rest text : List ℕ) (all : Bool) → PrintsFront bytes rest text → BeginsWithNoUnit rest → all ≡ (length rest == 0)
+pub prints_if_units : (bytes rest text : List ℕ) (all : Bool) → PrintsFront bytes rest text → BeginsWithNoUnit rest
+  → all ≡ (length rest == 0)
     → PrintsIfUnits bytes all text
 prints_if_units bytes rest text true p none e = prints_all bytes rest text p (ended rest (sym e))
 prints_if_units bytes rest text false p none e = λ has. not_ended rest (sym e) (prints_stop bytes rest text p none has)
@@ -128,7 +131,8 @@ IsPrinted-bytes bytes text none e = record {
 IsAscii-tested : (bytes : List ℕ) → list_all (λ b. nat_lt b 128) bytes ≡ true → IsAscii bytes
 IsAscii-tested bytes passes =
     IsAscii-from_all bytes
-    (All-weaker (λ b. nat_lt b 128 ≡ true) (λ b. b < 128) (λ b. ltb-true b 128) bytes (AllPass-from_list_all (λ b. nat_lt b 128) bytes passes))
+    (All-weaker (λ b. nat_lt b 128 ≡ true) (λ b. b < 128) (λ b. ltb-true b 128) bytes
+      (AllPass-from_list_all (λ b. nat_lt b 128) bytes passes))
 
 IsAscii-hex : (bytes : List ℕ) → IsAscii (encode_lower bytes)
 IsAscii-hex bytes = IsAscii-encode_with lower_digits bytes (IsAscii-tested lower_digits refl)
@@ -139,11 +143,13 @@ IsAscii-printed_unit unit = by (is_plain unit) refl
   where
     by : (plain : Bool) → is_plain unit ≡ plain → IsAscii (cond plain (unit ∷ []) (escaped_unit unit))
     by true e = let range = is_plain-range unit e in IsAscii-cons unit [] (omega (arith, range.1)) IsAscii-nil
-    by false e = IsAscii-append (codes "\\u") (encode_lower ((unit / 256) ∷ (unit % 256) ∷ [])) (IsAscii-tested (codes "\\u") refl) (IsAscii-hex ((unit / 256) ∷ (unit % 256) ∷ []))
+    by false e = IsAscii-append (codes "\\u") (encode_lower ((unit / 256) ∷ (unit % 256) ∷ [])) (IsAscii-tested (codes "\\u") refl)
+      (IsAscii-hex ((unit / 256) ∷ (unit % 256) ∷ []))
 
 IsAscii-printed_units : (units : List ℕ) → IsAscii (flat_map printed_unit units)
 IsAscii-printed_units [] = IsAscii-nil
-IsAscii-printed_units (u ∷ us) = IsAscii-append (printed_unit u) (flat_map printed_unit us) (IsAscii-printed_unit u) (IsAscii-printed_units us)
+IsAscii-printed_units (u ∷ us) = IsAscii-append (printed_unit u) (flat_map printed_unit us) (IsAscii-printed_unit u)
+  (IsAscii-printed_units us)
 
 IsAscii-printed_bytes : (bytes : List ℕ) → IsAscii (printed_bytes bytes)
 IsAscii-printed_bytes bytes = IsAscii-append (codes "\\x") (encode_lower bytes) (IsAscii-tested (codes "\\x") refl) (IsAscii-hex bytes)

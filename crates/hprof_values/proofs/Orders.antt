@@ -1,5 +1,6 @@
 -- Numbers of one width are in the order of the bytes that spell them, and so are groups of fields.
-use Rattle.std.proofs.Common.{◌≡◌, ℕ, zero, suc, ◌+◌, ◌*◌, ◌/◌, ◌%◌, ◌^◌, ◌<◌, ◌≤◌, List, [], ◌∷◌, ◌++◌, inl, inr, refl, sym, ap, ◌∙◌, arith}
+use Rattle.std.proofs.Common.{◌≡◌, ℕ, zero, suc, ◌+◌, ◌*◌, ◌/◌, ◌%◌, ◌^◌, ◌<◌, ◌≤◌, List, [], ◌∷◌, ◌++◌, inl, inr, refl, sym, ap, ◌∙◌}
+use Rattle.std.proofs.Common.{arith}
 use Rattle.std.proofs.lemmas.Bool.{cases_order}
 use Rattle.std.proofs.Math.Nat.{div-lt_iff_lt-mul, mod-eq_of_lt, mul-le-mul_right}
 use Rattle.std.specs.Cmp.{nat_cmp_is}
@@ -37,15 +38,18 @@ two_digits p q r s t below below_too = elim (cases_order q s) [
   | inr lt ↦ elim lt [
     | inl a ↦
         let more : (q + 1) * p ≤ s * p = mul-le-mul_right p (omega arith) in
-        sym (nat_cmp_is (q * p + r) (s * p + t) Less (omega arith)) ∙ ap (λ (o : Ordering). ordering_then o (nat_cmp r t)) (nat_cmp_is q s Less a)
+        sym (nat_cmp_is (q * p + r) (s * p + t) Less (omega arith)) ∙ ap (λ (o : Ordering). ordering_then o (nat_cmp r t))
+          (nat_cmp_is q s Less a)
     | inr b ↦
         let more : (s + 1) * p ≤ q * p = mul-le-mul_right p (omega arith) in
-        sym (nat_cmp_is (q * p + r) (s * p + t) Greater (omega arith)) ∙ ap (λ (o : Ordering). ordering_then o (nat_cmp r t)) (nat_cmp_is q s Greater b)
+        sym (nat_cmp_is (q * p + r) (s * p + t) Greater (omega arith)) ∙ ap (λ (o : Ordering). ordering_then o (nat_cmp r t))
+          (nat_cmp_is q s Greater b)
   ]
 ]
 
 -- the first byte of a number, and the bytes of what is left
-first_byte : (w x : ℕ) → x < 256 ^ suc w → (byte_at w x ≡ x / 256 ^ w) × (bytes_high_first w x ≡ bytes_high_first w (x % 256 ^ w)) × (x % 256 ^ w < 256 ^ w) × (x ≡ x / 256 ^ w * 256 ^ w + x % 256 ^ w)
+first_byte : (w x : ℕ) → x < 256 ^ suc w → (byte_at w x ≡ x / 256 ^ w) × (bytes_high_first w x ≡ bytes_high_first w (x % 256 ^ w))
+  × (x % 256 ^ w < 256 ^ w) × (x ≡ x / 256 ^ w * 256 ^ w + x % 256 ^ w)
 first_byte w x fits =
     let above : 0 < 256 ^ w = pow256_pos w in
     let parts : x ≡ x / 256 ^ w * 256 ^ w + x % 256 ^ w = omega arith in
@@ -59,7 +63,8 @@ first_byte w x fits =
 -- numbers of one width, and what stands behind them
 pub numbers_in_order : (w x y : ℕ) (r s : List ℕ) → x < 256 ^ w → y < 256 ^ w
     → slice_cmp nat_cmp (big_bytes w x ++ r) (big_bytes w y ++ s) ≡ ordering_then (nat_cmp x y) (slice_cmp nat_cmp r s)
-numbers_in_order zero x y r s fits fits_too = ap (λ (o : Ordering). ordering_then o (slice_cmp nat_cmp r s)) (nat_cmp_is x y Equal (omega arith))
+numbers_in_order zero x y r s fits fits_too = ap (λ (o : Ordering). ordering_then o (slice_cmp nat_cmp r s))
+  (nat_cmp_is x y Equal (omega arith))
 numbers_in_order (suc w) x y r s fits fits_too =
     let a = first_byte w x fits in
     let b = first_byte w y fits_too in

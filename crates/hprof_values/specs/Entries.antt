@@ -1,6 +1,7 @@
 -- The entries of a class dump: heapDumper.cpp, "HPROF binary format", HPROF_GC_CLASS_DUMP. A constant is u2 index, u1
 -- type, value; a static field id name, u1 type, value; an own instance field id name, u1 type.
-use Rattle.std.specs.Prelude.{◌≡◌, ℕ, zero, suc, ◌+◌, ◌≤◌, List, [], ◌∷◌, ◌++◌, length, drop, slice_index, Option, Some, None, unwrap_or, Result, Ok, Err}
+use Rattle.std.specs.Prelude.{◌≡◌, ℕ, zero, suc, ◌+◌, ◌≤◌, List, [], ◌∷◌, ◌++◌, length, drop, slice_index, Option, Some, None, unwrap_or}
+use Rattle.std.specs.Prelude.{Result, Ok, Err}
 use Rattle.std.specs.List.{AllByRecursion}
 use Rattle.byteorder.specs.Endian.{big_bytes, big_number}
 use Rattle.hprof_values.specs.declared.ids.IdSize.{IdSize}
@@ -85,7 +86,8 @@ entry_in ids kind bytes = typed_entry ids kind (type_in (drop (lead_width ids ki
 -- so many entries, one behind the other, where they are
 abbrev pub entries_in : IdSize → EntryKind → ℕ → List ℕ → List Entry
 entries_in ids kind zero bytes = []
-entries_in ids kind (suc count) bytes = entry_in ids kind bytes ∷ entries_in ids kind count (drop (entry_len ids kind (entry_in ids kind bytes)) bytes)
+entries_in ids kind (suc count) bytes =
+  entry_in ids kind bytes ∷ entries_in ids kind count (drop (entry_len ids kind (entry_in ids kind bytes)) bytes)
 
 -- ---- where they end
 

@@ -11,5 +11,6 @@ write_front-requires-clause-room g c = omega (arith, widths_most c.args.ids c.ar
 pub returns-clause-bytes : goal.returns-clause-bytes
 returns-clause-bytes g c =
     subst (Writes _ _ c.write_front.result)
-    (tagged_parts c.code.result c.args.tag (number_widths c.args.ids c.args.fields.now) (number_values c.args.fields.now) c.args.more.now c.code.ensures (omega arith))
+    (tagged_parts c.code.result c.args.tag (number_widths c.args.ids c.args.fields.now) (number_values c.args.fields.now)
+      c.args.more.now c.code.ensures (omega arith))
     c.write_front.ensures.bytes

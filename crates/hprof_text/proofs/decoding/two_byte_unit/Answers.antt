@@ -16,4 +16,5 @@ returns-then-unit-ge-LEAST_OF_TWO-clause-found c =
 pub returns-else-unit-ge-LEAST_OF_TWO-clause-none : goal.returns-else-unit-ge-LEAST_OF_TWO-clause-none
 returns-else-unit-ge-LEAST_OF_TWO-clause-none c =
     rw c.in_ok-low.ensures.found
-    (no_unit_from_two c.args.first c.in_ok-low.low c.in_ok-low.rest.now c.requires.low c.requires.high c.in_ok-low.ensures.small (omega arith) (omega arith))
+    (no_unit_from_two c.args.first c.in_ok-low.low c.in_ok-low.rest.now c.requires.low c.requires.high c.in_ok-low.ensures.small
+      (omega arith) (omega arith))

@@ -16,11 +16,13 @@ use Rattle.hprof_heap.proofs.RowFacts.{rows_tried, rows_kept, tried_right}
 use Rattle.hprof_heap.proofs.heap.Heap.state_trace.Goals as goal
 
 -- what was stated of frames of one size was stated of the fact
-stated_as : {E : Type 0} (r : Result Stated E) (ids size : IdSize) (serial thread : ℕ) (frames : List ℕ) (old new : List (ℕ × TraceRow)) → size ≡ ids
+stated_as : {E : Type 0} (r : Result Stated E) (ids size : IdSize) (serial thread : ℕ) (frames : List ℕ) (old new : List (ℕ × TraceRow))
+  → size ≡ ids
     → IfOk r (λ answer. States trace_content old serial (thread ∷ field_bytes (id_widths size (length frames)) frames) answer new)
     → IfOk r (λ answer. States trace_content old serial (content_of ids (Trace serial thread frames)) answer new)
 stated_as r ids size serial thread frames old new e ok =
-    subst (λ (i : IdSize). IfOk r (λ answer. States trace_content old serial (thread ∷ field_bytes (id_widths i (length frames)) frames) answer new)) e ok
+    subst (λ (i : IdSize). IfOk r (λ answer. States trace_content old serial (thread ∷ field_bytes (id_widths i (length frames)) frames)
+      answer new)) e ok
 
 pub invariant_of-self : goal.invariant_of-self
 invariant_of-self c =
@@ -33,12 +35,15 @@ invariant_of-self c =
     let ok = stated_as r heap.ids _ c.args.serial c.args.thread frames old new c.requires.size c.state_from.ensures.ok in
     record {
       sound = record {
-        heap = into_heap-sound r (rows_in heap) heap.sound 4 (trace_facts heap.ids new) fact (record { more = c.args.serial ∷ []; stands = refl }) (omega arith) c.requires.fits
+        heap = into_heap-sound r (rows_in heap) heap.sound 4 (trace_facts heap.ids new) fact
+          (record { more = c.args.serial ∷ []; stands = refl }) (omega arith) c.requires.fits
             (rows_tried heap.ids 4 (trace_fact heap.ids) trace_content r old new c.args.serial fact
-            (record { stands = refl; again = trace_again heap.ids c.args.serial c.args.thread frames c.requires.fits }) heap.sound.traces ok)
+            (record { stands = refl; again = trace_again heap.ids c.args.serial c.args.thread frames c.requires.fits })
+              heap.sound.traces ok)
             (rows_kept heap.ids 4 (trace_fact heap.ids) trace_content r old new c.state_from.ensures.err);
         traces = tried_right heap.ids 4 (trace_fact heap.ids) trace_content r old new c.args.serial fact
-            (record { stands = refl; again = trace_again heap.ids c.args.serial c.args.thread frames c.requires.fits }) heap.sound.traces ok c.state_from.ensures.err;
+            (record { stands = refl; again = trace_again heap.ids c.args.serial c.args.thread frames c.requires.fits })
+              heap.sound.traces ok c.state_from.ensures.err;
         classes = heap.sound.classes;
         objects = heap.sound.objects;
       };
@@ -53,7 +58,8 @@ returns-clause-ok c =
     let new = rows_of c.state_from.new.self in
     let r = c.state_from.result in
     let ok = stated_as r heap.ids _ c.args.serial c.args.thread frames old new c.requires.size c.state_from.ensures.ok in
-    into_heap r (rows_in heap) heap.sound 4 (trace_facts heap.ids new) fact (record { more = c.args.serial ∷ []; stands = refl }) (omega arith) c.requires.fits
+    into_heap r (rows_in heap) heap.sound 4 (trace_facts heap.ids new) fact (record { more = c.args.serial ∷ []; stands = refl })
+      (omega arith) c.requires.fits
     (rows_tried heap.ids 4 (trace_fact heap.ids) trace_content r old new c.args.serial fact
     (record { stands = refl; again = trace_again heap.ids c.args.serial c.args.thread frames c.requires.fits }) heap.sound.traces ok)
 
@@ -62,4 +68,5 @@ returns-clause-absent c =
     let heap = c.args.self.now in
     let frames = identifiers_of c.args.frames in
     let fact = Trace c.args.serial c.args.thread frames in
-    unseen_row c.state_from.result (rows_in heap) 4 c.args.serial (trace_fact heap.ids) trace_content (rows_of heap.traces) fact heap.sound refl heap.sound.traces refl c.state_from.ensures.absent
+    unseen_row c.state_from.result (rows_in heap) 4 c.args.serial (trace_fact heap.ids) trace_content (rows_of heap.traces) fact
+      heap.sound refl heap.sound.traces refl c.state_from.ensures.absent

@@ -6,14 +6,16 @@ pub merge-requires-clause-ascending : goal.merge-requires-clause-ascending
 merge-requires-clause-ascending c =
     let old = c.args.self.now in
     let put = c.in_ok-fresh.ensures in
-    fresh_ascend old.bytes.items c.append_rows.new.bytes.items (entries_of old.rows) c.in_ok-fresh.fresh.items _ put.behind old.sound put.lying
+    fresh_ascend old.bytes.items c.append_rows.new.bytes.items (entries_of old.rows) c.in_ok-fresh.fresh.items _ put.behind old.sound
+      put.lying
     c.requires.ascending
 
 pub merge-requires-clause-apart : goal.merge-requires-clause-apart
 merge-requires-clause-apart c =
     let old = c.args.self.now in
     let put = c.in_ok-fresh.ensures in
-    fresh_apart old.bytes.items c.append_rows.new.bytes.items (entries_of old.rows) c.in_ok-fresh.fresh.items _ put.behind old.sound put.lying
+    fresh_apart old.bytes.items c.append_rows.new.bytes.items (entries_of old.rows) c.in_ok-fresh.fresh.items _ put.behind old.sound
+      put.lying
     c.requires.apart
 
 pub invariant_of-self-2 : goal.invariant_of-self-2
@@ -21,7 +23,8 @@ invariant_of-self-2 c =
     let old = c.args.self.now in
     let put = c.in_ok-fresh.ensures in
     record {
-      sound = tried_within old.bytes.items c.append_rows.new.bytes.items (entries_of old.rows) c.in_ok-fresh.fresh.items _ put.behind old.sound put.lying
+      sound = tried_within old.bytes.items c.append_rows.new.bytes.items (entries_of old.rows) c.in_ok-fresh.fresh.items _ put.behind
+        old.sound put.lying
           c.merge.result (entries_of c.merge.new.self) put.within c.merge.ensures.ok c.merge.ensures.err;
     }
 
@@ -29,5 +32,6 @@ pub returns-clause-ok : goal.returns-clause-ok
 returns-clause-ok c =
     let old = c.args.self.now in
     let put = c.in_ok-fresh.ensures in
-    tried_union old.bytes.items c.append_rows.new.bytes.items (entries_of old.rows) c.in_ok-fresh.fresh.items _ put.behind old.sound put.lying
+    tried_union old.bytes.items c.append_rows.new.bytes.items (entries_of old.rows) c.in_ok-fresh.fresh.items _ put.behind old.sound
+      put.lying
     c.merge.result (entries_of c.merge.new.self) c.merge.ensures.ok

@@ -1,6 +1,7 @@
 use Rattle.std.proofs.Common.{◌<◌, refl, sym, ◌∙◌}
 use Rattle.hprof_tables.specs.SortedRows.{end_of}
-use Rattle.hprof_tables.proofs.SortedTable.{at_err, at_err-then, not_above, table-above, table-in_run, table-below, tried_below, tried_below-sound}
+use Rattle.hprof_tables.proofs.SortedTable.{at_err, at_err-then, not_above, table-above, table-in_run, table-below, tried_below}
+use Rattle.hprof_tables.proofs.SortedTable.{tried_below-sound}
 use Rattle.hprof_tables.proofs.sorted_table.SortedTable.visit.Goals as goal
 
 pub returns-in_err-make_at_end-clause-absent : goal.returns-in_err-make_at_end-clause-absent

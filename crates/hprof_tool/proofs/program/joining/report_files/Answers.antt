@@ -5,4 +5,5 @@ use Rattle.hprof_tool.proofs.program.joining.report_files.Goals as goal
 pub returns-clause-refused : goal.returns-clause-refused
 returns-clause-refused g c =
     let e = c.make_buffered.ensures in
-    of_reporting _ _ c.deref_mut.result.now (ap length c.deref_mut.ensures.value ∙ c.in_ok-parts.ensures.count) c.make_buffered.result e.kind e.refused
+    of_reporting _ _ c.deref_mut.result.now (ap length c.deref_mut.ensures.value ∙ c.in_ok-parts.ensures.count) c.make_buffered.result
+      e.kind e.refused

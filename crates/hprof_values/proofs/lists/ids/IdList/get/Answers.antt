@@ -8,4 +8,5 @@ returns-then-self-width c = past_by c.args.self.now.ids _ c.args.self.now.bytes.
 pub returns : goal.returns
 returns c =
     ap Some c.id_at.ensures
-    ∙ nth_by c.args.self.now.ids _ c.args.self.now.bytes.now _ c.args.place c.width-width.ensures c.if-self-width.false c.split_at.ensures.back
+    ∙ nth_by c.args.self.now.ids _ c.args.self.now.bytes.now _ c.args.place c.width-width.ensures c.if-self-width.false
+      c.split_at.ensures.back
