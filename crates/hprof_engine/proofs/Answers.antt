@@ -56,17 +56,17 @@ map_length f (x ∷ xs) = ap suc (map_length f xs)
 
 -- there are as many parts as readers
 told_length : {R : Type 0} (left : R → Option (List ℕ)) (old : List R) (parts : List (List ℕ)) → Tell left old parts
-  → length old ≡ length parts
+    → length old ≡ length parts
 told_length left old parts told = sym (map_length left old) ∙ ap length told ∙ map_length Some parts
 
 of_none : {R : Type 0} (left : R → Option (List ℕ)) (limits : Limits) (old : List R) (given : List Given)
-  → AreGiven limits (map left old) given → given ≡ [] → old ≡ []
+    → AreGiven limits (map left old) given → given ≡ [] → old ≡ []
 of_none left limits [] given are none = refl
 of_none left limits (reader ∷ old) [] are none = absurd are
 of_none left limits (reader ∷ old) (part ∷ given) are none = absurd cc
 
 gives_none : {R : Type 0} (left : R → Option (List ℕ)) (limits : Limits) (old : List R) (given : List Given)
-  → AreGiven limits (map left old) given → old ≡ [] → given ≡ []
+    → AreGiven limits (map left old) given → old ≡ [] → given ≡ []
 gives_none left limits [] [] are none = refl
 gives_none left limits [] (part ∷ given) are none = absurd are
 gives_none left limits (reader ∷ old) given are none = absurd cc
@@ -86,7 +86,7 @@ told_of_none given none answer tells = told_of_nothing answer (subst (λ (g : Li
 
 -- the part at a place among them
 part_at : (states : List PartState) (before : List (List ℕ)) (bytes : List ℕ) (after : List (List ℕ)) → map (λ part. part.bytes) states
-  ≡ before ++ bytes ∷ after → AllByRecursion StatesIt states
+    ≡ before ++ bytes ∷ after → AllByRecursion StatesIt states
     → (ids : IdSize) × (millis : ℕ) × (facts : List FactValue) × IsPart bytes ids millis facts
 part_at [] [] bytes after e each = absurd cc
 part_at [] (first ∷ before) bytes after e each = absurd cc
@@ -94,58 +94,58 @@ part_at (part ∷ states) [] bytes after e each =
     let same : part.bytes ≡ bytes = cc in
     (part.ids, part.millis, part.facts, subst (λ (b : List ℕ). IsPart b part.ids part.millis part.facts) same each.0)
 part_at (part ∷ states) (first ∷ before) bytes after e each =
-  (let behind : map (λ (p : PartState). p.bytes) states ≡ before ++ bytes ∷ after = cc in part_at states before bytes after behind each.1)
+    (let behind : map (λ (p : PartState). p.bytes) states ≡ before ++ bytes ∷ after = cc in part_at states before bytes after behind each.1)
 
 -- a part is never malformed
 never_malformed : (limits : Limits) (bytes : List ℕ) (ids : IdSize) (millis : ℕ) (facts : List FactValue) (at : ℕ) (reason : Reason)
-  → limits.max_item ≤ longest_body → IsPart bytes ids millis facts
+    → limits.max_item ≤ longest_body → IsPart bytes ids millis facts
     → IsFirstFault limits.max_item bytes (faults.Malformed at reason) → ⊥
 never_malformed limits bytes ids millis facts at reason le part first =
     elim (smaller_sound limits.max_item longest_body bytes le (part_sound bytes part.header part.records part.written)) [
       | inl sound ↦ no_fault_no_first limits.max_item bytes (faults.Malformed at reason) sound first
       | inr long ↦ let same : faults.Malformed at reason ≡ faults.ItemTooLong long.0 =
-        first_fault_once limits.max_item bytes (faults.Malformed at reason) (faults.ItemTooLong long.0) first long.1 in cc
+          first_fault_once limits.max_item bytes (faults.Malformed at reason) (faults.ItemTooLong long.0) first long.1 in cc
     ]
 
 -- with what a part is not refused where its reader is well, no limit was met and memory was there
 unexpected : {R : Type 0} (left : R → Option (List ℕ)) (health : R → Health) (pulls : R → ℕ) (limits : Limits) (earlier : List Given)
-  (bytes came : List ℕ) (was is : R) (ids : IdSize) (millis : ℕ) (facts : List FactValue) (fault : PartFault)
+    (bytes came : List ℕ) (was is : R) (ids : IdSize) (millis : ℕ) (facts : List FactValue) (fault : PartFault)
     → limits.max_item ≤ longest_body → IsPart bytes ids millis facts → IsOfPart limits bytes fault
-      → IsPartFault left health pulls limits earlier was came is fault → health is ≡ healths.Well → (is_want fault ≡ true → ⊥) → ⊥
+    → IsPartFault left health pulls limits earlier was came is fault → health is ≡ healths.Well → (is_want fault ≡ true → ⊥) → ⊥
 unexpected left health pulls limits earlier bytes came was is ids millis facts (faults.Malformed at reason) le part of_part why well
-  unhindered = never_malformed limits bytes ids millis facts at reason le part of_part
+    unhindered = never_malformed limits bytes ids millis facts at reason le part of_part
 unexpected left health pulls limits earlier bytes came was is ids millis facts (faults.ItemTooLong at) le part of_part why well
-  unhindered = unhindered refl
+    unhindered = unhindered refl
 unexpected left health pulls limits earlier bytes came was is ids millis facts faults.BytesExceeded le part of_part why well
-  unhindered = unhindered refl
+    unhindered = unhindered refl
 unexpected left health pulls limits earlier bytes came was is ids millis facts faults.Read le part of_part why well unhindered =
-  let no : healths.Failed ≡ healths.Well = sym why.0 ∙ well in cc
+    let no : healths.Failed ≡ healths.Well = sym why.0 ∙ well in cc
 unexpected left health pulls limits earlier bytes came was is ids millis facts faults.ReadsExceeded le part of_part why well
-  unhindered = unhindered refl
+    unhindered = unhindered refl
 unexpected left health pulls limits earlier bytes came was is ids millis facts faults.OutOfMemory le part of_part why well unhindered =
-  unhindered refl
+    unhindered refl
 unexpected left health pulls limits earlier bytes came was is ids millis facts (faults.Sink sinks.OutOfMemory) le part of_part why well
-  unhindered = unhindered refl
+    unhindered = unhindered refl
 unexpected left health pulls limits earlier bytes came was is ids millis facts (faults.Sink sinks.Failed) le part of_part why well
-  unhindered = why
+    unhindered = why
 unexpected left health pulls limits earlier bytes came was is ids millis facts faults.Failed le part of_part why well unhindered = why
 
 -- parts of one size do not have two
 pub not_two_sizes : (parts : List (List ℕ)) (ids : IdSize) (millis : ℕ) (facts : List FactValue) → IsState parts ids millis facts
-  → HaveTwoSizes parts → ⊥
+    → HaveTwoSizes parts → ⊥
 not_two_sizes parts ids millis facts state two =
     two.two ids (sizes_once ids state.states two.states (state.of_parts ∙ sym two.of_parts) state.each two.each state.one_size)
 
 -- no numbers have a least one
 no_states : (states : List PartState) (least : ℕ) → map (λ part. part.bytes) states ≡ []
-  → IsLeastOf (map (λ part. part.millis) states) least → ⊥
+    → IsLeastOf (map (λ part. part.millis) states) least → ⊥
 no_states [] least e is = no_least least is
 no_states (part ∷ states) least e is = absurd cc
 
 -- ---- all parts were read
 
 module _ {R : Type 0} (left : R → Option (List ℕ)) (limits : Limits) (old : List R) (given : List Given)
-  (of_readers : AreGiven limits (map left (take (length old) old)) given) where
+    (of_readers : AreGiven limits (map left (take (length old) old)) given) where
   -- what was given is what all readers told
   given_by_all : AreGiven limits (map left old) given
   given_by_all = subst (λ (rs : List R). AreGiven limits (map left rs) given) (take-length old) of_readers
@@ -180,7 +180,7 @@ module _ {R : Type 0} (left : R → Option (List ℕ)) (limits : Limits) (old : 
           millis = least.0;
           facts = all_given given;
           state = given_state limits parts given tells.0.0 least.0 (all_given given) given_by_parts tells.0.1 least.1 (λ fact.
-            (λ h. h, λ h. h));
+              (λ h. h, λ h. h));
           least = tells.2;
         }
 
@@ -192,9 +192,9 @@ module _ {R : Type 0} (left : R → Option (List ℕ)) (limits : Limits) (old : 
 
 -- what the parts state was written
 pub joins : {R : Type 0} (left : R → Option (List ℕ)) (old : List R) (parts : List (List ℕ)) (heap : HeapValue) (joined : Joined)
-  (before after : Option (List ℕ)) → Tell left old parts
+    (before after : Option (List ℕ)) → Tell left old parts
     → Agree parts heap.ids heap.millis heap.facts → Appends before after (canonical_dump heap.ids heap.millis heap.facts)
-      → joined.parts ≡ length old → joined.facts ≡ length heap.facts → Joins parts before after joined
+    → joined.parts ≡ length old → joined.facts ≡ length heap.facts → Joins parts before after joined
 joins left old parts heap joined before after told agree written parts_count facts_count = record {
   ids = heap.ids;
   millis = heap.millis;
@@ -209,7 +209,7 @@ joins left old parts heap joined before after told agree written parts_count fac
 
 -- the summaries of what readers told are those of the parts that they told
 summaries_of_parts : (parts : List (List ℕ)) (summaries : List PartSummary) → AreSummarised (map Some parts) summaries
-  → AreSummaries parts summaries
+    → AreSummaries parts summaries
 summaries_of_parts [] [] are = tt
 summaries_of_parts [] (summary ∷ summaries) are = absurd are
 summaries_of_parts (bytes ∷ parts) [] are = absurd are
@@ -217,7 +217,7 @@ summaries_of_parts (bytes ∷ parts) (summary ∷ summaries) are = (are.0, summa
 
 -- where all readers were read to their ends, the summaries of their parts were told
 pub keeps_summaries : {R S : Type 0} (left : R → Option (List ℕ)) (keeps : S → PartSummary → S → Type 0) (old : List R) (from to : S)
-  → KeepsFirst left keeps old (length old) from to
+    → KeepsFirst left keeps old (length old) from to
     → (parts : List (List ℕ)) → Tell left old parts → KeepsSummaries keeps parts from to
 keeps_summaries {R} left keeps old from to first parts told =
     let of_all = subst (λ (rs : List R). AreSummarised (map left rs) first.summaries) (take-length old) first.of_readers in
@@ -228,7 +228,7 @@ keeps_summaries {R} left keeps old from to first parts told =
 
 module _ {R : Type 0} (left : R → Option (List ℕ)) (health : R → Health) (pulls : R → ℕ) where
   pub refuses_part : (limits : Limits) (parts : List (List ℕ)) (old new : List R) (index : ℕ) (fault : PartFault) (from : Gathered)
-    → Tell left old parts
+      → Tell left old parts
       → RefusesReader left health pulls limits old new index fault from → RefusesPart left health pulls limits parts old new index fault
   refuses_part limits parts old new index fault from told is =
       let place = placed left old parts index is.at.was told is.at.was_there in
@@ -245,30 +245,30 @@ module _ {R : Type 0} (left : R → Option (List ℕ)) (health : R → Health) (
         at = is.at;
         told = place.told;
         of_part = of_part left health pulls limits is.before.given is.at.was place.bytes is.at.came is.at.is fault place.told
-          is.at.consumed is.at.refused;
+            is.at.consumed is.at.refused;
       }
 
   -- a reader among those that are well is well
   well_at : (new : List R) (index : ℕ) (is : R) → All (λ reader. health reader ≡ healths.Well) new → slice_get new index ≡ Some is
-    → health is ≡ healths.Well
+      → health is ≡ healths.Well
   well_at new index is well there =
       subst (λ (r : R). health r ≡ healths.Well) (get_or_from_slice_get new index is is there)
-        (well index is (slice_get_within new index is there))
+      (well index is (slice_get_within new index is there))
 
   -- a part is refused only by a failed reader, by a limit, or for want of memory
   pub never_refused : (limits : Limits) (parts : List (List ℕ)) (ids : IdSize) (millis : ℕ) (facts : List FactValue) (old new : List R)
-    (index : ℕ) (fault : PartFault) → limits.max_item ≤ longest_body
+      (index : ℕ) (fault : PartFault) → limits.max_item ≤ longest_body
       → IsState parts ids millis facts → RefusesPart left health pulls limits parts old new index fault
-        → All (λ reader. health reader ≡ healths.Well) new → (is_want fault ≡ true → ⊥) → ⊥
+      → All (λ reader. health reader ≡ healths.Well) new → (is_want fault ≡ true → ⊥) → ⊥
   never_refused limits parts ids millis facts old new index fault le state is well unhindered =
       let part = part_at state.states is.before is.bytes is.after (state.of_parts ∙ is.in_order) state.each in
       unexpected left health pulls limits is.given is.bytes is.at.came is.at.was is.at.is part.0 part.1 part.2 fault le part.3
-        is.of_part is.at.refused
+      is.of_part is.at.refused
       (well_at new index is.at.is well is.at.is_there) unhindered
 
   -- the fault of an answer is that with which reading ended
   pub part_refused : {A : Type 0} (limits : Limits) (old new : List R) (index : ℕ) (fault : PartFault) (answer : ToolFault)
-    (from to : Gathered) → ◌≡◌ {A = Result A ToolFault} (Err answer) (Err (tool.Part index fault))
+      (from to : Gathered) → ◌≡◌ {A = Result A ToolFault} (Err answer) (Err (tool.Part index fault))
       → ReadsAll left health pulls limits old from (Err answer) new to → RefusesReader left health pulls limits old new index fault from
   part_refused limits old new index fault answer from to e reads =
       let same : answer ≡ tool.Part index fault = cc in
@@ -276,7 +276,7 @@ module _ {R : Type 0} (left : R → Option (List ℕ)) (health : R → Health) (
 
   -- where reading ended with a fault, the readers before the one that was refused were read to their ends
   pub stopped_read_out : (A : Type 0) (limits : Limits) (old new : List R) (answer : ToolFault) (from to : Gathered)
-    → ReadsAll left health pulls limits old from (Err answer) new to
+      → ReadsAll left health pulls limits old from (Err answer) new to
       → AreReadOut left health pulls limits old new (read_count {A = A} (Err answer) (length old))
   stopped_read_out A limits old new (tool.Part index fault) from to reads = reads.out
   stopped_read_out A limits old new tool.NoParts from to reads = absurd reads
@@ -287,13 +287,13 @@ module _ {R : Type 0} (left : R → Option (List ℕ)) (health : R → Health) (
 
   -- reading ends with a fault only where something hinders it
   pub reading_hindered : (A : Type 0) (limits : Limits) (parts : List (List ℕ)) (ids : IdSize) (millis : ℕ) (facts : List FactValue)
-    (old new : List R) (answer : ToolFault) (from to : Gathered) → limits.max_item ≤ longest_body
+      (old new : List R) (answer : ToolFault) (from to : Gathered) → limits.max_item ≤ longest_body
       → Tell left old parts → IsState parts ids millis facts → All (λ reader. health reader ≡ healths.Well) new
-        → ReadsAll left health pulls limits old from (Err answer) new to
+      → ReadsAll left health pulls limits old from (Err answer) new to
       → (IsHindered {A = A} (Err answer) → ⊥) → IsOkOrConflict {A = A} (Err answer)
   reading_hindered A limits parts ids millis facts old new (tool.Part index fault) from to le told state well reads unhindered =
       absurd (never_refused limits parts ids millis facts old new index fault le state
-        (refuses_part limits parts old new index fault from told reads) well unhindered)
+      (refuses_part limits parts old new index fault from told reads) well unhindered)
   reading_hindered A limits parts ids millis facts old new tool.NoParts from to le told state well reads unhindered = absurd reads
   reading_hindered A limits parts ids millis facts old new tool.IdSizes from to le told state well reads unhindered = absurd reads
   reading_hindered A limits parts ids millis facts old new (tool.Conflict key) from to le told state well reads unhindered = absurd reads
@@ -302,14 +302,14 @@ module _ {R : Type 0} (left : R → Option (List ℕ)) (health : R → Health) (
 
 -- parts that state something together are some
 pub some_parts : {R : Type 0} (left : R → Option (List ℕ)) (old : List R) (parts : List (List ℕ)) (ids : IdSize) (millis : ℕ)
-  (facts : List FactValue) → Tell left old parts → IsState parts ids millis facts → old ≡ [] → ⊥
+    (facts : List FactValue) → Tell left old parts → IsState parts ids millis facts → old ≡ [] → ⊥
 some_parts left [] [] ids millis facts told state none = no_states state.states millis state.of_parts state.earliest
 some_parts left [] (bytes ∷ parts) ids millis facts told state none = absurd cc
 some_parts left (reader ∷ old) parts ids millis facts told state none = absurd cc
 
 -- parts that were gathered from nothing
 pub from_nothing : (from to : Gathered) (given : List Given) → from ≡ nothing_gathered → Gathers from given to
-  → Gathers nothing_gathered given to
+    → Gathers nothing_gathered given to
 from_nothing from to given e gathers = subst (λ (g : Gathered). Gathers g given to) e gathers
 
 -- what is told at a refusal, where it is known which
@@ -318,7 +318,7 @@ told_of given refusal known e tells = subst (λ (r : Refusal). Tells given (Err 
 
 -- a conflict is told at its key
 pub told_conflict : {A : Type 0} (given : List Given) (refusal : Refusal) (key named : Key) → refusal ≡ refusals.Conflict key
-  → ◌≡◌ {A = Result A ToolFault} (Err (tool.Conflict key)) (Err (tool.Conflict named)) → Tells given (Err refusal)
+    → ◌≡◌ {A = Result A ToolFault} (Err (tool.Conflict key)) (Err (tool.Conflict named)) → Tells given (Err refusal)
     → Tells given (Err (refusals.Conflict named))
 told_conflict given refusal key named e same tells =
     let one : key ≡ named = cc in
@@ -326,7 +326,7 @@ told_conflict given refusal key named e same tells =
 
 -- the fault of an answer is that of the writer
 pub write_fault : {A : Type 0} (fault other : WriteFault) → ◌≡◌ {A = Result A ToolFault} (Err (tool.Write fault))
-  (Err (tool.Write other)) → fault ≡ other
+    (Err (tool.Write other)) → fault ≡ other
 write_fault fault other e = cc
 
 -- a result that is an error, and the only one that it can be
@@ -337,7 +337,7 @@ the_fault result fault is =
 
 -- what hinders an answer hinders one of another kind with the same fault
 pub as_hindered : (A B : Type 0) (fault : ToolFault) → ((IsHindered {A = A} (Err fault) → ⊥) → IsOkOrConflict {A = A} (Err fault))
-  → (IsHindered {A = B} (Err fault) → ⊥) → IsOkOrConflict {A = B} (Err fault)
+    → (IsHindered {A = B} (Err fault) → ⊥) → IsOkOrConflict {A = B} (Err fault)
 as_hindered A B (tool.Part index fault) is = is
 as_hindered A B tool.NoParts is = is
 as_hindered A B tool.IdSizes is = is

@@ -16,18 +16,18 @@ use Rattle.hprof_stream.proofs.Parts.{states_one}
 
 -- equal dumps are of equal heaps
 pub same_dumps : (ids other_ids : IdSize) (millis other_millis : ℕ) (rows others : List FactValue)
-  → IsHeap (record { ids = ids; millis = millis; facts = rows })
+    → IsHeap (record { ids = ids; millis = millis; facts = rows })
     → IsHeap (record { ids = other_ids; millis = other_millis; facts = others }) → canonical_dump ids millis rows
-      ≡ canonical_dump other_ids other_millis others
+    ≡ canonical_dump other_ids other_millis others
     → (ids ≡ other_ids) × (millis ≡ other_millis) × (rows ≡ others)
 same_dumps ids other_ids millis other_millis rows others heap other e =
     states_one (canonical_dump other_ids other_millis others) ids other_ids millis other_millis rows others
     (subst (λ (b : List ℕ). IsPart b ids millis rows) e (dump_is_part ids millis rows heap))
-      (dump_is_part other_ids other_millis others other)
+    (dump_is_part other_ids other_millis others other)
 
 -- what parts state is said of the set of their facts
 pub state_of_set : (others : List (List ℕ)) (ids : IdSize) (millis : ℕ) (facts more : List FactValue) → IsState others ids millis more
-  → SameFacts facts more → IsState others ids millis facts
+    → SameFacts facts more → IsState others ids millis facts
 state_of_set others ids millis facts more state same = record {
   states = state.states;
   of_parts = state.of_parts;
@@ -39,7 +39,7 @@ state_of_set others ids millis facts more state same = record {
 
 -- the dump is of the set
 pub dump_of_set : (parts others : List (List ℕ)) (ids : IdSize) (millis : ℕ) (rows more : List FactValue) → Agree parts ids millis rows
-  → Agree others ids millis more → SameFacts rows more
+    → Agree others ids millis more → SameFacts rows more
     → canonical_dump ids millis rows ≡ canonical_dump ids millis more
 dump_of_set parts others ids millis rows more one two same =
-  ap (canonical_dump ids millis) (one_order rows more one.ordered two.ordered same)
+    ap (canonical_dump ids millis) (one_order rows more one.ordered two.ordered same)

@@ -28,27 +28,27 @@ use Rattle.hprof_engine.proofs.PartByPart.{Says, OneOf, SayTogether, says_once, 
 
 module _ (some parts : List (List ℕ)) (within : (bytes : List ℕ) → Contains some bytes → Contains parts bytes) (ids other : IdSize)
     (millis more : ℕ) (facts rows : List FactValue) (few : SayTogether some ids millis facts) (all : SayTogether parts other more rows)
-      where
-  -- one of some parts is one of all
-  one_of_all : (one : OneOf some ids) → (it : OneOf parts other) × (one.says.millis ≡ it.says.millis) × (one.says.facts ≡ it.says.facts)
-  one_of_all one =
-      let there = within one.bytes one.there in
-      let says = all.each one.bytes there in
-      let same = says_once ids other one.bytes one.bytes one.says says refl in
-      (record { bytes = one.bytes; there = there; says = says }, same.0, same.1)
+  where
+    -- one of some parts is one of all
+    one_of_all : (one : OneOf some ids) → (it : OneOf parts other) × (one.says.millis ≡ it.says.millis) × (one.says.facts ≡ it.says.facts)
+    one_of_all one =
+        let there = within one.bytes one.there in
+        let says = all.each one.bytes there in
+        let same = says_once ids other one.bytes one.bytes one.says says refl in
+        (record { bytes = one.bytes; there = there; says = says }, same.0, same.1)
 
-  -- their facts are facts of all
-  pub some_facts : (fact : FactValue) → Has facts fact → Has rows fact
-  some_facts fact has =
-      let one = few.stated fact has in
-      let it = one_of_all one.0 in
-      all.states fact it.0 (subst (λ (l : List FactValue). Has l fact) it.2 one.1)
+    -- their facts are facts of all
+    pub some_facts : (fact : FactValue) → Has facts fact → Has rows fact
+    some_facts fact has =
+        let one = few.stated fact has in
+        let it = one_of_all one.0 in
+        all.states fact it.0 (subst (λ (l : List FactValue). Has l fact) it.2 one.1)
 
-  -- and their time is not before that of all
-  pub some_later : more ≤ millis
-  some_later =
-      let it = one_of_all few.earliest.0 in
-      subst (λ (n : ℕ). more ≤ n) (sym it.1 ∙ few.earliest.1) (all.least it.0)
+    -- and their time is not before that of all
+    pub some_later : more ≤ millis
+    some_later =
+        let it = one_of_all few.earliest.0 in
+        subst (λ (n : ℕ). more ≤ n) (sym it.1 ∙ few.earliest.1) (all.least it.0)
 
 -- parts say one thing together
 together_once : (parts : List (List ℕ)) (ids other : IdSize) (millis more : ℕ) (facts rows : List FactValue)
@@ -72,7 +72,7 @@ some_disagree some parts within ids millis rows key dis agree =
     let all = say_together parts ids millis rows agree.state in
     no_conflict rows key agree.consistent
     (HasConflict-more dis.facts rows key (some_facts some parts within dis.ids ids dis.millis millis dis.facts rows few all)
-      dis.least.conflict)
+    dis.least.conflict)
 
 -- ---- parts that are divided
 
@@ -214,10 +214,10 @@ agree_alike parts others ids common millis facts rows say alike agree =
 
 -- parts agree where the dumps of two lists do, among which they are divided
 pub dumps_join : (parts ones others : List (List ℕ)) (ids : IdSize) (millis one_millis other_millis : ℕ)
-  (rows one_rows other_rows : List FactValue)
+    (rows one_rows other_rows : List FactValue)
     → AreDivided parts ones others → Agree ones ids one_millis one_rows → Agree others ids other_millis other_rows
     → Agree parts ids millis rows ↔ Agree (canonical_dump ids one_millis one_rows ∷ canonical_dump ids other_millis other_rows ∷ []) ids
-      millis rows
+    millis rows
 dumps_join parts ones others ids millis one_millis other_millis rows one_rows other_rows divided one other =
     let dump = canonical_dump ids one_millis one_rows in
     let dump_too = canonical_dump ids other_millis other_rows in

@@ -118,7 +118,7 @@ module _ (parts : List (List ℕ)) (ids : IdSize) (states : List PartState) (of_
     millis = state.millis;
     facts = state.facts;
     part = subst (λ (i : IdSize). IsPart state.bytes i state.millis state.facts)
-      (holds_of (λ part. part.ids ≡ ids) states state sizes there)
+        (holds_of (λ part. part.ids ≡ ids) states state sizes there)
         (holds_of StatesIt states state each there);
   }
 
@@ -166,7 +166,7 @@ module _ (parts : List (List ℕ)) (ids : IdSize) (states : List PartState) (of_
     states = λ fact one has.
         let it = is_listed one in
         (same fact).1 (has_all (λ part. part.facts) states it.state fact it.there (subst (λ (l : List FactValue). Has l fact)
-          (sym it.facts) has));
+        (sym it.facts) has));
   }
 
   -- and the other way round

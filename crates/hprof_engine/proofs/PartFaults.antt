@@ -25,24 +25,24 @@ use Rattle.hprof_stream.proofs.Longer.{longer_input}
 
 -- a settled fault of a front is one of the whole
 settled_of_whole : (longest most : ℕ) (came rest : List ℕ) (fault : PartFault) → IsFirstFault longest (take most came) fault
-  → is_settled fault ≡ true → IsFirstFault longest (came ++ rest) fault
+    → is_settled fault ≡ true → IsFirstFault longest (came ++ rest) fault
 settled_of_whole longest most came rest fault first settled =
     let more = longer_input longest (take most came) (drop most came ++ rest) fault first settled in
     let whole : take most came ++ (drop most came ++ rest) ≡ came ++ rest = sym (append_assoc (take most came) (drop most came) rest)
-      ∙ ap (λ (b : List ℕ). b ++ rest) (take-append-drop most came) in
+    ∙ ap (λ (b : List ℕ). b ++ rest) (take-append-drop most came) in
     subst (λ (b : List ℕ). IsFirstFault longest b fault) whole more
 
 -- bytes behind which no more are left are the whole
 unsettled_of_whole : (longest most : ℕ) (came rest : List ℕ) (fault : PartFault) → IsFirstFault longest (take most came) fault
-  → rest ≡ [] → length came ≤ most → IsFirstFault longest (came ++ rest) fault
+    → rest ≡ [] → length came ≤ most → IsFirstFault longest (came ++ rest) fault
 unsettled_of_whole longest most came rest fault first ends within =
     let whole : take most came ≡ came ++ rest = take_all most came within ∙ sym (append-nil came)
-      ∙ ap (λ (b : List ℕ). came ++ b) (sym ends) in
+    ∙ ap (λ (b : List ℕ). came ++ b) (sym ends) in
     subst (λ (b : List ℕ). IsFirstFault longest b fault) whole first
 
 -- so many pulls gave a byte each
 each_gave : {R : Type 0} (left : R → Option (List ℕ)) (pulls : R → ℕ) (was : R) (came : List ℕ) (count : ℕ) (is : R)
-  → Pulled left pulls was came count is → count ≤ length came
+    → Pulled left pulls was came count is → count ≤ length came
 each_gave left pulls was came count is none = omega arith
 each_gave left pulls was came count is (once_more {came = front} {piece = piece} {count = before} {mid = mid} first pull some) =
     omega (arith, each_gave left pulls was front before mid first, some, length-append front piece)
@@ -62,51 +62,60 @@ shown_failed gatherer = (gathered gatherer).failed
 
 -- a gatherer that had not failed refuses nothing but for want of memory
 no_failure : (limits : Limits) (bytes : List ℕ) (told : Option Header) (old mid : Gatherer) (given : List FactValue)
-  → (gathered old).failed ≡ false
+    → (gathered old).failed ≡ false
     → RanUpTo shown_begins shown_steps limits.max_item bytes [] None told old mid → shown_refuses mid given sinks.Failed → ⊥
 no_failure limits bytes told old mid given sound ran refuses =
     let still = Run-sound (gathered old) (gathered mid) (header_before ran.whole.before) ran.handed
-      (Run-shown old mid (header_before ran.whole.before) ran.handed ran.ran) sound in
+    (Run-shown old mid (header_before ran.whole.before) ran.handed ran.ran) sound in
     let other : sinks.Failed ≡ sinks.OutOfMemory = (refuses still).0 in
     cc
 
 -- what could not be held
 unheld : (limits : Limits) (front piece : List ℕ) (old new : Gatherer) → LacksAtLast shown_begins shown_steps shown_refuses shown_failed
-  limits front piece old new → IsUnheld limits front piece
+    limits front piece old new → IsUnheld limits front piece
 unheld limits front piece old new lacks = elim lacks.lacks [ inl all ↦ inl (all.0, all.1, all.2) | inr held ↦ inr (held.0, held.1) ]
 
 module _ {R : Type 0} (left : R → Option (List ℕ)) (health : R → Health) (pulls : R → ℕ) where
   -- with which fault a part is refused of which these bytes came
   pub fault_of_came : (limits : Limits) (earlier : List Given) (was : R) (came : List ℕ) (is : R) (old new : Gatherer)
-    (fault : PartFault) → (gathered old).failed ≡ false → Gathers nothing_gathered earlier (gathered old)
+      (fault : PartFault) → (gathered old).failed ≡ false → Gathers nothing_gathered earlier (gathered old)
       → ReadsPart left health pulls shown_begins shown_steps shown_refuses shown_failed limits was came is old (Err fault) new
-        → IsPartFault left health pulls limits earlier was came is fault
-  fault_of_came limits earlier was came is old new (faults.Malformed at Truncated) sound gathers reads =
-      (reads.2, subst (λ (b : List ℕ). IsFirstFault limits.max_item b (faults.Malformed at Truncated))
-        (sym (take_all limits.max_bytes came reads.3)) reads.4, λ e. absurd cc, λ _. (reads.0, reads.1, reads.3))
+      → IsPartFault left health pulls limits earlier was came is fault
+  fault_of_came limits earlier was came is old new (faults.Malformed at Truncated) sound gathers reads = (
+    reads.2,
+    subst (λ (b : List ℕ). IsFirstFault limits.max_item b (faults.Malformed at Truncated))
+        (sym (take_all limits.max_bytes came reads.3)) reads.4,
+    λ e. absurd cc,
+    λ _. (reads.0, reads.1, reads.3),
+  )
   fault_of_came limits earlier was came is old new (faults.Malformed at BadMagic) sound gathers reads =
-    (reads.1, reads.2.1.0, λ _. reads.0, λ e. absurd cc)
+      (reads.1, reads.2.1.0, λ _. reads.0, λ e. absurd cc)
   fault_of_came limits earlier was came is old new (faults.Malformed at BadIdSize) sound gathers reads =
-    (reads.1, reads.2.1.0, λ _. reads.0, λ e. absurd cc)
+      (reads.1, reads.2.1.0, λ _. reads.0, λ e. absurd cc)
   fault_of_came limits earlier was came is old new (faults.Malformed at BadLength) sound gathers reads =
-    (reads.1, reads.2.1.0, λ _. reads.0, λ e. absurd cc)
+      (reads.1, reads.2.1.0, λ _. reads.0, λ e. absurd cc)
   fault_of_came limits earlier was came is old new (faults.Malformed at BadSubTag) sound gathers reads =
-    (reads.1, reads.2.1.0, λ _. reads.0, λ e. absurd cc)
+      (reads.1, reads.2.1.0, λ _. reads.0, λ e. absurd cc)
   fault_of_came limits earlier was came is old new (faults.Malformed at PastEnd) sound gathers reads =
-    (reads.1, reads.2.1.0, λ _. reads.0, λ e. absurd cc)
+      (reads.1, reads.2.1.0, λ _. reads.0, λ e. absurd cc)
   fault_of_came limits earlier was came is old new (faults.Malformed at BadType) sound gathers reads =
-    (reads.1, reads.2.1.0, λ _. reads.0, λ e. absurd cc)
+      (reads.1, reads.2.1.0, λ _. reads.0, λ e. absurd cc)
   fault_of_came limits earlier was came is old new (faults.ItemTooLong at) sound gathers reads = (reads.1, reads.2.1.0, reads.0)
-  fault_of_came limits earlier was came is old new faults.OutOfMemory sound gathers reads =
-      (reads.0, elim reads.1 [ inl nothing ↦ inl (nothing.0, nothing.1) | inr last ↦ inr
-        (last.0, unheld limits last.0.front last.0.piece old new last.1) ])
+  fault_of_came limits earlier was came is old new faults.OutOfMemory sound gathers reads = (
+    reads.0,
+    elim reads.1 [
+      | inl nothing ↦ inl (nothing.0, nothing.1)
+      | inr last ↦ inr
+          (last.0, unheld limits last.0.front last.0.piece old new last.1)
+    ],
+  )
   fault_of_came limits earlier was came is old new (faults.Sink sinks.OutOfMemory) sound gathers reads =
       let stops = reads.1.1 in
       let ran = stops.ran in
       let shown = Run-shown old stops.mid (header_before ran.whole.before) ran.handed ran.ran in
       let still = Run-sound (gathered old) (gathered stops.mid) (header_before ran.whole.before) ran.handed shown sound in
       let fresh = new_behind earlier (header_before ran.whole.before) ran.handed ran.whole.last.facts (gathered old)
-        (gathered stops.mid) gathers shown (stops.refused.0 still).1 in (
+      (gathered stops.mid) gathers shown (stops.refused.0 still).1 in (
         reads.0,
         (
           reads.1.0,
@@ -115,13 +124,13 @@ module _ {R : Type 0} (left : R → Option (List ℕ)) (health : R → Health) (
             ran.whole,
             stops.behind,
             subst (λ (facts : List FactValue). IsNewBehind earlier (header_before ran.whole.before) facts ran.whole.last.facts)
-              (sym ran.has_facts) fresh,
+                (sym ran.has_facts) fresh,
           ),
         ),
       )
   fault_of_came limits earlier was came is old new (faults.Sink sinks.Failed) sound gathers reads =
       no_failure limits (take limits.max_bytes came) reads.1.1.header old reads.1.1.mid reads.1.1.ran.whole.last.facts sound
-        reads.1.1.ran reads.1.1.refused.0
+      reads.1.1.ran reads.1.1.refused.0
   fault_of_came limits earlier was came is old new faults.Failed sound gathers reads = absurd reads.2.1
   fault_of_came limits earlier was came is old new faults.Read sound gathers reads = (reads.1, reads.2.0, reads.2.1, reads.0)
   fault_of_came limits earlier was came is old new faults.ReadsExceeded sound gathers reads = (reads.1, reads.0, reads.2.0, reads.2.1)
@@ -129,7 +138,7 @@ module _ {R : Type 0} (left : R → Option (List ℕ)) (health : R → Health) (
 
   -- a fault of an item that came is the first of the whole part
   of_rest : (limits : Limits) (earlier : List Given) (was : R) (came rest : List ℕ) (is : R) (fault : PartFault) → left is ≡ Some rest
-    → IsPartFault left health pulls limits earlier was came is fault → IsOfPart limits (came ++ rest) fault
+      → IsPartFault left health pulls limits earlier was came is fault → IsOfPart limits (came ++ rest) fault
   of_rest limits earlier was came rest is (faults.Malformed at reason) told why =
       elim (cases_Bool (is_lasting reason)) [
         | inl settled ↦ settled_of_whole limits.max_item limits.max_bytes came rest (faults.Malformed at reason) why.1 settled
@@ -139,7 +148,7 @@ module _ {R : Type 0} (left : R → Option (List ℕ)) (health : R → Health) (
             unsettled_of_whole limits.max_item limits.max_bytes came rest (faults.Malformed at reason) why.1 ends whole.2
       ]
   of_rest limits earlier was came rest is (faults.ItemTooLong at) told why = settled_of_whole limits.max_item limits.max_bytes came rest
-    (faults.ItemTooLong at) why.1 refl
+      (faults.ItemTooLong at) why.1 refl
   of_rest limits earlier was came rest is faults.OutOfMemory told why = tt
   of_rest limits earlier was came rest is (faults.Sink fault) told why = tt
   of_rest limits earlier was came rest is faults.Failed told why = tt
@@ -149,14 +158,14 @@ module _ {R : Type 0} (left : R → Option (List ℕ)) (health : R → Health) (
   of_rest limits earlier was came rest is faults.BytesExceeded told why = omega (arith, why.1, length-append came rest)
 
   pub of_part : (limits : Limits) (earlier : List Given) (was : R) (bytes came : List ℕ) (is : R) (fault : PartFault)
-    → left was ≡ Some bytes → Consumes (left was) (left is) came → IsPartFault left health pulls limits earlier was came is fault
+      → left was ≡ Some bytes → Consumes (left was) (left is) came → IsPartFault left health pulls limits earlier was came is fault
       → IsOfPart limits bytes fault
   of_part limits earlier was bytes came is fault told consumed why = by (left is) refl
     where
       by : (rest : Option (List ℕ)) → left is ≡ rest → IsOfPart limits bytes fault
       by None e = absurd (subst (λ (l : Option (List ℕ)). Consumes l None came) told
-        (subst (λ (l : Option (List ℕ)). Consumes (left was) l came) e consumed))
+          (subst (λ (l : Option (List ℕ)). Consumes (left was) l came) e consumed))
       by (Some rest) e =
           let whole : bytes ≡ came ++ rest = subst (λ (l : Option (List ℕ)). Consumes l (Some rest) came) told
-            (subst (λ (l : Option (List ℕ)). Consumes (left was) l came) e consumed) in
+          (subst (λ (l : Option (List ℕ)). Consumes (left was) l came) e consumed) in
           subst (λ (b : List ℕ). IsOfPart limits b fault) (sym whole) (of_rest limits earlier was came rest is fault e why)

@@ -27,28 +27,28 @@ all_told parts = map Some parts
 module _ (limits : Limits) where
   -- the parts of these states
   pub states-bytes : (parts : List (List ℕ)) (given : List Given) → AreGiven limits (all_told parts) given
-    → map (λ part. part.bytes) (states_of parts given) ≡ parts
+      → map (λ part. part.bytes) (states_of parts given) ≡ parts
   states-bytes [] given are = refl
   states-bytes (bytes ∷ parts) [] are = absurd are
   states-bytes (bytes ∷ parts) (part ∷ given) are = ap (λ (bs : List (List ℕ)). bytes ∷ bs) (states-bytes parts given are.1)
 
   -- each is one of its part
   pub states-each : (parts : List (List ℕ)) (given : List Given) → AreGiven limits (all_told parts) given
-    → AllByRecursion StatesIt (states_of parts given)
+      → AllByRecursion StatesIt (states_of parts given)
   states-each [] given are = tt
   states-each (bytes ∷ parts) [] are = absurd are
   states-each (bytes ∷ parts) (part ∷ given) are = (are.0.1, states-each parts given are.1)
 
   -- their sizes are those that were given
   pub states-sizes : (ids : IdSize) (parts : List (List ℕ)) (given : List Given) → AreGiven limits (all_told parts) given
-    → AllByRecursion (λ part. part.header.ids ≡ ids) given
+      → AllByRecursion (λ part. part.header.ids ≡ ids) given
       → AllByRecursion (λ part. part.ids ≡ ids) (states_of parts given)
   states-sizes ids [] given are sizes = tt
   states-sizes ids (bytes ∷ parts) [] are sizes = absurd are
   states-sizes ids (bytes ∷ parts) (part ∷ given) are sizes = (sizes.0, states-sizes ids parts given are.1 sizes.1)
 
   pub sizes-states : (ids : IdSize) (parts : List (List ℕ)) (given : List Given) → AreGiven limits (all_told parts) given
-    → AllByRecursion (λ part. part.ids ≡ ids) (states_of parts given)
+      → AllByRecursion (λ part. part.ids ≡ ids) (states_of parts given)
       → AllByRecursion (λ part. part.header.ids ≡ ids) given
   sizes-states ids [] [] are sizes = tt
   sizes-states ids [] (part ∷ given) are sizes = absurd are
@@ -57,7 +57,7 @@ module _ (limits : Limits) where
 
   -- their times are those that were given
   states-millis : (parts : List (List ℕ)) (given : List Given) → AreGiven limits (all_told parts) given
-    → map (λ part. part.millis) (states_of parts given) ≡ map (λ part. part.header.millis) given
+      → map (λ part. part.millis) (states_of parts given) ≡ map (λ part. part.header.millis) given
   states-millis [] [] are = refl
   states-millis [] (part ∷ given) are = absurd are
   states-millis (bytes ∷ parts) [] are = absurd are
@@ -65,7 +65,7 @@ module _ (limits : Limits) where
 
   -- their facts are those that were given
   states-facts : (parts : List (List ℕ)) (given : List Given) → AreGiven limits (all_told parts) given
-    → flat_map (λ part. part.facts) (states_of parts given) ≡ all_given given
+      → flat_map (λ part. part.facts) (states_of parts given) ≡ all_given given
   states-facts [] [] are = refl
   states-facts [] (part ∷ given) are = absurd are
   states-facts (bytes ∷ parts) [] are = absurd are
@@ -73,9 +73,9 @@ module _ (limits : Limits) where
 
   -- parts of one size state together what was given
   pub given_state : (parts : List (List ℕ)) (given : List Given) (ids : IdSize) (millis : ℕ) (facts : List FactValue)
-    → AreGiven limits (all_told parts) given
+      → AreGiven limits (all_told parts) given
       → AllByRecursion (λ part. part.header.ids ≡ ids) given → IsLeastOf (map (λ part. part.header.millis) given) millis
-        → SameFacts facts (all_given given) → IsState parts ids millis facts
+      → SameFacts facts (all_given given) → IsState parts ids millis facts
   given_state parts given ids millis facts are sizes least same = record {
     states = states_of parts given;
     of_parts = states-bytes parts given are;
@@ -87,7 +87,7 @@ module _ (limits : Limits) where
 
   -- parts that were given two sizes have them
   pub given_sizes : (parts : List (List ℕ)) (given : List Given) → AreGiven limits (all_told parts) given
-    → ((ids : IdSize) → AllByRecursion (λ part. part.header.ids ≡ ids) given → ⊥) → HaveTwoSizes parts
+      → ((ids : IdSize) → AllByRecursion (λ part. part.header.ids ≡ ids) given → ⊥) → HaveTwoSizes parts
   given_sizes parts given are two = record {
     states = states_of parts given;
     of_parts = states-bytes parts given are;
@@ -97,7 +97,7 @@ module _ (limits : Limits) where
 
   -- the parts that were given were read to their ends
   pub given_sound : (parts : List (List ℕ)) (given : List Given) → AreGiven limits (all_told parts) given
-    → AllByRecursion (IsAccepted limits) parts
+      → AllByRecursion (IsAccepted limits) parts
   given_sound [] given are = tt
   given_sound (bytes ∷ parts) [] are = absurd are
   given_sound (bytes ∷ parts) (part ∷ given) are = (are.0.0, given_sound parts given are.1)
@@ -115,7 +115,7 @@ least_of (n ∷ m ∷ ns) some = let rest = least_of (m ∷ ns) (λ e. cc) in (m
 
 -- states of the same parts have the same sizes
 pub sizes_once : (ids : IdSize) (states others : List PartState) → map (λ part. part.bytes) states ≡ map (λ part. part.bytes) others
-  → AllByRecursion StatesIt states → AllByRecursion StatesIt others
+    → AllByRecursion StatesIt states → AllByRecursion StatesIt others
     → AllByRecursion (λ part. part.ids ≡ ids) states → AllByRecursion (λ part. part.ids ≡ ids) others
 sizes_once ids states [] e each each_too sizes = tt
 sizes_once ids [] (other ∷ others) e each each_too sizes = absurd cc
@@ -123,8 +123,8 @@ sizes_once ids (part ∷ states) (other ∷ others) e each each_too sizes =
     let bytes : part.bytes ≡ other.bytes = cc in
     let behind : map (λ (p : PartState). p.bytes) states ≡ map (λ (p : PartState). p.bytes) others = cc in
     let one = states_one other.bytes part.ids other.ids part.millis other.millis part.facts other.facts
-      (subst (λ (b : List ℕ). StatesIt (record { bytes = b; ids = part.ids; millis = part.millis; facts = part.facts })) bytes each.0)
-      each_too.0 in
+    (subst (λ (b : List ℕ). StatesIt (record { bytes = b; ids = part.ids; millis = part.millis; facts = part.facts })) bytes each.0)
+    each_too.0 in
     (sym one.0 ∙ sizes.0, sizes_once ids states others behind each.1 each_too.1 sizes.1)
 
 -- the part that a reader had to tell, among all parts
@@ -138,14 +138,22 @@ pub record IsPlaced {R : Type 0} (left : R → Option (List ℕ)) (old : List R)
   pub told_before : map left (take index old) ≡ all_told before
 
 pub placed : {R : Type 0} (left : R → Option (List ℕ)) (old : List R) (parts : List (List ℕ)) (index : ℕ) (was : R)
-  → map left old ≡ all_told parts → slice_get old index ≡ Some was → IsPlaced left old parts index was
+    → map left old ≡ all_told parts → slice_get old index ≡ Some was → IsPlaced left old parts index was
 placed left [] parts index was told there = absurd cc
 placed left (reader ∷ old) [] index was told there = absurd cc
 placed left (reader ∷ old) (bytes ∷ parts) zero was told there =
     let same : reader ≡ was = cc in
     let first : left reader ≡ Some bytes = cc in
-    record { before = []; bytes = bytes; after = parts; in_order = refl; place = refl; told = ap left (sym same) ∙ first; told_before =
-      refl }
+    record {
+      before = [];
+      bytes = bytes;
+      after = parts;
+      in_order = refl;
+      place = refl;
+      told = ap left (sym same) ∙ first;
+      told_before =
+          refl;
+    }
 placed left (reader ∷ old) (bytes ∷ parts) (suc index) was told there =
     let first : left reader ≡ Some bytes = cc in
     let behind : map left old ≡ all_told parts = cc in
@@ -158,5 +166,5 @@ placed left (reader ∷ old) (bytes ∷ parts) (suc index) was told there =
       place = ap suc rest.place;
       told = rest.told;
       told_before = ap (λ (l : Option (List ℕ)). l ∷ map left (take index old)) first
-        ∙ ap (λ (ls : List (Option (List ℕ))). Some bytes ∷ ls) rest.told_before;
+          ∙ ap (λ (ls : List (Option (List ℕ))). Some bytes ∷ ls) rest.told_before;
     }

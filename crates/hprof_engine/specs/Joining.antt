@@ -93,19 +93,19 @@ module _ {R : Type 0} (left : R → Option (List ℕ)) (health : R → Health) (
       × (is_lasting reason ≡ false → PulledOut left pulls limits was came is × IsAtEnd (left is) × (length came ≤ limits.max_bytes))
   IsPartFault limits earlier was came is (faults.ItemTooLong at) =
       (health is ≡ healths.Well) × IsFirstFault limits.max_item (take limits.max_bytes came) (faults.ItemTooLong at)
-        × CameLast left pulls limits was came is
+      × CameLast left pulls limits was came is
   IsPartFault limits earlier was came is faults.BytesExceeded =
       (health is ≡ healths.Well) × (limits.max_bytes < length came) × HasNoSettledFault limits.max_item (take limits.max_bytes came)
-        × CameLast left pulls limits was came is
+      × CameLast left pulls limits was came is
   IsPartFault limits earlier was came is faults.Read =
       (health is ≡ healths.Failed) × (length came ≤ limits.max_bytes) × HasNoSettledFault limits.max_item came
-        × PulledOut left pulls limits was came is
+      × PulledOut left pulls limits was came is
   IsPartFault limits earlier was came is faults.ReadsExceeded =
       (health is ≡ healths.Well) × Pulled left pulls was came limits.max_reads is × (length came ≤ limits.max_bytes)
-        × HasNoSettledFault limits.max_item came
+      × HasNoSettledFault limits.max_item came
   IsPartFault limits earlier was came is faults.OutOfMemory =
       (health is ≡ healths.Well) × (((came ≡ []) × (was ≡ is)) ⊎ ((last : CameLast left pulls limits was came is)
-        × IsUnheld limits last.front last.piece))
+      × IsUnheld limits last.front last.piece))
   IsPartFault limits earlier was came is (faults.Sink sinks.OutOfMemory) =
       (health is ≡ healths.Well) × ((last : CameLast left pulls limits was came is) × ((told : Option Header)
       × (whole : BeginsWhole limits.max_item (take limits.max_bytes came) told) × (length last.front < whole_len whole)
@@ -186,7 +186,7 @@ module _ {R : Type 0} (left : R → Option (List ℕ)) (health : R → Health) (
   -- all readers were read to their ends, or one was refused
   abbrev pub ReadsAll : Limits → List R → Gathered → Result (Unit {0}) ToolFault → List R → Gathered → Type 0
   ReadsAll limits old from (Ok done) new to = GathersFirst left limits old (length old) from to
-    × AreReadOut left health pulls limits old new (length old)
+      × AreReadOut left health pulls limits old new (length old)
   ReadsAll limits old from (Err (tool.Part index fault)) new to = RefusesReader limits old new index fault from
   ReadsAll limits old from (Err other) new to = ⊥
 

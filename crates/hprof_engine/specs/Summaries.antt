@@ -32,7 +32,7 @@ AreSummarised (left ∷ lefts) [] = ⊥
 
 -- so many readers were read to their ends, and what they told was told on
 pub record KeepsFirst {R S : Type 0} (left : R → Option (List ℕ)) (keeps : S → PartSummary → S → Type 0) (readers : List R) (count : ℕ)
-  (old new : S) : Type 0 where
+    (old new : S) : Type 0 where
   pub summaries : List PartSummary
   pub of_readers : AreSummarised (map left (take count readers)) summaries
   pub kept : KeepsAll keeps summaries old new

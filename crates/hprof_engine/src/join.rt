@@ -13,7 +13,8 @@ ghost use Rattle.hprof_heap.specs.declared.key.Key.{Key};
 ghost use Rattle.hprof_heap.specs.Dump.{canonical_dump};
 ghost use Rattle.hprof_heap.specs.Heap.{heap_of};
 ghost use Rattle.hprof_heap.specs.State.{IsState, HaveTwoSizes};
-ghost use Rattle.hprof_engine.specs.Joining.{joined_of, Tell, Joins, StopsWriting, Disagree, IsAccepted, RefusesPart, AreReadOut, read_count, AreRead, IsHindered, IsOkOrConflict, IsBeforeWriting};
+ghost use Rattle.hprof_engine.specs.Joining.{joined_of, Tell, Joins, StopsWriting, Disagree, IsAccepted, RefusesPart, AreReadOut};
+ghost use Rattle.hprof_engine.specs.Joining.{read_count, AreRead, IsHindered, IsOkOrConflict, IsBeforeWriting};
 
 use crate::joined::{Joined, Kept};
 use crate::read::read_heap;
@@ -59,7 +60,8 @@ pub fn join_kept<R: Source, W: Target>(
 
     // Each reader that was read to its end, which are all, or those before the one that was refused: nothing was read
     // behind the end.
-    ensures read_out { AreReadOut R.left R.health R.pulls limits readers.old readers.new (read_count (joined_of result) (length readers.old)) }
+    ensures read_out { AreReadOut R.left R.health R.pulls limits readers.old readers.new
+        (read_count (joined_of result) (length readers.old)) }
 
     // Refusals while writing: the writer failed or stuck, and a front of the dump was written.
     ensures write { (fault : WriteFault) → joined_of result ≡ Err (ToolFault.Write fault)

@@ -52,7 +52,8 @@ pub fn order_repetition_and_cutting_do_not_matter()
 /// Joined dumps join: where parts are divided among two lists in any way, the dump of all is that of the dumps of the two
 /// lists. Where the parts of one list do not agree, all do not.
 pub fn joined_dumps_join()
-    ensures dumps { (parts ones others : List (List ℕ)) (ids : IdSize) (millis one_millis other_millis : ℕ) (rows one_rows other_rows : List FactValue)
+    ensures dumps { (parts ones others : List (List ℕ)) (ids : IdSize) (millis one_millis other_millis : ℕ)
+        (rows one_rows other_rows : List FactValue)
         → AreDivided parts ones others → Agree ones ids one_millis one_rows → Agree others ids other_millis other_rows
         → Agree parts ids millis rows
         ↔ Agree (canonical_dump ids one_millis one_rows ∷ canonical_dump ids other_millis other_rows ∷ []) ids millis rows }

@@ -10,7 +10,8 @@ ghost use Rattle.hprof_stream.specs.declared.part_fault.PartFault.{PartFault};
 ghost use Rattle.hprof_heap.specs.declared.key.Key.{Key};
 ghost use Rattle.hprof_heap.specs.Heap.{heap_of};
 ghost use Rattle.hprof_heap.specs.State.{IsState, HaveTwoSizes};
-ghost use Rattle.hprof_engine.specs.Joining.{Tell, Agree, Disagree, IsAccepted, RefusesPart, AreReadOut, read_count, AreRead, IsHindered, IsOkOrConflict};
+ghost use Rattle.hprof_engine.specs.Joining.{Tell, Agree, Disagree, IsAccepted, RefusesPart, AreReadOut, read_count, AreRead, IsHindered};
+ghost use Rattle.hprof_engine.specs.Joining.{IsOkOrConflict};
 ghost use Rattle.hprof_engine.specs.Summaries.{KeepsFirst, KeepsSummaries};
 
 use crate::parts::read_parts;

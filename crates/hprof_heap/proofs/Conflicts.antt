@@ -8,7 +8,7 @@ use Rattle.hprof_heap.proofs.Keys.{key_le-antisym, same_place, same_place-true}
 
 -- some of facts that agree agree
 pub IsConsistent-some : (facts others : List FactValue) → ((fact : FactValue) → Has others fact → Has facts fact) → IsConsistent facts
-  → IsConsistent others
+    → IsConsistent others
 IsConsistent-some facts others some agree key one other has_one has_other = agree key one other (some one has_one) (some other has_other)
 
 -- whether facts agree is that of the set
@@ -17,7 +17,7 @@ IsConsistent-same facts others same = IsConsistent-some facts others (λ fact. (
 
 -- of facts that agree two at one place are the same
 pub IsConsistent-key : (facts : List FactValue) (one other : FactValue) → IsConsistent facts → Has facts one → Has facts other
-  → same_place one other ≡ true → one ≡ other
+    → same_place one other ≡ true → one ≡ other
 IsConsistent-key facts one other agree has_one has_other e =
     elim (same_place-true one other e) [
       | inl have ↦ agree have.key one other has_one has_other have.key_of_one have.key_of_other
@@ -26,7 +26,7 @@ IsConsistent-key facts one other agree has_one has_other e =
 
 -- a conflict of some facts is one of more
 pub HasConflict-more : (facts others : List FactValue) (key : Key) → ((fact : FactValue) → Has facts fact → Has others fact)
-  → HasConflict facts key → HasConflict others key
+    → HasConflict facts key → HasConflict others key
 HasConflict-more facts others key more c = record {
   one = c.one;
   other = c.other;
@@ -39,7 +39,7 @@ HasConflict-more facts others key more c = record {
 
 -- the least conflict is that of the set
 pub IsLeastConflict-same : (facts others : List FactValue) (key : Key) → SameFacts facts others → IsLeastConflict facts key
-  → IsLeastConflict others key
+    → IsLeastConflict others key
 IsLeastConflict-same facts others key same least = record {
   conflict = HasConflict-more facts others key (λ fact. (same fact).0) least.conflict;
   least = λ other c. least.least other (HasConflict-more others facts other (λ fact. (same fact).1) c);

@@ -132,8 +132,16 @@ segment_short ids (first ∷ second ∷ others) is subs = rw length-flat_map (om
 
 segment_is : (ids : IdSize) (segment : List FactValue) → AreSegment ids segment → IsOne ids (segment_record ids segment)
 segment_is ids segment are =
-    dumps (record { tag = 0x1c; is_dump = refl; time = 0; is_time = omega arith; each = are.1; short =
-      segment_short ids segment are.0 are.1; spelled = refl })
+    dumps (record {
+      tag = 0x1c;
+      is_dump = refl;
+      time = 0;
+      is_time = omega arith;
+      each = are.1;
+      short =
+          segment_short ids segment are.0 are.1;
+      spelled = refl;
+    })
 
 segments_are : (ids : IdSize) (subs : List FactValue) → AllByRecursion (IsSubFact ids) subs
     → AllByRecursion (AreSegment ids) (segments_of ids subs)

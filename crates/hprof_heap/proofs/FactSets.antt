@@ -33,7 +33,7 @@ All-has P (first ∷ facts) fact all (inr has) = All-has P facts fact all.1 has
 
 -- what holds of whichever fact is there holds of each
 pub All-from_has : (P : FactValue → Type 0) (facts : List FactValue) → ((fact : FactValue) → Has facts fact → P fact)
-  → AllByRecursion P facts
+    → AllByRecursion P facts
 All-from_has P [] each = tt
 All-from_has P (first ∷ facts) each = (each first (inl refl), All-from_has P facts (λ fact has. each fact (inr has)))
 
@@ -49,7 +49,7 @@ SameFacts-trans facts others more same too fact = (λ has. (too fact).0 ((same f
 
 -- one more fact, which was there
 pub SameFacts-again : (facts others : List FactValue) (fact : FactValue) → SameFacts facts others → Has others fact
-  → SameFacts facts (fact ∷ others)
+    → SameFacts facts (fact ∷ others)
 SameFacts-again facts others fact same there other = (
   λ has. inr ((same other).0 has),
   λ has. (same other).1 (elim has [ inl e ↦ subst (Has others) (sym e) there | inr h ↦ h ]),

@@ -67,8 +67,11 @@ unloads_right ids rows = right_by ids 2 unload_fact no_content rows (λ key row.
 
 pub frames_right : (ids : IdSize) (rows : List (ℕ × FrameRow)) → AreRight ids 3 frame_fact frame_numbers rows
 frames_right ids rows = right_by ids 3 frame_fact frame_numbers rows
-    (λ key row. (refl, ap (λ (line : ℤ). row.method ∷ row.signature ∷ row.source ∷ row.class_serial ∷ line_numbers line)
-      (line_again row.line)))
+    (λ key row. (
+      refl,
+      ap (λ (line : ℤ). row.method ∷ row.signature ∷ row.source ∷ row.class_serial ∷ line_numbers line)
+          (line_again row.line),
+    ))
 
 pub starts_right : (ids : IdSize) (rows : List (ℕ × StartRow)) → AreRight ids 5 start_fact start_numbers rows
 starts_right ids rows = right_by ids 5 start_fact start_numbers rows (λ key row. (refl, refl))
@@ -131,11 +134,11 @@ with_same (facts ∷ tables) zero = refl
 with_same (facts ∷ tables) (suc place) = ap (λ (l : List (List FactValue)). facts ∷ l) (with_same tables place)
 
 kept_joined : {E : Type 0} (r : Result Stated E) (tables : List (List FactValue)) (place : ℕ) (new : List FactValue)
-  → OnErr r (new ≡ table_at tables place)
+    → OnErr r (new ≡ table_at tables place)
     → OnErr r (joined (with_table tables place new) ≡ joined tables)
 kept_joined (Ok answer) tables place new kept = tt
 kept_joined (Err e) tables place new kept = ap (λ (l : List FactValue). joined (with_table tables place l)) kept
-  ∙ ap joined (with_same tables place)
+    ∙ ap joined (with_same tables place)
 
 module _ {E : Type 0} (r : Result Stated E) (rows : HeapRows) (are : AreHeap rows) (place : ℕ) (new : List FactValue) (fact : FactValue)
     (of : IsOf place fact) (within : place < length (tables_of rows)) (fits : Fits rows.ids fact)
@@ -150,7 +153,7 @@ module _ {E : Type 0} (r : Result Stated E) (rows : HeapRows) (are : AreHeap row
   pub into_heap-sound : OnErr r (new ≡ table_at (tables_of rows) place)
       → IsHeap (with_facts rows.ids rows.millis (joined (with_table (tables_of rows) place new)))
   into_heap-sound kept = tried_among-sound r rows.ids rows.millis (joined (tables_of rows))
-    (joined (with_table (tables_of rows) place new)) fact
+      (joined (with_table (tables_of rows) place new)) fact
       (states_tables r (tables_of rows) place new fact (heap_tables rows are) of within among)
       (kept_joined r (tables_of rows) place new kept) fits are.heap
 
@@ -178,7 +181,7 @@ unseen_in_heap (Err e) rows place fact are of none = unseen (heap_of_rows rows) 
     find_from (same_place fact) (tables_of rows) place 0 place
     (λ n other in_table differ. false_from_ne_true (same_place fact other) (λ yes.
     let same : place ∷ of.more ≡ n ∷ in_table.more = sym of.stands ∙ (bytes_eq-Decides (place_of fact) (place_of other)).0 yes
-      ∙ in_table.stands in
+    ∙ in_table.stands in
     differ (sym (ap (λ (ns : List ℕ). slice_index ns 0) same))))
     (omega arith) (heap_tables rows are)
     ∙ none
@@ -186,20 +189,20 @@ unseen_in_heap (Err e) rows place fact are of none = unseen (heap_of_rows rows) 
 
 -- so is one whose key has no row
 pub unseen_row : {E V : Type 0} (r : Result Stated E) (rows : HeapRows) (table key : ℕ) (fact : ℕ → List ℕ → FactValue) (content : V
-  → List ℕ) (of_table : List (ℕ × V))
+    → List ℕ) (of_table : List (ℕ × V))
     (stated : FactValue) → AreHeap rows → place_of stated ≡ table ∷ key ∷ [] → AreRight rows.ids table fact content of_table
     → table_at (tables_of rows) table ≡ facts_of_rows fact content of_table → OnErr r (row_at key of_table ≡ None)
-      → OnErr r (IsNewAmong (heap_of_rows rows).facts stated)
+    → OnErr r (IsNewAmong (heap_of_rows rows).facts stated)
 unseen_row (Ok answer) rows table key fact content of_table stated are at right facts none = tt
 unseen_row (Err e) rows table key fact content of_table stated are at right facts none =
     unseen_in_heap (Err e) rows table stated are (of_key table key stated at)
     (ap (find (same_place stated)) facts ∙ find_rows rows.ids table fact content of_table key stated at right
-      ∙ ap (option_map (λ row. fact key (content row))) none)
+    ∙ ap (option_map (λ row. fact key (content row))) none)
 
 -- ---- the number of facts
 
 pub length_rows : {V : Type 0} (fact : ℕ → List ℕ → FactValue) (content : V → List ℕ) (rows : List (ℕ × V))
-  → length rows ≡ length (facts_of_rows fact content rows)
+    → length rows ≡ length (facts_of_rows fact content rows)
 length_rows fact content [] = refl
 length_rows fact content (row ∷ rows) = ap suc (length_rows fact content rows)
 
@@ -223,7 +226,7 @@ pub trace_again : (ids : IdSize) (serial thread : ℕ) (frames : List ℕ) → F
     → trace_fact ids serial (content_of ids (Trace serial thread frames)) ≡ Trace serial thread frames
 trace_again ids serial thread frames fits =
     ap (Trace serial thread) (ids_again ids frames (field_bytes (id_widths ids (length frames)) frames)
-      (record { fits = fits.0.rest; spelled = refl })).1
+    (record { fits = fits.0.rest; spelled = refl })).1
 
 -- ---- classes and objects
 
@@ -244,7 +247,7 @@ sub_of_place (PrimArray id trace elem bytes) le = refl
 
 pub sub_at_place : (fact : FactValue) (table key : ℕ) → place_of fact ≡ table ∷ key ∷ [] → 7 ≤ table → record_of fact ≡ None
 sub_at_place fact table key at le = let first : slice_index (place_of fact) 0 ≡ table =
-  ap (λ (ns : List ℕ). slice_index ns 0) at in sub_of_place fact (omega arith)
+    ap (λ (ns : List ℕ). slice_index ns 0) at in sub_of_place fact (omega arith)
 
 -- their content is their spelling
 pub sub_content : (ids : IdSize) (fact : FactValue) → record_of fact ≡ None → content_of ids fact ≡ dump_bytes ids fact
@@ -275,13 +278,13 @@ spelled_read ids key fact bytes spells =
     (record { room = len; longest = len; there = len }))
 
 pub spelled_again : (ids : IdSize) (key : ℕ) (fact : FactValue) → record_of fact ≡ None → Fits ids fact
-  → spelled_fact ids key (content_of ids fact) ≡ fact
+    → spelled_fact ids key (content_of ids fact) ≡ fact
 spelled_again ids key fact e fits =
     ap (spelled_fact ids key) (sub_content ids fact e) ∙ spelled_read ids key fact (dump_bytes ids fact) (sub_spells ids fact e fits)
 
 -- what was stated of the spelling was stated of the content
 pub spelled_stated : {E : Type 0} (r : Result Stated E) (ids : IdSize) (key : ℕ) (fact : FactValue) (bytes : List ℕ)
-  (old new : List (ℕ × List ℕ)) → record_of fact ≡ None
+    (old new : List (ℕ × List ℕ)) → record_of fact ≡ None
     → bytes ≡ dump_bytes ids fact → IfOk r (λ answer. States the_bytes old key bytes answer new)
     → IfOk r (λ answer. States the_bytes old key (content_of ids fact) answer new)
 spelled_stated r ids key fact bytes old new e spelled ok =
@@ -300,7 +303,7 @@ pub look_up : (rows : HeapRows) (table number : ℕ) (key : Key) → AreHeap row
     → find (has_key key) (joined (tables_of rows)) ≡ find (stands_at (table ∷ number ∷ [])) (table_at (tables_of rows) table)
 look_up rows table number key are at =
     find_alike (has_key key) (stands_at (table ∷ number ∷ [])) (joined (tables_of rows)) (λ fact.
-      has_key_at key (table ∷ number ∷ []) fact at)
+    has_key_at key (table ∷ number ∷ []) fact at)
     ∙ find_from (stands_at (table ∷ number ∷ [])) (tables_of rows) table 0 table
     (λ n fact of differ. false_from_ne_true (stands_at (table ∷ number ∷ []) fact) (λ yes.
     let same : table ∷ number ∷ [] ≡ n ∷ of.more = (bytes_eq-Decides (table ∷ number ∷ []) (place_of fact)).0 yes ∙ of.stands in
@@ -309,10 +312,10 @@ look_up rows table number key are at =
 
 -- and is that of the key's row
 pub look_up_row : {V : Type 0} (rows : HeapRows) (table number : ℕ) (key : Key) (fact : ℕ → List ℕ → FactValue) (content : V → List ℕ)
-  (of_table : List (ℕ × V))
+    (of_table : List (ℕ × V))
     (any : FactValue) (found : Option V) → AreHeap rows → place_of_key key ≡ table ∷ number ∷ [] → place_of any ≡ table ∷ number ∷ []
     → AreRight rows.ids table fact content of_table → table_at (tables_of rows) table ≡ facts_of_rows fact content of_table
-      → row_at number of_table ≡ found
+    → row_at number of_table ≡ found
     → find (has_key key) (joined (tables_of rows)) ≡ option_map (λ row. fact number (content row)) found
 look_up_row rows table number key fact content of_table any found are at at_any right facts e =
     look_up rows table number key are at ∙ ap (find (stands_at (table ∷ number ∷ []))) facts
@@ -324,7 +327,7 @@ look_up_row rows table number key fact content of_table any found are at at_any 
 
 -- what is found among the facts of a heap fits
 pub found_fits : (rows : HeapRows) (p : FactValue → Bool) (fact : FactValue) → AreHeap rows → find p (joined (tables_of rows))
-  ≡ Some fact → Fits rows.ids fact
+    ≡ Some fact → Fits rows.ids fact
 found_fits rows p fact are e = are.heap.fit fact (find-Some p (joined (tables_of rows)) fact e).0
 
 -- the row of a class or an object spells its fact

@@ -25,7 +25,7 @@ missed false fact rest e = (refl, e)
 
 -- the first passed, or something else was found
 hit : (t : Bool) (fact other : FactValue) (rest : Option FactValue) → cond t (Some fact) rest ≡ Some other
-  → ((t ≡ true) × (other ≡ fact)) ⊎ (rest ≡ Some other)
+    → ((t ≡ true) × (other ≡ fact)) ⊎ (rest ≡ Some other)
 hit true fact other rest e = inl (refl, cc)
 hit false fact other rest e = inr e
 
@@ -33,12 +33,12 @@ hit false fact other rest e = inr e
 pub find-None : (p : FactValue → Bool) (facts : List FactValue) (fact : FactValue) → find p facts ≡ None → Has facts fact → p fact ≡ false
 find-None p [] fact e has = absurd has
 find-None p (first ∷ facts) fact e (inl same) =
-  subst (λ (x : FactValue). p x ≡ false) (sym same) (missed (p first) first (find p facts) e).0
+    subst (λ (x : FactValue). p x ≡ false) (sym same) (missed (p first) first (find p facts) e).0
 find-None p (first ∷ facts) fact e (inr has) = find-None p facts fact (missed (p first) first (find p facts) e).1 has
 
 -- what is found is there, and passes
 pub find-Some : (p : FactValue → Bool) (facts : List FactValue) (fact : FactValue) → find p facts ≡ Some fact → Has facts fact
-  × (p fact ≡ true)
+    × (p fact ≡ true)
 find-Some p [] fact e = absurd cc
 find-Some p (first ∷ facts) fact e = elim (hit (p first) first fact (find p facts) e) [
   | inl h ↦ (inl h.1, subst (λ (x : FactValue). p x ≡ true) (sym h.1) h.0)
@@ -57,7 +57,7 @@ pub inserted-has : (facts : List FactValue) (fact other : FactValue) → Has (in
 inserted-has [] fact other = λ has. has
 inserted-has (first ∷ facts) fact other =
     cond_both (is_before fact first) (fact ∷ first ∷ facts) (first ∷ inserted facts fact) (λ (l : List FactValue). Has l other
-      → (other ≡ fact) ⊎ Has (first ∷ facts) other)
+    → (other ≡ fact) ⊎ Has (first ∷ facts) other)
     (λ _ has. has)
     (λ _ has. elim has [ inl e ↦ inr (inl e) | inr h ↦ elim (inserted-has facts fact other h) [ inl e ↦ inl e | inr g ↦ inr (inr g) ] ])
 
@@ -67,41 +67,52 @@ has-inserted [] fact other has = has
 has-inserted (first ∷ facts) fact other has =
     cond_both (is_before fact first) (fact ∷ first ∷ facts) (first ∷ inserted facts fact) (λ (l : List FactValue). Has l other)
     (λ _. has)
-    (λ _. elim has [ inl e ↦ inr (has-inserted facts fact other (inl e)) | inr h ↦ elim h [ inl e ↦ inl e | inr g ↦ inr
-      (has-inserted facts fact other (inr g)) ] ])
+    (λ _. elim has [
+      | inl e ↦ inr (has-inserted facts fact other (inl e))
+      | inr h ↦ elim h [
+        | inl e ↦ inl e
+        | inr g ↦ inr
+            (has-inserted facts fact other (inr g))
+      ]
+    ])
 
 -- what holds of the new fact and of each that was there holds of each afterwards
 pub All-inserted : (P : FactValue → Type 0) (facts : List FactValue) (fact : FactValue) → P fact
-  → ((other : FactValue) → Has facts other → P other)
+    → ((other : FactValue) → Has facts other → P other)
     → (other : FactValue) → Has (inserted facts fact) other → P other
 All-inserted P facts fact new old other has = elim (inserted-has facts fact other has) [ inl e ↦ subst P (sym e) new | inr h ↦ old other h ]
 
 -- a new fact that fits leaves facts that fit
 pub inserted-fit : (ids : IdSize) (facts : List FactValue) (fact : FactValue) → Fits ids fact → AllFit ids facts
-  → AllFit ids (inserted facts fact)
+    → AllFit ids (inserted facts fact)
 inserted-fit ids facts fact fits all = All-inserted (Fits ids) facts fact fits all
 
 -- the same, where no fact that is there passes
 inserted-ordered_by : (facts : List FactValue) (fact : FactValue) → IsCanonicalOrder facts → ((other : FactValue) → Has facts other
-  → same_place fact other ≡ false) → IsCanonicalOrder (inserted facts fact)
+    → same_place fact other ≡ false) → IsCanonicalOrder (inserted facts fact)
 inserted-ordered_by [] fact ordered new = (tt, tt)
 inserted-ordered_by (first ∷ facts) fact ordered new =
     cond_both (is_before fact first) (fact ∷ first ∷ facts) (first ∷ inserted facts fact) IsCanonicalOrder
-    (λ e. let before = is_before-true fact first e in
-    ((before, All-from_has (IsBefore fact) facts (λ other has.
-      IsBefore-trans fact first other before (All-has (IsBefore first) facts other ordered.0 has))), ordered))
+    (λ e. let before = is_before-true fact first e in (
+      (
+        before,
+        All-from_has (IsBefore fact) facts (λ other has.
+            IsBefore-trans fact first other before (All-has (IsBefore first) facts other ordered.0 has)),
+      ),
+      ordered,
+    ))
     (λ e. (
       All-from_has (IsBefore first) (inserted facts fact)
           (All-inserted (IsBefore first) facts fact (is_before-false fact first e (new first (inl refl))) (λ other has.
-            All-has (IsBefore first) facts other ordered.0 has)),
+          All-has (IsBefore first) facts other ordered.0 has)),
       inserted-ordered_by facts fact ordered.1 (λ other has. new other (inr has)),
     ))
 
 -- a fact of a new key, put in its place, leaves facts in order
 pub inserted-ordered : (facts : List FactValue) (fact : FactValue) → IsCanonicalOrder facts → find (same_place fact) facts ≡ None
-  → IsCanonicalOrder (inserted facts fact)
+    → IsCanonicalOrder (inserted facts fact)
 inserted-ordered facts fact ordered none =
-  inserted-ordered_by facts fact ordered (λ other has. find-None (same_place fact) facts other none has)
+    inserted-ordered_by facts fact ordered (λ other has. find-None (same_place fact) facts other none has)
 
 -- they are the new fact and those that were there
 pub inserted-same : (facts : List FactValue) (fact : FactValue) → SameFacts (inserted facts fact) (fact ∷ facts)
@@ -111,13 +122,13 @@ inserted-same facts fact other = (inserted-has facts fact other, has-inserted fa
 pub unseen : (heap : HeapValue) (fact : FactValue) → find (same_place fact) heap.facts ≡ None → IsNewAmong heap.facts fact
 unseen heap fact none = record {
   is_new = λ other has have. same_place-false fact other (find-None (same_place fact) heap.facts other none has)
-    (HaveOneKey-sym other fact have);
+      (HaveOneKey-sym other fact have);
   absent = λ has. same_place-same fact (find-None (same_place fact) heap.facts fact none has);
 }
 
 -- a fact that fits, put in its place at a new key, is added
 pub inserted-adds : (heap : HeapValue) (fact : FactValue) → find (same_place fact) heap.facts ≡ None → Fits heap.ids fact → IsHeap heap
-  → Adds heap fact (record heap { facts = inserted heap.facts fact })
+    → Adds heap fact (record heap { facts = inserted heap.facts fact })
 inserted-adds heap fact none fits sound = record {
   is_new = (unseen heap fact none).is_new;
   absent = (unseen heap fact none).absent;
@@ -145,7 +156,7 @@ HasOrder facts = (rows : List FactValue) × IsCanonicalOrder rows × SameFacts r
 
 -- a list in order for one more fact, by whether its key is there
 one_more : (fact : FactValue) (facts rows : List FactValue) (found : Option FactValue) → find (same_place fact) rows ≡ found
-  → IsConsistent (fact ∷ facts)
+    → IsConsistent (fact ∷ facts)
     → IsCanonicalOrder rows → SameFacts rows facts → HasOrder (fact ∷ facts)
 one_more fact facts rows None e agree ordered same = (
   inserted rows fact,

@@ -29,7 +29,7 @@ facts_of_tables list facts = joined (map (λ table. facts_of_table table facts) 
 abbrev pub all_tables : List Table
 all_tables =
     tables.Names ∷ tables.Loads ∷ tables.Unloads ∷ tables.Frames ∷ tables.Traces ∷ tables.Starts ∷ tables.Ends ∷ tables.Roots
-      ∷ tables.Classes
+    ∷ tables.Classes
     ∷ tables.Objects ∷ []
 
 by_each : (f g : Table → List FactValue) (list : List Table) → ((table : Table) → f table ≡ g table) → map f list ≡ map g list
@@ -42,7 +42,7 @@ by_each f g (table ∷ list) same =
 pub all_facts : (rows : HeapRows) → AreHeap rows → facts_of_tables all_tables (heap_of_rows rows).facts ≡ (heap_of_rows rows).facts
 all_facts rows are =
     ap joined (by_each (λ table. facts_of_table table (joined (tables_of rows))) (λ table.
-      table_at (tables_of rows) (number_of_table table))
+    table_at (tables_of rows) (number_of_table table))
     all_tables (λ table. table_facts rows table are))
 
 -- ---- facts that are lacking

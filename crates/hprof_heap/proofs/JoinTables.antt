@@ -182,7 +182,7 @@ module _ {rows others : HeapRows} (can : CanJoin rows others) where
   has_other : (table : Table) (fact : FactValue) → Has (its table) fact → Has (joined (tables_of others)) fact
   has_other table fact has =
       subst (λ (some : HeapRows). Has (joined (tables_of some)) fact) is_sized
-        (has_joined (tables_of sized) (number_of_table table) fact has)
+      (has_joined (tables_of sized) (number_of_table table) fact has)
 
   agree_in : (table : Table) → AgreeAtPlaces (mine table) (its table)
   agree_in table one other has_mine has same =
@@ -281,7 +281,7 @@ module _ {rows others : HeapRows} (can : CanJoin rows others) where
         rw (its_is, from_contents rows.ids number fact content other) (has_stated rows.ids number fact its_rows lacks.0 lacks.1 lacks.2) in
         let at =
         (right_found rows.ids number fact the_bytes its_rows lacks.0 lacks.1
-          (contents_right rows.ids number fact content other right_too) lacks.2).0 in
+        (contents_right rows.ids number fact content other right_too) lacks.2).0 in
         let unseen = unseen_row (Err e) rows number lacks.0 fact the_bytes (contents_of content old) stated can.are at
         (contents_right rows.ids number fact content old right) (mine_is ∙ from_contents rows.ids number fact content old) lacks.3 in
         (stated, in_its table stated has, unseen.absent)
@@ -311,7 +311,7 @@ module _ {rows others : HeapRows} (can : CanJoin rows others) where
     bytes_union old other new ok = rw (bytes_again old, bytes_again other, bytes_again new) ok
 
     bytes_lack : (old other : List (ℕ × List ℕ)) → OnErr r (LacksOne old other)
-      → OnErr r (LacksOne (contents_of the_bytes old) (contents_of the_bytes other))
+        → OnErr r (LacksOne (contents_of the_bytes old) (contents_of the_bytes other))
     bytes_lack old other lacks = rw (bytes_again old, bytes_again other) lacks
 
     pub names_joined : (new : List (ℕ × List ℕ)) → IfOk r (λ _. AreUnion rows.names others.names new) → OnErr r (new ≡ rows.names)
@@ -328,7 +328,7 @@ module _ {rows others : HeapRows} (can : CanJoin rows others) where
 
     pub loads_joined : (new : List (ℕ × LoadRow))
         → IfOk r (λ _. AreUnion (contents_of load_numbers rows.loads) (contents_of load_numbers others.loads)
-          (contents_of load_numbers new))
+        (contents_of load_numbers new))
         → OnErr r (new ≡ rows.loads) → OnErr r (LacksOne (contents_of load_numbers rows.loads) (contents_of load_numbers others.loads))
         → AreJoined r tables.Loads (record rows { loads = new })
     loads_joined new ok err absent =
@@ -347,7 +347,7 @@ module _ {rows others : HeapRows} (can : CanJoin rows others) where
         → AreJoined r tables.Unloads (record rows { unloads = new })
     unloads_joined new ok err absent =
         let table = rows_joined tables.Unloads unload_fact no_content rows.unloads others.unloads refl refl
-          (unloads_right rows.ids rows.unloads)
+        (unloads_right rows.ids rows.unloads)
         (unloads_right rows.ids others.unloads) r new ok err in
         record {
           takes = table.takes;
@@ -358,12 +358,12 @@ module _ {rows others : HeapRows} (can : CanJoin rows others) where
 
     pub frames_joined : (new : List (ℕ × FrameRow))
         → IfOk r (λ _. AreUnion (contents_of frame_numbers rows.frames) (contents_of frame_numbers others.frames)
-          (contents_of frame_numbers new))
+        (contents_of frame_numbers new))
         → OnErr r (new ≡ rows.frames) → OnErr r (LacksOne (contents_of frame_numbers rows.frames) (contents_of frame_numbers others.frames))
         → AreJoined r tables.Frames (record rows { frames = new })
     frames_joined new ok err absent =
         let table = rows_joined tables.Frames frame_fact frame_numbers rows.frames others.frames refl refl
-          (frames_right rows.ids rows.frames)
+        (frames_right rows.ids rows.frames)
         (frames_right rows.ids others.frames) r new ok err in
         record {
           takes = table.takes;
@@ -374,7 +374,7 @@ module _ {rows others : HeapRows} (can : CanJoin rows others) where
 
     pub traces_joined : (new : List (ℕ × TraceRow))
         → IfOk r (λ _. AreUnion (contents_of trace_content rows.traces) (contents_of trace_content others.traces)
-          (contents_of trace_content new))
+        (contents_of trace_content new))
         → OnErr r (new ≡ rows.traces) → OnErr r (LacksOne (contents_of trace_content rows.traces) (contents_of trace_content others.traces))
         → AreJoined r tables.Traces (record rows { traces = new })
     traces_joined new ok err absent =
@@ -395,12 +395,12 @@ module _ {rows others : HeapRows} (can : CanJoin rows others) where
 
     pub starts_joined : (new : List (ℕ × StartRow))
         → IfOk r (λ _. AreUnion (contents_of start_numbers rows.starts) (contents_of start_numbers others.starts)
-          (contents_of start_numbers new))
+        (contents_of start_numbers new))
         → OnErr r (new ≡ rows.starts) → OnErr r (LacksOne (contents_of start_numbers rows.starts) (contents_of start_numbers others.starts))
         → AreJoined r tables.Starts (record rows { starts = new })
     starts_joined new ok err absent =
         let table = rows_joined tables.Starts start_fact start_numbers rows.starts others.starts refl refl
-          (starts_right rows.ids rows.starts)
+        (starts_right rows.ids rows.starts)
         (starts_right rows.ids others.starts) r new ok err in
         record {
           takes = table.takes;
@@ -427,7 +427,7 @@ module _ {rows others : HeapRows} (can : CanJoin rows others) where
         → OnErr r (LacksRoot rows.roots others.roots) → AreJoined r tables.Roots (record rows { roots = new })
     roots_joined new ok err absent =
         let table = joined_by r tables.Roots (root_facts new) (tried_roots r rows.roots others.roots new ok)
-          (roots_kept r rows.roots new err) in
+        (roots_kept r rows.roots new err) in
         record {
           takes = table.takes;
           lacks = roots_lack r absent;
@@ -447,7 +447,7 @@ module _ {rows others : HeapRows} (can : CanJoin rows others) where
             heap = table.is_heap;
             traces = can.are.traces;
             classes = tried_union_right rows.ids 8 (spelled_fact rows.ids) the_bytes rows.classes others.classes can.are.classes
-              sized_are.classes r new
+                sized_are.classes r new
                 (bytes_union rows.classes others.classes new ok) err;
             objects = can.are.objects;
           };
@@ -467,7 +467,7 @@ module _ {rows others : HeapRows} (can : CanJoin rows others) where
             traces = can.are.traces;
             classes = can.are.classes;
             objects = tried_union_right rows.ids 9 (spelled_fact rows.ids) the_bytes rows.objects others.objects can.are.objects
-              sized_are.objects r new
+                sized_are.objects r new
                 (bytes_union rows.objects others.objects new ok) err;
           };
         }

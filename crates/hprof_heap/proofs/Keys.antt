@@ -51,7 +51,7 @@ key_le-refl key = true-key_le key key (inr (refl, omega arith))
 pub key_le-trans : (key other more : Key) → key_le key other ≡ true → key_le other more ≡ true → key_le key more ≡ true
 key_le-trans key other more a b =
     true-key_le key more (IsUpTo-trans (rank_of key) (number_of key) (rank_of other) (number_of other) (rank_of more) (number_of more)
-      (key_le-true key other a) (key_le-true other more b))
+    (key_le-true key other a) (key_le-true other more b))
 
 -- of two keys one is no greater
 pub key_le-total : (key other : Key) → (key_le key other ≡ true) ⊎ (key_le other key ≡ true)
@@ -95,7 +95,7 @@ IsUpTo-both r n s m (inr a) (inr b) = (a.0, omega arith)
 pub key_le-antisym : (key other : Key) → key_le key other ≡ true → key_le other key ≡ true → key ≡ other
 key_le-antisym key other a b =
     let same = IsUpTo-both (rank_of key) (number_of key) (rank_of other) (number_of other) (key_le-true key other a)
-      (key_le-true other key b) in
+    (key_le-true other key b) in
     sym (key_is key) ∙ ap (λ (r : ℕ). key_at r (number_of key)) same.0 ∙ ap (λ (n : ℕ). key_at (rank_of other) n) same.1 ∙ key_is other
 
 -- the lesser of two keys is one of them, and no greater than either
@@ -143,7 +143,7 @@ key_place (Start thread object trace name group parent_group) key e = keyed_plac
 key_place (End thread) key e = absurd cc
 key_place (Rooted root) key e = absurd cc
 key_place (Class id trace parent loader signers domain reserved1 reserved2 size constants statics fields) key e =
-  keyed_place _ (keys.Class id) key refl e
+    keyed_place _ (keys.Class id) key refl e
 key_place (Instance id trace class bytes) key e = keyed_place _ (keys.Object id) key refl e
 key_place (ObjArray id trace class elements) key e = keyed_place _ (keys.Object id) key refl e
 key_place (PrimArray id trace elem bytes) key e = keyed_place _ (keys.Object id) key refl e
@@ -152,9 +152,9 @@ key_place (PrimArray id trace elem bytes) key e = keyed_place _ (keys.Object id)
 abbrev key_in : (table number : ℕ) → Option Key
 key_in table number =
     if table == 0 then Some (keys.Name number) else (if table == 1 then Some (keys.Load number) else
-      (if table == 3 then Some (keys.Frame number)
+    (if table == 3 then Some (keys.Frame number)
     else (if table == 4 then Some (keys.Trace number) else (if table == 5 then Some (keys.Thread number) else
-      (if table == 8 then Some (keys.Class number)
+    (if table == 8 then Some (keys.Class number)
     else (if table == 9 then Some (keys.Object number) else None))))))
 
 -- the key of the facts that stand at a place
@@ -199,7 +199,7 @@ unkeyed_at : List ℕ → FactValue
 unkeyed_at [] = Unload 0
 unkeyed_at (table ∷ []) = Unload 0
 unkeyed_at (table ∷ number ∷ more) =
-  if table == 2 then Unload number else (if table == 6 then End number else Rooted (root_with number more))
+    if table == 2 then Unload number else (if table == 6 then End number else Rooted (root_with number more))
 
 unkeyed_is : (fact : FactValue) → key_of fact ≡ None → fact ≡ unkeyed_at (place_of fact)
 unfolding unkeyed_at
@@ -222,7 +222,7 @@ same_place fact other = bytes_eq (place_of fact) (place_of other)
 
 -- two facts at one place have one key, or are one
 one_place : (one other : FactValue) (key : Option Key) → key_of one ≡ key → place_of one ≡ place_of other → HaveOneKey one other
-  ⊎ (one ≡ other)
+    ⊎ (one ≡ other)
 one_place one other None e same =
     let none : key_of other ≡ None = place_key other ∙ ap key_of_place (sym same) ∙ sym (place_key one) ∙ e in
     inr (unkeyed_is one e ∙ ap unkeyed_at same ∙ sym (unkeyed_is other none))

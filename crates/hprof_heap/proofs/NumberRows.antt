@@ -18,7 +18,7 @@ line_same (negsuc n) (negsuc m) e = ap negsuc (ap (λ (ns : List ℕ). slice_ind
 -- two frames have one content where their fields are equal
 pub frames_agree : (row other : FrameRow) → Decides
     (eqb row.method other.method && (eqb row.signature other.signature
-      && (eqb row.source other.source && (eqb row.class_serial other.class_serial && int_eq row.line other.line))))
+    && (eqb row.source other.source && (eqb row.class_serial other.class_serial && int_eq row.line other.line))))
     (frame_numbers row ≡ frame_numbers other)
 frames_agree row other = (
   λ e.
@@ -29,17 +29,17 @@ frames_agree row other = (
       let line : row.line ≡ other.line = (signed_Decides row.line other.line).0 rest.1 in
       ap (λ (n : ℕ). n ∷ row.signature ∷ row.source ∷ row.class_serial ∷ line_numbers row.line) (eqb-true row.method other.method method.0)
       ∙ ap (λ (n : ℕ). other.method ∷ n ∷ row.source ∷ row.class_serial ∷ line_numbers row.line)
-        (eqb-true row.signature other.signature signature.0)
+      (eqb-true row.signature other.signature signature.0)
       ∙ ap (λ (n : ℕ). other.method ∷ other.signature ∷ n ∷ row.class_serial ∷ line_numbers row.line)
-        (eqb-true row.source other.source source.0)
+      (eqb-true row.source other.source source.0)
       ∙ ap (λ (n : ℕ). other.method ∷ other.signature ∷ other.source ∷ n ∷ line_numbers row.line)
-        (eqb-true row.class_serial other.class_serial rest.0)
+      (eqb-true row.class_serial other.class_serial rest.0)
       ∙ ap (λ (l : ℤ). other.method ∷ other.signature ∷ other.source ∷ other.class_serial ∷ line_numbers l) line,
   λ e.
       let at : (place : ℕ) → slice_index (frame_numbers row) place ≡ slice_index (frame_numbers other) place =
-        λ place. ap (λ (ns : List ℕ). slice_index ns place) e in
+      λ place. ap (λ (ns : List ℕ). slice_index ns place) e in
       and_from _ _ (eq-eqb row.method other.method (at 0)) (and_from _ _ (eq-eqb row.signature other.signature (at 1))
-        (and_from _ _ (eq-eqb row.source other.source (at 2))
+      (and_from _ _ (eq-eqb row.source other.source (at 2))
       (and_from _ _ (eq-eqb row.class_serial other.class_serial (at 3))
-        ((signed_Decides row.line other.line).1 (line_same row.line other.line (ap (drop 4) e)))))),
+      ((signed_Decides row.line other.line).1 (line_same row.line other.line (ap (drop 4) e)))))),
 )

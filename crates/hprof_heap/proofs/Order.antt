@@ -36,12 +36,12 @@ IsBefore-place : (one other : FactValue) → place_of one ≡ place_of other →
 IsBefore-place one other same a =
     IsBefore-asym one other a
     (subst (λ (p : List ℕ). slice_cmp nat_cmp p (place_of one) ≡ Less) same
-      (subst (λ (p : List ℕ). slice_cmp nat_cmp (place_of one) p ≡ Less) (sym same) a))
+    (subst (λ (p : List ℕ). slice_cmp nat_cmp (place_of one) p ≡ Less) (sym same) a))
 
 -- a fact stands before none of its key
 pub IsBefore-key : (one other : FactValue) (key : Key) → IsBefore one other → key_of one ≡ Some key → key_of other ≡ Some key → ⊥
 IsBefore-key one other key before e f =
-  IsBefore-place one other (one_key_place one other (record { key = key; key_of_one = e; key_of_other = f })) before
+    IsBefore-place one other (one_key_place one other (record { key = key; key_of_one = e; key_of_other = f })) before
 
 -- whether the first fact stands before the second
 abbrev pub is_before : FactValue → FactValue → Bool
@@ -75,7 +75,7 @@ order_agrees [] ordered key one other has_one has_other k l = absurd has_one
 order_agrees (row ∷ rows) ordered key one other (inl e) (inl f) k l = e ∙ sym f
 order_agrees (row ∷ rows) ordered key one other (inl e) (inr has) k l =
     let before : IsBefore one other =
-      subst (λ (x : FactValue). IsBefore x other) (sym e) (All-has (IsBefore row) rows other ordered.0 has) in
+    subst (λ (x : FactValue). IsBefore x other) (sym e) (All-has (IsBefore row) rows other ordered.0 has) in
     absurd (IsBefore-key one other key before k l)
 order_agrees (row ∷ rows) ordered key one other (inr has) (inl f) k l =
     let before : IsBefore other one = subst (λ (x : FactValue). IsBefore x one) (sym f) (All-has (IsBefore row) rows one ordered.0 has) in
@@ -84,18 +84,18 @@ order_agrees (row ∷ rows) ordered key one other (inr has) (inr too) k l = orde
 
 -- two lists in order that have each other's first facts have one first fact
 heads_same : (x y : FactValue) (xs ys : List FactValue) → IsCanonicalOrder (x ∷ xs) → IsCanonicalOrder (y ∷ ys) → Has (y ∷ ys) x
-  → Has (x ∷ xs) y → x ≡ y
+    → Has (x ∷ xs) y → x ≡ y
 heads_same x y xs ys p q (inl e) there = e
 heads_same x y xs ys p q (inr here) (inl f) = sym f
 heads_same x y xs ys p q (inr here) (inr there) =
-  absurd (IsBefore-asym x y (All-has (IsBefore x) xs y p.0 there) (All-has (IsBefore y) ys x q.0 here))
+    absurd (IsBefore-asym x y (All-has (IsBefore x) xs y p.0 there) (All-has (IsBefore y) ys x q.0 here))
 
 -- behind one first fact they have the same facts
 tail_has : (x : FactValue) (xs ys : List FactValue) → IsCanonicalOrder (x ∷ xs) → SameFacts (x ∷ xs) (x ∷ ys) → (fact : FactValue)
-  → Has xs fact → Has ys fact
+    → Has xs fact → Has ys fact
 tail_has x xs ys p same fact has = elim ((same fact).0 (inr has)) [
   | inl e ↦ let before : IsBefore x x = subst (IsBefore x) e (All-has (IsBefore x) xs fact p.0 has) in absurd
-    (IsBefore-asym x x before before)
+      (IsBefore-asym x x before before)
   | inr there ↦ there
 ]
 
@@ -109,5 +109,5 @@ one_order (x ∷ xs) (y ∷ ys) p q same =
     let r : IsCanonicalOrder (x ∷ ys) = subst (λ (z : FactValue). IsCanonicalOrder (z ∷ ys)) (sym e) q in
     let with : SameFacts (x ∷ xs) (x ∷ ys) = subst (λ (z : FactValue). SameFacts (x ∷ xs) (z ∷ ys)) (sym e) same in
     let rest : xs ≡ ys = one_order xs ys p.1 q.1 (λ fact.
-      (tail_has x xs ys p with fact, tail_has x ys xs r (SameFacts-sym (x ∷ xs) (x ∷ ys) with) fact)) in
+    (tail_has x xs ys p with fact, tail_has x ys xs r (SameFacts-sym (x ∷ xs) (x ∷ ys) with) fact)) in
     cc

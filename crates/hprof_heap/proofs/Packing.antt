@@ -28,14 +28,14 @@ fronts (x ∷ front) (y ∷ other) rest left e =
 module _ {A : Type 0} (size : A → ℕ) (most : ℕ) where
   -- a segment of more than one is no longer than the most
   long_segment : (segment more : List A) (next : A) → IsSegment size most segment → IsSegment size most (segment ++ next ∷ more)
-    → sum_by size (segment ++ next ∷ more) ≤ most
+      → sum_by size (segment ++ next ∷ more) ≤ most
   long_segment [] more next is long = absurd is
   long_segment (only ∷ []) more next is long = long
   long_segment (first ∷ second ∷ others) more next is long = long
 
   -- what is no longer than the most is a segment, where something stands before one more
   segment_more : (segment : List A) (next : A) → IsSegment size most segment → sum_by size segment + size next ≤ most
-    → IsSegment size most (segment ++ next ∷ [])
+      → IsSegment size most (segment ++ next ∷ [])
   segment_more [] next is fits = absurd is
   segment_more (only ∷ []) next is fits = omega (arith, fits, sum_by-append size (only ∷ []) (next ∷ []))
   segment_more (first ∷ second ∷ others) next is fits = omega (arith, fits, sum_by-append size (first ∷ second ∷ others) (next ∷ []))
@@ -44,7 +44,7 @@ module _ {A : Type 0} (size : A → ℕ) (most : ℕ) where
 
   -- a segment does not end where a longer one does not
   not_shorter : (segment other : List A) (segments : List (List A)) (next : A) (more left : List A) → IsSegment size most segment
-    → IsSegment size most other → AllByRecursion (IsSegment size most) segments
+      → IsSegment size most other → AllByRecursion (IsSegment size most) segments
       → AreFull size most (segment ∷ segments) → other ≡ segment ++ next ∷ more → flat_map (λ s. s) segments ≡ next ∷ (more ++ left) → ⊥
   not_shorter segment other [] next more left is is_other each full front rest = cc
   not_shorter segment other ([] ∷ segments) next more left is is_other each full front rest = each.0
@@ -58,7 +58,7 @@ module _ {A : Type 0} (size : A → ℕ) (most : ℕ) where
   full_behind segment (next ∷ segments) full = full.1
 
   once : (segments others : List (List A)) → flat_map (λ s. s) segments ≡ flat_map (λ s. s) others
-    → AllByRecursion (IsSegment size most) segments → AllByRecursion (IsSegment size most) others
+      → AllByRecursion (IsSegment size most) segments → AllByRecursion (IsSegment size most) others
       → AreFull size most segments → AreFull size most others → segments ≡ others
   once [] [] e each each_too full full_too = refl
   once [] ([] ∷ others) e each each_too full full_too = absurd each_too.0
@@ -69,18 +69,18 @@ module _ {A : Type 0} (size : A → ℕ) (most : ℕ) where
       elim (fronts segment other (flat_map (λ s. s) segments) (flat_map (λ s. s) others) e) [
         | same front rest ↦
             let behind = once segments others rest each.1 each_too.1 (full_behind segment segments full)
-              (full_behind other others full_too) in
+            (full_behind other others full_too) in
             cc
         | shorter next more front rest ↦ absurd (not_shorter segment other segments next more (flat_map (λ s. s) others) each.0
-          each_too.0 each.1 full front rest)
+            each_too.0 each.1 full front rest)
         | longer next more front rest ↦ absurd (not_shorter other segment others next more (flat_map (λ s. s) segments) each_too.0
-          each.0 each_too.1 full_too front rest)
+            each.0 each_too.1 full_too front rest)
       ]
 
   pub packed_once : (subs : List A) (segments others : List (List A)) → IsPacked size most subs segments
-    → IsPacked size most subs others → segments ≡ others
+      → IsPacked size most subs others → segments ≡ others
   packed_once subs segments others is is_too = once segments others (is.in_order ∙ sym is_too.in_order) is.each is_too.each is.full
-    is_too.full
+      is_too.full
 
   -- ---- and this is it
 
@@ -94,11 +94,11 @@ module _ {A : Type 0} (size : A → ℕ) (most : ℕ) where
   begins first begun [] = refl
   begins first begun (next ∷ subs) =
       cond_both (leb (sum_by size (first ∷ begun) + size next) most) (packed_behind size most ((first ∷ begun) ++ next ∷ []) subs)
-        ((first ∷ begun) ∷ packed_behind size most (next ∷ []) subs) (Begins first)
+      ((first ∷ begun) ∷ packed_behind size most (next ∷ []) subs) (Begins first)
       (λ t. begins first (begun ++ next ∷ []) subs) (λ f. refl)
 
   full_more : (segment : List A) (next : A) (segments : List (List A)) → most < sum_by size segment + size next → Begins next segments
-    → AreFull size most segments → AreFull size most (segment ∷ segments)
+      → AreFull size most segments → AreFull size most (segment ∷ segments)
   full_more segment next [] over begins_so full = absurd begins_so
   full_more segment next ([] ∷ segments) over begins_so full = absurd begins_so
   full_more segment next ((one ∷ others) ∷ segments) over begins_so full = (omega (arith, over, ap size begins_so), full)
@@ -107,9 +107,9 @@ module _ {A : Type 0} (size : A → ℕ) (most : ℕ) where
   behind_is begun [] is = record { in_order = refl; each = (is, tt); full = tt }
   behind_is begun (next ∷ subs) is =
       cond_both (leb (sum_by size begun + size next) most) (packed_behind size most (begun ++ next ∷ []) subs)
-        (begun ∷ packed_behind size most (next ∷ []) subs) (IsPacked size most (begun ++ next ∷ subs))
+      (begun ∷ packed_behind size most (next ∷ []) subs) (IsPacked size most (begun ++ next ∷ subs))
       (λ t. subst (λ (l : List A). IsPacked size most l (packed_behind size most (begun ++ next ∷ []) subs))
-        (append_assoc begun (next ∷ []) subs)
+      (append_assoc begun (next ∷ []) subs)
       (behind_is (begun ++ next ∷ []) subs (segment_more begun next is (leb-true _ _ t))))
       (λ f.
       let rest = behind_is (next ∷ []) subs tt in

@@ -28,7 +28,7 @@ three : (make : ℕ → ℕ → ℕ → Root) (a b c x y z : ℕ) → (make a b 
     → Decides ((a == x) && ((b == y) && (c == z))) (make a b c ≡ make x y z)
 three make a b c x y z known =
     exactly ((a == x) && ((b == y) && (c == z))) ((a ≡ x) × ((b ≡ y) × (c ≡ z))) (make a b c ≡ make x y z) (λ h.
-      rw (h.0, h.1.0, h.1.1) refl) known
+    rw (h.0, h.1.0, h.1.1) refl) known
     (both (a == x) ((b == y) && (c == z)) (a ≡ x) ((b ≡ y) × (c ≡ z)) (Decides-eqb a x)
     (both (b == y) (c == z) (b ≡ y) (c ≡ z) (Decides-eqb b y) (Decides-eqb c z)))
 

@@ -32,7 +32,7 @@ two : (a b x y : ℕ) → ordering_then (nat_cmp a x) (nat_cmp b y) ≡ slice_cm
 two a b x y = ap (ordering_then (nat_cmp a x)) (one b y)
 
 three : (a b c x y z : ℕ) → ordering_then (nat_cmp a x) (ordering_then (nat_cmp b y) (nat_cmp c z)) ≡ slice_cmp nat_cmp (a ∷ b ∷ c ∷ [])
-  (x ∷ y ∷ z ∷ [])
+    (x ∷ y ∷ z ∷ [])
 three a b c x y z = ap (ordering_then (nat_cmp a x)) (two b c y z)
 
 -- roots of one tag are compared by their numbers, others by their tags
@@ -53,7 +53,7 @@ pub root_same : (root other : Root) → same_place (Rooted root) (Rooted other) 
 root_same root other = sym (is_eq-slice_cmp (place_of (Rooted root)) (place_of (Rooted other))) ∙ ap is_eq (sym (root_place root other))
 
 insert_step : (o : Ordering) (a b c : List Root) → is_eq o ≡ false → root_facts (match_ordering o a b c) ≡ cond (is_lt o) (root_facts a)
-  (root_facts c)
+    (root_facts c)
 insert_step Less a b c e = refl
 insert_step Equal a b c e = absurd cc
 insert_step Greater a b c e = refl
@@ -66,12 +66,12 @@ insert_roots (first ∷ set) root none =
     let parts = or_parts (is_at (root_cmp root) first) (list_any (is_at (root_cmp root)) set) none in
     insert_step (root_cmp root first) (root ∷ first ∷ set) (first ∷ set) (first ∷ insert_key root_cmp set root) parts.0
     ∙ ap (λ (l : List FactValue). cond (is_lt (root_cmp root first)) (Rooted root ∷ Rooted first ∷ root_facts set) (Rooted first ∷ l))
-      (insert_roots set root parts.1)
+    (insert_roots set root parts.1)
     ∙ ap (λ (o : Ordering). cond (is_lt o) (Rooted root ∷ Rooted first ∷ root_facts set) (Rooted first ∷ inserted (root_facts set)
-      (Rooted root))) (root_place root first)
+    (Rooted root))) (root_place root first)
 
 pub find_root : (set : List Root) (root : Root) → list_any (is_at (root_cmp root)) set ≡ false
-  → find (same_place (Rooted root)) (root_facts set) ≡ None
+    → find (same_place (Rooted root)) (root_facts set) ≡ None
 find_root [] root none = refl
 find_root (first ∷ set) root none =
     let parts = or_parts (is_at (root_cmp root) first) (list_any (is_at (root_cmp root)) set) none in
@@ -111,7 +111,7 @@ roots_kept (Err e) old new kept = ap root_facts kept
 
 -- where memory was refused for a root that is not in the set, none of their facts is at its place
 pub roots_unseen : {E : Type 0} (r : Result Stated E) (set : List Root) (root : Root)
-  → OnErr r (list_any (is_at (root_cmp root)) set ≡ false)
+    → OnErr r (list_any (is_at (root_cmp root)) set ≡ false)
     → OnErr r (find (same_place (Rooted root)) (root_facts set) ≡ None)
 roots_unseen (Ok answer) set root none = tt
 roots_unseen (Err e) set root none = find_root set root none

@@ -53,7 +53,7 @@ place_lt table key other = rw (← nat_cmp_is table table Equal refl) (ap is_lt 
 
 -- two facts of a table stand at one place where their keys are one
 pub same_place_by : (table : ℕ) (one other : FactValue) (key more : ℕ) → place_of one ≡ table ∷ key ∷ []
-  → place_of other ≡ table ∷ more ∷ []
+    → place_of other ≡ table ∷ more ∷ []
     → same_place one other ≡ eqb key more
 same_place_by table one other key more at at_too = rw (at, at_too) (place_eq table key more)
 
@@ -142,7 +142,7 @@ module _ {V : Type 0} (ids : IdSize) (table : ℕ) (fact : ℕ → List ℕ → 
 
   -- the row that is there is right
   pub right_found : (rows : List (ℕ × V)) (key : ℕ) (row : V) → Right rows → row_at key rows ≡ Some row
-    → IsRight ids table fact key (content row)
+      → IsRight ids table fact key (content row)
   right_found [] key row right e = absurd cc
   right_found (first ∷ rows) key row right e = elim (cases_order key first.0) [
     | inl same ↦
@@ -201,14 +201,14 @@ module _ {V : Type 0} (ids : IdSize) (table : ℕ) (fact : ℕ → List ℕ → 
 
   -- the same where memory may have been refused
   pub rows_tried : {E : Type 0} (r : Result Stated E) (old new : List (ℕ × V)) (key : ℕ) (stated : FactValue) → IsOfTable key stated
-    → Right old
+      → Right old
       → IfOk r (λ answer. States content old key (content_of ids stated) answer new)
       → IfOk r (λ answer. StatesAmong (facts old) stated answer (facts new))
   rows_tried (Ok answer) old new key stated of right ok = rows_state old new key stated answer of right ok
   rows_tried (Err e) old new key stated of right ok = tt
 
   pub tried_right : {E : Type 0} (r : Result Stated E) (old new : List (ℕ × V)) (key : ℕ) (stated : FactValue) → IsOfTable key stated
-    → Right old
+      → Right old
       → IfOk r (λ answer. States content old key (content_of ids stated) answer new) → OnErr r (new ≡ old) → Right new
   tried_right (Ok answer) old new key stated of right ok err = rows_right old new key stated answer of right ok
   tried_right (Err e) old new key stated of right ok err = rw err right

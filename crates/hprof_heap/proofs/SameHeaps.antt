@@ -39,7 +39,7 @@ module _ {V : Type 0} (ids : IdSize) (table : ℕ) (fact : ℕ → List ℕ → 
   keyed stated = (slice_index (place_of stated) 1, content_of ids stated)
 
   to_contents : (rows : List (ℕ × V)) → AreRight ids table fact content rows
-    → contents_of content rows ≡ map keyed (facts_of_rows fact content rows)
+      → contents_of content rows ≡ map keyed (facts_of_rows fact content rows)
   to_contents [] right = refl
   to_contents (row ∷ rows) right =
       let key : slice_index (place_of (fact row.0 (content row.1))) 1 ≡ row.0 = ap (λ (place : List ℕ). slice_index place 1) right.0.0 in
@@ -77,16 +77,16 @@ module _ (one other : HeapRows) where
   same_heap ids millis records subs =
       let names : name_facts one.names ≡ name_facts other.names = ap name_facts records.names in
       let loads : load_facts one.loads ≡ load_facts other.loads =
-        same_facts one.ids 1 load_fact load_numbers one.loads other.loads records.loads in
+      same_facts one.ids 1 load_fact load_numbers one.loads other.loads records.loads in
       let unloads : unload_facts one.unloads ≡ unload_facts other.unloads =
       same_facts one.ids 2 unload_fact no_content one.unloads other.unloads records.unloads in
       let frames : frame_facts one.frames ≡ frame_facts other.frames =
-        same_facts one.ids 3 frame_fact frame_numbers one.frames other.frames records.frames in
+      same_facts one.ids 3 frame_fact frame_numbers one.frames other.frames records.frames in
       let traces : trace_facts one.ids one.traces ≡ trace_facts other.ids other.traces =
       same_facts one.ids 4 (trace_fact one.ids) trace_content one.traces other.traces records.traces
-        ∙ ap (λ (i : IdSize). trace_facts i other.traces) ids in
+      ∙ ap (λ (i : IdSize). trace_facts i other.traces) ids in
       let starts : start_facts one.starts ≡ start_facts other.starts =
-        same_facts one.ids 5 start_fact start_numbers one.starts other.starts records.starts in
+      same_facts one.ids 5 start_fact start_numbers one.starts other.starts records.starts in
       let ends : end_facts one.ends ≡ end_facts other.ends = same_facts one.ids 6 end_fact no_content one.ends other.ends records.ends in
       let roots : root_facts one.roots ≡ root_facts other.roots = ap root_facts subs.roots in
       let classes : spelled_facts one.ids one.classes ≡ spelled_facts other.ids other.classes =
@@ -109,7 +109,7 @@ module _ (one other : HeapRows) where
     of_table : (table : Table) → table_at (tables_of one) (number_of_table table) ≡ table_at (tables_of other) (number_of_table table)
     of_table table =
         sym (table_facts one table are) ∙ ap (λ (heap : HeapValue). facts_of_table table heap.facts) same
-          ∙ table_facts other table others_are
+        ∙ table_facts other table others_are
 
     pub records_same : HaveSameRecords one other
     records_same = record {
@@ -132,7 +132,7 @@ module _ (one other : HeapRows) where
 
     spelled_same : (table : ℕ) (rows others : List (ℕ × List ℕ)) → AreRight one.ids table (spelled_fact one.ids) the_bytes rows
         → AreRight other.ids table (spelled_fact other.ids) the_bytes others → spelled_facts one.ids rows
-          ≡ spelled_facts other.ids others → rows ≡ others
+        ≡ spelled_facts other.ids others → rows ≡ others
     spelled_same table rows others right more e =
         same_bytes rows others (same_contents one.ids table (spelled_fact one.ids) the_bytes rows others right
         (subst (λ (i : IdSize). AreRight i table (spelled_fact i) the_bytes others) (sym one_size) more)

@@ -15,7 +15,7 @@ use Rattle.hprof_heap.specs.Gathering.{gathered, StatesInto, Takes, mark_after}
 
 -- stating a fact keeps the size
 pub states_ids : {E : Type 0} (r : Result Stated E) (heap new : HeapValue) (fact : FactValue)
-  → IfOk r (λ stated. StatesInto heap fact stated new) → OnErr r (new ≡ heap) → new.ids ≡ heap.ids
+    → IfOk r (λ stated. StatesInto heap fact stated new) → OnErr r (new ≡ heap) → new.ids ≡ heap.ids
 states_ids (Ok New) heap new fact s e = s.ids
 states_ids (Ok Same) heap new fact s e = ap (λ (h : HeapValue). h.ids) s.1
 states_ids (Ok Differs) heap new fact s e = ap (λ (h : HeapValue). h.ids) s.1
@@ -23,7 +23,7 @@ states_ids (Err f) heap new fact s e = ap (λ (h : HeapValue). h.ids) e
 
 -- a heap that keeps its size stays that of the size that was begun last
 pub steady_after : (old : Option Heap) (heap new : Heap) (begun : Option IdSize) (two : Bool) → IsSteady old begun two → old ≡ Some heap
-  → new.ids ≡ heap.ids → IsSteady (Some new) begun two
+    → new.ids ≡ heap.ids → IsSteady (Some new) begun two
 steady_after old heap new begun true steady e same = tt
 steady_after old heap new begun false steady e same =
     let begun-is : begun ≡ Some heap.ids = subst (λ (o : Option Heap). IsSteady o begun false) e steady in
@@ -31,14 +31,20 @@ steady_after old heap new begun false steady e same =
 
 -- what the heap took the gatherer took
 pub took : {E : Type 0} (r : Result Stated E) (got stated : Stated) (old : Gatherer) (heap new : Heap) (fact : FactValue)
-  → old.failed ≡ false → old.two_sizes ≡ false → old.heap ≡ Some heap → r ≡ Ok got → got ≡ stated
+    → old.failed ≡ false → old.two_sizes ≡ false → old.heap ≡ Some heap → r ≡ Ok got → got ≡ stated
     → IfOk r (λ s. StatesInto (heap_of heap) fact s (heap_of new))
-      → Takes (gathered old) fact (record (gathered old) { heap = Some (heap_of new); conflict = mark_after stated old.conflict fact })
+    → Takes (gathered old) fact (record (gathered old) { heap = Some (heap_of new); conflict = mark_after stated old.conflict fact })
 took r got stated old heap new fact well one there e f ok = record {
   was_sound = well;
   sound = well;
   begun = refl;
   two_sizes = refl;
-  taken = rw (one, there) (stated, (IfOk-at_ok (λ (s : Stated). StatesInto (heap_of heap) fact s (heap_of new)) (e
-    ∙ ap (λ (s : Stated). Ok s) f) ok, refl));
+  taken = rw (one, there) (
+    stated,
+    (
+      IfOk-at_ok (λ (s : Stated). StatesInto (heap_of heap) fact s (heap_of new)) (e
+          ∙ ap (λ (s : Stated). Ok s) f) ok,
+      refl,
+    ),
+  );
 }

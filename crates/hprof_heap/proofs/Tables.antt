@@ -54,7 +54,7 @@ with_table (facts ∷ tables) (suc place) new = facts ∷ with_table tables plac
 apart : (m n : ℕ) (fact other : FactValue) → IsOf m fact → IsOf n other → (m ≡ n → ⊥) → same_place fact other ≡ false
 apart m n fact other of of_other differ = false_from_ne_true (same_place fact other) (λ yes.
     let same : m ∷ of.more ≡ n ∷ of_other.more = sym of.stands ∙ (bytes_eq-Decides (place_of fact) (place_of other)).0 yes
-      ∙ of_other.stands in
+    ∙ of_other.stands in
     differ (ap (λ (ns : List ℕ). slice_index ns 0) same))
 
 -- that of the lesser table stands first
@@ -75,7 +75,7 @@ find_none p (first ∷ facts) fail = ap (λ (t : Bool). cond t (Some first) (fin
 
 find_past : (p : FactValue → Bool) (facts others : List FactValue) → AllFail p facts → find p (facts ++ others) ≡ find p others
 find_past p facts others fail = find-append p facts others ∙ ap (λ (found : Option FactValue). option_or found (find p others))
-  (find_none p facts fail)
+    (find_none p facts fail)
 
 or_none : (found : Option FactValue) → option_or found None ≡ found
 or_none None = refl
@@ -93,16 +93,16 @@ pub filter_all : (p : FactValue → Bool) (facts : List FactValue) → AllByRecu
 filter_all p [] pass = refl
 filter_all p (first ∷ facts) pass =
     ap (λ (t : Bool). cond t (first ∷ filter p facts) (filter p facts)) pass.0 ∙ ap (λ (l : List FactValue). first ∷ l)
-      (filter_all p facts pass.1)
+    (filter_all p facts pass.1)
 
 -- what follows for each fact
 pub all_weaker : (P Q : FactValue → Type 0) (facts : List FactValue) → ((fact : FactValue) → P fact → Q fact) → AllByRecursion P facts
-  → AllByRecursion Q facts
+    → AllByRecursion Q facts
 all_weaker P Q [] more all = tt
 all_weaker P Q (first ∷ facts) more all = (more first all.0, all_weaker P Q facts more all.1)
 
 pub all_append : (P : FactValue → Type 0) (facts others : List FactValue) → AllByRecursion P facts → AllByRecursion P others
-  → AllByRecursion P (facts ++ others)
+    → AllByRecursion P (facts ++ others)
 all_append P [] others all too = too
 all_append P (first ∷ facts) others all too = (all.0, all_append P facts others all.1 too)
 
@@ -114,7 +114,7 @@ pub record IsPast (table : ℕ) (fact : FactValue) : Type 0 where
 
 -- the facts of all tables from one on
 pub all_past : (tables : List (List FactValue)) (table number : ℕ) → table < number → AreTables number tables
-  → AllByRecursion (IsPast table) (joined tables)
+    → AllByRecursion (IsPast table) (joined tables)
 all_past [] table number lt are = tt
 all_past (facts ∷ tables) table number lt are =
     all_append (IsPast table) facts (joined tables)
@@ -124,7 +124,7 @@ all_past (facts ∷ tables) table number lt are =
 -- ---- stating
 
 inserted_past : (facts others : List FactValue) (fact : FactValue) → AllFail (is_before fact) facts → inserted (facts ++ others) fact
-  ≡ facts ++ inserted others fact
+    ≡ facts ++ inserted others fact
 inserted_past [] others fact fail = refl
 inserted_past (first ∷ facts) others fact fail =
     ap (λ (t : Bool). cond t (fact ∷ first ∷ (facts ++ others)) (first ∷ inserted (facts ++ others) fact)) fail.0
@@ -132,7 +132,7 @@ inserted_past (first ∷ facts) others fact fail =
 
 -- a fact that stands before all of these goes to their front
 inserted_first : (others : List FactValue) (fact : FactValue) → AllByRecursion (λ other. is_before fact other ≡ true) others
-  → inserted others fact ≡ fact ∷ others
+    → inserted others fact ≡ fact ∷ others
 inserted_first [] fact all = refl
 inserted_first (first ∷ others) fact all = ap (λ (t : Bool). cond t (fact ∷ first ∷ others) (first ∷ inserted others fact)) all.0
 
@@ -145,7 +145,7 @@ inserted_front : (facts others : List FactValue) (fact : FactValue) → AllByRec
 inserted_front [] others fact all = inserted_first others fact all
 inserted_front (first ∷ facts) others fact all =
     ap (λ (l : List FactValue). cond (is_before fact first) (fact ∷ first ∷ (facts ++ others)) (first ∷ l))
-      (inserted_front facts others fact all)
+    (inserted_front facts others fact all)
     ∙ push_cond (is_before fact first) (fact ∷ first ∷ facts) (first ∷ inserted facts fact) others
 
 -- what is stated among the facts behind others of lesser tables
@@ -154,7 +154,7 @@ states_behind : (m n : ℕ) (facts old new : List FactValue) (fact : FactValue) 
 states_behind m n facts old new fact New lt all of s = (
   find_past (same_place fact) facts old
       (all_weaker (IsOf n) (λ other. same_place fact other ≡ false) facts (λ other of_other.
-        apart m n fact other of of_other (λ e. omega arith)) all) ∙ s.0,
+      apart m n fact other of of_other (λ e. omega arith)) all) ∙ s.0,
   ap (λ (l : List FactValue). facts ++ l) s.1 ∙ sym (inserted_past facts old fact
       (all_weaker (IsOf n) (λ other. is_before fact other ≡ false) facts (λ other of_other. later m n fact other of of_other lt) all)),
 )
@@ -166,7 +166,7 @@ states_behind m n facts old new fact Differs lt all of s = (
 
 -- what is stated among the facts before others of later tables
 states_before : (m : ℕ) (old new others : List FactValue) (fact : FactValue) (stated : Stated) → AllByRecursion (IsPast m) others
-  → IsOf m fact
+    → IsOf m fact
     → StatesAmong old fact stated new → StatesAmong (old ++ others) fact stated (new ++ others)
 states_before m old new others fact New past of s = (
   find_front (same_place fact) old others
@@ -174,7 +174,7 @@ states_before m old new others fact New past of s = (
       (λ other is. let lt = is.above in apart m is.number fact other of is.of (λ e. omega arith)) past) ∙ s.0,
   ap (λ (l : List FactValue). l ++ others) s.1 ∙ sym (inserted_front old others fact
       (all_weaker (IsPast m) (λ other. is_before fact other ≡ true) others (λ other is.
-        earlier m is.number fact other of is.of is.above) past)),
+      earlier m is.number fact other of is.of is.above) past)),
 )
 states_before m old new others fact Same past of s = (Has-front old others fact s.0, ap (λ (l : List FactValue). l ++ others) s.1)
 states_before m old new others fact Differs past of s = (
@@ -184,7 +184,7 @@ states_before m old new others fact Differs past of s = (
 
 -- what is stated into one table is stated into all of the facts
 states_from : (tables : List (List FactValue)) (table number place : ℕ) (new : List FactValue) (fact : FactValue) (stated : Stated)
-  → table ≡ number + place
+    → table ≡ number + place
     → AreTables number tables → IsOf table fact → StatesAmong (table_at tables place) fact stated new → place < length tables
     → StatesAmong (joined tables) fact stated (joined (with_table tables place new))
 states_from [] table number place new fact stated e are of s lt = absurd (omega arith)
@@ -197,7 +197,7 @@ states_from (facts ∷ tables) table number (suc place) new fact stated e are of
 
 -- the same of the tables of a heap, where memory may have been refused
 pub states_tables : {E : Type 0} (r : Result Stated E) (tables : List (List FactValue)) (place : ℕ) (new : List FactValue)
-  (fact : FactValue) → AreTables 0 tables
+    (fact : FactValue) → AreTables 0 tables
     → IsOf place fact → place < length tables → IfOk r (λ stated. StatesAmong (table_at tables place) fact stated new)
     → IfOk r (λ stated. StatesAmong (joined tables) fact stated (joined (with_table tables place new)))
 states_tables (Ok stated) tables place new fact are of lt ok = states_from tables place 0 place new fact stated (omega arith) are of ok lt
@@ -206,17 +206,17 @@ states_tables (Err e) tables place new fact are of lt ok = tt
 -- ---- one table among all
 
 fails_past : (p : FactValue → Bool) (table : ℕ) (facts : List FactValue) → ((number : ℕ) (fact : FactValue) → IsOf number fact
-  → (number ≡ table → ⊥) → p fact ≡ false)
+    → (number ≡ table → ⊥) → p fact ≡ false)
     → AllByRecursion (IsPast table) facts → AllFail p facts
 fails_past p table facts fails past =
     all_weaker (IsPast table) (λ fact. p fact ≡ false) facts (λ fact is. let lt =
-      is.above in fails is.number fact is.of (λ e. omega arith)) past
+    is.above in fails is.number fact is.of (λ e. omega arith)) past
 
 fails_of : (p : FactValue → Bool) (table number : ℕ) (facts : List FactValue) → ((number : ℕ) (fact : FactValue) → IsOf number fact
-  → (number ≡ table → ⊥) → p fact ≡ false)
+    → (number ≡ table → ⊥) → p fact ≡ false)
     → (number ≡ table → ⊥) → AllOf number facts → AllFail p facts
 fails_of p table number facts fails differ all = all_weaker (IsOf number) (λ fact. p fact ≡ false) facts (λ fact of.
-  fails number fact of differ) all
+    fails number fact of differ) all
 
 -- what only facts of one table pass is found there
 pub find_from : (p : FactValue → Bool) (tables : List (List FactValue)) (table number place : ℕ)
@@ -239,14 +239,14 @@ filter_from p (facts ∷ tables) table number zero fails passes e are =
     filter-append p facts (joined tables)
     ∙ ap (λ (l : List FactValue). l ++ filter p (joined tables))
     (filter_all p facts (all_weaker (IsOf number) (λ fact. p fact ≡ true) facts (λ fact of.
-      passes fact (subst (λ (n : ℕ). IsOf n fact) here of)) are.0))
+    passes fact (subst (λ (n : ℕ). IsOf n fact) here of)) are.0))
     ∙ ap (λ (l : List FactValue). facts ++ l)
-      (filter_none p (joined tables) (fails_past p table (joined tables) fails (all_past tables table (suc number) (omega arith) are.1)))
+    (filter_none p (joined tables) (fails_past p table (joined tables) fails (all_past tables table (suc number) (omega arith) are.1)))
     ∙ append-nil facts
 filter_from p (facts ∷ tables) table number (suc place) fails passes e are =
     filter-append p facts (joined tables)
     ∙ ap (λ (l : List FactValue). l ++ filter p (joined tables))
-      (filter_none p facts (fails_of p table number facts fails (λ same. omega arith) are.0))
+    (filter_none p facts (fails_of p table number facts fails (λ same. omega arith) are.0))
     ∙ filter_from p tables table (suc number) place fails passes (omega arith) are.1
 
 -- the first number of a place
@@ -255,8 +255,8 @@ first_of number fact of = ap (λ (ns : List ℕ). slice_index ns 0) of.stands
 
 -- the facts of a table are those whose places begin with its number
 pub facts_in : (tables : List (List FactValue)) (table : ℕ) → AreTables 0 tables → filter (stands_in table) (joined tables)
-  ≡ table_at tables table
+    ≡ table_at tables table
 facts_in tables table are = filter_from (stands_in table) tables table 0 table
     (λ number fact of differ. false_from_ne_true (stands_in table fact) (λ yes.
-      differ (sym (first_of number fact of) ∙ eqb-true (slice_index (place_of fact) 0) table yes)))
+    differ (sym (first_of number fact of) ∙ eqb-true (slice_index (place_of fact) 0) table yes)))
     (λ fact of. eq-eqb (slice_index (place_of fact) 0) table (first_of table fact of)) (omega arith) are

@@ -49,7 +49,7 @@ module _ (ids : IdSize) (table : ℕ) (fact : ℕ → List ℕ → FactValue) wh
   -- ---- a row and its fact
 
   pub has_stated : (rows : List (ℕ × List ℕ)) (key : ℕ) (content : List ℕ) → row_at key rows ≡ Some content
-    → Has (stated rows) (fact key content)
+      → Has (stated rows) (fact key content)
   has_stated [] key content e = absurd cc
   has_stated (row ∷ rows) key content e = elim (cases_order key row.0) [
     | inl here ↦
@@ -69,7 +69,7 @@ module _ (ids : IdSize) (table : ℕ) (fact : ℕ → List ℕ → FactValue) wh
     states : of ≡ fact key content
 
   above : (bound : ℕ) (rows : List (ℕ × List ℕ)) (key : ℕ) (content : List ℕ) → AllKeys (λ k. bound < k) rows
-    → row_at key rows ≡ Some content → bound < key
+      → row_at key rows ≡ Some content → bound < key
   above bound [] key content all e = absurd cc
   above bound (row ∷ rows) key content all e = elim (cases_order key row.0) [
     | inl here ↦ let lt : bound < row.0 = all.0 in omega arith
@@ -95,7 +95,7 @@ module _ (ids : IdSize) (table : ℕ) (fact : ℕ → List ℕ → FactValue) wh
       ascending_cons row rows (keys rows right.1 ordered.0) (ascending_of rows right.1 ordered.1)
     where
       keys : (those : List (ℕ × List ℕ)) → Right those → AllByRecursion (IsBefore (fact row.0 row.1)) (stated those)
-        → AllKeys (λ key. row.0 < key) those
+          → AllKeys (λ key. row.0 < key) those
       keys [] those before = tt
       keys (one ∷ those) right_too before = (
         ltb-true row.0 one.0
@@ -106,10 +106,10 @@ module _ (ids : IdSize) (table : ℕ) (fact : ℕ → List ℕ → FactValue) wh
   pub ordered_of : (rows : List (ℕ × List ℕ)) → Right rows → IsAscending rows → IsCanonicalOrder (stated rows)
   ordered_of [] right up = tt
   ordered_of (row ∷ rows) right up =
-    (before rows right.1 (ascending_head row rows up), ordered_of rows right.1 (ascending_tail row rows up))
+      (before rows right.1 (ascending_head row rows up), ordered_of rows right.1 (ascending_tail row rows up))
     where
       before : (those : List (ℕ × List ℕ)) → Right those → AllKeys (λ key. row.0 < key) those
-        → AllByRecursion (IsBefore (fact row.0 row.1)) (stated those)
+          → AllByRecursion (IsBefore (fact row.0 row.1)) (stated those)
       before [] those lt = tt
       before (one ∷ those) right_too lt = (
         is_before-true (fact row.0 row.1) (fact one.0 one.1)
@@ -128,7 +128,7 @@ module _ (ids : IdSize) (table : ℕ) (fact : ℕ → List ℕ → FactValue) wh
 
     -- a row of the new table is one of the first, or else of the other
     of_both : (key : ℕ) (content : List ℕ) → row_at key new ≡ Some content → (row_at key old ≡ Some content)
-      ⊎ (row_at key other ≡ Some content)
+        ⊎ (row_at key other ≡ Some content)
     of_both key content e = by_old (row_at key old) refl
       where
         by_old : (found : Option (List ℕ)) → row_at key old ≡ found → (row_at key old ≡ Some content) ⊎ (row_at key other ≡ Some content)
@@ -155,16 +155,16 @@ module _ (ids : IdSize) (table : ℕ) (fact : ℕ → List ℕ → FactValue) wh
             (has_stated new key mine (from_old key mine is))
 
     pub union_stated : IsAscending old → IsAscending other → AgreeAtPlaces (stated old) (stated other)
-      → IsTableOfBoth (stated old) (stated other) (stated new)
+        → IsTableOfBoth (stated old) (stated other) (stated new)
     union_stated up up_too agree = record {
       same = λ of. (
         λ has.
             let row = stating new union.ascends of has in
             elim (of_both row.key row.content row.is_there) [
               | inl e ↦ Has-front (stated old) (stated other) of (subst (Has (stated old)) (sym row.states)
-                (has_stated old row.key row.content e))
+                  (has_stated old row.key row.content e))
               | inr e ↦ Has-back (stated old) (stated other) of (subst (Has (stated other)) (sym row.states)
-                (has_stated other row.key row.content e))
+                  (has_stated other row.key row.content e))
             ],
         λ has. elim (Has-parts (stated old) (stated other) of has) [
           | inl mine ↦
@@ -210,7 +210,7 @@ module _ {V : Type 0} (ids : IdSize) (table : ℕ) (fact : ℕ → List ℕ → 
         let e = from_contents ids table fact content old in
         let f = from_contents ids table fact content other in
         rw (e, f, from_contents ids table fact content new) (union_stated ids table fact (contents_of content old)
-          (contents_of content other)
+        (contents_of content other)
         (contents_of content new) first second union
         (ascending_of ids table fact (contents_of content old) first (subst IsCanonicalOrder e ordered))
         (ascending_of ids table fact (contents_of content other) second (subst IsCanonicalOrder f ordered_too))

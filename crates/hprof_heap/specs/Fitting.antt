@@ -28,7 +28,7 @@ IsBytes-prop bytes = hlevel le_prop
 EntriesFit-prop : (ids : IdSize) (kind : EntryKind) (entries : List Entry) → IsProp (EntriesFit ids kind entries)
 EntriesFit-prop ids kind [] = Unit-prop
 EntriesFit-prop ids kind (entry ∷ entries) = ×_prop (FitFields-prop (entry_widths ids kind entry.basic) (entry_numbers entry))
-  (EntriesFit-prop ids kind entries)
+    (EntriesFit-prop ids kind entries)
 
 ListFits-prop : (ids : IdSize) (kind : EntryKind) (entries : List Entry) → IsProp (ListFits ids kind entries)
 ListFits-prop ids kind entries = ×_prop (EntriesFit-prop ids kind entries) le_prop

@@ -95,7 +95,7 @@ pub record IsNewAmong (facts : List FactValue) (fact : FactValue) : Type 0 where
 abbrev pub LacksRow : Gathered → List FactValue → Type 0
 LacksRow gathered [] = ⊥
 LacksRow gathered (fact ∷ rest) = (gathered.two_sizes ≡ false) × ((heap : HeapValue) × (gathered.heap ≡ Some heap)
-  × IsNewAmong heap.facts fact)
+    × IsNewAmong heap.facts fact)
 
 -- another fact than this one is there with its key
 pub record HasOther (facts : List FactValue) (fact : FactValue) : Type 0 where

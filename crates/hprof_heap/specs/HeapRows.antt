@@ -73,7 +73,7 @@ abbrev pub tables_of : HeapRows → List (List FactValue)
 tables_of rows =
     name_facts rows.names ∷ load_facts rows.loads ∷ unload_facts rows.unloads ∷ frame_facts rows.frames ∷ trace_facts rows.ids rows.traces
     ∷ start_facts rows.starts ∷ end_facts rows.ends ∷ root_facts rows.roots ∷ spelled_facts rows.ids rows.classes ∷ spelled_facts
-      rows.ids rows.objects ∷ []
+    rows.ids rows.objects ∷ []
 
 -- the heap that the rows are: the facts of the tables, one after the other
 abbrev pub heap_of_rows : HeapRows → HeapValue
@@ -107,14 +107,14 @@ pub record HaveSameSubs (one other : HeapRows) : Type 0 where
 -- ---- it has at most one proof
 
 IsRight-prop : (ids : IdSize) (table : ℕ) (fact : ℕ → List ℕ → FactValue) (key : ℕ) (content : List ℕ)
-  → IsProp (IsRight ids table fact key content)
+    → IsProp (IsRight ids table fact key content)
 IsRight-prop ids table fact key content = hlevel props
 
 AreRight-prop : {V : Type 0} (ids : IdSize) (table : ℕ) (fact : ℕ → List ℕ → FactValue) (content : V → List ℕ) (rows : List (ℕ × V))
-  → IsProp (AreRight ids table fact content rows)
+    → IsProp (AreRight ids table fact content rows)
 AreRight-prop ids table fact content [] = Unit-prop
 AreRight-prop ids table fact content (row ∷ rows) =
-  ×_prop (IsRight-prop ids table fact row.0 (content row.1)) (AreRight-prop ids table fact content rows)
+    ×_prop (IsRight-prop ids table fact row.0 (content row.1)) (AreRight-prop ids table fact content rows)
 
 pub AreHeap-prop : (rows : HeapRows) → IsProp (AreHeap rows)
 AreHeap-prop rows = hlevel (IsHeap-prop, AreRight-prop)

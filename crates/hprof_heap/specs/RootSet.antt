@@ -28,4 +28,4 @@ LacksRoot roots others = (root : Root) × (list_any (is_at (root_cmp root)) othe
 pub record IsUnionOfRoots (old other new : List Root) : Type 0 where
   pub ordered : IsStrictlySortedBy root_cmp new
   pub each : (root : Root) → list_any (is_at (root_cmp root)) new
-    ≡ (list_any (is_at (root_cmp root)) old || list_any (is_at (root_cmp root)) other)
+      ≡ (list_any (is_at (root_cmp root)) old || list_any (is_at (root_cmp root)) other)

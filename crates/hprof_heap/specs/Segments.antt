@@ -31,7 +31,7 @@ module _ {A : Type 0} (size : A → ℕ) (most : ℕ) where
   packed_behind begun [] = begun ∷ []
   packed_behind begun (next ∷ subs) =
       if nat_le (sum_by size begun + size next) most then packed_behind (begun ++ next ∷ []) subs else begun ∷ packed_behind
-        (next ∷ []) subs
+      (next ∷ []) subs
 
   -- the segments of sub-records: each goes into the one that was begun last, where it has room
   abbrev pub packed : List A → List (List A)

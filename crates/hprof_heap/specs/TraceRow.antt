@@ -16,4 +16,4 @@ frames_bytes row = row.frames.items
 abbrev pub frames_content : TraceFrames → List ℕ
 frames_content trace =
     trace.thread ∷ field_bytes (id_widths (identifiers_size trace.frames) (length (identifiers_of trace.frames)))
-      (identifiers_of trace.frames)
+    (identifiers_of trace.frames)

@@ -30,7 +30,8 @@ pub struct Gatherer {
 }
 
 impl Gatherer {
-    ghost use Rattle.hprof_heap.specs.Gathering.{Gathered, Given, gathered, nothing_gathered, seen_heap, Gathers, Tells, answer_of, standing_of_answer, marked};
+    ghost use Rattle.hprof_heap.specs.Gathering.{Gathered, Given, gathered, nothing_gathered, seen_heap, Gathers, Tells, answer_of};
+    ghost use Rattle.hprof_heap.specs.Gathering.{standing_of_answer, marked};
     ghost use Rattle.hprof_heap.specs.Heap.{heap_of};
 
     /// A gatherer that was given nothing. It takes no memory yet.
@@ -99,7 +100,10 @@ impl Gatherer {
 
     /// Marks the key of a fact that differs from the one that is there.
     fn mark(&mut self, fact: &Fact<'_>)
-        ensures { gathered self.new ≡ record (gathered self.old) { conflict = marked (gathered self.old).conflict (key_of (value_of fact.now)) } }
+        ensures { gathered self.new ≡ record (gathered self.old) {
+          conflict =
+              marked (gathered self.old).conflict (key_of (value_of fact.now));
+        } }
     {
         let Some(key) = key_of_fact(fact) else {
             return;
@@ -143,7 +147,8 @@ impl Sink for Gatherer {
     ghost failed = { λ gatherer. (gathered gatherer).failed };
 
     // A gatherer that has not failed answers no fault but want of memory, and that only for a fact that is new to its heap.
-    ghost refuses = { λ gatherer given fault. (gathered gatherer).failed ≡ false → (fault ≡ OutOfMemory) × LacksRow (gathered gatherer) given };
+    ghost refuses = { λ gatherer given fault. (gathered gatherer).failed ≡ false → (fault ≡ OutOfMemory)
+        × LacksRow (gathered gatherer) given };
 
     fn begin_part(&mut self, header: Header) -> Result<(), SinkFault> {
         if self.failed {

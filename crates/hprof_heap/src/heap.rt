@@ -111,7 +111,8 @@ impl Heap {
     /// States a class that was loaded.
     fn state_load(&mut self, serial: u32, row: LoadRow) -> Result<Stated, AllocError>
         requires { Fits (heap_of self.old).ids (Load serial row.class row.trace row.name) }
-        ensures ok { IfOk result (λ stated. StatesInto (heap_of self.old) (Load serial row.class row.trace row.name) stated (heap_of self.new)) }
+        ensures ok { IfOk result (λ stated. StatesInto (heap_of self.old) (Load serial row.class row.trace row.name) stated
+            (heap_of self.new)) }
         ensures err { OnErr result (heap_of self.new ≡ heap_of self.old) }
         ensures absent { OnErr result (IsNewAmong (heap_of self.old).facts (Load serial row.class row.trace row.name)) }
     {
@@ -134,7 +135,8 @@ impl Heap {
         ensures ok { IfOk result (λ stated. StatesInto (heap_of self.old)
             (Frame id row.method row.signature row.source row.class_serial row.line) stated (heap_of self.new)) }
         ensures err { OnErr result (heap_of self.new ≡ heap_of self.old) }
-        ensures absent { OnErr result (IsNewAmong (heap_of self.old).facts (Frame id row.method row.signature row.source row.class_serial row.line)) }
+        ensures absent { OnErr result (IsNewAmong (heap_of self.old).facts
+            (Frame id row.method row.signature row.source row.class_serial row.line)) }
     {
         self.frames.state(id, row)
     }
@@ -148,7 +150,8 @@ impl Heap {
     ) -> Result<Stated, AllocError>
         requires fits { Fits (heap_of self.old).ids (Trace serial thread (identifiers_of frames)) }
         requires size { identifiers_size frames ≡ (heap_of self.old).ids }
-        ensures ok { IfOk result (λ stated. StatesInto (heap_of self.old) (Trace serial thread (identifiers_of frames.entry)) stated (heap_of self.new)) }
+        ensures ok { IfOk result (λ stated. StatesInto (heap_of self.old) (Trace serial thread (identifiers_of frames.entry)) stated
+            (heap_of self.new)) }
         ensures err { OnErr result (heap_of self.new ≡ heap_of self.old) }
         ensures absent { OnErr result (IsNewAmong (heap_of self.old).facts (Trace serial thread (identifiers_of frames.entry))) }
     {
@@ -162,7 +165,8 @@ impl Heap {
         ensures ok { IfOk result (λ stated. StatesInto (heap_of self.old)
             (Start thread row.object row.trace row.name row.group row.parent_group) stated (heap_of self.new)) }
         ensures err { OnErr result (heap_of self.new ≡ heap_of self.old) }
-        ensures absent { OnErr result (IsNewAmong (heap_of self.old).facts (Start thread row.object row.trace row.name row.group row.parent_group)) }
+        ensures absent { OnErr result (IsNewAmong (heap_of self.old).facts
+            (Start thread row.object row.trace row.name row.group row.parent_group)) }
     {
         self.starts.state(thread as u64, row)
     }

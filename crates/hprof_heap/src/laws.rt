@@ -64,10 +64,12 @@ pub fn dump_reads_back()
 /// Two heaps come to one thing, the heap of both or a refusal, and in either order to the same. A heap that is joined with an
 /// equal one is unchanged.
 pub fn two_heaps_have_one_join()
-    ensures exists { (one other : HeapValue) → IsHeap one → IsHeap other → (outcome : Result HeapValue JoinRefusal) × IsJoin one other outcome }
+    ensures exists { (one other : HeapValue) → IsHeap one → IsHeap other → (outcome : Result HeapValue JoinRefusal)
+        × IsJoin one other outcome }
     ensures both_orders { (one other : HeapValue) (outcome turned : Result HeapValue JoinRefusal) → IsHeap one → IsHeap other
         → IsJoin one other outcome → IsJoin other one turned → outcome ≡ turned }
-    ensures unchanged { (heap : HeapValue) (outcome : Result HeapValue JoinRefusal) → IsHeap heap → IsJoin heap heap outcome → outcome ≡ Ok heap }
+    ensures unchanged { (heap : HeapValue) (outcome : Result HeapValue JoinRefusal) → IsHeap heap → IsJoin heap heap outcome
+        → outcome ≡ Ok heap }
 {}
 
 /// Three heaps that can be joined in one grouping can be joined in the other, and come to the same heap.

@@ -29,7 +29,8 @@ struct Segment<'a> {
 /// Walks from the first sub-record of a segment to the first of the next.
 fn count_segment<'a>(first: SubRow<'a>, ahead: &mut SubRows<'a>) -> Segment<'a>
     requires { IsWritable (subs_ids ahead.old) first }
-    ensures counted { IsCounted (subs_ids ahead.old) (sub_fact (subs_ids ahead.old) first.entry ∷ subs_left ahead.old) result.count result.len
+    ensures counted { IsCounted (subs_ids ahead.old) (sub_fact (subs_ids ahead.old) first.entry ∷ subs_left ahead.old) result.count
+        result.len
         (with_taken (subs_ids ahead.old) result.next (subs_left ahead.new)) }
     ensures next { IfSome result.next (IsWritable (subs_ids ahead.old)) }
     ensures ids { subs_ids ahead.new ≡ subs_ids ahead.old }

@@ -19,7 +19,8 @@ pub(crate) struct SubRows<'a> {
     at_objects: bool,
     ghost ended: { HasEnded at_objects roots (byte_rows_left classes) } by { HasEnded-prop at_objects roots (byte_rows_left classes) },
     // Each of them can be written.
-    ghost sound: { AreWritable ids roots (byte_rows_left classes) (byte_rows_left objects) } by { AreWritable-prop ids roots (byte_rows_left classes) (byte_rows_left objects) },
+    ghost sound: { AreWritable ids roots (byte_rows_left classes) (byte_rows_left objects) } by { AreWritable-prop ids roots
+        (byte_rows_left classes) (byte_rows_left objects) },
 }
 
 impl<'a> SubRows<'a> {

@@ -65,7 +65,7 @@ right_tag (Some other) tag e = ap Some cc
 
 -- the reader of a root's tag is that of roots
 root_reader : (ids : IdSize) (root : Root) (bounds : Bounds) (bytes : List ℕ) → dump_at ids (tag_of_root root) bounds bytes
-  ≡ root_at ids (tag_of_root root) bounds bytes
+    ≡ root_at ids (tag_of_root root) bounds bytes
 root_reader ids (roots.JniGlobal id reference) bounds bytes = refl
 root_reader ids (roots.JniLocal id thread frame) bounds bytes = refl
 root_reader ids (roots.JavaFrame id thread frame) bounds bytes = refl
@@ -80,20 +80,20 @@ root_reader ids (roots.Unknown id) bounds bytes = refl
 
 -- what is spelled is read, whatever follows
 dump_again : (ids : IdSize) (bounds : Bounds) (fact : FactValue) (rest bytes : List ℕ) → DumpFits ids fact
-  → drop 1 bytes ≡ drop 1 (dump_bytes ids fact) ++ rest
+    → drop 1 bytes ≡ drop 1 (dump_bytes ids fact) ++ rest
     → IsWithin bounds (length (dump_bytes ids fact)) → dump_at ids (tag_of_dump fact) bounds bytes ≡ Ok (fact, length (dump_bytes ids fact))
 dump_again ids bounds (Rooted root) rest bytes fits spelled within = root_reader ids root bounds bytes
-  ∙ root_again ids bounds root rest bytes fits spelled within
+    ∙ root_again ids bounds root rest bytes fits spelled within
 dump_again ids bounds (Class id trace parent loader signers domain reserved1 reserved2 size constants statics fields) rest bytes fits
-  spelled within =
+    spelled within =
     class_again ids bounds id trace parent loader signers domain reserved1 reserved2 size constants statics fields rest bytes fits
-      spelled within
+    spelled within
 dump_again ids bounds (Instance id trace class raw) rest bytes fits spelled within =
-  instance_again ids bounds id trace class raw rest bytes fits spelled within
+    instance_again ids bounds id trace class raw rest bytes fits spelled within
 dump_again ids bounds (ObjArray id trace class elements) rest bytes fits spelled within =
-  obj_array_again ids bounds id trace class elements rest bytes fits spelled within
+    obj_array_again ids bounds id trace class elements rest bytes fits spelled within
 dump_again ids bounds (PrimArray id trace elem raw) rest bytes fits spelled within =
-  prim_array_again ids bounds id trace elem raw rest bytes fits spelled within
+    prim_array_again ids bounds id trace elem raw rest bytes fits spelled within
 dump_again ids bounds (Name id text) rest bytes fits spelled within = absurd fits
 dump_again ids bounds (Load serial class trace name) rest bytes fits spelled within = absurd fits
 dump_again ids bounds (Unload serial) rest bytes fits spelled within = absurd fits
@@ -109,7 +109,7 @@ record IsRead (ids : IdSize) (tag : SubTag) (bounds : Bounds) (bytes : List ℕ)
 
 -- the answer that was made has the tag
 made_tag : (made fact : FactValue) (m n : ℕ) (tag : SubTag) (r : Result (FactValue × ℕ) Stop) → r ≡ Ok (made, m) → r ≡ Ok (fact, n)
-  → tag_of_dump made ≡ tag → tag_of_dump fact ≡ tag
+    → tag_of_dump made ≡ tag → tag_of_dump fact ≡ tag
 made_tag made fact m n tag r made_it e is = ap tag_of_dump (sym (answer_parts made fact m n r made_it e).0) ∙ is
 
 -- so has what comes of a reading in steps
@@ -119,89 +119,92 @@ then_tag r next fact n tag each e = let step = then_ok r next (fact, n) e in eac
 
 -- what a last step made
 last_tag : (made : FactValue) (m : ℕ) (fact : FactValue) (n : ℕ) (tag : SubTag) → tag_of_dump made ≡ tag
-  → answered made m ≡ Ok (fact, n) → tag_of_dump fact ≡ tag
+    → answered made m ≡ Ok (fact, n) → tag_of_dump fact ≡ tag
 last_tag made m fact n tag is e = made_tag made fact m n tag (answered made m) refl e is
 
 root_tag : (ids : IdSize) (tag : SubTag) (bounds : Bounds) (bytes : List ℕ) (fact : FactValue) (n : ℕ) → is_root_tag tag ≡ true
-  → root_at ids tag bounds bytes ≡ Ok (fact, n) → tag_of_dump fact ≡ tag
+    → root_at ids tag bounds bytes ≡ Ok (fact, n) → tag_of_dump fact ≡ tag
 unfolding root_at
 root_tag ids tag bounds bytes fact n root e =
     let made : FactValue = Rooted (root_of tag (fields_in (root_fields ids tag) (drop 1 bytes))) in
     then_tag (reached bounds 1 (root_fields ids tag)) (λ (end : ℕ). Ok (made, end)) fact n tag (λ end.
-      last_tag made end fact n tag (numbers_same ids tag (drop 1 bytes) root).1) e
+    last_tag made end fact n tag (numbers_same ids tag (drop 1 bytes) root).1) e
 
 instance_tag : (ids : IdSize) (bounds : Bounds) (bytes : List ℕ) (fact : FactValue) (n : ℕ) → instance_at ids bounds bytes
-  ≡ Ok (fact, n) → tag_of_dump fact ≡ tags.InstanceDump
+    ≡ Ok (fact, n) → tag_of_dump fact ≡ tags.InstanceDump
 unfolding instance_at
 instance_tag ids bounds bytes fact n e =
     let numbers : List ℕ = fields_in (instance_widths ids) (drop 1 bytes) in
     let len : ℕ = slice_index numbers 3 in
     let made : ℕ → FactValue = λ front. Instance (slice_index numbers 0) (slice_index numbers 1) (slice_index numbers 2)
-      (cut len front bytes) in
+    (cut len front bytes) in
     then_tag (reached bounds 1 (instance_widths ids)) (λ (front : ℕ). reached bounds front (len ∷ []) >>= λ (end : ℕ).
-      Ok (made front, end)) fact n tags.InstanceDump
+    Ok (made front, end)) fact n tags.InstanceDump
     (λ front. then_tag (reached bounds front (len ∷ [])) (λ (end : ℕ). Ok (made front, end)) fact n tags.InstanceDump (λ end.
-      last_tag (made front) end fact n tags.InstanceDump refl)) e
+    last_tag (made front) end fact n tags.InstanceDump refl)) e
 
 obj_array_tag : (ids : IdSize) (bounds : Bounds) (bytes : List ℕ) (fact : FactValue) (n : ℕ) → obj_array_at ids bounds bytes
-  ≡ Ok (fact, n) → tag_of_dump fact ≡ tags.ObjArrayDump
+    ≡ Ok (fact, n) → tag_of_dump fact ≡ tags.ObjArrayDump
 unfolding obj_array_at
 obj_array_tag ids bounds bytes fact n e =
     let numbers : List ℕ = fields_in (obj_array_widths ids) (drop 1 bytes) in
     let len : ℕ = slice_index numbers 2 * width_of ids in
     let made : ℕ → FactValue = λ front. ObjArray (slice_index numbers 0) (slice_index numbers 1) (slice_index numbers 3)
-      (ids_in ids (cut len front bytes)) in
+    (ids_in ids (cut len front bytes)) in
     then_tag (reached bounds 1 (obj_array_widths ids)) (λ (front : ℕ). reached bounds front (len ∷ []) >>= λ (end : ℕ).
-      Ok (made front, end)) fact n tags.ObjArrayDump
+    Ok (made front, end)) fact n tags.ObjArrayDump
     (λ front. then_tag (reached bounds front (len ∷ [])) (λ (end : ℕ). Ok (made front, end)) fact n tags.ObjArrayDump (λ end.
-      last_tag (made front) end fact n tags.ObjArrayDump refl)) e
+    last_tag (made front) end fact n tags.ObjArrayDump refl)) e
 
 prim_array_tag : (ids : IdSize) (bounds : Bounds) (bytes : List ℕ) (fact : FactValue) (n : ℕ) → prim_array_at ids bounds bytes
-  ≡ Ok (fact, n) → tag_of_dump fact ≡ tags.PrimArrayDump
+    ≡ Ok (fact, n) → tag_of_dump fact ≡ tags.PrimArrayDump
 unfolding prim_array_at
 prim_array_tag ids bounds bytes fact n e =
     let numbers : List ℕ = fields_in (prim_array_widths ids) (drop 1 bytes) in
     let len : Basic → ℕ = λ elem. slice_index numbers 2 * width_of_basic ids elem in
     let made : ℕ → Basic → FactValue = λ front elem. PrimArray (slice_index numbers 0) (slice_index numbers 1) elem
-      (cut (len elem) front bytes) in
+    (cut (len elem) front bytes) in
     let last : ℕ → Basic → Result (FactValue × ℕ) Stop = λ front elem. reached bounds front (len elem ∷ []) >>= λ (end : ℕ).
-      Ok (made front elem, end) in
+    Ok (made front elem, end) in
     then_tag (reached bounds 1 (prim_array_widths ids)) (λ (front : ℕ). element_type (basic_of_code (slice_index numbers 3))
-      >>= λ (elem : Basic). last front elem) fact n tags.PrimArrayDump
+    >>= λ (elem : Basic). last front elem) fact n tags.PrimArrayDump
     (λ front. then_tag (element_type (basic_of_code (slice_index numbers 3))) (λ (elem : Basic). last front elem) fact n tags.PrimArrayDump
     (λ elem. then_tag (reached bounds front (len elem ∷ [])) (λ (end : ℕ). Ok (made front elem, end)) fact n tags.PrimArrayDump
     (λ end. last_tag (made front elem) end fact n tags.PrimArrayDump refl))) e
 
 class_tag : (ids : IdSize) (bounds : Bounds) (bytes : List ℕ) (fact : FactValue) (n : ℕ) → class_at ids bounds bytes ≡ Ok (fact, n)
-  → tag_of_dump fact ≡ tags.ClassDump
+    → tag_of_dump fact ≡ tags.ClassDump
 unfolding class_at
 class_tag ids bounds bytes fact n e =
     let numbers : List ℕ = fields_in (class_widths ids) (drop 1 bytes) in
     let made : ℕ → ℕ → ℕ → FactValue = λ at s f. class_of numbers (list_in ids kinds.Constant bytes at)
-      (list_in ids kinds.Static bytes s) (list_in ids kinds.Field bytes f) in
+    (list_in ids kinds.Static bytes s) (list_in ids kinds.Field bytes f) in
     let last : ℕ → ℕ → ℕ → Result (FactValue × ℕ) Stop = λ at s f. list_end ids kinds.Field bounds bytes f >>= λ (end : ℕ).
-      Ok (made at s f, end) in
+    Ok (made at s f, end) in
     then_tag (reached bounds 1 (class_widths ids))
     (λ (at : ℕ). list_end ids kinds.Constant bounds bytes at >>= λ (s : ℕ). list_end ids kinds.Static bounds bytes s >>= λ (f : ℕ).
-      last at s f) fact n tags.ClassDump
+    last at s f) fact n tags.ClassDump
     (λ at. then_tag (list_end ids kinds.Constant bounds bytes at) (λ (s : ℕ). list_end ids kinds.Static bounds bytes s >>= λ (f : ℕ).
-      last at s f) fact n tags.ClassDump
+    last at s f) fact n tags.ClassDump
     (λ s. then_tag (list_end ids kinds.Static bounds bytes s) (λ (f : ℕ). last at s f) fact n tags.ClassDump
     (λ f. then_tag (list_end ids kinds.Field bounds bytes f) (λ (end : ℕ). Ok (made at s f, end)) fact n tags.ClassDump (λ end.
-      last_tag (made at s f) end fact n tags.ClassDump refl)))) e
+    last_tag (made at s f) end fact n tags.ClassDump refl)))) e
 
 -- what is read is spelled so
 read_found : (ids : IdSize) (tag : SubTag) (bounds : Bounds) (bytes : List ℕ) (fact : FactValue) (n : ℕ) → IsBytes bytes
-  → bounds.there ≤ length bytes
+    → bounds.there ≤ length bytes
     → dump_at ids tag bounds bytes ≡ Ok (fact, n) → IsRead ids tag bounds bytes fact n
-read_found ids tags.ClassDump bounds bytes fact n are there e = record { is = class_found ids bounds bytes fact n are there e; tagged =
-  class_tag ids bounds bytes fact n e }
+read_found ids tags.ClassDump bounds bytes fact n are there e = record {
+  is = class_found ids bounds bytes fact n are there e;
+  tagged =
+      class_tag ids bounds bytes fact n e;
+}
 read_found ids tags.InstanceDump bounds bytes fact n are there e =
-  record { is = instance_found ids bounds bytes fact n are there e; tagged = instance_tag ids bounds bytes fact n e }
+    record { is = instance_found ids bounds bytes fact n are there e; tagged = instance_tag ids bounds bytes fact n e }
 read_found ids tags.ObjArrayDump bounds bytes fact n are there e =
-  record { is = obj_array_found ids bounds bytes fact n are there e; tagged = obj_array_tag ids bounds bytes fact n e }
+    record { is = obj_array_found ids bounds bytes fact n are there e; tagged = obj_array_tag ids bounds bytes fact n e }
 read_found ids tags.PrimArrayDump bounds bytes fact n are there e =
-  record { is = prim_array_found ids bounds bytes fact n are there e; tagged = prim_array_tag ids bounds bytes fact n e }
+    record { is = prim_array_found ids bounds bytes fact n are there e; tagged = prim_array_tag ids bounds bytes fact n e }
 read_found ids tag bounds bytes fact n are there e =
     record { is = root_found ids tag bounds bytes fact n are there refl e; tagged = root_tag ids tag bounds bytes fact n refl e }
 
@@ -209,7 +212,7 @@ read_found ids tag bounds bytes fact n are there e =
 
 -- a spelling begins with its tag
 pub tag_first : (ids : IdSize) (fact : FactValue) → DumpFits ids fact → dump_bytes ids fact ≡ code_of_tag (tag_of_dump fact) ∷ drop 1
-  (dump_bytes ids fact)
+    (dump_bytes ids fact)
 tag_first ids (Rooted root) fits = refl
 tag_first ids (Class id trace parent loader signers domain reserved1 reserved2 size constants statics fields) fits = refl
 tag_first ids (Instance id trace class raw) fits = refl
@@ -240,7 +243,7 @@ first_passes bounds within =
 
 -- a sub-record that is spelled is read, whatever follows
 pub sub_again : (ids : IdSize) (bounds : Bounds) (fact : FactValue) (rest bytes : List ℕ) → DumpFits ids fact
-  → bytes ≡ dump_bytes ids fact ++ rest
+    → bytes ≡ dump_bytes ids fact ++ rest
     → IsWithin bounds (length (dump_bytes ids fact)) → sub_at ids bounds bytes ≡ Ok (fact, length (dump_bytes ids fact))
 unfolding sub_at
 sub_again ids bounds fact rest bytes fits spelled within =
@@ -251,7 +254,7 @@ sub_again ids bounds fact rest bytes fits spelled within =
     let first = first_passes bounds (within-less bounds 1 (length (dump_bytes ids fact)) long within) in
     let code : slice_index bytes 0 ≡ code_of_tag tag = ap (λ (b : List ℕ). slice_index b 0) parts in
     then_next (first_test bounds) (λ (front : ℕ). judged_tag (tag_of_code (slice_index bytes 0)) >>= λ (t : SubTag).
-      dump_at ids t bounds bytes) 1 first
+    dump_at ids t bounds bytes) 1 first
     ∙ ap (λ (o : Option SubTag). judged_tag o >>= λ (t : SubTag). dump_at ids t bounds bytes) (ap tag_of_code code ∙ tag_again tag)
     ∙ dump_again ids bounds fact rest bytes fits (ap (drop 1) parts) within
 
@@ -273,7 +276,7 @@ pub sub_found : (ids : IdSize) (bounds : Bounds) (bytes : List ℕ) (fact : Fact
 unfolding sub_at
 sub_found ids bounds bytes fact n are there e =
     let first = then_ok (first_test bounds) (λ (front : ℕ). judged_tag (tag_of_code (slice_index bytes 0)) >>= λ (t : SubTag).
-      dump_at ids t bounds bytes) (fact, n) e in
+    dump_at ids t bounds bytes) (fact, n) e in
     let second = then_ok (judged_tag (tag_of_code (slice_index bytes 0))) (λ (t : SubTag). dump_at ids t bounds bytes) (fact, n) first.2 in
     let tag = second.0 in
     let code = tag_found (slice_index bytes 0) tag (right_tag (tag_of_code (slice_index bytes 0)) tag second.1) in
@@ -285,14 +288,14 @@ sub_found ids bounds bytes fact n are there e =
     record {
       fits = read.is.fits;
       spelled = front ∙ ap (λ (r : List ℕ). code_of_tag (tag_of_dump fact) ∷ r) read.is.spelled ∙ ap (λ (b : List ℕ). b ++ drop n bytes)
-        (sym (tag_first ids fact read.is.fits));
+          (sym (tag_first ids fact read.is.fits));
       ends = read.is.ends;
       within = read.is.within;
     }
 
 -- no spelling begins another
 pub dump_once : (ids : IdSize) (fact other : FactValue) (rest more : List ℕ) → DumpFits ids fact → DumpFits ids other
-  → dump_bytes ids fact ++ rest ≡ dump_bytes ids other ++ more
+    → dump_bytes ids fact ++ rest ≡ dump_bytes ids other ++ more
     → (fact ≡ other) × (rest ≡ more)
 dump_once ids fact other rest more fits fits_too e =
     let a : List ℕ = dump_bytes ids fact in
@@ -300,8 +303,12 @@ dump_once ids fact other rest more fits fits_too e =
     let bytes : List ℕ = a ++ rest in
     let bounds : Bounds = exactly bytes in
     let lies : (xs ys : List ℕ) → bytes ≡ xs ++ ys → IsWithin bounds (length xs) =
-    λ xs ys split. let len : length xs ≤ length bytes = omega (arith, ap length split, length-append xs ys) in record { room =
-      len; longest = len; there = len } in
+    λ xs ys split. let len : length xs ≤ length bytes = omega (arith, ap length split, length-append xs ys) in record {
+      room =
+          len;
+      longest = len;
+      there = len;
+    } in
     let first = sub_again ids bounds fact rest bytes fits refl (lies a rest refl) in
     let second = sub_again ids bounds other more bytes fits_too e (lies b more e) in
     let same = answer_parts fact other (length a) (length b) (sub_at ids bounds bytes) first second in (
@@ -313,27 +320,27 @@ dump_once ids fact other rest more fits fits_too e =
 
 -- two steps and then a third
 then_both : {A B C : Type 0} (r : Result A Stop) (middle : Result B Stop) (next : B → Result C Stop)
-  → (r >>= λ (x : A). middle >>= next) ≡ ((r >>= λ (x : A). middle) >>= next)
+    → (r >>= λ (x : A). middle >>= next) ≡ ((r >>= λ (x : A). middle) >>= next)
 then_both (Ok x) middle next = refl
 then_both (Err stop) middle next = refl
 
 sub_steps : (ids : IdSize) (bounds : Bounds) (bytes : List ℕ) → sub_at ids bounds bytes ≡ (tag_at bounds bytes >>= λ (tag : SubTag).
-  dump_at ids tag bounds bytes)
+    dump_at ids tag bounds bytes)
 unfolding sub_at
 sub_steps ids bounds bytes = then_both (first_test bounds) (judged_tag (tag_of_code (slice_index bytes 0))) (λ (tag : SubTag).
-  dump_at ids tag bounds bytes)
+    dump_at ids tag bounds bytes)
 
 -- where the tag is right, the sub-record is what is read behind it
 pub sub_tagged : (ids : IdSize) (bounds : Bounds) (bytes : List ℕ) (tag : SubTag) → tag_at bounds bytes ≡ Ok tag
-  → sub_at ids bounds bytes ≡ dump_at ids tag bounds bytes
+    → sub_at ids bounds bytes ≡ dump_at ids tag bounds bytes
 sub_tagged ids bounds bytes tag e = sub_steps ids bounds bytes ∙ then_next (tag_at bounds bytes) (λ (t : SubTag).
-  dump_at ids t bounds bytes) tag e
+    dump_at ids t bounds bytes) tag e
 
 -- and where not, no more is read
 pub sub_stops : (ids : IdSize) (bounds : Bounds) (bytes : List ℕ) (stop : Stop) → tag_at bounds bytes ≡ Err stop
-  → sub_at ids bounds bytes ≡ Err stop
+    → sub_at ids bounds bytes ≡ Err stop
 sub_stops ids bounds bytes stop e = sub_steps ids bounds bytes ∙ then_stop (tag_at bounds bytes) (λ (t : SubTag).
-  dump_at ids t bounds bytes) stop e
+    dump_at ids t bounds bytes) stop e
 
 -- ---- what a caller sees
 
@@ -367,18 +374,22 @@ sub_read ids room longest bytes fact n are small lists e =
 
 -- what is spelled there is what a reading gives
 pub sub_is : (ids : IdSize) (room longest : ℕ) (bytes : List ℕ) (r : Result (FactValue × ℕ) Stop) (fact : FactValue) (rest : List ℕ)
-  → r ≡ sub_at ids (bounds_within room longest bytes) bytes
+    → r ≡ sub_at ids (bounds_within room longest bytes) bytes
     → DumpFits ids fact → bytes ≡ dump_bytes ids fact ++ rest → length (dump_bytes ids fact) ≤ room
-      → length (dump_bytes ids fact) ≤ longest → r ≡ Ok (fact, length (dump_bytes ids fact))
+    → length (dump_bytes ids fact) ≤ longest → r ≡ Ok (fact, length (dump_bytes ids fact))
 sub_is ids room longest bytes r fact rest read fits spelled in_room in_longest =
     let there : length (dump_bytes ids fact) ≤ length bytes = omega (arith, ap length spelled, length-append (dump_bytes ids fact) rest) in
-    read ∙ sub_again ids (bounds_within room longest bytes) fact rest bytes fits spelled (record { room = in_room; longest =
-      in_longest; there = there })
+    read ∙ sub_again ids (bounds_within room longest bytes) fact rest bytes fits spelled (record {
+      room = in_room;
+      longest =
+          in_longest;
+      there = there;
+    })
 
 -- so no other answer is given
 pub sub_never : (ids : IdSize) (room longest : ℕ) (bytes : List ℕ) (stop : Stop) → sub_at ids (bounds_within room longest bytes) bytes
-  ≡ Err stop
+    ≡ Err stop
     → (fact : FactValue) (rest : List ℕ) → DumpFits ids fact → bytes ≡ dump_bytes ids fact ++ rest → length (dump_bytes ids fact) ≤ room
-      → length (dump_bytes ids fact) ≤ longest → ⊥
+    → length (dump_bytes ids fact) ≤ longest → ⊥
 sub_never ids room longest bytes stop e fact rest fits spelled in_room in_longest =
     let read = sub_is ids room longest bytes (Err stop) fact rest (sym e) fits spelled in_room in_longest in absurd cc

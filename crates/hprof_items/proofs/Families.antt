@@ -10,16 +10,16 @@ use Rattle.hprof_items.proofs.RecordBodies.{record_once}
 use Rattle.hprof_items.proofs.Dumps.{dump_once}
 
 once_as : (ids : IdSize) (fact other : FactValue) (rest more : List ℕ) (a b : Option RecordTag) → FitsAs ids a fact → FitsAs ids b other
-  → is_some a ≡ is_some b
+    → is_some a ≡ is_some b
     → spelled_as ids a fact ++ rest ≡ spelled_as ids b other ++ more → (fact ≡ other) × (rest ≡ more)
 once_as ids fact other rest more (Some tag) (Some tag_too) fits fits_too one_family e =
-  record_once ids fact other tag tag_too rest more fits.0 fits_too.0 fits.1 fits_too.1 e
+    record_once ids fact other tag tag_too rest more fits.0 fits_too.0 fits.1 fits_too.1 e
 once_as ids fact other rest more (Some tag) None fits fits_too one_family e = absurd cc
 once_as ids fact other rest more None (Some tag) fits fits_too one_family e = absurd cc
 once_as ids fact other rest more None None fits fits_too one_family e = dump_once ids fact other rest more fits.0 fits_too.0 e
 
 pub spelling_once : (ids : IdSize) (fact other : FactValue) (rest more : List ℕ) → Fits ids fact → Fits ids other
-  → is_some (record_of fact) ≡ is_some (record_of other)
+    → is_some (record_of fact) ≡ is_some (record_of other)
     → spelling ids fact ++ rest ≡ spelling ids other ++ more → (fact ≡ other) × (rest ≡ more)
 spelling_once ids fact other rest more fits fits_too one_family e =
-  once_as ids fact other rest more (record_of fact) (record_of other) fits fits_too one_family e
+    once_as ids fact other rest more (record_of fact) (record_of other) fits fits_too one_family e

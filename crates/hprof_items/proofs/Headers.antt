@@ -36,7 +36,7 @@ version_found text v e =
     elim (some_first (bytes_eq text (text_of V101)) V101 (cond (bytes_eq text (text_of V102)) (Some V102) None) v e) [
       | inl first ↦ (bytes_eq-Decides text (text_of V101)).0 first.0 ∙ ap text_of first.1
       | inr later ↦ let second = some_last (bytes_eq text (text_of V102)) V102 v later in (bytes_eq-Decides text (text_of V102)).0
-        second.0 ∙ ap text_of second.1
+          second.0 ∙ ap text_of second.1
     ]
 
 -- a number that is taken for a size of identifiers is that size
@@ -58,7 +58,7 @@ unfolding timed
 timed_found version None bytes h n e = absurd (fault_is_not_whole BadIdSize h n e)
 timed_found version (Some ids) bytes h n e =
     let g = long_enough (length bytes) 31 (Whole (record { version = version; ids = ids; millis = big_number 8 (drop 23 bytes) }) 31) h
-      n e in
+    n e in
     let p = whole_parts (record { version = version; ids = ids; millis = big_number 8 (drop 23 bytes) }) h 31 n g.1 in
     (ids, refl, g.0, p.0, p.1)
 
@@ -72,7 +72,7 @@ sized_found (Some version) bytes h n e =
 
 -- bytes with those fields at their places
 fields_found : (bytes : List ℕ) (version : Version) (ids : IdSize) → IsBytes bytes → 31 ≤ length bytes → take 19 bytes ≡ text_of version
-  → big_number 4 (drop 19 bytes) ≡ width_of ids
+    → big_number 4 (drop 19 bytes) ≡ width_of ids
     → bytes ≡ header_bytes (timed version ids bytes) ++ drop 31 bytes
 unfolding timed
 fields_found bytes version ids are long text size =
@@ -81,7 +81,7 @@ fields_found bytes version ids are long text size =
     let time : drop 23 bytes ≡ big_bytes 8 (big_number 8 (drop 23 bytes)) ++ drop 31 bytes = number_parts_at 23 8 bytes are (omega arith) in
     let both : drop 19 bytes ≡ (big_bytes 4 (width_of ids) ++ big_bytes 8 (big_number 8 (drop 23 bytes))) ++ drop 31 bytes =
     tail ∙ ap (λ (r : List ℕ). big_bytes 4 (width_of ids) ++ r) time
-      ∙ sym (append_assoc (big_bytes 4 (width_of ids)) (big_bytes 8 (big_number 8 (drop 23 bytes))) (drop 31 bytes)) in
+    ∙ sym (append_assoc (big_bytes 4 (width_of ids)) (big_bytes 8 (big_number 8 (drop 23 bytes))) (drop 31 bytes)) in
     sym (take-append-drop 19 bytes)
     ∙ ap (λ (t : List ℕ). t ++ drop 19 bytes) text
     ∙ ap (λ (r : List ℕ). text_of version ++ r) both
@@ -89,7 +89,7 @@ fields_found bytes version ids are long text size =
 
 -- what is read is spelled so
 pub header_found : (bytes : List ℕ) (h : Header) (n : ℕ) → IsBytes bytes → header_at bytes ≡ Whole h n
-  → (bytes ≡ header_bytes h ++ drop n bytes) × (n ≡ 31) × IsMillis h.millis
+    → (bytes ≡ header_bytes h ++ drop n bytes) × (n ≡ 31) × IsMillis h.millis
 unfolding header_at timed
 header_found bytes h n are e =
     let g = long_enough (length bytes) 19 (sized_header (version_of (take 19 bytes)) bytes) h n e in
@@ -101,25 +101,25 @@ header_found bytes h n are e =
     let below : IsMillis (timed s.0 t.0 bytes).millis = big_from-lt 0 8 (drop 23 bytes) (IsBytes-drop 23 bytes are) in
     subst (λ (x : Header). (bytes ≡ header_bytes x ++ drop n bytes) × (n ≡ 31) × IsMillis x.millis) t.3
     (subst (λ (m : ℕ). (bytes ≡ header_bytes (timed s.0 t.0 bytes) ++ drop m bytes) × (m ≡ 31) × IsMillis (timed s.0 t.0 bytes).millis)
-      t.4 (spelled, refl, below))
+    t.4 (spelled, refl, below))
 
 -- bytes whose text and size are right, and which are long enough
 pub header_made : (bytes : List ℕ) (version : Version) (ids : IdSize) → 31 ≤ length bytes → version_of (take 19 bytes) ≡ Some version
-  → ids_of (big_number 4 (drop 19 bytes)) ≡ Some ids
+    → ids_of (big_number 4 (drop 19 bytes)) ≡ Some ids
     → header_at bytes ≡ Whole (record { version = version; ids = ids; millis = big_number 8 (drop 23 bytes) }) 31
 unfolding header_at
 header_made bytes version ids long text size =
     cond-false (ltb (length bytes) 19) Short (sized_header (version_of (take 19 bytes)) bytes) (le-ltb _ _ (omega arith))
     ∙ ap (λ (o : Option Version). sized_header o bytes) text
     ∙ cond-false (ltb (length bytes) 23) Short (timed_header version (ids_of (big_number 4 (drop 19 bytes))) bytes)
-      (le-ltb _ _ (omega arith))
+    (le-ltb _ _ (omega arith))
     ∙ ap (λ (o : Option IdSize). timed_header version o bytes) size
     ∙ cond-false (ltb (length bytes) 31) Short (Whole (record { version = version; ids = ids; millis = big_number 8 (drop 23 bytes) })
-      31) (le-ltb _ _ (omega arith))
+    31) (le-ltb _ _ (omega arith))
 
 -- where a version's text stands in front
 text_front : (version : Version) (rest : List ℕ) → (version_of (take 19 (text_of version ++ rest)) ≡ Some version)
-  × (drop 19 (text_of version ++ rest) ≡ rest) × (drop 23 (text_of version ++ rest) ≡ drop 4 rest)
+    × (drop 19 (text_of version ++ rest) ≡ rest) × (drop 23 (text_of version ++ rest) ≡ drop 4 rest)
 text_front V101 rest = (refl, refl, refl)
 text_front V102 rest = (refl, refl, refl)
 
@@ -140,17 +140,22 @@ header_again h rest fits =
     let back : List ℕ = big_bytes 4 (width_of h.ids) ++ (big_bytes 8 h.millis ++ rest) in
     let bytes : List ℕ = header_bytes h ++ rest in
     let parts : bytes ≡ text_of h.version ++ back =
-      append_assoc (text_of h.version) (big_bytes 4 (width_of h.ids) ++ big_bytes 8 h.millis) rest in
+    append_assoc (text_of h.version) (big_bytes 4 (width_of h.ids) ++ big_bytes 8 h.millis) rest in
     let long : 31 ≤ length bytes =
-      omega (arith, length-text h.version, length-append (header_bytes h) rest, length-append (text_of h.version)
-      (big_bytes 4 (width_of h.ids) ++ big_bytes 8 h.millis)) in
+    omega (
+      arith,
+      length-text h.version,
+      length-append (header_bytes h) rest,
+      length-append (text_of h.version)
+          (big_bytes 4 (width_of h.ids) ++ big_bytes 8 h.millis),
+    ) in
     let front = text_front h.version back in
     let text : version_of (take 19 bytes) ≡ Some h.version = ap (λ (x : List ℕ). version_of (take 19 x)) parts ∙ front.0 in
     let sized : ids_of (big_number 4 (drop 19 bytes)) ≡ Some h.ids =
     ap (λ (x : List ℕ). ids_of (big_number 4 x)) (ap (drop 19) parts ∙ front.1)
-      ∙ ap ids_of (big_number-reads_back 4 (width_of h.ids) (big_bytes 8 h.millis ++ rest) (omega (arith, (ids_again h.ids).1)))
-      ∙ (ids_again h.ids).0 in
+    ∙ ap ids_of (big_number-reads_back 4 (width_of h.ids) (big_bytes 8 h.millis ++ rest) (omega (arith, (ids_again h.ids).1)))
+    ∙ (ids_again h.ids).0 in
     let time : big_number 8 (drop 23 bytes) ≡ h.millis =
     ap (big_number 8) (ap (drop 23) parts ∙ front.2) ∙ big_number-reads_back 8 h.millis rest fits in
     header_made bytes h.version h.ids long text sized
-      ∙ ap (λ (m : ℕ). Whole (record { version = h.version; ids = h.ids; millis = m }) 31) time
+    ∙ ap (λ (m : ℕ). Whole (record { version = h.version; ids = h.ids; millis = m }) 31) time

@@ -29,7 +29,7 @@ fields bytes = record { tag = slice_index bytes 0; time = big_number 4 (drop 1 b
 
 -- bytes with those fields at their places
 pub fields_found : (bytes : List ℕ) → IsBytes bytes → 9 ≤ length bytes → bytes ≡ head_bytes (fields bytes).tag (fields bytes).time
-  (fields bytes).length ++ drop 9 bytes
+    (fields bytes).length ++ drop 9 bytes
 unfolding fields
 fields_found bytes are long =
     let first : bytes ≡ slice_index bytes 0 ∷ drop 1 bytes = drop-cons bytes 0 0 (omega arith) in
@@ -39,7 +39,7 @@ fields_found bytes are long =
     ∙ ap (λ (r : List ℕ). slice_index bytes 0 ∷ r) time
     ∙ ap (λ (r : List ℕ). slice_index bytes 0 ∷ (big_bytes 4 (big_number 4 (drop 1 bytes)) ++ r)) len
     ∙ ap (λ (r : List ℕ). slice_index bytes 0 ∷ r)
-      (sym (append_assoc (big_bytes 4 (big_number 4 (drop 1 bytes))) (big_bytes 4 (big_number 4 (drop 5 bytes))) (drop 9 bytes)))
+    (sym (append_assoc (big_bytes 4 (big_number 4 (drop 1 bytes))) (big_bytes 4 (big_number 4 (drop 5 bytes))) (drop 9 bytes)))
 
 -- the tests that a head passed
 judged_found : (ids : IdSize) (longest : ℕ) (x head : Head) (n : ℕ) → judged_head ids longest x ≡ Whole head n
@@ -60,7 +60,7 @@ judged_again ids longest head right =
 
 -- what is read is spelled so, and right
 pub head_found : (ids : IdSize) (longest : ℕ) (bytes : List ℕ) (head : Head) (n : ℕ) → IsBytes bytes → head_at ids longest bytes
-  ≡ Whole head n
+    ≡ Whole head n
     → (bytes ≡ head_bytes head.tag head.time head.length ++ drop n bytes) × (n ≡ 9) × IsRightHead ids longest head
 unfolding head_at fields
 head_found ids longest bytes head n are e =
@@ -76,7 +76,7 @@ head_found ids longest bytes head n are e =
     } in
     subst (λ (x : Head). (bytes ≡ head_bytes x.tag x.time x.length ++ drop n bytes) × (n ≡ 9) × IsRightHead ids longest x) judged.2
     (subst (λ (m : ℕ). (bytes ≡ head_bytes read.tag read.time read.length ++ drop m bytes) × (m ≡ 9) × IsRightHead ids longest read)
-      judged.3
+    judged.3
     (fields_found bytes are there.0, refl, right))
 
 -- what is spelled so and right is read, whatever follows
@@ -90,7 +90,7 @@ head_again ids longest head rest right =
     let time : big_number 4 (drop 1 bytes) ≡ head.time = big_number-reads_back 4 head.time (big_bytes 4 head.length ++ rest) right.time in
     let len : big_number 4 (drop 5 bytes) ≡ head.length = big_number-reads_back 4 head.length rest right.length in
     cond-false (ltb (length bytes) 9) Short (judged_head ids longest (read (big_number 4 (drop 1 bytes)) (big_number 4 (drop 5 bytes))))
-      (le-ltb _ _ long)
+    (le-ltb _ _ long)
     ∙ ap (λ (m : ℕ). judged_head ids longest (read m (big_number 4 (drop 5 bytes)))) time
     ∙ ap (λ (m : ℕ). judged_head ids longest (read head.time m)) len
     ∙ judged_again ids longest head right
@@ -119,7 +119,7 @@ named : (tag : ℕ) → is_fact_tag tag ≡ true → Named tag
 named tag =
     either _ _ (either _ _ (either _ _ (either _ _ (either _ _ (either _ _ (by_code tag tags.Utf8) (by_code tag tags.LoadClass))
     (by_code tag tags.UnloadClass)) (by_code tag tags.Frame)) (by_code tag tags.Trace)) (by_code tag tags.StartThread))
-      (by_code tag tags.EndThread)
+    (by_code tag tags.EndThread)
 
 -- the head of such a record has the length of such a body
 pub fact_head : (ids : IdSize) (longest : ℕ) (head : Head) → IsRightHead ids longest head → kind_of head.tag ≡ FactRecord

@@ -19,15 +19,15 @@ use Rattle.hprof_items.specs.SubRecord.{tagged_bytes}
 
 -- a group of fields behind a tag, and then bytes
 pub length-tagged : (tag : SubTag) (widths numbers more : List ℕ) → FitFields widths numbers
-  → length (tagged_bytes tag widths numbers more) ≡ 1 + sum widths + length more
+    → length (tagged_bytes tag widths numbers more) ≡ 1 + sum widths + length more
 length-tagged tag widths numbers more fits =
-  omega (arith, length-fields widths numbers fits, length-append (field_bytes widths numbers) more)
+    omega (arith, length-fields widths numbers fits, length-append (field_bytes widths numbers) more)
 
 -- the lists of a class, each behind two bytes
 pub length-lists : (ids : IdSize) (constants statics fields : List Entry)
     → length (class_lists ids constants statics fields)
     ≡ 6 + length (entries_bytes ids kinds.Constant constants) + length (entries_bytes ids kinds.Static statics) + length
-      (entries_bytes ids kinds.Field fields)
+    (entries_bytes ids kinds.Field fields)
 length-lists ids constants statics fields =
     omega (
       arith,

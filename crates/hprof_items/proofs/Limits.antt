@@ -15,7 +15,7 @@ use Rattle.hprof_items.proofs.Steps.{went_on, held, long_enough, whole_parts, to
 -- of two chains of tests that differ in the last test, which fails in the second only where it does in the first
 tests_same_or_long : (w : Step Head) (legal long long_too : Bool) → (long ≡ false → long_too ≡ false)
     → (cond legal (cond long TooLong w) (Fault BadLength) ≡ cond legal (cond long_too TooLong w) (Fault BadLength))
-      ⊎ (cond legal (cond long TooLong w) (Fault BadLength) ≡ TooLong)
+    ⊎ (cond legal (cond long TooLong w) (Fault BadLength) ≡ TooLong)
 tests_same_or_long w true true long_too h = inr refl
 tests_same_or_long w true false long_too h = inl (ap (λ (b : Bool). cond b TooLong w) (sym (h refl)))
 tests_same_or_long w false long long_too h = inl refl
@@ -32,7 +32,7 @@ guarded false x y h = h
 
 -- a head is the same, or too long for the smaller limit
 pub head_same_or_long : (ids : IdSize) (less longest : ℕ) (bytes : List ℕ) → less ≤ longest
-  → (head_at ids less bytes ≡ head_at ids longest bytes) ⊎ (head_at ids less bytes ≡ TooLong)
+    → (head_at ids less bytes ≡ head_at ids longest bytes) ⊎ (head_at ids less bytes ≡ TooLong)
 unfolding head_at
 head_same_or_long ids less longest bytes le =
     let head : Head = record { tag = slice_index bytes 0; time = big_number 4 (drop 1 bytes); length = big_number 4 (drop 5 bytes) } in
@@ -42,13 +42,13 @@ head_same_or_long ids less longest bytes le =
 
 -- a head that is read is not too long
 pub head_taken : (ids : IdSize) (less : ℕ) (bytes : List ℕ) (head : Head) (n : ℕ) → head_at ids less bytes ≡ Whole head n
-  → is_too_long less head ≡ false
+    → is_too_long less head ≡ false
 unfolding head_at
 head_taken ids less bytes head n e =
     let read : Head = record { tag = slice_index bytes 0; time = big_number 4 (drop 1 bytes); length = big_number 4 (drop 5 bytes) } in
     let judged = long_enough (length bytes) 9 (judged_head ids less read) head n e in
     let legal = held (is_legal ids read.tag read.length) (cond (is_too_long less read) TooLong (Whole read 9)) (Fault BadLength)
-      (Whole head n) (λ h. fault_is_not_whole BadLength head n h) judged.1 in
+    (Whole head n) (λ h. fault_is_not_whole BadLength head n h) judged.1 in
     let taken = went_on (is_too_long less read) TooLong (Whole read 9) (Whole head n) (λ h. too_long_is_not_whole head n h) legal.1 in
     let same = whole_parts read head 9 n taken.1 in
     subst (λ (h : Head). is_too_long less h ≡ false) same.0 taken.0

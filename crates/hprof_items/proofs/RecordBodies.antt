@@ -32,22 +32,22 @@ use Rattle.hprof_items.proofs.Steps.{held}
 
 -- what the record of the fact's own tag states, that of an equal tag does
 by_tag : (ids : IdSize) (own tag : RecordTag) (numbers rest : List ℕ) (fact : FactValue) → Some own ≡ Some tag
-  → stated_by ids own numbers rest ≡ Ok fact
+    → stated_by ids own numbers rest ≡ Ok fact
     → stated_by ids tag numbers rest ≡ Ok fact
 by_tag ids own tag numbers rest fact is e = let same : own ≡ tag =
-  cc in subst (λ (t : RecordTag). stated_by ids t numbers rest ≡ Ok fact) same e
+    cc in subst (λ (t : RecordTag). stated_by ids t numbers rest ≡ Ok fact) same e
 
 -- a trace has as many frames as it says
 trace_again : (ids : IdSize) (serial thread : ℕ) (frames : List ℕ) → RestFits ids (Trace serial thread frames)
     → stated_by ids tags.Trace (record_numbers (Trace serial thread frames)) (record_rest ids (Trace serial thread frames))
-      ≡ Ok (Trace serial thread frames)
+    ≡ Ok (Trace serial thread frames)
 trace_again ids serial thread frames fits =
     let widths : List ℕ = id_widths ids (length frames) in
     let raw : List ℕ = field_bytes widths frames in
     let size : length raw ≡ length frames * width_of ids = length-fields widths frames fits ∙ sum-id_widths ids (length frames) in
     let list : IsIdList ids frames raw = record { fits = fits; spelled = refl } in
     cond-true (eqb (length raw) (length frames * width_of ids)) (Ok (Trace serial thread (ids_in ids raw))) (Err BadLength)
-      (eq-eqb _ _ size)
+    (eq-eqb _ _ size)
     ∙ ap (λ (read : List ℕ). Ok (Trace serial thread read)) (ids_again ids frames raw list).1
 
 -- the numbers and the bytes of a fact state it
@@ -60,7 +60,7 @@ stated_again ids tag (Unload serial) is fits = by_tag ids tags.UnloadClass tag (
 stated_again ids tag (Frame id method signature source class_serial line) is fits =
     let fact : FactValue = Frame id method signature source class_serial line in
     by_tag ids tags.Frame tag (record_numbers fact) [] fact is (ap (λ (n : ℤ). Ok (Frame id method signature source class_serial n))
-      (to_z-of_z w32 line fits))
+    (to_z-of_z w32 line fits))
 stated_again ids tag (Trace serial thread frames) is fits =
     let fact : FactValue = Trace serial thread frames in
     by_tag ids tags.Trace tag (record_numbers fact) (record_rest ids fact) fact is (trace_again ids serial thread frames fits)
@@ -72,7 +72,7 @@ stated_again ids tag _ is fits = absurd cc
 
 -- the body of a fact is read as that fact
 pub record_again : (ids : IdSize) (tag : RecordTag) (fact : FactValue) → BodyFits ids tag fact
-  → record_at ids tag (record_body ids tag fact) ≡ Ok fact
+    → record_at ids tag (record_body ids tag fact) ≡ Ok fact
 unfolding record_at
 record_again ids tag fact fits =
     let widths : List ℕ = record_fields ids tag in
@@ -133,14 +133,14 @@ frame_stated ids body fact are legal e =
     let numbers : List ℕ = fields_in widths body in
     let front : ℕ → List ℕ =
     λ line. slice_index numbers 0 ∷ slice_index numbers 1 ∷ slice_index numbers 2 ∷ slice_index numbers 3 ∷ slice_index numbers 4 ∷ line
-      ∷ [] in
+    ∷ [] in
     let made : FactValue =
     Frame (slice_index numbers 0) (slice_index numbers 1) (slice_index numbers 2) (slice_index numbers 3) (slice_index numbers 4)
-      (cast_signed w32 (slice_index numbers 5)) in
+    (cast_signed w32 (slice_index numbers 5)) in
     let before : List ℕ = drop 4 (drop (width_of ids) (drop (width_of ids) (drop (width_of ids) (drop (width_of ids) body)))) in
     let are_before : IsBytes before =
     IsBytes-drop 4 _ (IsBytes-drop (width_of ids) _
-      (IsBytes-drop (width_of ids) _ (IsBytes-drop (width_of ids) _ (IsBytes-drop (width_of ids) body are)))) in
+    (IsBytes-drop (width_of ids) _ (IsBytes-drop (width_of ids) _ (IsBytes-drop (width_of ids) body are)))) in
     let line = line_bits before are_before in
     along ids tags.Frame body made fact (record_at ids tags.Frame body) refl e (record {
       is = refl;
@@ -151,7 +151,7 @@ frame_stated ids body fact are legal e =
 
 -- a trace that is read
 trace_stated : (ids : IdSize) (body : List ℕ) (fact : FactValue) → IsBytes body → record_at ids tags.Trace body ≡ Ok fact
-  → IsStated ids tags.Trace body fact
+    → IsStated ids tags.Trace body fact
 unfolding record_at
 trace_stated ids body fact are e =
     let widths : List ℕ = record_fields ids tags.Trace in
@@ -174,7 +174,7 @@ trace_stated ids body fact are e =
 
 -- any record that is read
 stated_found : (ids : IdSize) (tag : RecordTag) (body : List ℕ) (fact : FactValue) → IsBytes body → is_legal_body ids tag (length body)
-  ≡ true
+    ≡ true
     → record_at ids tag body ≡ Ok fact → IsStated ids tag body fact
 unfolding record_at
 stated_found ids tags.Utf8 body fact are legal e =
@@ -196,7 +196,7 @@ stated_found ids tags.StartThread body fact are legal e =
     let numbers : List ℕ = fields_in (record_fields ids tags.StartThread) body in
     let made : FactValue =
     Start (slice_index numbers 0) (slice_index numbers 1) (slice_index numbers 2) (slice_index numbers 3) (slice_index numbers 4)
-      (slice_index numbers 5) in
+    (slice_index numbers 5) in
     along ids tags.StartThread body made fact (record_at ids tags.StartThread body) refl e
     (record { is = refl; numbers = refl; rest = nothing_more (record_fields ids tags.StartThread) body legal; fits = tt })
 stated_found ids tags.EndThread body fact are legal e =
@@ -211,7 +211,7 @@ has_fields ids _ len legal = let same = eqb-true _ _ legal in omega arith
 
 -- a fact that is read has its body there
 pub record_found : (ids : IdSize) (tag : RecordTag) (body : List ℕ) (fact : FactValue) → IsBytes body
-  → is_legal_body ids tag (length body) ≡ true
+    → is_legal_body ids tag (length body) ≡ true
     → record_at ids tag body ≡ Ok fact → BodyFits ids tag fact × (body ≡ record_body ids tag fact)
 record_found ids tag body fact are legal e =
     let widths : List ℕ = record_fields ids tag in
@@ -241,10 +241,10 @@ same_tag tag other e =
     cc
 
 pub record_once : (ids : IdSize) (fact other : FactValue) (tag tag_too : RecordTag) (rest more : List ℕ) → BodyFits ids tag fact
-  → BodyFits ids tag_too other
+    → BodyFits ids tag_too other
     → length (record_body ids tag fact) ≤ longest_body → length (record_body ids tag_too other) ≤ longest_body
     → record_bytes (code_of_record tag) 0 (record_body ids tag fact) ++ rest ≡ record_bytes (code_of_record tag_too) 0
-      (record_body ids tag_too other) ++ more
+    (record_body ids tag_too other) ++ more
     → (fact ≡ other) × (rest ≡ more)
 record_once ids fact other tag tag_too rest more fits fits_too short short_too e =
     let body : List ℕ = record_body ids tag fact in

@@ -25,7 +25,7 @@ WritesFront-more old new a b w =
 
 -- all of the front, and then a part of what follows
 pub WritesFront-then : (old mid new : Option (List ℕ)) (a b : List ℕ) → Appends old mid a → WritesFront mid new b
-  → WritesFront old new (a ++ b)
+    → WritesFront old new (a ++ b)
 WritesFront-then old mid new a b first w = (
   length a + w.0,
   omega (arith, w.1, length-append a b),
@@ -40,7 +40,7 @@ Writes-then old mid new x (Err f) a b first second = WritesFront-then old mid ne
 
 -- a write of a front that stopped, which is what `Writes` says at `Err`
 pub Writes-stops : {B : Type 0} (old new : Option (List ℕ)) (r : Result B WriteFault) (f : WriteFault) (a b : List ℕ) → r ≡ Err f
-  → WritesFront old new a → Writes old new r (a ++ b)
+    → WritesFront old new a → Writes old new r (a ++ b)
 Writes-stops old new (Ok y) f a b stop first = absurd cc
 Writes-stops old new (Err e) f a b stop first = WritesFront-more old new a b first
 
@@ -58,7 +58,7 @@ Pushed-none old all = record { front = []; parts = refl; appended = Appends-nil 
 
 -- a push of the piece that comes next
 pub Pushed-more : (old mid new : Option (List ℕ)) (all rest piece others : List ℕ) → Pushed old mid all rest → rest ≡ piece ++ others
-  → Appends mid new piece → Pushed old new all others
+    → Appends mid new piece → Pushed old new all others
 Pushed-more old mid new all rest piece others p split appends = record {
   front = p.front ++ piece;
   parts = p.parts ∙ ap (λ (r : List ℕ). p.front ++ r) split ∙ sym (append_assoc p.front piece others);
@@ -76,5 +76,5 @@ Pushed-stopped old mid new all rest p kept = (
   length p.front,
   omega (arith, ap length p.parts, length-append p.front rest),
   subst (Appends old new) (sym (ap (take (length p.front)) p.parts ∙ take-append_seam p.front rest))
-    (Appends-kept old mid new p.front p.appended kept),
+      (Appends-kept old mid new p.front p.appended kept),
 )

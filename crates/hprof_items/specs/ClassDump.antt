@@ -16,13 +16,13 @@ class_widths ids = width_of ids ∷ 4 ∷ width_of ids ∷ width_of ids ∷ widt
 -- the three lists behind these fields, each behind its count
 abbrev pub class_lists : IdSize → List Entry → List Entry → List Entry → List ℕ
 class_lists ids constants statics fields =
-  list_bytes ids kinds.Constant constants ++ (list_bytes ids kinds.Static statics ++ list_bytes ids kinds.Field fields)
+    list_bytes ids kinds.Constant constants ++ (list_bytes ids kinds.Static statics ++ list_bytes ids kinds.Field fields)
 
 -- the class with those numbers in its fields
 abbrev pub class_of : List ℕ → List Entry → List Entry → List Entry → FactValue
 class_of numbers constants statics fields =
     Class (slice_index numbers 0) (slice_index numbers 1) (slice_index numbers 2) (slice_index numbers 3) (slice_index numbers 4)
-      (slice_index numbers 5)
+    (slice_index numbers 5)
     (slice_index numbers 6) (slice_index numbers 7) (slice_index numbers 8) constants statics fields
 
 -- the fields pass their tests, and then the lists one after the other
@@ -33,5 +33,8 @@ class_at ids bounds bytes =
     list_end ids kinds.Constant bounds bytes front >>= λ statics.
     list_end ids kinds.Static bounds bytes statics >>= λ fields.
     list_end ids kinds.Field bounds bytes fields >>= λ end.
-    Ok (class_of numbers (list_in ids kinds.Constant bytes front) (list_in ids kinds.Static bytes statics)
-      (list_in ids kinds.Field bytes fields), end)
+    Ok (
+      class_of numbers (list_in ids kinds.Constant bytes front) (list_in ids kinds.Static bytes statics)
+          (list_in ids kinds.Field bytes fields),
+      end,
+    )

@@ -7,7 +7,7 @@ use Rattle.hprof_items.specs.declared.object_reading.PrimArrayFront.{PrimArrayFr
 
 abbrev pub class_front : ClassFront → List ℕ
 class_front front = front.id ∷ front.trace ∷ front.parent ∷ front.loader ∷ front.signers ∷ front.domain ∷ front.reserved1
-  ∷ front.reserved2 ∷ front.size ∷ []
+    ∷ front.reserved2 ∷ front.size ∷ []
 
 abbrev pub instance_front : InstanceFront → List ℕ
 instance_front front = front.id ∷ front.trace ∷ front.class ∷ front.len ∷ []

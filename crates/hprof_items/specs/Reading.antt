@@ -67,8 +67,12 @@ judged_head ids longest head =
 unfoldable pub head_at : IdSize → ℕ → List ℕ → Step Head
 head_at ids longest bytes =
     if nat_lt (length bytes) 9 then Short
-    else judged_head ids longest (record { tag = slice_index bytes 0; time = big_number 4 (drop 1 bytes); length =
-      big_number 4 (drop 5 bytes) })
+    else judged_head ids longest (record {
+      tag = slice_index bytes 0;
+      time = big_number 4 (drop 1 bytes);
+      length =
+          big_number 4 (drop 5 bytes);
+    })
 
 -- a head that is read: its fields lie in their ranges, and no test fails
 pub record IsRightHead (ids : IdSize) (longest : ℕ) (head : Head) : Type 0 where

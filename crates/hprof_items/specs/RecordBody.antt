@@ -36,7 +36,7 @@ record_numbers (Name id text) = id ∷ []
 record_numbers (Load serial class trace name) = serial ∷ class ∷ trace ∷ name ∷ []
 record_numbers (Unload serial) = serial ∷ []
 record_numbers (Frame id method signature source class_serial line) =
-  id ∷ method ∷ signature ∷ source ∷ class_serial ∷ cast_unsigned w32 line ∷ []
+    id ∷ method ∷ signature ∷ source ∷ class_serial ∷ cast_unsigned w32 line ∷ []
 record_numbers (Trace serial thread frames) = serial ∷ thread ∷ length frames ∷ []
 record_numbers (Start thread object trace name group parent_group) = thread ∷ object ∷ trace ∷ name ∷ group ∷ parent_group ∷ []
 record_numbers (End thread) = thread ∷ []
@@ -72,17 +72,17 @@ pub record BodyFits (ids : IdSize) (tag : RecordTag) (fact : FactValue) : Type 0
 abbrev pub stated_by : IdSize → RecordTag → List ℕ → List ℕ → Result FactValue Reason
 stated_by ids tags.Utf8 numbers rest = Ok (Name (slice_index numbers 0) rest)
 stated_by ids tags.LoadClass numbers rest =
-  Ok (Load (slice_index numbers 0) (slice_index numbers 1) (slice_index numbers 2) (slice_index numbers 3))
+    Ok (Load (slice_index numbers 0) (slice_index numbers 1) (slice_index numbers 2) (slice_index numbers 3))
 stated_by ids tags.UnloadClass numbers rest = Ok (Unload (slice_index numbers 0))
 stated_by ids tags.Frame numbers rest =
     Ok (Frame (slice_index numbers 0) (slice_index numbers 1) (slice_index numbers 2) (slice_index numbers 3) (slice_index numbers 4)
-      (cast_signed w32 (slice_index numbers 5)))
+    (cast_signed w32 (slice_index numbers 5)))
 stated_by ids tags.Trace numbers rest =
     if length rest == slice_index numbers 2 * width_of ids then Ok (Trace (slice_index numbers 0) (slice_index numbers 1)
-      (ids_in ids rest)) else Err BadLength
+    (ids_in ids rest)) else Err BadLength
 stated_by ids tags.StartThread numbers rest =
     Ok (Start (slice_index numbers 0) (slice_index numbers 1) (slice_index numbers 2) (slice_index numbers 3) (slice_index numbers 4)
-      (slice_index numbers 5))
+    (slice_index numbers 5))
 stated_by ids tags.EndThread numbers rest = Ok (End (slice_index numbers 0))
 
 -- the body of a record whose length is one that it may have

@@ -88,8 +88,11 @@ prim_array_at ids bounds bytes =
     reached bounds 1 (prim_array_widths ids) >>= λ front.
     element_type (basic_of_code (slice_index numbers 3)) >>= λ elem.
     reached bounds front (slice_index numbers 2 * width_of_basic ids elem ∷ []) >>= λ end.
-    Ok (PrimArray (slice_index numbers 0) (slice_index numbers 1) elem (cut (slice_index numbers 2 * width_of_basic ids elem) front
-      bytes), end)
+    Ok (
+      PrimArray (slice_index numbers 0) (slice_index numbers 1) elem (cut (slice_index numbers 2 * width_of_basic ids elem) front
+          bytes),
+      end,
+    )
 
 -- ---- reading, from the tag on
 
@@ -131,7 +134,7 @@ instance_numbers id trace class bytes = id ∷ trace ∷ class ∷ length bytes 
 
 abbrev pub class_numbers : (id trace parent loader signers domain reserved1 reserved2 size : ℕ) → List ℕ
 class_numbers id trace parent loader signers domain reserved1 reserved2 size =
-  id ∷ trace ∷ parent ∷ loader ∷ signers ∷ domain ∷ reserved1 ∷ reserved2 ∷ size ∷ []
+    id ∷ trace ∷ parent ∷ loader ∷ signers ∷ domain ∷ reserved1 ∷ reserved2 ∷ size ∷ []
 
 abbrev pub obj_array_numbers : (id trace class : ℕ) → List ℕ → List ℕ
 obj_array_numbers id trace class elements = id ∷ trace ∷ length elements ∷ class ∷ []
@@ -144,14 +147,14 @@ abbrev pub dump_bytes : IdSize → FactValue → List ℕ
 dump_bytes ids (Rooted root) = root_bytes ids root
 dump_bytes ids (Class id trace parent loader signers domain reserved1 reserved2 size constants statics fields) =
     tagged_bytes tags.ClassDump (class_widths ids) (class_numbers id trace parent loader signers domain reserved1 reserved2 size)
-      (class_lists ids constants statics fields)
+    (class_lists ids constants statics fields)
 dump_bytes ids (Instance id trace class bytes) =
-  tagged_bytes tags.InstanceDump (instance_widths ids) (instance_numbers id trace class bytes) bytes
+    tagged_bytes tags.InstanceDump (instance_widths ids) (instance_numbers id trace class bytes) bytes
 dump_bytes ids (ObjArray id trace class elements) =
     tagged_bytes tags.ObjArrayDump (obj_array_widths ids) (obj_array_numbers id trace class elements)
-      (field_bytes (id_widths ids (length elements)) elements)
+    (field_bytes (id_widths ids (length elements)) elements)
 dump_bytes ids (PrimArray id trace elem bytes) =
-  tagged_bytes tags.PrimArrayDump (prim_array_widths ids) (prim_array_numbers ids id trace elem bytes) bytes
+    tagged_bytes tags.PrimArrayDump (prim_array_widths ids) (prim_array_numbers ids id trace elem bytes) bytes
 dump_bytes ids _ = []
 
 -- each field lies in its range, and no element is cut
@@ -165,7 +168,7 @@ DumpFits ids (ObjArray id trace class elements) =
     FitFields (obj_array_widths ids) (obj_array_numbers id trace class elements) × FitFields (id_widths ids (length elements)) elements
 DumpFits ids (PrimArray id trace elem bytes) =
     FitFields (prim_array_widths ids) (prim_array_numbers ids id trace elem bytes) × IsBytes bytes
-      × (length bytes % width_of_basic ids elem ≡ 0)
+    × (length bytes % width_of_basic ids elem ≡ 0)
     × (element_type (Some elem) ≡ Ok elem)
 DumpFits ids _ = ⊥
 

@@ -61,8 +61,10 @@ fn class_of<'a>(
     statics: StaticList<'a>,
     fields: FieldList<'a>,
 ) -> Fact<'a>
-    ensures fact { value_of result ≡ class_of (class_front front) (constants_of constants.entry) (statics_of statics.entry) (fields_of fields.entry) }
-    ensures lists { (ids : IdSize) → constants_size constants.entry ≡ ids → statics_size statics.entry ≡ ids → fields_size fields.entry ≡ ids → ListsHave ids result }
+    ensures fact { value_of result ≡ class_of (class_front front) (constants_of constants.entry) (statics_of statics.entry)
+        (fields_of fields.entry) }
+    ensures lists { (ids : IdSize) → constants_size constants.entry ≡ ids → statics_size statics.entry ≡ ids
+        → fields_size fields.entry ≡ ids → ListsHave ids result }
 {
     Fact::Class {
         id: front.id,

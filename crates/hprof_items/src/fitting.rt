@@ -97,7 +97,8 @@ fn class_len(
 ) -> usize
     requires lists { (constants_size constants.now ≡ ids) × (statics_size statics.now ≡ ids) × (fields_size fields.now ≡ ids) }
     requires short { length (class_lists ids (constants_of constants.now) (statics_of statics.now) (fields_of fields.now)) ≤ longest_body }
-    ensures { result ≡ 1 + sum (class_widths ids) + length (class_lists ids (constants_of constants.now) (statics_of statics.now) (fields_of fields.now)) }
+    ensures { result ≡ 1 + sum (class_widths ids) + length (class_lists ids (constants_of constants.now) (statics_of statics.now)
+        (fields_of fields.now)) }
 {
     let entries = constants.bytes().len() + statics.bytes().len() + fields.bytes().len();
     15 + 7 * ids.width() + entries

@@ -29,9 +29,11 @@ pub fn headers_read_back()
 /// A sub-record that is spelled within all bounds is read, whatever follows, one that is read is spelled so, and no
 /// spelling of a sub-record begins another.
 pub fn sub_records_read_back()
-    ensures again { (ids : IdSize) (bounds : Bounds) (fact : FactValue) (rest bytes : List ℕ) → DumpFits ids fact → bytes ≡ dump_bytes ids fact ++ rest
+    ensures again { (ids : IdSize) (bounds : Bounds) (fact : FactValue) (rest bytes : List ℕ) → DumpFits ids fact
+        → bytes ≡ dump_bytes ids fact ++ rest
         → IsWithin bounds (length (dump_bytes ids fact)) → sub_at ids bounds bytes ≡ Ok (fact, length (dump_bytes ids fact)) }
-    ensures found { (ids : IdSize) (bounds : Bounds) (bytes : List ℕ) (fact : FactValue) (n : ℕ) → IsBytes bytes → bounds.there ≤ length bytes
+    ensures found { (ids : IdSize) (bounds : Bounds) (bytes : List ℕ) (fact : FactValue) (n : ℕ) → IsBytes bytes
+        → bounds.there ≤ length bytes
         → sub_at ids bounds bytes ≡ Ok (fact, n) → IsSubOf ids bounds bytes fact n }
     ensures once { (ids : IdSize) (fact other : FactValue) (rest more : List ℕ) → DumpFits ids fact → DumpFits ids other
         → dump_bytes ids fact ++ rest ≡ dump_bytes ids other ++ more → (fact ≡ other) × (rest ≡ more) }

@@ -115,7 +115,8 @@ fn class_lists_fit(
     fields: &FieldList<'_>,
     ids: IdSize,
 ) -> bool
-    ensures sizes { IsTrue result ↔ ((constants_size constants.now ≡ ids) × (statics_size statics.now ≡ ids) × (fields_size fields.now ≡ ids)) }
+    ensures sizes { IsTrue result ↔ ((constants_size constants.now ≡ ids) × (statics_size statics.now ≡ ids)
+        × (fields_size fields.now ≡ ids)) }
     ensures fit { IsTrue result → (ListFits ids kinds.Constant (constants_of constants.now)
         × ListFits ids kinds.Static (statics_of statics.now) × ListFits ids kinds.Field (fields_of fields.now)) }
 {

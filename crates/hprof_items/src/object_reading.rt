@@ -4,7 +4,8 @@ ghost use Rattle.std.specs.Prelude.{◌≡◌, ◌≤◌, length, sum, Ok, Err, 
 ghost use Rattle.hprof_values.specs.Basic.{basic_of_code};
 ghost use Rattle.hprof_values.specs.Fields.{fields_in};
 ghost use Rattle.hprof_values.specs.Item.{bounds_of};
-ghost use Rattle.hprof_items.specs.SubRecord.{instance_widths, obj_array_widths, prim_array_widths, element_type, instance_at, obj_array_at, prim_array_at};
+ghost use Rattle.hprof_items.specs.SubRecord.{instance_widths, obj_array_widths, prim_array_widths, element_type, instance_at};
+ghost use Rattle.hprof_items.specs.SubRecord.{obj_array_at, prim_array_at};
 ghost use Rattle.hprof_items.specs.Fronts.{instance_front, obj_array_front, prim_array_front};
 ghost use Rattle.hprof_items.specs.FactValue.{value_of, ListsHave};
 

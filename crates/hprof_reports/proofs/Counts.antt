@@ -18,7 +18,7 @@ pub counted_none : {A : Type 0} (P : A → Type 0) (all : List A) → IsCountedT
 counted_none P all others is = let same : others ≡ 0 + others = omega arith in subst (IsCountOf P all) same is
 
 pub counted_one : {A : Type 0} (P : A → Type 0) (all : List A) (count : ℕ) (x : A) (rest : List A) → IsCountedTo P all count (x ∷ rest)
-  → P x
+    → P x
     → IsCountedTo P all (count + 1) rest
 counted_one P all count x rest w has others is =
     let same : count + (others + 1) ≡ count + 1 + others = omega arith in

@@ -75,7 +75,7 @@ pub check_after_parts : {B : Type 0} (parts : List PartSummary) (facts : List Fa
     → Writes old new r (check_text parts facts bad)
 check_after_parts parts facts bad old mid new r appends rest =
     subst (Writes old new r) (sym (append_assoc (part_lines 0 parts) (flat_map (table_line facts) all_tables)
-      (count_line (codes "bad names") bad)))
+    (count_line (codes "bad names") bad)))
     (Writes-then old mid new zero r (part_lines 0 parts) (flat_map (table_line facts) all_tables ++ count_line (codes "bad names") bad)
     appends rest)
 
@@ -85,6 +85,6 @@ pub check_stops_at_parts : {B : Type 0} (parts : List PartSummary) (facts : List
     → Writes old new r (check_text parts facts bad)
 check_stops_at_parts parts facts bad old new r f stop writes =
     subst (Writes old new r) (sym (append_assoc (part_lines 0 parts) (flat_map (table_line facts) all_tables)
-      (count_line (codes "bad names") bad)))
+    (count_line (codes "bad names") bad)))
     (Writes-stops old new r f (part_lines 0 parts) (flat_map (table_line facts) all_tables ++ count_line (codes "bad names") bad) stop
-      writes)
+    writes)

@@ -56,12 +56,17 @@ fact_fits ids bytes fact is =
 -- each record begins so
 framed : (header : Header) (bytes : List ℕ) (facts : List FactValue) → IsRecord header.ids bytes facts → IsFramed header bytes
 framed header bytes facts (states {fact = fact} is) =
-  alone header (record { bytes = bytes; facts = fact ∷ [] }) (is_fact is (fact_fits header.ids bytes fact is) refl)
+    alone header (record { bytes = bytes; facts = fact ∷ [] }) (is_fact is (fact_fits header.ids bytes fact is) refl)
 framed header bytes facts (ends is) = alone header (record { bytes = bytes; facts = [] }) (is_dump_end is refl)
 framed header bytes facts (dumps is) =
     let raw : List ℕ = flat_map (dump_bytes header.ids) facts in
-    record { first = record { bytes = head_bytes is.tag is.time (length raw); facts = [] }; raw = raw; item =
-      is_dump is.is_dump is.is_time is.short refl refl; spelled = is.spelled }
+    record {
+      first = record { bytes = head_bytes is.tag is.time (length raw); facts = [] };
+      raw = raw;
+      item =
+          is_dump is.is_dump is.is_time is.short refl refl;
+      spelled = is.spelled;
+    }
 framed header bytes facts (skips is) = alone header (record { bytes = bytes; facts = [] }) (is_skipped is refl)
 
 -- how many bytes are left of a heap dump
@@ -77,29 +82,31 @@ room_in header (suc room) = refl
 -- a record has some bytes
 record_some : (ids : IdSize) (bytes : List ℕ) (facts : List FactValue) → IsRecord ids bytes facts → 0 < length bytes
 record_some ids bytes facts (states {fact = fact} is) =
-  omega (arith, ap length is.spelled, length-record (code_of_record is.tag) is.time (record_body ids is.tag fact))
+    omega (arith, ap length is.spelled, length-record (code_of_record is.tag) is.time (record_body ids is.tag fact))
 record_some ids bytes facts (ends is) = omega (arith, ap length is.spelled, length-record 0x2c is.time [])
 record_some ids bytes facts (dumps is) = omega (arith, ap length is.spelled, length-record is.tag is.time (flat_map (dump_bytes ids) facts))
 record_some ids bytes facts (skips is) = omega (arith, ap length is.spelled, length-record is.tag is.time is.body)
 
 -- two at the front of the same bytes are one
 front_once : (header : Header) (one two rest others : List ℕ) → IsFramed header one → IsFramed header two → one ++ rest ≡ two ++ others
-  → (one ≡ two) × (rest ≡ others)
+    → (one ≡ two) × (rest ≡ others)
 front_once header one two rest others is is_too e =
     let apart : is.first.bytes ++ (is.raw ++ rest) ≡ is_too.first.bytes ++ (is_too.raw ++ others) =
     sym (append_assoc is.first.bytes is.raw rest) ∙ ap (λ (b : List ℕ). b ++ rest) (sym is.spelled) ∙ e
-      ∙ ap (λ (b : List ℕ). b ++ others) is_too.spelled ∙ append_assoc is_too.first.bytes is_too.raw others in
+    ∙ ap (λ (b : List ℕ). b ++ others) is_too.spelled ∙ append_assoc is_too.first.bytes is_too.raw others in
     let same = item_once longest_body (Between header) (place_in header (length is.raw)) (place_in header (length is_too.raw)) is.first
-      is_too.first (is.raw ++ rest) (is_too.raw ++ others) is.item is_too.item apart in
+    is_too.first (is.raw ++ rest) (is_too.raw ++ others) is.item is_too.item apart in
     let rooms : length is.raw ≡ length is_too.raw = sym (room_in header (length is.raw)) ∙ ap room_of same.0
-      ∙ room_in header (length is_too.raw) in
-    let behind = same_parts is.raw rest is_too.raw others rooms same.2 in
-    (is.spelled ∙ ap (λ (s : Stated). s.bytes ++ is.raw) same.1 ∙ ap (λ (b : List ℕ). is_too.first.bytes ++ b) behind.0
-      ∙ sym is_too.spelled, behind.1)
+    ∙ room_in header (length is_too.raw) in
+    let behind = same_parts is.raw rest is_too.raw others rooms same.2 in (
+      is.spelled ∙ ap (λ (s : Stated). s.bytes ++ is.raw) same.1 ∙ ap (λ (b : List ℕ). is_too.first.bytes ++ b) behind.0
+          ∙ sym is_too.spelled,
+      behind.1,
+    )
 
 -- the same bytes are as many records, of which one ends a heap dump or none
 records_alike : (header : Header) (records others : List Stated) → AllByRecursion (λ one. IsRecord header.ids one.bytes one.facts)
-  records → AllByRecursion (λ one. IsRecord header.ids one.bytes one.facts) others
+    records → AllByRecursion (λ one. IsRecord header.ids one.bytes one.facts) others
     → all_bytes records ≡ all_bytes others → (length records ≡ length others) × (list_any is_end records ≡ list_any is_end others)
 records_alike header [] [] each each_too e = (refl, refl)
 records_alike header [] (two ∷ others) each each_too e =
@@ -108,18 +115,18 @@ records_alike header (one ∷ records) [] each each_too e =
     absurd (omega (arith, ap length e, length-append one.bytes (all_bytes records), record_some header.ids one.bytes one.facts each.0))
 records_alike header (one ∷ records) (two ∷ others) each each_too e =
     let same = front_once header one.bytes two.bytes (all_bytes records) (all_bytes others) (framed header one.bytes one.facts each.0)
-      (framed header two.bytes two.facts each_too.0) e in
+    (framed header two.bytes two.facts each_too.0) e in
     let behind = records_alike header records others each.1 each_too.1 same.1 in (
       ap suc behind.0,
       ap (λ (b : List ℕ). (slice_index b 0 == 0x2c) || list_any is_end records) same.0
-        ∙ ap (λ (b : Bool). (slice_index two.bytes 0 == 0x2c) || b) behind.1,
+          ∙ ap (λ (b : Bool). (slice_index two.bytes 0 == 0x2c) || b) behind.1,
     )
 
 -- ---- summaries
 
 -- summaries that say the same are one
 same_summary : (one two : PartSummary) → one.header ≡ two.header → one.records ≡ two.records → one.facts ≡ two.facts
-  → one.ended ≡ two.ended → one ≡ two
+    → one.ended ≡ two.ended → one ≡ two
 same_summary one two header records facts ended =
     ap (λ (h : Header). record { header = h; records = one.records; facts = one.facts; ended = one.ended }) header
     ∙ ap (λ (n : ℕ). record { header = two.header; records = n; facts = one.facts; ended = one.ended }) records
@@ -131,17 +138,17 @@ one_summary : (bytes : List ℕ) (one two : PartSummary) → IsSummary bytes one
 one_summary bytes one two is is_too =
     let stated = written_states bytes one.header two.header is.records is_too.records is.written is_too.written in
     let each_too = subst (λ (h : Header). AllByRecursion (λ r. IsRecord h.ids r.bytes r.facts) is_too.records) (sym stated.0)
-      is_too.written.each in
+    is_too.written.each in
     let lengths : length (header_bytes one.header) ≡ length (header_bytes two.header) = length-header one.header
-      ∙ sym (length-header two.header) in
+    ∙ sym (length-header two.header) in
     let bodies = same_parts (header_bytes one.header) (all_bytes is.records) (header_bytes two.header) (all_bytes is_too.records)
-      lengths (sym is.written.spelled ∙ is_too.written.spelled) in
+    lengths (sym is.written.spelled ∙ is_too.written.spelled) in
     let alike = records_alike one.header is.records is_too.records is.written.each each_too bodies.1 in
     same_summary one two stated.0 (is.record_count ∙ alike.0 ∙ sym is_too.record_count) (is.fact_count ∙ ap length stated.1
-      ∙ sym is_too.fact_count) (is.has_end ∙ alike.1 ∙ sym is_too.has_end)
+    ∙ sym is_too.fact_count) (is.has_end ∙ alike.1 ∙ sym is_too.has_end)
 
 one_summary_each : (parts : List (List ℕ)) (ones others : List PartSummary) → AreSummaries parts ones → AreSummaries parts others
-  → ones ≡ others
+    → ones ≡ others
 one_summary_each [] [] [] are are_too = refl
 one_summary_each [] [] (two ∷ others) are are_too = absurd are_too
 one_summary_each [] (one ∷ ones) others are are_too = absurd are
@@ -149,13 +156,13 @@ one_summary_each (bytes ∷ parts) [] others are are_too = absurd are
 one_summary_each (bytes ∷ parts) (one ∷ ones) [] are are_too = absurd are_too
 one_summary_each (bytes ∷ parts) (one ∷ ones) (two ∷ others) are are_too =
     ap (λ (s : PartSummary). s ∷ ones) (one_summary bytes one two are.0 are_too.0) ∙ ap (λ (ss : List PartSummary). two ∷ ss)
-      (one_summary_each parts ones others are.1 are_too.1)
+    (one_summary_each parts ones others are.1 are_too.1)
 
 -- ---- facts
 
 -- states of the same parts have the same facts
 facts_once : (parts others : List PartState) → map (λ part. part.bytes) parts ≡ map (λ part. part.bytes) others
-  → AllByRecursion StatesIt parts → AllByRecursion StatesIt others
+    → AllByRecursion StatesIt parts → AllByRecursion StatesIt others
     → flat_map (λ part. part.facts) parts ≡ flat_map (λ part. part.facts) others
 facts_once [] [] e each each_too = refl
 facts_once [] (other ∷ others) e each each_too = absurd cc
@@ -164,14 +171,14 @@ facts_once (part ∷ parts) (other ∷ others) e each each_too =
     let bytes : part.bytes ≡ other.bytes = cc in
     let behind : map (λ (p : PartState). p.bytes) parts ≡ map (λ (p : PartState). p.bytes) others = cc in
     let one = states_one other.bytes part.ids other.ids part.millis other.millis part.facts other.facts
-      (subst (λ (b : List ℕ). StatesIt (record { bytes = b; ids = part.ids; millis = part.millis; facts = part.facts })) bytes each.0)
-      each_too.0 in
+    (subst (λ (b : List ℕ). StatesIt (record { bytes = b; ids = part.ids; millis = part.millis; facts = part.facts })) bytes each.0)
+    each_too.0 in
     ap (λ (f : List FactValue). f ++ flat_map (λ (p : PartState). p.facts) parts) one.2 ∙ ap (λ (f : List FactValue). other.facts ++ f)
-      (facts_once parts others behind each.1 each_too.1)
+    (facts_once parts others behind each.1 each_too.1)
 
 -- parts that agree state one list of facts
 one_list : (parts : List (List ℕ)) (ids other_ids : IdSize) (millis other_millis : ℕ) (rows others : List FactValue)
-  → Agree parts ids millis rows → Agree parts other_ids other_millis others → rows ≡ others
+    → Agree parts ids millis rows → Agree parts other_ids other_millis others → rows ≡ others
 one_list parts ids other_ids millis other_millis rows others one two =
     let all = flat_map (λ (p : PartState). p.facts) two.state.states in
     let same = facts_once one.state.states two.state.states (one.state.of_parts ∙ sym two.state.of_parts) one.state.each two.state.each in
@@ -181,7 +188,7 @@ one_list parts ids other_ids millis other_millis rows others one two =
 -- ---- the report
 
 pub one_text : (parts : List PartSummary) (facts : List FactValue) (one other : List ℕ) → IsCheck parts facts one
-  → IsCheck parts facts other → one ≡ other
+    → IsCheck parts facts other → one ≡ other
 one_text parts facts one other e f =
     e.2 ∙ ap (check_text parts facts) (one_count IsBadName (facts_of_table tables.Names facts) e.0 f.0 e.1 f.1) ∙ sym f.2
 

@@ -5,7 +5,8 @@ ghost use Rattle.hprof_items.specs.declared.health.Health.TheVariants.{Well};
 ghost use Rattle.hprof_items.specs.Device.{Writes, LeavesHealth};
 ghost use Rattle.hprof_items.specs.FactValue.{value_of};
 ghost use Rattle.hprof_heap.specs.Heap.{heap_of};
-ghost use Rattle.hprof_reports.specs.Check.{version_text, yes_or_no, part_line, part_lines, table_word, table_line, all_tables, IsBadName, AreBadNames, IsCheck};
+ghost use Rattle.hprof_reports.specs.Check.{version_text, yes_or_no, part_line, part_lines, table_word, table_line, all_tables, IsBadName};
+ghost use Rattle.hprof_reports.specs.Check.{AreBadNames, IsCheck};
 
 use crate::line::{write_count, write_pieces};
 use hprof_heap::{Heap, Table};

@@ -10,7 +10,8 @@ ghost use Rattle.hprof_items.specs.FactValue.{FactValue};
 ghost use Rattle.hprof_stream.specs.declared.part_fault.PartFault.{PartFault};
 ghost use Rattle.hprof_heap.specs.declared.key.Key.{Key};
 ghost use Rattle.hprof_heap.specs.State.{IsState, HaveTwoSizes};
-ghost use Rattle.hprof_engine.specs.Joining.{Tell, Disagree, IsAccepted, RefusesPart, AreReadOut, read_count, AreRead, IsHindered, IsOkOrConflict, IsBeforeWriting};
+ghost use Rattle.hprof_engine.specs.Joining.{Tell, Disagree, IsAccepted, RefusesPart, AreReadOut, read_count, AreRead, IsHindered};
+ghost use Rattle.hprof_engine.specs.Joining.{IsOkOrConflict, IsBeforeWriting};
 ghost use Rattle.hprof_reports.specs.Checking.{Checks, StopsChecking};
 
 use crate::check::write_check;

@@ -82,7 +82,7 @@ pub states_once : (longest : ℕ) (bytes : List ℕ) (header other : Option Head
     → (header ≡ other) × (facts ≡ others)
 states_once longest bytes header other facts others one two =
     let once = splits_once longest bytes one.items two.items one.place two.place one.rest two.rest one.splits two.splits one.ends
-      two.ends in
+    two.ends in
     (sym one.has_header ∙ ap header_before once.1 ∙ two.has_header, sym one.has_facts ∙ ap all_facts once.0 ∙ two.has_facts)
 
 -- items from one place begin one number of records

@@ -338,7 +338,7 @@ IsWithinItem-read limits bytes facts reader read some = (
 -- ---- what was refused
 
 module _ {S : Type 0} (begins : S → Header → S → Type 0) (steps : S → FactValue → S → Type 0) (refuses : S → List FactValue → SinkFault
-  → Type 0)
+    → Type 0)
     (failed : S → Bool) where
   -- what was refused stays so, whatever follows
   Stops-more : (progress : Progress) (bytes more : List ℕ) (old new : S) (fault : PartFault) (told : Option Header)
@@ -402,7 +402,7 @@ module _ {S : Type 0} (begins : S → Header → S → Type 0) (steps : S → Fa
       let ran = RanUpTo-walked begins steps limits whole facts before at rest old mid walked stop.0 stop.1 stop.2 told stays is stop.4
       stop.5 stop.6 in
       let refused = subst (λ (b : List ℕ). (r : RanUpTo begins steps limits.max_item b facts before told old mid)
-        × Refuses refuses failed mid r.whole.last.facts fault new)
+      × Refuses refuses failed mid r.whole.last.facts fault new)
       taken (ran, stop.7) in
       (mid, refused.0, refused.1)
   IsFeedFault-stopped limits bytes whole facts before told at rest old mid new faults.OutOfMemory taken walked stays stop = absurd stop
@@ -502,7 +502,7 @@ CannotHold progress left result =
     → 0 < length (held_of progress.limits.max_item (place_of progress) (still ++ left)))
 
 module _ {S : Type 0} (begins : S → Header → S → Type 0) (steps : S → FactValue → S → Type 0) (refuses : S → List FactValue → SinkFault
-  → Type 0)
+    → Type 0)
     (failed : S → Bool) (limits : Limits) (bytes piece taken left : List ℕ) (facts : List FactValue) (from to : PartReader) (at : Progress)
     (rest : Rest) (old new : S) (read : HasRead limits bytes facts from) (within : length (bytes ++ piece) ≤ limits.max_bytes)
     (all : taken ≡ piece) (reads : ReadsOn begins steps refuses failed from.progress read.unfinished taken old (Ok left) at rest new) where

@@ -106,7 +106,7 @@ same_found longest place bytes made found m n e k is =
 
 -- a header that was found is an item
 pub found_header_item : (longest : ℕ) (bytes : List ℕ) (found : Found) (n : ℕ) → IsBytes bytes → found_header (header_at bytes)
-  ≡ Whole found n
+    ≡ Whole found n
     → IsFound longest Start bytes found n
 found_header_item longest bytes found n are e =
     let step = header_step (header_at bytes) found n e in
@@ -154,7 +154,7 @@ found_fact_item longest header head bytes found n are kind right spelled e =
     let step = fact_step header read (9 + len) found n long.1 in
     let tag = fact_head header.ids longest head right kind in
     let states = fact_states header.ids head.tag head.time len tag.0 bytes step.0 are right.time right.length tag.1 tag.2 spelled long.0
-      step.1 in
+    step.1 in
     let taken : len ≤ longest = fact_taken longest head kind right.taken in
     let fits : length (take (9 + len) bytes) ≤ 9 + longest = omega (arith, taken, length-take (9 + len) bytes) in
     same_found longest (Between header) bytes (record { next = Between header; facts = step.0 ∷ [] }) found (9 + len) n step.3 step.2
@@ -239,7 +239,7 @@ found_record_item longest header bytes found n are e =
 
 -- a sub-record that was found is an item
 pub found_sub_item : (longest : ℕ) (header : Header) (room : ℕ) (bytes : List ℕ) (found : Found) (n : ℕ) → IsBytes bytes
-  → room ≤ longest_body
+    → room ≤ longest_body
     → found_sub header room (sub_at header.ids (bounds_within room longest bytes) bytes) ≡ Whole found n
     → IsFound longest (Within header room) bytes found n
 found_sub_item longest header room bytes found n are small e =

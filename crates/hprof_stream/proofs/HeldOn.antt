@@ -48,16 +48,16 @@ use Rattle.hprof_stream.proofs.Walks.{Walks-none, Walks-item, Walks-more, Walks-
 
 -- with more bytes it was walked as far
 IsWalked-more : (ids : IdSize) (room longest : ℕ) (bytes more : List ℕ) (walk : Walk) → IsWalked ids room longest bytes walk
-  → IsWalked ids room longest (bytes ++ more) walk
+    → IsWalked ids room longest (bytes ++ more) walk
 IsWalked-more ids room longest bytes more walk is = record {
   placed = omega (arith, is.placed, length-append bytes more);
   same = λ extra. subst (λ (b : List ℕ). walked ids (bounds_within room longest b) b walk ≡ walked ids (bounds_within room longest b) b
-    Front)
+      Front)
       (sym (append_assoc bytes more extra)) (is.same (more ++ extra));
 }
 
 pub IsWalkOf-more : (longest : ℕ) (place : Place) (bytes more : List ℕ) (walk : Walk) → IsWalkOf longest place bytes walk
-  → IsWalkOf longest place (bytes ++ more) walk
+    → IsWalkOf longest place (bytes ++ more) walk
 IsWalkOf-more longest Start bytes more walk is = tt
 IsWalkOf-more longest (Between header) bytes more walk is = tt
 IsWalkOf-more longest (Within header room) bytes more walk is = IsWalked-more header.ids room longest bytes more walk is
@@ -74,7 +74,7 @@ no_end (Err other) stop e = cc
 
 -- where a walk goes on from another, it is of the same bytes; and where it wants more bytes, so does the item
 module _ (longest : ℕ) (header : Header) (room : ℕ) (bytes : List ℕ) (from : Walk)
-  (is : IsWalkOf longest (Within header room) bytes from) where
+    (is : IsWalkOf longest (Within header room) bytes from) where
   pub IsWalkOf-on : (to : Walk) → walk_at to ≤ length bytes
       → ((more : List ℕ) → walked header.ids (with_more (bounds_within room longest bytes) (length more)) (bytes ++ more) to
       ≡ walked header.ids (with_more (bounds_within room longest bytes) (length more)) (bytes ++ more) from)
@@ -84,17 +84,17 @@ module _ (longest : ℕ) (header : Header) (room : ℕ) (bytes : List ℕ) (from
       record {
         placed = placed;
         same = λ more. subst (λ (n : ℕ). walked header.ids (bounds n) (bytes ++ more) to ≡ walked header.ids (bounds n) (bytes ++ more)
-          from)
+            from)
             (sym (length-append bytes more)) (on more) ∙ is.same more;
       }
 
   pub walked_short : walked header.ids (bounds_within room longest bytes) bytes from ≡ Err stops.Short
-    → item_at longest (Within header room) bytes ≡ Short
+      → item_at longest (Within header room) bytes ≡ Short
   unfolding walked item_at
   walked_short e =
       let whole : end_of_read (sub_at header.ids (bounds_within room longest bytes) bytes) ≡ Err stops.Short =
       sym (subst (λ (b : List ℕ). walked header.ids (bounds_within room longest b) b from
-        ≡ walked header.ids (bounds_within room longest b) b Front) (append-nil bytes) (is.same [])) ∙ e in
+      ≡ walked header.ids (bounds_within room longest b) b Front) (append-nil bytes) (is.same [])) ∙ e in
       ap (found_sub header room) (no_end (sub_at header.ids (bounds_within room longest bytes) bytes) stops.Short whole)
 
 -- it was walked no further than its bytes
@@ -108,7 +108,7 @@ some_room (suc room) never = omega arith
 
 -- within a heap dump record
 pub place_within : (before : Option Header) (room : ℕ) (header : Header) → before ≡ Some header → 0 < room
-  → place_behind before room ≡ Within header room
+    → place_behind before room ≡ Within header room
 place_within None room header e some = absurd cc
 place_within (Some h) zero header e some = absurd (omega (arith, some))
 place_within (Some h) (suc room) header e some = cc
@@ -127,7 +127,7 @@ held_if false bytes some = refl
 
 -- of what something is held, all is
 pub all_held : (longest : ℕ) (place : Place) (bytes : List ℕ) → 0 < length (held_of longest place bytes) → held_of longest place bytes
-  ≡ bytes
+    ≡ bytes
 all_held longest place bytes some = held_if (is_passed_over longest place bytes) bytes some
 
 not_passing : (test : Bool) (bytes : List ℕ) (passing : Passing) → 0 < length (cond test [] bytes) → cond test (Some passing) None ≡ None
@@ -135,15 +135,18 @@ not_passing true bytes passing some = absurd (omega (arith, some))
 not_passing false bytes passing some = refl
 
 none_by : (step : Step Head) (bytes : List ℕ) → 0 < length (cond (is_skipped_head step) [] bytes) → passing_by step (length bytes) ≡ None
-none_by (Whole head n) bytes some = not_passing (is_skipped_kind (kind_of head.tag)) bytes (record { seen = length bytes; left =
-  9 + head.length - length bytes }) some
+none_by (Whole head n) bytes some = not_passing (is_skipped_kind (kind_of head.tag)) bytes (record {
+  seen = length bytes;
+  left =
+      9 + head.length - length bytes;
+}) some
 none_by Short bytes some = refl
 none_by TooLong bytes some = refl
 none_by (Fault reason) bytes some = refl
 
 -- and it is not passed over
 pub held_not_passing : (longest : ℕ) (place : Place) (bytes : List ℕ) → 0 < length (held_of longest place bytes)
-  → passing_of longest place bytes ≡ None
+    → passing_of longest place bytes ≡ None
 held_not_passing longest Start bytes some = refl
 held_not_passing longest (Between header) bytes some = none_by (head_at header.ids longest bytes) bytes some
 held_not_passing longest (Within header room) bytes some = refl
@@ -153,8 +156,11 @@ held_unless true bytes passing e = absurd cc
 held_unless false bytes passing e = refl
 
 held_by : (step : Step Head) (bytes : List ℕ) → passing_by step (length bytes) ≡ None → cond (is_skipped_head step) [] bytes ≡ bytes
-held_by (Whole head n) bytes e = held_unless (is_skipped_kind (kind_of head.tag)) bytes (record { seen = length bytes; left =
-  9 + head.length - length bytes }) e
+held_by (Whole head n) bytes e = held_unless (is_skipped_kind (kind_of head.tag)) bytes (record {
+  seen = length bytes;
+  left =
+      9 + head.length - length bytes;
+}) e
 held_by Short bytes e = refl
 held_by TooLong bytes e = refl
 held_by (Fault reason) bytes e = refl
@@ -168,7 +174,7 @@ held_all longest (Within header room) bytes e = refl
 module _ (longest : ℕ) (place : Place) (bytes : List ℕ) (rest : Rest) where
   -- what is kept where all is held
   pub IsRest-held : IsBytes bytes → item_at longest place bytes ≡ Short → rest.held.items ≡ bytes → rest.passing ≡ None
-    → passing_of longest place bytes ≡ None → IsWalkOf longest place bytes rest.walk
+      → passing_of longest place bytes ≡ None → IsWalkOf longest place bytes rest.walk
       → IsRest longest place bytes rest
   IsRest-held are short held passing none walk = record {
     are_bytes = are;
@@ -180,7 +186,7 @@ module _ (longest : ℕ) (place : Place) (bytes : List ℕ) (rest : Rest) where
 
   -- and where it is passed over
   pub IsRest-passing : IsBytes bytes → (passing : Passing) → item_at longest place bytes ≡ Short → rest.held.items ≡ []
-    → rest.passing ≡ Some passing → passing_of longest place bytes ≡ Some passing
+      → rest.passing ≡ Some passing → passing_of longest place bytes ≡ Some passing
       → IsRest longest place bytes rest
   IsRest-passing are passing short held has same =
       let is = passed_of longest place bytes passing same in
@@ -231,9 +237,9 @@ on_ok (Err e) follows holds = tt
 
 -- what is left, and nothing was kept before it, is kept
 pub kept_behind : (longest : ℕ) (place : Place) (still left : List ℕ) (kept rest : Rest) → IsRest longest place still kept
-  → item_at longest place (still ++ left) ≡ Short → (still ≡ []) ⊎ (left ≡ [])
+    → item_at longest place (still ++ left) ≡ Short → (still ≡ []) ⊎ (left ≡ [])
     → (left ≡ [] → ⊥) → IsBytes left → passing_of longest place left ≡ None → rest.held.items ≡ kept.held.items ++ left
-      → rest.walk ≡ kept.walk → rest.passing ≡ kept.passing
+    → rest.walk ≡ kept.walk → rest.passing ≡ kept.passing
     → IsRest longest place (still ++ left) rest
 kept_behind longest place still left kept rest is short (inr none) some are whole held walk passing = absurd (some none)
 kept_behind longest place still left kept rest is short (inl none) some are whole held walk passing =
@@ -242,7 +248,7 @@ kept_behind longest place still left kept rest is short (inl none) some are whol
     let all : still ++ left ≡ left = ap (λ (b : List ℕ). b ++ left) none in
     let walked = IsWalkOf-more longest place still left kept.walk is.walk in
     IsRest-held longest place (still ++ left) rest (IsBytes-append still left is.are_bytes are) short (held
-      ∙ ap (λ (b : List ℕ). b ++ left) was ∙ sym all) (passing ∙ passed)
+    ∙ ap (λ (b : List ℕ). b ++ left) was ∙ sym all) (passing ∙ passed)
     (ap (passing_of longest place) all ∙ whole) (subst (IsWalkOf longest place (still ++ left)) (sym walk) walked)
 
 -- bytes that were cut in two
@@ -258,7 +264,7 @@ pub record Held (longest : ℕ) (place : Place) (front more held : List ℕ) (re
   pub are_bytes : IsBytes (front ++ more)
 
 pub held_more : (longest : ℕ) (place : Place) (front more held : List ℕ) (rest : Rest) → IsRest longest place front rest
-  → 0 < length rest.held.items → held ≡ rest.held.items ++ more → IsBytes more
+    → 0 < length rest.held.items → held ≡ rest.held.items ++ more → IsBytes more
     → Held longest place front more held rest
 held_more longest place front more held rest is some added are =
     let was = IsRest-all longest place front rest is some in
@@ -268,7 +274,7 @@ held_more longest place front more held rest is some added are =
       size = ap length was.0;
       none = was.1;
       walk = subst (λ (b : List ℕ). IsWalkOf longest place b rest.walk) (sym all)
-        (IsWalkOf-more longest place front more rest.walk is.walk);
+          (IsWalkOf-more longest place front more rest.walk is.walk);
       are_bytes = IsBytes-append front more is.are_bytes are;
     }
 
@@ -277,7 +283,7 @@ held_more longest place front more held rest is some added are =
 -- it is longer than what was there of it
 longer_if : (longest : ℕ) (place : Place) (front more : List ℕ) (found : Found) (n : ℕ) → HasRoom place → IsBytes (front ++ more)
     → item_at longest place front ≡ Short → item_at longest place (front ++ more) ≡ Whole found n → (longer : Bool)
-      → ltb (length front) n ≡ longer → length front < n
+    → ltb (length front) n ≡ longer → length front < n
 longer_if longest place front more found n room are short e true is = ltb-true (length front) n is
 longer_if longest place front more found n room are short e false is =
     let few : n ≤ length front = omega (arith, ltb-false (length front) n is) in
@@ -285,48 +291,51 @@ longer_if longest place front more found n room are short e false is =
     let one : Stated = record { bytes = take n (front ++ more); facts = found.facts } in
     let again = item_again longest place found.next one (drop n front) read.2 in
     let same : one.bytes ++ drop n front ≡ front = ap (λ (b : List ℕ). b ++ drop n front) (take-append-le n front more few)
-      ∙ take-append-drop n front in
+    ∙ take-append-drop n front in
     let now : Short ≡ item_at longest place (one.bytes ++ drop n front) = sym (ap (item_at longest place) same ∙ short) in
     absurd cc
 
 pub item_longer : (longest : ℕ) (place : Place) (front more : List ℕ) (found : Found) (n : ℕ) → HasRoom place → IsBytes (front ++ more)
     → item_at longest place front ≡ Short → item_at longest place (front ++ more) ≡ Whole found n → length front < n
 item_longer longest place front more found n room are short e = longer_if longest place front more found n room are short e
-  (ltb (length front) n) refl
+    (ltb (length front) n) refl
 
 -- what is behind it
 pub behind_item : (front more behind : List ℕ) (n : ℕ) → length front < n → n ≤ length (front ++ more)
-  → drop n (front ++ more) ++ behind ≡ drop (n - length front) (more ++ behind)
+    → drop n (front ++ more) ++ behind ≡ drop (n - length front) (more ++ behind)
 behind_item front more behind n long there =
     let k : ℕ = n - length front in
     let split : drop n (front ++ more) ≡ drop k more = ap (λ (i : ℕ). drop i (front ++ more)) (omega (arith, long))
-      ∙ drop-append-add front more k in
+    ∙ drop-append-add front more k in
     ap (λ (b : List ℕ). b ++ behind) split ∙ sym (drop-append-le k more behind (omega (arith, long, there, length-append front more)))
 
 module _ {S : Type 0} (begins : S → Header → S → Type 0) (steps : S → FactValue → S → Type 0) (refuses : S → List FactValue → SinkFault
-  → Type 0) (failed : S → Bool) where
+    → Type 0) (failed : S → Bool) where
   -- it was handed on, and nothing is kept
   pub GoesOn-whole : (from to : Progress) (front more behind : List ℕ) (n : ℕ) (old new : S) (rest : Rest)
-    → Walks begins steps from.limits.max_item from (front ++ more) old to (drop n (front ++ more)) new
+      → Walks begins steps from.limits.max_item from (front ++ more) old to (drop n (front ++ more)) new
       → length front < n → n ≤ length (front ++ more) → IsRest from.limits.max_item (place_of to) [] rest
       → GoesOn begins steps refuses failed from front (more ++ behind) old to (drop (n - length front) (more ++ behind)) rest new
   GoesOn-whole from to front more behind n old new rest walk long there keeps =
       let on = Walks-more begins steps from.limits.max_item from to (front ++ more) (drop n (front ++ more)) behind old new walk in
       let whole : Walks begins steps from.limits.max_item from (front ++ (more ++ behind)) old to (drop n (front ++ more) ++ behind) new =
       subst (λ (b : List ℕ). Walks begins steps from.limits.max_item from b old to (drop n (front ++ more) ++ behind) new)
-        (append_assoc front more behind) on in
-      inl (subst (λ (b : List ℕ). Walks begins steps from.limits.max_item from (front ++ (more ++ behind)) old to b new)
-        (behind_item front more behind n long there) whole, keeps)
+      (append_assoc front more behind) on in
+      inl (
+        subst (λ (b : List ℕ). Walks begins steps from.limits.max_item from (front ++ (more ++ behind)) old to b new)
+            (behind_item front more behind n long there) whole,
+        keeps,
+      )
 
   -- it needs more still
   pub GoesOn-still : (from : Progress) (front more behind : List ℕ) (sink : S) (rest : Rest)
-    → IsRest from.limits.max_item (place_of from) (front ++ more) rest
+      → IsRest from.limits.max_item (place_of from) (front ++ more) rest
       → GoesOn begins steps refuses failed from front (more ++ behind) sink from behind rest sink
   GoesOn-still from front more behind sink rest keeps = inr (refl, refl, (front ++ more, sym (append_assoc front more behind), keeps))
 
   -- a walk that was halted did not want memory
   pub Halts-held : (from to : Progress) (front bytes : List ℕ) (old new : S) (fault : PartFault)
-    → Halts begins steps refuses failed from (front ++ bytes) old fault to new
+      → Halts begins steps refuses failed from (front ++ bytes) old fault to new
       → IsHalted begins steps refuses failed from front bytes old fault to new
   Halts-held from to front bytes old new (faults.Malformed at reason) halts = halts
   Halts-held from to front bytes old new (faults.ItemTooLong at) halts = halts
@@ -339,77 +348,77 @@ module _ {S : Type 0} (begins : S → Header → S → Type 0) (steps : S → Fa
 
   -- it was refused
   pub FinishesHeld-refused : (from to : Progress) (front more behind : List ℕ) (old new : S) (fault : PartFault)
-    → StepsOver begins steps refuses failed from (front ++ more) old (Err fault) to new
+      → StepsOver begins steps refuses failed from (front ++ more) old (Err fault) to new
       → IsHalted begins steps refuses failed from front (more ++ behind) old fault to new
   FinishesHeld-refused from to front more behind old new fault step =
       Halts-held from to front (more ++ behind) old new fault
       (subst (λ (b : List ℕ). Halts begins steps refuses failed from b old fault to new) (append_assoc front more behind)
-        (Halts-step begins steps refuses failed from to (front ++ more) behind old new fault step))
+      (Halts-step begins steps refuses failed from to (front ++ more) behind old new fault step))
 
   -- ---- one time after the other
 
   -- while bytes are held, it needs more still
   pub GoesOn-held : (from to : Progress) (front bytes left : List ℕ) (old new : S) (rest : Rest)
-    → GoesOn begins steps refuses failed from front bytes old to left rest new → 0 < length rest.held.items
+      → GoesOn begins steps refuses failed from front bytes old to left rest new → 0 < length rest.held.items
       → (to ≡ from) × (old ≡ new) × ((still : List ℕ) × (front ++ bytes ≡ still ++ left)
-        × IsRest from.limits.max_item (place_of from) still rest)
+      × IsRest from.limits.max_item (place_of from) still rest)
   GoesOn-held from to front bytes left old new rest (inl done) some =
       absurd (omega (arith, some, ap length done.1.held, ap length (held_none from.limits.max_item (place_of to))))
   GoesOn-held from to front bytes left old new rest (inr on) some = on
 
   -- the same bytes, cut elsewhere
   pub GoesOn-same : (from to : Progress) (front bytes still more left : List ℕ) (old new : S) (rest : Rest)
-    → front ++ bytes ≡ still ++ more → GoesOn begins steps refuses failed from still more old to left rest new
+      → front ++ bytes ≡ still ++ more → GoesOn begins steps refuses failed from still more old to left rest new
       → GoesOn begins steps refuses failed from front bytes old to left rest new
   GoesOn-same from to front bytes still more left old new rest same (inl done) =
       inl (subst (λ (b : List ℕ). Walks begins steps from.limits.max_item from b old to left new) (sym same) done.0, done.1)
   GoesOn-same from to front bytes still more left old new rest same (inr on) = inr (on.0, on.1, (on.2.0, same ∙ on.2.1, on.2.2))
 
   pub IsHalted-same : (from to : Progress) (front bytes still more : List ℕ) (old new : S) (fault : PartFault)
-    → front ++ bytes ≡ still ++ more → 0 < length (held_of from.limits.max_item (place_of from) front) → 0 < length bytes
+      → front ++ bytes ≡ still ++ more → 0 < length (held_of from.limits.max_item (place_of from) front) → 0 < length bytes
       → IsHalted begins steps refuses failed from still more old fault to new
-        → IsHalted begins steps refuses failed from front bytes old fault to new
+      → IsHalted begins steps refuses failed from front bytes old fault to new
   IsHalted-same from to front bytes still more old new (faults.Malformed at reason) same holds some halts =
-    Halts-same begins steps refuses failed from to (still ++ more) (front ++ bytes) old new (faults.Malformed at reason) (sym same) halts
+      Halts-same begins steps refuses failed from to (still ++ more) (front ++ bytes) old new (faults.Malformed at reason) (sym same) halts
   IsHalted-same from to front bytes still more old new (faults.ItemTooLong at) same holds some halts =
-    Halts-same begins steps refuses failed from to (still ++ more) (front ++ bytes) old new (faults.ItemTooLong at) (sym same) halts
+      Halts-same begins steps refuses failed from to (still ++ more) (front ++ bytes) old new (faults.ItemTooLong at) (sym same) halts
   IsHalted-same from to front bytes still more old new faults.OutOfMemory same holds some wants =
-    record { stands = wants.stands; same = wants.same; holds = holds; some = some }
+      record { stands = wants.stands; same = wants.same; holds = holds; some = some }
   IsHalted-same from to front bytes still more old new (faults.Sink fault) same holds some halts =
-    Halts-same begins steps refuses failed from to (still ++ more) (front ++ bytes) old new (faults.Sink fault) (sym same) halts
+      Halts-same begins steps refuses failed from to (still ++ more) (front ++ bytes) old new (faults.Sink fault) (sym same) halts
   IsHalted-same from to front bytes still more old new faults.Failed same holds some halts =
-    Halts-same begins steps refuses failed from to (still ++ more) (front ++ bytes) old new faults.Failed (sym same) halts
+      Halts-same begins steps refuses failed from to (still ++ more) (front ++ bytes) old new faults.Failed (sym same) halts
   IsHalted-same from to front bytes still more old new faults.Read same holds some halts =
-    Halts-same begins steps refuses failed from to (still ++ more) (front ++ bytes) old new faults.Read (sym same) halts
+      Halts-same begins steps refuses failed from to (still ++ more) (front ++ bytes) old new faults.Read (sym same) halts
   IsHalted-same from to front bytes still more old new faults.ReadsExceeded same holds some halts =
-    Halts-same begins steps refuses failed from to (still ++ more) (front ++ bytes) old new faults.ReadsExceeded (sym same) halts
+      Halts-same begins steps refuses failed from to (still ++ more) (front ++ bytes) old new faults.ReadsExceeded (sym same) halts
   IsHalted-same from to front bytes still more old new faults.BytesExceeded same holds some halts =
-    Halts-same begins steps refuses failed from to (still ++ more) (front ++ bytes) old new faults.BytesExceeded (sym same) halts
+      Halts-same begins steps refuses failed from to (still ++ more) (front ++ bytes) old new faults.BytesExceeded (sym same) halts
 
   module _ (from mid to : Progress) (front bytes left : List ℕ) (old between new : S) (kept rest : Rest)
-    (was : GoesOn begins steps refuses failed from front bytes old mid left kept between)
+      (was : GoesOn begins steps refuses failed from front bytes old mid left kept between)
       (some : 0 < length kept.held.items) where
     -- it goes on
     pub GoesOn-then : (behind : List ℕ) → ((still : List ℕ) → IsRest mid.limits.max_item (place_of mid) still kept
-      → GoesOn begins steps refuses failed mid still left between to behind rest new)
+        → GoesOn begins steps refuses failed mid still left between to behind rest new)
         → GoesOn begins steps refuses failed from front bytes old to behind rest new
     GoesOn-then behind next =
         let on = GoesOn-held from mid front bytes left old between kept was some in
         let here = subst (λ (p : Progress). (still : List ℕ) → IsRest p.limits.max_item (place_of p) still kept
-          → GoesOn begins steps refuses failed p still left between to behind rest new) on.0 next in
+        → GoesOn begins steps refuses failed p still left between to behind rest new) on.0 next in
         let now = subst (λ (s : S). GoesOn begins steps refuses failed from on.2.0 left s to behind rest new) (sym on.1)
-          (here on.2.0 on.2.2) in
+        (here on.2.0 on.2.2) in
         GoesOn-same from to front bytes on.2.0 left behind old new rest on.2.1 now
 
     -- or is halted
     pub GoesOn-halted : (fault : PartFault) → ((still : List ℕ) → IsRest mid.limits.max_item (place_of mid) still kept
-      → IsHalted begins steps refuses failed mid still left between fault to new)
+        → IsHalted begins steps refuses failed mid still left between fault to new)
         → 0 < length (held_of from.limits.max_item (place_of from) front) → 0 < length bytes
-          → IsHalted begins steps refuses failed from front bytes old fault to new
+        → IsHalted begins steps refuses failed from front bytes old fault to new
     GoesOn-halted fault next holds any =
         let on = GoesOn-held from mid front bytes left old between kept was some in
         let here = subst (λ (p : Progress). (still : List ℕ) → IsRest p.limits.max_item (place_of p) still kept
-          → IsHalted begins steps refuses failed p still left between fault to new) on.0 next in
+        → IsHalted begins steps refuses failed p still left between fault to new) on.0 next in
         let now = subst (λ (s : S). IsHalted begins steps refuses failed from on.2.0 left s fault to new) (sym on.1) (here on.2.0 on.2.2) in
         IsHalted-same from to front bytes on.2.0 left old new fault on.2.1 holds any now
 
@@ -422,7 +431,7 @@ module _ {S : Type 0} (begins : S → Header → S → Type 0) (steps : S → Fa
     pub keeps : IsRest from.limits.max_item (place_of to) still rest
 
   pub Behind-held : (from to : Progress) (front bytes left : List ℕ) (old new : S) (rest : Rest)
-    → GoesOn begins steps refuses failed from front bytes old to left rest new
+      → GoesOn begins steps refuses failed from front bytes old to left rest new
       → Behind from (front ++ bytes) old to left rest new
   Behind-held from to front bytes left old new rest (inl done) = record { still = []; walked = done.0; keeps = done.1 }
   Behind-held from to front bytes left old new rest (inr on) =
@@ -444,7 +453,7 @@ module _ {S : Type 0} (begins : S → Header → S → Type 0) (steps : S → Fa
   abbrev pub Passes : Progress → List ℕ → Rest → Progress → List ℕ → Rest → Type 0
   Passes mid bytes kept to left rest =
       ((front : List ℕ) (p : Passing) → kept.passing ≡ Some p → IsRest mid.limits.max_item (place_of mid) front kept
-        → PassesOver mid front bytes to left rest)
+      → PassesOver mid front bytes to left rest)
       × (kept.passing ≡ None → (to ≡ mid) × (rest ≡ kept) × (left ≡ bytes))
 
   abbrev skipped_to : Place → ℕ → Step Found
@@ -461,13 +470,13 @@ module _ {S : Type 0} (begins : S → Header → S → Type 0) (steps : S → Fa
   skipped_after (Within header room) n stands = absurd stands
 
   IsLeft-none : (left behind : List ℕ) (kept rest : Rest) → kept.passing ≡ None → rest ≡ kept → behind ≡ left
-    → (length kept.held.items ≡ 0) ⊎ (left ≡ []) → IsLeft rest behind
+      → (length kept.held.items ≡ 0) ⊎ (left ≡ []) → IsLeft rest behind
   IsLeft-none left behind kept rest e same all (inl empty) =
-    inr (ap (λ (r : Rest). length r.held.items) same ∙ empty, ap (λ (r : Rest). r.passing) same ∙ e)
+      inr (ap (λ (r : Rest). length r.held.items) same ∙ empty, ap (λ (r : Rest). r.passing) same ∙ e)
   IsLeft-none left behind kept rest e same all (inr none) = inl (all ∙ none)
 
   behind_over : (from mid to : Progress) (bytes left behind : List ℕ) (old new : S) (kept rest : Rest)
-    → (is : Behind from bytes old mid left kept new) → IsBytes left
+      → (is : Behind from bytes old mid left kept new) → IsBytes left
       → PassesOver mid is.still left to behind rest → Behind from bytes old to behind rest new × IsLeft rest behind
   behind_over from mid to bytes left behind old new kept rest is are (inl over) =
       let same = same_item begins steps from.limits.max_item from mid bytes (is.still ++ left) old new is.walked in
@@ -475,34 +484,45 @@ module _ {S : Type 0} (begins : S → Header → S → Type 0) (steps : S → Fa
       let found = over.1 ∙ ap (λ (p : Place). skipped_to p over.0) (sym (skipped_after (place_of mid) over.0 over.4.0)) in
       let small = skipped_room mid.header mid.room over.4.0 in
       let item = Walks-item begins steps mid.limits.max_item mid (is.still ++ left) new new items.Skipped over.0 all small found over.4
-        refl in
+      refl in
       let next : Progress = advanced mid items.Skipped over.0 in
       let on = Walks-at begins steps mid.limits.max_item from.limits.max_item mid next (is.still ++ left)
-        (drop over.0 (is.still ++ left)) new new same item.0 in
+      (drop over.0 (is.still ++ left)) new new same item.0 in
       let walk = Walks-then begins steps from.limits.max_item from mid next bytes (is.still ++ left) (drop over.0 (is.still ++ left))
-        old new new is.walked on in
+      old new new is.walked on in
       let keeps = subst (λ (l : ℕ). IsRest l (place_of mid) [] rest) same over.5 in (
         subst (λ (p : Progress). Behind from bytes old p behind rest new) (sym over.2)
-            (subst (λ (b : List ℕ). Behind from bytes old next b rest new) (sym over.3) (record { still = []; walked = walk; keeps =
-              keeps })),
-        inr (ap length keeps.held ∙ ap length (held_none from.limits.max_item (place_of mid)), keeps.passing
-          ∙ passing_none from.limits.max_item (place_of mid)),
+            (subst (λ (b : List ℕ). Behind from bytes old next b rest new) (sym over.3) (record {
+              still = [];
+              walked = walk;
+              keeps =
+                  keeps;
+            })),
+        inr (
+          ap length keeps.held ∙ ap length (held_none from.limits.max_item (place_of mid)),
+          keeps.passing
+              ∙ passing_none from.limits.max_item (place_of mid),
+        ),
       )
   behind_over from mid to bytes left behind old new kept rest is are (inr on) =
       let same = same_item begins steps from.limits.max_item from mid bytes (is.still ++ left) old new is.walked in
       let walk = subst (λ (b : List ℕ). Walks begins steps from.limits.max_item from bytes old mid b new)
-        (sym (append-nil (is.still ++ left))) is.walked in
+      (sym (append-nil (is.still ++ left))) is.walked in
       let keeps = subst (λ (l : ℕ). IsRest l (place_of mid) (is.still ++ left) rest) same on.2 in (
         subst (λ (p : Progress). Behind from bytes old p behind rest new) (sym on.0)
-            (subst (λ (b : List ℕ). Behind from bytes old mid b rest new) (sym on.1) (record { still = is.still ++ left; walked =
-              walk; keeps = keeps })),
+            (subst (λ (b : List ℕ). Behind from bytes old mid b rest new) (sym on.1) (record {
+              still = is.still ++ left;
+              walked =
+                  walk;
+              keeps = keeps;
+            })),
         inl on.1,
       )
 
   behind_by : (passing : Option Passing) (from mid to : Progress) (bytes left behind : List ℕ) (old new : S) (kept rest : Rest)
-    → kept.passing ≡ passing → Behind from bytes old mid left kept new → IsBytes left
+      → kept.passing ≡ passing → Behind from bytes old mid left kept new → IsBytes left
       → (length kept.held.items ≡ 0) ⊎ (left ≡ []) → Passes mid left kept to behind rest → Behind from bytes old to behind rest new
-        × IsLeft rest behind
+      × IsLeft rest behind
   behind_by (Some p) from mid to bytes left behind old new kept rest e is are done passes =
       let same = same_item begins steps from.limits.max_item from mid bytes (is.still ++ left) old new is.walked in
       let keeps = subst (λ (l : ℕ). IsRest l (place_of mid) is.still kept) (sym same) is.keeps in
@@ -517,22 +537,22 @@ module _ {S : Type 0} (begins : S → Header → S → Type 0) (steps : S → Fa
 
   -- behind what is passed over
   pub Behind-over : (from mid to : Progress) (bytes left behind : List ℕ) (old new : S) (kept rest : Rest)
-    → Behind from bytes old mid left kept new → IsBytes left
+      → Behind from bytes old mid left kept new → IsBytes left
       → (length kept.held.items ≡ 0) ⊎ (left ≡ []) → Passes mid left kept to behind rest → Behind from bytes old to behind rest new
-        × IsLeft rest behind
+      × IsLeft rest behind
   Behind-over from mid to bytes left behind old new kept rest is are done passes =
       behind_by kept.passing from mid to bytes left behind old new kept rest refl is are done passes
 
   -- an item is begun, and nothing is left
   pub ReadsOn-kept : (from to : Progress) (front bytes left : List ℕ) (old new : S) (rest : Rest)
-    → Behind from (front ++ bytes) old to left rest new → left ≡ []
+      → Behind from (front ++ bytes) old to left rest new → left ≡ []
       → ReadsOn begins steps refuses failed from front bytes old (Ok left) to rest new
   ReadsOn-kept from to front bytes left old new rest is none =
       let all : is.still ++ left ≡ is.still = ap (λ (b : List ℕ). is.still ++ b) none ∙ append-nil is.still in
       (is.still, is.walked, is.keeps, ap (item_at from.limits.max_item (place_of to)) all ∙ is.keeps.short, inr none)
 
   module _ (from mid to : Progress) (front bytes left : List ℕ) (old between new : S) (kept rest : Rest)
-    (is : Behind from (front ++ bytes) old mid left kept between)
+      (is : Behind from (front ++ bytes) old mid left kept between)
       (empty : length kept.held.items ≡ 0) (none : kept.passing ≡ None) where
     same_mid : mid.limits.max_item ≡ from.limits.max_item
     same_mid = same_item begins steps from.limits.max_item from mid (front ++ bytes) (is.still ++ left) old between is.walked
@@ -543,7 +563,7 @@ module _ {S : Type 0} (begins : S → Header → S → Type 0) (steps : S → Fa
 
     -- nothing was kept, and what was left was walked over
     pub ReadsOn-walked : (last : List ℕ) → WalksAll begins steps refuses failed mid left between (Ok last) to new → rest.held.items ≡ []
-      → rest.passing ≡ None → rest.walk ≡ Front
+        → rest.passing ≡ None → rest.walk ≡ Front
         → ReadsOn begins steps refuses failed from front bytes old (Ok last) to rest new
     ReadsOn-walked last walk held passing front_walk =
         let same = same_item begins steps mid.limits.max_item mid to left last between new walk.0 ∙ same_mid in
@@ -551,34 +571,34 @@ module _ {S : Type 0} (begins : S → Header → S → Type 0) (steps : S → Fa
         let whole = Walks-then begins steps from.limits.max_item from mid to (front ++ bytes) left last old between new first on in
         let keeps = IsRest-none from.limits.max_item (place_of to) rest held passing
         (subst (λ (w : Walk). IsWalkOf from.limits.max_item (place_of to) [] w) (sym front_walk)
-          (IsWalkOf-front from.limits.max_item (place_of to) [])) in
+        (IsWalkOf-front from.limits.max_item (place_of to) [])) in
         ([], whole, keeps, subst (λ (l : ℕ). item_at l (place_of to) last ≡ Short) same walk.1, inl refl)
 
     -- or refused
     pub ReadsOn-refused : (fault : PartFault) → Halts begins steps refuses failed mid left between fault to new
-      → IsHalted begins steps refuses failed from front bytes old fault to new
+        → IsHalted begins steps refuses failed from front bytes old fault to new
     ReadsOn-refused fault halts = Halts-held from to front bytes old new fault (Halts-then begins steps refuses failed from mid to
-      (front ++ bytes) left old between new fault first halts)
+        (front ++ bytes) left old between new fault first halts)
 
     -- in either case
     pub ReadsOn-walk : (result : Result (Bor (List ℕ)) PartFault) → WalksAll begins steps refuses failed mid left between (seen result)
-      to new → rest.held.items ≡ [] → rest.passing ≡ None → rest.walk ≡ Front
+        to new → rest.held.items ≡ [] → rest.passing ≡ None → rest.walk ≡ Front
         → ReadsOn begins steps refuses failed from front bytes old (seen result) to rest new
     ReadsOn-walk (Ok last) walk held passing front_walk = ReadsOn-walked last.now walk held passing front_walk
     ReadsOn-walk (Err fault) halts held passing front_walk = ReadsOn-refused fault halts
 
   -- where something is kept nothing is left
   pub none_left : (rest : Rest) (left : List ℕ) → IsLeft rest left → (is_some rest.passing ≡ true) ⊎ (0 < length rest.held.items)
-    → left ≡ []
+      → left ≡ []
   none_left rest left (inl none) keeps = none
   none_left rest left (inr nothing) (inl passes) = let no_passing = nothing.1 in absurd (some_not_none (sym passes ∙ ap is_some no_passing))
   none_left rest left (inr nothing) (inr holds) = absurd (omega (arith, holds, nothing.0))
 
   -- there is room for what a walk left
   pub counted_behind : (mid to : Progress) (left : List ℕ) (between new : S) (rest : Rest) (result : Result (Bor (List ℕ)) PartFault)
-    → WalksAll begins steps refuses failed mid left between (seen result) to new
+      → WalksAll begins steps refuses failed mid left between (seen result) to new
       → IsCounted mid (length left) → rest.held.items ≡ [] → rest.passing ≡ None
-        → IfOk result (λ last. IsCounted to (rest_len rest + length last.now))
+      → IfOk result (λ last. IsCounted to (rest_len rest + length last.now))
   counted_behind mid to left between new rest (Ok last) walk counted held passing =
       let room = Walks-counted begins steps mid.limits.max_item mid to left last.now between new walk.0 counted in
       subst (IsCounted to) (omega (arith, ap length held, ap passed_len passing)) room

@@ -36,20 +36,20 @@ right_at_all ids longest head right = record {
   length = right.length;
   legal = right.legal;
   taken = let below = right.length in and_right (is_fact_tag head.tag) (ltb longest_body head.length)
-    (le-ltb longest_body head.length (omega arith));
+      (le-ltb longest_body head.length (omega arith));
 }
 
 -- ---- first bytes, and which of them end a heap dump
 
 -- that of a header does not
 version_no_end : (version : Version) (ids : IdSize) (millis : ℕ) (rest : List ℕ)
-  → false ≡ (slice_index (header_bytes (record { version = version; ids = ids; millis = millis }) ++ rest) 0 == 0x2c)
+    → false ≡ (slice_index (header_bytes (record { version = version; ids = ids; millis = millis }) ++ rest) 0 == 0x2c)
 version_no_end V101 ids millis rest = refl
 version_no_end V102 ids millis rest = refl
 
 pub header_no_end : (header : Header) (bytes rest : List ℕ) → bytes ≡ header_bytes header ++ rest → false ≡ (slice_index bytes 0 == 0x2c)
 header_no_end header bytes rest e = version_no_end header.version header.ids header.millis rest
-  ∙ ap (λ (b : List ℕ). slice_index b 0 == 0x2c) (sym e)
+    ∙ ap (λ (b : List ℕ). slice_index b 0 == 0x2c) (sym e)
 
 -- that of a record does where its kind says so
 abbrev pub ends_dump : HeadKind → Bool
@@ -66,7 +66,7 @@ kind_by tag true e = ap (λ (n : ℕ). ends_dump (kind_of n)) (eqb-true tag 0x2c
 kind_by tag false e = rw e (other_kind (is_fact_tag tag) (is_dump_tag tag))
 
 pub record_ends : (head : Head) (bytes rest : List ℕ) (kind : HeadKind) → bytes ≡ head_bytes head.tag head.time head.length ++ rest
-  → kind ≡ kind_of head.tag → ends_dump kind ≡ (slice_index bytes 0 == 0x2c)
+    → kind ≡ kind_of head.tag → ends_dump kind ≡ (slice_index bytes 0 == 0x2c)
 record_ends head bytes rest kind e is =
     ap ends_dump is ∙ kind_by head.tag (head.tag == 0x2c) refl ∙ ap (λ (b : List ℕ). slice_index b 0 == 0x2c) (sym e)
 
@@ -87,7 +87,7 @@ tag_no_end tags.PrimArrayDump = refl
 tag_no_end tags.RootUnknown = refl
 
 pub sub_no_end : (ids : IdSize) (room longest : ℕ) (bytes : List ℕ) (fact : FactValue) (n : ℕ) → IsBytes bytes
-  → sub_at ids (bounds_within room longest bytes) bytes ≡ Ok (fact, n)
+    → sub_at ids (bounds_within room longest bytes) bytes ≡ Ok (fact, n)
     → false ≡ (slice_index bytes 0 == 0x2c)
 sub_no_end ids room longest bytes fact n are e =
     let found = sub_found ids (bounds_within room longest bytes) bytes fact n are (omega arith) e in
@@ -97,7 +97,7 @@ sub_no_end ids room longest bytes fact n are e =
 
 -- a record with a fact stands between records
 pub fact_place : (header : Header) (bytes : List ℕ) (step : Step ItemValue) → IfRead step IsFact → false ≡ (slice_index bytes 0 == 0x2c)
-  → IfRead step (IsOfPlace (Between header) bytes)
+    → IfRead step (IsOfPlace (Between header) bytes)
 fact_place header bytes (steps.Whole (items.Header h) n) is e = absurd is
 fact_place header bytes (steps.Whole (items.Fact fact) n) is e = (tt, e)
 fact_place header bytes (steps.Whole (items.Dump len) n) is e = absurd is
@@ -110,7 +110,7 @@ fact_place header bytes (steps.Fault reason) is e = tt
 
 -- so does one that is passed over
 pub skipped_place : (header : Header) (bytes : List ℕ) (step : Step ItemValue) → IfRead step (λ item. item ≡ items.Skipped)
-  → false ≡ (slice_index bytes 0 == 0x2c) → IfRead step (IsOfPlace (Between header) bytes)
+    → false ≡ (slice_index bytes 0 == 0x2c) → IfRead step (IsOfPlace (Between header) bytes)
 skipped_place header bytes (steps.Whole item n) is e = subst (IsOfPlace (Between header) bytes) (sym is) (tt, e)
 skipped_place header bytes steps.Short is e = tt
 skipped_place header bytes steps.TooLong is e = tt

@@ -53,98 +53,101 @@ passing_if true one passing e = (refl, cc)
 passing_if false one passing e = absurd cc
 
 passed_by : (longest : ℕ) (header : Header) (front : List ℕ) (passing : Passing) (step : Step Head) → head_at header.ids longest front
-  ≡ step → passing_by step (length front) ≡ Some passing
+    ≡ step → passing_by step (length front) ≡ Some passing
     → IsPassed longest (Between header) front passing
 passed_by longest header front passing (Whole head n) read e =
     let is = passing_if (is_skipped_kind (kind_of head.tag)) (record { seen = length front; left = 9 + head.length - length front })
-      passing e in
+    passing e in
     record { header = header; head = head; taken = n; between = refl; read = read; kind = is.0; same = is.1 }
 passed_by longest header front passing Short read e = absurd cc
 passed_by longest header front passing TooLong read e = absurd cc
 passed_by longest header front passing (Fault reason) read e = absurd cc
 
 pub passed_of : (longest : ℕ) (place : Place) (front : List ℕ) (passing : Passing) → passing_of longest place front ≡ Some passing
-  → IsPassed longest place front passing
+    → IsPassed longest place front passing
 passed_of longest Start front passing e = absurd cc
 passed_of longest (Between header) front passing e = passed_by longest header front passing (head_at header.ids longest front) refl e
 passed_of longest (Within header room) front passing e = absurd cc
 
 module _ (longest : ℕ) (place : Place) (front : List ℕ) (passing : Passing) (is : IsPassed longest place front passing) (more : List ℕ)
   where
-  head_on : head_at is.header.ids longest (front ++ more) ≡ Whole is.head is.taken
-  head_on = head_stays is.header.ids longest front more (Whole is.head is.taken) (λ q. cc) is.read
+    head_on : head_at is.header.ids longest (front ++ more) ≡ Whole is.head is.taken
+    head_on = head_stays is.header.ids longest front more (Whole is.head is.taken) (λ q. cc) is.read
 
-  -- it is found as one that is passed over, also with more bytes
-  passed_at : item_at longest place (front ++ more) ≡ found_record is.header Skipped is.head (front ++ more)
-  unfolding item_at
-  passed_at =
-      ap (λ (p : Place). item_at longest p (front ++ more)) is.between
-      ∙ ap (λ (r : Step Head). found_behind is.header r (front ++ more)) head_on
-      ∙ ap (λ (k : HeadKind). found_record is.header k is.head (front ++ more)) (skipped_kind (kind_of is.head.tag) is.kind)
+    -- it is found as one that is passed over, also with more bytes
+    passed_at : item_at longest place (front ++ more) ≡ found_record is.header Skipped is.head (front ++ more)
+    unfolding item_at
+    passed_at =
+        ap (λ (p : Place). item_at longest p (front ++ more)) is.between
+        ∙ ap (λ (r : Step Head). found_behind is.header r (front ++ more)) head_on
+        ∙ ap (λ (k : HeadKind). found_record is.header k is.head (front ++ more)) (skipped_kind (kind_of is.head.tag) is.kind)
 
-  -- with its last byte it is whole
-  pub passed_whole : 9 + is.head.length ≤ length (front ++ more) → item_at longest place (front ++ more)
-    ≡ Whole (record { next = place; facts = [] }) (9 + is.head.length)
-  passed_whole all =
-      let found : Place → Step Found = λ next. Whole (record { next = next; facts = [] }) (9 + is.head.length) in
-      passed_at ∙ cond-false (ltb (length (front ++ more)) (9 + is.head.length)) Short (found (Between is.header)) (le-ltb _ _ all)
+    -- with its last byte it is whole
+    pub passed_whole : 9 + is.head.length ≤ length (front ++ more) → item_at longest place (front ++ more)
+        ≡ Whole (record { next = place; facts = [] }) (9 + is.head.length)
+    passed_whole all =
+        let found : Place → Step Found = λ next. Whole (record { next = next; facts = [] }) (9 + is.head.length) in
+        passed_at ∙ cond-false (ltb (length (front ++ more)) (9 + is.head.length)) Short (found (Between is.header)) (le-ltb _ _ all)
         ∙ ap found (sym is.between)
 
-  -- before, it is not
-  pub passed_short : length (front ++ more) < 9 + is.head.length → item_at longest place (front ++ more) ≡ Short
-  passed_short few = passed_at ∙ cond-true (ltb (length (front ++ more)) (9 + is.head.length)) Short _ (lt-ltb _ _ few)
+    -- before, it is not
+    pub passed_short : length (front ++ more) < 9 + is.head.length → item_at longest place (front ++ more) ≡ Short
+    passed_short few = passed_at ∙ cond-true (ltb (length (front ++ more)) (9 + is.head.length)) Short _ (lt-ltb _ _ few)
 
-  -- nothing of it is held
-  pub passed_held : held_of longest place (front ++ more) ≡ []
-  passed_held =
-      let over : is_passed_over longest place (front ++ more) ≡ true =
-      ap (λ (p : Place). is_passed_over longest p (front ++ more)) is.between ∙ ap is_skipped_head head_on ∙ is.kind in
-      cond-true (is_passed_over longest place (front ++ more)) [] (front ++ more) over
+    -- nothing of it is held
+    pub passed_held : held_of longest place (front ++ more) ≡ []
+    passed_held =
+        let over : is_passed_over longest place (front ++ more) ≡ true =
+        ap (λ (p : Place). is_passed_over longest p (front ++ more)) is.between ∙ ap is_skipped_head head_on ∙ is.kind in
+        cond-true (is_passed_over longest place (front ++ more)) [] (front ++ more) over
 
-  -- and how much was seen of it
-  pub passed_on : passing_of longest place (front ++ more) ≡ Some (record { seen = length (front ++ more); left =
-    9 + is.head.length - length (front ++ more) })
-  passed_on =
-      ap (λ (p : Place). passing_of longest p (front ++ more)) is.between
-      ∙ ap (λ (r : Step Head). passing_by r (length (front ++ more))) head_on
-      ∙ cond-true (is_skipped_kind (kind_of is.head.tag))
+    -- and how much was seen of it
+    pub passed_on : passing_of longest place (front ++ more) ≡ Some (record {
+      seen = length (front ++ more);
+      left =
+          9 + is.head.length - length (front ++ more);
+    })
+    passed_on =
+        ap (λ (p : Place). passing_of longest p (front ++ more)) is.between
+        ∙ ap (λ (r : Step Head). passing_by r (length (front ++ more))) head_on
+        ∙ cond-true (is_skipped_kind (kind_of is.head.tag))
         (Some (record { seen = length (front ++ more); left = 9 + is.head.length - length (front ++ more) })) None is.kind
 
 -- nothing of it is walked
 pub passed_walk : (longest : ℕ) (place : Place) (front : List ℕ) (passing : Passing) → IsPassed longest place front passing
-  → (bytes : List ℕ) (walk : Walk) → IsWalkOf longest place bytes walk
+    → (bytes : List ℕ) (walk : Walk) → IsWalkOf longest place bytes walk
 passed_walk longest place front passing is bytes walk = subst (λ (p : Place). IsWalkOf longest p bytes walk) (sym is.between) tt
 
 -- nor held
 pub passed_none_held : (longest : ℕ) (place : Place) (front : List ℕ) (passing : Passing) → IsPassed longest place front passing
-  → held_of longest place front ≡ []
+    → held_of longest place front ≡ []
 passed_none_held longest place front passing is = ap (held_of longest place) (sym (append-nil front))
-  ∙ passed_held longest place front passing is []
+    ∙ passed_held longest place front passing is []
 
 -- while it is short there are bytes to come
 fewer_if : (longest : ℕ) (place : Place) (front : List ℕ) (passing : Passing) (is : IsPassed longest place front passing)
-  → item_at longest place front ≡ Short
+    → item_at longest place front ≡ Short
     → (few : Bool) → ltb (length front) (9 + is.head.length) ≡ few → length front < 9 + is.head.length
 fewer_if longest place front passing is short true e = ltb-true (length front) (9 + is.head.length) e
 fewer_if longest place front passing is short false e =
     let all : 9 + is.head.length ≤ length (front ++ []) =
-      omega (arith, ltb-false (length front) (9 + is.head.length) e, ap length (append-nil front)) in
+    omega (arith, ltb-false (length front) (9 + is.head.length) e, ap length (append-nil front)) in
     let whole = passed_whole longest place front passing is [] all in
     let now : item_at longest place (front ++ []) ≡ Short = ap (item_at longest place) (append-nil front) ∙ short in
     absurd cc
 
 pub passed_fewer : (longest : ℕ) (place : Place) (front : List ℕ) (passing : Passing) (is : IsPassed longest place front passing)
-  → item_at longest place front ≡ Short → length front < 9 + is.head.length
+    → item_at longest place front ≡ Short → length front < 9 + is.head.length
 passed_fewer longest place front passing is short =
-  fewer_if longest place front passing is short (ltb (length front) (9 + is.head.length)) refl
+    fewer_if longest place front passing is short (ltb (length front) (9 + is.head.length)) refl
 
 -- a record that is passed over stands between records, and does not end a heap dump
 pub passed_stands : (longest : ℕ) (place : Place) (front more : List ℕ) (passing : Passing) → IsPassed longest place front passing
-  → IsBytes (front ++ more) → IsOfPlace place (front ++ more) items.Skipped
+    → IsBytes (front ++ more) → IsOfPlace place (front ++ more) items.Skipped
 passed_stands longest place front more passing is are =
     let read = head_found is.header.ids longest (front ++ more) is.head is.taken are (head_on longest place front passing is more) in
     let none = record_ends is.head (front ++ more) (drop is.taken (front ++ more)) Skipped read.0
-      (sym (skipped_kind (kind_of is.head.tag) is.kind)) in
+    (sym (skipped_kind (kind_of is.head.tag) is.kind)) in
     (subst (λ (p : Place). Stands p items.Skipped) (sym is.between) tt, none)
 
 -- ---- nothing is there
@@ -166,7 +169,7 @@ none_are : IsBytes []
 none_are i = omega arith
 
 pub IsRest-none : (longest : ℕ) (place : Place) (rest : Rest) → rest.held.items ≡ [] → rest.passing ≡ None
-  → IsWalkOf longest place [] rest.walk → IsRest longest place [] rest
+    → IsWalkOf longest place [] rest.walk → IsRest longest place [] rest
 IsRest-none longest place rest held passing walk = record {
   are_bytes = none_are;
   short = item_none longest place;

@@ -41,7 +41,7 @@ use Rattle.hprof_stream.proofs.Runs.{Run-none, Run-then}
 
 -- where it leads to does not look at the fact
 pub bare_after : (progress : Progress) (item : Item) (fact : Fact) (n : ℕ) → advanced progress (bare item) n
-  ≡ advanced progress (with_fact item fact) n
+    ≡ advanced progress (with_fact item fact) n
 bare_after progress (kinds.Header header) fact n = refl
 bare_after progress kinds.Fact fact n = refl
 bare_after progress (kinds.Dump len) fact n = refl
@@ -50,7 +50,7 @@ bare_after progress kinds.Skipped fact n = refl
 bare_after progress kinds.Sub fact n = refl
 
 pub bare_next : (progress : Progress) (item : Item) (fact : Fact) (n : ℕ) → IsNext progress (with_fact item fact) n
-  → IsNext progress (bare item) n
+    → IsNext progress (bare item) n
 bare_next progress (kinds.Header header) fact n is = is
 bare_next progress kinds.Fact fact n is = is
 bare_next progress (kinds.Dump len) fact n is = is
@@ -70,7 +70,7 @@ bare_told header kinds.Sub fact = refl
 
 -- the place that it leads to is that of the progress behind it
 place_next : (header : Option Header) (room : ℕ) (item : ItemValue) (n : ℕ) (progress : Progress) → progress.header ≡ header
-  → progress.room ≡ room → Stands (place_behind header room) item
+    → progress.room ≡ room → Stands (place_behind header room) item
     → place_after (place_behind header room) item n ≡ place_of (advanced progress item n)
 place_next None room (items.Header h) n progress e f stands = refl
 place_next None room (items.Fact fact) n progress e f stands = absurd stands
@@ -92,7 +92,7 @@ place_next (Some h) (suc room) items.Skipped n progress e f stands = absurd stan
 place_next (Some h) (suc room) (items.Sub fact) n progress e f stands = rw (e, f) refl
 
 pub next_place : (progress : Progress) (item : ItemValue) (n : ℕ) → Stands (place_of progress) item
-  → place_after (place_of progress) item n ≡ place_of (advanced progress item n)
+    → place_after (place_of progress) item n ≡ place_of (advanced progress item n)
 next_place progress item n stands = place_next progress.header progress.room item n progress refl refl stands
 
 -- how many records it begins
@@ -157,8 +157,13 @@ limits_next (items.Sub fact) n progress = refl
 
 -- where there is room for more there is room for less
 pub IsCounted-less : (progress : Progress) (room less : ℕ) → IsCounted progress room → less ≤ room → IsCounted progress less
-IsCounted-less progress room less counted le = record { limit = counted.limit; room = omega (arith, counted.room); records =
-  counted.records; facts = counted.facts }
+IsCounted-less progress room less counted le = record {
+  limit = counted.limit;
+  room = omega (arith, counted.room);
+  records =
+      counted.records;
+  facts = counted.facts;
+}
 
 -- a first byte stays first
 first_taken : (n : ℕ) (bytes : List ℕ) → 0 < n → n ≤ length bytes → slice_index (take n bytes) 0 ≡ slice_index bytes 0
@@ -167,7 +172,7 @@ first_taken n bytes some there = get_or-take n bytes 0 0 some
 module _ {S : Type 0} (begins : S → Header → S → Type 0) (steps : S → FactValue → S → Type 0) where
   -- what is handed on is a run
   run_next : (header : Option Header) (room : ℕ) (item : ItemValue) (n : ℕ) (progress : Progress) (old new : S)
-    → progress.header ≡ header → Stands (place_behind header room) item → Gives begins steps old item new
+      → progress.header ≡ header → Stands (place_behind header room) item → Gives begins steps old item new
       → Run begins steps old (became header (advanced progress item n).header) (facts_of item) new
   run_next None room (items.Header h) n progress old new e stands gives = (new, gives, refl)
   run_next None room (items.Fact fact) n progress old new e stands gives = absurd stands
@@ -190,7 +195,7 @@ module _ {S : Type 0} (begins : S → Header → S → Type 0) (steps : S → Fa
 
   -- one item is walked over
   pub Walks-item : (longest : ℕ) (from : Progress) (bytes : List ℕ) (old new : S) (item : ItemValue) (n : ℕ) → IsBytes bytes
-    → from.room ≤ longest_body
+      → from.room ≤ longest_body
       → item_at longest (place_of from) bytes ≡ Whole (record { next = place_after (place_of from) item n; facts = facts_of item }) n
       → IsOfPlace (place_of from) bytes item → Gives begins steps old item new
       → Walks begins steps longest from bytes old (advanced from item n) (drop n bytes) new × (0 < n) × (n ≤ length bytes)
@@ -198,12 +203,12 @@ module _ {S : Type 0} (begins : S → Header → S → Type 0) (steps : S → Fa
       let place = place_of from in
       let to : Progress = advanced from item n in
       let read = item_found longest place bytes (record { next = place_after place item n; facts = facts_of item }) n
-        (room_behind from.header from.room small) are e in
+      (room_behind from.header from.room small) are e in
       let one : Stated = record { bytes = take n bytes; facts = facts_of item } in
       let is : IsItem longest place one (place_of to) = subst (IsItem longest place one) (next_place from item n of.0) read.2 in
       let end : is_end one ≡ is_end_item item = ap (λ (b : ℕ). b == 0x2c) (first_taken n bytes read.1 read.0) ∙ sym of.1 in
       let ran : Run begins steps old (became from.header to.header) (facts_of item) new =
-        run_next from.header from.room item n from old new refl of.0 gives in (
+      run_next from.header from.room item n from old new refl of.0 gives in (
         record {
           items = one ∷ [];
           each = more is none;
@@ -214,7 +219,7 @@ module _ {S : Type 0} (begins : S → Header → S → Type 0) (steps : S → Fa
           fact_count = omega (arith, facts_next item n from, ap length (append-nil (facts_of item)));
           has_end = end_next item n from ∙ ap (λ (b : Bool). from.ended || b) (sym end ∙ sym (or-false (is_end one)));
           ran = subst (λ (f : List FactValue). Run begins steps old (became from.header to.header) f new)
-            (sym (append-nil (facts_of item))) ran;
+              (sym (append-nil (facts_of item))) ran;
         },
         read.1,
         read.0,
@@ -222,7 +227,7 @@ module _ {S : Type 0} (begins : S → Header → S → Type 0) (steps : S → Fa
 
   -- nothing is walked over
   pub Walks-none : (longest : ℕ) (progress : Progress) (bytes : List ℕ) (sink : S)
-    → Walks begins steps longest progress bytes sink progress bytes sink
+      → Walks begins steps longest progress bytes sink progress bytes sink
   Walks-none longest progress bytes sink = record {
     items = [];
     each = none;
@@ -237,7 +242,7 @@ module _ {S : Type 0} (begins : S → Header → S → Type 0) (steps : S → Fa
 
   -- more bytes behind stay behind
   pub Walks-more : (longest : ℕ) (from to : Progress) (bytes rest extra : List ℕ) (old new : S)
-    → Walks begins steps longest from bytes old to rest new
+      → Walks begins steps longest from bytes old to rest new
       → Walks begins steps longest from (bytes ++ extra) old to (rest ++ extra) new
   Walks-more longest from to bytes rest extra old new walk = record {
     items = walk.items;
@@ -254,7 +259,7 @@ module _ {S : Type 0} (begins : S → Header → S → Type 0) (steps : S → Fa
   -- one walk, and then another
   pub Walks-then : (longest : ℕ) (from between to : Progress) (bytes left rest : List ℕ) (old mid new : S)
       → Walks begins steps longest from bytes old between left mid → Walks begins steps longest between left mid to rest new
-        → Walks begins steps longest from bytes old to rest new
+      → Walks begins steps longest from bytes old to rest new
   Walks-then longest from between to bytes left rest old mid new first second =
       let heads = items_headers longest from.header between.header from.room between.room first.items first.each in
       let stays = items_headers longest between.header to.header between.room to.room second.items second.each in
@@ -262,20 +267,35 @@ module _ {S : Type 0} (begins : S → Header → S → Type 0) (steps : S → Fa
         items = first.items ++ second.items;
         each = AreItems-then longest (place_of from) (place_of between) (place_of to) first.items second.items first.each second.each;
         parts = first.parts ∙ ap (λ (b : List ℕ). all_bytes first.items ++ b) second.parts
-          ∙ sym (append_assoc (all_bytes first.items) (all_bytes second.items) rest)
+            ∙ sym (append_assoc (all_bytes first.items) (all_bytes second.items) rest)
             ∙ ap (λ (b : List ℕ). b ++ rest) (sym (all_bytes-then first.items second.items));
         same_limits = second.same_limits ∙ first.same_limits;
-        offset = omega (arith, first.offset, second.offset, ap length (all_bytes-then first.items second.items),
-          length-append (all_bytes first.items) (all_bytes second.items));
-        record_count = omega (arith, first.record_count, second.record_count, records_begun-then longest (place_of from)
-          (place_of between) (place_of to) first.items second.items first.each second.each);
-        fact_count = omega (arith, first.fact_count, second.fact_count, ap length (all_facts-then first.items second.items),
-          length-append (all_facts first.items) (all_facts second.items));
+        offset = omega (
+          arith,
+          first.offset,
+          second.offset,
+          ap length (all_bytes-then first.items second.items),
+          length-append (all_bytes first.items) (all_bytes second.items),
+        );
+        record_count = omega (
+          arith,
+          first.record_count,
+          second.record_count,
+          records_begun-then longest (place_of from)
+              (place_of between) (place_of to) first.items second.items first.each second.each,
+        );
+        fact_count = omega (
+          arith,
+          first.fact_count,
+          second.fact_count,
+          ap length (all_facts-then first.items second.items),
+          length-append (all_facts first.items) (all_facts second.items),
+        );
         has_end = second.has_end ∙ ap (λ (b : Bool). b || list_any is_end second.items) first.has_end
-          ∙ or_assoc from.ended (list_any is_end first.items) (list_any is_end second.items)
+            ∙ or_assoc from.ended (list_any is_end first.items) (list_any is_end second.items)
             ∙ ap (λ (b : Bool). from.ended || b) (sym (list_any-append is_end first.items second.items));
         ran = subst (λ (f : List FactValue). Run begins steps old (became from.header to.header) f new)
-          (sym (all_facts-then first.items second.items))
+            (sym (all_facts-then first.items second.items))
             (Run-then begins steps old mid new from.header between.header to.header (all_facts first.items) (all_facts second.items)
             (λ e. let bare = heads.0 e in (bare.0, ap all_facts bare.1)) stays.1 first.ran second.ran);
       }
@@ -284,7 +304,7 @@ module _ {S : Type 0} (begins : S → Header → S → Type 0) (steps : S → Fa
 
 -- the fact of an item fits the size behind the header
 fits_of : (longest : ℕ) (from : Place) (one : Stated) (to : Place) (fact : FactValue) (header : Header) → IsItem longest from one to
-  → one.facts ≡ fact ∷ [] → header_before from ≡ Some header → Fits header.ids fact
+    → one.facts ≡ fact ∷ [] → header_before from ≡ Some header → Fits header.ids fact
 fits_of longest from one to fact header (is_header fits spelled empty) facts before = absurd cc
 fits_of longest from one to fact header (is_fact {header = h} {fact = f} states short stated) facts before =
     let same : h ≡ header = cc in
@@ -300,30 +320,32 @@ fits_of longest from one to fact header (is_skipped skipped empty) facts before 
 
 -- a sub-record has no more bytes than its record has left
 sub_room : (longest : ℕ) (from : Place) (one : Stated) (to : Place) (header : Header) (room : ℕ) → IsItem longest from one to
-  → from ≡ Within header room → length one.bytes ≤ room
+    → from ≡ Within header room → length one.bytes ≤ room
 sub_room longest from one to header room (is_header fits spelled empty) e = absurd cc
 sub_room longest from one to header room (is_fact states short stated) e = absurd cc
 sub_room longest from one to header room (is_dump_end ends empty) e = absurd cc
 sub_room longest from one to header room (is_dump dump time len spelled empty) e = absurd cc
 sub_room longest from one to header room (is_sub {room = r} sub spelled in_room in_longest stated) e = let same : r ≡ room =
-  cc in omega (arith, in_room, same)
+    cc in omega (arith, in_room, same)
 sub_room longest from one to header room (is_skipped skipped empty) e = absurd cc
 
 -- what was read at a place
 abbrev pub IsReadAt : ℕ → Progress → List ℕ → ItemValue → ℕ → Type 0
 IsReadAt longest from bytes item n = item_at longest (place_of from) bytes
-  ≡ Whole (record { next = place_after (place_of from) item n; facts = facts_of item }) n
+    ≡ Whole (record { next = place_after (place_of from) item n; facts = facts_of item }) n
 
 -- it may be handed to the sink
 fact_fits : (longest : ℕ) (place next : Place) (header : Header) (bytes given : List ℕ) (fact : Fact) (begun : Option IdSize)
-  → header_before place ≡ Some header
+    → header_before place ≡ Some header
     → IsItem longest place (record { bytes = bytes; facts = value_of fact ∷ [] }) next → ListsHave header.ids fact
-      → given ≡ dump_bytes header.ids (value_of fact)
+    → given ≡ dump_bytes header.ids (value_of fact)
     → begun ≡ Some header.ids → FitsBegun begun (value_of fact) × ListsHaveBegun begun fact × SpellsBegun begun (value_of fact) given
 fact_fits longest place next header bytes given fact begun before is lists spelled with =
-    subst (λ (b : Option IdSize). FitsBegun b (value_of fact) × ListsHaveBegun b fact × SpellsBegun b (value_of fact) given) (sym with)
-    (fits_of longest place (record { bytes = bytes; facts = value_of fact ∷ [] }) next (value_of fact) header is refl before, lists,
-      spelled)
+    subst (λ (b : Option IdSize). FitsBegun b (value_of fact) × ListsHaveBegun b fact × SpellsBegun b (value_of fact) given) (sym with) (
+      fits_of longest place (record { bytes = bytes; facts = value_of fact ∷ [] }) next (value_of fact) header is refl before,
+      lists,
+      spelled,
+    )
 
 -- no sub-record states the fact of a record
 not_dumped : (ids : IdSize) (fact : FactValue) (tag : RecordTag) → record_of fact ≡ Some tag → [] ≡ dump_bytes ids fact
@@ -346,7 +368,7 @@ dumped_at zero bytes = []
 dumped_at (suc room) bytes = bytes
 
 dumped_item : (longest : ℕ) (from : Place) (one : Stated) (to : Place) (fact : FactValue) (header : Header) (room : ℕ)
-  → IsItem longest from one to → one.facts ≡ fact ∷ []
+    → IsItem longest from one to → one.facts ≡ fact ∷ []
     → from ≡ place_in header room → dumped_at room one.bytes ≡ dump_bytes header.ids fact
 dumped_item longest from one to fact header zero (is_header fits spelled empty) facts e = absurd cc
 dumped_item longest from one to fact header zero (is_fact {header = h} {fact = f} states short stated) facts e =
@@ -368,13 +390,13 @@ dumped_item longest from one to fact header (suc room) (is_skipped skipped empty
 
 fit_at : (longest : ℕ) (header : Option Header) (room : ℕ) (bytes : List ℕ) (next : Place) (item : ItemValue) (begun : Option IdSize)
     → IsItem longest (place_behind header room) (record { bytes = bytes; facts = facts_of item }) next
-      → Stands (place_behind header room) item → ItemLists header item
+    → Stands (place_behind header room) item → ItemLists header item
     → IsBegun header begun → GivesFit begun item bytes
 fit_at longest header room bytes next (items.Header h) begun is stands lists with = tt
 fit_at longest None room bytes next (items.Fact fact) begun is stands lists with = absurd stands
 fit_at longest (Some h) zero bytes next (items.Fact fact) begun is stands lists with =
     let spelled = dumped_item longest (place_in h 0) (record { bytes = bytes; facts = value_of fact ∷ [] }) next (value_of fact) h 0 is
-      refl refl in
+    refl refl in
     fact_fits longest (place_in h 0) next h bytes [] fact begun refl is lists spelled with
 fit_at longest (Some h) (suc room) bytes next (items.Fact fact) begun is stands lists with = absurd stands
 fit_at longest header room bytes next (items.Dump len) begun is stands lists with = tt
@@ -384,27 +406,27 @@ fit_at longest None room bytes next (items.Sub fact) begun is stands lists with 
 fit_at longest (Some h) zero bytes next (items.Sub fact) begun is stands lists with = absurd stands
 fit_at longest (Some h) (suc room) bytes next (items.Sub fact) begun is stands lists with =
     let spelled = dumped_item longest (place_in h (suc room)) (record { bytes = bytes; facts = value_of fact ∷ [] }) next
-      (value_of fact) h (suc room) is refl refl in
+    (value_of fact) h (suc room) is refl refl in
     fact_fits longest (place_in h (suc room)) next h bytes bytes fact begun refl is lists spelled with
 
 -- it is there
 pub read_within : (longest : ℕ) (from : Progress) (bytes : List ℕ) (item : ItemValue) (n : ℕ) → IsBytes bytes → from.room ≤ longest_body
-  → IsReadAt longest from bytes item n → n ≤ length bytes
+    → IsReadAt longest from bytes item n → n ≤ length bytes
 read_within longest from bytes item n are small e =
     (item_found longest (place_of from) bytes (record { next = place_after (place_of from) item n; facts = facts_of item }) n
-      (room_behind from.header from.room small) are e).0
+    (room_behind from.header from.room small) are e).0
 
 pub given_fits : (longest : ℕ) (from : Progress) (bytes : List ℕ) (item : ItemValue) (n : ℕ) (begun : Option IdSize) → IsBytes bytes
-  → from.room ≤ longest_body → IsReadAt longest from bytes item n
+    → from.room ≤ longest_body → IsReadAt longest from bytes item n
     → IsOfPlace (place_of from) bytes item → ItemLists from.header item → IsBegun from.header begun → GivesFit begun item (take n bytes)
 given_fits longest from bytes item n begun are small e of lists with =
     let read = item_found longest (place_of from) bytes (record { next = place_after (place_of from) item n; facts = facts_of item }) n
-      (room_behind from.header from.room small) are e in
+    (room_behind from.header from.room small) are e in
     fit_at longest from.header from.room (take n bytes) (place_after (place_of from) item n) item begun read.2 of.0 lists with
 
 -- the item that was read
 told_next : (header : Option Header) (room : ℕ) (item : ItemValue) (n : ℕ) → Stands (place_behind header room) item
-  → header_before (place_after (place_behind header room) item n) ≡ told_by header item
+    → header_before (place_after (place_behind header room) item n) ≡ told_by header item
 told_next None room (items.Header h) n stands = refl
 told_next None room (items.Fact fact) n stands = absurd stands
 told_next None room (items.Dump len) n stands = absurd stands
@@ -425,7 +447,7 @@ told_next (Some h) (suc room) items.Skipped n stands = absurd stands
 told_next (Some h) (suc room) (items.Sub fact) n stands = header_in h (suc room - n)
 
 given_none : (header : Option Header) (room : ℕ) (item : ItemValue) → Stands (place_behind header room) item → GivesSome item
-  → facts_of item ≡ [] → header ≡ None
+    → facts_of item ≡ [] → header ≡ None
 given_none None room item stands some nothing = refl
 given_none (Some h) zero (items.Header other) stands some nothing = absurd stands
 given_none (Some h) (suc room) (items.Header other) stands some nothing = absurd stands
@@ -437,15 +459,15 @@ given_none (Some h) room (items.Sub fact) stands some nothing = absurd cc
 
 -- a whole item that the sink refuses
 pub Stops-refused : {S : Type 0} (refuses : S → List FactValue → SinkFault → Type 0) (failed : S → Bool) (from : Progress)
-  (bytes : List ℕ) (item : ItemValue) (n : ℕ) (old new : S) (fault : SinkFault)
+    (bytes : List ℕ) (item : ItemValue) (n : ℕ) (old new : S) (fault : SinkFault)
     → IsBytes bytes → from.room ≤ longest_body → IsReadAt from.limits.max_item from bytes item n → IsOfPlace (place_of from) bytes item
-      → GivesSome item → Refuses refuses failed old (facts_of item) fault new
+    → GivesSome item → Refuses refuses failed old (facts_of item) fault new
     → Stops refuses failed from bytes old (faults.Sink fault) (told_by from.header item) new
 Stops-refused refuses failed from bytes item n old new fault are small e of some refused =
     let place = place_of from in
     let next = place_after place item n in
     let read = item_found from.limits.max_item place bytes (record { next = next; facts = facts_of item }) n
-      (room_behind from.header from.room small) are e in (
+    (room_behind from.header from.room small) are e in (
       record { bytes = take n bytes; facts = facts_of item },
       next,
       drop n bytes,
@@ -458,9 +480,9 @@ Stops-refused refuses failed from bytes item n old new fault are small e of some
 
 -- and counted
 next_at : (longest : ℕ) (header : Option Header) (room n : ℕ) (bytes : List ℕ) (next : Place) (item : ItemValue) (progress : Progress)
-  → progress.room ≡ room → 0 < n → length bytes ≡ n
+    → progress.room ≡ room → 0 < n → length bytes ≡ n
     → IsItem longest (place_behind header room) (record { bytes = bytes; facts = facts_of item }) next
-      → Stands (place_behind header room) item → IsNext progress item n
+    → Stands (place_behind header room) item → IsNext progress item n
 next_at longest header room n bytes next (items.Header h) progress e some len is stands = some
 next_at longest header room n bytes next (items.Fact fact) progress e some len is stands = some
 next_at longest header room n bytes next (items.Dump size) progress e some len is stands = some
@@ -473,14 +495,14 @@ next_at longest (Some h) (suc room) n bytes next (items.Sub fact) progress e som
     (some, omega (arith, within, len, e))
 
 pub next_counted : (longest : ℕ) (from : Progress) (bytes : List ℕ) (item : ItemValue) (n : ℕ) → IsBytes bytes
-  → from.room ≤ longest_body → IsReadAt longest from bytes item n
+    → from.room ≤ longest_body → IsReadAt longest from bytes item n
     → IsOfPlace (place_of from) bytes item → IsCounted from (length bytes) → IsCounted from n × IsNext from item n
 next_counted longest from bytes item n are small e of counted =
     let read = item_found longest (place_of from) bytes (record { next = place_after (place_of from) item n; facts = facts_of item }) n
-      (room_behind from.header from.room small) are e in (
+    (room_behind from.header from.room small) are e in (
       IsCounted-less from (length bytes) n counted read.0,
       next_at longest from.header from.room n (take n bytes) (place_after (place_of from) item n) item from refl read.1
-        (length-take-le n bytes read.0) read.2 of.0,
+          (length-take-le n bytes read.0) read.2 of.0,
     )
 
 -- ---- on from a walk
@@ -488,13 +510,13 @@ next_counted longest from bytes item n are small e of counted =
 module _ {S : Type 0} (begins : S → Header → S → Type 0) (steps : S → FactValue → S → Type 0) where
   -- there is room for what is left
   pub Walks-counted : (longest : ℕ) (from to : Progress) (bytes rest : List ℕ) (old new : S)
-    → Walks begins steps longest from bytes old to rest new → IsCounted from (length bytes) → IsCounted to (length rest)
+      → Walks begins steps longest from bytes old to rest new → IsCounted from (length bytes) → IsCounted to (length rest)
   Walks-counted longest from to bytes rest old new walk counted =
       let size = items_size longest (place_of from) (place_of to) walk.items walk.each in
       let begun = records_size longest (place_of from) (place_of to) walk.items walk.each in
       let limit : to.limits.max_bytes ≡ from.limits.max_bytes = ap (λ (l : Limits). l.max_bytes) walk.same_limits in
       let len : length bytes ≡ length (all_bytes walk.items) + length rest = ap length walk.parts
-        ∙ length-append (all_bytes walk.items) rest in
+      ∙ length-append (all_bytes walk.items) rest in
       record {
         limit = omega (arith, counted.limit, limit);
         room = omega (arith, counted.room, walk.offset, limit, len);
@@ -504,14 +526,14 @@ module _ {S : Type 0} (begins : S → Header → S → Type 0) (steps : S → Fa
 
   -- and for others, where they are no more than what was left of more
   pub Walks-counted-less : (longest : ℕ) (from to : Progress) (bytes rest : List ℕ) (old new : S) (extra left : ℕ)
-    → Walks begins steps longest from bytes old to rest new → IsCounted from extra → length bytes + left ≤ extra + length rest
-    → IsCounted to left
+      → Walks begins steps longest from bytes old to rest new → IsCounted from extra → length bytes + left ≤ extra + length rest
+      → IsCounted to left
   Walks-counted-less longest from to bytes rest old new extra left walk counted few =
       let size = items_size longest (place_of from) (place_of to) walk.items walk.each in
       let begun = records_size longest (place_of from) (place_of to) walk.items walk.each in
       let limit : to.limits.max_bytes ≡ from.limits.max_bytes = ap (λ (l : Limits). l.max_bytes) walk.same_limits in
       let len : length bytes ≡ length (all_bytes walk.items) + length rest = ap length walk.parts
-        ∙ length-append (all_bytes walk.items) rest in
+      ∙ length-append (all_bytes walk.items) rest in
       record {
         limit = omega (arith, counted.limit, limit);
         room = omega (arith, counted.room, walk.offset, limit, len, few);
@@ -521,11 +543,11 @@ module _ {S : Type 0} (begins : S → Header → S → Type 0) (steps : S → Fa
 
   -- a step from where a walk ended goes under the walk's limit
   pub Walks-at : (less longest : ℕ) (from to : Progress) (bytes rest : List ℕ) (old new : S) → less ≡ longest
-    → Walks begins steps less from bytes old to rest new → Walks begins steps longest from bytes old to rest new
+      → Walks begins steps less from bytes old to rest new → Walks begins steps longest from bytes old to rest new
   Walks-at less longest from to bytes rest old new same walk = subst (λ (l : ℕ). Walks begins steps l from bytes old to rest new) same walk
 
 -- the limit of items where a walk ended
 pub same_item : {S : Type 0} (begins : S → Header → S → Type 0) (steps : S → FactValue → S → Type 0) (longest : ℕ) (from to : Progress)
-  (bytes rest : List ℕ) (old new : S)
+    (bytes rest : List ℕ) (old new : S)
     → Walks begins steps longest from bytes old to rest new → to.limits.max_item ≡ from.limits.max_item
 same_item begins steps longest from to bytes rest old new walk = ap (λ (l : Limits). l.max_item) walk.same_limits

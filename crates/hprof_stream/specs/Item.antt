@@ -65,25 +65,25 @@ may_end (Within header room) = false
 -- dump record the head is an item, and each sub-record; a record that is passed over is one.
 pub data IsItem (longest : ℕ) : Place → Stated → Place → Type 0 where
   is_header : {one : Stated} {header : Header} → IsMillis header.millis → one.bytes ≡ header_bytes header → one.facts ≡ []
-    → IsItem longest Start one (Between header)
+      → IsItem longest Start one (Between header)
   is_fact : {one : Stated} {header : Header} {fact : FactValue} → IsFactRecord header.ids one.bytes fact
-    → length one.bytes ≤ 9 + longest → one.facts ≡ fact ∷ [] → IsItem longest (Between header) one (Between header)
+      → length one.bytes ≤ 9 + longest → one.facts ≡ fact ∷ [] → IsItem longest (Between header) one (Between header)
   is_dump_end : {one : Stated} {header : Header} → IsEndRecord one.bytes → one.facts ≡ []
-    → IsItem longest (Between header) one (Between header)
+      → IsItem longest (Between header) one (Between header)
   is_dump : {one : Stated} {header : Header} {tag time len : ℕ} → is_dump_tag tag ≡ true → time < 256 ^ 4 → len ≤ longest_body
-    → one.bytes ≡ head_bytes tag time len → one.facts ≡ []
+      → one.bytes ≡ head_bytes tag time len → one.facts ≡ []
       → IsItem longest (Between header) one (place_in header len)
   is_sub : {one : Stated} {header : Header} {room : ℕ} {fact : FactValue} → IsSubFact header.ids fact
-    → one.bytes ≡ dump_bytes header.ids fact → length one.bytes ≤ room → length one.bytes ≤ longest
+      → one.bytes ≡ dump_bytes header.ids fact → length one.bytes ≤ room → length one.bytes ≤ longest
       → one.facts ≡ fact ∷ [] → IsItem longest (Within header room) one (place_in header (room - length one.bytes))
   is_skipped : {one : Stated} {header : Header} → IsSkippedRecord one.bytes → one.facts ≡ []
-    → IsItem longest (Between header) one (Between header)
+      → IsItem longest (Between header) one (Between header)
 
 -- items one after the other, from one place to another
 pub data AreItems (longest : ℕ) : Place → List Stated → Place → Type 0 where
   none : {place : Place} → AreItems longest place [] place
   more : {from mid to : Place} {one : Stated} {items : List Stated} → IsItem longest from one mid → AreItems longest mid items to
-    → AreItems longest from (one ∷ items) to
+      → AreItems longest from (one ∷ items) to
 
 -- how many records an item at that place begins: those between records begin one
 abbrev pub begun_at : Place → ℕ

@@ -29,8 +29,12 @@ IsNext progress item len = 0 < len
 -- behind an item of so many bytes
 abbrev pub advanced : Progress → ItemValue → ℕ → Progress
 advanced progress (items.Header header) len = record progress { header = Some header; at = progress.at + len; room = 0 }
-advanced progress (items.Fact fact) len = record progress { at = progress.at + len; records = progress.records + 1; facts =
-  progress.facts + 1 }
+advanced progress (items.Fact fact) len = record progress {
+  at = progress.at + len;
+  records = progress.records + 1;
+  facts =
+      progress.facts + 1;
+}
 advanced progress (items.Dump room) len = record progress { at = progress.at + len; records = progress.records + 1; room = room }
 advanced progress items.End len = record progress { at = progress.at + len; records = progress.records + 1; ended = true }
 advanced progress items.Skipped len = record progress { at = progress.at + len; records = progress.records + 1 }

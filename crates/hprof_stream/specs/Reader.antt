@@ -116,7 +116,7 @@ module _ {S : Type 0} (begins : S → Header → S → Type 0) (steps : S → Fa
     pub ran : Run begins steps old (became from (header_before whole.before)) handed new
 
 module _ {S : Type 0} (begins : S → Header → S → Type 0) (steps : S → FactValue → S → Type 0) (refuses : S → List FactValue → SinkFault
-  → Type 0) (failed : S → Bool) where
+    → Type 0) (failed : S → Bool) where
   -- a fault of an item, which no further byte changes: the first fault of the bytes that are taken
   abbrev pub IsItemFault : Limits → List ℕ → List FactValue → Option Header → Option Header → S → PartFault → S → Type 0
   IsItemFault limits bytes facts before after old fault new =
@@ -147,7 +147,7 @@ module _ {S : Type 0} (begins : S → Header → S → Type 0) (steps : S → Fa
   abbrev pub LacksMemory : Limits → List ℕ → List FactValue → Option Header → List ℕ → S → Option Header → S → Type 0
   LacksMemory limits bytes facts before piece old after new =
       ((length (bytes ++ piece) ≤ limits.max_bytes) × HasNoSettledFault limits.max_item (bytes ++ piece)
-        × IsWithinItem limits.max_item (bytes ++ piece)
+      × IsWithinItem limits.max_item (bytes ++ piece)
       × RanOver begins steps limits.max_item (bytes ++ piece) facts before after old new)
       ⊎ ((length bytes < limits.max_bytes) × IsWithinItem limits.max_item bytes × (after ≡ before) × (old ≡ new))
 
@@ -167,7 +167,7 @@ module _ {S : Type 0} (begins : S → Header → S → Type 0) (steps : S → Fa
 abbrev pub Finishes : Limits → List ℕ → List FactValue → Option Header → Result PartSummary PartFault → Type 0
 Finishes limits bytes facts header (Ok summary) =
     HasNoFault limits.max_item bytes × IsSummary bytes summary × IsPart bytes summary.header.ids summary.header.millis facts
-      × (header ≡ Some summary.header)
+    × (header ≡ Some summary.header)
 Finishes limits bytes facts header (Err fault) = IsFirstFault limits.max_item bytes fault × (is_settled fault ≡ false)
 
 -- ---- a part from a source
@@ -177,7 +177,7 @@ Finishes limits bytes facts header (Err fault) = IsFirstFault limits.max_item by
 abbrev pub IsUnheld : Limits → List ℕ → List ℕ → Type 0
 IsUnheld limits front piece =
     ((length (front ++ piece) ≤ limits.max_bytes) × HasNoSettledFault limits.max_item (front ++ piece)
-      × IsWithinItem limits.max_item (front ++ piece))
+    × IsWithinItem limits.max_item (front ++ piece))
     ⊎ ((length front < limits.max_bytes) × IsWithinItem limits.max_item front)
 
 module _ {R : Type 0} (left : R → Option (List ℕ)) (pulls : R → ℕ) where
@@ -191,7 +191,7 @@ module _ {R : Type 0} (left : R → Option (List ℕ)) (pulls : R → ℕ) where
   pub data Pulled (was : R) : List ℕ → ℕ → R → Type 0 where
     none : Pulled was [] 0 was
     once_more : {came piece : List ℕ} {count : ℕ} {mid is : R} → Pulled was came count mid → IsPull mid piece is → 0 < length piece
-      → Pulled was (came ++ piece) (count + 1) is
+        → Pulled was (came ++ piece) (count + 1) is
 
   -- these bytes came, and then one pull more gave nothing; there were no more pulls than may be made
   pub record PulledOut (limits : Limits) (was : R) (came : List ℕ) (is : R) : Type 0 where
@@ -218,7 +218,7 @@ module _ {R : Type 0} (left : R → Option (List ℕ)) (pulls : R → ℕ) where
     pub unsettled : HasNoSettledFault limits.max_item front
 
 module _ {S : Type 0} (begins : S → Header → S → Type 0) (steps : S → FactValue → S → Type 0) (refuses : S → List FactValue → SinkFault
-  → Type 0) (failed : S → Bool) where
+    → Type 0) (failed : S → Bool) where
   -- nothing is wrong in the bytes, which are no more than may come, and the sink has run over all that is whole
   abbrev pub IsJudged : Limits → List ℕ → S → S → Type 0
   IsJudged limits came old new =
@@ -243,29 +243,29 @@ module _ {S : Type 0} (begins : S → Header → S → Type 0) (steps : S → Fa
 
 module _ {R : Type 0} (left : R → Option (List ℕ)) (health : R → Health) (pulls : R → ℕ)
     {S : Type 0} (begins : S → Header → S → Type 0) (steps : S → FactValue → S → Type 0) (refuses : S → List FactValue → SinkFault
-      → Type 0) (failed : S → Bool) where
+    → Type 0) (failed : S → Bool) where
   -- what reading a part to its end comes to, where these bytes came from a source
   --   was, is: the source, before and afterwards
   abbrev pub ReadsPart : Limits → R → List ℕ → R → S → Result PartSummary PartFault → S → Type 0
   ReadsPart limits was came is old (Ok summary) new =
       PulledOut left pulls limits was came is × IsAtEnd (left is) × (health is ≡ healths.Well) × (length came ≤ limits.max_bytes)
-        × HasNoFault limits.max_item came × IsSummary came summary
+      × HasNoFault limits.max_item came × IsSummary came summary
       × ((facts : List FactValue) × IsPart came summary.header.ids summary.header.millis facts
-        × Run begins steps old (Some summary.header) facts new)
+      × Run begins steps old (Some summary.header) facts new)
   ReadsPart limits was came is old (Err faults.Read) new =
       PulledOut left pulls limits was came is × (health is ≡ healths.Failed) × IsJudged begins steps refuses failed limits came old new
   ReadsPart limits was came is old (Err faults.ReadsExceeded) new =
       Pulled left pulls was came limits.max_reads is × (health is ≡ healths.Well) × IsJudged begins steps refuses failed limits came old new
   ReadsPart limits was came is old (Err (faults.Malformed at Truncated)) new =
       PulledOut left pulls limits was came is × IsAtEnd (left is) × (health is ≡ healths.Well) × (length came ≤ limits.max_bytes)
-        × IsFirstFault limits.max_item came (faults.Malformed at Truncated)
+      × IsFirstFault limits.max_item came (faults.Malformed at Truncated)
       × ((header : Option Header) × RanOver begins steps limits.max_item came [] None header old new)
   ReadsPart limits was came is old (Err faults.OutOfMemory) new =
       (health is ≡ healths.Well) × (((came ≡ []) × (was ≡ is) × (old ≡ new))
       ⊎ ((last : CameLast left pulls limits was came is) × LacksAtLast begins steps refuses failed limits last.front last.piece old new))
   ReadsPart limits was came is old (Err (faults.Sink fault)) new =
       (health is ≡ healths.Well) × ((last : CameLast left pulls limits was came is)
-        × RefusesAtLast begins steps refuses failed limits last.front came old fault new)
+      × RefusesAtLast begins steps refuses failed limits last.front came old fault new)
   ReadsPart limits was came is old (Err fault) new =
       CameLast left pulls limits was came is × (health is ≡ healths.Well)
-        × ((header : Option Header) × IsFeedFault begins steps refuses failed limits came [] None header old fault new)
+      × ((header : Option Header) × IsFeedFault begins steps refuses failed limits came [] None header old fault new)

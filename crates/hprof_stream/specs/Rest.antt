@@ -23,7 +23,7 @@ use Rattle.hprof_stream.specs.Item.{Place, Between, Within, is_skipped_kind, hel
 -- how much was seen of a record that is passed over, once its head is there
 abbrev pub passing_by : Step Head → ℕ → Option Passing
 passing_by (Whole head n) seen = if is_skipped_kind (kind_of head.tag) then Some (record { seen = seen; left = 9 + head.length - seen })
-  else None
+    else None
 passing_by _ seen = None
 
 abbrev pub passing_of : ℕ → Place → List ℕ → Option Passing
@@ -39,7 +39,7 @@ walk_at (Entries kind left at) = at
 pub record IsWalked (ids : IdSize) (room longest : ℕ) (bytes : List ℕ) (walk : Walk) : Type 0 where
   pub placed : walk_at walk ≤ length bytes
   pub same : (more : List ℕ) → walked ids (bounds_within room longest (bytes ++ more)) (bytes ++ more) walk
-    ≡ walked ids (bounds_within room longest (bytes ++ more)) (bytes ++ more) Front
+      ≡ walked ids (bounds_within room longest (bytes ++ more)) (bytes ++ more) Front
 
 abbrev pub IsWalkOf : ℕ → Place → List ℕ → Walk → Type 0
 IsWalkOf longest (Within header room) bytes walk = IsWalked header.ids room longest bytes walk
@@ -70,9 +70,9 @@ pub record KeepsRoom (old : Rest) (came : ℕ) (new : Rest) (left : ℕ) : Type 
 abbrev pub PassesOver : Progress → (front bytes : List ℕ) → Progress → List ℕ → Rest → Type 0
 PassesOver from front bytes to left rest =
     ((n : ℕ) × (item_at from.limits.max_item (place_of from) (front ++ bytes) ≡ Whole (record { next = place_of from; facts = [] }) n)
-      × (to ≡ advanced from items.Skipped n)
+    × (to ≡ advanced from items.Skipped n)
     × (left ≡ drop n (front ++ bytes)) × IsOfPlace (place_of from) (front ++ bytes) items.Skipped
-      × IsRest from.limits.max_item (place_of from) [] rest)
+    × IsRest from.limits.max_item (place_of from) [] rest)
     ⊎ ((to ≡ from) × (left ≡ []) × IsRest from.limits.max_item (place_of from) (front ++ bytes) rest)
 
 -- what a reader keeps has this many bytes of the part behind it

@@ -50,12 +50,12 @@ module _ {S : Type 0} (refuses : S → List FactValue → SinkFault → Type 0) 
   abbrev pub Stops : Progress → List ℕ → S → PartFault → Option Header → S → Type 0
   Stops progress bytes old (faults.Malformed at reason) told new =
       (item_at progress.limits.max_item (place_of progress) bytes ≡ Fault reason) × (at ≡ progress.at) × (told ≡ progress.header)
-        × (old ≡ new)
+      × (old ≡ new)
   Stops progress bytes old (faults.ItemTooLong at) told new =
       (item_at progress.limits.max_item (place_of progress) bytes ≡ TooLong) × (at ≡ progress.at) × (told ≡ progress.header) × (old ≡ new)
   Stops progress bytes old (faults.Sink fault) told new =
       (one : Stated) × (next : Place) × (back : List ℕ) × IsItem progress.limits.max_item (place_of progress) one next
-        × (header_before next ≡ told)
+      × (header_before next ≡ told)
       × (one.facts ≡ [] → progress.header ≡ None) × (bytes ≡ one.bytes ++ back) × Refuses old one.facts fault new
   Stops progress bytes old faults.OutOfMemory told new = ⊥
   Stops progress bytes old faults.Failed told new = ⊥
@@ -65,7 +65,7 @@ module _ {S : Type 0} (refuses : S → List FactValue → SinkFault → Type 0) 
 
 -- whether and how one item at the front of the bytes was stepped over: by so many bytes, not yet, or never
 module _ {S : Type 0} (begins : S → Header → S → Type 0) (steps : S → FactValue → S → Type 0) (refuses : S → List FactValue → SinkFault
-  → Type 0) (failed : S → Bool) where
+    → Type 0) (failed : S → Bool) where
   abbrev pub StepsOver : Progress → List ℕ → S → Result (Option ℕ) PartFault → Progress → S → Type 0
   StepsOver from bytes old (Ok None) to new =
       (item_at from.limits.max_item (place_of from) bytes ≡ Short) × (from ≡ to) × (old ≡ new)
@@ -73,7 +73,7 @@ module _ {S : Type 0} (begins : S → Header → S → Type 0) (steps : S → Fa
       Walks begins steps from.limits.max_item from bytes old to (drop n bytes) new × (0 < n) × (n ≤ length bytes)
       × ((found : Found) × (item_at from.limits.max_item (place_of from) bytes ≡ Whole found n))
   StepsOver from bytes old (Err fault) to new = Stops refuses failed from bytes old fault to.header new
-    × (to ≡ record from { header = to.header })
+      × (to ≡ record from { header = to.header })
 
   -- whole items were walked over, and of the next one these bytes were shown, and it was refused
   pub record Halts (from : Progress) (bytes : List ℕ) (old : S) (fault : PartFault) (to : Progress) (new : S) : Type 0 where
@@ -97,7 +97,7 @@ module _ {S : Type 0} (begins : S → Header → S → Type 0) (steps : S → Fa
   GoesOn from front bytes old to left rest new =
       (Walks begins steps from.limits.max_item from (front ++ bytes) old to left new × IsRest from.limits.max_item (place_of to) [] rest)
       ⊎ ((to ≡ from) × (old ≡ new) × ((still : List ℕ) × (front ++ bytes ≡ still ++ left)
-        × IsRest from.limits.max_item (place_of from) still rest))
+      × IsRest from.limits.max_item (place_of from) still rest))
 
   -- memory was wanted for an item of which bytes are held, when more came, before anything was handed on
   pub record WantsMemory (from : Progress) (front bytes : List ℕ) (old : S) (to : Progress) (new : S) : Type 0 where
@@ -121,7 +121,7 @@ module _ {S : Type 0} (begins : S → Header → S → Type 0) (steps : S → Fa
   abbrev pub ReadsOn : Progress → (front bytes : List ℕ) → S → Result (List ℕ) PartFault → Progress → Rest → S → Type 0
   ReadsOn from front bytes old (Ok left) to rest new =
       (still : List ℕ) × Walks begins steps from.limits.max_item from (front ++ bytes) old to (still ++ left) new
-        × IsRest from.limits.max_item (place_of to) still rest
+      × IsRest from.limits.max_item (place_of to) still rest
       × (item_at from.limits.max_item (place_of to) (still ++ left) ≡ Short) × ((still ≡ []) ⊎ (left ≡ []))
   ReadsOn from front bytes old (Err fault) to rest new = IsHalted from front bytes old fault to new
 
@@ -139,7 +139,7 @@ IsBegun (Some header) begun = begun ≡ Some header.ids
 abbrev pub GivesFit : Option IdSize → ItemValue → List ℕ → Type 0
 GivesFit begun (items.Fact fact) bytes = FitsBegun begun (value_of fact) × ListsHaveBegun begun fact × SpellsBegun begun (value_of fact) []
 GivesFit begun (items.Sub fact) bytes = FitsBegun begun (value_of fact) × ListsHaveBegun begun fact
-  × SpellsBegun begun (value_of fact) bytes
+    × SpellsBegun begun (value_of fact) bytes
 GivesFit begun item bytes = ⊤
 
 -- the header that was read once this item was

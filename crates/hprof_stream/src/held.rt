@@ -1,6 +1,7 @@
 //! The bytes of an item that is not whole yet.
 
-ghost use Rattle.std.specs.Prelude.{◌≡◌, ◌⊎◌, ◌+◌, ◌<◌, ◌≤◌, ◌++◌, ℕ, List, [], length, vec_len, vec_capacity, min, max, true, None, Some, Err, IfOk, OnOk, OnErr, IfSome};
+ghost use Rattle.std.specs.Prelude.{◌≡◌, ◌⊎◌, ◌+◌, ◌<◌, ◌≤◌, ◌++◌, ℕ, List, [], length, vec_len, vec_capacity, min, max, true, None, Some};
+ghost use Rattle.std.specs.Prelude.{Err, IfOk, OnOk, OnErr, IfSome};
 ghost use Rattle.hprof_items.specs.declared.step.Step.TheVariants.{Short};
 ghost use Rattle.hprof_values.specs.Ids.{IsBytes};
 ghost use Rattle.hprof_items.specs.SubReading.{bounds_within};
@@ -74,7 +75,8 @@ fn walks_short(progress: &Progress, rest: &mut Rest) -> bool
         → IsWalkOf progress.now.limits.max_item (place_of progress.now) rest.old.held.items rest.new.walk
         × (result ≡ true → item_at progress.now.limits.max_item (place_of progress.now) rest.old.held.items ≡ Short) }
     ensures stands { (header : Header) → progress.now.header ≡ Some header → result ≡ true
-        → StopsIn header.ids (bounds_within progress.now.room progress.now.limits.max_item rest.old.held.items) rest.old.held.items rest.new.walk Stop.Short }
+        → StopsIn header.ids (bounds_within progress.now.room progress.now.limits.max_item rest.old.held.items) rest.old.held.items
+        rest.new.walk Stop.Short }
     ensures held_whole { result ≡ true → passing_of progress.now.limits.max_item (place_of progress.now) rest.old.held.items ≡ None }
 {
     let Some(header) = progress.header else {
@@ -125,11 +127,13 @@ fn finish_once<'a, S: Sink>(
     requires holds { 0 < length rest.old.held.items }
     requires some { 0 < length bytes.now }
     ensures finished { (front : List ℕ) → IsRest progress.old.limits.max_item (place_of progress.old) front rest.old
-        → FinishesHeld S.begins S.steps S.refuses S.failed progress.old front bytes.now sink.old (seen result) progress.new rest.new sink.new }
+        → FinishesHeld S.begins S.steps S.refuses S.failed progress.old front bytes.now sink.old (seen result) progress.new rest.new
+        sink.new }
     ensures sound { OnOk result (IsSound rest.new) }
     ensures full { result ≡ Err PartFault.OutOfMemory → NeedsGrowth rest.old (length bytes.now) }
     ensures room { IfOk result (λ left. KeepsRoom rest.old (length bytes.now) rest.new (length left.now)) }
-    ensures shorter { IfOk result (λ left. length left.now + min 1 (length rest.new.held.items) < length bytes.now + min 1 (length rest.old.held.items)) }
+    ensures shorter { IfOk result (λ left. length left.now + min 1 (length rest.new.held.items) < length bytes.now + min 1
+        (length rest.old.held.items)) }
     ensures less { IfOk result (λ left. length left.now ≤ length bytes.now) }
     ensures counted { IfOk result (λ left. IsCounted progress.new (rest_len rest.new + length left.now)) }
     ensures begun { OnOk result (IsBegun progress.new.header (S.begun sink.new)) }
@@ -162,7 +166,8 @@ fn finish_held<'a, S: Sink>(
     requires begun { IsBegun progress.old.header (S.begun sink.old) }
     requires sound { IsSound rest.old }
     ensures finished { (front : List ℕ) → IsRest progress.old.limits.max_item (place_of progress.old) front rest.old
-        → FinishesHeld S.begins S.steps S.refuses S.failed progress.old front bytes.now sink.old (seen result) progress.new rest.new sink.new }
+        → FinishesHeld S.begins S.steps S.refuses S.failed progress.old front bytes.now sink.old (seen result) progress.new rest.new
+        sink.new }
     ensures full { result ≡ Err PartFault.OutOfMemory → NeedsGrowth rest.old (length bytes.now) }
     ensures room { IfOk result (λ left. KeepsRoom rest.old (length bytes.now) rest.new (length left.now)) }
     ensures done { IfOk result (λ left. (length rest.new.held.items ≡ 0) ⊎ (left.now ≡ [])) }
@@ -216,7 +221,8 @@ pub(crate) fn keep(progress: &Progress, rest: &mut Rest, left: &[u8]) -> Result<
         → item_at progress.now.limits.max_item (place_of progress.now) (still ++ left.now) ≡ Short → (still ≡ []) ⊎ (left.now ≡ [])
         → IsRest progress.now.limits.max_item (place_of progress.now) (still ++ left.now) rest.new) }
     ensures err { OnErr result ((result ≡ Err PartFault.OutOfMemory) × (0 < length left.now)
-        × ((still : List ℕ) → (still ≡ []) ⊎ (left.now ≡ []) → 0 < length (held_of progress.now.limits.max_item (place_of progress.now) (still ++ left.now)))) }
+        × ((still : List ℕ) → (still ≡ []) ⊎ (left.now ≡ [])
+        → 0 < length (held_of progress.now.limits.max_item (place_of progress.now) (still ++ left.now)))) }
     ensures full { OnErr result (NeedsGrowth rest.old (length left.now)) }
     ensures sound { OnOk result (IsSound rest.new) }
     ensures counted { OnOk result (IsCounted progress.now (rest_len rest.new)) }

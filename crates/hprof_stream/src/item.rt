@@ -51,7 +51,8 @@ pub(crate) fn first_item(bytes: &[u8], longest: u32) -> Step<Item>
 fn fact_item<'a>(header: &Header, head: &Head, bytes: &'a [u8], fact: &mut Fact<'a>) -> Step<Item>
     requires whole { IsRightHead header.now.ids longest_body head.now }
     requires kind { kind_of head.now.tag ≡ HeadKind.FactRecord }
-    ensures found { IsFound (Between header.now) (step_with result fact.new) (found_record header.now HeadKind.FactRecord head.now bytes.now) }
+    ensures found { IsFound (Between header.now) (step_with result fact.new)
+        (found_record header.now HeadKind.FactRecord head.now bytes.now) }
     ensures fact { IfRead (step_with result fact.new) IsFact }
     ensures lists { IfRead (step_with result fact.new) (ItemLists (Some header.now)) }
 {
@@ -67,7 +68,8 @@ fn fact_item<'a>(header: &Header, head: &Head, bytes: &'a [u8], fact: &mut Fact<
 
 /// A record that is passed over, of which the head was read.
 fn skipped_item(header: &Header, head: &Head, bytes: &[u8]) -> Step<Item>
-    ensures found { (fact : Fact) → IsFound (Between header.now) (step_with result fact) (found_record header.now HeadKind.Skipped head.now bytes.now) }
+    ensures found { (fact : Fact) → IsFound (Between header.now) (step_with result fact)
+        (found_record header.now HeadKind.Skipped head.now bytes.now) }
     ensures skipped { (fact : Fact) → IfRead (step_with result fact) (λ item. item ≡ Skipped) }
 {
     let len = HEAD_LEN + head.length as usize;

@@ -29,7 +29,8 @@ pub struct PartReader {
 }
 
 impl PartReader {
-    ghost use Rattle.hprof_stream.specs.Reader.{HasRead, HasNoRoom, LacksRoom, header_of, has_failed, IsReady, IsUnfinished, longest_held, Feeds, Finishes};
+    ghost use Rattle.hprof_stream.specs.Reader.{HasRead, HasNoRoom, LacksRoom, header_of, has_failed, IsReady, IsUnfinished, longest_held};
+    ghost use Rattle.hprof_stream.specs.Reader.{Feeds, Finishes};
     ghost use Rattle.hprof_stream.specs.declared.limits.Limits.{Limits};
 
     /// A reader that was fed nothing. It takes no memory yet.

@@ -55,7 +55,8 @@ impl Progress {
 
     /// The item at the front. The fact that it states is put in the place of the fact.
     fn item<'a>(&self, bytes: &'a [u8], fact: &mut Fact<'a>) -> Step<Item>
-        ensures found { IsFound (place_of self.now) (step_with result fact.new) (item_at self.now.limits.max_item (place_of self.now) bytes.now) }
+        ensures found { IsFound (place_of self.now) (step_with result fact.new)
+            (item_at self.now.limits.max_item (place_of self.now) bytes.now) }
         ensures place { IfRead (step_with result fact.new) (IsOfPlace (place_of self.now) bytes.now) }
         ensures lists { IfRead (step_with result fact.new) (ItemLists self.now.header) }
         ensures room { self.now.room ≤ longest_body }
@@ -171,7 +172,8 @@ fn give<S: Sink>(
 ) -> Result<(), SinkFault>
     requires { GivesFit (S.begun sink.old) (with_fact item.now fact.now) spelled.now }
     ensures gives { OnOk result (Gives S.begins S.steps sink.old (with_fact item.now fact.now) sink.new) }
-    ensures begun { OnOk result ((header : Option Header) → IsBegun header (S.begun sink.old) → IsBegun (told_by header (with_fact item.now fact.now)) (S.begun sink.new)) }
+    ensures begun { OnOk result ((header : Option Header) → IsBegun header (S.begun sink.old)
+        → IsBegun (told_by header (with_fact item.now fact.now)) (S.begun sink.new)) }
     ensures refused { IfErr result (λ fault. GivesSome (with_fact item.now fact.now)
         × Refuses S.refuses S.failed sink.old (facts_of (with_fact item.now fact.now)) fault sink.new) }
 {

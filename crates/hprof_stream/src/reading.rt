@@ -32,7 +32,8 @@ fn feed_all<R: Source, S: Sink>(
     requires begun { IsReady reader.old (S.begun sink.old) }
     ensures fed { (limits : Limits) → HasRead limits [] [] reader.old → limits.max_reads ≡ max_reads
         → ((came : List ℕ) × Consumes (R.left source.old) (R.left source.new) came
-        × FeedsAll R.left R.health R.pulls S.begins S.steps S.refuses S.failed limits source.old came source.new sink.old result reader.new sink.new) }
+        × FeedsAll R.left R.health R.pulls S.begins S.steps S.refuses S.failed limits source.old came source.new sink.old result
+        reader.new sink.new) }
     ensures pulls { R.pulls source.new ≤ R.pulls source.old + max_reads }
 {
     for _ in 0..max_reads {

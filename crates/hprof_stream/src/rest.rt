@@ -78,7 +78,8 @@ impl Rest {
 pub(crate) fn pass_over<'a>(progress: &mut Progress, rest: &mut Rest, bytes: &'a [u8]) -> &'a [u8]
     requires counted { IsCounted progress.old (rest_len rest.old + length bytes.now) }
     requires sound { IsSound rest.old }
-    ensures passed { (front : List ℕ) (p : Passing) → rest.old.passing ≡ Some p → IsRest progress.old.limits.max_item (place_of progress.old) front rest.old
+    ensures passed { (front : List ℕ) (p : Passing) → rest.old.passing ≡ Some p
+        → IsRest progress.old.limits.max_item (place_of progress.old) front rest.old
         → PassesOver progress.old front bytes.now progress.new result.now rest.new }
     ensures none { rest.old.passing ≡ None → (progress.new ≡ progress.old) × (rest.new ≡ rest.old) × (result.now ≡ bytes.now) }
     ensures sound { IsSound rest.new }

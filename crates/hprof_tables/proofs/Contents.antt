@@ -26,7 +26,7 @@ module _ {V : Type 0} (content : V → List ℕ) where
   contents-row key rows = lookup-map_values content (is_at (nat_cmp key)) rows
 
   or-map : (found other : Option V) → option_map content (option_or found other) ≡ option_or (option_map content found)
-    (option_map content other)
+      (option_map content other)
   or-map None other = refl
   or-map (Some row) other = refl
 
@@ -37,12 +37,12 @@ module _ {V : Type 0} (content : V → List ℕ) where
   -- ---- rows that were missing
 
   pub missing_ascend : (rows others : List (ℕ × List ℕ)) (fresh : List (ℕ × V)) (missing : List (ℕ × List ℕ))
-    → AreMissing rows others missing
+      → AreMissing rows others missing
       → contents_of content fresh ≡ missing → IsAscending fresh
   missing_ascend rows others fresh missing are e = contents_down fresh (subst IsAscending (sym e) are.ascends)
 
   pub missing_apart : (rows fresh : List (ℕ × V)) (others missing : List (ℕ × List ℕ))
-    → AreMissing (contents_of content rows) others missing
+      → AreMissing (contents_of content rows) others missing
       → contents_of content fresh ≡ missing → AreApart rows fresh
   missing_apart rows fresh others missing are e key = by_row (row_at key rows) refl
     where
@@ -54,7 +54,7 @@ module _ {V : Type 0} (content : V → List ℕ) where
 
   -- the rows and those that they lacked are those of both
   pub missing_union : (rows fresh all : List (ℕ × V)) (others missing : List (ℕ × List ℕ))
-    → AreMissing (contents_of content rows) others missing
+      → AreMissing (contents_of content rows) others missing
       → contents_of content fresh ≡ missing → AreUnion rows fresh all → AreUnion (contents_of content rows) others (contents_of content all)
   missing_union rows fresh all others missing are e union = record {
     ascends = contents_up all union.ascends;
@@ -87,12 +87,12 @@ module _ {V : Type 0} (content : V → List ℕ) where
   }
 
   pub apart_rows : (rows fresh : List (ℕ × V)) (old : List (ℕ × List ℕ)) (new : List (ℕ × List ℕ)) → contents_of content rows ≡ old
-    → contents_of content fresh ≡ new
+      → contents_of content fresh ≡ new
       → AreApart old new → AreApart rows fresh
   apart_rows rows fresh old new e_old e_new apart key = elim (apart key) [
     | inl none ↦ inl (map-none (row_at key rows) (sym (contents-row key rows) ∙ ap (λ (l : List (ℕ × List ℕ)). row_at key l) e_old ∙ none))
     | inr none ↦ inr (map-none (row_at key fresh) (sym (contents-row key fresh) ∙ ap (λ (l : List (ℕ × List ℕ)). row_at key l) e_new
-      ∙ none))
+        ∙ none))
   ]
 
   pub ascend_of : (fresh : List (ℕ × V)) (new : List (ℕ × List ℕ)) → contents_of content fresh ≡ new → IsAscending new → IsAscending fresh
@@ -108,7 +108,7 @@ apart_missing rows others missing are key = by_row (row_at key rows) refl
     by_row (Some content) is = inr (are.each key ∙ ap (λ (found : Option (List ℕ)). only_other found (row_at key others)) is)
 
 pub union_missing : (rows others missing all : List (ℕ × List ℕ)) → AreMissing rows others missing → AreUnion rows missing all
-  → AreUnion rows others all
+    → AreUnion rows others all
 union_missing rows others missing all are union = record {
   ascends = union.ascends;
   each = λ key. union.each key ∙ ap (option_or (row_at key rows)) (are.each key) ∙ or_only (row_at key rows) (row_at key others);
@@ -119,4 +119,4 @@ pub bytes_missing : (left other_left rows others missing : List (ℕ × List ℕ
     → AreMissing left other_left missing → AreMissing rows others missing
 bytes_missing left other_left rows others missing e e_others are =
     subst (λ (l : List (ℕ × List ℕ)). AreMissing rows l missing) e_others
-      (subst (λ (l : List (ℕ × List ℕ)). AreMissing l other_left missing) e are)
+    (subst (λ (l : List (ℕ × List ℕ)). AreMissing l other_left missing) e are)

@@ -20,7 +20,7 @@ neither (Some content) = refl
 
 -- rows in order of which none is found up to a key are above it
 above : (bound : ℕ) (rows : List (ℕ × List ℕ)) → IsAscending rows → ((key : ℕ) → key ≤ bound → row_at key rows ≡ None)
-  → AllKeys (λ key. bound < key) rows
+    → AllKeys (λ key. bound < key) rows
 above bound [] up none = tt
 above bound (row ∷ rows) up none = elim (cases_lt bound row.0) [
   | inl lt ↦ (lt, AllKeys-weaker (λ key. row.0 < key) (λ key. bound < key) rows (λ key h. omega arith) (ascending_head row rows up))
@@ -30,13 +30,13 @@ above bound (row ∷ rows) up none = elim (cases_lt bound row.0) [
 -- none is found up to the first key among those behind it
 none_up_to : (key : ℕ) (row : ℕ × List ℕ) (rows : List (ℕ × List ℕ)) → IsAscending (row ∷ rows) → key ≤ row.0 → row_at key rows ≡ None
 none_up_to key row rows up le =
-  row_at-none key rows (AllKeys-weaker (λ k. row.0 < k) (λ k. key ≢ k) rows (λ k h e. omega arith) (ascending_head row rows up))
+    row_at-none key rows (AllKeys-weaker (λ k. row.0 < k) (λ k. key ≢ k) rows (λ k h e. omega arith) (ascending_head row rows up))
 
 -- ---- what only the others have
 
 -- what only one of two has is there, and not in the other
 only_is : (found other : Option (List ℕ)) (content : List ℕ) → only_other found other ≡ Some content → (other ≡ Some content)
-  × (found ≡ None)
+    × (found ≡ None)
 only_is None other content e = (e, refl)
 only_is (Some row) other content e = absurd cc
 
@@ -77,7 +77,7 @@ row_skipped row rows others none key = elim (cases_order key row.0) [
 ]
 
 pair_skipped : (row : ℕ × List ℕ) (rows : List (ℕ × List ℕ)) (other : ℕ × List ℕ) (others : List (ℕ × List ℕ))
-  → IsAscending (other ∷ others)
+    → IsAscending (other ∷ others)
     → row.0 ≡ other.0 → (key : ℕ)
     → only_other (row_at key rows) (row_at key others) ≡ only_other (row_at key (row ∷ rows)) (row_at key (other ∷ others))
 pair_skipped row rows other others more same key = elim (cases_order key row.0) [
@@ -94,9 +94,9 @@ pair_skipped row rows other others more same key = elim (cases_order key row.0) 
 
 -- what only those behind the first have, only the others have
 other_kept : (rows : List (ℕ × List ℕ)) (other : ℕ × List ℕ) (others : List (ℕ × List ℕ)) → IsAscending (other ∷ others)
-  → (key : ℕ) (content : List ℕ)
+    → (key : ℕ) (content : List ℕ)
     → only_other (row_at key rows) (row_at key others) ≡ Some content → only_other (row_at key rows) (row_at key (other ∷ others))
-      ≡ Some content
+    ≡ Some content
 other_kept rows other others more key content e = elim (cases_order key other.0) [
   | inl here ↦
       let le : key ≤ other.0 = omega (arith, here) in
@@ -107,7 +107,7 @@ other_kept rows other others more key content e = elim (cases_order key other.0)
 ]
 
 skip_row : (row : ℕ × List ℕ) (rows : List (ℕ × List ℕ)) (others missing : List (ℕ × List ℕ)) → IsAscending (row ∷ rows)
-  → row_at row.0 others ≡ None
+    → row_at row.0 others ≡ None
     → AreMissing rows others missing → AreMissing (row ∷ rows) others missing
 skip_row row rows others missing up none are = record {
   ascends = are.ascends;
@@ -115,7 +115,7 @@ skip_row row rows others missing up none are = record {
 }
 
 skip_pair : (row : ℕ × List ℕ) (rows : List (ℕ × List ℕ)) (other : ℕ × List ℕ) (others missing : List (ℕ × List ℕ))
-  → IsAscending (other ∷ others)
+    → IsAscending (other ∷ others)
     → row.0 ≡ other.0 → AreMissing rows others missing → AreMissing (row ∷ rows) (other ∷ others) missing
 skip_pair row rows other others missing more same are = record {
   ascends = are.ascends;
@@ -123,12 +123,12 @@ skip_pair row rows other others missing more same are = record {
 }
 
 keep_other : (rows : List (ℕ × List ℕ)) (other : ℕ × List ℕ) (others missing : List (ℕ × List ℕ)) → IsAscending (other ∷ others)
-  → row_at other.0 rows ≡ None
+    → row_at other.0 rows ≡ None
     → AreMissing rows others missing → AreMissing rows (other ∷ others) (other ∷ missing)
 keep_other rows other others missing more none are = record {
   ascends = ascending_cons other missing
       (above other.0 missing are.ascends (λ key le. are.each key
-        ∙ ap (only_other (row_at key rows)) (none_up_to key other others more le) ∙ neither (row_at key rows)))
+      ∙ ap (only_other (row_at key rows)) (none_up_to key other others more le) ∙ neither (row_at key rows)))
       are.ascends;
   each = λ key. elim (cases_order key other.0) [
     | inl here ↦
@@ -170,20 +170,20 @@ module _ (all all_others : List (ℕ × List ℕ)) where
       let none : behind content other_first others ≡ [] = ap (λ (o : Option (ℕ × R)). behind content o others) is in
       subst (AreMissing all all_others) (append-nil found)
       (s.follows [] (subst (λ (l : List (ℕ × List ℕ)). AreMissing rows l []) (sym none)
-        (nothing_missing rows (subst IsAscending none s.others_ascending))))
+      (nothing_missing rows (subst IsAscending none s.others_ascending))))
 
   pub search_taken : {S R : Type 0} (own : S → List ℕ) (content : R → List ℕ) (first : Option (ℕ × S)) (other_first : Option (ℕ × R))
-    (row : ℕ × S) (other : ℕ × R)
+      (row : ℕ × S) (other : ℕ × R)
       (rows others found : List (ℕ × List ℕ))
       → Search all all_others (behind own first rows) (behind content other_first others) found → first ≡ Some row
-        → other_first ≡ Some other
+      → other_first ≡ Some other
       → Search all all_others ((row.0, own row.1) ∷ rows) ((other.0, content other.1) ∷ others) found
   search_taken {S = S} {R = R} own content first other_first row other rows others found s is other_is =
       subst (λ (o : Option (ℕ × R)). Search all all_others ((row.0, own row.1) ∷ rows) (behind content o others) found) other_is
       (subst (λ (f : Option (ℕ × S)). Search all all_others (behind own f rows) (behind content other_first others) found) is s)
 
   pub search_ended : {S R : Type 0} (own : S → List ℕ) (content : R → List ℕ) (first : Option (ℕ × S)) (other_first : Option (ℕ × R))
-    (other : ℕ × R)
+      (other : ℕ × R)
       (rows others found : List (ℕ × List ℕ))
       → Search all all_others (behind own first rows) (behind content other_first others) found → first ≡ None → other_first ≡ Some other
       → Search all all_others [] ((other.0, content other.1) ∷ others) found
@@ -192,39 +192,39 @@ module _ (all all_others : List (ℕ × List ℕ)) where
       (subst (λ (f : Option (ℕ × S)). Search all all_others (behind own f rows) (behind content other_first others) found) is s)
 
   kept : (rows : List (ℕ × List ℕ)) (other : ℕ × List ℕ) (others found rest : List (ℕ × List ℕ))
-    → Search all all_others rows (other ∷ others) found
+      → Search all all_others rows (other ∷ others) found
       → row_at other.0 rows ≡ None → others ≡ rest → Search all all_others rows rest (found ++ other ∷ [])
   kept rows other others found rest s none e = subst (λ (l : List (ℕ × List ℕ)). Search all all_others rows l (found ++ other ∷ [])) e
-    (record {
-    ascending = s.ascending;
-    others_ascending = ascending_tail other others s.others_ascending;
-    follows = λ missing are. subst (AreMissing all all_others) (sym (append_assoc found (other ∷ []) missing))
-        (s.follows (other ∷ missing) (keep_other rows other others missing s.others_ascending none are));
-    only = λ key content is. s.only key content (other_kept rows other others s.others_ascending key content is);
-  })
+      (record {
+        ascending = s.ascending;
+        others_ascending = ascending_tail other others s.others_ascending;
+        follows = λ missing are. subst (AreMissing all all_others) (sym (append_assoc found (other ∷ []) missing))
+            (s.follows (other ∷ missing) (keep_other rows other others missing s.others_ascending none are));
+        only = λ key content is. s.only key content (other_kept rows other others s.others_ascending key content is);
+      })
 
   -- the first of the others is lacked where none of the rows has its key
   lacked : (rows : List (ℕ × List ℕ)) (other : ℕ × List ℕ) (others found : List (ℕ × List ℕ))
-    → Search all all_others rows (other ∷ others) found
+      → Search all all_others rows (other ∷ others) found
       → row_at other.0 rows ≡ None → LacksOne all all_others
   lacked rows other others found s none =
       lacks_one all all_others other.0 other.1 (s.only other.0 other.1
       (ap (λ (row : Option (List ℕ)). only_other row (row_at other.0 (other ∷ others))) none ∙ row_at-here other.0 other others refl))
 
   pub lacked_past : (other : ℕ × List ℕ) (others found : List (ℕ × List ℕ)) → Search all all_others [] (other ∷ others) found
-    → LacksOne all all_others
+      → LacksOne all all_others
   lacked_past other others found s = lacked [] other others found s refl
 
   -- a row of the others behind the last of these is missing
   pub search_past : (other : ℕ × List ℕ) (others found rest : List (ℕ × List ℕ)) → Search all all_others [] (other ∷ others) found
-    → others ≡ rest
+      → others ≡ rest
       → Search all all_others [] rest (found ++ other ∷ [])
   search_past other others found rest s e = kept [] other others found rest s refl e
 
   module _ (row other : ℕ × List ℕ) (rows others found : List (ℕ × List ℕ)) (s : Search all all_others (row ∷ rows) (other ∷ others)
-    found) where
+      found) where
     pub search_less : (rest : List (ℕ × List ℕ)) → nat_cmp row.0 other.0 ≡ Less → rows ≡ rest
-      → Search all all_others rest (other ∷ others) found
+        → Search all all_others rest (other ∷ others) found
     search_less rest less e = subst (λ (l : List (ℕ × List ℕ)). Search all all_others l (other ∷ others) found) e (record {
       ascending = ascending_tail row rows s.ascending;
       others_ascending = s.others_ascending;
@@ -241,7 +241,7 @@ module _ (all all_others : List (ℕ × List ℕ)) where
 
     pub lacked_greater : nat_cmp row.0 other.0 ≡ Greater → LacksOne all all_others
     lacked_greater greater = lacked (row ∷ rows) other others found s (below_first other.0 row rows s.ascending
-      (greater_from row.0 other.0 greater))
+        (greater_from row.0 other.0 greater))
 
     pub search_equal : (rest rest_others : List (ℕ × List ℕ)) → nat_cmp row.0 other.0 ≡ Equal → rows ≡ rest → others ≡ rest_others
         → Search all all_others rest rest_others found
@@ -261,4 +261,4 @@ pub contents-append : {V : Type 0} (content : V → List ℕ) (rows : List (ℕ 
     → contents_of content (rows ++ row ∷ []) ≡ contents_of content rows ++ (row.0, content row.1) ∷ []
 contents-append content [] row = refl
 contents-append content (first ∷ rows) row = ap (λ (rest : List (ℕ × List ℕ)). (first.0, content first.1) ∷ rest)
-  (contents-append content rows row)
+    (contents-append content rows row)

@@ -29,11 +29,11 @@ lying-append bytes more place within =
     ∙ take-append-le (place.end - place.start) (drop place.start bytes) more room
 
 pub rows_lying-append : (bytes more : List ℕ) (rows : List (ℕ × Place)) → AreWithin bytes rows → rows_lying (bytes ++ more) rows
-  ≡ rows_lying bytes rows
+    ≡ rows_lying bytes rows
 rows_lying-append bytes more [] within = refl
 rows_lying-append bytes more (row ∷ rows) within =
     rw (lying-append bytes more row.1 within.0) (ap (λ (rest : List (ℕ × List ℕ)). (row.0, lying bytes row.1) ∷ rest)
-      (rows_lying-append bytes more rows within.1))
+    (rows_lying-append bytes more rows within.1))
 
 pub within-append : (bytes more : List ℕ) (rows : List (ℕ × Place)) → AreWithin bytes rows → AreWithin (bytes ++ more) rows
 within-append bytes more [] within = tt
@@ -42,7 +42,7 @@ within-append bytes more (row ∷ rows) within =
 
 -- those that were put there
 pub lying-new : (bytes more : List ℕ) (place : Place) → place.start ≡ length bytes → place.end ≡ length (bytes ++ more)
-  → lying (bytes ++ more) place ≡ more
+    → lying (bytes ++ more) place ≡ more
 lying-new bytes more place start end =
     let len : place.end - place.start ≡ length more = omega (arith, length-append bytes more) in
     rw (len, start) (ap (take (length more)) (drop-append_seam bytes more) ∙ take-length more)
@@ -50,7 +50,7 @@ lying-new bytes more place start end =
 -- ---- rows
 
 pub row_lying : (bytes : List ℕ) (rows : List (ℕ × Place)) (key : ℕ) → row_at key (rows_lying bytes rows) ≡ option_map (lying bytes)
-  (row_at key rows)
+    (row_at key rows)
 row_lying bytes rows key = lookup-map_values (lying bytes) (is_at (nat_cmp key)) rows
 
 pub rows_lying-insert : (bytes : List ℕ) (rows : List (ℕ × Place)) (key : ℕ) (place : Place)
@@ -77,7 +77,7 @@ within-insert bytes (first ∷ rows) key place within new = elim (cases_order ke
 ]
 
 pub within_found : (bytes : List ℕ) (rows : List (ℕ × Place)) (key : ℕ) (place : Place) → AreWithin bytes rows
-  → row_at key rows ≡ Some place → IsWithin bytes place
+    → row_at key rows ≡ Some place → IsWithin bytes place
 within_found bytes [] key place within e = absurd cc
 within_found bytes (first ∷ rows) key place within e = elim (cases_order key first.0) [
   | inl same ↦
@@ -109,7 +109,7 @@ module _ (old_bytes new_bytes bytes : List ℕ) where
 
   module _ (old new : List (ℕ × Place)) (key : ℕ) where
     made-within : (place : Place) → AreWithin old_bytes old → Makes place → new ≡ insert_entry nat_cmp old key place
-      → AreWithin new_bytes new
+        → AreWithin new_bytes new
     made-within place within made e =
         let more : AreWithin new_bytes old = rw made.0 (within-append old_bytes bytes old within) in
         let there : place.start ≤ place.end = omega (arith, ap length made.0, length-append old_bytes bytes) in
@@ -117,7 +117,7 @@ module _ (old_bytes new_bytes bytes : List ℕ) where
 
     -- the places stay within the bytes
     pub visited-within : {E : Type 0} (r : Result (Option Bool) E) → AreWithin old_bytes old
-      → IfOk r (λ answer. Visits Asks Makes old key answer new)
+        → IfOk r (λ answer. Visits Asks Makes old key answer new)
         → OnErr r (new ≡ old) → LeavesUnmade r old_bytes new_bytes → AreWithin new_bytes new
     visited-within (Ok None) within v err kept = made-within v.1.0 within v.1.1 v.1.2
     visited-within (Ok (Some answer)) within v err kept = rw (v.0, kept) within
@@ -128,7 +128,7 @@ module _ (old_bytes new_bytes bytes : List ℕ) where
 
     -- a visit states the bytes
     pub visited : (answer : Option Bool) → AreWithin old_bytes old → Visits Asks Makes old key answer new
-      → LeavesUnmade {E = ⊤} (Ok answer) old_bytes new_bytes
+        → LeavesUnmade {E = ⊤} (Ok answer) old_bytes new_bytes
         → States the_bytes (rows_lying old_bytes old) key bytes (stated_by answer) (rows_lying new_bytes new)
     visited None within v kept =
         let place = v.1.0 in
@@ -185,7 +185,7 @@ module _ (now row new : List ℕ) (rows : List (ℕ × Place)) (key : ℕ) (plac
   within-next within =
       let len : length new ≡ length now + length row = ap length e ∙ length-append now row in
       within-last new rows key place (subst (λ (l : List ℕ). AreWithin l rows) (sym e) (within-append now row rows within))
-        (omega arith, omega arith)
+      (omega arith, omega arith)
 
   pub lying-next : (done : List (ℕ × List ℕ)) → AreWithin now rows → rows_lying now rows ≡ done
       → rows_lying new (rows ++ (key, place) ∷ []) ≡ done ++ (key, row) ∷ []

@@ -25,21 +25,24 @@ SameDifferences rows others left left_others = ((key : ℕ) → DifferAt rows ot
     × ((key : ℕ) → DifferAt left left_others key → DifferAt rows others key)
 
 same_first : (rows others left left_others : List (ℕ × List ℕ)) → SameDifferences rows others left left_others
-  → Follows rows others left left_others
+    → Follows rows others left left_others
 same_first rows others left left_others same None first = λ key differ. first key (same.0 key differ)
 same_first rows others left left_others same (Some key) first =
     (same.1 key first.0, λ lower lt differ. first.1 lower lt (same.0 lower differ))
 
 -- no key of a list is below its first
 pub below_first : (key : ℕ) (row : ℕ × List ℕ) (rows : List (ℕ × List ℕ)) → IsAscending (row ∷ rows) → key < row.0
-  → row_at key (row ∷ rows) ≡ None
+    → row_at key (row ∷ rows) ≡ None
 below_first key row rows up lt =
-    row_at-none key (row ∷ rows) ((λ e. omega arith), AllKeys-weaker (λ k. row.0 < k) (λ k. key ≢ k) rows (λ k h e. omega arith)
-      (ascending_head row rows up))
+    row_at-none key (row ∷ rows) (
+      (λ e. omega arith),
+      AllKeys-weaker (λ k. row.0 < k) (λ k. key ≢ k) rows (λ k h e. omega arith)
+          (ascending_head row rows up),
+    )
 
 -- behind the first row of either list the others are found as before
 past_row : (row : ℕ × List ℕ) (rows others : List (ℕ × List ℕ)) (key : ℕ) → key ≢ row.0 → DifferAt (row ∷ rows) others key
-  → DifferAt rows others key
+    → DifferAt rows others key
 past_row row rows others key past d = record {
   content = d.content;
   other = d.other;
@@ -49,7 +52,7 @@ past_row row rows others key past d = record {
 }
 
 before_row : (row : ℕ × List ℕ) (rows others : List (ℕ × List ℕ)) (key : ℕ) → key ≢ row.0 → DifferAt rows others key
-  → DifferAt (row ∷ rows) others key
+    → DifferAt (row ∷ rows) others key
 before_row row rows others key past d = record {
   content = d.content;
   other = d.other;
@@ -74,21 +77,21 @@ not_missed rows others key other none d same =
 
 -- a row whose key the others do not have makes no difference
 skipped : (row : ℕ × List ℕ) (rows others : List (ℕ × List ℕ)) → row_at row.0 others ≡ None
-  → SameDifferences (row ∷ rows) others rows others
+    → SameDifferences (row ∷ rows) others rows others
 skipped row rows others none = (
   λ key d. past_row row rows others key (not_missed (row ∷ rows) others row.0 key none d) d,
   λ key d. before_row row rows others key (not_missed rows others row.0 key none d) d,
 )
 
 skip : (row : ℕ × List ℕ) (rows : List (ℕ × List ℕ)) (other : ℕ × List ℕ) (others : List (ℕ × List ℕ)) → IsAscending (other ∷ others)
-  → row.0 < other.0
+    → row.0 < other.0
     → Follows (row ∷ rows) (other ∷ others) rows (other ∷ others)
 skip row rows other others up lt =
     same_first (row ∷ rows) (other ∷ others) rows (other ∷ others)
-      (skipped row rows (other ∷ others) (below_first row.0 other others up lt))
+    (skipped row rows (other ∷ others) (below_first row.0 other others up lt))
 
 skip_other : (row : ℕ × List ℕ) (rows : List (ℕ × List ℕ)) (other : ℕ × List ℕ) (others : List (ℕ × List ℕ)) → IsAscending (row ∷ rows)
-  → other.0 < row.0
+    → other.0 < row.0
     → Follows (row ∷ rows) (other ∷ others) (row ∷ rows) others
 skip_other row rows other others up lt =
     let s = skipped other others (row ∷ rows) (below_first other.0 row rows up lt) in
@@ -100,10 +103,10 @@ skip_other row rows other others up lt =
 -- nor does one that both have
 pub no_more : (row : ℕ × List ℕ) (rows : List (ℕ × List ℕ)) → IsAscending (row ∷ rows) → row_at row.0 rows ≡ None
 no_more row rows up = row_at-none row.0 rows (AllKeys-weaker (λ k. row.0 < k) (λ k. row.0 ≢ k) rows (λ k h e. omega arith)
-  (ascending_head row rows up))
+    (ascending_head row rows up))
 
 skip_both : (row : ℕ × List ℕ) (rows : List (ℕ × List ℕ)) (other : ℕ × List ℕ) (others : List (ℕ × List ℕ)) → IsAscending (row ∷ rows)
-  → IsAscending (other ∷ others)
+    → IsAscending (other ∷ others)
     → row.0 ≡ other.0 → row.1 ≡ other.1 → Follows (row ∷ rows) (other ∷ others) rows others
 skip_both row rows other others up more key content =
     let none : row_at row.0 others ≡ None = ap (λ (k : ℕ). row_at k others) key ∙ no_more other others more in
@@ -116,12 +119,12 @@ skip_both row rows other others up more key content =
           d.differ one in
           let beyond : k ≢ other.0 = λ same. past (same ∙ sym key) in
           turned others rows k (past_row other others rows k beyond
-            (turned rows (other ∷ others) k (past_row row rows (other ∷ others) k past d))),
+          (turned rows (other ∷ others) k (past_row row rows (other ∷ others) k past d))),
       λ k d.
           let past : k ≢ row.0 = not_missed rows others row.0 k none d in
           let beyond : k ≢ other.0 = λ same. past (same ∙ sym key) in
           before_row row rows (other ∷ others) k past
-            (turned (other ∷ others) rows k (before_row other others rows k beyond (turned rows others k d))),
+          (turned (other ∷ others) rows k (before_row other others rows k beyond (turned rows others k d))),
     )
 
 -- the first difference is at the first row of both
@@ -177,7 +180,7 @@ module _ (all all_others : List (ℕ × List ℕ)) where
   }
 
   pub walk_taken : {R : Type 0} (content : R → List ℕ) (first other_first : Option (ℕ × R)) (row other : ℕ × R)
-    (rows others : List (ℕ × List ℕ))
+      (rows others : List (ℕ × List ℕ))
       → Walk all all_others (behind content first rows) (behind content other_first others) → first ≡ Some row → other_first ≡ Some other
       → Walk all all_others ((row.0, content row.1) ∷ rows) ((other.0, content other.1) ∷ others)
   walk_taken {R = R} content first other_first row other rows others walk is other_is =
@@ -193,7 +196,7 @@ module _ (all all_others : List (ℕ × List ℕ)) where
       → Walk all all_others rows (behind content other_first others) → other_first ≡ None → IsFirstDifference all all_others None
   others_end {R = R} content other_first rows others walk is =
       walk.follows None (subst (λ (f : Option (ℕ × R)). IsFirstDifference rows (behind content f others) None) (sym is)
-        (no_others_left rows))
+      (no_others_left rows))
 
   module _ (row other : ℕ × List ℕ) (rows others : List (ℕ × List ℕ)) (walk : Walk all all_others (row ∷ rows) (other ∷ others)) where
     pub walk_less : (rest : List (ℕ × List ℕ)) → nat_cmp row.0 other.0 ≡ Less → rows ≡ rest → Walk all all_others rest (other ∷ others)
@@ -213,7 +216,7 @@ module _ (all all_others : List (ℕ × List ℕ)) where
     })
 
     pub walk_equal : (rest rest_others : List (ℕ × List ℕ)) → nat_cmp row.0 other.0 ≡ Equal → row.1 ≡ other.1 → rows ≡ rest
-      → others ≡ rest_others
+        → others ≡ rest_others
         → Walk all all_others rest rest_others
     walk_equal rest rest_others equal content e e_others =
         subst (λ (l : List (ℕ × List ℕ)). Walk all all_others l rest_others) e
@@ -222,7 +225,7 @@ module _ (all all_others : List (ℕ × List ℕ)) where
           others_ascending = ascending_tail other others walk.others_ascending;
           follows = λ found first. walk.follows found
               (skip_both row rows other others walk.ascending walk.others_ascending (exact_unsigned row.0 other.0 equal) content found
-                first);
+              first);
         }))
 
     pub walk_differs : nat_cmp row.0 other.0 ≡ Equal → row.1 ≢ other.1 → IsFirstDifference all all_others (Some row.0)

@@ -30,7 +30,7 @@ module _ (old new : List ℕ) (rows fresh : List (ℕ × Place)) (stated : List 
   taken_union all union =
       subst (λ (l : List (ℕ × List ℕ)). AreUnion l stated (rows_lying new all)) kept
       (subst (λ (l : List (ℕ × List ℕ)). AreUnion (rows_lying new rows) l (rows_lying new all)) lay
-        (union_contents (lying new) rows fresh all union))
+      (union_contents (lying new) rows fresh all union))
 
   pub tried_within : {A E : Type 0} (r : Result A E) (all : List (ℕ × Place)) → AreWithin new fresh → IfOk r (λ _. AreUnion rows fresh all)
       → OnErr r (all ≡ rows) → AreWithin new all

@@ -55,7 +55,7 @@ module _ {V : Type 0} where
   -- ---- each key of a list
 
   AllKeys-two : (P Q R : ℕ → Type 0) (rows : List (ℕ × V)) → ((key : ℕ) → P key → Q key → R key) → AllKeys P rows → AllKeys Q rows
-    → AllKeys R rows
+      → AllKeys R rows
   AllKeys-two P Q R [] more one two = tt
   AllKeys-two P Q R (row ∷ rows) more one two = (more row.0 one.0 two.0, AllKeys-two P Q R rows more one.1 two.1)
 
@@ -91,7 +91,7 @@ module _ {V : Type 0} where
   end-below bound (row ∷ next ∷ rows) below = end-below bound (next ∷ rows) below.1
 
   module _ (run below fresh : List (ℕ × V)) (sound : IsTable run below) (up : IsAscending fresh)
-    (apart : AreApart (merged run below) fresh) where
+      (apart : AreApart (merged run below) fresh) where
     -- a row of the table is not among the others
     not_fresh : (key : ℕ) → IsThere (merged run below) key → row_at key fresh ≡ None
     not_fresh key there = elim (apart key) [
@@ -170,7 +170,7 @@ module _ {V : Type 0} where
     table_is all after e e_after = rw (e, e_after) merge_sound
 
     pub union_is : (all after : List (ℕ × V)) → all ≡ merged run fresh → after ≡ below
-      → AreUnion (merged run below) fresh (merged all after)
+        → AreUnion (merged run below) fresh (merged all after)
     union_is all after e e_after = rw (e, e_after) merge_union
 
   -- ---- each row of a union is one of both
@@ -191,7 +191,7 @@ module _ {V : Type 0} where
   ]
 
   pub all_rows : (P : ℕ → V → Type 0) (rows : List (ℕ × V)) → IsAscending rows → ((key : ℕ) (row : V) → row_at key rows ≡ Some row
-    → P key row) → AllRows P rows
+      → P key row) → AllRows P rows
   all_rows P [] up each = tt
   all_rows P (first ∷ rows) up each = (
     each first.0 first.1 (row_at-here first.0 first rows refl),
@@ -204,12 +204,12 @@ module _ {V : Type 0} where
           λ same. omega arith
 
   pub union_rows : (P : ℕ → V → Type 0) (rows fresh all : List (ℕ × V)) → AllRows P rows → AllRows P fresh → AreUnion rows fresh all
-    → AllRows P all
+      → AllRows P all
   union_rows P rows fresh all old new union =
       all_rows P all union.ascends (λ key row e. either key row (row_at key rows) refl (sym (union.each key) ∙ e))
     where
       either : (key : ℕ) (row : V) (found : Option V) → row_at key rows ≡ found → option_or (row_at key rows) (row_at key fresh)
-        ≡ Some row → P key row
+          ≡ Some row → P key row
       either key row None is e =
           row_found P fresh key row new (sym (ap (λ (f : Option V). option_or f (row_at key fresh)) is) ∙ e)
       either key row (Some one) is e =

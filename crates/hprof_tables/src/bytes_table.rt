@@ -1,11 +1,13 @@
 //! The tables of names, classes and objects: bytes by key.
 
-ghost use Rattle.std.specs.Prelude.{◌≡◌, ◌↔◌, ◌++◌, ◌+◌, ◌<◌, ◌≤◌, ◌⊎◌, List, [], length, IfOk, OnOk, OnErr, IsTrue, None, vec_len, vec_capacity};
+ghost use Rattle.std.specs.Prelude.{◌≡◌, ◌↔◌, ◌++◌, ◌+◌, ◌<◌, ◌≤◌, ◌⊎◌, List, [], length, IfOk, OnOk, OnErr, IsTrue, None, vec_len};
+ghost use Rattle.std.specs.Prelude.{vec_capacity};
 ghost use Rattle.std.specs.Option.{option_copied};
 ghost use Rattle.std.specs.Ordering.{nat_cmp};
 ghost use Rattle.std.specs.BTreeMap.{is_at};
 ghost use Rattle.std.specs.Map.{lookup};
-ghost use Rattle.hprof_tables.specs.Places.{IsWithin, AreWithin, AreWithin-prop, IsBehind, all_bytes, lying, rows_lying, spare_behind, the_bytes};
+ghost use Rattle.hprof_tables.specs.Places.{IsWithin, AreWithin, AreWithin-prop, IsBehind, all_bytes, lying, rows_lying, spare_behind};
+ghost use Rattle.hprof_tables.specs.Places.{the_bytes};
 ghost use Rattle.hprof_tables.specs.Relation.{contents_of};
 ghost use Rattle.hprof_tables.specs.SortedTable.{entries_of, entries_left};
 
@@ -133,7 +135,8 @@ impl BytesTable {
         ensures ok { IfOk result (λ stated. States the_bytes (byte_rows self.old) key bytes.now stated (byte_rows self.new)) }
         ensures err { OnErr result (byte_rows self.new ≡ byte_rows self.old) }
         ensures absent { OnErr result (lookup (is_at (nat_cmp key)) (byte_rows self.old) ≡ None) }
-        ensures full { OnErr result (LacksRoom self.old.rows key ⊎ (vec_capacity self.old.bytes < vec_len self.old.bytes + length bytes.now)) }
+        ensures full { OnErr result (LacksRoom self.old.rows key
+            ⊎ (vec_capacity self.old.bytes < vec_len self.old.bytes + length bytes.now)) }
         ensures kept { IfOk result (λ stated. LeavesBytes stated self.old.bytes self.new.bytes) }
     {
         match self
@@ -180,10 +183,12 @@ impl BytesTable {
     fn take_rows(&mut self, lent: Vec<(u64, LentBytes<'_>)>) -> Result<(), AllocError>
         requires ascending { IsAscending (contents_of (λ row. row.0.now) lent.items) }
         requires apart { AreApart (byte_rows self.old) (contents_of (λ row. row.0.now) lent.items) }
-        ensures ok { IfOk result (λ _. AreUnion (byte_rows self.old) (contents_of (λ row. row.0.now) lent.entry.items) (byte_rows self.new)) }
+        ensures ok { IfOk result (λ _. AreUnion (byte_rows self.old) (contents_of (λ row. row.0.now) lent.entry.items)
+            (byte_rows self.new)) }
         ensures err { OnErr result (entries_of self.new.rows ≡ entries_of self.old.rows) }
         ensures behind { IsBehind self.old.bytes.items self.new.bytes.items }
-        ensures put { IfOk result (λ _. self.new.bytes.items ≡ self.old.bytes.items ++ all_bytes (contents_of (λ row. row.0.now) lent.entry.items)) }
+        ensures put { IfOk result (λ _. self.new.bytes.items ≡ self.old.bytes.items ++ all_bytes
+            (contents_of (λ row. row.0.now) lent.entry.items)) }
         ensures some { OnErr result (0 < length lent.entry.items) }
     {
         let fresh = append_rows(self.alloc, &mut self.bytes, lent)?;

@@ -1,6 +1,7 @@
 //! A table of rows by key, which takes rows in ascending order of key at the cost of a push.
 
-ghost use Rattle.std.specs.Prelude.{◌≡◌, ◌+◌, ◌↔◌, ◌≤◌, ◌⊎◌, ℕ, List, [], length, IsTrue, IfOk, IfSome, OnErr, None, ◌<◌, vec_len, vec_capacity};
+ghost use Rattle.std.specs.Prelude.{◌≡◌, ◌+◌, ◌↔◌, ◌≤◌, ◌⊎◌, ℕ, List, [], length, IsTrue, IfOk, IfSome, OnErr, None, ◌<◌, vec_len};
+ghost use Rattle.std.specs.Prelude.{vec_capacity};
 ghost use Rattle.std.specs.Ordering.{nat_cmp};
 ghost use Rattle.std.specs.BTreeMap.{insert_entry};
 ghost use Rattle.std.specs.Option.{option_copied};
@@ -130,7 +131,8 @@ impl<V> SortedTable<V> {
     ) -> Result<Option<T::Answer>, AllocError>
     where
         V: Drop,
-        ensures ok { IfOk result (λ answer. Visits (T.answers visitor (T.held room.old)) (λ row. T.makes visitor (T.held room.old) row (T.held room.new))
+        ensures ok { IfOk result (λ answer. Visits (T.answers visitor (T.held room.old)) (λ row.
+            T.makes visitor (T.held room.old) row (T.held room.new))
             (entries_of self.old) key answer (entries_of self.new)) }
         ensures err { OnErr result (entries_of self.new ≡ entries_of self.old) }
         ensures absent { OnErr result (row_at key (entries_of self.old) ≡ None) }
@@ -199,7 +201,8 @@ fn visit_map<V: Drop, T: Visit<V> + Drop>(
     visitor: T,
     room: &mut T::Room,
 ) -> Result<Option<T::Answer>, AllocError>
-    ensures ok { IfOk result (λ answer. Visits (T.answers visitor (T.held room.old)) (λ row. T.makes visitor (T.held room.old) row (T.held room.new))
+    ensures ok { IfOk result (λ answer. Visits (T.answers visitor (T.held room.old)) (λ row.
+        T.makes visitor (T.held room.old) row (T.held room.new))
         map.old.entries key answer map.new.entries) }
     ensures err { OnErr result (map.new.entries ≡ map.old.entries) }
     ensures absent { OnErr result (row_at key map.old.entries ≡ None) }

@@ -28,7 +28,7 @@ module _ {F : Type 0} (remaining : F → Option (List ℕ)) (count : ℕ) where
 
   -- a refusal of the engine is one of these refusals, but for want of memory of its own
   of_engine : (fault : ToolFault) → IsOfMaking (refusals.Engine fault) → OfParts remaining count (IsRefusal (refusals.Engine fault))
-    → IsFilesRefusal remaining count (refusals.Engine fault)
+      → IsFilesRefusal remaining count (refusals.Engine fault)
   of_engine (tool.Part index fault) kind says = says
   of_engine tool.NoParts kind says = says
   of_engine tool.IdSizes kind says = says
@@ -42,7 +42,7 @@ module _ {F : Type 0} (remaining : F → Option (List ℕ)) (count : ℕ) where
       → IfErr outcome (IsFilesRefusal remaining count)
   of_joining parts opened (Ok x) kind says = tt
   of_joining parts opened (Err (refusals.Engine fault)) kind says =
-    of_engine fault kind (record { parts = parts; opened = opened; holds = says })
+      of_engine fault kind (record { parts = parts; opened = opened; holds = says })
   of_joining parts opened (Err (refusals.Open index)) kind says = absurd kind
   of_joining parts opened (Err refusals.Create) kind says = absurd kind
   of_joining parts opened (Err refusals.OutOfMemory) kind says = tt
@@ -53,22 +53,22 @@ module _ {F : Type 0} (remaining : F → Option (List ℕ)) (count : ℕ) where
       → IfErr outcome (IsReportRefusal remaining count)
   of_reporting parts opened (Ok x) kind says = tt
   of_reporting parts opened (Err (refusals.Engine fault)) kind says =
-    of_engine fault kind (record { parts = parts; opened = opened; holds = says })
+      of_engine fault kind (record { parts = parts; opened = opened; holds = says })
   of_reporting parts opened (Err (refusals.Open index)) kind says = absurd kind
   of_reporting parts opened (Err refusals.Create) kind says = absurd kind
   of_reporting parts opened (Err refusals.OutOfMemory) kind says = tt
 
   -- the files that were opened were joined into the one that was created
   pub joined_of_files : (contents : F → Option (List ℕ)) (parts : List (Device F)) → length parts ≡ count
-    → (old : F) (outcome : Result F Refused)
+      → (old : F) (outcome : Result F Refused)
       → IfOk outcome (λ new. (told : List (List ℕ)) → Tell (λ part. remaining (inner_of part)) parts told
-        → IsMade products.Dump told (contents old) (contents new))
+      → IsMade products.Dump told (contents old) (contents new))
       → IfOk outcome (IsJoinOfFiles remaining contents count)
   joined_of_files contents parts opened old (Ok new) made = (old, record { parts = parts; opened = opened; holds = made })
   joined_of_files contents parts opened old (Err refused) made = tt
 
 -- what holds of the only error holds of each
 pub if_the_error : {A : Type 0} (P : Refused → Type 0) (outcome : Result A Refused) (refused : Refused) → P refused
-  → IsErrAnd outcome (λ e. e ≡ refused) → IfErr outcome P
+    → IsErrAnd outcome (λ e. e ≡ refused) → IfErr outcome P
 if_the_error P (Ok x) refused holds is = tt
 if_the_error P (Err e) refused holds is = subst P (sym is) holds

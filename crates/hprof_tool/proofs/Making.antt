@@ -29,22 +29,26 @@ use Rattle.hprof_tool.specs.Program.{IsPartRefusal, IsRefusal, IsOfMaking}
 
 -- no reader tells no part
 no_parts_told : {R : Type 0} (left : R → Option (List ℕ)) (readers : List R) (parts : List (List ℕ)) → readers ≡ []
-  → Tell left readers parts → parts ≡ []
+    → Tell left readers parts → parts ≡ []
 no_parts_told left [] [] none told = refl
 no_parts_told left [] (part ∷ parts) none told = absurd cc
 no_parts_told left (reader ∷ readers) parts none told = absurd cc
 
 -- limits with these numbers are the usual ones
 pub are_usual : (limits : Limits) → limits.max_item ≡ 4294967295 → limits.max_reads ≡ 1099511627776
-  → limits.max_bytes ≡ 18446744073709551615 → limits ≡ usual_limits
+    → limits.max_bytes ≡ 18446744073709551615 → limits ≡ usual_limits
 are_usual limits item reads bytes =
-    ap (λ (n : ℕ). record limits { max_item = n }) item ∙ ap (λ (n : ℕ). record { max_item = 4294967295; max_reads = n; max_bytes =
-      limits.max_bytes }) reads
+    ap (λ (n : ℕ). record limits { max_item = n }) item ∙ ap (λ (n : ℕ). record {
+      max_item = 4294967295;
+      max_reads = n;
+      max_bytes =
+          limits.max_bytes;
+    }) reads
     ∙ ap (λ (n : ℕ). record { max_item = 4294967295; max_reads = 1099511627776; max_bytes = n }) bytes
 
 -- what a part is refused with is not answered for what failed before
 first_answer : {R : Type 0} (left : R → Option (List ℕ)) (health : R → Health) (pulls : R → ℕ) (limits : Limits) (earlier : List Given)
-  (was : R) (came : List ℕ) (is : R) (fault : PartFault)
+    (was : R) (came : List ℕ) (is : R) (fault : PartFault)
     → IsPartFault left health pulls limits earlier was came is fault → IsFirstAnswer fault
 first_answer left health pulls limits earlier was came is (part_faults.Malformed at reason) why = tt
 first_answer left health pulls limits earlier was came is (part_faults.ItemTooLong at) why = tt
@@ -58,7 +62,7 @@ first_answer left health pulls limits earlier was came is part_faults.BytesExcee
 
 -- what the engine says of a part that it refuses
 pub part_refusal : {R : Type 0} (left : R → Option (List ℕ)) (health : R → Health) (pulls : R → ℕ) (parts : List (List ℕ))
-  (old new : List R) (index : ℕ) (fault : PartFault)
+    (old new : List R) (index : ℕ) (fault : PartFault)
     → RefusesPart left health pulls usual_limits parts old new index fault → IsPartRefusal parts index fault
 part_refusal left health pulls parts old new index fault is = record {
   before = is.before;
@@ -100,28 +104,40 @@ state_of products.Check parts bytes is = (is.ids, is.millis, is.rows, is.agree)
 
 -- what was joined was made into a dump
 pub made_dump : (parts : List (List ℕ)) (old new : Option (List ℕ)) (joined : Joined) → Joins parts old new joined
-  → IsMade products.Dump parts old new
-made_dump parts old new joined is =
-    (canonical_dump is.ids is.millis is.rows, record { ids = is.ids; millis = is.millis; rows = is.rows; agree = is.agree; is = refl },
-      is.written)
+    → IsMade products.Dump parts old new
+made_dump parts old new joined is = (
+  canonical_dump is.ids is.millis is.rows,
+  record { ids = is.ids; millis = is.millis; rows = is.rows; agree = is.agree; is = refl },
+  is.written,
+)
 
 -- and so far as it was written
 pub stopped_dump : (parts : List (List ℕ)) (old new : Option (List ℕ)) → StopsWriting parts old new → IsStopped products.Dump parts old new
-stopped_dump parts old new is =
-    (canonical_dump is.ids is.millis is.rows, is.count, record { ids = is.ids; millis = is.millis; rows = is.rows; agree =
-      is.agree; is = refl }, is.written)
+stopped_dump parts old new is = (
+  canonical_dump is.ids is.millis is.rows,
+  is.count,
+  record {
+    ids = is.ids;
+    millis = is.millis;
+    rows = is.rows;
+    agree =
+        is.agree;
+    is = refl;
+  },
+  is.written,
+)
 
 -- what the engine's answer tells of the parts and of the bytes that it wrote
 pub record EngineTells {R : Type 0} (left : R → Option (List ℕ)) (product : Product) (readers : List R) (old new : Option (List ℕ))
-  (made : Result (Unit {0}) ToolFault) : Type 0 where
+    (made : Result (Unit {0}) ToolFault) : Type 0 where
   pub ok : OnOk made ((parts : List (List ℕ)) → Tell left readers parts → IsMade product parts old new)
   pub part : (index : ℕ) (fault : PartFault) → made ≡ Err (tool.Part index fault) → (parts : List (List ℕ)) → Tell left readers parts
-    → IsPartRefusal parts index fault
+      → IsPartRefusal parts index fault
   pub conflict : (key : Key) → made ≡ Err (tool.Conflict key) → (parts : List (List ℕ)) → Tell left readers parts → Disagree parts key
   pub no_parts : made ≡ Err tool.NoParts → readers ≡ []
   pub id_sizes : made ≡ Err tool.IdSizes → (parts : List (List ℕ)) → Tell left readers parts → HaveTwoSizes parts
   pub write : (fault : WriteFault) → made ≡ Err (tool.Write fault) → (parts : List (List ℕ)) → Tell left readers parts
-    → IsStopped product parts old new
+      → IsStopped product parts old new
 
 module _ {R : Type 0} (left : R → Option (List ℕ)) (product : Product) (readers : List R) (old new : Option (List ℕ)) where
   of_fault : (made : Result (Unit {0}) ToolFault) (fault : ToolFault) → EngineTells left product readers old new made → made ≡ Err fault
@@ -137,7 +153,7 @@ module _ {R : Type 0} (left : R → Option (List ℕ)) (product : Product) (read
   -- a refusal says what the engine's fault says, and of a flush that failed that the parts agree
   pub refusal : (made : Result (Unit {0}) ToolFault) (outcome : Result (Unit {0}) Refused) → EngineTells left product readers old new made
       → OnOk made (OnErr outcome (outcome ≡ Err (refusals.Engine (tool.Write faults.Failed))))
-        → IfErr made (λ fault. outcome ≡ Err (refused_of fault))
+      → IfErr made (λ fault. outcome ≡ Err (refused_of fault))
       → IfErr outcome (λ refused. (parts : List (List ℕ)) → Tell left readers parts → IsRefusal refused parts)
   refusal made (Ok done) t failed same = tt
   refusal (Ok u) (Err refused) t failed same = λ parts told.
@@ -150,31 +166,38 @@ module _ {R : Type 0} (left : R → Option (List ℕ)) (product : Product) (read
 
   -- what was written stands in the writer and then in the buffer
   pub stops : (made : Result (Unit {0}) ToolFault) (outcome : Result (Unit {0}) Refused) (end : Option (List ℕ))
-    → EngineTells left product readers old new made → Keeps new end
+      → EngineTells left product readers old new made → Keeps new end
       → IfErr made (λ fault. outcome ≡ Err (refused_of fault))
       → (fault : WriteFault) → outcome ≡ Err (refusals.Engine (tool.Write fault)) → (parts : List (List ℕ)) → Tell left readers parts
-        → IsStopped product parts old end
+      → IsStopped product parts old end
   stops (Ok u) outcome end t kept same fault is parts told =
-      let written = t.ok parts told in
-      (written.0, length written.0, written.1, subst (Appends old end) (sym (take-length written.0))
-        (Appends-kept old new end written.0 written.2 kept))
+      let written = t.ok parts told in (
+        written.0,
+        length written.0,
+        written.1,
+        subst (Appends old end) (sym (take-length written.0))
+            (Appends-kept old new end written.0 written.2 kept),
+      )
   stops (Err known) outcome end t kept same fault is parts told =
       let written = t.write fault (ap Err
-        (engine_fault known (tool.Write fault) (same_refusal outcome (refused_of known) (refusals.Engine (tool.Write fault)) same is)))
-        parts told in
+      (engine_fault known (tool.Write fault) (same_refusal outcome (refused_of known) (refusals.Engine (tool.Write fault)) same is)))
+      parts told in
       (written.0, written.1, written.2, Appends-kept old new end (take written.1 written.0) written.3 kept)
 
   -- what the engine wrote was flushed
   pub written_out : (made : Result (Unit {0}) ToolFault) (outcome : Result (Unit {0}) Refused) (end last : Option (List ℕ))
-    → OnOk made ((parts : List (List ℕ)) → Tell left readers parts → IsMade product parts old new)
+      → OnOk made ((parts : List (List ℕ)) → Tell left readers parts → IsMade product parts old new)
       → OnOk outcome (IsOk made) → Keeps new end → OnOk outcome (end ≡ last)
-        → OnOk outcome ((parts : List (List ℕ)) → Tell left readers parts → IsMade product parts old last)
+      → OnOk outcome ((parts : List (List ℕ)) → Tell left readers parts → IsMade product parts old last)
   written_out made (Err refused) end last ok done kept same = tt
   written_out (Err fault) (Ok u) end last ok done kept same = absurd cc
   written_out (Ok j) (Ok u) end last ok done kept same = λ parts told.
-      let written = ok parts told in
-      (written.0, written.1, subst (λ (b : Option (List ℕ)). Appends old b written.0) same
-        (Appends-kept old new end written.0 written.2 kept))
+      let written = ok parts told in (
+        written.0,
+        written.1,
+        subst (λ (b : Option (List ℕ)). Appends old b written.0) same
+            (Appends-kept old new end written.0 written.2 kept),
+      )
 
 -- a buffer that is empty adds nothing
 none_added : (known : Option (List ℕ)) → append_known known [] ≡ known
@@ -182,7 +205,7 @@ none_added None = refl
 none_added (Some bytes) = ap Some (append-nil bytes)
 
 pub emptied : (outcome : Result (Unit {0}) Refused) (inner : Option (List ℕ)) (buffer : List ℕ) → OnOk outcome (buffer ≡ [])
-  → OnOk outcome (append_known inner buffer ≡ inner)
+    → OnOk outcome (append_known inner buffer ≡ inner)
 emptied (Ok u) inner buffer none = ap (append_known inner) none ∙ none_added inner
 emptied (Err refused) inner buffer none = tt
 
@@ -196,7 +219,7 @@ engine_of (tool.Write fault) = tt
 engine_of tool.OutOfMemory = tt
 
 pub of_making : (made : Result (Unit {0}) ToolFault) (outcome : Result (Unit {0}) Refused)
-  → OnOk made (OnErr outcome (outcome ≡ Err (refusals.Engine (tool.Write faults.Failed))))
+    → OnOk made (OnErr outcome (outcome ≡ Err (refusals.Engine (tool.Write faults.Failed))))
     → IfErr made (λ fault. outcome ≡ Err (refused_of fault)) → IfErr outcome IsOfMaking
 of_making made (Ok done) failed same = tt
 of_making (Ok j) (Err refused) failed same =
@@ -208,28 +231,28 @@ of_making (Err fault) (Err refused) failed same =
 
 -- a refusal of the engine, but for a writer that failed, is what the engine answered
 pub engine_answered : (made : Result (Unit {0}) ToolFault) (outcome : Result (Unit {0}) Refused) (fault : ToolFault)
-  → (fault ≡ tool.Write faults.Failed → ⊥)
+    → (fault ≡ tool.Write faults.Failed → ⊥)
     → OnOk made (OnErr outcome (outcome ≡ Err (refusals.Engine (tool.Write faults.Failed))))
-      → IfErr made (λ known. outcome ≡ Err (refused_of known))
+    → IfErr made (λ known. outcome ≡ Err (refused_of known))
     → outcome ≡ Err (refusals.Engine fault) → made ≡ Err fault
 engine_answered (Ok u) (Ok done) fault other failed same is = absurd cc
 engine_answered (Ok u) (Err refused) fault other failed same is = absurd (let wrong : fault ≡ tool.Write faults.Failed = cc in other wrong)
 engine_answered (Err known) outcome fault other failed same is =
-  ap Err (engine_fault known fault (same_refusal outcome (refused_of known) (refusals.Engine fault) same is))
+    ap Err (engine_fault known fault (same_refusal outcome (refused_of known) (refusals.Engine fault) same is))
 
 -- want of memory is what the engine answered
 pub memory_answered : (made : Result (Unit {0}) ToolFault) (outcome : Result (Unit {0}) Refused)
     → OnOk made (OnErr outcome (outcome ≡ Err (refusals.Engine (tool.Write faults.Failed))))
-      → IfErr made (λ known. outcome ≡ Err (refused_of known))
+    → IfErr made (λ known. outcome ≡ Err (refused_of known))
     → outcome ≡ Err refusals.OutOfMemory → made ≡ Err tool.OutOfMemory
 memory_answered (Ok u) (Ok done) failed same is = absurd cc
 memory_answered (Ok u) (Err refused) failed same is = absurd cc
 memory_answered (Err known) outcome failed same is =
-  ap Err (wanted_memory known (same_refusal outcome (refused_of known) refusals.OutOfMemory same is))
+    ap Err (wanted_memory known (same_refusal outcome (refused_of known) refusals.OutOfMemory same is))
 
 -- how many readers were read to their ends is told by the refusal
 pub same_count_read : (A B : Type 0) (refused : Refused) (all : ℕ) → count_read {A = A} (Err refused) all ≡ count_read {A =
-  B} (Err refused) all
+    B} (Err refused) all
 same_count_read A B (refusals.Engine fault) all = refl
 same_count_read A B (refusals.Open index) all = refl
 same_count_read A B refusals.Create all = refl
@@ -237,7 +260,7 @@ same_count_read A B refusals.OutOfMemory all = refl
 
 -- and is what the engine says
 count_of_fault : (fault : ToolFault) (all : ℕ) → read_count {A = Unit {0}} (Err fault) all ≡ count_read {A =
-  Unit {0}} (Err (refused_of fault)) all
+    Unit {0}} (Err (refused_of fault)) all
 count_of_fault (tool.Part index fault) all = refl
 count_of_fault tool.NoParts all = refl
 count_of_fault tool.IdSizes all = refl
@@ -247,7 +270,7 @@ count_of_fault tool.OutOfMemory all = refl
 
 pub count_of_made : (made : Result (Unit {0}) ToolFault) (outcome : Result (Unit {0}) Refused) (all : ℕ)
     → OnOk made (OnErr outcome (outcome ≡ Err (refusals.Engine (tool.Write faults.Failed))))
-      → IfErr made (λ known. outcome ≡ Err (refused_of known))
+    → IfErr made (λ known. outcome ≡ Err (refused_of known))
     → read_count made all ≡ count_read outcome all
 count_of_made (Ok u) (Ok done) all failed same = refl
 count_of_made (Ok u) (Err refused) all failed same =
@@ -255,7 +278,7 @@ count_of_made (Ok u) (Err refused) all failed same =
     subst (λ (r : Refused). all ≡ count_read {A = Unit {0}} (Err r) all) (sym is) refl
 count_of_made (Err known) outcome all failed same =
     subst (λ (r : Result (Unit {0}) Refused). read_count {A = Unit {0}} (Err known) all ≡ count_read r all) (sym same)
-      (count_of_fault known all)
+    (count_of_fault known all)
 
 -- a result that is an error, and the only one that it can be
 pub the_refusal : {A : Type 0} (result : Result A Refused) (refused : Refused) → IsErrAnd result (λ e. e ≡ refused) → result ≡ Err refused
@@ -264,5 +287,5 @@ the_refusal (Err e) refused is = ap Err is
 
 -- where nothing is wanted to have been read to its end, nothing need have been
 pub none_read : {R : Type 0} (left : R → Option (List ℕ)) (health : R → Health) (pulls : R → ℕ) (old new : List R)
-  → AreReadOut left health pulls usual_limits old new 0
+    → AreReadOut left health pulls usual_limits old new 0
 none_read left health pulls old new k below = absurd (omega (arith, below))

@@ -27,7 +27,7 @@ use Rattle.hprof_values.proofs.FieldGroups.{reached_passed}
 
 -- what is found passes the test, by what the first element answered
 found_by : {X : Type 0} (p : X → Bool) (t : Bool) (y x : X) (o : Option X) → p y ≡ t → (o ≡ Some x → p x ≡ true)
-  → cond t (Some y) o ≡ Some x → p x ≡ true
+    → cond t (Some y) o ≡ Some x → p x ≡ true
 found_by p true y x o e h is = let same : y ≡ x = cc in ap p (sym same) ∙ e
 found_by p false y x o e h is = h is
 
@@ -94,10 +94,17 @@ length-entry ids kind entry =
 -- an entry that is read is in range
 pub entry_fits : (ids : IdSize) (kind : EntryKind) (bytes : List ℕ) → IsBytes bytes → EntryFits ids kind (entry_in ids kind bytes)
 entry_fits ids kind bytes are =
-    let entry = entry_in ids kind bytes in
-    (big_from-lt 0 (lead_width ids kind) bytes are,
-      (code_below entry.basic, (big_from-lt 0 (bits_width ids kind entry.basic) (drop (lead_width ids kind + 1) bytes)
-      (IsBytes-drop (lead_width ids kind + 1) bytes are), tt)))
+    let entry = entry_in ids kind bytes in (
+      big_from-lt 0 (lead_width ids kind) bytes are,
+      (
+        code_below entry.basic,
+        (
+          big_from-lt 0 (bits_width ids kind entry.basic) (drop (lead_width ids kind + 1) bytes)
+              (IsBytes-drop (lead_width ids kind + 1) bytes are),
+          tt,
+        ),
+      ),
+    )
 
 -- a number of one byte
 one_byte : (bytes : List ℕ) → big_number 1 bytes ≡ slice_index bytes 0
@@ -105,27 +112,27 @@ one_byte bytes = omega arith
 
 -- an entry whose type is right is spelled by the bytes that are read
 pub entry_found : (ids : IdSize) (kind : EntryKind) (bytes : List ℕ) (basic : Basic) → IsBytes bytes
-  → basic_of_code (slice_index (drop (lead_width ids kind) bytes) 0) ≡ Some basic
+    → basic_of_code (slice_index (drop (lead_width ids kind) bytes) 0) ≡ Some basic
     → entry_len ids kind (entry_in ids kind bytes) ≤ length bytes → bytes ≡ entry_bytes ids kind (entry_in ids kind bytes) ++ drop
-      (entry_len ids kind (entry_in ids kind bytes)) bytes
+    (entry_len ids kind (entry_in ids kind bytes)) bytes
 entry_found ids kind bytes basic are typed long =
     let lead = lead_width ids kind in
     let entry = entry_in ids kind bytes in
     let is : entry.basic ≡ basic = ap (λ (o : Option Basic). unwrap_or o basics.Array) typed in
     let code : big_number 1 (drop lead bytes) ≡ code_of_basic entry.basic = one_byte (drop lead bytes) ∙ sym (code_found _ basic typed)
-      ∙ ap code_of_basic (sym is) in
+    ∙ ap code_of_basic (sym is) in
     let bits : big_number (bits_width ids kind entry.basic) (drop 1 (drop lead bytes)) ≡ entry.bits =
-      ap (big_number (bits_width ids kind entry.basic)) (drop-drop 1 lead bytes) in
+    ap (big_number (bits_width ids kind entry.basic)) (drop-drop 1 lead bytes) in
     let numbers : fields_in (entry_widths ids kind entry.basic) bytes ≡ entry_numbers entry = rw (code, bits) refl in
     let found = fields_found (entry_widths ids kind entry.basic) bytes are (omega (arith, sum_entry ids kind entry)) in
     found ∙ ap (λ (ns : List ℕ). field_bytes (entry_widths ids kind entry.basic) ns ++ drop (sum (entry_widths ids kind entry.basic))
-      bytes) numbers
+    bytes) numbers
     ∙ ap (λ (n : ℕ). entry_bytes ids kind entry ++ drop n bytes) (sum_entry ids kind entry)
 
 -- an entry that is spelled is read, whatever follows
 pub entry_again : (ids : IdSize) (kind : EntryKind) (entry : Entry) (rest : List ℕ) → EntryFits ids kind entry
     → (basic_of_code (slice_index (drop (lead_width ids kind) (entry_bytes ids kind entry ++ rest)) 0) ≡ Some entry.basic)
-      × (entry_in ids kind (entry_bytes ids kind entry ++ rest) ≡ entry)
+    × (entry_in ids kind (entry_bytes ids kind entry ++ rest) ≡ entry)
     × (drop (entry_len ids kind entry) (entry_bytes ids kind entry ++ rest) ≡ rest)
 entry_again ids kind entry rest fits =
     let lead = lead_width ids kind in
@@ -137,7 +144,7 @@ entry_again ids kind entry rest fits =
     let last : big_number width (drop 1 (drop lead bytes)) ≡ entry.bits = cc in
     let bits : big_number width (drop (lead + 1) bytes) ≡ entry.bits = ap (big_number width) (sym (drop-drop 1 lead bytes)) ∙ last in
     let typed : basic_of_code (slice_index (drop lead bytes) 0) ≡ Some entry.basic =
-      ap basic_of_code (sym (one_byte (drop lead bytes)) ∙ code) ∙ code_again entry.basic in (
+    ap basic_of_code (sym (one_byte (drop lead bytes)) ∙ code) ∙ code_again entry.basic in (
       typed,
       ap (λ (o : Option Basic). typed_entry ids kind (unwrap_or o basics.Array) bytes) typed
           ∙ ap (λ (n : ℕ). record { number = n; basic = entry.basic; bits = big_number width (drop (lead + 1) bytes) }) number
@@ -162,7 +169,7 @@ pub record IsEntryAt (ids : IdSize) (kind : EntryKind) (bytes : List ℕ) (at en
   pub spelled : drop at bytes ≡ entry_bytes ids kind (entry_in ids kind (drop at bytes)) ++ drop end bytes
 
 pub entry_passed : (ids : IdSize) (kind : EntryKind) (bounds : Bounds) (bytes : List ℕ) (at end : ℕ) → IsBytes bytes
-  → bounds.there ≤ length bytes
+    → bounds.there ≤ length bytes
     → entry_end ids kind bounds bytes at ≡ Ok end → IsEntryAt ids kind bytes at end × IsWithin bounds end
 unfolding entry_end
 entry_passed ids kind bounds bytes at end are there e =
@@ -173,7 +180,7 @@ entry_passed ids kind bounds bytes at end are there e =
     let second = then_ok (judged_type found) (λ (basic : Basic). reached bounds first.0 (bits_width ids kind basic ∷ [])) end first.2 in
     let basic = second.0 in
     let typed : basic_of_code (slice_index (drop lead (drop at bytes)) 0) ≡ Some basic = ap basic_of_code (type_place lead at bytes)
-      ∙ judged_ok found basic second.1 in
+    ∙ judged_ok found basic second.1 in
     let entry = entry_in ids kind (drop at bytes) in
     let is : entry.basic ≡ basic = ap (λ (o : Option Basic). unwrap_or o basics.Array) typed in
     let width : bits_width ids kind entry.basic ≡ bits_width ids kind basic = ap (bits_width ids kind) is in
@@ -184,14 +191,14 @@ entry_passed ids kind bounds bytes at end are there e =
     let long : entry_len ids kind entry ≤ length (drop at bytes) = omega (arith, length-drop at bytes, last.1.there, there, ends) in
     let spelled = entry_found ids kind (drop at bytes) basic (IsBytes-drop at bytes are) typed long in
     let rest : drop (entry_len ids kind entry) (drop at bytes) ≡ drop end bytes = drop-drop (entry_len ids kind entry) at bytes
-      ∙ ap (λ (n : ℕ). drop n bytes) (sym ends) in
+    ∙ ap (λ (n : ℕ). drop n bytes) (sym ends) in
     (record { ends = ends; spelled = spelled ∙ ap (λ (r : List ℕ). entry_bytes ids kind entry ++ r) rest }, last.1)
 
 -- an entry that is spelled there passes its tests
 pub entry_passes : (ids : IdSize) (kind : EntryKind) (bounds : Bounds) (bytes : List ℕ) (at : ℕ) (entry : Entry) (rest : List ℕ)
-  → EntryFits ids kind entry
+    → EntryFits ids kind entry
     → drop at bytes ≡ entry_bytes ids kind entry ++ rest → IsWithin bounds (at + entry_len ids kind entry)
-      → entry_end ids kind bounds bytes at ≡ Ok (at + entry_len ids kind entry)
+    → entry_end ids kind bounds bytes at ≡ Ok (at + entry_len ids kind entry)
 unfolding entry_end
 entry_passes ids kind bounds bytes at entry rest fits spelled within =
     let lead = lead_width ids kind in
@@ -199,18 +206,18 @@ entry_passes ids kind bounds bytes at entry rest fits spelled within =
     let again = entry_again ids kind entry rest fits in
     let typed : basic_of_code (slice_index bytes (at + lead)) ≡ Some entry.basic =
     ap basic_of_code (sym (type_place lead at bytes)) ∙ ap (λ (r : List ℕ). basic_of_code (slice_index (drop lead r) 0)) spelled
-      ∙ again.0 in
+    ∙ again.0 in
     let sums : sum (lead ∷ 1 ∷ []) ≡ lead + 1 = omega (arith, sum_widths lead (1 ∷ []), sum_widths 1 []) in
     let one : sum (width ∷ []) ≡ width = omega (arith, sum_widths width []) in
     let front = reached_within bounds at (lead ∷ 1 ∷ []) (within-less bounds (at + sum (lead ∷ 1 ∷ [])) (at + entry_len ids kind entry)
-      (omega arith) within) in
+    (omega arith) within) in
     let last = reached_within bounds (at + sum (lead ∷ 1 ∷ [])) (width ∷ [])
     (within-less bounds (at + sum (lead ∷ 1 ∷ []) + sum (width ∷ [])) (at + entry_len ids kind entry) (omega arith) within) in
     then_next (reached bounds at (lead ∷ 1 ∷ []))
     (λ (end : ℕ). judged_type (basic_of_code (slice_index bytes (at + lead))) >>= λ (basic : Basic).
-      reached bounds end (bits_width ids kind basic ∷ [])) (at + sum (lead ∷ 1 ∷ [])) front
+    reached bounds end (bits_width ids kind basic ∷ [])) (at + sum (lead ∷ 1 ∷ [])) front
     ∙ ap (λ (o : Option Basic). judged_type o >>= λ (basic : Basic). reached bounds (at + sum (lead ∷ 1 ∷ []))
-      (bits_width ids kind basic ∷ [])) typed
+    (bits_width ids kind basic ∷ [])) typed
     ∙ last ∙ ap Ok (omega arith)
 
 -- ---- entries, one behind the other
@@ -219,7 +226,7 @@ entry_passes ids kind bounds bytes at entry rest fits spelled within =
 pub length-entries : (ids : IdSize) (kind : EntryKind) (count : ℕ) (bytes : List ℕ) → length (entries_in ids kind count bytes) ≡ count
 length-entries ids kind zero bytes = refl
 length-entries ids kind (suc count) bytes =
-  ap suc (length-entries ids kind count (drop (entry_len ids kind (entry_in ids kind bytes)) bytes))
+    ap suc (length-entries ids kind count (drop (entry_len ids kind (entry_in ids kind bytes)) bytes))
 
 -- what is spelled is read, whatever follows
 pub entries_again : (ids : IdSize) (kind : EntryKind) (entries : List Entry) (rest : List ℕ) → EntriesFit ids kind entries
@@ -230,7 +237,7 @@ entries_again ids kind (entry ∷ entries) rest fits =
     let again = entry_again ids kind entry back fits.0 in
     ap (entries_in ids kind (suc (length entries))) (append_assoc (entry_bytes ids kind entry) (entries_bytes ids kind entries) rest)
     ∙ ap (λ (e : Entry). e ∷ entries_in ids kind (length entries) (drop (entry_len ids kind e) (entry_bytes ids kind entry ++ back)))
-      again.1
+    again.1
     ∙ ap (λ (r : List ℕ). entry ∷ entries_in ids kind (length entries) r) again.2
     ∙ ap (λ (es : List Entry). entry ∷ es) (entries_again ids kind entries rest fits.1)
 
@@ -267,5 +274,11 @@ bits_most ids kinds.Field basic = omega arith
 pub entries_most : (ids : IdSize) (kind : EntryKind) (entries : List Entry) → length (entries_bytes ids kind entries) ≤ 17 * length entries
 entries_most ids kind [] = omega arith
 entries_most ids kind (entry ∷ entries) =
-    omega (arith, length-append (entry_bytes ids kind entry) (entries_bytes ids kind entries), length-entry ids kind entry,
-      lead_most ids kind, bits_most ids kind entry.basic, entries_most ids kind entries)
+    omega (
+      arith,
+      length-append (entry_bytes ids kind entry) (entries_bytes ids kind entries),
+      length-entry ids kind entry,
+      lead_most ids kind,
+      bits_most ids kind entry.basic,
+      entries_most ids kind entries,
+    )

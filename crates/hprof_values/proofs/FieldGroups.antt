@@ -26,19 +26,29 @@ pub length-fields : (widths numbers : List ℕ) → FitFields widths numbers →
 length-fields [] [] fits = refl
 length-fields [] (n ∷ ns) fits = absurd fits
 length-fields (w ∷ ws) [] fits = absurd fits
-length-fields (w ∷ ws) (n ∷ ns) fits = omega (arith, length-append (big_bytes w n) (field_bytes ws ns), length-bytes_high_first w n,
-  length-fields ws ns fits.1, sum_widths w ws)
+length-fields (w ∷ ws) (n ∷ ns) fits = omega (
+  arith,
+  length-append (big_bytes w n) (field_bytes ws ns),
+  length-bytes_high_first w n,
+  length-fields ws ns fits.1,
+  sum_widths w ws,
+)
 
 -- what is spelled is read, whatever follows
 pub fields_again : (widths numbers rest : List ℕ) → FitFields widths numbers → fields_in widths (field_bytes widths numbers ++ rest)
-  ≡ numbers
+    ≡ numbers
 fields_again [] [] rest fits = refl
 fields_again [] (n ∷ ns) rest fits = absurd fits
 fields_again (w ∷ ws) [] rest fits = absurd fits
 fields_again (w ∷ ws) (n ∷ ns) rest fits =
     let back : List ℕ = field_bytes ws ns ++ rest in
-    rw (append_assoc (big_bytes w n) (field_bytes ws ns) rest, big_number-reads_back w n back fits.0, drop_at (big_bytes w n) back w
-      (length-bytes_high_first w n), fields_again ws ns rest fits.1) refl
+    rw (
+      append_assoc (big_bytes w n) (field_bytes ws ns) rest,
+      big_number-reads_back w n back fits.0,
+      drop_at (big_bytes w n) back w
+          (length-bytes_high_first w n),
+      fields_again ws ns rest fits.1,
+    ) refl
 
 -- the bytes behind a group
 pub fields_rest : (widths numbers rest : List ℕ) → FitFields widths numbers → drop (sum widths) (field_bytes widths numbers ++ rest) ≡ rest
@@ -51,16 +61,16 @@ fields_fit (w ∷ ws) bytes are = (big_from-lt 0 w bytes are, fields_fit ws (dro
 
 -- what is read is spelled so
 pub fields_found : (widths bytes : List ℕ) → IsBytes bytes → sum widths ≤ length bytes
-  → bytes ≡ field_bytes widths (fields_in widths bytes) ++ drop (sum widths) bytes
+    → bytes ≡ field_bytes widths (fields_in widths bytes) ++ drop (sum widths) bytes
 fields_found [] bytes are long = refl
 fields_found (w ∷ ws) bytes are long =
     let all = sum_widths w ws in
     let more = fields_found ws (drop w bytes) (IsBytes-drop w bytes are) (omega (arith, length-drop w bytes)) in
     let rest : drop (sum ws) (drop w bytes) ≡ drop (sum (w ∷ ws)) bytes = drop-drop (sum ws) w bytes
-      ∙ ap (λ (n : ℕ). drop n bytes) (sym all) in
+    ∙ ap (λ (n : ℕ). drop n bytes) (sym all) in
     number_parts w bytes are (omega arith)
     ∙ ap (λ (r : List ℕ). big_bytes w (big_number w bytes) ++ r) (more
-      ∙ ap (λ (r : List ℕ). field_bytes ws (fields_in ws (drop w bytes)) ++ r) rest)
+    ∙ ap (λ (r : List ℕ). field_bytes ws (fields_in ws (drop w bytes)) ++ r) rest)
     ∙ sym (append_assoc (big_bytes w (big_number w bytes)) (field_bytes ws (fields_in ws (drop w bytes))) (drop (sum (w ∷ ws)) bytes))
 
 -- ---- where they end
@@ -81,14 +91,14 @@ passed false stop r x e = (refl, e)
 field_passed : (bounds : Bounds) (end last : ℕ) → field_end bounds end ≡ Ok last → (last ≡ end) × IsWithin bounds end
 field_passed bounds end last e =
     let room = passed (ltb bounds.room end) (Fault PastEnd) (cond (ltb bounds.longest end) (Err TooLong)
-      (cond (ltb bounds.there end) (Err Short) (Ok end))) last e in
+    (cond (ltb bounds.there end) (Err Short) (Ok end))) last e in
     let longest = passed (ltb bounds.longest end) TooLong (cond (ltb bounds.there end) (Err Short) (Ok end)) last room.1 in
     let there = passed (ltb bounds.there end) Short (Ok end) last longest.1 in
     (cc, record { room = ltb-false _ _ room.0; longest = ltb-false _ _ longest.0; there = ltb-false _ _ there.0 })
 
 -- a step that went well, and what came next
 pub then_ok : {A B : Type 0} (r : Result A Stop) (next : A → Result B Stop) (y : B) → (r >>= next) ≡ Ok y → (x : A) × (r ≡ Ok x)
-  × (next x ≡ Ok y)
+    × (next x ≡ Ok y)
 then_ok (Ok x) next y e = (x, refl, e)
 then_ok (Err stop) next y e = absurd cc
 
@@ -99,12 +109,16 @@ then_next (Err stop) next x e = absurd cc
 
 -- within all bounds, so is what ends before it
 pub within-less : (bounds : Bounds) (less end : ℕ) → less ≤ end → IsWithin bounds end → IsWithin bounds less
-within-less bounds less end le within = record { room = omega (arith, within.room); longest = omega (arith, within.longest); there =
-  omega (arith, within.there) }
+within-less bounds less end le within = record {
+  room = omega (arith, within.room);
+  longest = omega (arith, within.longest);
+  there =
+      omega (arith, within.there);
+}
 
 -- a group that ends within all bounds
 pub reached_within : (bounds : Bounds) (at : ℕ) (widths : List ℕ) → IsWithin bounds (at + sum widths)
-  → reached bounds at widths ≡ Ok (at + sum widths)
+    → reached bounds at widths ≡ Ok (at + sum widths)
 reached_within bounds at [] within = ap Ok (omega arith)
 reached_within bounds at (w ∷ ws) within =
     let all = sum_widths w ws in
@@ -114,7 +128,7 @@ reached_within bounds at (w ∷ ws) within =
 
 -- a group that passed its tests
 pub reached_passed : (bounds : Bounds) (at w : ℕ) (ws : List ℕ) (end : ℕ) → reached bounds at (w ∷ ws) ≡ Ok end
-  → (end ≡ at + sum (w ∷ ws)) × IsWithin bounds end
+    → (end ≡ at + sum (w ∷ ws)) × IsWithin bounds end
 reached_passed bounds at w [] end e =
     let all = sum_widths w [] in
     let first = then_ok (field_end bounds (at + w)) (λ (last : ℕ). Ok last) end e in
@@ -132,7 +146,7 @@ reached_passed bounds at w (v ∷ ws) end e =
 field_short : (bounds : Bounds) (end : ℕ) → end ≤ bounds.room → end ≤ bounds.longest → bounds.there < end → field_end bounds end ≡ Err Short
 field_short bounds end room longest there =
     cond-false (ltb bounds.room end) _ _ (le-ltb _ _ room) ∙ cond-false (ltb bounds.longest end) _ _ (le-ltb _ _ longest)
-      ∙ cond-true (ltb bounds.there end) _ _ (lt-ltb _ _ there)
+    ∙ cond-true (ltb bounds.there end) _ _ (lt-ltb _ _ there)
 
 -- what comes after a step that stopped
 pub then_stop : {A B : Type 0} (r : Result A Stop) (next : A → Result B Stop) (stop : Stop) → r ≡ Err stop → (r >>= next) ≡ Err stop
@@ -141,7 +155,7 @@ then_stop (Err other) next stop e = ap Err (cc)
 
 -- a group of which a front is there, within the record and the longest item
 pub reached_short : (bounds : Bounds) (at : ℕ) (widths : List ℕ) → at ≤ bounds.there → bounds.there < at + sum widths
-  → at + sum widths ≤ bounds.room → at + sum widths ≤ bounds.longest
+    → at + sum widths ≤ bounds.room → at + sum widths ≤ bounds.longest
     → reached bounds at widths ≡ Err Short
 reached_short bounds at [] begun there room longest = absurd (omega arith)
 reached_short bounds at (w ∷ ws) begun there room longest =
@@ -150,42 +164,46 @@ reached_short bounds at (w ∷ ws) begun there room longest =
     elim (cases_lt bounds.there (at + w)) [
       | inl cut ↦ then_stop (field_end bounds (at + w)) next Short (field_short bounds (at + w) (omega arith) (omega arith) cut)
       | inr more ↦
-          then_next (field_end bounds (at + w)) next (at + w) (field_within bounds (at + w) (record { room = omega arith; longest =
-            omega arith; there = more }))
+          then_next (field_end bounds (at + w)) next (at + w) (field_within bounds (at + w) (record {
+            room = omega arith;
+            longest =
+                omega arith;
+            there = more;
+          }))
           ∙ reached_short bounds (at + w) ws more (omega arith) (omega arith) (omega arith)
     ]
 
 -- answers behind one test
 guarded : (t : Bool) (stop : Stop) (r s : Result ℕ Stop) → (r ≡ Err Short) ⊎ (s ≡ r) → (cond t (Err stop) r ≡ Err Short)
-  ⊎ (cond t (Err stop) s ≡ cond t (Err stop) r)
+    ⊎ (cond t (Err stop) s ≡ cond t (Err stop) r)
 guarded true stop r s h = inr refl
 guarded false stop r s h = h
 
 -- a test that is not for want of bytes answers the same when there are more
 field_more : (bounds : Bounds) (end more : ℕ) → (field_end bounds end ≡ Err Short)
-  ⊎ (field_end (with_more bounds more) end ≡ field_end bounds end)
+    ⊎ (field_end (with_more bounds more) end ≡ field_end bounds end)
 field_more bounds end more = elim (cases_lt bounds.there end) [
   | inr there ↦
       let last : ltb bounds.there end ≡ ltb (bounds.there + more) end = le-ltb _ _ there ∙ sym (le-ltb _ _ (omega arith)) in
       inr (ap (λ (t : Bool). cond (ltb bounds.room end) (Err (Fault PastEnd)) (cond (ltb bounds.longest end) (Err TooLong)
-        (cond t (Err Short) (Ok end)))) (sym last))
+      (cond t (Err Short) (Ok end)))) (sym last))
   | inl cut ↦ guarded (ltb bounds.room end) (Fault PastEnd) _ _ (guarded (ltb bounds.longest end) TooLong _ _
-    (inl (cond-true (ltb bounds.there end) _ _ (lt-ltb _ _ cut))))
+      (inl (cond-true (ltb bounds.there end) _ _ (lt-ltb _ _ cut))))
 ]
 
 -- two steps, each of which answers the same unless for want of bytes
 pub then_more : {A B : Type 0} (r s : Result A Stop) (next later : A → Result B Stop) → (r ≡ Err Short) ⊎ (s ≡ r)
-  → ((x : A) → (next x ≡ Err Short) ⊎ (later x ≡ next x))
+    → ((x : A) → (next x ≡ Err Short) ⊎ (later x ≡ next x))
     → ((r >>= next) ≡ Err Short) ⊎ ((s >>= later) ≡ (r >>= next))
 then_more r s next later (inl short) h = inl (then_stop r next Short short)
 then_more (Ok x) s next later (inr same) h =
-  elim (h x) [ inl short ↦ inl short | inr more ↦ inr (ap (λ (r : Result _ Stop). r >>= later) same ∙ more) ]
+    elim (h x) [ inl short ↦ inl short | inr more ↦ inr (ap (λ (r : Result _ Stop). r >>= later) same ∙ more) ]
 then_more (Err stop) s next later (inr same) h = inr (ap (λ (r : Result _ Stop). r >>= later) same)
 
 -- a group that does not want for bytes ends the same when there are more
 pub reached_more : (bounds : Bounds) (at more : ℕ) (widths : List ℕ) → (reached bounds at widths ≡ Err Short)
-  ⊎ (reached (with_more bounds more) at widths ≡ reached bounds at widths)
+    ⊎ (reached (with_more bounds more) at widths ≡ reached bounds at widths)
 reached_more bounds at more [] = inr refl
 reached_more bounds at more (w ∷ ws) = then_more (field_end bounds (at + w)) (field_end (with_more bounds more) (at + w))
     (λ (end : ℕ). reached bounds end ws) (λ (end : ℕ). reached (with_more bounds more) end ws) (field_more bounds (at + w) more) (λ end.
-      reached_more bounds end more ws)
+    reached_more bounds end more ws)

@@ -28,26 +28,26 @@ pub record IsSpelledAt (ids : IdSize) (kind : EntryKind) (bytes : List ℕ) (cou
 
 -- the entry at a place, and then the others
 spelled_more : (ids : IdSize) (kind : EntryKind) (bytes : List ℕ) (count at mid end : ℕ)
-  → mid ≡ at + entry_len ids kind (entry_in ids kind (drop at bytes))
+    → mid ≡ at + entry_len ids kind (entry_in ids kind (drop at bytes))
     → drop at bytes ≡ entry_bytes ids kind (entry_in ids kind (drop at bytes)) ++ drop mid bytes
-      → IsSpelledAt ids kind bytes count mid end → IsSpelledAt ids kind bytes (suc count) at end
+    → IsSpelledAt ids kind bytes count mid end → IsSpelledAt ids kind bytes (suc count) at end
 spelled_more ids kind bytes count at mid end ends spelled others =
     let entry = entry_in ids kind (drop at bytes) in
     let behind : drop (entry_len ids kind entry) (drop at bytes) ≡ drop mid bytes = drop-drop (entry_len ids kind entry) at bytes
-      ∙ ap (λ (n : ℕ). drop n bytes) (sym ends) in
+    ∙ ap (λ (n : ℕ). drop n bytes) (sym ends) in
     let rest : List ℕ = entries_bytes ids kind (entries_in ids kind count (drop mid bytes)) in
     let same : entries_bytes ids kind (entries_in ids kind count (drop (entry_len ids kind entry) (drop at bytes))) ≡ rest =
     ap (λ (b : List ℕ). entries_bytes ids kind (entries_in ids kind count b)) behind in
     record {
       spelled = spelled ∙ ap (λ (r : List ℕ). entry_bytes ids kind entry ++ r) others.spelled
-        ∙ sym (append_assoc (entry_bytes ids kind entry) rest (drop end bytes))
+          ∙ sym (append_assoc (entry_bytes ids kind entry) rest (drop end bytes))
           ∙ ap (λ (r : List ℕ). (entry_bytes ids kind entry ++ r) ++ drop end bytes) (sym same);
       ends = omega (
         arith,
         ends,
         others.ends,
         length-append (entry_bytes ids kind entry)
-          (entries_bytes ids kind (entries_in ids kind count (drop (entry_len ids kind entry) (drop at bytes)))),
+            (entries_bytes ids kind (entries_in ids kind count (drop (entry_len ids kind entry) (drop at bytes)))),
         length-entry ids kind entry,
         ap length same,
       );
@@ -55,7 +55,7 @@ spelled_more ids kind bytes count at mid end ends spelled others =
 
 -- entries that passed their tests are spelled there
 pub entries_passed : (ids : IdSize) (kind : EntryKind) (bounds : Bounds) (bytes : List ℕ) (count at end : ℕ) → IsBytes bytes
-  → bounds.there ≤ length bytes → IsWithin bounds at
+    → bounds.there ≤ length bytes → IsWithin bounds at
     → entries_end ids kind bounds bytes count at ≡ Ok end → IsSpelledAt ids kind bytes count at end × IsWithin bounds end
 entries_passed ids kind bounds bytes zero at end are there within e =
     let same : at ≡ end = cc in
@@ -68,7 +68,7 @@ entries_passed ids kind bounds bytes (suc count) at end are there within e =
 
 -- entries that are spelled there pass their tests
 pub entries_pass : (ids : IdSize) (kind : EntryKind) (bounds : Bounds) (bytes : List ℕ) (entries : List Entry) (rest : List ℕ) (at : ℕ)
-  → EntriesFit ids kind entries
+    → EntriesFit ids kind entries
     → drop at bytes ≡ entries_bytes ids kind entries ++ rest → IsWithin bounds (at + length (entries_bytes ids kind entries))
     → entries_end ids kind bounds bytes (length entries) at ≡ Ok (at + length (entries_bytes ids kind entries))
 entries_pass ids kind bounds bytes [] rest at fits spelled within = ap Ok (omega arith)
@@ -79,25 +79,25 @@ entries_pass ids kind bounds bytes (entry ∷ entries) rest at fits spelled with
     let end : ℕ = at + length (entries_bytes ids kind (entry ∷ entries)) in
     let mid : ℕ = at + entry_len ids kind entry in
     let front : drop at bytes ≡ entry_bytes ids kind entry ++ others =
-      spelled ∙ append_assoc (entry_bytes ids kind entry) (entries_bytes ids kind entries) rest in
+    spelled ∙ append_assoc (entry_bytes ids kind entry) (entries_bytes ids kind entries) rest in
     let back : drop mid bytes ≡ others = ap (λ (n : ℕ). drop n bytes) (omega (arith, len))
-      ∙ sym (drop-drop (length (entry_bytes ids kind entry)) at bytes)
+    ∙ sym (drop-drop (length (entry_bytes ids kind entry)) at bytes)
     ∙ ap (drop (length (entry_bytes ids kind entry))) front ∙ drop_at (entry_bytes ids kind entry) others
-      (length (entry_bytes ids kind entry)) refl in
+    (length (entry_bytes ids kind entry)) refl in
     let first = entry_passes ids kind bounds bytes at entry others fits.0 front
-      (within-less bounds mid end (omega (arith, len, all)) within) in
+    (within-less bounds mid end (omega (arith, len, all)) within) in
     let more = entries_pass ids kind bounds bytes entries rest mid fits.1 back
-      (within-less bounds (mid + length (entries_bytes ids kind entries)) end (omega (arith, len, all)) within) in
+    (within-less bounds (mid + length (entries_bytes ids kind entries)) end (omega (arith, len, all)) within) in
     then_next (entry_end ids kind bounds bytes at) (λ (e : ℕ). entries_end ids kind bounds bytes (length entries) e) mid first ∙ more
-      ∙ ap Ok (omega (arith, len, all))
+    ∙ ap Ok (omega (arith, len, all))
 
 -- an entry that stops stops them all
 pub entries_stop : (ids : IdSize) (kind : EntryKind) (bounds : Bounds) (bytes : List ℕ) (left at : ℕ) (stop : Stop) → 0 < left
-  → entry_end ids kind bounds bytes at ≡ Err stop
+    → entry_end ids kind bounds bytes at ≡ Err stop
     → entries_end ids kind bounds bytes left at ≡ Err stop
 entries_stop ids kind bounds bytes zero at stop some e = absurd (omega arith)
 entries_stop ids kind bounds bytes (suc left) at stop some e = then_stop (entry_end ids kind bounds bytes at) (λ (end : ℕ).
-  entries_end ids kind bounds bytes left end) stop e
+    entries_end ids kind bounds bytes left end) stop e
 
 -- the bytes between the places, by themselves
 pub record IsSpan (ids : IdSize) (kind : EntryKind) (bytes span : List ℕ) (count at : ℕ) : Type 0 where
@@ -105,17 +105,17 @@ pub record IsSpan (ids : IdSize) (kind : EntryKind) (bytes span : List ℕ) (cou
   pub spelled : span ≡ entries_bytes ids kind (entries_in ids kind count span)
 
 pub span_between : (ids : IdSize) (kind : EntryKind) (bytes span : List ℕ) (count at end : ℕ) → IsBytes bytes
-  → IsSpelledAt ids kind bytes count at end → span ≡ take (end - at) (drop at bytes)
+    → IsSpelledAt ids kind bytes count at end → span ≡ take (end - at) (drop at bytes)
     → IsSpan ids kind bytes span count at
 span_between ids kind bytes span count at end are is cut =
     let entries : List Entry = entries_in ids kind count (drop at bytes) in
     let body : List ℕ = entries_bytes ids kind entries in
     let whole : span ≡ body = cut ∙ ap (take (end - at)) is.spelled ∙ take_at body (drop end bytes) (end - at) (omega (arith, is.ends)) in
     let again : entries_in ids kind (length entries) (body ++ []) ≡ entries =
-      entries_again ids kind entries [] (entries_fit ids kind count (drop at bytes) (IsBytes-drop at bytes are)) in
+    entries_again ids kind entries [] (entries_fit ids kind count (drop at bytes) (IsBytes-drop at bytes are)) in
     let same : entries_in ids kind count span ≡ entries =
     ap (entries_in ids kind count) (whole ∙ sym (append-nil body)) ∙ ap (λ (n : ℕ). entries_in ids kind n (body ++ []))
-      (sym (length-entries ids kind count (drop at bytes))) ∙ again in
+    (sym (length-entries ids kind count (drop at bytes))) ∙ again in
     record { entries = same; spelled = whole ∙ ap (entries_bytes ids kind) (sym same) }
 
 -- ---- a list behind its count
@@ -130,15 +130,18 @@ pub record IsListAt (ids : IdSize) (kind : EntryKind) (bounds : Bounds) (bytes :
 
 -- how long a list is
 length-list : (ids : IdSize) (kind : EntryKind) (entries : List Entry) → length (list_bytes ids kind entries)
-  ≡ 2 + length (entries_bytes ids kind entries)
-length-list ids kind entries = omega (arith, length-append (big_bytes 2 (length entries)) (entries_bytes ids kind entries),
-  length-bytes_high_first 2 (length entries))
+    ≡ 2 + length (entries_bytes ids kind entries)
+length-list ids kind entries = omega (
+  arith,
+  length-append (big_bytes 2 (length entries)) (entries_bytes ids kind entries),
+  length-bytes_high_first 2 (length entries),
+)
 
 -- where its entries begin, and how many there are
 pub list_parts : (ids : IdSize) (kind : EntryKind) (bounds : Bounds) (bytes : List ℕ) (at first end : ℕ) → bounds.there ≤ length bytes
-  → reached bounds at (2 ∷ []) ≡ Ok first
+    → reached bounds at (2 ∷ []) ≡ Ok first
     → entries_end ids kind bounds bytes (big_number 2 (drop at bytes)) first ≡ Ok end → IsBytes bytes
-      → IsSpelledAt ids kind bytes (big_number 2 (drop at bytes)) (at + 2) end × (first ≡ at + 2)
+    → IsSpelledAt ids kind bytes (big_number 2 (drop at bytes)) (at + 2) end × (first ≡ at + 2)
 list_parts ids kind bounds bytes at first end there begin e are =
     let passed = reached_passed bounds at 2 [] first begin in
     let two : first ≡ at + 2 = omega (arith, passed.0, sum_widths 2 []) in
@@ -146,7 +149,7 @@ list_parts ids kind bounds bytes at first end there begin e are =
     (subst (λ (n : ℕ). IsSpelledAt ids kind bytes (big_number 2 (drop at bytes)) n end) two behind.0, two)
 
 pub list_passed : (ids : IdSize) (kind : EntryKind) (bounds : Bounds) (bytes : List ℕ) (at end : ℕ) → IsBytes bytes
-  → bounds.there ≤ length bytes
+    → bounds.there ≤ length bytes
     → list_end ids kind bounds bytes at ≡ Ok end → IsListAt ids kind bounds bytes at end
 unfolding list_end
 list_passed ids kind bounds bytes at end are there e =
@@ -159,13 +162,18 @@ list_passed ids kind bounds bytes at end are there e =
     let behind = entries_passed ids kind bounds bytes count first.0 end are there passed.1 first.2 in
     let len : length entries ≡ count = length-entries ids kind count (drop (at + 2) bytes) in
     let few : count < 256 ^ 2 = big_from-lt 0 2 (drop at bytes) (IsBytes-drop at bytes are) in
-    let parts = number_parts 2 (drop at bytes) (IsBytes-drop at bytes are) (omega (arith, length-drop at bytes, passed.1.there, lies.1,
-      there)) in
+    let parts = number_parts 2 (drop at bytes) (IsBytes-drop at bytes are) (omega (
+      arith,
+      length-drop at bytes,
+      passed.1.there,
+      lies.1,
+      there,
+    )) in
     let back : drop 2 (drop at bytes) ≡ drop (at + 2) bytes = drop-drop 2 at bytes ∙ ap (λ (n : ℕ). drop n bytes) (omega arith) in
     record {
       fits = (entries_fit ids kind count (drop (at + 2) bytes) (IsBytes-drop (at + 2) bytes are), omega (arith, len, few));
       spelled = parts ∙ ap (λ (r : List ℕ). big_bytes 2 count ++ r) (back ∙ spelled.spelled)
-        ∙ sym (append_assoc (big_bytes 2 count) (entries_bytes ids kind entries) (drop end bytes))
+          ∙ sym (append_assoc (big_bytes 2 count) (entries_bytes ids kind entries) (drop end bytes))
           ∙ ap (λ (n : ℕ). (big_bytes 2 n ++ entries_bytes ids kind entries) ++ drop end bytes) (sym len);
       ends = omega (arith, spelled.ends, length-list ids kind entries);
       entries = spelled;
@@ -179,15 +187,15 @@ pub record IsListSpan (ids : IdSize) (kind : EntryKind) (bytes span : List ℕ) 
   pub spelled : span ≡ entries_bytes ids kind (entries_in ids kind count span)
 
 pub list_span : (ids : IdSize) (kind : EntryKind) (bounds : Bounds) (bytes span : List ℕ) (count at first end : ℕ) → IsBytes bytes
-  → bounds.there ≤ length bytes
+    → bounds.there ≤ length bytes
     → count ≡ big_number 2 (drop at bytes) → reached bounds at (2 ∷ []) ≡ Ok first → entries_end ids kind bounds bytes count first ≡ Ok end
     → span ≡ take (end - first) (drop first bytes) → IsListSpan ids kind bytes span count at first end
 list_span ids kind bounds bytes span count at first end are there counted begin e cut =
     let lies = list_parts ids kind bounds bytes at first end there begin (ap (λ (n : ℕ). entries_end ids kind bounds bytes n first)
-      (sym counted) ∙ e) are in
+    (sym counted) ∙ e) are in
     let is = subst (λ (n : ℕ). IsSpelledAt ids kind bytes n (at + 2) end) (sym counted) lies.0 in
     let between = span_between ids kind bytes span count (at + 2) end are is (subst (λ (n : ℕ). span ≡ take (end - n) (drop n bytes))
-      lies.1 cut) in
+    lies.1 cut) in
     record {
       ends = omega (arith, is.ends, lies.1);
       entries = between.entries ∙ ap (λ (n : ℕ). entries_in ids kind n (drop (at + 2) bytes)) counted;
@@ -196,7 +204,7 @@ list_span ids kind bounds bytes span count at first end are there counted begin 
 
 -- a list that is spelled there passes its tests, and is read
 pub list_passes : (ids : IdSize) (kind : EntryKind) (bounds : Bounds) (bytes : List ℕ) (entries : List Entry) (rest : List ℕ) (at : ℕ)
-  → ListFits ids kind entries
+    → ListFits ids kind entries
     → drop at bytes ≡ list_bytes ids kind entries ++ rest → IsWithin bounds (at + length (list_bytes ids kind entries))
     → (list_end ids kind bounds bytes at ≡ Ok (at + length (list_bytes ids kind entries))) × (list_in ids kind bytes at ≡ entries)
     × (drop (at + length (list_bytes ids kind entries)) bytes ≡ rest)
@@ -206,23 +214,23 @@ list_passes ids kind bounds bytes entries rest at fits spelled within =
     let end : ℕ = at + length (list_bytes ids kind entries) in
     let len = length-list ids kind entries in
     let front : drop at bytes ≡ big_bytes 2 (length entries) ++ (body ++ rest) =
-      spelled ∙ append_assoc (big_bytes 2 (length entries)) body rest in
+    spelled ∙ append_assoc (big_bytes 2 (length entries)) body rest in
     let count : big_number 2 (drop at bytes) ≡ length entries =
     ap (big_number 2) front ∙ big_number-reads_back 2 (length entries) (body ++ rest) (omega (arith, fits.1)) in
     let back : drop (at + 2) bytes ≡ body ++ rest =
     ap (λ (n : ℕ). drop n bytes) (omega arith) ∙ sym (drop-drop 2 at bytes) ∙ ap (drop 2) front ∙ drop_at (big_bytes 2 (length entries))
-      (body ++ rest) 2 (length-bytes_high_first 2 (length entries)) in
+    (body ++ rest) 2 (length-bytes_high_first 2 (length entries)) in
     let first : reached bounds at (2 ∷ []) ≡ Ok (at + 2) =
     reached_within bounds at (2 ∷ []) (within-less bounds (at + sum (2 ∷ [])) end (omega (arith, len, sum_widths 2 [])) within)
-      ∙ ap Ok (omega (arith, sum_widths 2 [])) in
+    ∙ ap Ok (omega (arith, sum_widths 2 [])) in
     let more = entries_pass ids kind bounds bytes entries rest (at + 2) fits.0 back (within-less bounds (at + 2 + length body) end
-      (omega (arith, len)) within) in (
+    (omega (arith, len)) within) in (
       then_next (reached bounds at (2 ∷ [])) (λ (begin : ℕ). entries_end ids kind bounds bytes (big_number 2 (drop at bytes)) begin)
-        (at + 2) first
+          (at + 2) first
           ∙ ap (λ (n : ℕ). entries_end ids kind bounds bytes n (at + 2)) count ∙ more ∙ ap Ok (omega (arith, len)),
       ap (λ (n : ℕ). entries_in ids kind n (drop (at + 2) bytes)) count ∙ ap (entries_in ids kind (length entries)) back
-        ∙ entries_again ids kind entries rest fits.0,
+          ∙ entries_again ids kind entries rest fits.0,
       sym (drop-drop (length (list_bytes ids kind entries)) at bytes ∙ ap (λ (n : ℕ). drop n bytes) (omega arith))
           ∙ ap (drop (length (list_bytes ids kind entries))) spelled ∙ drop_at (list_bytes ids kind entries) rest
-            (length (list_bytes ids kind entries)) refl,
+          (length (list_bytes ids kind entries)) refl,
     )

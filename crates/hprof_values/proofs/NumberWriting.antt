@@ -30,37 +30,37 @@ pub record Put (ids : IdSize) (numbers rest : List Number) (old now : List ℕ) 
 
 -- the number at a place is the first from there on
 pub Put-next : (ids : IdSize) (numbers : List Number) (i : ℕ) (d : Number) (old now : List ℕ) (end : ℕ) → i < length numbers
-  → Put ids numbers (drop i numbers) old now end
+    → Put ids numbers (drop i numbers) old now end
     → Put ids numbers (get_or numbers i d ∷ drop (i + 1) numbers) old now end
 Put-next ids numbers i d old now end lt put =
     let next : suc i ≡ i + 1 = omega arith in
     let first : drop i numbers ≡ get_or numbers i d ∷ drop (i + 1) numbers = drop-cons numbers i d lt
-      ∙ ap (λ (n : ℕ). get_or numbers i d ∷ drop n numbers) next in
+    ∙ ap (λ (n : ℕ). get_or numbers i d ∷ drop n numbers) next in
     subst (λ (rest : List Number). Put ids numbers rest old now end) first put
 
 -- what was put lies in the bytes
 pub Put-lies : (ids : IdSize) (numbers rest : List Number) (old now : List ℕ) (end : ℕ) → sum (number_widths ids numbers) ≤ length old
-  → Put ids numbers rest old now end → end ≤ length now
+    → Put ids numbers rest old now end → end ≤ length now
 Put-lies ids numbers rest old now end room put = omega (arith, put.widths, put.len)
 
 -- the next number has room
 pub Put-room : (ids : IdSize) (numbers : List Number) (number : Number) (rest : List Number) (old now : List ℕ) (end : ℕ)
-  → sum (number_widths ids numbers) ≤ length old
+    → sum (number_widths ids numbers) ≤ length old
     → Put ids numbers (number ∷ rest) old now end → end + width_of_number ids number ≤ length now
 Put-room ids numbers number rest old now end room put =
-  omega (arith, put.widths, put.len, sum_widths (width_of_number ids number) (number_widths ids rest))
+    omega (arith, put.widths, put.len, sum_widths (width_of_number ids number) (number_widths ids rest))
 
 -- a part that was written to the end
 written : (end : ℕ) (now part new : List ℕ) → end ≤ length now → new ≡ put_mid end (length now - end) now part → new ≡ take end now ++ part
 written end now part new le e =
     e ∙ ap (λ (r : List ℕ). take end now ++ (part ++ r)) (drop_all (length now - end) (drop end now)
-      (omega (arith, length-drop end now))) ∙ ap (λ (r : List ℕ). take end now ++ r) (append-nil part)
+    (omega (arith, length-drop end now))) ∙ ap (λ (r : List ℕ). take end now ++ r) (append-nil part)
 
 -- one number more
 pub Put-more : (ids : IdSize) (numbers : List Number) (number : Number) (rest : List Number) (old now part new : List ℕ) (end width : ℕ)
     → sum (number_widths ids numbers) ≤ length old → Put ids numbers (number ∷ rest) old now end → width ≡ width_of_number ids number
     → part ≡ big_bytes (width_of_number ids number) (number_value number) ++ drop (width_of_number ids number)
-      (take (length now - end) (drop end now))
+    (take (length now - end) (drop end now))
     → new ≡ put_mid end (length now - end) now part → Put ids numbers rest old new (end + width)
 Put-more ids numbers number rest old now part new end width room put is e f =
     let w = width_of_number ids number in
@@ -69,20 +69,26 @@ Put-more ids numbers number rest old now part new end width room put is e f =
     let all = sum_widths w (number_widths ids rest) in
     let front : length (take end now) ≡ end = length-take-le end now (omega arith) in
     let joined : length (take end now ++ bytes) ≡ end + width =
-      omega (arith, length-append (take end now) bytes, length-bytes_high_first w (number_value number)) in
+    omega (arith, length-append (take end now) bytes, length-bytes_high_first w (number_value number)) in
     let back : List ℕ = drop w (drop end now) in
     let parts : new ≡ (take end now ++ bytes) ++ back =
     written end now part new (omega arith) f
     ∙ ap (λ (r : List ℕ). take end now ++ r) (e ∙ ap (λ (r : List ℕ). bytes ++ drop w r) (to_the_end end now))
     ∙ sym (append_assoc (take end now) bytes back) in
     record {
-      len = omega (arith, put.len, ap length parts, length-append (take end now ++ bytes) back, length-drop w (drop end now),
-        length-drop end now);
+      len = omega (
+        arith,
+        put.len,
+        ap length parts,
+        length-append (take end now ++ bytes) back,
+        length-drop w (drop end now),
+        length-drop end now,
+      );
       spelled =
           put.spelled
           ∙ sym (append_assoc (take end now) bytes (numbers_bytes ids rest))
           ∙ ap (λ (r : List ℕ). r ++ numbers_bytes ids rest)
-            (sym (ap (take (end + width)) parts ∙ take_at (take end now ++ bytes) back (end + width) joined));
+          (sym (ap (take (end + width)) parts ∙ take_at (take end now ++ bytes) back (end + width) joined));
       behind =
           ap (drop (end + width)) parts ∙ drop_at (take end now ++ bytes) back (end + width) joined
           ∙ ap (drop w) put.behind ∙ drop-drop w end old ∙ ap (λ (n : ℕ). drop (end + n) old) (sym is);
@@ -92,7 +98,7 @@ Put-more ids numbers number rest old now part new end width room put is e f =
 
 -- all of them
 pub Put-all : (ids : IdSize) (numbers : List Number) (i : ℕ) (old now : List ℕ) (end : ℕ) → length numbers ≤ i
-  → Put ids numbers (drop i numbers) old now end
+    → Put ids numbers (drop i numbers) old now end
     → now ≡ numbers_bytes ids numbers ++ drop (sum (number_widths ids numbers)) old
 Put-all ids numbers i old now end le some =
     let put = subst (λ (rest : List Number). Put ids numbers rest old now end) (drop_all i numbers le) some in
@@ -131,16 +137,16 @@ pub FitSoFar-next : (ids : IdSize) (numbers : List Number) (i : ℕ) (d : Number
 FitSoFar-next ids numbers i d lt fits =
     let next : suc i ≡ i + 1 = omega arith in
     let first : drop i numbers ≡ get_or numbers i d ∷ drop (i + 1) numbers = drop-cons numbers i d lt
-      ∙ ap (λ (n : ℕ). get_or numbers i d ∷ drop n numbers) next in
+    ∙ ap (λ (n : ℕ). get_or numbers i d ∷ drop n numbers) next in
     subst (FitSoFar ids numbers) first fits
 
 -- one number more that fits
 pub FitSoFar-more : (ids : IdSize) (numbers : List Number) (number : Number) (rest : List Number)
-  → number_value number < 256 ^ width_of_number ids number
+    → number_value number < 256 ^ width_of_number ids number
     → FitSoFar ids numbers (number ∷ rest) → FitSoFar ids numbers rest
 FitSoFar-more ids numbers number rest here fits = record { all = λ others. fits.all (here, others); left = λ all. (fits.left all).1 }
 
 -- all of them
 pub FitSoFar-all : (ids : IdSize) (numbers : List Number) (i : ℕ) → length numbers ≤ i → FitSoFar ids numbers (drop i numbers)
-  → FitFields (number_widths ids numbers) (number_values numbers)
+    → FitFields (number_widths ids numbers) (number_values numbers)
 FitSoFar-all ids numbers i le fits = (subst (FitSoFar ids numbers) (drop_all i numbers le) fits).all tt

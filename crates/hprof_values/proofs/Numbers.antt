@@ -27,11 +27,11 @@ byte_at-pow (suc k) x = refl
 byte_at-above : (k more a r : ℕ) → byte_at k (a * 256 ^ (more + 1 + k) + r) ≡ byte_at k r
 byte_at-above k more a r =
     let split : 256 ^ (more + 1 + k) ≡ 256 ^ more * 256 * 256 ^ k = pow-add 256 (more + 1) k
-      ∙ ap (λ (x : ℕ). x * 256 ^ k) (pow-add 256 more 1) in
+    ∙ ap (λ (x : ℕ). x * 256 ^ k) (pow-add 256 more 1) in
     let moved : a * 256 ^ (more + 1 + k) + r ≡ r + (a * 256 ^ more * 256) * 256 ^ k =
     ap (λ (x : ℕ). a * x + r) split
     ∙ ap (λ (x : ℕ). x + r) (sym (mul_assoc a (256 ^ more * 256) (256 ^ k))
-      ∙ ap (λ (x : ℕ). x * 256 ^ k) (sym (mul_assoc a (256 ^ more) 256)))
+    ∙ ap (λ (x : ℕ). x * 256 ^ k) (sym (mul_assoc a (256 ^ more) 256)))
     ∙ add_comm ((a * 256 ^ more * 256) * 256 ^ k) r in
     byte_at-pow k (a * 256 ^ (more + 1 + k) + r)
     ∙ ap (λ (x : ℕ). x / 256 ^ k % 256) moved
@@ -45,7 +45,7 @@ bytes_high_first-above zero n a r le = refl
 bytes_high_first-above (suc k) n a r le =
     let place : n ≡ (n - suc k) + 1 + k = omega arith in
     let byte : byte_at k (a * 256 ^ n + r) ≡ byte_at k r = ap (λ (m : ℕ). byte_at k (a * 256 ^ m + r)) place
-      ∙ byte_at-above k (n - suc k) a r in
+    ∙ byte_at-above k (n - suc k) a r in
     rw (byte, bytes_high_first-above k n a r (omega arith)) refl
 
 -- the bytes of the number in the first n bytes are those bytes
@@ -58,7 +58,7 @@ big_bytes-number (suc n) (b ∷ bytes) are le =
     let byte_fits : b < 256 = are 0 in
     let first : byte_at n (b * 256 ^ n + big_from 0 n bytes) ≡ b =
     byte_at-pow n (b * 256 ^ n + big_from 0 n bytes) ∙ ap (λ (x : ℕ). x % 256) (div-mul-add b (256 ^ n) (big_from 0 n bytes) below)
-      ∙ mod-eq_of_lt byte_fits in
+    ∙ mod-eq_of_lt byte_fits in
     let others : bytes_high_first n (b * 256 ^ n + big_from 0 n bytes) ≡ take n bytes =
     bytes_high_first-above n n b (big_from 0 n bytes) (omega arith) ∙ big_bytes-number n bytes (IsBytes-tail b bytes are) (omega arith) in
     rw (moved, first, others) refl
@@ -73,11 +73,11 @@ IsBytes-drop k bytes are i = rw (get_or-drop k bytes i 0) (are (k + i))
 
 -- a number at a place, and what follows it
 pub number_parts_at : (k n : ℕ) (bytes : List ℕ) → IsBytes bytes → k + n ≤ length bytes
-  → drop k bytes ≡ big_bytes n (big_number n (drop k bytes)) ++ drop (k + n) bytes
+    → drop k bytes ≡ big_bytes n (big_number n (drop k bytes)) ++ drop (k + n) bytes
 number_parts_at k n bytes are le =
     let long : n ≤ length (drop k bytes) = omega (arith, length-drop k bytes) in
     number_parts n (drop k bytes) (IsBytes-drop k bytes are) long ∙ ap (λ (r : List ℕ). big_bytes n (big_number n (drop k bytes)) ++ r)
-      (drop-drop n k bytes)
+    (drop-drop n k bytes)
 
 -- a slice from a place to the end
 pub to_the_end : (k : ℕ) (bytes : List ℕ) → take (length bytes - k) (drop k bytes) ≡ drop k bytes
@@ -85,7 +85,7 @@ to_the_end k bytes = take_all (length bytes - k) (drop k bytes) (omega (arith, l
 
 -- lists that begin with as many numbers are the same part by part
 pub same_parts : (front back others more : List ℕ) → length front ≡ length others → front ++ back ≡ others ++ more → (front ≡ others)
-  × (back ≡ more)
+    × (back ≡ more)
 same_parts [] back [] more len e = (refl, e)
 same_parts [] back (y ∷ others) more len e = absurd (omega arith)
 same_parts (x ∷ front) back [] more len e = absurd (omega arith)

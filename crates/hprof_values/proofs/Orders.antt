@@ -39,17 +39,17 @@ two_digits p q r s t below below_too = elim (cases_order q s) [
     | inl a ↦
         let more : (q + 1) * p ≤ s * p = mul-le-mul_right p (omega arith) in
         sym (nat_cmp_is (q * p + r) (s * p + t) Less (omega arith)) ∙ ap (λ (o : Ordering). ordering_then o (nat_cmp r t))
-          (nat_cmp_is q s Less a)
+        (nat_cmp_is q s Less a)
     | inr b ↦
         let more : (s + 1) * p ≤ q * p = mul-le-mul_right p (omega arith) in
         sym (nat_cmp_is (q * p + r) (s * p + t) Greater (omega arith)) ∙ ap (λ (o : Ordering). ordering_then o (nat_cmp r t))
-          (nat_cmp_is q s Greater b)
+        (nat_cmp_is q s Greater b)
   ]
 ]
 
 -- the first byte of a number, and the bytes of what is left
 first_byte : (w x : ℕ) → x < 256 ^ suc w → (byte_at w x ≡ x / 256 ^ w) × (bytes_high_first w x ≡ bytes_high_first w (x % 256 ^ w))
-  × (x % 256 ^ w < 256 ^ w) × (x ≡ x / 256 ^ w * 256 ^ w + x % 256 ^ w)
+    × (x % 256 ^ w < 256 ^ w) × (x ≡ x / 256 ^ w * 256 ^ w + x % 256 ^ w)
 first_byte w x fits =
     let above : 0 < 256 ^ w = pow256_pos w in
     let parts : x ≡ x / 256 ^ w * 256 ^ w + x % 256 ^ w = omega arith in
@@ -64,7 +64,7 @@ first_byte w x fits =
 pub numbers_in_order : (w x y : ℕ) (r s : List ℕ) → x < 256 ^ w → y < 256 ^ w
     → slice_cmp nat_cmp (big_bytes w x ++ r) (big_bytes w y ++ s) ≡ ordering_then (nat_cmp x y) (slice_cmp nat_cmp r s)
 numbers_in_order zero x y r s fits fits_too = ap (λ (o : Ordering). ordering_then o (slice_cmp nat_cmp r s))
-  (nat_cmp_is x y Equal (omega arith))
+    (nat_cmp_is x y Equal (omega arith))
 numbers_in_order (suc w) x y r s fits fits_too =
     let a = first_byte w x fits in
     let b = first_byte w y fits_too in

@@ -21,7 +21,7 @@ code_of_basic basics.Long = 11
 -- all types, by their codes
 abbrev pub all_basics : List Basic
 all_basics = basics.Array ∷ basics.Object ∷ basics.Boolean ∷ basics.Char ∷ basics.Float ∷ basics.Double ∷ basics.Byte ∷ basics.Short
-  ∷ basics.Int ∷ basics.Long ∷ []
+    ∷ basics.Int ∷ basics.Long ∷ []
 
 -- the type that a code stands for
 abbrev pub basic_of_code : ℕ → Option Basic

@@ -87,7 +87,7 @@ entry_in ids kind bytes = typed_entry ids kind (type_in (drop (lead_width ids ki
 abbrev pub entries_in : IdSize → EntryKind → ℕ → List ℕ → List Entry
 entries_in ids kind zero bytes = []
 entries_in ids kind (suc count) bytes =
-  entry_in ids kind bytes ∷ entries_in ids kind count (drop (entry_len ids kind (entry_in ids kind bytes)) bytes)
+    entry_in ids kind bytes ∷ entries_in ids kind count (drop (entry_len ids kind (entry_in ids kind bytes)) bytes)
 
 -- ---- where they end
 

@@ -21,7 +21,7 @@ code_of_tag tags.RootUnknown = 0xff
 
 abbrev pub all_tags : List SubTag
 all_tags = tags.RootJniGlobal ∷ tags.RootJniLocal ∷ tags.RootJavaFrame ∷ tags.RootNativeStack ∷ tags.RootSticky ∷ tags.RootBlock
-  ∷ tags.RootMonitor ∷ tags.RootThreadObject
+    ∷ tags.RootMonitor ∷ tags.RootThreadObject
     ∷ tags.ClassDump ∷ tags.InstanceDump ∷ tags.ObjArrayDump ∷ tags.PrimArrayDump ∷ tags.RootUnknown ∷ []
 
 -- the tag that a byte stands for

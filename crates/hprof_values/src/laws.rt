@@ -33,7 +33,8 @@ pub fn types_in_order()
 /// Numbers that are spelled in fields are read, whatever follows, and those that are read are spelled so.
 pub fn fields_read_back()
     ensures again { (widths numbers rest : List ℕ) → FitFields widths numbers
-        → (fields_in widths (field_bytes widths numbers ++ rest) ≡ numbers) × (drop (sum widths) (field_bytes widths numbers ++ rest) ≡ rest) }
+        → (fields_in widths (field_bytes widths numbers ++ rest) ≡ numbers)
+        × (drop (sum widths) (field_bytes widths numbers ++ rest) ≡ rest) }
     ensures found { (widths bytes : List ℕ) → IsBytes bytes → sum widths ≤ length bytes
         → FitFields widths (fields_in widths bytes) × (bytes ≡ field_bytes widths (fields_in widths bytes) ++ drop (sum widths) bytes) }
 {}

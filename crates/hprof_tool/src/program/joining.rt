@@ -4,7 +4,8 @@ ghost use Rattle.std.specs.Prelude.{◌≡◌, ℕ, List, [], ◌∷◌, length,
 ghost use Rattle.hprof_items.specs.declared.health.Health.TheVariants.{Well};
 ghost use Rattle.hprof_items.specs.Device.{health_of};
 ghost use Rattle.hprof_tool.specs.declared.program.product.Product.TheVariants.{Dump};
-ghost use Rattle.hprof_tool.specs.Program.{IsRefusal, IsMadeOfStream, IsJoinOfFiles, IsReportOfFiles, IsFilesRefusal, IsReportRefusal, IsOfMaking, IsOfOpening};
+ghost use Rattle.hprof_tool.specs.Program.{IsRefusal, IsMadeOfStream, IsJoinOfFiles, IsReportOfFiles, IsFilesRefusal, IsReportRefusal};
+ghost use Rattle.hprof_tool.specs.Program.{IsOfMaking, IsOfOpening};
 
 use crate::program::making::make_buffered;
 use crate::program::product::Product;

@@ -80,7 +80,8 @@ fn make_into<R: Source, W: Write + Drop>(
 
     // Each part that was read to its end, which are all, or those before the one that was refused: nothing was read behind
     // the end.
-    ensures read_out { AreReadOut R.left R.health R.pulls usual_limits readers.old readers.new (count_read result.outcome (length readers.old)) }
+    ensures read_out { AreReadOut R.left R.health R.pulls usual_limits readers.old readers.new
+        (count_read result.outcome (length readers.old)) }
 {
     let mut target = Device::new(buffered);
     let made = product.make(alloc, readers, &mut target);

@@ -9,7 +9,8 @@ ghost use Rattle.hprof_values.specs.declared.ids.IdSize.{IdSize};
 ghost use Rattle.hprof_stream.specs.declared.part_fault.PartFault.{PartFault};
 ghost use Rattle.hprof_heap.specs.declared.key.Key.{Key};
 ghost use Rattle.hprof_heap.specs.State.{IsState, HaveTwoSizes};
-ghost use Rattle.hprof_engine.specs.Joining.{Tell, Disagree, RefusesPart, AreReadOut, read_count, IsBeforeWriting, IsHindered, IsOkOrConflict};
+ghost use Rattle.hprof_engine.specs.Joining.{Tell, Disagree, RefusesPart, AreReadOut, read_count, IsBeforeWriting, IsHindered};
+ghost use Rattle.hprof_engine.specs.Joining.{IsOkOrConflict};
 ghost use Rattle.hprof_tool.specs.declared.program.product.Product.TheVariants.{Dump};
 ghost use Rattle.hprof_tool.specs.Program.{usual_limits, IsMade, IsStopped};
 
@@ -63,7 +64,8 @@ impl Product {
 
         // Each reader that was read to its end, which are all, or those before the one that was refused: nothing was
         // read behind the end.
-        ensures read_out { AreReadOut R.left R.health R.pulls usual_limits readers.old readers.new (read_count result (length readers.old)) }
+        ensures read_out { AreReadOut R.left R.health R.pulls usual_limits readers.old readers.new
+            (read_count result (length readers.old)) }
 
         // No other answer where the parts state something together, readers and writer stay well, no want of memory was
         // answered and no limit was met.

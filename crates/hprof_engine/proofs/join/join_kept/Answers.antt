@@ -18,10 +18,13 @@ returns-in_err-heap-clause-no_other g c = λ parts ids millis facts told state w
 
 pub returns-in-Ok-clause-ok : goal.returns-in-Ok-clause-ok
 returns-in-Ok-clause-ok g c = λ parts told.
-    joins g.R.Source.left c.args.readers.now parts (heap_of c.in_ok-heap.heap) (record { parts = length c.read_heap.new.readers; facts =
-      c.count-facts.result }) (g.W.Target.written c.args.target.now)
+    joins g.R.Source.left c.args.readers.now parts (heap_of c.in_ok-heap.heap) (record {
+      parts = length c.read_heap.new.readers;
+      facts =
+          c.count-facts.result;
+    }) (g.W.Target.written c.args.target.now)
     (g.W.Target.written c.write_canonical.new.target) told (c.in_ok-heap.ensures.ok parts told) c.in-Ok.ensures.bytes
-      c.read_heap.auto.readers c.count-facts.ensures
+    c.read_heap.auto.readers c.count-facts.ensures
 
 pub returns-in-Err-clause-write : goal.returns-in-Err-clause-write
 returns-in-Err-clause-write g c = λ fault same.

@@ -12,7 +12,7 @@ use Rattle.hprof_engine.proofs.parts.read_parts.Goals as goal
 
 -- room for all that are to come is room for the next one and for those behind it
 room_behind : {S : Type 0} (has_room : S → ℕ → Type 0) (count index : ℕ) (summaries : S) → index < count
-  → has_room summaries (count - index) → has_room summaries (count - (index + 1) + 1)
+    → has_room summaries (count - index) → has_room summaries (count - (index + 1) + 1)
 room_behind has_room count index summaries within room =
     let same : count - index ≡ count - (index + 1) + 1 = omega (arith, within) in
     subst (λ (more : ℕ). has_room summaries more) same room
@@ -28,29 +28,29 @@ returns-in-Err g c =
     let read = c.in-Err.ensures.read in
     let first = c.loop-index.invariant.first in
     let gathers = from_nothing (gathered c.args.gatherer.now) (gathered c.loop-index.gatherer) first.given c.requires.nothing
-      first.gathers in
+    first.gathers in
     record {
       read = record {
         mid = gathered c.loop-index.gatherer;
         before = c.loop-index.invariant.first;
         out = AreReadOut-kept g.R.Source.left g.R.Source.health g.R.Source.pulls c.args.limits c.args.readers.now c.loop-index.readers
-          index c.read_part.new.source c.loop-index.invariant.out;
+            index c.read_part.new.source c.loop-index.invariant.out;
         at = record {
           was = was;
           is = c.read_part.new.source;
           was_there = element_at c.args.readers.now c.loop-index.readers index found within (c.loop-index.invariant.unread index found
-            (omega arith) within) c.index-readers-index.is ∙ ap Some c.index-readers-index.is;
+              (omega arith) within) c.index-readers-index.is ∙ ap Some c.index-readers-index.is;
           is_there = element_set c.loop-index.readers index c.read_part.new.source still;
           came = read.0;
           consumed = read.1;
           spared = c.in-Err.ensures.pulls;
           refused = fault_of_came g.R.Source.left g.R.Source.health g.R.Source.pulls c.args.limits first.given was read.0
-            c.read_part.new.source c.loop-index.gatherer c.read_part.new.sink c.in-Err.fault c.loop-index.invariant.sound gathers read.2;
+              c.read_part.new.source c.loop-index.gatherer c.read_part.new.sink c.in-Err.fault c.loop-index.invariant.sound gathers read.2;
           unread = λ k behind. same_at (set c.loop-index.readers index c.read_part.new.source) c.args.readers.now k
-            (length-set c.loop-index.readers index c.read_part.new.source ∙ same_length)
+              (length-set c.loop-index.readers index c.read_part.new.source ∙ same_length)
               (λ d below. let other : k ≢ index = omega (arith, behind) in
               get_or-set_other c.loop-index.readers index k c.read_part.new.source d other
-                ∙ c.loop-index.invariant.unread k d (omega (arith, behind)) below);
+              ∙ c.loop-index.invariant.unread k d (omega (arith, behind)) below);
         };
       };
       summaries = c.loop-index.invariant.kept;
@@ -66,46 +66,48 @@ loop-index-preserved g c =
     let header : Header = c.in-Ok.summary.header in
     let facts = read.2.6.0 in
     let there = element_at c.args.readers.now c.loop-index.readers index found within (c.loop-index.invariant.unread index found
-      (omega arith) within) c.index-readers-index.is ∙ ap Some c.index-readers-index.is in
+    (omega arith) within) c.index-readers-index.is ∙ ap Some c.index-readers-index.is in
     let is = given_if_told c.args.limits (g.R.Source.left was) (g.R.Source.left c.read_part.new.source) read.0
-      (record { header = header; facts = facts }) read.1 read.2.1 (read.2.4, read.2.3) read.2.6.1 in
+    (record { header = header; facts = facts }) read.1 read.2.1 (read.2.4, read.2.3) read.2.6.1 in
     let run = Run-shown c.loop-index.gatherer c.read_part.new.sink (Some header) facts read.2.6.2 in
     record {
       unread = λ k d after below.
           let other : k ≢ index = omega arith in
           get_or-set_other c.loop-index.readers index k c.read_part.new.source d other
-            ∙ c.loop-index.invariant.unread k d (omega arith) below;
+          ∙ c.loop-index.invariant.unread k d (omega arith) below;
       first = GathersFirst-more g.R.Source.left c.args.limits c.args.readers.now index was (gathered c.args.gatherer.now)
-        (gathered c.loop-index.gatherer) (gathered c.read_part.new.sink) header facts there c.loop-index.invariant.first run is;
+          (gathered c.loop-index.gatherer) (gathered c.read_part.new.sink) header facts there c.loop-index.invariant.first run is;
       out = AreReadOut-more g.R.Source.left g.R.Source.health g.R.Source.pulls c.args.limits c.args.readers.now c.loop-index.readers
-        index was c.read_part.new.source there (omega arith) c.loop-index.invariant.out (record {
-        came = read.0;
-        consumed = read.1;
-        pulled = read.2.0;
-        at_end = read.2.1;
-        accepted = (read.2.4, read.2.3);
-        well = read.2.2;
-        spared = c.in-Ok.ensures.pulls;
-      });
+          index was c.read_part.new.source there (omega arith) c.loop-index.invariant.out (record {
+            came = read.0;
+            consumed = read.1;
+            pulled = read.2.0;
+            at_end = read.2.1;
+            accepted = (read.2.4, read.2.3);
+            well = read.2.2;
+            spared = c.in-Ok.ensures.pulls;
+          });
       kept = KeepsFirst-more g.R.Source.left g.S.Summaries.keeps c.args.readers.now index was c.args.summaries.now
-        c.loop-index.summaries c.keep.new.self c.in-Ok.summary there c.loop-index.invariant.kept c.keep.ensures.keeps
+          c.loop-index.summaries c.keep.new.self c.in-Ok.summary there c.loop-index.invariant.kept c.keep.ensures.keeps
           (summarised_if_told (g.R.Source.left was) (g.R.Source.left c.read_part.new.source) read.0 c.in-Ok.summary read.1 read.2.1
-            read.2.5);
+          read.2.5);
       room = c.keep.ensures.room (length c.args.readers.now - (index + 1))
-        (room_behind g.S.Summaries.has_room (length c.args.readers.now) index c.loop-index.summaries within c.loop-index.invariant.room);
+          (room_behind g.S.Summaries.has_room (length c.args.readers.now) index c.loop-index.summaries within c.loop-index.invariant.room);
       sound = Run-sound (gathered c.loop-index.gatherer) (gathered c.read_part.new.sink) (Some header) facts run
-        c.loop-index.invariant.sound;
+          c.loop-index.invariant.sound;
     }
 
 pub keep-requires : goal.keep-requires
 keep-requires g c =
     let index = c.loop-index.index in
-    let within : index < length c.args.readers.now = omega arith in
-    (length c.args.readers.now - (index + 1), room_behind g.S.Summaries.has_room (length c.args.readers.now) index
-      c.loop-index.summaries within c.loop-index.invariant.room)
+    let within : index < length c.args.readers.now = omega arith in (
+      length c.args.readers.now - (index + 1),
+      room_behind g.S.Summaries.has_room (length c.args.readers.now) index
+          c.loop-index.summaries within c.loop-index.invariant.room,
+    )
 
 pub returns-clause-summaries : goal.returns-clause-summaries
 returns-clause-summaries g c =
     let all : c.loop-index.index ≡ length c.args.readers.now = omega arith in
     subst (λ (count : ℕ). KeepsFirst g.R.Source.left g.S.Summaries.keeps c.args.readers.now count c.args.summaries.now
-      c.loop-index.summaries) all c.loop-index.invariant.kept
+    c.loop-index.summaries) all c.loop-index.invariant.kept

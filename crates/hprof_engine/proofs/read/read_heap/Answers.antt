@@ -19,9 +19,9 @@ returns-in_err-read_parts-clause-part g c = λ index fault same parts told.
     let pulls = g.R.Source.pulls in
     let is = the_fault c.from_residual.result c.in_err-read_parts.field-0.0 c.from_residual.ensures.1 in
     refuses_part left health pulls c.args.limits parts c.args.readers.now c.read_parts.new.readers index fault
-      (gathered c.new-gatherer.result) told
+    (gathered c.new-gatherer.result) told
     (part_refused left health pulls c.args.limits c.args.readers.now c.read_parts.new.readers index fault c.in_err-read_parts.field-0.0
-      (gathered c.new-gatherer.result) (gathered c.read_parts.new.gatherer) (sym is ∙ same) c.in_err-read_parts.ensures.read)
+    (gathered c.new-gatherer.result) (gathered c.read_parts.new.gatherer) (sym is ∙ same) c.in_err-read_parts.ensures.read)
 
 pub returns-in_err-read_parts-clause-no_other : goal.returns-in_err-read_parts-clause-no_other
 returns-in_err-read_parts-clause-no_other g c = λ parts ids millis facts told state well.
@@ -29,7 +29,7 @@ returns-in_err-read_parts-clause-no_other g c = λ parts ids millis facts told s
     let is = the_fault c.from_residual.result c.in_err-read_parts.field-0.0 c.from_residual.ensures.1 in
     subst (λ (r : Result Heap ToolFault). (IsHindered r → ⊥) → IsOkOrConflict r) (sym is)
     (reading_hindered g.R.Source.left g.R.Source.health g.R.Source.pulls Heap c.args.limits parts ids millis facts c.args.readers.now
-      c.read_parts.new.readers c.in_err-read_parts.field-0.0
+    c.read_parts.new.readers c.in_err-read_parts.field-0.0
     (gathered c.new-gatherer.result) (gathered c.read_parts.new.gatherer) le told state well c.in_err-read_parts.ensures.read)
 
 pub returns-in_err-read_parts-clause-read_out : goal.returns-in_err-read_parts-clause-read_out
@@ -39,7 +39,7 @@ returns-in_err-read_parts-clause-read_out g c =
     let pulls = g.R.Source.pulls in
     let is = the_fault c.from_residual.result c.in_err-read_parts.field-0.0 c.from_residual.ensures.1 in
     subst (λ (r : Result Heap ToolFault). AreReadOut left health pulls c.args.limits c.args.readers.now c.read_parts.new.readers
-      (read_count r (length c.args.readers.now))) (sym is)
+    (read_count r (length c.args.readers.now))) (sym is)
     (stopped_read_out left health pulls Heap c.args.limits c.args.readers.now c.read_parts.new.readers c.in_err-read_parts.field-0.0
     (gathered c.new-gatherer.result) (gathered c.read_parts.new.gatherer) c.in_err-read_parts.ensures.read)
 
@@ -51,22 +51,22 @@ returns-in_err-read_parts-clause-told g c =
     let fault = c.in_err-read_parts.field-0.0 in
     let is = the_fault c.from_residual.result fault c.from_residual.ensures.1 in
     subst (λ (r : Result Heap ToolFault). KeepsFirst left keeps c.args.readers.now (read_count r all) c.args.summaries.now
-      c.read_parts.new.summaries) (sym is)
+    c.read_parts.new.summaries) (sym is)
     (subst (λ (count : ℕ). KeepsFirst left keeps c.args.readers.now count c.args.summaries.now c.read_parts.new.summaries)
-      (same_count (Unit {0}) Heap fault all) c.in_err-read_parts.ensures.summaries)
+    (same_count (Unit {0}) Heap fault all) c.in_err-read_parts.ensures.summaries)
 
 pub returns-in-Ok-clause-ok : goal.returns-in-Ok-clause-ok
 returns-in-Ok-clause-ok g c = λ parts told.
     let read = c.in_ok-read_parts.ensures.read.0 in
     let gathers = from_nothing (gathered c.new-gatherer.result) (gathered c.read_parts.new.gatherer) read.given c.new-gatherer.ensures
-      read.gathers in
+    read.gathers in
     agree g.R.Source.left c.args.limits c.args.readers.now read.given read.of_readers parts told (heap_of c.in-Ok.heap)
-      (c.in-Ok.ensures.told read.given gathers)
+    (c.in-Ok.ensures.told read.given gathers)
 
 pub returns-in-Ok-clause-summaries : goal.returns-in-Ok-clause-summaries
 returns-in-Ok-clause-summaries g c =
     keeps_summaries g.R.Source.left g.S.Summaries.keeps c.args.readers.now c.args.summaries.now c.read_parts.new.summaries
-      c.in_ok-read_parts.ensures.summaries
+    c.in_ok-read_parts.ensures.summaries
 
 pub returns-in-Ok-clause-accepted : goal.returns-in-Ok-clause-accepted
 returns-in-Ok-clause-accepted g c = λ read_all parts told.
@@ -82,47 +82,47 @@ pub returns-in-Err-NoParts-clause-no_parts : goal.returns-in-Err-NoParts-clause-
 returns-in-Err-NoParts-clause-no_parts g c =
     let read = c.in_ok-read_parts.ensures.read.0 in
     let gathers = from_nothing (gathered c.new-gatherer.result) (gathered c.read_parts.new.gatherer) read.given c.new-gatherer.ensures
-      read.gathers in
+    read.gathers in
     let tells = told_of read.given c.in-Err-NoParts.field-0 refusals.NoParts c.in-Err-NoParts.field-0-is
-      (c.in-Err-NoParts.ensures.told read.given gathers) in
+    (c.in-Err-NoParts.ensures.told read.given gathers) in
     (λ _. no_readers g.R.Source.left c.args.limits c.args.readers.now read.given read.of_readers tells, λ _. refl)
 
 pub returns-in-Err-NoParts-clause-no_other : goal.returns-in-Err-NoParts-clause-no_other
 returns-in-Err-NoParts-clause-no_other g c = λ parts ids millis facts told state well unhindered.
     let read = c.in_ok-read_parts.ensures.read.0 in
     let gathers = from_nothing (gathered c.new-gatherer.result) (gathered c.read_parts.new.gatherer) read.given c.new-gatherer.ensures
-      read.gathers in
+    read.gathers in
     let tells = told_of read.given c.in-Err-NoParts.field-0 refusals.NoParts c.in-Err-NoParts.field-0-is
-      (c.in-Err-NoParts.ensures.told read.given gathers) in
+    (c.in-Err-NoParts.ensures.told read.given gathers) in
     absurd (some_parts g.R.Source.left c.args.readers.now parts ids millis facts told state
-      (no_readers g.R.Source.left c.args.limits c.args.readers.now read.given read.of_readers tells))
+    (no_readers g.R.Source.left c.args.limits c.args.readers.now read.given read.of_readers tells))
 
 pub returns-in-Err-IdSizes-clause-id_sizes : goal.returns-in-Err-IdSizes-clause-id_sizes
 returns-in-Err-IdSizes-clause-id_sizes g c = λ same parts told.
     let read = c.in_ok-read_parts.ensures.read.0 in
     let gathers = from_nothing (gathered c.new-gatherer.result) (gathered c.read_parts.new.gatherer) read.given c.new-gatherer.ensures
-      read.gathers in
+    read.gathers in
     let tells = told_of read.given c.in-Err-IdSizes.field-0 refusals.IdSizes c.in-Err-IdSizes.field-0-is
-      (c.in-Err-IdSizes.ensures.told read.given gathers) in
+    (c.in-Err-IdSizes.ensures.told read.given gathers) in
     two_sizes g.R.Source.left c.args.limits c.args.readers.now read.given read.of_readers parts told tells
 
 pub returns-in-Err-IdSizes-clause-no_other : goal.returns-in-Err-IdSizes-clause-no_other
 returns-in-Err-IdSizes-clause-no_other g c = λ parts ids millis facts told state well unhindered.
     let read = c.in_ok-read_parts.ensures.read.0 in
     let gathers = from_nothing (gathered c.new-gatherer.result) (gathered c.read_parts.new.gatherer) read.given c.new-gatherer.ensures
-      read.gathers in
+    read.gathers in
     let tells = told_of read.given c.in-Err-IdSizes.field-0 refusals.IdSizes c.in-Err-IdSizes.field-0-is
-      (c.in-Err-IdSizes.ensures.told read.given gathers) in
+    (c.in-Err-IdSizes.ensures.told read.given gathers) in
     absurd (not_two_sizes parts ids millis facts state (two_sizes g.R.Source.left c.args.limits c.args.readers.now read.given
-      read.of_readers parts told tells))
+    read.of_readers parts told tells))
 
 pub returns-in-Err-Conflict-clause-conflict : goal.returns-in-Err-Conflict-clause-conflict
 returns-in-Err-Conflict-clause-conflict g c = λ named same parts told.
     let read = c.in_ok-read_parts.ensures.read.0 in
     let gathers = from_nothing (gathered c.new-gatherer.result) (gathered c.read_parts.new.gatherer) read.given c.new-gatherer.ensures
-      read.gathers in
+    read.gathers in
     let tells = told_conflict read.given c.in-Err-Conflict.field-0 c.in-Err-Conflict.key named c.in-Err-Conflict.field-0-is same
-      (c.in-Err-Conflict.ensures.told read.given gathers) in
+    (c.in-Err-Conflict.ensures.told read.given gathers) in
     disagree g.R.Source.left c.args.limits c.args.readers.now read.given read.of_readers parts told named tells
 
 pub returns-in-Err-IdSizes-clause-accepted : goal.returns-in-Err-IdSizes-clause-accepted

@@ -7,7 +7,7 @@ pub list_at-requires : goal.list_at-requires
 list_at-requires c =
     let id = c.width-id.result in
     (reached_passed (bounds_of c.args.item.now) 1 id (4 ∷ id ∷ id ∷ id ∷ id ∷ id ∷ id ∷ 4 ∷ []) c.in_ok-first.first
-      (sym c.end_of.ensures ∙ c.in_ok-first.was)).1.there
+    (sym c.end_of.ensures ∙ c.in_ok-first.was)).1.there
 
 pub returns-clause-lists : goal.returns-clause-lists
 returns-clause-lists c = c.class_of.ensures.lists c.args.ids c.of_span.ensures.size c.of_span-2.ensures.size c.of_span-3.ensures.size

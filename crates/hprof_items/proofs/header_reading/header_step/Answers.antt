@@ -15,6 +15,6 @@ returns c =
     let after_size : take (length bytes - 23) (drop 23 bytes) ≡ drop 23 bytes = to_the_end 23 bytes in
     let time = c.read_u64-millis.ensures ∙ ap (big_number 8) after_size in
     let size = ap (λ (rest : List ℕ). ids_of (big_number 4 rest)) (sym after_text) ∙ ap ids_of (sym c.read_u32.ensures)
-      ∙ sym c.in-Some-ids_in.ensures in
+    ∙ sym c.in-Some-ids_in.ensures in
     ap (λ (m : ℕ). Whole (record { version = version; ids = ids; millis = m }) 31) time
     ∙ sym (header_made bytes version ids (omega arith) (sym c.in-Some.ensures) size)

@@ -12,7 +12,7 @@ returns-then-class_lists_fit c =
     let ids = c.args.ids in
     let class = c.in-Class in
     let listed = class_numbers class.id class.trace class.parent class.loader class.signers class.domain class.reserved1 class.reserved2
-      class.size in
+    class.size in
     let sizes = c.if-class_lists_fit.ensures.sizes.0 refl in
     let fit = c.if-class_lists_fit.ensures.fit refl in (
       λ whole.

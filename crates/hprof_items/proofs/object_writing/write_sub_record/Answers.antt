@@ -12,5 +12,5 @@ pub returns-clause-bytes : goal.returns-clause-bytes
 returns-clause-bytes g c =
     subst (Writes _ _ c.write_front.result)
     (tagged_parts c.code.result c.args.tag (number_widths c.args.ids c.args.fields.now) (number_values c.args.fields.now)
-      c.args.more.now c.code.ensures (omega arith))
+    c.args.more.now c.code.ensures (omega arith))
     c.write_front.ensures.bytes

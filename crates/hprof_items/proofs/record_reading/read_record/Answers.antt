@@ -22,14 +22,14 @@ module _ (ids : IdSize) (tag : RecordTag) (body : List ℕ) (fact : FactValue) w
 
   -- where one fact is read, that is the answer
   only_of : (result : Result (Unit {0}) Reason) (spelled : FactValue) → record_at ids tag body ≡ Ok spelled → IsRead result
-    → IsOkAnd result (λ _. fact ≡ spelled)
+      → IsOkAnd result (λ _. fact ≡ spelled)
   only_of (Ok done) spelled again read = given fact spelled (record_at ids tag body) read again
   only_of (Err reason) spelled again read = never_faulty spelled reason (record_at ids tag body) again read
 
 pub returns-clause-found : goal.returns-clause-found
 returns-clause-found c =
     found_of c.args.ids c.args.tag c.args.body.now (value_of c.fact_in.new.fact) c.fact_in.result (λ i.
-      omega (arith, c.type_inv.body i)) c.requires c.fact_in.ensures.exact
+    omega (arith, c.type_inv.body i)) c.requires c.fact_in.ensures.exact
 
 pub returns-clause-only : goal.returns-clause-only
 returns-clause-only c = λ spelled fits e.

@@ -15,14 +15,14 @@ use Rattle.hprof_items.proofs.record_writing.write_frame.Goals as goal
 
 -- a frame whose line is written as its two's complement
 line_written : {A : Type 0} (ids : IdSize) (old new : Option (List ℕ)) (r : Result A WriteFault)
-  (id method signature source class_serial unsigned : ℕ) (line : ℤ) → unsigned ≡ cast_unsigned w32 line
+    (id method signature source class_serial unsigned : ℕ) (line : ℤ) → unsigned ≡ cast_unsigned w32 line
     → Writes old new r (record_bytes 4 0 (field_bytes (record_fields ids tags.Frame) (id ∷ method ∷ signature ∷ source ∷ class_serial
-      ∷ unsigned ∷ []) ++ []))
+    ∷ unsigned ∷ []) ++ []))
     → Writes old new r (spelling ids (Frame id method signature source class_serial line))
 line_written ids old new r id method signature source class_serial unsigned line same w =
     subst (λ (n : ℕ). Writes old new r
-      (record_bytes 4 0 (field_bytes (record_fields ids tags.Frame) (id ∷ method ∷ signature ∷ source ∷ class_serial ∷ n ∷ []) ++ [])))
-      same w
+    (record_bytes 4 0 (field_bytes (record_fields ids tags.Frame) (id ∷ method ∷ signature ∷ source ∷ class_serial ∷ n ∷ []) ++ [])))
+    same w
 
 pub returns-clause-bytes : goal.returns-clause-bytes
 returns-clause-bytes g c =
@@ -30,4 +30,4 @@ returns-clause-bytes g c =
     let fits = fits_form c.args.ids _ _ frame.is c.requires.fits in
     writes_form c.args.ids _ _ _ c.args.fact.now _ frame.is
     (line_written c.args.ids _ _ _ frame.id frame.method frame.signature frame.source frame.class_serial _ frame.line
-      (c.cast_unsigned.ensures ∙ ap (cast_unsigned w32) (to_z-of_z w32 frame.line fits.0.rest)) c.write_record.ensures.bytes)
+    (c.cast_unsigned.ensures ∙ ap (cast_unsigned w32) (to_z-of_z w32 frame.line fits.0.rest)) c.write_record.ensures.bytes)

@@ -13,13 +13,21 @@ numbers_len-requires g c = omega (arith, widths_most c.args.ids c.args.fields.no
 
 pub overflow_add-len : goal.overflow_add-len
 overflow_add-len g c =
-    omega (arith, length-fields _ _ c.requires.fits, length-append (field_bytes (number_widths c.args.ids c.args.fields.now)
-      (number_values c.args.fields.now)) c.args.more.now)
+    omega (
+      arith,
+      length-fields _ _ c.requires.fits,
+      length-append (field_bytes (number_widths c.args.ids c.args.fields.now)
+          (number_values c.args.fields.now)) c.args.more.now,
+    )
 
 pub overflow_cast-head : goal.overflow_cast-head
 overflow_cast-head g c =
-    omega (arith, length-fields _ _ c.requires.fits, length-append (field_bytes (number_widths c.args.ids c.args.fields.now)
-      (number_values c.args.fields.now)) c.args.more.now)
+    omega (
+      arith,
+      length-fields _ _ c.requires.fits,
+      length-append (field_bytes (number_widths c.args.ids c.args.fields.now)
+          (number_values c.args.fields.now)) c.args.more.now,
+    )
 
 pub write_front-requires-clause-head : goal.write_front-requires-clause-head
 write_front-requires-clause-head g c =
@@ -35,6 +43,6 @@ returns-clause-bytes g c =
     let fields : List ℕ = field_bytes (number_widths c.args.ids c.args.fields.now) (number_values c.args.fields.now) in
     let len = length-fields _ _ c.requires.fits in
     let parts = record_parts c.code.result _ _ (number_widths c.args.ids c.args.fields.now) (number_values c.args.fields.now)
-      c.args.more.now c.code.ensures (omega arith)
+    c.args.more.now c.code.ensures (omega arith)
     (omega (arith, length-append fields c.args.more.now)) in
     subst (Writes _ _ c.write_front.result) parts c.write_front.ensures.bytes

@@ -15,17 +15,17 @@ use Rattle.hprof_items.proofs.record_writing.write_trace.Goals as goal
 
 -- a stack whose number of frames and whose frames are written
 frames_written : {A : Type 0} (ids : IdSize) (old new : Option (List ℕ)) (r : Result A WriteFault) (serial thread count : ℕ)
-  (frames : IdList) (bytes : List ℕ) → count ≡ length (identifiers_of frames)
+    (frames : IdList) (bytes : List ℕ) → count ≡ length (identifiers_of frames)
     → identifiers_size frames ≡ ids → IsIdList (identifiers_size frames) (identifiers_of frames) bytes
     → Writes old new r (record_bytes 5 0 (field_bytes (record_fields ids tags.Trace) (serial ∷ thread ∷ count ∷ []) ++ bytes))
     → Writes old new r (spelling ids (Trace serial thread (identifiers_of frames)))
 frames_written ids old new r serial thread count frames bytes same size spells w =
     let widths = record_fields ids tags.Trace in
     subst (λ (n : ℕ). Writes old new r
-      (record_bytes 5 0 (field_bytes widths (serial ∷ thread ∷ n ∷ []) ++ field_bytes (id_widths ids (length (identifiers_of frames)))
-      (identifiers_of frames)))) same
+    (record_bytes 5 0 (field_bytes widths (serial ∷ thread ∷ n ∷ []) ++ field_bytes (id_widths ids (length (identifiers_of frames)))
+    (identifiers_of frames)))) same
     (subst (λ (b : List ℕ). Writes old new r (record_bytes 5 0 (field_bytes widths (serial ∷ thread ∷ count ∷ []) ++ b)))
-      (ids_bytes ids frames bytes size spells) w)
+    (ids_bytes ids frames bytes size spells) w)
 
 pub returns-clause-bytes : goal.returns-clause-bytes
 returns-clause-bytes g c =
@@ -49,5 +49,5 @@ write_record-requires-clause-short g c =
     let trace = c.in-Trace in
     let fits = fits_form c.args.ids _ _ trace.is c.requires.fits in
     let bytes = ids_bytes c.args.ids trace.frames c.bytes.result.now (lists_form c.args.ids _ _ trace.is c.requires.lists)
-      c.bytes.ensures.spelled in
+    c.bytes.ensures.spelled in
     omega (arith, ap length bytes, fits.1)

@@ -19,25 +19,25 @@ module _ (ids : IdSize) (room longest : ℕ) (bytes : List ℕ) (fact : Fact) wh
       (λ stop. sub_at ids (bounds_within room longest bytes) bytes ≡ Err stop)
 
   found_of : (result : Result ℕ Stop) → IsBytes bytes → room < 2 ^ 32 → IsRead result → OnOk result (ListsHave ids fact)
-    → IfOk result (λ end. IsSubRead ids room longest bytes fact end)
+      → IfOk result (λ end. IsSubRead ids room longest bytes fact end)
   found_of (Ok end) are small read lists = sub_read ids room longest bytes fact end are small lists read
   found_of (Err stop) are small read lists = tt
 
   only_of : (result : Result ℕ Stop) → IsRead result → (spelled : FactValue) (rest : List ℕ) → DumpFits ids spelled
-    → bytes ≡ dump_bytes ids spelled ++ rest
+      → bytes ≡ dump_bytes ids spelled ++ rest
       → length (dump_bytes ids spelled) ≤ room → length (dump_bytes ids spelled) ≤ longest
       → IsOkAnd result (λ end. (value_of fact ≡ spelled) × (end ≡ length (dump_bytes ids spelled)))
   only_of (Ok end) read spelled rest fits is in_room in_longest =
       answer_parts _ spelled end _ _ refl (sym read ∙ sub_is ids room longest bytes _ spelled rest refl fits is in_room in_longest)
   only_of (Err stop) read spelled rest fits is in_room in_longest =
-    sub_never ids room longest bytes stop read spelled rest fits is in_room in_longest
+      sub_never ids room longest bytes stop read spelled rest fits is in_room in_longest
 
 pub returns-clause-found : goal.returns-clause-found
 returns-clause-found c =
     found_of c.args.ids c.args.room c.args.longest c.args.bytes.now c.read_item.new.fact c.read_item.result (λ i.
-      omega (arith, c.type_inv.bytes i)) (omega arith)
+    omega (arith, c.type_inv.bytes i)) (omega arith)
     c.read_item.ensures.fact c.read_item.ensures.lists
 
 pub returns-clause-only : goal.returns-clause-only
 returns-clause-only c = only_of c.args.ids c.args.room c.args.longest c.args.bytes.now c.read_item.new.fact c.read_item.result
-  c.read_item.ensures.fact
+    c.read_item.ensures.fact

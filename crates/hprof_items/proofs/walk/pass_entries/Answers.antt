@@ -8,8 +8,11 @@ loop-left-preserved c =
     let at = c.loop-left.at in
     let passed = sym c.in-Ok.ensures.end in
     let kept = entry_passed c.args.ids c.args.kind item c.loop-left.left at c.in-Ok.end c.loop-left-test.true passed in
-    record { placed = entry_there c.args.ids c.args.kind item at c.in-Ok.end passed; kept =
-      λ more. kept more ∙ c.loop-left.invariant.kept more }
+    record {
+      placed = entry_there c.args.ids c.args.kind item at c.in-Ok.end passed;
+      kept =
+          λ more. kept more ∙ c.loop-left.invariant.kept more;
+    }
 
 pub returns-in-Err-clause-answer : goal.returns-in-Err-clause-answer
 returns-in-Err-clause-answer c =

@@ -28,7 +28,7 @@ pub returns-in-Ok-class_count-clause-kept : goal.returns-in-Ok-class_count-claus
 returns-in-Ok-class_count-clause-kept c =
     let item = c.args.item.now in
     let tagged : tag_at (bounds_of item) item.bytes.now ≡ Ok tags.ClassDump = sym c.read_tag.ensures ∙ c.in-Ok.is
-      ∙ ap Ok c.in-ClassDump.is in
+    ∙ ap Ok c.in-ClassDump.is in
     let count = sym c.class_count.ensures ∙ c.in-Ok-class_count.is in
     let entered = class_entered c.args.ids item c.in-Ok-class_count.left c.in-Ok-class_count.at tagged count in
     λ more. c.pass_lists.ensures.kept more ∙ entered more
@@ -39,7 +39,7 @@ returns-in-Ok-class_count-clause-end c =
     let left = c.in-Ok-class_count.left in
     let at = c.in-Ok-class_count.at in
     let tagged : tag_at (bounds_of item) item.bytes.now ≡ Ok tags.ClassDump = sym c.read_tag.ensures ∙ c.in-Ok.is
-      ∙ ap Ok c.in-ClassDump.is in
+    ∙ ap Ok c.in-ClassDump.is in
     let entered = class_entered c.args.ids item left at tagged (sym c.class_count.ensures ∙ c.in-Ok-class_count.is) in
     c.pass_lists.ensures.end ∙ found_now c.args.ids item (Entries kinds.Constant left at) Front entered
 
@@ -47,6 +47,6 @@ pub returns-in-Err-class_count-clause-end : goal.returns-in-Err-class_count-clau
 returns-in-Err-class_count-clause-end c =
     let item = c.args.item.now in
     let tagged : tag_at (bounds_of item) item.bytes.now ≡ Ok tags.ClassDump = sym c.read_tag.ensures ∙ c.in-Ok.is
-      ∙ ap Ok c.in-ClassDump.is in
+    ∙ ap Ok c.in-ClassDump.is in
     let count = sym c.class_count.ensures ∙ c.in-Err-class_count.is in
     sym (class_stopped c.args.ids (bounds_of item) item.bytes.now c.in-Err-class_count.stop tagged count)

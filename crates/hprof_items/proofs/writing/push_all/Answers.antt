@@ -16,6 +16,6 @@ loop-rest-preserved g c =
     sym (take-append-drop count rest) ∙ ap (λ (r : List ℕ). take count rest ++ r) (sym c.split_at.ensures.back) in
     record {
       pushed = Pushed-more _ _ _ _ rest (take count rest) c.split_at.result.1.now c.loop-rest.invariant.pushed split
-        c.in_ok-count.ensures.bytes;
+          c.in_ok-count.ensures.bytes;
       well = c.in_ok-count.ensures.health;
     }

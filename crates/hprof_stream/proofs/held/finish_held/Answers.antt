@@ -31,15 +31,18 @@ returns-in_err-left-clause-finished g c front is =
     let inv = c.loop-progress.invariant in
     let mid = c.loop-progress in
     let fault = c.in_err-left.field-0.0 in
-    let some : 0 < length mid.rest.held.items = let n = some_len (vec_len mid.rest.held) c.loop-progress-test.ensures in omega (arith,
-      n, mid.rest.held.ok) in
+    let some : 0 < length mid.rest.held.items = let n = some_len (vec_len mid.rest.held) c.loop-progress-test.ensures in omega (
+      arith,
+      n,
+      mid.rest.held.ok,
+    ) in
     let any = some_len (length mid.left.now) c.if-not-is_empty.ensures in
     let p = err_from_is_err_and c.from_residual.result c.from_residual.ensures.1 in
     rw (p.1, p.2) (
     GoesOn-halted g.S.Sink.begins g.S.Sink.steps g.S.Sink.refuses g.S.Sink.failed c.args.progress.now mid.progress
-      c.finish_once.new.progress front c.args.bytes.now mid.left.now c.args.sink.now mid.sink
+    c.finish_once.new.progress front c.args.bytes.now mid.left.now c.args.sink.now mid.sink
     c.finish_once.new.sink mid.rest c.finish_once.new.rest (inv.on front is) some fault c.in_err-left.ensures.finished
-      (omega (arith, inv.held some, ap length is.held)) (omega (arith, any, inv.less))
+    (omega (arith, inv.held some, ap length is.held)) (omega (arith, any, inv.less))
     )
 
 pub loop-progress-smaller : goal.loop-progress-smaller
@@ -49,12 +52,15 @@ pub loop-progress-preserved : goal.loop-progress-preserved
 loop-progress-preserved g c =
     let inv = c.loop-progress.invariant in
     let mid = c.loop-progress in
-    let some : 0 < length mid.rest.held.items = let n = some_len (vec_len mid.rest.held) c.loop-progress-test.ensures in omega (arith,
-      n, mid.rest.held.ok) in
+    let some : 0 < length mid.rest.held.items = let n = some_len (vec_len mid.rest.held) c.loop-progress-test.ensures in omega (
+      arith,
+      n,
+      mid.rest.held.ok,
+    ) in
     record {
       on = λ front is.
           GoesOn-then g.S.Sink.begins g.S.Sink.steps g.S.Sink.refuses g.S.Sink.failed c.args.progress.now mid.progress
-            c.finish_once.new.progress front c.args.bytes.now mid.left.now c.args.sink.now mid.sink
+          c.finish_once.new.progress front c.args.bytes.now mid.left.now c.args.sink.now mid.sink
           c.finish_once.new.sink mid.rest c.finish_once.new.rest (inv.on front is) some c.in_ok-left.left.now c.in_ok-left.ensures.finished;
       held = λ still. inv.held some;
       counted = c.in_ok-left.ensures.counted;
@@ -72,7 +78,7 @@ pub returns-in_err-left-clause-full : goal.returns-in_err-left-clause-full
 returns-in_err-left-clause-full g c e =
     let p = err_from_is_err_and c.from_residual.result c.from_residual.ensures.1 in
     NeedsGrowth-from c.args.rest.now c.loop-progress.rest _ _ c.loop-progress.invariant.room
-      (c.in_err-left.ensures.full (rw (p.1, p.2) at e))
+    (c.in_err-left.ensures.full (rw (p.1, p.2) at e))
 
 pub returns-clause-room : goal.returns-clause-room
 returns-clause-room g c = c.loop-progress.invariant.room

@@ -9,7 +9,7 @@ abbrev pub invariant-loop-progress : goal.invariant-loop-progress
 invariant-loop-progress g l = record {
   on : (front : List ℕ) → IsRest l.fn.progress.limits.max_item (place_of l.fn.progress) front l.fn.rest
       → GoesOn g.S.Sink.begins g.S.Sink.steps g.S.Sink.refuses g.S.Sink.failed l.fn.progress front l.fn.bytes l.fn.sink l.progress
-        l.left l.rest l.sink;
+      l.left l.rest l.sink;
   held : 0 < length l.rest.held.items → 0 < length l.fn.rest.held.items;
   counted : IsCounted l.progress (rest_len l.rest + length l.left);
   sound : IsSound l.rest;

@@ -29,7 +29,7 @@ returns-then-walks_short-clause-finished g c front is =
     let behind = c.split_at.result.1.now in
     let cut : more ++ behind ≡ bytes = cut_bytes c.min-count.result bytes more behind c.split_at.ensures.front c.split_at.ensures.back in
     let are : IsBytes more = subst IsBytes (sym c.split_at.ensures.front) (IsBytes-take c.min-count.result bytes (λ i.
-      omega (arith, c.type_inv.bytes i))) in
+    omega (arith, c.type_inv.bytes i))) in
     let held = held_more longest place front more c.hold.new.held.items c.args.rest.now is c.requires.holds c.in_ok-hold.ensures.ok are in
     let walk = c.if-walks_short.ensures.walk held.walk in
     let rest = c.walks_short.new.rest in
@@ -37,9 +37,9 @@ returns-then-walks_short-clause-finished g c front is =
     let same : rest.held.items ≡ front ++ more = rw c.if-walks_short.ensures.held held.all in
     let whole = ap (passing_of longest place) (sym held.all) ∙ c.if-walks_short.ensures.held_whole refl in
     let keeps = IsRest-held longest place (front ++ more) rest held.are_bytes short same (c.if-walks_short.ensures.passing
-      ∙ held.none) whole (subst (λ (b : List ℕ). IsWalkOf longest place b rest.walk) held.all walk.0) in
+    ∙ held.none) whole (subst (λ (b : List ℕ). IsWalkOf longest place b rest.walk) held.all walk.0) in
     subst (λ (b : List ℕ). GoesOn g.S.Sink.begins g.S.Sink.steps g.S.Sink.refuses g.S.Sink.failed from front b c.args.sink.now from
-      behind rest c.args.sink.now) cut
+    behind rest c.args.sink.now) cut
     (GoesOn-still g.S.Sink.begins g.S.Sink.steps g.S.Sink.refuses g.S.Sink.failed from front more behind c.args.sink.now rest keeps)
 
 pub returns-in_err-len-clause-finished : goal.returns-in_err-len-clause-finished
@@ -52,18 +52,18 @@ returns-in_err-len-clause-finished g c front is =
     let behind = c.split_at.result.1.now in
     let cut : more ++ behind ≡ bytes = cut_bytes c.min-count.result bytes more behind c.split_at.ensures.front c.split_at.ensures.back in
     let are : IsBytes more = subst IsBytes (sym c.split_at.ensures.front) (IsBytes-take c.min-count.result bytes (λ i.
-      omega (arith, c.type_inv.bytes i))) in
+    omega (arith, c.type_inv.bytes i))) in
     let held = held_more longest place front more c.hold.new.held.items c.args.rest.now is c.requires.holds c.in_ok-hold.ensures.ok are in
     let value = rw c.if-walks_short.ensures.held at c.deref.ensures.value in
     let shown : c.deref.result.now ≡ front ++ more = value ∙ held.all in
     let fault = c.in_err-len.field-0.0 in
     let step = subst (λ (b : List ℕ). StepsOver g.S.Sink.begins g.S.Sink.steps g.S.Sink.refuses g.S.Sink.failed from b c.args.sink.now
-      (Err fault) c.step.new.self c.step.new.sink) shown c.in_err-len.ensures.step in
+    (Err fault) c.step.new.self c.step.new.sink) shown c.in_err-len.ensures.step in
     let halted = FinishesHeld-refused g.S.Sink.begins g.S.Sink.steps g.S.Sink.refuses g.S.Sink.failed from c.step.new.self front more
-      behind c.args.sink.now c.step.new.sink fault step in
+    behind c.args.sink.now c.step.new.sink fault step in
     let p = err_from_is_err_and c.from_residual-in_err-len.result c.from_residual-in_err-len.ensures.1 in
     rw (p.1, p.2) (subst (λ (b : List ℕ). IsHalted g.S.Sink.begins g.S.Sink.steps g.S.Sink.refuses g.S.Sink.failed from front b
-      c.args.sink.now fault c.step.new.self c.step.new.sink) cut halted)
+    c.args.sink.now fault c.step.new.self c.step.new.sink) cut halted)
 
 pub returns-in-Some-clause-finished : goal.returns-in-Some-clause-finished
 returns-in-Some-clause-finished g c front is =
@@ -75,7 +75,7 @@ returns-in-Some-clause-finished g c front is =
     let behind = c.split_at.result.1.now in
     let cut : more ++ behind ≡ bytes = cut_bytes c.min-count.result bytes more behind c.split_at.ensures.front c.split_at.ensures.back in
     let are : IsBytes more = subst IsBytes (sym c.split_at.ensures.front) (IsBytes-take c.min-count.result bytes (λ i.
-      omega (arith, c.type_inv.bytes i))) in
+    omega (arith, c.type_inv.bytes i))) in
     let held = held_more longest place front more c.hold.new.held.items c.args.rest.now is c.requires.holds c.in_ok-hold.ensures.ok are in
     let value = rw c.if-walks_short.ensures.held at c.deref.ensures.value in
     let shown : c.deref.result.now ≡ front ++ more = value ∙ held.all in
@@ -83,23 +83,23 @@ returns-in-Some-clause-finished g c front is =
     let to = c.step.new.self in
     let sink = c.step.new.sink in
     let step = subst (λ (b : List ℕ). StepsOver g.S.Sink.begins g.S.Sink.steps g.S.Sink.refuses g.S.Sink.failed from b c.args.sink.now
-      (Ok (Some n)) to sink) shown (rw c.in-Some.is at c.in_ok-len.ensures.step) in
+    (Ok (Some n)) to sink) shown (rw c.in-Some.is at c.in_ok-len.ensures.step) in
     let long = item_longer longest place front more step.3.0 n (room_behind from.header from.room c.step.ensures.room) held.are_bytes
-      is.short step.3.1 in
+    is.short step.3.1 in
     let rest = c.clear.new.self in
     let keeps = IsRest-none longest (place_of to) rest c.clear.ensures.held (c.clear.ensures.passing ∙ c.if-walks_short.ensures.passing
-      ∙ held.none)
+    ∙ held.none)
     (subst (λ (w : Walk). IsWalkOf longest (place_of to) [] w) (sym c.clear.ensures.walk) (IsWalkOf-front longest (place_of to) [])) in
     let whole = GoesOn-whole g.S.Sink.begins g.S.Sink.steps g.S.Sink.refuses g.S.Sink.failed from to front more behind n c.args.sink.now
-      sink rest step.0 long step.2 keeps in
+    sink rest step.0 long step.2 keeps in
     let before : n - length front ≡ c.saturating_sub.result = omega (arith, c.saturating_sub.ensures, c.len-before.ensures, held.size) in
     let left : drop (n - length front) (more ++ behind) ≡ c.split_at-in-Some.result.1.now =
     ap (λ (k : ℕ). drop k (more ++ behind)) before ∙ ap (λ (b : List ℕ). drop c.saturating_sub.result b) cut
-      ∙ sym c.split_at-in-Some.ensures.back in
+    ∙ sym c.split_at-in-Some.ensures.back in
     subst (λ (b : List ℕ). GoesOn g.S.Sink.begins g.S.Sink.steps g.S.Sink.refuses g.S.Sink.failed from front bytes c.args.sink.now to b
-      rest sink) left
+    rest sink) left
     (subst (λ (b : List ℕ). GoesOn g.S.Sink.begins g.S.Sink.steps g.S.Sink.refuses g.S.Sink.failed from front b c.args.sink.now to
-      (drop (n - length front) (more ++ behind)) rest sink) cut whole)
+    (drop (n - length front) (more ++ behind)) rest sink) cut whole)
 
 pub returns-in-Some-clause-counted : goal.returns-in-Some-clause-counted
 returns-in-Some-clause-counted g c =
@@ -111,9 +111,9 @@ returns-in-Some-clause-counted g c =
     let added = length-append c.args.rest.now.held.items c.split_at.result.0.now in
     let passing = c.clear.ensures.passing ∙ c.if-walks_short.ensures.passing in
     Walks-counted-less g.S.Sink.begins g.S.Sink.steps from.limits.max_item from c.step.new.self shown (drop c.in-Some.len shown)
-      c.args.sink.now c.step.new.sink
+    c.args.sink.now c.step.new.sink
     (rest_len c.args.rest.now + length c.args.bytes.now) (rest_len c.clear.new.self + length c.split_at-in-Some.result.1.now) step.0
-      c.requires.counted
+    c.requires.counted
     (omega (
       arith,
       step.2,
@@ -139,7 +139,7 @@ returns-clause-finished g c front is =
     let behind = c.split_at.result.1.now in
     let cut : more ++ behind ≡ bytes = cut_bytes c.min-count.result bytes more behind c.split_at.ensures.front c.split_at.ensures.back in
     let are : IsBytes more = subst IsBytes (sym c.split_at.ensures.front) (IsBytes-take c.min-count.result bytes (λ i.
-      omega (arith, c.type_inv.bytes i))) in
+    omega (arith, c.type_inv.bytes i))) in
     let held = held_more longest place front more c.hold.new.held.items c.args.rest.now is c.requires.holds c.in_ok-hold.ensures.ok are in
     let value = rw c.if-walks_short.ensures.held at c.deref.ensures.value in
     let shown : c.deref.result.now ≡ front ++ more = value ∙ held.all in
@@ -148,20 +148,20 @@ returns-clause-finished g c front is =
     let step = rw c.in_default.is at c.in_ok-len.ensures.step in
     let to = c.step.new.self in
     let short = subst (λ (p : Progress). item_at p.limits.max_item (place_of p) (front ++ more) ≡ Short) step.1
-      (ap (item_at longest place) (sym shown) ∙ step.0) in
+    (ap (item_at longest place) (sym shown) ∙ step.0) in
     let on = subst (λ (p : Progress). IsWalkOf p.limits.max_item (place_of p) (front ++ more) c.walks_short.new.rest.walk) step.1
-      (subst (λ (b : List ℕ). IsWalkOf longest place b c.walks_short.new.rest.walk) held.all walk.0) in
+    (subst (λ (b : List ℕ). IsWalkOf longest place b c.walks_short.new.rest.walk) held.all walk.0) in
     let counts = rw (c.if-walks_short.ensures.held, held.all) at c.count_passed.ensures.rest in
     let keeps = subst (λ (p : Progress). IsRest p.limits.max_item (place_of p) (front ++ more) rest) (sym step.1)
-      (counts short on (c.if-walks_short.ensures.passing ∙ held.none)) in
+    (counts short on (c.if-walks_short.ensures.passing ∙ held.none)) in
     inr (sym step.1, step.2, (front ++ more, ap (λ (b : List ℕ). front ++ b) (sym cut) ∙ sym (append_assoc front more behind), keeps))
 
 pub returns-in_err-len-clause-kept : goal.returns-in_err-len-clause-kept
 returns-in_err-len-clause-kept g c header e =
     step_keeps g.S.Sink.begins g.S.Sink.steps g.S.Sink.refuses g.S.Sink.failed c.args.progress.now c.step.new.self c.deref.result.now
-      c.args.sink.now c.step.new.sink (Err c.in_err-len.field-0.0) header c.in_err-len.ensures.step e
+    c.args.sink.now c.step.new.sink (Err c.in_err-len.field-0.0) header c.in_err-len.ensures.step e
 
 pub returns-in-Some-clause-kept : goal.returns-in-Some-clause-kept
 returns-in-Some-clause-kept g c header e =
     step_keeps g.S.Sink.begins g.S.Sink.steps g.S.Sink.refuses g.S.Sink.failed c.args.progress.now c.step.new.self c.deref.result.now
-      c.args.sink.now c.step.new.sink c.step.result header c.step.ensures.step e
+    c.args.sink.now c.step.new.sink c.step.result header c.step.ensures.step e

@@ -7,5 +7,5 @@ pub returns-clause-ok : goal.returns-clause-ok
 returns-clause-ok c =
     on_ok c.hold.result (λ held still keeps short cut.
     kept_behind c.args.progress.now.limits.max_item (place_of c.args.progress.now) still c.args.left.now c.args.rest.now _ keeps short
-      cut (not_empty c.args.left.now c.if-is_empty.ensures) (λ i. omega (arith, c.type_inv.left i))
+    cut (not_empty c.args.left.now c.if-is_empty.ensures) (λ i. omega (arith, c.type_inv.left i))
     (sym c.passing_at.ensures.passing ∙ not_some c.passing_at.result c.in_default.not-Some) held refl refl) c.hold.ensures.ok

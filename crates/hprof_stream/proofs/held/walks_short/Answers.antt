@@ -18,10 +18,10 @@ returns-in-Err-Short-clause-walk c is =
     let end = rw c.deref.ensures.value at c.go_on-walk.ensures.end in
     let placed = placed_at (record { bytes = c.deref.result; room = progress.room; longest = longest }) to c.go_on-walk.ensures.placed in
     let on = IsWalkOf-on longest header progress.room bytes from within to (omega (arith, placed, ap length c.deref.ensures.value))
-      kept in (
+    kept in (
       subst (λ (p : Place). IsWalkOf longest p bytes to) (sym place) on,
       λ e. ap (λ (p : Place). item_at longest p bytes) place ∙ walked_short longest header progress.room bytes from within (sym end
-        ∙ c.in-Err-Short.is ∙ ap Err (rw c.in-Err-Short.is at c.in-Err-Short.field-0-is)),
+          ∙ c.in-Err-Short.is ∙ ap Err (rw c.in-Err-Short.is at c.in-Err-Short.field-0-is)),
     )
 
 pub returns-in-Err-Short-clause-held_whole : goal.returns-in-Err-Short-clause-held_whole

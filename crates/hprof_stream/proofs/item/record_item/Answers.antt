@@ -29,5 +29,5 @@ pub returns-in-Skipped-clause-place : goal.returns-in-Skipped-clause-place
 returns-in-Skipped-clause-place c =
     let read = c.read_head.ensures.found c.in-Whole.head c.in-Whole.field-1 c.in-Whole.is in
     skipped_place c.args.header.now c.args.bytes.now (step_with c.skipped_item.result c.args.fact.now)
-      (c.skipped_item.ensures.skipped c.args.fact.now)
+    (c.skipped_item.ensures.skipped c.args.fact.now)
     (record_ends c.in-Whole.head c.args.bytes.now _ Skipped read.0 (sym c.in-Skipped.is ∙ c.kind.ensures))

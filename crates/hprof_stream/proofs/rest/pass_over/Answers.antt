@@ -35,10 +35,10 @@ returns-then-count-left-clause-passed c front p e keeps =
       passed_whole longest place front p is bytes there,
       (rw e at c.advance.ensures) ∙ ap (advanced from items.Skipped) (omega (arith, size, was, seen)),
       c.split_at.ensures.back ∙ sym (drop-append-add front bytes c.min-count.result) ∙ ap (λ (n : ℕ). drop n (front ++ bytes))
-        (omega (arith, size, seen)),
+          (omega (arith, size, seen)),
       passed_stands longest place front bytes p is are,
       IsRest-none longest place _ (keeps.held ∙ passed_none_held longest place front p is) refl
-        (passed_walk longest place front p is [] c.args.rest.now.walk),
+          (passed_walk longest place front p is [] c.args.rest.now.walk),
     )
 
 pub returns-else-count-left-clause-passed : goal.returns-else-count-left-clause-passed
@@ -56,7 +56,7 @@ returns-else-count-left-clause-passed c front p e keeps =
     let all : c.min-count.result ≡ length bytes = omega (arith, c.min-count.ensures, c.if-count-left.false) in
     let count = length-append front bytes in
     let few : length (front ++ bytes) < 9 + is.head.length =
-      omega (arith, left, seen, fewer, all, count, c.min-count.ensures, c.if-count-left.false) in
+    omega (arith, left, seen, fewer, all, count, c.min-count.ensures, c.if-count-left.false) in
     inr (
       refl,
       c.split_at.ensures.back ∙ drop_of_length-le bytes (omega (arith, all)),
@@ -65,7 +65,7 @@ returns-else-count-left-clause-passed c front p e keeps =
         short = passed_short longest place front p is bytes few;
         held = keeps.held ∙ passed_none_held longest place front p is ∙ sym (passed_held longest place front p is bytes);
         passing = rw e (same_passing (p.seen + c.min-count.result) _ _ _ (omega (arith, was, all, count))
-          (omega (arith, was_left, all, count)) ∙ sym (passed_on longest place front p is bytes));
+            (omega (arith, was_left, all, count)) ∙ sym (passed_on longest place front p is bytes));
         walk = passed_walk longest place front p is (front ++ bytes) c.args.rest.now.walk;
       },
     )

@@ -28,14 +28,14 @@ loop-key-preserved c =
     record {
       behind = behind_more c.args.bytes.now.items now row new c.loop-key.invariant.behind made.0;
       put = put_more c.args.bytes.now.items now row new (contents_of (λ row. row.0.now) c.loop-key.yielded) key c.loop-key.invariant.put
-        made.0
+          made.0
           ∙ ap (λ (those : List (ℕ × List ℕ)). c.args.bytes.now.items ++ all_bytes those)
           (sym (contents-append (λ row. row.0.now) c.loop-key.yielded (key, c.in-Some.row)));
       within = subst (AreWithin new) (sym pushed)
           (within-next now row new c.loop-key.places.items key place made.0 made.1 made.2 c.loop-key.invariant.within);
       lying = ap (rows_lying new) pushed
           ∙ lying-next now row new c.loop-key.places.items key place made.0 made.1 made.2
-            (contents_of (λ row. row.0.now) c.loop-key.yielded)
+          (contents_of (λ row. row.0.now) c.loop-key.yielded)
           c.loop-key.invariant.within c.loop-key.invariant.lying
           ∙ sym (contents-append (λ row. row.0.now) c.loop-key.yielded (key, c.in-Some.row));
     }

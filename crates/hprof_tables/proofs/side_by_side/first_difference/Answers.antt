@@ -15,7 +15,7 @@ loop-first-init g c =
 pub returns-in_default-other_first : goal.returns-in_default-other_first
 returns-in_default-other_first g c =
     others_end (g.I.KeyedRows.left c.args.rows) (g.I.KeyedRows.left c.args.others) g.R.Content.content c.loop-first.other_first _ _
-      c.loop-first.invariant
+    c.loop-first.invariant
     c.in_default-other_first.is
 
 pub loop-first-preserved-in-Less-1 : goal.loop-first-preserved-in-Less-1
@@ -26,11 +26,11 @@ loop-first-preserved-in-Less-1 g c =
     let others = left c.args.others in
     walk_less all others _ _ _ _
     (walk_taken all others content c.loop-first.first c.loop-first.other_first (c.in-Some.key, c.in-Some.row)
-      (c.in-Some-other_first.other_key, c.in-Some-other_first.other)
+    (c.in-Some-other_first.other_key, c.in-Some-other_first.other)
     _ _ c.loop-first.invariant c.in-Some.is c.in-Some-other_first.is)
     _ (sym c.in-Less.ensures)
     (taken content left c.loop-first.rows c.next_row-first-in-Less.result c.next_row-first-in-Less.new.self
-      c.next_row-first-in-Less.ensures)
+    c.next_row-first-in-Less.ensures)
 
 pub loop-first-preserved-in-Greater-1 : goal.loop-first-preserved-in-Greater-1
 loop-first-preserved-in-Greater-1 g c =
@@ -40,11 +40,11 @@ loop-first-preserved-in-Greater-1 g c =
     let others = left c.args.others in
     walk_greater all others _ _ _ _
     (walk_taken all others content c.loop-first.first c.loop-first.other_first (c.in-Some.key, c.in-Some.row)
-      (c.in-Some-other_first.other_key, c.in-Some-other_first.other)
+    (c.in-Some-other_first.other_key, c.in-Some-other_first.other)
     _ _ c.loop-first.invariant c.in-Some.is c.in-Some-other_first.is)
     _ (sym c.in-Greater.ensures)
     (taken content left c.loop-first.others c.next_row-other_first-in-Greater.result c.next_row-other_first-in-Greater.new.self
-      c.next_row-other_first-in-Greater.ensures)
+    c.next_row-other_first-in-Greater.ensures)
 
 pub returns-then-not-agrees : goal.returns-then-not-agrees
 returns-then-not-agrees g c =
@@ -54,11 +54,11 @@ returns-then-not-agrees g c =
     let others = left c.args.others in
     walk_differs all others _ _ _ _
     (walk_taken all others content c.loop-first.first c.loop-first.other_first (c.in-Some.key, c.in-Some.row)
-      (c.in-Some-other_first.other_key, c.in-Some-other_first.other)
+    (c.in-Some-other_first.other_key, c.in-Some-other_first.other)
     _ _ c.loop-first.invariant c.in-Some.is c.in-Some-other_first.is)
     (sym c.in-Equal.ensures)
     (λ same. let yes : c.agrees.result ≡ true = c.agrees.ensures.1 same in let no : c.agrees.result ≡ false =
-      c.if-not-agrees.true in absurd cc)
+    c.if-not-agrees.true in absurd cc)
 
 pub loop-first-preserved : goal.loop-first-preserved
 loop-first-preserved g c =
@@ -68,15 +68,15 @@ loop-first-preserved g c =
     let others = left c.args.others in
     walk_equal all others _ _ _ _
     (walk_taken all others content c.loop-first.first c.loop-first.other_first (c.in-Some.key, c.in-Some.row)
-      (c.in-Some-other_first.other_key, c.in-Some-other_first.other)
+    (c.in-Some-other_first.other_key, c.in-Some-other_first.other)
     _ _ c.loop-first.invariant c.in-Some.is c.in-Some-other_first.is)
     _ _ (sym c.in-Equal.ensures) (c.agrees.ensures.0 c.if-not-agrees.false)
     (taken content left c.loop-first.rows c.next_row-first-in-Equal.result c.next_row-first-in-Equal.new.self
-      c.next_row-first-in-Equal.ensures)
+    c.next_row-first-in-Equal.ensures)
     (taken content left c.loop-first.others c.next_row-other_first-in-Equal.result c.next_row-other_first-in-Equal.new.self
-      c.next_row-other_first-in-Equal.ensures)
+    c.next_row-other_first-in-Equal.ensures)
 
 pub returns : goal.returns
 returns g c =
     walk_ends (g.I.KeyedRows.left c.args.rows) (g.I.KeyedRows.left c.args.others) g.R.Content.content c.loop-first.first _ _
-      c.loop-first.invariant c.in_default.is
+    c.loop-first.invariant c.in_default.is

@@ -14,16 +14,16 @@ loop-other_first-preserved-in_default-first g c =
     let all = left c.args.rows in
     let others = other_left c.args.others in
     let rest = behind content c.next_row-other_first-in_default-first.result
-      (other_left c.next_row-other_first-in_default-first.new.self) in
+    (other_left c.next_row-other_first-in_default-first.new.self) in
     subst (λ (found : List (ℕ × List ℕ)). Search all others [] rest found)
     (sym (ap (contents_of content) c.in_ok-push.ensures.items ∙ contents-append content c.loop-other_first.missing.items
-      (c.in-Some.other_key, c.in-Some.other)))
+    (c.in-Some.other_key, c.in-Some.other)))
     (search_past all others _ _ _ _
     (search_ended all others own content c.loop-other_first.first c.loop-other_first.other_first (c.in-Some.other_key, c.in-Some.other)
-      _ _ _
+    _ _ _
     c.loop-other_first.invariant c.in_default-first.is c.in-Some.is)
     (taken content other_left c.loop-other_first.others c.next_row-other_first-in_default-first.result
-      c.next_row-other_first-in_default-first.new.self
+    c.next_row-other_first-in_default-first.new.self
     c.next_row-other_first-in_default-first.ensures))
 
 pub loop-other_first-preserved-in-Less-1 : goal.loop-other_first-preserved-in-Less-1
@@ -39,7 +39,7 @@ loop-other_first-preserved-in-Less-1 g c =
     (c.in-Some.other_key, c.in-Some.other) _ _ _ c.loop-other_first.invariant c.in-Some-first.is c.in-Some.is)
     _ (sym c.in-Less.ensures)
     (taken own left c.loop-other_first.rows c.next_row-first-in-Less.result c.next_row-first-in-Less.new.self
-      c.next_row-first-in-Less.ensures)
+    c.next_row-first-in-Less.ensures)
 
 pub loop-other_first-preserved-in-Greater : goal.loop-other_first-preserved-in-Greater
 loop-other_first-preserved-in-Greater g c =
@@ -51,9 +51,9 @@ loop-other_first-preserved-in-Greater g c =
     let others = other_left c.args.others in
     let rest = behind content c.next_row-other_first-in-Greater.result (other_left c.next_row-other_first-in-Greater.new.self) in
     subst (λ (found : List (ℕ × List ℕ)).
-      Search all others ((c.in-Some-first.key, own c.in-Some-first.row) ∷ left c.loop-other_first.rows) rest found)
+    Search all others ((c.in-Some-first.key, own c.in-Some-first.row) ∷ left c.loop-other_first.rows) rest found)
     (sym (ap (contents_of content) c.in_ok-push-in-Greater.ensures.items ∙ contents-append content c.loop-other_first.missing.items
-      (c.in-Some.other_key, c.in-Some.other)))
+    (c.in-Some.other_key, c.in-Some.other)))
     (search_greater all others _ _ _ _ _
     (search_taken all others own content c.loop-other_first.first c.loop-other_first.other_first (c.in-Some-first.key, c.in-Some-first.row)
     (c.in-Some.other_key, c.in-Some.other) _ _ _ c.loop-other_first.invariant c.in-Some-first.is c.in-Some.is)
@@ -74,7 +74,7 @@ loop-other_first-preserved g c =
     (c.in-Some.other_key, c.in-Some.other) _ _ _ c.loop-other_first.invariant c.in-Some-first.is c.in-Some.is)
     _ _ (sym c.in-Equal.ensures)
     (taken own left c.loop-other_first.rows c.next_row-first-in-Equal.result c.next_row-first-in-Equal.new.self
-      c.next_row-first-in-Equal.ensures)
+    c.next_row-first-in-Equal.ensures)
     (taken content other_left c.loop-other_first.others c.next_row-other_first-in-Equal.result c.next_row-other_first-in-Equal.new.self
     c.next_row-other_first-in-Equal.ensures)
 
@@ -100,5 +100,5 @@ returns-in_err-push-in-Greater-clause-absent g c =
     (lacked_greater all others _ _ _ _ _
     (search_taken all others g.S.Content.content g.R.Content.content c.loop-other_first.first c.loop-other_first.other_first
     (c.in-Some-first.key, c.in-Some-first.row) (c.in-Some.other_key, c.in-Some.other) _ _ _ c.loop-other_first.invariant
-      c.in-Some-first.is c.in-Some.is)
+    c.in-Some-first.is c.in-Some.is)
     (sym c.in-Greater.ensures))

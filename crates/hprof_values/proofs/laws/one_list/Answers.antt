@@ -8,4 +8,4 @@ returns-clause-entries c = counting.one_list
 
 pub returns-clause-identifiers : goal.returns-clause-identifiers
 returns-clause-identifiers c = λ ids numbers others bytes list list_too. sym (ids_again ids numbers bytes list).1
-  ∙ (ids_again ids others bytes list_too).1
+    ∙ (ids_again ids others bytes list_too).1

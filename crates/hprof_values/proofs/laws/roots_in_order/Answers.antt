@@ -23,7 +23,7 @@ one v a x fits fits_too = sym (fields_in_order (v ∷ []) (a ∷ []) (x ∷ []) 
 
 two : (v w a b x y : ℕ) → FitFields (v ∷ w ∷ []) (a ∷ b ∷ []) → FitFields (v ∷ w ∷ []) (x ∷ y ∷ [])
     → ordering_then (nat_cmp a x) (nat_cmp b y) ≡ slice_cmp nat_cmp (field_bytes (v ∷ w ∷ []) (a ∷ b ∷ []))
-      (field_bytes (v ∷ w ∷ []) (x ∷ y ∷ []))
+    (field_bytes (v ∷ w ∷ []) (x ∷ y ∷ []))
 two v w a b x y fits fits_too =
     sym (fields_in_order (v ∷ w ∷ []) (a ∷ b ∷ []) (x ∷ y ∷ []) fits fits_too ∙ ap (ordering_then (nat_cmp a x)) (then-Equal (nat_cmp b y)))
 
@@ -36,7 +36,7 @@ three v a b c x y z fits fits_too =
 
 -- roots of one tag are compared by their numbers, others by their tags
 in_order : (ids : IdSize) (root other : Root) → RootFits ids root → RootFits ids other
-  → root_cmp root other ≡ slice_cmp nat_cmp (root_bytes ids root) (root_bytes ids other)
+    → root_cmp root other ≡ slice_cmp nat_cmp (root_bytes ids root) (root_bytes ids other)
 in_order ids (roots.JniGlobal a b) (roots.JniGlobal x y) fits fits_too = two (width_of ids) (width_of ids) a b x y fits fits_too
 in_order ids (roots.JniLocal a b c) (roots.JniLocal x y z) fits fits_too = three (width_of ids) a b c x y z fits fits_too
 in_order ids (roots.JavaFrame a b c) (roots.JavaFrame x y z) fits fits_too = three (width_of ids) a b c x y z fits fits_too

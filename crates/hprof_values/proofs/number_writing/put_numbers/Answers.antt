@@ -11,7 +11,7 @@ slice_bounds-put_number-count c = Put-lies c.args.ids c.args.numbers.now _ _ _ _
 pub put_number-requires-clause-room : goal.put_number-requires-clause-room
 put_number-requires-clause-room c =
     let next = Put-next c.args.ids c.args.numbers.now c.loop-number.number-index (numbers.Id 0) c.args.out.now c.loop-number.out
-      c.loop-number.end c.loop-number-test.true c.loop-number.invariant in
+    c.loop-number.end c.loop-number-test.true c.loop-number.invariant in
     let room = Put-room _ _ _ _ _ _ _ c.requires.room next in
     omega (arith, room, ap length (to_the_end c.loop-number.end c.loop-number.out), length-drop c.loop-number.end c.loop-number.out)
 
@@ -21,7 +21,7 @@ put_number-requires-clause-fits c = (Put-next c.args.ids _ _ _ _ _ _ c.loop-numb
 pub loop-number-preserved : goal.loop-number-preserved
 loop-number-preserved c =
     Put-more c.args.ids _ _ _ _ _ _ _ _ _ c.requires.room (Put-next c.args.ids _ _ _ _ _ _ c.loop-number-test.true
-      c.loop-number.invariant) c.width-end.ensures c.put_number.ensures refl
+    c.loop-number.invariant) c.width-end.ensures c.put_number.ensures refl
 
 pub returns : goal.returns
 returns c = Put-all _ _ _ _ _ _ (omega arith) c.loop-number.invariant

@@ -10,9 +10,9 @@ use Rattle.hprof_heap.proofs.gatherer.GathererSink.take.Goals as goal
 pub invariant_of-self : goal.invariant_of-self
 invariant_of-self c = record {
   steady = steady_after c.args.self.now.heap c.in-Some.heap c.state.new.self c.args.self.now.begun c.args.self.now.two_sizes
-    c.args.self.now.steady c.in-Some.is
+      c.args.self.now.steady c.in-Some.is
       (states_ids c.state.result (heap_of c.in-Some.heap) (heap_of c.state.new.self) (value_of c.args.fact.now) c.state.ensures.ok
-        c.state.ensures.err);
+      c.state.ensures.err);
 }
 
 pub returns-in-New-clause-steps : goal.returns-in-New-clause-steps

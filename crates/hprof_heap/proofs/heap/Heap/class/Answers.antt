@@ -15,7 +15,7 @@ pub returns-in_err-bytes-clause-value : goal.returns-in_err-bytes-clause-value
 returns-in_err-bytes-clause-value c =
     let heap = c.args.self.now in
     let found = look_up_row (rows_in heap) 8 c.args.id (keys.Class c.args.id) (spelled_fact heap.ids) the_bytes (byte_rows heap.classes)
-      (Class c.args.id 0 0 0 0 0 0 0 0 [] [] []) _
+    (Class c.args.id 0 0 0 0 0 0 0 0 [] [] []) _
     heap.sound refl refl heap.sound.classes refl (sym c.in_err-bytes.ensures) in
     ap (option_map value_of) c.from_residual.ensures ∙ sym found
 
@@ -24,10 +24,10 @@ spelled_fact-requires c =
     let heap = c.args.self.now in
     let bytes = the_bytes c.in_ok-bytes.bytes.now in
     let found = look_up_row (rows_in heap) 8 c.args.id (keys.Class c.args.id) (spelled_fact heap.ids) the_bytes (byte_rows heap.classes)
-      (Class c.args.id 0 0 0 0 0 0 0 0 [] [] []) _
+    (Class c.args.id 0 0 0 0 0 0 0 0 [] [] []) _
     heap.sound refl refl heap.sound.classes refl (sym c.in_ok-bytes.ensures) in
     let right = right_found heap.ids 8 (spelled_fact heap.ids) the_bytes (byte_rows heap.classes) c.args.id c.in_ok-bytes.bytes.now
-      heap.sound.classes
+    heap.sound.classes
     (sym c.in_ok-bytes.ensures) in (
       spelled_fact heap.ids c.args.id bytes,
       row_spells heap.ids 8 c.args.id bytes (omega arith) right
@@ -39,10 +39,10 @@ returns-clause-value c =
     let heap = c.args.self.now in
     let bytes = the_bytes c.in_ok-bytes.bytes.now in
     let found = look_up_row (rows_in heap) 8 c.args.id (keys.Class c.args.id) (spelled_fact heap.ids) the_bytes (byte_rows heap.classes)
-      (Class c.args.id 0 0 0 0 0 0 0 0 [] [] []) _
+    (Class c.args.id 0 0 0 0 0 0 0 0 [] [] []) _
     heap.sound refl refl heap.sound.classes refl (sym c.in_ok-bytes.ensures) in
     let right = right_found heap.ids 8 (spelled_fact heap.ids) the_bytes (byte_rows heap.classes) c.args.id c.in_ok-bytes.bytes.now
-      heap.sound.classes
+    heap.sound.classes
     (sym c.in_ok-bytes.ensures) in
     let spells = row_spells heap.ids 8 c.args.id bytes (omega arith) right
     (found_fits (rows_in heap) (has_key (keys.Class c.args.id)) (spelled_fact heap.ids c.args.id bytes) heap.sound found) in

@@ -14,7 +14,7 @@ pub returns-in_err-row : goal.returns-in_err-row
 returns-in_err-row c =
     let heap = c.args.self.now in
     let found = look_up_row (rows_in heap) 3 c.args.id (keys.Frame c.args.id) frame_fact frame_numbers (rows_of heap.frames)
-      (Frame c.args.id 0 0 0 0 (pos 0)) _ heap.sound refl refl (frames_right heap.ids (rows_of heap.frames)) refl
+    (Frame c.args.id 0 0 0 0 (pos 0)) _ heap.sound refl refl (frames_right heap.ids (rows_of heap.frames)) refl
     (sym c.in_err-row.ensures) in
     ap (option_map value_of) c.from_residual.ensures ∙ sym found
 
@@ -22,9 +22,9 @@ pub returns : goal.returns
 returns c =
     let heap = c.args.self.now in
     let found = look_up_row (rows_in heap) 3 c.args.id (keys.Frame c.args.id) frame_fact frame_numbers (rows_of heap.frames)
-      (Frame c.args.id 0 0 0 0 (pos 0)) _ heap.sound refl refl (frames_right heap.ids (rows_of heap.frames)) refl
+    (Frame c.args.id 0 0 0 0 (pos 0)) _ heap.sound refl refl (frames_right heap.ids (rows_of heap.frames)) refl
     (sym c.in_ok-row.ensures) in
     let row = c.in_ok-row.row.now in
     ap (λ (fact : FactValue). Some fact) c.fact.ensures.value
     ∙ ap (λ (line : ℤ). Some (Frame c.args.id row.method row.signature row.source row.class_serial line)) (sym (line_again row.line))
-      ∙ sym found
+    ∙ sym found

@@ -8,20 +8,22 @@ use Rattle.hprof_heap.proofs.heap.Heap.join_table.Goals as goal
 pub invariant_of-self : goal.invariant_of-self
 invariant_of-self c =
     let can = can_join c.args.self.now c.args.other.now c.requires.ids c.requires.agree in
-    record { sound = (names_joined can c.join.result (byte_rows c.join.new.self) c.join.ensures.ok c.join.ensures.err
-      c.join.ensures.absent).are_heap }
+    record {
+      sound = (names_joined can c.join.result (byte_rows c.join.new.self) c.join.ensures.ok c.join.ensures.err
+          c.join.ensures.absent).are_heap;
+    }
 
 pub returns-in-Names-clause-ok : goal.returns-in-Names-clause-ok
 returns-in-Names-clause-ok c =
     let can = can_join c.args.self.now c.args.other.now c.requires.ids c.requires.agree in
     rw c.in-Names.is (names_joined can c.join.result (byte_rows c.join.new.self) c.join.ensures.ok c.join.ensures.err
-      c.join.ensures.absent).takes
+    c.join.ensures.absent).takes
 
 pub returns-in-Names-clause-absent : goal.returns-in-Names-clause-absent
 returns-in-Names-clause-absent c =
     let can = can_join c.args.self.now c.args.other.now c.requires.ids c.requires.agree in
     rw c.in-Names.is (names_joined can c.join.result (byte_rows c.join.new.self) c.join.ensures.ok c.join.ensures.err
-      c.join.ensures.absent).lacks
+    c.join.ensures.absent).lacks
 
 pub invariant_of-self-in-Loads : goal.invariant_of-self-in-Loads
 invariant_of-self-in-Loads c =
@@ -45,8 +47,10 @@ pub invariant_of-self-in-Unloads : goal.invariant_of-self-in-Unloads
 invariant_of-self-in-Unloads c =
     let can = can_join c.args.self.now c.args.other.now c.requires.ids c.requires.agree in
     let join = c.join-in-Unloads in
-    record { sound = (unloads_joined can join.result (rows_of join.new.self) join.ensures.ok join.ensures.err
-      join.ensures.absent).are_heap }
+    record {
+      sound = (unloads_joined can join.result (rows_of join.new.self) join.ensures.ok join.ensures.err
+          join.ensures.absent).are_heap;
+    }
 
 pub returns-in-Unloads-clause-ok : goal.returns-in-Unloads-clause-ok
 returns-in-Unloads-clause-ok c =
@@ -154,8 +158,10 @@ pub invariant_of-self-in-Classes : goal.invariant_of-self-in-Classes
 invariant_of-self-in-Classes c =
     let can = can_join c.args.self.now c.args.other.now c.requires.ids c.requires.agree in
     let join = c.join-in-Classes in
-    record { sound = (classes_joined can join.result (byte_rows join.new.self) join.ensures.ok join.ensures.err
-      join.ensures.absent).are_heap }
+    record {
+      sound = (classes_joined can join.result (byte_rows join.new.self) join.ensures.ok join.ensures.err
+          join.ensures.absent).are_heap;
+    }
 
 pub returns-in-Classes-clause-ok : goal.returns-in-Classes-clause-ok
 returns-in-Classes-clause-ok c =
@@ -173,8 +179,10 @@ pub invariant_of-self-in-Objects : goal.invariant_of-self-in-Objects
 invariant_of-self-in-Objects c =
     let can = can_join c.args.self.now c.args.other.now c.requires.ids c.requires.agree in
     let join = c.join-in-Objects in
-    record { sound = (objects_joined can join.result (byte_rows join.new.self) join.ensures.ok join.ensures.err
-      join.ensures.absent).are_heap }
+    record {
+      sound = (objects_joined can join.result (byte_rows join.new.self) join.ensures.ok join.ensures.err
+          join.ensures.absent).are_heap;
+    }
 
 pub returns-in-Objects-clause-ok : goal.returns-in-Objects-clause-ok
 returns-in-Objects-clause-ok c =

@@ -48,5 +48,5 @@ loop-table-preserved c =
     let place = c.loop-table.table-index in
     takes_next old other mid (heap_of c.join_table.new.self) (get_or all_tables place Names) (drop (place + 1) all_tables)
     (subst (λ (left : List Table). TakesSome old other left mid) (drop_from all_tables place Names c.loop-table-test.true)
-      c.loop-table.invariant)
+    c.loop-table.invariant)
     c.in_ok-join_table.ensures.ok

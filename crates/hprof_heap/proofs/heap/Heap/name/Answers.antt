@@ -12,7 +12,7 @@ pub returns-in_err-text : goal.returns-in_err-text
 returns-in_err-text c =
     let heap = c.args.self.now in
     let found = look_up_row (rows_in heap) 0 c.args.id (keys.Name c.args.id) Name the_bytes (byte_rows heap.names) (Name c.args.id []) _
-      heap.sound refl refl (names_right heap.ids (byte_rows heap.names)) refl
+    heap.sound refl refl (names_right heap.ids (byte_rows heap.names)) refl
     (sym c.in_err-text.ensures) in
     ap (option_map value_of) c.from_residual.ensures ∙ sym found
 
@@ -20,6 +20,6 @@ pub returns : goal.returns
 returns c =
     let heap = c.args.self.now in
     let found = look_up_row (rows_in heap) 0 c.args.id (keys.Name c.args.id) Name the_bytes (byte_rows heap.names) (Name c.args.id []) _
-      heap.sound refl refl (names_right heap.ids (byte_rows heap.names)) refl
+    heap.sound refl refl (names_right heap.ids (byte_rows heap.names)) refl
     (sym c.in_ok-text.ensures) in
     sym found

@@ -18,9 +18,9 @@ invariant_of-self c =
     record {
       sound = record {
         heap = into_heap-sound r (rows_in heap) heap.sound 6 (end_facts new) fact (record { more = c.args.thread ∷ []; stands = refl })
-          (omega arith) c.requires
+            (omega arith) c.requires
             (rows_tried heap.ids 6 end_fact no_content r old new c.args.thread fact (record { stands = refl; again = refl })
-              (ends_right heap.ids old) c.state.ensures.ok)
+            (ends_right heap.ids old) c.state.ensures.ok)
             (rows_kept heap.ids 6 end_fact no_content r old new c.state.ensures.err);
         traces = heap.sound.traces;
         classes = heap.sound.classes;
@@ -36,13 +36,13 @@ returns-clause-ok c =
     let new = rows_of c.state.new.self in
     let r = c.state.result in
     into_heap r (rows_in heap) heap.sound 6 (end_facts new) fact (record { more = c.args.thread ∷ []; stands = refl }) (omega arith)
-      c.requires
+    c.requires
     (rows_tried heap.ids 6 end_fact no_content r old new c.args.thread fact (record { stands = refl; again = refl })
-      (ends_right heap.ids old) c.state.ensures.ok)
+    (ends_right heap.ids old) c.state.ensures.ok)
 
 pub returns-clause-absent : goal.returns-clause-absent
 returns-clause-absent c =
     let heap = c.args.self.now in
     let fact = End c.args.thread in
     unseen_row c.state.result (rows_in heap) 6 c.args.thread end_fact no_content (rows_of heap.ends) fact heap.sound refl
-      (ends_right heap.ids (rows_of heap.ends)) refl c.state.ensures.absent
+    (ends_right heap.ids (rows_of heap.ends)) refl c.state.ensures.absent

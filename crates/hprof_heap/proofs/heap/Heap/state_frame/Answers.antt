@@ -21,10 +21,13 @@ invariant_of-self c =
     record {
       sound = record {
         heap = into_heap-sound r (rows_in heap) heap.sound 3 (frame_facts new) fact (record { more = c.args.id ∷ []; stands = refl })
-          (omega arith) c.requires
-            (rows_tried heap.ids 3 frame_fact frame_numbers r old new c.args.id fact (record { stands = refl; again =
-              ap (λ (line : ℤ). Frame c.args.id c.args.row.method c.args.row.signature c.args.row.source c.args.row.class_serial line)
-              (line_again c.args.row.line) }) (frames_right heap.ids old) c.state.ensures.ok)
+            (omega arith) c.requires
+            (rows_tried heap.ids 3 frame_fact frame_numbers r old new c.args.id fact (record {
+              stands = refl;
+              again =
+                  ap (λ (line : ℤ). Frame c.args.id c.args.row.method c.args.row.signature c.args.row.source c.args.row.class_serial line)
+                  (line_again c.args.row.line);
+            }) (frames_right heap.ids old) c.state.ensures.ok)
             (rows_kept heap.ids 3 frame_fact frame_numbers r old new c.state.ensures.err);
         traces = heap.sound.traces;
         classes = heap.sound.classes;
@@ -40,14 +43,17 @@ returns-clause-ok c =
     let new = rows_of c.state.new.self in
     let r = c.state.result in
     into_heap r (rows_in heap) heap.sound 3 (frame_facts new) fact (record { more = c.args.id ∷ []; stands = refl }) (omega arith)
-      c.requires
-    (rows_tried heap.ids 3 frame_fact frame_numbers r old new c.args.id fact (record { stands = refl; again =
-      ap (λ (line : ℤ). Frame c.args.id c.args.row.method c.args.row.signature c.args.row.source c.args.row.class_serial line)
-      (line_again c.args.row.line) }) (frames_right heap.ids old) c.state.ensures.ok)
+    c.requires
+    (rows_tried heap.ids 3 frame_fact frame_numbers r old new c.args.id fact (record {
+      stands = refl;
+      again =
+          ap (λ (line : ℤ). Frame c.args.id c.args.row.method c.args.row.signature c.args.row.source c.args.row.class_serial line)
+          (line_again c.args.row.line);
+    }) (frames_right heap.ids old) c.state.ensures.ok)
 
 pub returns-clause-absent : goal.returns-clause-absent
 returns-clause-absent c =
     let heap = c.args.self.now in
     let fact = Frame c.args.id c.args.row.method c.args.row.signature c.args.row.source c.args.row.class_serial c.args.row.line in
     unseen_row c.state.result (rows_in heap) 3 c.args.id frame_fact frame_numbers (rows_of heap.frames) fact heap.sound refl
-      (frames_right heap.ids (rows_of heap.frames)) refl c.state.ensures.absent
+    (frames_right heap.ids (rows_of heap.frames)) refl c.state.ensures.absent

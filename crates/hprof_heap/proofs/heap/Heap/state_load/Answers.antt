@@ -19,9 +19,9 @@ invariant_of-self c =
     record {
       sound = record {
         heap = into_heap-sound r (rows_in heap) heap.sound 1 (load_facts new) fact (record { more = c.args.serial ∷ []; stands = refl })
-          (omega arith) c.requires
+            (omega arith) c.requires
             (rows_tried heap.ids 1 load_fact load_numbers r old new c.args.serial fact (record { stands = refl; again = refl })
-              (loads_right heap.ids old) c.state.ensures.ok)
+            (loads_right heap.ids old) c.state.ensures.ok)
             (rows_kept heap.ids 1 load_fact load_numbers r old new c.state.ensures.err);
         traces = heap.sound.traces;
         classes = heap.sound.classes;
@@ -37,13 +37,13 @@ returns-clause-ok c =
     let new = rows_of c.state.new.self in
     let r = c.state.result in
     into_heap r (rows_in heap) heap.sound 1 (load_facts new) fact (record { more = c.args.serial ∷ []; stands = refl }) (omega arith)
-      c.requires
+    c.requires
     (rows_tried heap.ids 1 load_fact load_numbers r old new c.args.serial fact (record { stands = refl; again = refl })
-      (loads_right heap.ids old) c.state.ensures.ok)
+    (loads_right heap.ids old) c.state.ensures.ok)
 
 pub returns-clause-absent : goal.returns-clause-absent
 returns-clause-absent c =
     let heap = c.args.self.now in
     let fact = Load c.args.serial c.args.row.class c.args.row.trace c.args.row.name in
     unseen_row c.state.result (rows_in heap) 1 c.args.serial load_fact load_numbers (rows_of heap.loads) fact heap.sound refl
-      (loads_right heap.ids (rows_of heap.loads)) refl c.state.ensures.absent
+    (loads_right heap.ids (rows_of heap.loads)) refl c.state.ensures.absent

@@ -18,9 +18,9 @@ invariant_of-self c =
     record {
       sound = record {
         heap = into_heap-sound r (rows_in heap) heap.sound 0 (name_facts new) fact (record { more = c.args.id ∷ []; stands = refl })
-          (omega arith) c.requires
+            (omega arith) c.requires
             (rows_tried heap.ids 0 Name the_bytes r old new c.args.id fact (record { stands = refl; again = refl })
-              (names_right heap.ids old) c.state.ensures.ok)
+            (names_right heap.ids old) c.state.ensures.ok)
             (rows_kept heap.ids 0 Name the_bytes r old new c.state.ensures.err);
         traces = heap.sound.traces;
         classes = heap.sound.classes;
@@ -37,11 +37,11 @@ returns-clause-ok c =
     let r = c.state.result in
     into_heap r (rows_in heap) heap.sound 0 (name_facts new) fact (record { more = c.args.id ∷ []; stands = refl }) (omega arith) c.requires
     (rows_tried heap.ids 0 Name the_bytes r old new c.args.id fact (record { stands = refl; again = refl }) (names_right heap.ids old)
-      c.state.ensures.ok)
+    c.state.ensures.ok)
 
 pub returns-clause-absent : goal.returns-clause-absent
 returns-clause-absent c =
     let heap = c.args.self.now in
     let fact = Name c.args.id c.args.text.now in
     unseen_row c.state.result (rows_in heap) 0 c.args.id Name the_bytes (byte_rows heap.names) fact heap.sound refl
-      (names_right heap.ids (byte_rows heap.names)) refl c.state.ensures.absent
+    (names_right heap.ids (byte_rows heap.names)) refl c.state.ensures.absent

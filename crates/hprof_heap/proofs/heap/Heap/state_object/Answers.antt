@@ -21,14 +21,14 @@ invariant_of-self c =
     record {
       sound = record {
         heap = into_heap-sound r (rows_in heap) heap.sound 9 (spelled_facts heap.ids new) fact
-          (of_key 9 c.args.id fact c.requires.place) (omega arith) c.requires.fits
+            (of_key 9 c.args.id fact c.requires.place) (omega arith) c.requires.fits
             (rows_tried heap.ids 9 (spelled_fact heap.ids) the_bytes r old new c.args.id fact
             (record { stands = c.requires.place; again = spelled_again heap.ids c.args.id fact sub c.requires.fits }) heap.sound.objects ok)
             (rows_kept heap.ids 9 (spelled_fact heap.ids) the_bytes r old new c.state.ensures.err);
         traces = heap.sound.traces;
         objects = tried_right heap.ids 9 (spelled_fact heap.ids) the_bytes r old new c.args.id fact
             (record { stands = c.requires.place; again = spelled_again heap.ids c.args.id fact sub c.requires.fits }) heap.sound.objects
-              ok c.state.ensures.err;
+            ok c.state.ensures.err;
         classes = heap.sound.classes;
       };
     }
@@ -43,7 +43,7 @@ returns-clause-ok c =
     let sub = sub_at_place fact 9 c.args.id c.requires.place (omega arith) in
     let ok = spelled_stated r heap.ids c.args.id fact c.args.bytes.now old new sub c.requires.spelled c.state.ensures.ok in
     into_heap r (rows_in heap) heap.sound 9 (spelled_facts heap.ids new) fact (of_key 9 c.args.id fact c.requires.place) (omega arith)
-      c.requires.fits
+    c.requires.fits
     (rows_tried heap.ids 9 (spelled_fact heap.ids) the_bytes r old new c.args.id fact
     (record { stands = c.requires.place; again = spelled_again heap.ids c.args.id fact sub c.requires.fits }) heap.sound.objects ok)
 
@@ -52,4 +52,4 @@ returns-clause-absent c =
     let heap = c.args.self.now in
     let fact = value_of c.args.fact.now in
     unseen_row c.state.result (rows_in heap) 9 c.args.id (spelled_fact heap.ids) the_bytes (byte_rows heap.objects) fact heap.sound
-      c.requires.place heap.sound.objects refl c.state.ensures.absent
+    c.requires.place heap.sound.objects refl c.state.ensures.absent

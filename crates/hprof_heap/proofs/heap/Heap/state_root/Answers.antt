@@ -41,5 +41,5 @@ returns-clause-absent c =
     let heap = c.args.self.now in
     let root = c.args.root in
     unseen_in_heap c.state.result (rows_in heap) 7 (Rooted root) heap.sound
-      (record { more = code_of_tag (tag_of_root root) ∷ root_numbers root; stands = refl })
+    (record { more = code_of_tag (tag_of_root root) ∷ root_numbers root; stands = refl })
     (roots_unseen c.state.result (roots_of heap.roots) root c.state.ensures.absent)

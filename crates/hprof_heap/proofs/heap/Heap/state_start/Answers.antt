@@ -18,10 +18,13 @@ invariant_of-self c =
     let r = c.state.result in
     record {
       sound = record {
-        heap = into_heap-sound r (rows_in heap) heap.sound 5 (start_facts new) fact (record { more = c.args.thread ∷ []; stands =
-          refl }) (omega arith) c.requires
+        heap = into_heap-sound r (rows_in heap) heap.sound 5 (start_facts new) fact (record {
+          more = c.args.thread ∷ [];
+          stands =
+              refl;
+        }) (omega arith) c.requires
             (rows_tried heap.ids 5 start_fact start_numbers r old new c.args.thread fact (record { stands = refl; again = refl })
-              (starts_right heap.ids old) c.state.ensures.ok)
+            (starts_right heap.ids old) c.state.ensures.ok)
             (rows_kept heap.ids 5 start_fact start_numbers r old new c.state.ensures.err);
         traces = heap.sound.traces;
         classes = heap.sound.classes;
@@ -37,13 +40,13 @@ returns-clause-ok c =
     let new = rows_of c.state.new.self in
     let r = c.state.result in
     into_heap r (rows_in heap) heap.sound 5 (start_facts new) fact (record { more = c.args.thread ∷ []; stands = refl }) (omega arith)
-      c.requires
+    c.requires
     (rows_tried heap.ids 5 start_fact start_numbers r old new c.args.thread fact (record { stands = refl; again = refl })
-      (starts_right heap.ids old) c.state.ensures.ok)
+    (starts_right heap.ids old) c.state.ensures.ok)
 
 pub returns-clause-absent : goal.returns-clause-absent
 returns-clause-absent c =
     let heap = c.args.self.now in
     let fact = Start c.args.thread c.args.row.object c.args.row.trace c.args.row.name c.args.row.group c.args.row.parent_group in
     unseen_row c.state.result (rows_in heap) 5 c.args.thread start_fact start_numbers (rows_of heap.starts) fact heap.sound refl
-      (starts_right heap.ids (rows_of heap.starts)) refl c.state.ensures.absent
+    (starts_right heap.ids (rows_of heap.starts)) refl c.state.ensures.absent

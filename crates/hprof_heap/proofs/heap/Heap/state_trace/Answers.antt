@@ -17,12 +17,12 @@ use Rattle.hprof_heap.proofs.heap.Heap.state_trace.Goals as goal
 
 -- what was stated of frames of one size was stated of the fact
 stated_as : {E : Type 0} (r : Result Stated E) (ids size : IdSize) (serial thread : ℕ) (frames : List ℕ) (old new : List (ℕ × TraceRow))
-  → size ≡ ids
+    → size ≡ ids
     → IfOk r (λ answer. States trace_content old serial (thread ∷ field_bytes (id_widths size (length frames)) frames) answer new)
     → IfOk r (λ answer. States trace_content old serial (content_of ids (Trace serial thread frames)) answer new)
 stated_as r ids size serial thread frames old new e ok =
     subst (λ (i : IdSize). IfOk r (λ answer. States trace_content old serial (thread ∷ field_bytes (id_widths i (length frames)) frames)
-      answer new)) e ok
+    answer new)) e ok
 
 pub invariant_of-self : goal.invariant_of-self
 invariant_of-self c =
@@ -36,14 +36,14 @@ invariant_of-self c =
     record {
       sound = record {
         heap = into_heap-sound r (rows_in heap) heap.sound 4 (trace_facts heap.ids new) fact
-          (record { more = c.args.serial ∷ []; stands = refl }) (omega arith) c.requires.fits
+            (record { more = c.args.serial ∷ []; stands = refl }) (omega arith) c.requires.fits
             (rows_tried heap.ids 4 (trace_fact heap.ids) trace_content r old new c.args.serial fact
             (record { stands = refl; again = trace_again heap.ids c.args.serial c.args.thread frames c.requires.fits })
-              heap.sound.traces ok)
+            heap.sound.traces ok)
             (rows_kept heap.ids 4 (trace_fact heap.ids) trace_content r old new c.state_from.ensures.err);
         traces = tried_right heap.ids 4 (trace_fact heap.ids) trace_content r old new c.args.serial fact
             (record { stands = refl; again = trace_again heap.ids c.args.serial c.args.thread frames c.requires.fits })
-              heap.sound.traces ok c.state_from.ensures.err;
+            heap.sound.traces ok c.state_from.ensures.err;
         classes = heap.sound.classes;
         objects = heap.sound.objects;
       };
@@ -59,7 +59,7 @@ returns-clause-ok c =
     let r = c.state_from.result in
     let ok = stated_as r heap.ids _ c.args.serial c.args.thread frames old new c.requires.size c.state_from.ensures.ok in
     into_heap r (rows_in heap) heap.sound 4 (trace_facts heap.ids new) fact (record { more = c.args.serial ∷ []; stands = refl })
-      (omega arith) c.requires.fits
+    (omega arith) c.requires.fits
     (rows_tried heap.ids 4 (trace_fact heap.ids) trace_content r old new c.args.serial fact
     (record { stands = refl; again = trace_again heap.ids c.args.serial c.args.thread frames c.requires.fits }) heap.sound.traces ok)
 
@@ -69,4 +69,4 @@ returns-clause-absent c =
     let frames = identifiers_of c.args.frames in
     let fact = Trace c.args.serial c.args.thread frames in
     unseen_row c.state_from.result (rows_in heap) 4 c.args.serial (trace_fact heap.ids) trace_content (rows_of heap.traces) fact
-      heap.sound refl heap.sound.traces refl c.state_from.ensures.absent
+    heap.sound refl heap.sound.traces refl c.state_from.ensures.absent

@@ -17,10 +17,13 @@ invariant_of-self c =
     let r = c.state.result in
     record {
       sound = record {
-        heap = into_heap-sound r (rows_in heap) heap.sound 2 (unload_facts new) fact (record { more = c.args.serial ∷ []; stands =
-          refl }) (omega arith) c.requires
+        heap = into_heap-sound r (rows_in heap) heap.sound 2 (unload_facts new) fact (record {
+          more = c.args.serial ∷ [];
+          stands =
+              refl;
+        }) (omega arith) c.requires
             (rows_tried heap.ids 2 unload_fact no_content r old new c.args.serial fact (record { stands = refl; again = refl })
-              (unloads_right heap.ids old) c.state.ensures.ok)
+            (unloads_right heap.ids old) c.state.ensures.ok)
             (rows_kept heap.ids 2 unload_fact no_content r old new c.state.ensures.err);
         traces = heap.sound.traces;
         classes = heap.sound.classes;
@@ -36,13 +39,13 @@ returns-clause-ok c =
     let new = rows_of c.state.new.self in
     let r = c.state.result in
     into_heap r (rows_in heap) heap.sound 2 (unload_facts new) fact (record { more = c.args.serial ∷ []; stands = refl }) (omega arith)
-      c.requires
+    c.requires
     (rows_tried heap.ids 2 unload_fact no_content r old new c.args.serial fact (record { stands = refl; again = refl })
-      (unloads_right heap.ids old) c.state.ensures.ok)
+    (unloads_right heap.ids old) c.state.ensures.ok)
 
 pub returns-clause-absent : goal.returns-clause-absent
 returns-clause-absent c =
     let heap = c.args.self.now in
     let fact = Unload c.args.serial in
     unseen_row c.state.result (rows_in heap) 2 c.args.serial unload_fact no_content (rows_of heap.unloads) fact heap.sound refl
-      (unloads_right heap.ids (rows_of heap.unloads)) refl c.state.ensures.absent
+    (unloads_right heap.ids (rows_of heap.unloads)) refl c.state.ensures.absent

@@ -13,7 +13,7 @@ pub returns-in_err-row : goal.returns-in_err-row
 returns-in_err-row c =
     let heap = c.args.self.now in
     let found = look_up_row (rows_in heap) 5 c.args.serial (keys.Thread c.args.serial) start_fact start_numbers (rows_of heap.starts)
-      (Start c.args.serial 0 0 0 0 0) _ heap.sound refl refl (starts_right heap.ids (rows_of heap.starts)) refl
+    (Start c.args.serial 0 0 0 0 0) _ heap.sound refl refl (starts_right heap.ids (rows_of heap.starts)) refl
     (sym c.in_err-row.ensures) in
     ap (option_map value_of) c.from_residual.ensures ∙ sym found
 
@@ -21,6 +21,6 @@ pub returns : goal.returns
 returns c =
     let heap = c.args.self.now in
     let found = look_up_row (rows_in heap) 5 c.args.serial (keys.Thread c.args.serial) start_fact start_numbers (rows_of heap.starts)
-      (Start c.args.serial 0 0 0 0 0) _ heap.sound refl refl (starts_right heap.ids (rows_of heap.starts)) refl
+    (Start c.args.serial 0 0 0 0 0) _ heap.sound refl refl (starts_right heap.ids (rows_of heap.starts)) refl
     (sym c.in_ok-row.ensures) in
     ap (λ (fact : FactValue). Some fact) c.fact.ensures.value ∙ sym found

@@ -15,7 +15,7 @@ pub returns-in_err-row-clause-value : goal.returns-in_err-row-clause-value
 returns-in_err-row-clause-value c =
     let heap = c.args.self.now in
     let found = look_up_row (rows_in heap) 4 c.args.serial (keys.Trace c.args.serial) (trace_fact heap.ids) trace_content
-      (rows_of heap.traces) (Trace c.args.serial 0 []) _
+    (rows_of heap.traces) (Trace c.args.serial 0 []) _
     heap.sound refl refl heap.sound.traces refl (sym c.in_err-row.ensures) in
     ap (option_map value_of) c.from_residual.ensures ∙ sym found
 
@@ -24,18 +24,18 @@ fact-requires c =
     let heap = c.args.self.now in
     let row = c.in_ok-row.row.now in
     let found = look_up_row (rows_in heap) 4 c.args.serial (keys.Trace c.args.serial) (trace_fact heap.ids) trace_content
-      (rows_of heap.traces) (Trace c.args.serial 0 []) _
+    (rows_of heap.traces) (Trace c.args.serial 0 []) _
     heap.sound refl refl heap.sound.traces refl (sym c.in_ok-row.ensures) in
     let right = right_found heap.ids 4 (trace_fact heap.ids) trace_content (rows_of heap.traces) c.args.serial row heap.sound.traces
-      (sym c.in_ok-row.ensures) in
+    (sym c.in_ok-row.ensures) in
     row_whole heap.ids c.args.serial row.thread (frames_bytes row) right
     (found_fits (rows_in heap) (has_key (keys.Trace c.args.serial)) (trace_fact heap.ids c.args.serial (trace_content row)) heap.sound
-      found)
+    found)
 
 pub returns-clause-value : goal.returns-clause-value
 returns-clause-value c =
     let heap = c.args.self.now in
     let found = look_up_row (rows_in heap) 4 c.args.serial (keys.Trace c.args.serial) (trace_fact heap.ids) trace_content
-      (rows_of heap.traces) (Trace c.args.serial 0 []) _
+    (rows_of heap.traces) (Trace c.args.serial 0 []) _
     heap.sound refl refl heap.sound.traces refl (sym c.in_ok-row.ensures) in
     ap (λ (fact : FactValue). Some fact) c.fact.ensures.value ∙ sym found

@@ -9,28 +9,28 @@ use Rattle.hprof_stream.proofs.progress.Progress.step.Goals as goal
 pub split_at-requires : goal.split_at-requires
 split_at-requires g c =
     read_within c.args.self.now.limits.max_item c.args.self.now c.args.bytes.now (with_fact c.in-Whole.item c.item.new.fact)
-      c.in-Whole.len (λ i. omega (arith, c.type_inv.bytes i)) c.item.ensures.room
+    c.in-Whole.len (λ i. omega (arith, c.type_inv.bytes i)) c.item.ensures.room
     c.in-Whole.ensures.found
 
 pub give-requires : goal.give-requires
 give-requires g c =
     subst (λ (bytes : List ℕ). GivesFit (g.S.Sink.begun c.args.sink.now) (with_fact c.in-Whole.item c.item.new.fact) bytes)
-      (sym c.split_at.ensures.front)
+    (sym c.split_at.ensures.front)
     (given_fits c.args.self.now.limits.max_item c.args.self.now c.args.bytes.now (with_fact c.in-Whole.item c.item.new.fact)
-      c.in-Whole.len _ (λ i. omega (arith, c.type_inv.bytes i)) c.item.ensures.room
+    c.in-Whole.len _ (λ i. omega (arith, c.type_inv.bytes i)) c.item.ensures.room
     c.in-Whole.ensures.found c.in-Whole.ensures.place c.in-Whole.ensures.lists c.requires.begun)
 
 pub advance-requires-clause-counted : goal.advance-requires-clause-counted
 advance-requires-clause-counted g c =
     (next_counted c.args.self.now.limits.max_item c.args.self.now c.args.bytes.now (with_fact c.in-Whole.item c.item.new.fact)
-      c.in-Whole.len (λ i. omega (arith, c.type_inv.bytes i)) c.item.ensures.room
+    c.in-Whole.len (λ i. omega (arith, c.type_inv.bytes i)) c.item.ensures.room
     c.in-Whole.ensures.found c.in-Whole.ensures.place c.requires.counted).0
 
 pub advance-requires-clause-next : goal.advance-requires-clause-next
 advance-requires-clause-next g c =
     bare_next c.args.self.now c.in-Whole.item c.item.new.fact c.in-Whole.len
-      (next_counted c.args.self.now.limits.max_item c.args.self.now c.args.bytes.now (with_fact c.in-Whole.item c.item.new.fact)
-      c.in-Whole.len (λ i. omega (arith, c.type_inv.bytes i)) c.item.ensures.room
+    (next_counted c.args.self.now.limits.max_item c.args.self.now c.args.bytes.now (with_fact c.in-Whole.item c.item.new.fact)
+    c.in-Whole.len (λ i. omega (arith, c.type_inv.bytes i)) c.item.ensures.room
     c.in-Whole.ensures.found c.in-Whole.ensures.place c.requires.counted).1
 
 pub returns-in_default-clause-step : goal.returns-in_default-clause-step
@@ -38,12 +38,12 @@ returns-in_default-clause-step g c =
     let from = c.args.self.now in
     let bytes = c.args.bytes.now in
     let walk = Walks-item g.S.Sink.begins g.S.Sink.steps from.limits.max_item from bytes c.args.sink.now c.give.new.sink
-      (with_fact c.in-Whole.item c.item.new.fact) c.in-Whole.len
+    (with_fact c.in-Whole.item c.item.new.fact) c.in-Whole.len
     (λ i. omega (arith, c.type_inv.bytes i)) c.item.ensures.room c.in-Whole.ensures.found c.in-Whole.ensures.place
-      c.in_default.ensures.gives in (
+    c.in_default.ensures.gives in (
       subst (λ (p : Progress). Walks g.S.Sink.begins g.S.Sink.steps from.limits.max_item from bytes c.args.sink.now p
-        (drop c.in-Whole.len bytes) c.give.new.sink)
-        (sym (c.advance.ensures ∙ bare_after from c.in-Whole.item c.item.new.fact c.in-Whole.len)) walk.0,
+          (drop c.in-Whole.len bytes) c.give.new.sink)
+          (sym (c.advance.ensures ∙ bare_after from c.in-Whole.item c.item.new.fact c.in-Whole.len)) walk.0,
       walk.1,
       walk.2,
       (_, c.in-Whole.ensures.found),
@@ -52,10 +52,10 @@ returns-in_default-clause-step g c =
 pub returns-in-Err-clause-step : goal.returns-in-Err-clause-step
 returns-in-Err-clause-step g c =
     rw (c.tell.ensures ∙ ap (λ (h : Option Header). record c.args.self.now { header = h })
-      (bare_told c.args.self.now.header c.in-Whole.item c.item.new.fact)) (
+    (bare_told c.args.self.now.header c.in-Whole.item c.item.new.fact)) (
       Stops-refused g.S.Sink.refuses g.S.Sink.failed c.args.self.now c.args.bytes.now (with_fact c.in-Whole.item c.item.new.fact)
-        c.in-Whole.len c.args.sink.now c.give.new.sink c.in-Err.fault
+          c.in-Whole.len c.args.sink.now c.give.new.sink c.in-Err.fault
           (λ i. omega (arith, c.type_inv.bytes i)) c.item.ensures.room c.in-Whole.ensures.found c.in-Whole.ensures.place
-            c.in-Err.ensures.refused.0 c.in-Err.ensures.refused.1,
+          c.in-Err.ensures.refused.0 c.in-Err.ensures.refused.1,
       refl,
     )

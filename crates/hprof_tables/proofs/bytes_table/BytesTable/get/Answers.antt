@@ -9,7 +9,7 @@ pub returns-in_err-place : goal.returns-in_err-place
 returns-in_err-place c =
     let table = c.args.self.now in
     ap option_copied c.from_residual.ensures ∙ sym (row_lying table.bytes.items (entries_of table.rows) c.args.key
-      ∙ ap (option_map (lying table.bytes.items)) (sym c.in_err-place.ensures))
+    ∙ ap (option_map (lying table.bytes.items)) (sym c.in_err-place.ensures))
 
 pub slice_bounds-result-count : goal.slice_bounds-result-count
 slice_bounds-result-count c =
@@ -20,18 +20,18 @@ pub slice_bounds-result-start : goal.slice_bounds-result-start
 slice_bounds-result-start c =
     let table = c.args.self.now in
     let within = within_found table.bytes.items (entries_of table.rows) c.args.key c.in_ok-place.place.now table.sound
-      (sym c.in_ok-place.ensures) in
+    (sym c.in_ok-place.ensures) in
     search (rules, within)
 
 pub slice_bounds-result-end : goal.slice_bounds-result-end
 slice_bounds-result-end c =
     let table = c.args.self.now in
     let within = within_found table.bytes.items (entries_of table.rows) c.args.key c.in_ok-place.place.now table.sound
-      (sym c.in_ok-place.ensures) in
+    (sym c.in_ok-place.ensures) in
     search (rules, within)
 
 pub returns : goal.returns
 returns c =
     let table = c.args.self.now in
     rw c.deref.ensures.value (sym (row_lying table.bytes.items (entries_of table.rows) c.args.key
-      ∙ ap (option_map (lying table.bytes.items)) (sym c.in_ok-place.ensures)))
+    ∙ ap (option_map (lying table.bytes.items)) (sym c.in_ok-place.ensures)))

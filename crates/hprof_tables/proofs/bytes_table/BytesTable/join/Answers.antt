@@ -9,5 +9,5 @@ returns-then-is_err-clause-absent c =
     on_err_weaker c.take_rows-taken.result
     (missing_lacks (λ row. row.0.now) (byte_rows c.args.self.now) (byte_rows c.args.other.now) c.in_ok-missing.missing.items
     (bytes_missing _ _ (byte_rows c.args.self.now) (byte_rows c.args.other.now) _ c.rows.ensures.all c.rows-2.ensures.all
-      c.in_ok-missing.ensures.ok))
+    c.in_ok-missing.ensures.ok))
     c.take_rows-taken.ensures.some

@@ -12,7 +12,7 @@ invariant_of-self c =
     let table = c.args.self.now in
     record {
       sound = visited-within table.bytes.items c.visit.new.room.items c.args.bytes.now (entries_of table.rows)
-        (entries_of c.visit.new.self) c.args.key
+          (entries_of c.visit.new.self) c.args.key
           c.visit.result table.sound c.visit.ensures.ok c.visit.ensures.err c.visit.ensures.kept;
     }
 
@@ -20,7 +20,7 @@ pub returns-in_err-visit-clause-absent : goal.returns-in_err-visit-clause-absent
 returns-in_err-visit-clause-absent c =
     let table = c.args.self.now in
     at_err c.from_residual.result _ (row_lying table.bytes.items (entries_of table.rows) c.args.key
-      ∙ ap (option_map (lying table.bytes.items)) c.in_err-visit.ensures.absent)
+    ∙ ap (option_map (lying table.bytes.items)) c.in_err-visit.ensures.absent)
 
 pub returns-in-None-clause-ok : goal.returns-in-None-clause-ok
 returns-in-None-clause-ok c =
@@ -28,10 +28,10 @@ returns-in-None-clause-ok c =
     let old = entries_of table.rows in
     let new = entries_of c.visit.new.self in
     subst (λ (answer : Option Bool). States the_bytes (rows_lying table.bytes.items old) c.args.key c.args.bytes.now (stated_by answer)
-      (rows_lying c.visit.new.room.items new))
+    (rows_lying c.visit.new.room.items new))
     c.in-None.is
     (visited table.bytes.items c.visit.new.room.items c.args.bytes.now old new c.args.key c.in_ok-visit.field-0 table.sound
-      c.in_ok-visit.ensures.ok c.in_ok-visit.ensures.kept)
+    c.in_ok-visit.ensures.ok c.in_ok-visit.ensures.kept)
 
 pub returns-in-Some-true-clause-ok : goal.returns-in-Some-true-clause-ok
 returns-in-Some-true-clause-ok c =
@@ -39,10 +39,10 @@ returns-in-Some-true-clause-ok c =
     let old = entries_of table.rows in
     let new = entries_of c.visit.new.self in
     subst (λ (answer : Option Bool). States the_bytes (rows_lying table.bytes.items old) c.args.key c.args.bytes.now (stated_by answer)
-      (rows_lying c.visit.new.room.items new))
+    (rows_lying c.visit.new.room.items new))
     (c.in-Some-true.is ∙ ap (λ (same : Bool). Some same) c.in-Some-true.field-0-test)
     (visited table.bytes.items c.visit.new.room.items c.args.bytes.now old new c.args.key c.in_ok-visit.field-0 table.sound
-      c.in_ok-visit.ensures.ok c.in_ok-visit.ensures.kept)
+    c.in_ok-visit.ensures.ok c.in_ok-visit.ensures.kept)
 
 pub returns-in-Some-false-clause-ok : goal.returns-in-Some-false-clause-ok
 returns-in-Some-false-clause-ok c =
@@ -50,7 +50,7 @@ returns-in-Some-false-clause-ok c =
     let old = entries_of table.rows in
     let new = entries_of c.visit.new.self in
     subst (λ (answer : Option Bool). States the_bytes (rows_lying table.bytes.items old) c.args.key c.args.bytes.now (stated_by answer)
-      (rows_lying c.visit.new.room.items new))
+    (rows_lying c.visit.new.room.items new))
     (c.in-Some-false.is ∙ ap (λ (same : Bool). Some same) c.in-Some-false.field-0-test)
     (visited table.bytes.items c.visit.new.room.items c.args.bytes.now old new c.args.key c.in_ok-visit.field-0 table.sound
-      c.in_ok-visit.ensures.ok c.in_ok-visit.ensures.kept)
+    c.in_ok-visit.ensures.ok c.in_ok-visit.ensures.kept)

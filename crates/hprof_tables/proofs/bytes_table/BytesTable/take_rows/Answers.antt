@@ -7,7 +7,7 @@ merge-requires-clause-ascending c =
     let old = c.args.self.now in
     let put = c.in_ok-fresh.ensures in
     fresh_ascend old.bytes.items c.append_rows.new.bytes.items (entries_of old.rows) c.in_ok-fresh.fresh.items _ put.behind old.sound
-      put.lying
+    put.lying
     c.requires.ascending
 
 pub merge-requires-clause-apart : goal.merge-requires-clause-apart
@@ -15,7 +15,7 @@ merge-requires-clause-apart c =
     let old = c.args.self.now in
     let put = c.in_ok-fresh.ensures in
     fresh_apart old.bytes.items c.append_rows.new.bytes.items (entries_of old.rows) c.in_ok-fresh.fresh.items _ put.behind old.sound
-      put.lying
+    put.lying
     c.requires.apart
 
 pub invariant_of-self-2 : goal.invariant_of-self-2
@@ -24,7 +24,7 @@ invariant_of-self-2 c =
     let put = c.in_ok-fresh.ensures in
     record {
       sound = tried_within old.bytes.items c.append_rows.new.bytes.items (entries_of old.rows) c.in_ok-fresh.fresh.items _ put.behind
-        old.sound put.lying
+          old.sound put.lying
           c.merge.result (entries_of c.merge.new.self) put.within c.merge.ensures.ok c.merge.ensures.err;
     }
 
@@ -33,5 +33,5 @@ returns-clause-ok c =
     let old = c.args.self.now in
     let put = c.in_ok-fresh.ensures in
     tried_union old.bytes.items c.append_rows.new.bytes.items (entries_of old.rows) c.in_ok-fresh.fresh.items _ put.behind old.sound
-      put.lying
+    put.lying
     c.merge.result (entries_of c.merge.new.self) c.merge.ensures.ok

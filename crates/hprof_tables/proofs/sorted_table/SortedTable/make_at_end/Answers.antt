@@ -10,7 +10,7 @@ invariant_of-self-2 g c = record {
       tried_push-sound (is_ok c.push.result) c.args.self.now.run.items c.args.self.now.below.entries c.push.new.self.items c.args.key
       c.in_ok-row.row c.args.self.now.sound c.requires
       (c.push.ensures.items ∙ ap (λ (run : List (ℕ × g.row.V.Denot)). if is_ok c.push.result then run ++ (c.args.key, c.in_ok-row.row)
-        ∷ [] else run) c.reserve.ensures.items);
+      ∷ [] else run) c.reserve.ensures.items);
 }
 
 pub returns-clause-ok : goal.returns-clause-ok
@@ -19,6 +19,6 @@ returns-clause-ok g c =
       c.in_ok-row.row,
       c.in_ok-row.ensures.ok,
       ap (λ run. merged run below) (c.in_ok-push.ensures.items ∙ ap (λ (run : List (ℕ × g.row.V.Denot)).
-        run ++ (c.args.key, c.in_ok-row.row) ∷ []) c.reserve.ensures.items)
+          run ++ (c.args.key, c.in_ok-row.row) ∷ []) c.reserve.ensures.items)
           ∙ pushed c.args.self.now.run.items below c.args.key c.in_ok-row.row c.args.self.now.sound c.requires,
     )

@@ -32,4 +32,4 @@ returns-then-is_empty-clause-ok g c =
     let old = c.args.self.now in
     let none : length c.args.fresh.items ≡ 0 = search rules in
     nothing_taken (merged old.run.items old.below.entries) c.args.fresh.items
-      (table-ascending old.run.items old.below.entries old.sound) none
+    (table-ascending old.run.items old.below.entries old.sound) none

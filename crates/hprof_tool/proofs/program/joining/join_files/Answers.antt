@@ -16,9 +16,9 @@ pub returns-clause-refused : goal.returns-clause-refused
 returns-clause-refused g c =
     let e = c.make_buffered-outcome.ensures in
     of_joining _ _ c.deref_mut.result.now (ap length c.deref_mut.ensures.value ∙ c.in_ok-parts.ensures.count)
-      c.make_buffered-outcome.result e.kind e.refused
+    c.make_buffered-outcome.result e.kind e.refused
 
 pub returns-clause-ok : goal.returns-clause-ok
 returns-clause-ok g c =
     joined_of_files _ _ _ c.deref_mut.result.now (ap length c.deref_mut.ensures.value ∙ c.in_ok-parts.ensures.count) c.in-Ok.file
-      c.make_buffered-outcome.result c.make_buffered-outcome.ensures.ok
+    c.make_buffered-outcome.result c.make_buffered-outcome.ensures.ok

@@ -6,4 +6,4 @@ pub returns-clause-refused : goal.returns-clause-refused
 returns-clause-refused g c =
     let e = c.make_buffered.ensures in
     of_reporting _ _ c.deref_mut.result.now (ap length c.deref_mut.ensures.value ∙ c.in_ok-parts.ensures.count) c.make_buffered.result
-      e.kind e.refused
+    e.kind e.refused

@@ -15,5 +15,5 @@ returns-in_err-outcome-clause-read_out g c =
     let given : count_read {A = Unit {0}} (Err refused) all ≡ count_read c.from_residual.result all =
     same_count_read (Unit {0}) g.row.W.Denot refused all ∙ ap (λ (r : Result g.row.W.Denot Refused). count_read r all) (sym is) in
     subst (λ (count : ℕ). AreReadOut g.R.Source.left g.R.Source.health g.R.Source.pulls usual_limits c.args.readers.now
-      c.make_into-outcome.new.readers count) (unit ∙ given)
+    c.make_into-outcome.new.readers count) (unit ∙ given)
     c.make_into-outcome.ensures.read_out

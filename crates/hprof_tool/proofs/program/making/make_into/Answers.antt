@@ -11,15 +11,15 @@ pub returns-clause-part : goal.returns-clause-part
 returns-clause-part g c = λ index fault is parts told.
     let end = c.end_of_writing-outcome.ensures in
     c.make-made.ensures.part index fault (engine_answered c.make-made.result c.end_of_writing-outcome.result (tool.Part index fault)
-      (λ same. cc) end.failed end.refused is) parts told
+    (λ same. cc) end.failed end.refused is) parts told
 
 pub returns-clause-read_out : goal.returns-clause-read_out
 returns-clause-read_out g c =
     let end = c.end_of_writing-outcome.ensures in
     subst (λ (count : ℕ). AreReadOut g.R.Source.left g.R.Source.health g.R.Source.pulls usual_limits c.args.readers.now
-      c.make-made.new.readers count)
+    c.make-made.new.readers count)
     (count_of_made c.make-made.result c.end_of_writing-outcome.result (length c.args.readers.now) end.failed end.refused)
-      c.make-made.ensures.read_out
+    c.make-made.ensures.read_out
 
 pub returns-clause-memory : goal.returns-clause-memory
 returns-clause-memory g c = λ is.
@@ -39,7 +39,7 @@ returns-clause-refused g c =
     (record {
       ok = e.ok;
       part = λ index fault same parts told. part_refusal g.R.Source.left g.R.Source.health g.R.Source.pulls parts c.args.readers.now
-        c.make-made.new.readers index fault (e.part index fault same parts told);
+          c.make-made.new.readers index fault (e.part index fault same parts told);
       conflict = e.conflict;
       no_parts = e.no_parts.0;
       id_sizes = e.id_sizes;
@@ -56,7 +56,7 @@ returns-clause-write g c =
     (record {
       ok = e.ok;
       part = λ index fault same parts told. part_refusal g.R.Source.left g.R.Source.health g.R.Source.pulls parts c.args.readers.now
-        c.make-made.new.readers index fault (e.part index fault same parts told);
+          c.make-made.new.readers index fault (e.part index fault same parts told);
       conflict = e.conflict;
       no_parts = e.no_parts.0;
       id_sizes = e.id_sizes;
@@ -69,10 +69,10 @@ returns-clause-ok g c =
     let kept = rw c.into_inner-buffered.ensures at c.end_of_writing-outcome.ensures.bytes in
     let writer = c.end_of_writing-outcome.new.buffered in
     let same = emptied c.end_of_writing-outcome.result (g.W.Write.contents (writer_inner writer)) (writer_buffer writer)
-      c.end_of_writing-outcome.ensures.flushed in
+    c.end_of_writing-outcome.ensures.flushed in
     rw (← c.new-target.ensures.inner, c.into_parts-writer.ensures.inner)
     (written_out g.R.Source.left c.args.product c.args.readers.now _ _ c.make-made.result c.end_of_writing-outcome.result _ _
-      c.make-made.ensures.ok c.end_of_writing-outcome.ensures.done kept same)
+    c.make-made.ensures.ok c.end_of_writing-outcome.ensures.done kept same)
 
 pub returns-clause-no_memory : goal.returns-clause-no_memory
 returns-clause-no_memory g c = λ dump is.

@@ -8,6 +8,7 @@ use Rattle.hprof_values.proofs.lists.constants.ConstantList.id_size.Goals as goa
 pub returns-clause-fits : goal.returns-clause-fits
 returns-clause-fits c =
     let list = c.args.self.now in
-    let range = subst IsBytes c.in_range-bytes.ensures.same c.in_range-bytes.ensures.range in
-    (entries_fit list.ids kinds.Constant list.len list.bytes.now range,
-      omega (arith, length-entries list.ids kinds.Constant list.len list.bytes.now))
+    let range = subst IsBytes c.in_range-bytes.ensures.same c.in_range-bytes.ensures.range in (
+      entries_fit list.ids kinds.Constant list.len list.bytes.now range,
+      omega (arith, length-entries list.ids kinds.Constant list.len list.bytes.now),
+    )

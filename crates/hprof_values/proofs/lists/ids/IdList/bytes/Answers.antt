@@ -8,5 +8,7 @@ pub returns : goal.returns
 returns c =
     let list = c.args.self.now in
     let range = subst IsBytes c.in_range.ensures.same c.in_range.ensures.range in
-    record { spelled = subst (IsIdList list.ids (identifiers_of list)) (sym c.in_range.ensures.same)
-      (ids_found list.ids list.bytes.now range list.whole) }
+    record {
+      spelled = subst (IsIdList list.ids (identifiers_of list)) (sym c.in_range.ensures.same)
+          (ids_found list.ids list.bytes.now range list.whole);
+    }

@@ -9,4 +9,4 @@ pub returns : goal.returns
 returns c =
     ap Some c.id_at.ensures
     ∙ nth_by c.args.self.now.ids _ c.args.self.now.bytes.now _ c.args.place c.width-width.ensures c.if-self-width.false
-      c.split_at.ensures.back
+    c.split_at.ensures.back
