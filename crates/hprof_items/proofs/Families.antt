@@ -1,5 +1,5 @@
 -- No spelling of a fact begins another of its family: records, or sub-records.
-use Rattle.std.proofs.Common.{◌≡◌, ℕ, List, ◌++◌, Option, Some, None, refl}
+use Rattle.std.proofs.Common.{◌≡◌, ℕ, List, ◌++◌, Option, Some, None}
 use Rattle.std.specs.Prelude.{is_some}
 use Rattle.hprof_values.specs.declared.ids.IdSize.{IdSize}
 use Rattle.hprof_values.specs.declared.record_tag.RecordTag.{RecordTag}

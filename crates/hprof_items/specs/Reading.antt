@@ -12,7 +12,6 @@ use Rattle.hprof_values.specs.declared.reason.Reason.{Reason}
 use Rattle.hprof_values.specs.declared.reason.Reason.TheVariants.{BadMagic, BadIdSize, BadLength}
 use Rattle.hprof_items.specs.declared.step.Step.{Step}
 use Rattle.hprof_items.specs.declared.step.Step.TheVariants.{Whole, Short, TooLong, Fault}
-use Rattle.hprof_values.specs.Ids.{width_of}
 use Rattle.hprof_items.specs.Header.{text_of}
 use Rattle.hprof_items.specs.Head.{is_fact_tag, is_end_tag}
 use Rattle.hprof_items.specs.RecordBody.{is_legal_body, record_at}

@@ -1,5 +1,5 @@
 -- Which facts have a spelling, and what it is: a record with time 0, or a sub-record.
-use Rattle.std.specs.Prelude.{◌≡◌, ℕ, ◌≤◌, List, length, Option, Some, None}
+use Rattle.std.specs.Prelude.{ℕ, ◌≤◌, List, length, Option, Some, None}
 use Rattle.hprof_values.specs.declared.ids.IdSize.{IdSize}
 use Rattle.hprof_values.specs.declared.record_tag.RecordTag.{RecordTag}
 use Rattle.hprof_values.specs.RecordTag.{code_of_record}

@@ -4,7 +4,6 @@ use Rattle.hprof_values.specs.declared.ids.IdSize.{IdSize}
 use Rattle.hprof_values.specs.declared.reason.Reason.{Reason}
 use Rattle.hprof_values.specs.declared.record_tag.RecordTag.{RecordTag}
 use Rattle.hprof_values.specs.Ids.{IsBytes}
-use Rattle.hprof_items.specs.declared.fact.Fact.{Fact}
 use Rattle.hprof_items.specs.FactValue.{FactValue, value_of}
 use Rattle.hprof_items.specs.RecordBody.{is_legal_body, record_body, record_at, BodyFits}
 use Rattle.hprof_items.proofs.RecordBodies.{given, never_faulty, record_again, record_found}
