@@ -1,6 +1,6 @@
 //! The report `check` of parts.
 
-ghost use Rattle.std.specs.Prelude.{◌≡◌, ◌↔◌, ℕ, List, [], length, All, IfOk, Err};
+ghost use Rattle.std.specs.Prelude.{◌≡◌, ◌↔◌, ◌<◌, ℕ, List, [], length, All, IfOk, OnErr, Err, vec_capacity};
 ghost use Rattle.std.specs.List.{AllByRecursion};
 ghost use Rattle.hprof_items.specs.declared.health.Health.TheVariants.{Well};
 ghost use Rattle.hprof_items.specs.declared.health.WriteFault.{WriteFault};
@@ -17,8 +17,17 @@ ghost use Rattle.hprof_reports.specs.Checking.{Checks, StopsChecking};
 use crate::check::write_check;
 use hprof_engine::{ToolFault, read_heap};
 use hprof_items::{Source, Target};
-use hprof_stream::Limits;
-use std::alloc::Global;
+use hprof_stream::{Limits, PartSummary};
+use std::alloc::{AllocError, Global};
+
+/// No summary yet, and room for those of so many parts.
+fn room_for(alloc: Global, parts: usize) -> Result<Vec<PartSummary>, AllocError>
+    ensures empty { IfOk result (λ summaries. summaries.items ≡ []) }
+    ensures room { IfOk result (λ summaries. vec_capacity summaries ≡ parts) }
+    ensures full { OnErr result (0 < parts) }
+{
+    Vec::with_capacity(alloc, parts)
+}
 
 /// Reads all parts, and writes the report `check`: a line for each part in order, which says what was read of it, a line
 /// for each table of the heap that they state together, which says how many facts it has, and how many names are not
@@ -71,10 +80,9 @@ pub fn check_to<R: Source, W: Target>(
         → All (λ reader. R.health reader ≡ Well) readers.new → W.health target.new ≡ Well
         → (IsHindered result → ⊥) → IsOkOrConflict result }
 {
-    let mut summaries = Vec::new(alloc);
-    if summaries.reserve_exact(readers.len()).is_err() {
+    let Ok(mut summaries) = room_for(alloc, readers.len()) else {
         return Err(ToolFault::OutOfMemory);
-    }
+    };
     let heap = read_heap(alloc, readers, limits, &mut summaries)?;
     write_check(&summaries, &heap, target).map_err(ToolFault::Write)
 }

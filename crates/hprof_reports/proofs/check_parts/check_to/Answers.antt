@@ -1,4 +1,4 @@
-use Rattle.std.proofs.Common.{◌≡◌, Ok, Result, sym, subst}
+use Rattle.std.proofs.Common.{◌≡◌, Ok, Result, refl, sym, subst}
 use Rattle.std.specs.Prelude.{MatchResult, IsErrAnd}
 use Rattle.hprof_engine.specs.declared.tool_fault.ToolFault.{ToolFault}
 use Rattle.hprof_engine.specs.declared.tool_fault.ToolFault.TheVariants as tool
@@ -21,8 +21,8 @@ returns-clause-ok g c =
     let cases : MatchResult c.write_check.result (λ x. c.map_err.result ≡ Ok x) (λ e.
     IsErrAnd c.map_err.result (λ r. r ≡ tool.Write e)) = c.map_err.ensures.cases in
     wrote_all _ c.write_check.result c.map_err.result cases (λ done is parts told.
-    let read = items_are_summaries c.new-summaries.result c.reserve_exact.new.self c.read_heap.new.summaries (λ v. v.items) _
-    (λ from summary to kept. kept.0) parts c.new-summaries.ensures.items c.reserve_exact.ensures.items
+    let read = items_are_summaries c.in-Ok.summaries c.in-Ok.summaries c.read_heap.new.summaries (λ v. v.items) _
+    (λ from summary to kept. kept.0) parts c.in-Ok.ensures.empty refl
     (c.in_ok-heap.ensures.summaries parts told) in
     checks parts (heap_of c.in_ok-heap.heap) c.deref.result.now c.read_heap.new.summaries.items (c.in_ok-heap.ensures.ok parts told)
     c.deref.ensures.value read (g.W.Target.written c.args.target.now)
@@ -35,8 +35,8 @@ returns-clause-write g c = λ fault same.
     let is = wrote_some c.write_check.result c.map_err.result fault cases same in (
       health_left c.write_check.result (g.W.Target.health c.write_check.new.target) fault c.write_check.ensures.health is,
       λ parts told.
-          let read = items_are_summaries c.new-summaries.result c.reserve_exact.new.self c.read_heap.new.summaries (λ v. v.items) _
-          (λ from summary to kept. kept.0) parts c.new-summaries.ensures.items c.reserve_exact.ensures.items
+          let read = items_are_summaries c.in-Ok.summaries c.in-Ok.summaries c.read_heap.new.summaries (λ v. v.items) _
+          (λ from summary to kept. kept.0) parts c.in-Ok.ensures.empty refl
           (c.in_ok-heap.ensures.summaries parts told) in
           stops_checking parts (heap_of c.in_ok-heap.heap) c.deref.result.now c.read_heap.new.summaries.items
           (c.in_ok-heap.ensures.ok parts told) c.deref.ensures.value read (g.W.Target.written c.args.target.now)
