@@ -6,3 +6,4 @@ pub mod PartFaults
 pub mod Reading
 pub mod Stated
 pub mod Answers
+pub mod FaultTexts

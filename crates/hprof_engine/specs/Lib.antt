@@ -1,3 +1,4 @@
 pub mod Joining
 pub mod Summaries
 pub mod Dividing
+pub mod FaultText

@@ -1,5 +1,9 @@
 //! Why an engine refused.
 
+ghost use Rattle.std.specs.Prelude.{◌≡◌, ◌++◌, IfOk, codes, decimal, string_bytes};
+ghost use Rattle.hprof_text.specs.Identifier.{id_digits};
+ghost use Rattle.hprof_engine.specs.FaultText.{IsFaultText, IsPartText, conflict_text};
+
 use hprof_heap::Key;
 use hprof_items::WriteFault;
 use hprof_stream::PartFault;
@@ -31,20 +35,39 @@ pub enum ToolFault {
 
 impl ToolFault {
     /// Its text, in one line. The error is that there is no memory for the text.
-    pub fn text(&self, alloc: Global) -> Result<String, AllocError> {
+    pub fn text(&self, alloc: Global) -> Result<String, AllocError>
+        ensures { IfOk result (λ text. IsFaultText self.now (string_bytes text)) }
+    {
         match *self {
-            ToolFault::Part { index, fault } => format!(in alloc; "part {index}: {fault}"),
+            ToolFault::Part { index, fault } => text_of_part(alloc, index, fault),
             ToolFault::NoParts => String::from_str(alloc, "no parts"),
             ToolFault::IdSizes => String::from_str(alloc, "identifier sizes differ"),
-            ToolFault::Conflict(key) => conflict_text(alloc, key),
+            ToolFault::Conflict(key) => text_of_conflict(alloc, key),
             ToolFault::Write(_) => String::from_str(alloc, "write failed"),
             ToolFault::OutOfMemory => String::from_str(alloc, "out of memory"),
         }
     }
 }
 
+/// The text of a part that was refused: its number, and why.
+fn text_of_part(alloc: Global, index: usize, fault: PartFault) -> Result<String, AllocError>
+    ensures { IfOk result (λ text. IsPartText index (string_bytes text)) }
+{
+    let why = fault.to_string(alloc)?;
+    text_with(alloc, index, &why)
+}
+
+/// The text that a part was refused, and why.
+fn text_with(alloc: Global, index: usize, why: &str) -> Result<String, AllocError>
+    ensures { IfOk result (λ text. string_bytes text ≡ codes "part " ++ (decimal index ++ (codes ": " ++ why.now))) }
+{
+    format!(in alloc; "part {index}: {why}")
+}
+
 /// The text of a conflict: identifiers in hexadecimal, serials in decimal.
-fn conflict_text(alloc: Global, key: Key) -> Result<String, AllocError> {
+fn text_of_conflict(alloc: Global, key: Key) -> Result<String, AllocError>
+    ensures { IfOk result (λ text. string_bytes text ≡ conflict_text key) }
+{
     match key {
         Key::Name(id) => text_of_id(alloc, "name", id),
         Key::Load(serial) => format!(in alloc; "conflict at load {serial}"),
@@ -57,7 +80,9 @@ fn conflict_text(alloc: Global, key: Key) -> Result<String, AllocError> {
 }
 
 /// The text of a conflict at an identifier.
-fn text_of_id(alloc: Global, word: &str, id: u64) -> Result<String, AllocError> {
+fn text_of_id(alloc: Global, word: &str, id: u64) -> Result<String, AllocError>
+    ensures { IfOk result (λ text. string_bytes text ≡ codes "conflict at " ++ word.now ++ codes " " ++ id_digits id) }
+{
     let mut text = format!(in alloc; "conflict at {word} ")?;
     push_id(&mut text, id)?;
     Ok(text)

@@ -1,5 +1,5 @@
 -- What the program's calls come to.
-use Rattle.std.specs.Prelude.{◌≡◌, ◌≢◌, ℕ, ◌<◌, List, [], ◌∷◌, ◌++◌, length, take, Option, Some, Result, Ok, Err, ⊤}
+use Rattle.std.specs.Prelude.{◌≡◌, ◌≢◌, ℕ, ◌<◌, List, [], ◌∷◌, ◌++◌, length, take, Option, Some, Result, Ok, Err, ⊤, codes, decimal}
 use Rattle.std.specs.List.{AllByRecursion}
 use Rattle.std.specs.Io.KnownBytes.{Appends}
 use Rattle.clap.specs.declared.error.ErrorKind.{ErrorKind}
@@ -23,6 +23,7 @@ use Rattle.hprof_tool.specs.declared.status.Status.TheVariants as statuses
 use Rattle.hprof_tool.specs.declared.program.product.Product.{Product}
 use Rattle.hprof_tool.specs.declared.program.product.Product.TheVariants as products
 use Rattle.hprof_engine.specs.Joining.{Tell, Agree, Disagree, IsAccepted, IsOfPart, IsBeforeWriting, read_count}
+use Rattle.hprof_engine.specs.FaultText.{IsFaultText}
 use Rattle.hprof_reports.specs.Checking.{IsCheckOfParts}
 
 -- the parts agree, and these bytes are the canonical dump of what they state
@@ -124,6 +125,13 @@ IsReportRefusal remaining count other = IsFilesRefusal remaining count other
 abbrev pub refused_of : ToolFault → Refused
 refused_of tool.OutOfMemory = refusals.OutOfMemory
 refused_of other = refusals.Engine other
+
+-- this is the text of a refusal
+abbrev pub IsRefusalText : Refused → List ℕ → Type 0
+IsRefusalText (refusals.Engine fault) text = IsFaultText fault text
+IsRefusalText (refusals.Open index) text = text ≡ codes "cannot open part " ++ decimal index
+IsRefusalText refusals.Create text = text ≡ codes "cannot create the output"
+IsRefusalText refusals.OutOfMemory text = text ≡ codes "out of memory"
 
 -- the engine refused, or there was no memory
 abbrev pub IsOfMaking : Refused → Type 0

@@ -1,6 +1,7 @@
 //! Why the program refused.
 
-ghost use Rattle.std.specs.Prelude.{◌≡◌};
+ghost use Rattle.std.specs.Prelude.{◌≡◌, IfOk, string_bytes};
+ghost use Rattle.hprof_tool.specs.Program.{IsRefusalText};
 
 use hprof_engine::ToolFault;
 use hprof_items::WriteFault;
@@ -24,7 +25,9 @@ pub(crate) const WRITE_FAILED: Refused = Refused::Engine(ToolFault::Write(WriteF
 
 impl Refused {
     /// Its text, in one line.
-    pub(crate) fn text(&self, alloc: Global) -> Result<String, AllocError> {
+    pub(crate) fn text(&self, alloc: Global) -> Result<String, AllocError>
+        ensures { IfOk result (λ text. IsRefusalText self.now (string_bytes text)) }
+    {
         match self {
             Refused::Engine(fault) => fault.text(alloc),
             Refused::Open(index) => format!(in alloc; "cannot open part {index}"),

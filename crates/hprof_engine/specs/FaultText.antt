@@ -1,0 +1,30 @@
+-- The texts of refusals, each in one line, this project's own.
+use Rattle.std.specs.Prelude.{◌≡◌, ℕ, List, ◌++◌, codes, decimal}
+use Rattle.hprof_text.specs.Identifier.{id_digits}
+use Rattle.hprof_heap.specs.declared.key.Key.{Key}
+use Rattle.hprof_heap.specs.declared.key.Key.TheVariants as keys
+use Rattle.hprof_engine.specs.declared.tool_fault.ToolFault.{ToolFault}
+use Rattle.hprof_engine.specs.declared.tool_fault.ToolFault.TheVariants as tool
+
+-- where a conflict is: an identifier in hexadecimal, a serial in decimal
+abbrev pub conflict_text : Key → List ℕ
+conflict_text (keys.Name id) = codes "conflict at name " ++ id_digits id
+conflict_text (keys.Load serial) = codes "conflict at load " ++ decimal serial
+conflict_text (keys.Frame id) = codes "conflict at frame " ++ id_digits id
+conflict_text (keys.Trace serial) = codes "conflict at trace " ++ decimal serial
+conflict_text (keys.Thread serial) = codes "conflict at thread " ++ decimal serial
+conflict_text (keys.Class id) = codes "conflict at class " ++ id_digits id
+conflict_text (keys.Object id) = codes "conflict at object " ++ id_digits id
+
+-- the text says which part it is, counted from 0, and then why it was refused
+abbrev pub IsPartText : ℕ → List ℕ → Type 0
+IsPartText index text = (why : List ℕ) × (text ≡ codes "part " ++ (decimal index ++ (codes ": " ++ why)))
+
+-- this is the text of a fault
+abbrev pub IsFaultText : ToolFault → List ℕ → Type 0
+IsFaultText (tool.Part index fault) text = IsPartText index text
+IsFaultText tool.NoParts text = text ≡ codes "no parts"
+IsFaultText tool.IdSizes text = text ≡ codes "identifier sizes differ"
+IsFaultText (tool.Conflict key) text = text ≡ conflict_text key
+IsFaultText (tool.Write fault) text = text ≡ codes "write failed"
+IsFaultText tool.OutOfMemory text = text ≡ codes "out of memory"
