@@ -112,7 +112,7 @@ pub struct BytesTable {
 
 impl BytesTable {
     ghost use Rattle.hprof_tables.specs.Relation.{States};
-    ghost use Rattle.hprof_tables.specs.BytesTable.{byte_rows, byte_rows_left, LeavesBytes, PutsMissing};
+    ghost use Rattle.hprof_tables.specs.BytesTable.{byte_rows, byte_rows_left, LeavesBytes, PutsMissing, PutsNew};
     ghost use Rattle.hprof_tables.specs.SortedTable.{LacksRoom};
     ghost use Rattle.hprof_tables.specs.SideBySide.{IsFirstDifference, LacksOne};
     ghost use Rattle.hprof_tables.specs.SortedRows.{IsAscending};
@@ -138,6 +138,8 @@ impl BytesTable {
         ensures full { OnErr result (LacksRoom self.old.rows key
             ⊎ (vec_capacity self.old.bytes < vec_len self.old.bytes + length bytes.now)) }
         ensures kept { IfOk result (λ stated. LeavesBytes stated self.old.bytes self.new.bytes) }
+        ensures put { IfOk result (λ stated. PutsNew stated bytes.now self.old.bytes.items self.new.bytes.items) }
+        ensures left { OnErr result (self.new.bytes.items ≡ self.old.bytes.items) }
     {
         match self
             .rows
