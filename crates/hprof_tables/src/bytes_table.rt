@@ -90,6 +90,7 @@ fn append_rows(
     ensures within { IfOk result (λ places. AreWithin bytes.new.items places.items) }
     ensures lying { IfOk result (λ places. rows_lying bytes.new.items places.items ≡ contents_of (λ row. row.0.now) lent.entry.items) }
     ensures some { OnErr result (0 < length lent.entry.items) }
+    ensures unchanged { IfOk result (λ _. length lent.entry.items ≡ 0 → bytes.new ≡ bytes.old) }
 {
     let mut places = Vec::new(alloc);
     places.reserve_exact(lent.len())?;
@@ -192,6 +193,7 @@ impl BytesTable {
         ensures put { IfOk result (λ _. self.new.bytes.items ≡ self.old.bytes.items ++ all_bytes
             (contents_of (λ row. row.0.now) lent.entry.items)) }
         ensures some { OnErr result (0 < length lent.entry.items) }
+        ensures unchanged { IfOk result (λ _. length lent.entry.items ≡ 0 → self.new ≡ self.old) }
     {
         let fresh = append_rows(self.alloc, &mut self.bytes, lent)?;
         self.rows.merge(self.alloc, fresh)
@@ -205,6 +207,7 @@ impl BytesTable {
         ensures absent { OnErr result (LacksOne (byte_rows self.old) (byte_rows other.now)) }
         ensures put { IfOk result (λ _. PutsMissing (byte_rows self.old) (byte_rows other.now) self.old.bytes.items self.new.bytes.items) }
         ensures kept { OnErr result (self.new.bytes.items ≡ self.old.bytes.items) }
+        ensures unchanged { IfOk result (λ _. (LacksOne (byte_rows self.old) (byte_rows other.now) → ⊥) → self.new ≡ self.old) }
     {
         let missing = missing_rows(self.alloc, self.rows(), other.rows())?;
         let len = self.bytes.len();

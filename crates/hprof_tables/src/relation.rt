@@ -164,6 +164,8 @@ impl<V: Content + Drop> Relation<V> {
             (contents_of V.content (rows_of self.new))) }
         ensures err { OnErr result (rows_of self.new ≡ rows_of self.old) }
         ensures absent { OnErr result (LacksOne (contents_of V.content (rows_of self.old)) (contents_of V.content (rows_of other.now))) }
+        ensures unchanged { IfOk result (λ _. (LacksOne (contents_of V.content (rows_of self.old))
+            (contents_of V.content (rows_of other.now)) → ⊥) → self.new ≡ self.old) }
     {
         let missing = missing_rows(self.alloc, self.rows(), other.rows())?;
         let fresh = copies(self.alloc, missing)?;

@@ -160,6 +160,7 @@ impl<V> SortedTable<V> {
         ensures ok { IfOk result (λ _. AreUnion (entries_of self.old) fresh.items (entries_of self.new)) }
         ensures err { OnErr result (entries_of self.new ≡ entries_of self.old) }
         ensures some { OnErr result (0 < length fresh.items) }
+        ensures unchanged { IfOk result (λ _. length fresh.items ≡ 0 → self.new ≡ self.old) }
     {
         if fresh.is_empty() {
             return Ok(());
