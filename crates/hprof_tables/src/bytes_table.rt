@@ -34,6 +34,7 @@ fn append(bytes: &mut Vec<u8>, others: &[u8]) -> Result<(), AllocError>
     ensures full { OnErr result (vec_capacity bytes.old < vec_len bytes.old + length others.now) }
     ensures spare { OnOk result (vec_capacity bytes.old < vec_len bytes.old + length others.now
         → vec_len bytes.old + (length others.now + spare_behind (vec_len bytes.old)) ≤ vec_capacity bytes.new) }
+    ensures room { vec_capacity bytes.old ≤ vec_capacity bytes.new }
 {
     let len = bytes.len();
     if others.len() > bytes.capacity() - len {
@@ -63,6 +64,9 @@ impl Visit<Place> for StatedBytes<'_> {
 
     ghost refuses = { λ stated room. vec_capacity room < vec_len room + length stated.bytes.now };
 
+    // None is given back.
+    ghost grows = { λ old new. vec_capacity old ≤ vec_capacity new };
+
     fn ask(self, place: &Place, room: &Vec<u8>) -> bool {
         match room.get(place.start..place.end) {
             Some(bytes) => bytes == self.bytes,
@@ -91,6 +95,7 @@ fn append_rows(
     ensures lying { IfOk result (λ places. rows_lying bytes.new.items places.items ≡ contents_of (λ row. row.0.now) lent.entry.items) }
     ensures some { OnErr result (0 < length lent.entry.items) }
     ensures unchanged { IfOk result (λ _. length lent.entry.items ≡ 0 → bytes.new ≡ bytes.old) }
+    ensures room { vec_capacity bytes.old ≤ vec_capacity bytes.new }
 {
     let mut places = Vec::new(alloc);
     places.reserve_exact(lent.len())?;
@@ -194,6 +199,7 @@ impl BytesTable {
             (contents_of (λ row. row.0.now) lent.entry.items)) }
         ensures some { OnErr result (0 < length lent.entry.items) }
         ensures unchanged { IfOk result (λ _. length lent.entry.items ≡ 0 → self.new ≡ self.old) }
+        ensures room { vec_capacity self.old.bytes ≤ vec_capacity self.new.bytes }
     {
         let fresh = append_rows(self.alloc, &mut self.bytes, lent)?;
         self.rows.merge(self.alloc, fresh)
@@ -208,6 +214,7 @@ impl BytesTable {
         ensures put { IfOk result (λ _. PutsMissing (byte_rows self.old) (byte_rows other.now) self.old.bytes.items self.new.bytes.items) }
         ensures kept { OnErr result (self.new.bytes.items ≡ self.old.bytes.items) }
         ensures unchanged { IfOk result (λ _. (LacksOne (byte_rows self.old) (byte_rows other.now) → ⊥) → self.new ≡ self.old) }
+        ensures room { vec_capacity self.old.bytes ≤ vec_capacity self.new.bytes }
     {
         let missing = missing_rows(self.alloc, self.rows(), other.rows())?;
         let len = self.bytes.len();

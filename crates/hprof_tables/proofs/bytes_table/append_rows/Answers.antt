@@ -15,6 +15,7 @@ loop-key-init c =
       within = subst (AreWithin c.args.bytes.now.items) (sym none) tt;
       lying = ap (rows_lying c.args.bytes.now.items) none;
       same = λ nothing. refl;
+      room = omega arith;
     }
 
 pub loop-key-preserved : goal.loop-key-preserved
@@ -40,4 +41,5 @@ loop-key-preserved c =
           c.loop-key.invariant.within c.loop-key.invariant.lying
           ∙ sym (contents-append (λ row. row.0.now) c.loop-key.yielded (key, c.in-Some.row));
       same = λ nothing. absurd (omega (arith, nothing, length-append c.loop-key.yielded ((key, c.in-Some.row) ∷ [])));
+      room = omega (arith, c.loop-key.invariant.room, c.make.ensures.room);
     }
