@@ -40,6 +40,8 @@ impl LoadRow {
 impl Content for LoadRow {
     ghost content = { load_numbers };
 
+    ghost refuses = { λ _. ⊥ };
+
     fn agrees(&self, other: &Self) -> bool {
         self == other
     }
@@ -87,6 +89,8 @@ impl FrameRow {
 
 impl Content for FrameRow {
     ghost content = { frame_numbers };
+
+    ghost refuses = { λ _. ⊥ };
 
     fn agrees(&self, other: &Self) -> bool {
         self == other
@@ -136,6 +140,8 @@ impl StartRow {
 impl Content for StartRow {
     ghost content = { start_numbers };
 
+    ghost refuses = { λ _. ⊥ };
+
     fn agrees(&self, other: &Self) -> bool {
         self == other
     }
@@ -151,6 +157,8 @@ pub struct KeyRow;
 
 impl Content for KeyRow {
     ghost content = { λ row. [] };
+
+    ghost refuses = { λ _. ⊥ };
 
     fn agrees(&self, _other: &Self) -> bool {
         true

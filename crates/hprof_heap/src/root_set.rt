@@ -65,6 +65,7 @@ impl RootSet {
         ensures ok { IfOk result (λ _. IsUnionOfRoots (roots_of self.old) (roots_of other.now) (roots_of self.new)) }
         ensures err { OnErr result (roots_of self.new ≡ roots_of self.old) }
         ensures absent { OnErr result (LacksRoot (roots_of self.old) (roots_of other.now)) }
+        ensures unchanged { IfOk result (λ _. (LacksRoot (roots_of self.old) (roots_of other.now) → ⊥) → self.new ≡ self.old) }
     {
         if other.roots.is_subset(&self.roots) {
             return Ok(());

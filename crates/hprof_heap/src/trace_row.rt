@@ -47,6 +47,9 @@ pub(crate) struct TraceFrames<'a> {
 impl Content for TraceRow {
     ghost content = { trace_content };
 
+    // Its frames take memory of their own.
+    ghost refuses = { λ _. ⊤ };
+
     fn agrees(&self, other: &Self) -> bool {
         self.thread == other.thread && self.frames.as_slice() == other.frames.as_slice()
     }

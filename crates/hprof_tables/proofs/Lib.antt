@@ -7,3 +7,4 @@ pub mod Unions
 pub mod Contents
 pub mod Taking
 pub mod Missing
+pub mod SameTables

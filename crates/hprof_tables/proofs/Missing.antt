@@ -57,6 +57,13 @@ missing_lacks content rows others (row ∷ missing) are some =
     lacks_one rows others row.0 (content row.1)
     (sym (are.each row.0) ∙ row_at-here row.0 (row.0, content row.1) (contents_of content missing) refl)
 
+-- where they lack none, none is missing
+pub lacks_none : {V : Type 0} (content : V → List ℕ) (rows others : List (ℕ × List ℕ)) (missing : List (ℕ × V))
+    → AreMissing rows others (contents_of content missing) → (LacksOne rows others → ⊥) → length missing ≡ 0
+lacks_none content rows others [] are none = refl
+lacks_none content rows others (row ∷ missing) are none =
+    absurd (none (missing_lacks content rows others (row ∷ missing) are (omega arith)))
+
 -- what holds in any case holds where memory is refused
 pub on_err : {A E P : Type 0} (r : Result A E) → P → OnErr r P
 on_err (Ok done) p = tt

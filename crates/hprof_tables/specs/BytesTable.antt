@@ -22,6 +22,12 @@ LeavesBytes New old new = ⊤
 LeavesBytes Same old new = new ≡ old
 LeavesBytes Differs old new = new ≡ old
 
+-- where the key is new, the bytes of its row are put behind those that were there, once, and no more
+abbrev pub PutsNew : Stated → List ℕ → List ℕ → List ℕ → Type 0
+PutsNew New bytes old new = new ≡ old ++ bytes
+PutsNew Same bytes old new = ⊤
+PutsNew Differs bytes old new = ⊤
+
 -- behind the bytes that were there come those of the rows of others whose keys the rows lack, each once, and no more
 abbrev pub PutsMissing : List (ℕ × List ℕ) → List (ℕ × List ℕ) → List ℕ → List ℕ → Type 0
 PutsMissing rows others old new = (missing : List (ℕ × List ℕ)) × AreMissing rows others missing × (new ≡ old ++ all_bytes missing)

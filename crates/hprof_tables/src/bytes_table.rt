@@ -34,6 +34,7 @@ fn append(bytes: &mut Vec<u8>, others: &[u8]) -> Result<(), AllocError>
     ensures full { OnErr result (vec_capacity bytes.old < vec_len bytes.old + length others.now) }
     ensures spare { OnOk result (vec_capacity bytes.old < vec_len bytes.old + length others.now
         → vec_len bytes.old + (length others.now + spare_behind (vec_len bytes.old)) ≤ vec_capacity bytes.new) }
+    ensures room { vec_capacity bytes.old ≤ vec_capacity bytes.new }
 {
     let len = bytes.len();
     if others.len() > bytes.capacity() - len {
@@ -63,6 +64,9 @@ impl Visit<Place> for StatedBytes<'_> {
 
     ghost refuses = { λ stated room. vec_capacity room < vec_len room + length stated.bytes.now };
 
+    // None is given back.
+    ghost grows = { λ old new. vec_capacity old ≤ vec_capacity new };
+
     fn ask(self, place: &Place, room: &Vec<u8>) -> bool {
         match room.get(place.start..place.end) {
             Some(bytes) => bytes == self.bytes,
@@ -90,6 +94,8 @@ fn append_rows(
     ensures within { IfOk result (λ places. AreWithin bytes.new.items places.items) }
     ensures lying { IfOk result (λ places. rows_lying bytes.new.items places.items ≡ contents_of (λ row. row.0.now) lent.entry.items) }
     ensures some { OnErr result (0 < length lent.entry.items) }
+    ensures unchanged { IfOk result (λ _. length lent.entry.items ≡ 0 → bytes.new ≡ bytes.old) }
+    ensures room { vec_capacity bytes.old ≤ vec_capacity bytes.new }
 {
     let mut places = Vec::new(alloc);
     places.reserve_exact(lent.len())?;
@@ -112,7 +118,7 @@ pub struct BytesTable {
 
 impl BytesTable {
     ghost use Rattle.hprof_tables.specs.Relation.{States};
-    ghost use Rattle.hprof_tables.specs.BytesTable.{byte_rows, byte_rows_left, LeavesBytes, PutsMissing};
+    ghost use Rattle.hprof_tables.specs.BytesTable.{byte_rows, byte_rows_left, LeavesBytes, PutsMissing, PutsNew};
     ghost use Rattle.hprof_tables.specs.SortedTable.{LacksRoom};
     ghost use Rattle.hprof_tables.specs.SideBySide.{IsFirstDifference, LacksOne};
     ghost use Rattle.hprof_tables.specs.SortedRows.{IsAscending};
@@ -138,6 +144,8 @@ impl BytesTable {
         ensures full { OnErr result (LacksRoom self.old.rows key
             ⊎ (vec_capacity self.old.bytes < vec_len self.old.bytes + length bytes.now)) }
         ensures kept { IfOk result (λ stated. LeavesBytes stated self.old.bytes self.new.bytes) }
+        ensures put { IfOk result (λ stated. PutsNew stated bytes.now self.old.bytes.items self.new.bytes.items) }
+        ensures left { OnErr result (self.new.bytes.items ≡ self.old.bytes.items) }
     {
         match self
             .rows
@@ -190,6 +198,8 @@ impl BytesTable {
         ensures put { IfOk result (λ _. self.new.bytes.items ≡ self.old.bytes.items ++ all_bytes
             (contents_of (λ row. row.0.now) lent.entry.items)) }
         ensures some { OnErr result (0 < length lent.entry.items) }
+        ensures unchanged { IfOk result (λ _. length lent.entry.items ≡ 0 → self.new ≡ self.old) }
+        ensures room { vec_capacity self.old.bytes ≤ vec_capacity self.new.bytes }
     {
         let fresh = append_rows(self.alloc, &mut self.bytes, lent)?;
         self.rows.merge(self.alloc, fresh)
@@ -203,6 +213,8 @@ impl BytesTable {
         ensures absent { OnErr result (LacksOne (byte_rows self.old) (byte_rows other.now)) }
         ensures put { IfOk result (λ _. PutsMissing (byte_rows self.old) (byte_rows other.now) self.old.bytes.items self.new.bytes.items) }
         ensures kept { OnErr result (self.new.bytes.items ≡ self.old.bytes.items) }
+        ensures unchanged { IfOk result (λ _. (LacksOne (byte_rows self.old) (byte_rows other.now) → ⊥) → self.new ≡ self.old) }
+        ensures room { vec_capacity self.old.bytes ≤ vec_capacity self.new.bytes }
     {
         let missing = missing_rows(self.alloc, self.rows(), other.rows())?;
         let len = self.bytes.len();

@@ -9,13 +9,17 @@ pub trait Content {
     // The content as a list of numbers, one list for one content.
     ghost content: { Self → List ℕ };
 
+    // Where the memory for a copy may be refused.
+    ghost refuses: { Self → Type 0 };
+
     /// Whether the contents are equal.
     fn agrees(&self, other: &Self) -> bool
         ensures { IsTrue result ↔ (content self.now ≡ content other.now) };
 
     /// A row with the same content.
     fn copied(&self, alloc: Global) -> Result<Self, AllocError>
-        ensures { IfOk result (λ row. content row ≡ content self.now) };
+        ensures row { IfOk result (λ row. content row ≡ content self.now) }
+        ensures full { OnErr result (refuses self.now) };
 }
 
 /// What can become a row, and be compared with one before it does.

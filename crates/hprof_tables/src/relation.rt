@@ -1,6 +1,6 @@
 //! A table of rows by key.
 
-ghost use Rattle.std.specs.Prelude.{◌≡◌, ◌<◌, ℕ, List, [], length, IfOk, OnErr, IsTrue, ◌↔◌, ◌⊎◌, None, vec_capacity};
+ghost use Rattle.std.specs.Prelude.{◌≡◌, ◌<◌, ℕ, List, [], length, IfOk, OnErr, IsTrue, ◌↔◌, ◌⊎◌, ⊤, None, vec_capacity};
 ghost use Rattle.std.specs.Option.{option_copied};
 ghost use Rattle.std.specs.Ordering.{nat_cmp};
 ghost use Rattle.std.specs.BTreeMap.{is_at};
@@ -44,6 +44,8 @@ impl<V: Content, T: Statement<V> + Drop> Visit<V> for Stating<T> {
     ghost makes = { λ stating _ row _. V.content row ≡ T.content stating.statement };
 
     ghost refuses = { λ stating _. T.refuses stating.statement };
+
+    ghost grows = { λ _ _. ⊤ };
 
     fn ask(self, row: &V, _room: &()) -> bool {
         self.statement.matches(row)
@@ -164,6 +166,8 @@ impl<V: Content + Drop> Relation<V> {
             (contents_of V.content (rows_of self.new))) }
         ensures err { OnErr result (rows_of self.new ≡ rows_of self.old) }
         ensures absent { OnErr result (LacksOne (contents_of V.content (rows_of self.old)) (contents_of V.content (rows_of other.now))) }
+        ensures unchanged { IfOk result (λ _. (LacksOne (contents_of V.content (rows_of self.old))
+            (contents_of V.content (rows_of other.now)) → ⊥) → self.new ≡ self.old) }
     {
         let missing = missing_rows(self.alloc, self.rows(), other.rows())?;
         let fresh = copies(self.alloc, missing)?;

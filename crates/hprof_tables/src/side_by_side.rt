@@ -28,6 +28,8 @@ pub(crate) trait KeyedRows<R: Content> {
 impl<V: Content> Content for &V {
     ghost content = { λ row. V.content row.now };
 
+    ghost refuses = { λ _. ⊥ };
+
     fn agrees(&self, other: &Self) -> bool {
         V::agrees(*self, *other)
     }
@@ -51,6 +53,8 @@ pub(crate) struct LentBytes<'a>(pub(crate) &'a [u8]);
 
 impl Content for LentBytes<'_> {
     ghost content = { λ row. row.0.now };
+
+    ghost refuses = { λ _. ⊥ };
 
     fn agrees(&self, other: &Self) -> bool {
         self.0 == other.0

@@ -34,6 +34,9 @@ pub(crate) trait Visit<V> {
     // Where the memory for a row may be refused.
     ghost refuses: { Self → Self.Room → Type 0 };
 
+    // What becomes of the room that was had, used or to spare.
+    ghost grows: { Self.Room → Self.Room → Type 0 };
+
     /// Asks the row that is there.
     fn ask(self, row: &V, room: &Self::Room) -> Self::Answer
         ensures { answers self (held room.now) row.now result };
@@ -42,7 +45,8 @@ pub(crate) trait Visit<V> {
     fn make(self, room: &mut Self::Room) -> Result<V, AllocError>
         ensures ok { IfOk result (λ row. makes self (held room.old) row (held room.new)) }
         ensures err { OnErr result (held room.new ≡ held room.old) }
-        ensures full { OnErr result (refuses self room.old) };
+        ensures full { OnErr result (refuses self room.old) }
+        ensures room { grows room.old room.new };
 }
 
 /// Rows by key. The run has each row whose key was above all keys that were there; the others stand in the map.
@@ -160,6 +164,7 @@ impl<V> SortedTable<V> {
         ensures ok { IfOk result (λ _. AreUnion (entries_of self.old) fresh.items (entries_of self.new)) }
         ensures err { OnErr result (entries_of self.new ≡ entries_of self.old) }
         ensures some { OnErr result (0 < length fresh.items) }
+        ensures unchanged { IfOk result (λ _. length fresh.items ≡ 0 → self.new ≡ self.old) }
     {
         if fresh.is_empty() {
             return Ok(());

@@ -1,5 +1,5 @@
-use Rattle.std.proofs.Common.{◌≡◌, ◌++◌, ◌∷◌, [], ℕ, List, sym, ap, subst, ◌∙◌, rules}
-use Rattle.std.proofs.lemmas.List.{append-nil}
+use Rattle.std.proofs.Common.{◌≡◌, ◌++◌, ◌∷◌, [], ℕ, List, refl, sym, ap, subst, ◌∙◌, arith, rules}
+use Rattle.std.proofs.lemmas.List.{append-nil, length-append}
 use Rattle.hprof_tables.specs.Places.{AreWithin, all_bytes, rows_lying}
 use Rattle.hprof_tables.specs.Relation.{contents_of}
 use Rattle.hprof_tables.proofs.Missing.{contents-append}
@@ -14,6 +14,8 @@ loop-key-init c =
       put = sym (append-nil c.args.bytes.now.items);
       within = subst (AreWithin c.args.bytes.now.items) (sym none) tt;
       lying = ap (rows_lying c.args.bytes.now.items) none;
+      same = λ nothing. refl;
+      room = omega arith;
     }
 
 pub loop-key-preserved : goal.loop-key-preserved
@@ -38,4 +40,6 @@ loop-key-preserved c =
           (contents_of (λ row. row.0.now) c.loop-key.yielded)
           c.loop-key.invariant.within c.loop-key.invariant.lying
           ∙ sym (contents-append (λ row. row.0.now) c.loop-key.yielded (key, c.in-Some.row));
+      same = λ nothing. absurd (omega (arith, nothing, length-append c.loop-key.yielded ((key, c.in-Some.row) ∷ [])));
+      room = omega (arith, c.loop-key.invariant.room, c.make.ensures.room);
     }

@@ -1,4 +1,4 @@
-use Rattle.std.proofs.Common.{◌≡◌, ◌++◌}
+use Rattle.std.proofs.Common.{◌≡◌, ◌≤◌, ◌++◌, length, vec_capacity}
 use Rattle.hprof_tables.specs.Places.{AreWithin, IsBehind, all_bytes, rows_lying}
 use Rattle.hprof_tables.specs.Relation.{contents_of}
 use Rattle.hprof_tables.proofs.bytes_table.append_rows.Given as goal
@@ -11,4 +11,6 @@ invariant-loop-key l =
       put : l.bytes.items ≡ l.fn.bytes.items ++ all_bytes (contents_of (λ row. row.0.now) l.yielded);
       within : AreWithin l.bytes.items l.places.items;
       lying : rows_lying l.bytes.items l.places.items ≡ contents_of (λ row. row.0.now) l.yielded;
+      same : length l.yielded ≡ 0 → l.bytes ≡ l.fn.bytes;
+      room : vec_capacity l.fn.bytes ≤ vec_capacity l.bytes;
     }

@@ -10,5 +10,5 @@ loop-key-preserved g c =
     let copy = c.in_ok-copied.field-0 in
     ap (contents_of content) c.in_ok-push.ensures.items ∙ contents-append content c.loop-key.rows.items (key, copy)
     ∙ ap (λ (those : List (ℕ × List ℕ)). those ++ (key, content copy) ∷ []) c.loop-key.invariant
-    ∙ ap (λ (one : List ℕ). contents_of (λ row. content row.now) c.loop-key.yielded ++ (key, one) ∷ []) c.in_ok-copied.ensures
+    ∙ ap (λ (one : List ℕ). contents_of (λ row. content row.now) c.loop-key.yielded ++ (key, one) ∷ []) c.in_ok-copied.ensures.row
     ∙ sym (contents-append (λ row. content row.now) c.loop-key.yielded (key, c.in-Some.row))

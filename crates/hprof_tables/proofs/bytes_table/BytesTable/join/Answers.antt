@@ -1,6 +1,6 @@
-use Rattle.std.proofs.lemmas.Result.{on_err_weaker}
+use Rattle.std.proofs.lemmas.Result.{IfOk-weaker, on_err_weaker}
 use Rattle.hprof_tables.specs.BytesTable.{byte_rows}
-use Rattle.hprof_tables.proofs.Missing.{missing_lacks}
+use Rattle.hprof_tables.proofs.Missing.{missing_lacks, lacks_none}
 use Rattle.hprof_tables.proofs.Contents.{bytes_missing}
 use Rattle.hprof_tables.proofs.bytes_table.BytesTable.join.Goals as goal
 
@@ -11,3 +11,12 @@ returns-then-is_err-clause-absent c =
     (bytes_missing _ _ (byte_rows c.args.self.now) (byte_rows c.args.other.now) _ c.rows.ensures.all c.rows-2.ensures.all
     c.in_ok-missing.ensures.ok))
     c.take_rows-taken.ensures.some
+
+pub returns-else-is_err-clause-unchanged : goal.returns-else-is_err-clause-unchanged
+returns-else-is_err-clause-unchanged c =
+    IfOk-weaker c.take_rows-taken.result _ _
+    (λ done same lacks. same (lacks_none (λ row. row.0.now) (byte_rows c.args.self.now) (byte_rows c.args.other.now)
+    c.in_ok-missing.missing.items
+    (bytes_missing _ _ (byte_rows c.args.self.now) (byte_rows c.args.other.now) _ c.rows.ensures.all c.rows-2.ensures.all
+    c.in_ok-missing.ensures.ok) lacks))
+    c.take_rows-taken.ensures.unchanged

@@ -1,4 +1,7 @@
+use Rattle.std.proofs.Common.{refl}
+use Rattle.std.proofs.lemmas.Result.{IfOk-weaker}
 use Rattle.hprof_tables.specs.SortedTable.{entries_of}
+use Rattle.hprof_tables.proofs.SameTables.{same_table, none_lying}
 use Rattle.hprof_tables.proofs.Taking.{fresh_apart, fresh_ascend, tried_within, tried_union}
 use Rattle.hprof_tables.proofs.bytes_table.BytesTable.take_rows.Goals as goal
 
@@ -35,3 +38,11 @@ returns-clause-ok c =
     tried_union old.bytes.items c.append_rows.new.bytes.items (entries_of old.rows) c.in_ok-fresh.fresh.items _ put.behind old.sound
     put.lying
     c.merge.result (entries_of c.merge.new.self) c.merge.ensures.ok
+
+pub returns-clause-unchanged : goal.returns-clause-unchanged
+returns-clause-unchanged c =
+    let put = c.in_ok-fresh.ensures in
+    IfOk-weaker c.merge.result _ _
+    (λ done same none. same_table _ c.args.self.now (same (none_lying c.append_rows.new.bytes.items c.in_ok-fresh.fresh.items
+    (λ row. row.0.now) c.args.lent.items put.lying none)) (put.unchanged none) refl)
+    c.merge.ensures.unchanged

@@ -1,8 +1,10 @@
-use Rattle.std.proofs.Common.{sym, subst}
+use Rattle.std.proofs.Common.{ap, sym, subst}
 use Rattle.std.proofs.lemmas.Result.{IfOk-weaker, on_err_weaker}
+use Rattle.hprof_tables.specs.declared.relation.Relation.{Relation}
+use Rattle.hprof_tables.specs.declared.sorted_table.SortedTable.{SortedTable}
 use Rattle.hprof_tables.specs.Relation.{contents_of, rows_of}
 use Rattle.hprof_tables.specs.SideBySide.{AreMissing}
-use Rattle.hprof_tables.proofs.Missing.{missing_lacks, on_err}
+use Rattle.hprof_tables.proofs.Missing.{missing_lacks, lacks_none, on_err}
 use Rattle.hprof_tables.proofs.Contents.{contents_up, missing_of, missing_ascend, missing_apart, missing_union}
 use Rattle.hprof_tables.proofs.relation.Relation.join.Goals as goal
 
@@ -56,3 +58,13 @@ returns-clause-absent g c =
     c.in_ok-missing.ensures.ok in
     on_err_weaker c.merge.result
     (missing_lacks content _ _ c.in_ok-fresh.fresh.items (subst (AreMissing _ _) (sym c.in_ok-fresh.ensures.ok) are)) c.merge.ensures.some
+
+pub returns-clause-unchanged : goal.returns-clause-unchanged
+returns-clause-unchanged g c =
+    let content = g.V.Content.content in
+    let are = missing_of content _ _ (rows_of c.args.self.now) (rows_of c.args.other.now) _ c.rows.ensures.all c.rows-2.ensures.all
+    c.in_ok-missing.ensures.ok in
+    IfOk-weaker c.merge.result _ _
+    (λ done same lacks. ap (λ (rows : SortedTable g.row.V.Denot). record { rows = rows; alloc = c.args.self.now.alloc }) (same
+    (lacks_none content _ _ c.in_ok-fresh.fresh.items (subst (AreMissing _ _) (sym c.in_ok-fresh.ensures.ok) are) lacks)))
+    c.merge.ensures.unchanged

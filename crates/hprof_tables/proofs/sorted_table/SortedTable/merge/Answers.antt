@@ -27,6 +27,9 @@ returns-clause-ok g c =
     union_is old.run.items old.below.entries c.args.fresh.items old.sound c.requires.ascending c.requires.apart
     c.merge_into.new.all.items c.replace-run.result.below.entries all below
 
+pub returns-clause-unchanged : goal.returns-clause-unchanged
+returns-clause-unchanged g c = λ none. let not_none = c.if-is_empty.false in absurd (search rules)
+
 pub returns-then-is_empty-clause-ok : goal.returns-then-is_empty-clause-ok
 returns-then-is_empty-clause-ok g c =
     let old = c.args.self.now in
