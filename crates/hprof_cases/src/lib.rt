@@ -32,8 +32,6 @@ mod records;
 #[cfg(test)]
 mod refusals;
 #[cfg(test)]
-mod rooms;
-#[cfg(test)]
 mod samples;
 #[cfg(test)]
 mod streams;
