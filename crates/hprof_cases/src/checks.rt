@@ -1,9 +1,11 @@
 //! The report `check`.
 
+use crate::counters::{TALLY, Tally};
 use crate::program::{FailsOnce, ended, outcome_of, path_of, written};
 use crate::records::as_the_jdk_writes;
 use crate::samples::{
-    HEADER, NAME_1_A, NAME_1_B, WIDE_HEADER, bytes_of, plain_part, readers_of, record,
+    END, HEADER, NAME_1_A, NAME_1_B, OLD_HEADER, WIDE_HEADER, bytes_of, plain_part, readers_of,
+    record,
 };
 use crate::writers::Limited;
 use hprof_engine::ToolFault;
@@ -11,10 +13,11 @@ use hprof_items::{Device, WriteFault};
 use hprof_reports::check_to;
 use hprof_stream::Limits;
 use hprof_tool::Status;
-use std::alloc::Global;
-use std::fs;
+use std::alloc::{AllocError, Global};
+use std::convert::AsStr;
 use std::process::Abort;
 use std::test::Fail;
+use std::{env, fs};
 
 /// The report on the plain part.
 const PLAIN: &str =
@@ -22,8 +25,7 @@ const PLAIN: &str =
     traces 0\nstarts 0\nends 0\nroots 1\nclasses 0\nobjects 1\nbad names 0\n";
 
 /// The report on the plain part and on the plain part two times again.
-const THRICE: &str =
-    "part 0: version 1.0.2 ids 4 time 1 records 3 facts 4 end no\n\
+const THRICE: &str = "part 0: version 1.0.2 ids 4 time 1 records 3 facts 4 end no\n\
     part 1: version 1.0.2 ids 4 time 1 records 3 facts 4 end no\n\
     part 2: version 1.0.2 ids 4 time 1 records 3 facts 4 end no\n\
     names 2\nloads 0\nunloads 0\nframes 0\ntraces 0\nstarts 0\nends 0\nroots 1\nclasses 0\n\
@@ -64,21 +66,39 @@ fn a_part_as_the_jdk_writes_it(rt: HostRuntime) -> Result<(), Fail> {
     expect_report(&rt, rt.alloc(), &[&part], report)
 }
 
-#[test]
-fn many_parts(rt: HostRuntime) -> Result<(), Fail> {
-    let part = bytes_of(rt.alloc(), &[HEADER, NAME_1_A])?;
-    let parts = [part.as_slice(); 12];
-    let mut report = String::new(rt.alloc());
-    for number in ["0", "1", "2", "3", "4", "5", "6", "7", "8", "9", "10", "11"] {
+/// The report on parts of these numbers, each of which states name 1.
+fn report_on<S: AsStr>(alloc: Global, numbers: &[S]) -> Result<String, AllocError> {
+    let mut report = String::new(alloc);
+    for number in numbers {
         report.push_str("part ")?;
-        report.push_str(number)?;
+        report.push_str(number.as_str())?;
         report.push_str(": version 1.0.2 ids 4 time 1 records 1 facts 1 end no\n")?;
     }
     report.push_str(
         "names 1\nloads 0\nunloads 0\nframes 0\ntraces 0\nstarts 0\nends 0\nroots 0\nclasses 0\n\
         objects 0\nbad names 0\n",
     )?;
+    Ok(report)
+}
+
+#[test]
+fn many_parts(rt: HostRuntime) -> Result<(), Fail> {
+    let part = bytes_of(rt.alloc(), &[HEADER, NAME_1_A])?;
+    let parts = [part.as_slice(); 12];
+    let numbers = ["0", "1", "2", "3", "4", "5", "6", "7", "8", "9", "10", "11"];
+    let report = report_on(rt.alloc(), &numbers)?;
     expect_report(&rt, rt.alloc(), &parts, &report)
+}
+
+#[test]
+fn parts_without_facts(rt: HostRuntime) -> Result<(), Fail> {
+    let report = "part 0: version 1.0.1 ids 4 time 1 records 0 facts 0 end no\n\
+        part 1: version 1.0.2 ids 4 time 1 records 0 facts 0 end no\n\
+        part 2: version 1.0.2 ids 4 time 1 records 1 facts 0 end yes\n\
+        names 0\nloads 0\nunloads 0\nframes 0\ntraces 0\nstarts 0\nends 0\nroots 0\nclasses 0\n\
+        objects 0\nbad names 0\n";
+    let ended = bytes_of(rt.alloc(), &[HEADER, END])?;
+    expect_report(&rt, rt.alloc(), &[OLD_HEADER, HEADER, &ended], report)
 }
 
 #[test]
@@ -135,6 +155,24 @@ fn the_program_reports_on_three_parts(rt: HostRuntime) -> Result<(), Fail> {
     Ok(())
 }
 
+#[test]
+fn the_program_reports_on_many_parts(rt: HostRuntime) -> Result<(), Fail> {
+    let one = written(&rt, "check-many", &[HEADER, NAME_1_A])?;
+    let numbers = ["0", "1", "2", "3", "4", "5", "6", "7", "8", "9", "10", "11"];
+    let mut words = Vec::new(rt.alloc());
+    words.push("check")?;
+    for _ in &numbers {
+        words.push(one.as_str())?;
+    }
+    let ran = outcome_of(rt.alloc(), &rt, &words, &[])?;
+    assert_eq!(rt; ran.status, Status::Done);
+    let report = report_on(rt.alloc(), &numbers)?;
+    assert_eq!(rt; str::from_utf8(&ran.output)?, report.as_str());
+    assert_eq!(rt; ran.errors.len(), 0);
+    fs::remove_file(&rt, one.as_str())?;
+    Ok(())
+}
+
 /// Checks that the program refuses to report on the parts, with that line.
 fn expect_no_report(
     rt: &impl Abort,
@@ -183,6 +221,35 @@ fn a_report_that_cannot_be_printed(rt: HostRuntime) -> Result<(), Fail> {
     assert_eq!(rt; status, Status::Refused);
     assert_eq!(rt; errors.as_slice(), b"hprof: write failed\n".as_slice());
     assert_eq!(rt; writes, 1);
+    fs::remove_file(&rt, part.as_str())?;
+    Ok(())
+}
+
+#[test]
+fn a_report_that_cannot_be_flushed(rt: HostRuntime) -> Result<(), Fail> {
+    let part = written(&rt, "check-unflushed", &[HEADER, NAME_1_A])?;
+    let mut output = Tally {
+        failing_flush: 1,
+        ..TALLY
+    };
+    let words = ["check", part.as_str()];
+    let (status, errors) = ended(rt.alloc(), &rt, &words, HEADER, &mut output)?;
+    assert_eq!(rt; status, Status::Refused);
+    assert_eq!(rt; str::from_utf8(&errors)?, "hprof: write failed\n");
+    assert_eq!(rt; (output.writes, output.flushes), (1, 1));
+    fs::remove_file(&rt, part.as_str())?;
+    Ok(())
+}
+
+#[test]
+fn a_folder_to_report_on(rt: HostRuntime) -> Result<(), Fail> {
+    let part = written(&rt, "check-folder", &[HEADER, NAME_1_A])?;
+    let folder = env::temp_dir(&rt)?;
+    let folder = folder.to_str().ok_or("the folder's name is text")?;
+    let line = "hprof: part 0: read failed\n";
+    expect_no_report(&rt, &rt, &["check", folder], line)?;
+    let line = "hprof: part 1: read failed\n";
+    expect_no_report(&rt, &rt, &["check", part.as_str(), folder], line)?;
     fs::remove_file(&rt, part.as_str())?;
     Ok(())
 }

@@ -1,10 +1,10 @@
 //! Parts that do not go together.
 
 use crate::samples::{HEADER, NAME_1_A, NAME_1_B, WIDE_HEADER, bytes_of, expect_refused, record};
-use hprof_engine::ToolFault;
+use hprof_engine::{Joined, ToolFault};
 use hprof_heap::Key;
-use hprof_items::Reason;
-use hprof_stream::PartFault;
+use hprof_items::{Reason, WriteFault};
+use hprof_stream::{PartFault, SinkFault};
 use std::alloc::{AllocError, Global};
 use std::test::Fail;
 
@@ -31,7 +31,7 @@ fn least_of_two_conflicts(rt: HostRuntime) -> Result<(), Fail> {
 }
 
 /// A segment with the byte array 16 of that one byte.
-fn array_of(alloc: Global, byte: u8) -> Result<Vec<u8>, AllocError> {
+pub(crate) fn array_of(alloc: Global, byte: u8) -> Result<Vec<u8>, AllocError> {
     let sub = [0x23, 0, 0, 0, 16, 0, 0, 0, 1, 0, 0, 0, 1, 8, byte];
     record(alloc, 0x1c, &[&sub])
 }
@@ -91,11 +91,14 @@ fn two_identifier_sizes(rt: HostRuntime) -> Result<(), Fail> {
 fn texts_of_conflicts(rt: HostRuntime) -> Result<(), Fail> {
     let texts = [
         (Key::Name(0xabcd), "conflict at name abcd"),
+        (Key::Name(u64::MAX), "conflict at name ffffffffffffffff"),
         (Key::Load(12), "conflict at load 12"),
         (Key::Frame(0), "conflict at frame 0"),
+        (Key::Frame(0xab), "conflict at frame ab"),
         (Key::Trace(4_294_967_295), "conflict at trace 4294967295"),
         (Key::Thread(7), "conflict at thread 7"),
         (Key::Class(16), "conflict at class 10"),
+        (Key::Class(0xab), "conflict at class ab"),
         (Key::Object(u64::MAX), "conflict at object ffffffffffffffff"),
     ];
     for (key, text) in texts {
@@ -105,5 +108,68 @@ fn texts_of_conflicts(rt: HostRuntime) -> Result<(), Fail> {
         ToolFault::IdSizes.text(rt.alloc())?.as_str(),
         "identifier sizes differ"
     );
+    Ok(())
+}
+
+#[test]
+fn texts_of_parts_and_of_memory(rt: HostRuntime) -> Result<(), Fail> {
+    let sink = PartFault::Sink(SinkFault::OutOfMemory);
+    for (index, fault, text) in [
+        (10, PartFault::Read, "part 10: read failed"),
+        (10, PartFault::BytesExceeded, "part 10: too many bytes"),
+        (
+            4_294_967_296usize,
+            PartFault::ReadsExceeded,
+            "part 4294967296: too many reads",
+        ),
+        (
+            4_294_967_296,
+            PartFault::ItemTooLong { at: 4_294_967_297 },
+            "part 4294967296: item too long at 4294967297",
+        ),
+        (3, PartFault::OutOfMemory, "part 3: out of memory"),
+        (3, sink, "part 3: out of memory"),
+    ] {
+        let told = ToolFault::Part { index, fault }.text(rt.alloc())?;
+        assert_eq!(rt; told.as_str(), text);
+    }
+    let told = ToolFault::OutOfMemory.text(rt.alloc())?;
+    assert_eq!(rt; told.as_str(), "out of memory");
+    Ok(())
+}
+
+#[test]
+fn answers_that_differ(rt: HostRuntime) -> Result<(), Fail> {
+    let joined = Joined { parts: 1, facts: 1 };
+    assert!(rt; joined != Joined { parts: 1, facts: 2 });
+    assert!(rt; joined != Joined { parts: 2, facts: 1 });
+    let read = PartFault::Read;
+    let faults = [
+        ToolFault::Part {
+            index: 0,
+            fault: read,
+        },
+        ToolFault::Part {
+            index: 1,
+            fault: read,
+        },
+        ToolFault::Part {
+            index: 0,
+            fault: PartFault::BytesExceeded,
+        },
+        ToolFault::NoParts,
+        ToolFault::IdSizes,
+        ToolFault::Conflict(Key::Name(1)),
+        ToolFault::Conflict(Key::Name(2)),
+        ToolFault::Conflict(Key::Frame(1)),
+        ToolFault::Write(WriteFault::Failed),
+        ToolFault::Write(WriteFault::Stuck),
+        ToolFault::OutOfMemory,
+    ];
+    for (place, fault) in faults.iter().enumerate() {
+        for (other, another) in faults.iter().enumerate() {
+            assert_eq!(rt; fault == another, place == other);
+        }
+    }
     Ok(())
 }

@@ -8,7 +8,11 @@ mod classes;
 #[cfg(test)]
 mod conflicts;
 #[cfg(test)]
+mod counters;
+#[cfg(test)]
 mod disk;
+#[cfg(test)]
+mod files;
 #[cfg(test)]
 mod joins;
 #[cfg(test)]
@@ -29,5 +33,9 @@ mod records;
 mod refusals;
 #[cfg(test)]
 mod samples;
+#[cfg(test)]
+mod streams;
+#[cfg(test)]
+mod words;
 #[cfg(test)]
 mod writers;

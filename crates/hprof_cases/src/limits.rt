@@ -1,7 +1,12 @@
 //! Limits, one below what a part needs and just what it needs.
 
-use crate::samples::{END, HEADER, NAME_1_A, NAME_2_B, bytes_of, joined_under, plain_part, record};
+use crate::counters::CountedReads;
+use crate::samples::{
+    END, HEADER, NAME_1_A, NAME_1_B, NAME_2_B, WIDE_HEADER, bytes_of, joined_under, plain_part,
+    record,
+};
 use hprof_engine::{Joined, ToolFault, join_to};
+use hprof_heap::Key;
 use hprof_items::{Device, Reason};
 use hprof_stream::{Limits, PartFault, laws};
 use std::alloc::Global;
@@ -39,7 +44,7 @@ impl Read for ByteByByte<'_> {
 
 /// A reader that gives these bytes one at a time, and then fails.
 #[derive(Drop)]
-struct Broken<'a>(ByteByByte<'a>);
+pub(crate) struct Broken<'a>(pub(crate) ByteByByte<'a>);
 
 impl Read for Broken<'_> {
     fn read(&mut self, piece: &mut [u8]) -> io::Result<usize> {
@@ -238,5 +243,80 @@ fn longest_item_of_nothing(rt: HostRuntime) -> Result<(), Fail> {
     let part = bytes_of(rt.alloc(), &[HEADER, &sub])?;
     let long = PartFault::ItemTooLong { at: 40 };
     expect_fault(&rt, answer(rt.alloc(), &part, longest(0))?, long);
+    Ok(())
+}
+
+#[test]
+fn no_reads_and_no_bytes(rt: HostRuntime) -> Result<(), Fail> {
+    let mut target = Device::new(Vec::<u8>::new(rt.alloc()));
+    let mut readers = [Device::new(CountedReads {
+        bytes: HEADER,
+        reads: 0,
+    })];
+    let answer_of_none = join_to(rt.alloc(), &mut readers, &mut target, reads(0));
+    expect_fault(&rt, answer_of_none, PartFault::ReadsExceeded);
+    let [reader] = readers;
+    assert_eq!(rt; reader.into_inner().reads, 0);
+    for part in [b"J".as_slice(), HEADER] {
+        let answer_of_some = answer(rt.alloc(), part, bytes(0))?;
+        expect_fault(&rt, answer_of_some, PartFault::BytesExceeded);
+    }
+    let truncated = PartFault::Malformed {
+        at: 0,
+        reason: Reason::Truncated,
+    };
+    expect_fault(&rt, answer(rt.alloc(), b"", bytes(0))?, truncated);
+    Ok(())
+}
+
+/// The record of name 2 with so many bytes.
+fn long_name(alloc: Global, length: usize) -> Result<Vec<u8>, Fail> {
+    let text = vec![in alloc; b'n'; length]?;
+    Ok(record(alloc, 0x01, &[b"\0\0\0\x02", &text])?)
+}
+
+#[test]
+fn a_read_takes_as_much_as_there_is_room_for(rt: HostRuntime) -> Result<(), Fail> {
+    // The header has 31 bytes, and the front of the name 13.
+    for (length, most) in [(65_536usize, 2), (65_537, 3)] {
+        let name = long_name(rt.alloc(), length - 44)?;
+        let part = bytes_of(rt.alloc(), &[HEADER, &name])?;
+        assert_eq!(rt; part.len(), length);
+        let joined = Joined { parts: 1, facts: 1 };
+        assert_eq!(rt; answer(rt.alloc(), &part, reads(most))?, Ok(joined));
+        expect_fault(
+            &rt,
+            answer(rt.alloc(), &part, reads(most - 1))?,
+            PartFault::ReadsExceeded,
+        );
+    }
+    Ok(())
+}
+
+#[test]
+fn a_limit_behind_parts_that_do_not_go_together(rt: HostRuntime) -> Result<(), Fail> {
+    let first = bytes_of(rt.alloc(), &[HEADER, NAME_1_A])?;
+    let other = bytes_of(rt.alloc(), &[HEADER, NAME_1_B])?;
+    let name = long_name(rt.alloc(), 65_536)?;
+    let third = bytes_of(rt.alloc(), &[HEADER, &name])?;
+    for (second, untold) in [
+        (WIDE_HEADER, ToolFault::IdSizes),
+        (&other, ToolFault::Conflict(Key::Name(1))),
+    ] {
+        let parts: [&[u8]; 3] = [&first, second, &third];
+        for (limits, fault) in [
+            (bytes(45), PartFault::BytesExceeded),
+            (longest(5), PartFault::ItemTooLong { at: 31 }),
+            (reads(2), PartFault::ReadsExceeded),
+        ] {
+            let (told, written) = joined_under(rt.alloc(), &parts, limits)?;
+            assert_eq!(rt; told, Err(ToolFault::Part { index: 2, fault }));
+            assert_eq!(rt; written.len(), 0);
+            let (told, _) = joined_under(rt.alloc(), &parts[..2], limits)?;
+            assert_eq!(rt; told, Err(untold));
+        }
+        let (told, _) = joined_under(rt.alloc(), &parts, Limits::usual())?;
+        assert_eq!(rt; told, Err(untold));
+    }
     Ok(())
 }

@@ -16,7 +16,7 @@ const FRONTS: [&[u8]; 3] = [
 ];
 
 /// A canonical dump of 90,079 bytes, which are more than the program's buffer of 65,536.
-fn long_dump(alloc: Global) -> Result<Vec<u8>, AllocError> {
+pub(crate) fn long_dump(alloc: Global) -> Result<Vec<u8>, AllocError> {
     let text = vec![in alloc; b'n'; 30_000]?;
     let [one, two, three] = FRONTS;
     bytes_of(alloc, &[HEADER, one, &text, two, &text, three, &text, END])
@@ -31,7 +31,7 @@ const TROUBLES: [(usize, Trouble); 5] = [
     (usize::MAX, Trouble::FailsToFlush),
 ];
 
-const WRITE_FAILED: &[u8] = b"hprof: write failed\n";
+pub(crate) const WRITE_FAILED: &[u8] = b"hprof: write failed\n";
 
 #[test]
 fn long_dump_to_a_stream_that_fails(rt: HostRuntime) -> Result<(), Fail> {

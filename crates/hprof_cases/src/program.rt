@@ -32,6 +32,24 @@ pub(crate) struct Ran {
     pub(crate) errors: Vec<u8>,
 }
 
+/// Runs the program on words behind its name, and gives its status.
+pub(crate) fn status_of<F: Files, I: Read + Drop, O: Write + Drop, E: Write>(
+    alloc: Global,
+    files: &F,
+    words: &[&str],
+    input: I,
+    output: O,
+    errors: &mut E,
+) -> Result<Status, Fail> {
+    let mut list = Vec::new(alloc);
+    list.push(String::from_str(alloc, "hprof")?)?;
+    for word in words {
+        list.push(String::from_str(alloc, word)?)?;
+    }
+    let words = Ok(list.into_iter());
+    Ok(run(alloc, files, words, input, output, errors))
+}
+
 /// Runs the program on words behind its name, and gives its status and what it told of errors.
 pub(crate) fn ended<F: Files, I: Read + Drop, O: Write + Drop>(
     alloc: Global,
@@ -40,14 +58,8 @@ pub(crate) fn ended<F: Files, I: Read + Drop, O: Write + Drop>(
     input: I,
     output: O,
 ) -> Result<(Status, Vec<u8>), Fail> {
-    let mut list = Vec::new(alloc);
-    list.push(String::from_str(alloc, "hprof")?)?;
-    for word in words {
-        list.push(String::from_str(alloc, word)?)?;
-    }
     let mut errors = Vec::new(alloc);
-    let words = Ok(list.into_iter());
-    let status = run(alloc, files, words, input, output, &mut errors);
+    let status = status_of(alloc, files, words, input, output, &mut errors)?;
     Ok((status, errors))
 }
 
@@ -183,7 +195,7 @@ fn part_that_cannot_be_opened(rt: HostRuntime) -> Result<(), Fail> {
 }
 
 /// Checks that joining these parts to a new file is refused with that text, and that the file is not there afterwards.
-fn expect_refused<F: Files + Abort>(
+pub(crate) fn expect_refused<F: Files + Abort>(
     rt: &F,
     alloc: Global,
     out: &str,
@@ -203,7 +215,7 @@ fn expect_refused<F: Files + Abort>(
 }
 
 /// A record that is shorter than its kind can be.
-const SHORT_TRACE: &[u8] = b"\x05\0\0\0\0\0\0\0\x0b\0\0\0\0\0\0\0\0\0\0\0";
+pub(crate) const SHORT_TRACE: &[u8] = b"\x05\0\0\0\0\0\0\0\x0b\0\0\0\0\0\0\0\0\0\0\0";
 
 #[test]
 fn second_part_that_is_malformed(rt: HostRuntime) -> Result<(), Fail> {
@@ -219,17 +231,6 @@ fn second_part_that_is_malformed(rt: HostRuntime) -> Result<(), Fail> {
     for path in [good, bad] {
         fs::remove_file(&rt, path)?;
     }
-    Ok(())
-}
-
-#[test]
-fn malformed_part_on_the_input(rt: HostRuntime) -> Result<(), Fail> {
-    let part = bytes_of(rt.alloc(), &[HEADER, NAME_1_A, SHORT_TRACE])?;
-    let ran = outcome_of(rt.alloc(), &rt, &[], &part)?;
-    assert_eq!(rt; ran.status.code(), 1);
-    assert_eq!(rt; ran.output.len(), 0);
-    let text = b"hprof: part 0: malformed at 45: BadLength\n".as_slice();
-    assert_eq!(rt; ran.errors.as_slice(), text);
     Ok(())
 }
 

@@ -2,10 +2,14 @@
 
 ghost use Rattle.std.specs.Prelude.{◌≡◌};
 
+use crate::counters::{TALLY, Tally};
+use crate::outputs::long_dump;
 use crate::samples::{HEADER, NAME_1_A, bytes_of, plain_dump, plain_part};
 use hprof_engine::{Joined, ToolFault, join_to};
 use hprof_items::{Device, WriteFault};
+use hprof_reports::check_to;
 use hprof_stream::Limits;
+use std::alloc::Global;
 use std::io;
 use std::io::Write;
 use std::test::Fail;
@@ -80,5 +84,64 @@ fn plain_dump_cut_at_each_byte(rt: HostRuntime) -> Result<(), Fail> {
             assert_eq!(rt; target.into_inner().taken.as_slice(), &dump[..room]);
         }
     }
+    Ok(())
+}
+
+/// What is made of a part.
+#[derive(Clone, Copy, Debug)]
+enum Made {
+    Dump,
+    Report,
+}
+
+/// Makes this of the part with the writer, and gives the answer and the writer afterwards.
+fn tallied(alloc: Global, made: Made, part: &[u8], tally: Tally) -> (Result<(), ToolFault>, Tally) {
+    let mut target = Device::new(tally);
+    let mut readers = [Device::new(part)];
+    let limits = Limits::usual();
+    let answer = match made {
+        Made::Dump => join_to(alloc, &mut readers, &mut target, limits).map(|_| ()),
+        Made::Report => check_to(alloc, &mut readers, &mut target, limits),
+    };
+    (answer, target.into_inner())
+}
+
+#[test]
+fn nothing_is_pushed_behind_a_fault(rt: HostRuntime) -> Result<(), Fail> {
+    let part = plain_part(rt.alloc())?;
+    for made in [Made::Dump, Made::Report] {
+        let (answer, whole) = tallied(rt.alloc(), made, &part, TALLY);
+        assert_eq!(rt; (answer, whole.flushes), (Ok(()), 0), "{made:?}");
+        assert!(rt; whole.writes > 1, "{made:?}");
+        for number in 1..=whole.writes {
+            let tally = Tally {
+                failing_write: number,
+                ..TALLY
+            };
+            let (answer, tally) = tallied(rt.alloc(), made, &part, tally);
+            let fault = ToolFault::Write(WriteFault::Failed);
+            assert_eq!(rt; answer, Err(fault), "{made:?} {number}");
+            assert_eq!(rt;
+                (tally.writes, tally.flushes),
+                (number, 0),
+                "{made:?} {number}"
+            );
+        }
+    }
+    Ok(())
+}
+
+#[test]
+fn pieces_are_pushed_whole(rt: HostRuntime) -> Result<(), Fail> {
+    let dump = long_dump(rt.alloc())?;
+    let (answer, tally) = tallied(rt.alloc(), Made::Dump, &dump, TALLY);
+    assert_eq!(rt; answer, Ok(()));
+    // A header, the fronts of three names with their bytes, and an end.
+    assert_eq!(rt; (tally.writes, tally.longest), (8, 30_000));
+    let part = plain_part(rt.alloc())?;
+    let (answer, tally) = tallied(rt.alloc(), Made::Report, &part, TALLY);
+    assert_eq!(rt; answer, Ok(()));
+    // The lines have 37 words, behind each of which stands a space or a line feed.
+    assert!(rt; tally.writes <= 74, "{}", tally.writes);
     Ok(())
 }
