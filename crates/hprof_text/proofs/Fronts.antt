@@ -62,10 +62,10 @@ pub units_go_on : (us vs rest : List ℕ) → All fits us → All fits vs
 units_go_on [] vs rest small large e = (vs, refl, record { in_range = large; encoded = e })
 units_go_on (u ∷ us) [] rest small large e =
     absurd (nil_begins_none u (flat_map unit_bytes us ++ rest) (All-head fits u us small)
-      (sym (append_assoc (unit_bytes u) (flat_map unit_bytes us) rest) ∙ e))
+    (sym (append_assoc (unit_bytes u) (flat_map unit_bytes us) rest) ∙ e))
 units_go_on (u ∷ us) (v ∷ vs) rest small large e =
     let regrouped : unit_bytes u ++ (flat_map unit_bytes us ++ rest) ≡ unit_bytes v ++ flat_map unit_bytes vs =
-      sym (append_assoc (unit_bytes u) (flat_map unit_bytes us) rest) ∙ e in
+    sym (append_assoc (unit_bytes u) (flat_map unit_bytes us) rest) ∙ e in
     let same = same_unit u v (flat_map unit_bytes us ++ rest) (flat_map unit_bytes vs) regrouped in
     let more = units_go_on us vs rest (All-tail fits u us small) (All-tail fits v vs large) same.1 in
     let whole : v ∷ vs ≡ u ∷ (us ++ more.0) = cc (same.0, more.1) in

@@ -101,7 +101,7 @@ lower_onto (suc k) n acc lower =
       | inr more ↦
           rw (onto_more k n acc more)
           (lower_onto k (n / 16) (digit_glyph false (n % 16) ∷ acc) (All-cons IsLowerDigit (digit_glyph false (n % 16)) acc
-            (lower_glyph (n % 16) (omega arith)) lower))
+          (lower_glyph (n % 16) (omega arith)) lower))
     ]
 
 glyph_not_zero : (d : ℕ) → 0 < d → digit_glyph false d ≢ 48

@@ -39,8 +39,11 @@ flat_map-unit_bytes-plain : (xs : List ℕ) → AllPass is_plain xs → flat_map
 flat_map-unit_bytes-plain [] plain = refl
 flat_map-unit_bytes-plain (x ∷ xs) plain =
     let range = is_plain-range x (All-head plain_holds x xs plain) in
-    rw (unit_bytes-one x (omega (arith, range.0)) (omega (arith, range.1)), flat_map-unit_bytes-plain xs
-      (All-tail plain_holds x xs plain)) refl
+    rw (
+      unit_bytes-one x (omega (arith, range.0)) (omega (arith, range.1)),
+      flat_map-unit_bytes-plain xs
+          (All-tail plain_holds x xs plain),
+    ) refl
 
 flat_map-printed_unit-plain : (xs : List ℕ) → AllPass is_plain xs → flat_map printed_unit xs ≡ xs
 flat_map-printed_unit-plain [] plain = refl
@@ -98,7 +101,7 @@ prints_stop bytes rest text p none has = front_stop p.0 bytes rest p.1 none has
 
 -- where no unit stands next, all bytes are printed or they have no units
 pub prints_if_units : (bytes rest text : List ℕ) (all : Bool) → PrintsFront bytes rest text → BeginsWithNoUnit rest
-  → all ≡ (length rest == 0)
+    → all ≡ (length rest == 0)
     → PrintsIfUnits bytes all text
 prints_if_units bytes rest text true p none e = prints_all bytes rest text p (ended rest (sym e))
 prints_if_units bytes rest text false p none e = λ has. not_ended rest (sym e) (prints_stop bytes rest text p none has)
@@ -132,7 +135,7 @@ IsAscii-tested : (bytes : List ℕ) → list_all (λ b. nat_lt b 128) bytes ≡ 
 IsAscii-tested bytes passes =
     IsAscii-from_all bytes
     (All-weaker (λ b. nat_lt b 128 ≡ true) (λ b. b < 128) (λ b. ltb-true b 128) bytes
-      (AllPass-from_list_all (λ b. nat_lt b 128) bytes passes))
+    (AllPass-from_list_all (λ b. nat_lt b 128) bytes passes))
 
 IsAscii-hex : (bytes : List ℕ) → IsAscii (encode_lower bytes)
 IsAscii-hex bytes = IsAscii-encode_with lower_digits bytes (IsAscii-tested lower_digits refl)
@@ -144,12 +147,12 @@ IsAscii-printed_unit unit = by (is_plain unit) refl
     by : (plain : Bool) → is_plain unit ≡ plain → IsAscii (cond plain (unit ∷ []) (escaped_unit unit))
     by true e = let range = is_plain-range unit e in IsAscii-cons unit [] (omega (arith, range.1)) IsAscii-nil
     by false e = IsAscii-append (codes "\\u") (encode_lower ((unit / 256) ∷ (unit % 256) ∷ [])) (IsAscii-tested (codes "\\u") refl)
-      (IsAscii-hex ((unit / 256) ∷ (unit % 256) ∷ []))
+        (IsAscii-hex ((unit / 256) ∷ (unit % 256) ∷ []))
 
 IsAscii-printed_units : (units : List ℕ) → IsAscii (flat_map printed_unit units)
 IsAscii-printed_units [] = IsAscii-nil
 IsAscii-printed_units (u ∷ us) = IsAscii-append (printed_unit u) (flat_map printed_unit us) (IsAscii-printed_unit u)
-  (IsAscii-printed_units us)
+    (IsAscii-printed_units us)
 
 IsAscii-printed_bytes : (bytes : List ℕ) → IsAscii (printed_bytes bytes)
 IsAscii-printed_bytes bytes = IsAscii-append (codes "\\x") (encode_lower bytes) (IsAscii-tested (codes "\\x") refl) (IsAscii-hex bytes)

@@ -8,15 +8,20 @@ loop-after-smaller c = rest_is_shorter _ _ _ c.in-Some.ensures.found
 
 pub loop-after-preserved : goal.loop-after-preserved
 loop-after-preserved c =
-    let units = c.loop-after.invariant.0 in
-    (units ++ c.in-Some.field-0-0 ∷ [], front_push units _ _ _ c.in-Some.field-0-0 c.loop-after.invariant.1 (search rules)
-      c.in-Some.ensures.found)
+    let units = c.loop-after.invariant.0 in (
+      units ++ c.in-Some.field-0-0 ∷ [],
+      front_push units _ _ _ c.in-Some.field-0-0 c.loop-after.invariant.1 (search rules)
+          c.in-Some.ensures.found,
+    )
 
 pub returns : goal.returns
 returns c =
     let units = c.loop-after.invariant.0 in (
-      λ empty. (units, front_all units c.args.bytes.now (rw (ended c.loop-after.rest.now (sym c.is_empty.ensures ∙ empty)) at
-        c.loop-after.invariant.1)),
+      λ empty. (
+        units,
+        front_all units c.args.bytes.now (rw (ended c.loop-after.rest.now (sym c.is_empty.ensures ∙ empty)) at
+            c.loop-after.invariant.1),
+      ),
       λ has. let done = front_stop units c.args.bytes.now c.loop-after.rest.now c.loop-after.invariant.1 c.in_default.ensures.none
-        has in c.is_empty.ensures ∙ ap (λ (xs : List ℕ). length xs == 0) done,
+          has in c.is_empty.ensures ∙ ap (λ (xs : List ℕ). length xs == 0) done,
     )

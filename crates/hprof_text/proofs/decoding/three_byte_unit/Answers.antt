@@ -17,10 +17,10 @@ returns-then-unit-ge-LEAST_OF_THREE-clause-found c =
     let first : 0xe0 + c.from.result ≡ c.args.first = omega arith in
     rw (← first, c.in_ok-middle.ensures.found, c.in_ok-low.ensures.found)
     (three_bytes_are c.from.result c.in_ok-middle.middle c.in_ok-low.low c.in_ok-low.rest.now c.in_ok-middle.ensures.small
-      c.in_ok-low.ensures.small (omega arith))
+    c.in_ok-low.ensures.small (omega arith))
 
 pub returns-else-unit-ge-LEAST_OF_THREE-clause-none : goal.returns-else-unit-ge-LEAST_OF_THREE-clause-none
 returns-else-unit-ge-LEAST_OF_THREE-clause-none c =
     rw (c.in_ok-middle.ensures.found, c.in_ok-low.ensures.found)
     (no_unit_from_three c.args.first c.in_ok-middle.middle c.in_ok-low.low c.in_ok-low.rest.now c.requires.low c.requires.high
-      c.in_ok-middle.ensures.small c.in_ok-low.ensures.small (omega arith))
+    c.in_ok-middle.ensures.small c.in_ok-low.ensures.small (omega arith))

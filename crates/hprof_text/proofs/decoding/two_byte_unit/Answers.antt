@@ -17,4 +17,4 @@ pub returns-else-unit-ge-LEAST_OF_TWO-clause-none : goal.returns-else-unit-ge-LE
 returns-else-unit-ge-LEAST_OF_TWO-clause-none c =
     rw c.in_ok-low.ensures.found
     (no_unit_from_two c.args.first c.in_ok-low.low c.in_ok-low.rest.now c.requires.low c.requires.high c.in_ok-low.ensures.small
-      (omega arith) (omega arith))
+    (omega arith) (omega arith))
