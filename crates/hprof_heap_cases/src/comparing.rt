@@ -1,10 +1,12 @@
 //! Tables and heaps compared with one another.
 
-use crate::samples::{array, begun, heap_of, load_of};
+use crate::samples::{
+    array, begun, class_of, frame_of, heap_of, load_of, loaded, start_of, trace_of,
+};
 use hprof_heap::same;
 use hprof_items::{Fact, IdSize};
 use hprof_tables::{BytesTable, Relation, Stated};
-use hprof_values::{Basic, ConstantList, FieldList, IdList, Root, StaticList};
+use hprof_values::{Basic, Root};
 use std::alloc::Global;
 use std::process::Abort;
 use std::test::*;
@@ -42,62 +44,6 @@ fn tables_of_bytes(rt: HostRuntime) -> Result<(), Fail> {
     assert_eq!(rt; other.state(4, b"AB")?, Stated::New);
     assert!(rt; !one.same(&other));
     Ok(())
-}
-
-fn class_of<'a>(id: u64, size: u32) -> Option<Fact<'a>> {
-    Some(Fact::Class {
-        id,
-        trace: 1,
-        parent: 0,
-        loader: 0,
-        signers: 0,
-        domain: 0,
-        reserved1: 0,
-        reserved2: 0,
-        size,
-        constants: ConstantList::new(b"", IdSize::Four)?,
-        statics: StaticList::new(b"", IdSize::Four)?,
-        fields: FieldList::new(b"", IdSize::Four)?,
-    })
-}
-
-fn start_of<'a>(thread: u32, name: u64) -> Fact<'a> {
-    Fact::Start {
-        thread,
-        object: 8,
-        trace: 6,
-        name,
-        group: 3,
-        parent_group: 4,
-    }
-}
-
-fn frame_of<'a>(id: u64, line: i32) -> Fact<'a> {
-    Fact::Frame {
-        id,
-        method: 2,
-        signature: 3,
-        source: 4,
-        class_serial: 5,
-        line,
-    }
-}
-
-fn trace_of<'a>(serial: u32, frame: &'a [u8]) -> Option<Fact<'a>> {
-    Some(Fact::Trace {
-        serial,
-        thread: 7,
-        frames: IdList::new(frame, IdSize::Four)?,
-    })
-}
-
-fn loaded<'a>(serial: u32, name: u64) -> Fact<'a> {
-    Fact::Load {
-        serial,
-        class: 1,
-        trace: 2,
-        name,
-    }
 }
 
 // That heaps of one fact and of the other differ, from one another and from one without facts.

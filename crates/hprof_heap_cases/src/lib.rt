@@ -2,6 +2,8 @@
 #![tactic(auto)]
 
 #[cfg(test)]
+mod all_tables;
+#[cfg(test)]
 mod comparing;
 #[cfg(test)]
 mod dumps;
