@@ -14,6 +14,8 @@ mod joining;
 #[cfg(test)]
 mod lent_facts;
 #[cfg(test)]
+mod many_rows;
+#[cfg(test)]
 mod rooms;
 #[cfg(test)]
 mod samples;

@@ -137,3 +137,30 @@ fn a_push(rt: HostRuntime) {
     assert_eq!(rt; device.push(b""), Ok(0));
     assert_eq!(rt; device.health(), Health::Well);
 }
+
+// Fills each piece that it is lent, and keeps its length.
+#[derive(Drop)]
+struct Filling {
+    length: usize,
+}
+
+impl Read for Filling {
+    fn read(&mut self, buf: &mut [u8]) -> io::Result<usize> {
+        self.length = buf.len();
+        buf.fill(b'f');
+        Ok(buf.len())
+    }
+}
+
+#[test]
+fn a_pull_asks_for_all_that_there_is_room_for(rt: HostRuntime) -> Result<(), Fail> {
+    for length in [1, 4_097, 65_536] {
+        let mut piece = vec![in rt.alloc(); 0; length]?;
+        let mut device = Device::new(Filling { length: 0 });
+        assert_eq!(rt; device.pull(&mut piece), Ok(length));
+        assert_eq!(rt; device.pulls(), 1);
+        assert_eq!(rt; device.into_inner().length, length);
+        assert!(rt; piece.iter().all(|byte| *byte == b'f'));
+    }
+    Ok(())
+}

@@ -29,10 +29,17 @@ impl Write for Counting {
     }
 }
 
-// A front is one push, the bytes behind it another, and bytes that are none no push; nothing is flushed.
+// A front is one push, the bytes behind it another, however many they are, and bytes that are none no push; nothing is flushed.
 #[test]
-fn pushes_of_a_fact(rt: HostRuntime) {
-    for (bytes, writes) in [(b"ab".as_slice(), 2), (b"".as_slice(), 1)] {
+fn pushes_of_a_fact(rt: HostRuntime) -> Result<(), Fail> {
+    let long = vec![in rt.alloc(); b'b'; 10_000]?;
+    let longer = vec![in rt.alloc(); b'b'; 3_000_000]?;
+    for (bytes, writes) in [
+        (b"ab".as_slice(), 2),
+        (b"".as_slice(), 1),
+        (long.as_slice(), 2),
+        (longer.as_slice(), 2),
+    ] {
         let fact = Fact::Instance {
             id: 1,
             trace: 2,
@@ -48,6 +55,7 @@ fn pushes_of_a_fact(rt: HostRuntime) {
         assert_eq!(rt; (counting.writes, counting.flushes), (writes, 0));
     }
     laws::one_spelling_in_each_family();
+    Ok(())
 }
 
 // That the fact fits, and that it is written as these bytes.
