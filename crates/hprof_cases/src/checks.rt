@@ -91,6 +91,19 @@ fn many_parts(rt: HostRuntime) -> Result<(), Fail> {
 }
 
 #[test]
+fn thousands_of_parts(rt: HostRuntime) -> Result<(), Fail> {
+    let part = bytes_of(rt.alloc(), &[HEADER, NAME_1_A])?;
+    let mut parts = Vec::new(rt.alloc());
+    let mut numbers = Vec::new(rt.alloc());
+    for number in 0..5_000u32 {
+        parts.push(part.as_slice())?;
+        numbers.push(format!(in rt.alloc(); "{number}")?)?;
+    }
+    let report = report_on(rt.alloc(), &numbers)?;
+    expect_report(&rt, rt.alloc(), &parts, &report)
+}
+
+#[test]
 fn parts_without_facts(rt: HostRuntime) -> Result<(), Fail> {
     let report = "part 0: version 1.0.1 ids 4 time 1 records 0 facts 0 end no\n\
         part 1: version 1.0.2 ids 4 time 1 records 0 facts 0 end no\n\

@@ -32,6 +32,8 @@ mod records;
 #[cfg(test)]
 mod refusals;
 #[cfg(test)]
+mod rooms;
+#[cfg(test)]
 mod samples;
 #[cfg(test)]
 mod streams;

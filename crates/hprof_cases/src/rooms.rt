@@ -1,0 +1,127 @@
+//! The room that joins and reports take.
+
+use crate::counters::TALLY;
+use crate::samples::{HEADER, NAME_1_A, NAME_1_B, bytes_of, readers_of, record};
+use hprof_engine::{Joined, ToolFault, join_to};
+use hprof_heap::Key;
+use hprof_items::Device;
+use hprof_reports::check_to;
+use hprof_stream::Limits;
+use std::alloc::{AllocError, Global};
+use std::fs;
+use std::test::Fail;
+
+/// How many bytes of addresses the process has.
+fn size(rt: &HostRuntime) -> Result<u64, Fail> {
+    let text = fs::read_to_string(rt, "/proc/self/statm")?;
+    let pages = text.split_whitespace().next().ok_or("no size")?;
+    let pages = pages.parse::<u64>().ok().ok_or("no number")?;
+    Ok(pages.saturating_mul(4_096))
+}
+
+/// How many thousands of bytes of addresses the process had at most.
+fn peak(rt: &HostRuntime) -> Result<u64, Fail> {
+    let text = fs::read_to_string(rt, "/proc/self/status")?;
+    let mut words = text.split_whitespace();
+    for word in words.by_ref() {
+        if word == "VmPeak:" {
+            break;
+        }
+    }
+    let number = words.next().ok_or("no peak")?;
+    Ok(number.parse::<u64>().ok().ok_or("no number")?)
+}
+
+/// A part of 100 arrays of 10,000 bytes.
+fn large_part(alloc: Global) -> Result<Vec<u8>, AllocError> {
+    let bytes = vec![in alloc; 7u8; 10_000]?;
+    let mut arrays = Vec::new(alloc);
+    for id in 0..100u8 {
+        arrays.extend_from_slice(&[0x23, 0, 0, 1, id, 0, 0, 0, 1, 0, 0, 0x27, 0x10, 8])?;
+        arrays.extend_from_slice(&bytes)?;
+    }
+    let segment = record(alloc, 0x1c, &[&arrays])?;
+    bytes_of(alloc, &[HEADER, &segment])
+}
+
+/// What joining the parts comes to, into a writer that keeps nothing.
+fn join(alloc: Global, parts: &[&[u8]]) -> Result<Result<Joined, ToolFault>, AllocError> {
+    let mut readers = readers_of(alloc, parts)?;
+    let mut target = Device::new(TALLY);
+    Ok(join_to(alloc, &mut readers, &mut target, Limits::usual()))
+}
+
+/// What reporting on the parts comes to, into such a writer.
+fn check(alloc: Global, parts: &[&[u8]]) -> Result<Result<(), ToolFault>, AllocError> {
+    let mut readers = readers_of(alloc, parts)?;
+    let mut target = Device::new(TALLY);
+    Ok(check_to(alloc, &mut readers, &mut target, Limits::usual()))
+}
+
+/// By how many bytes the process may grow: less than one heap of the large part has.
+const MOST: u64 = 500_000;
+
+#[test]
+fn joins_give_their_room_back(rt: HostRuntime) -> Result<(), Fail> {
+    let part = large_part(rt.alloc())?;
+    let done = Ok(Joined {
+        parts: 1,
+        facts: 100,
+    });
+    assert_eq!(rt; join(rt.alloc(), &[&part])?, done);
+    let before = size(&rt)?;
+    for _ in 0..40 {
+        assert_eq!(rt; join(rt.alloc(), &[&part])?, done);
+    }
+    let grown = size(&rt)?.saturating_sub(before);
+    assert!(rt; grown < MOST, "{grown}");
+    Ok(())
+}
+
+/// Whether the part is refused with one behind it that is cut.
+fn is_refused(alloc: Global, part: &[u8]) -> Result<bool, AllocError> {
+    Ok(join(alloc, &[part, &HEADER[..20]])?.is_err())
+}
+
+#[test]
+fn refused_joins_give_their_room_back(rt: HostRuntime) -> Result<(), Fail> {
+    let part = large_part(rt.alloc())?;
+    let one = bytes_of(rt.alloc(), &[&part, NAME_1_A])?;
+    let other = bytes_of(rt.alloc(), &[HEADER, NAME_1_B])?;
+    let fault = ToolFault::Conflict(Key::Name(1));
+    let conflict = Err(fault);
+    assert_eq!(rt; join(rt.alloc(), &[&one, &other])?, conflict);
+    let before = size(&rt)?;
+    for _ in 0..20 {
+        assert_eq!(rt; join(rt.alloc(), &[&one, &other])?, conflict);
+        assert!(rt; is_refused(rt.alloc(), &part)?);
+    }
+    let grown = size(&rt)?.saturating_sub(before);
+    assert!(rt; grown < MOST, "{grown}");
+    Ok(())
+}
+
+#[test]
+fn reports_give_their_room_back(rt: HostRuntime) -> Result<(), Fail> {
+    let part = large_part(rt.alloc())?;
+    assert_eq!(rt; check(rt.alloc(), &[&part])?, Ok(()));
+    let before = size(&rt)?;
+    for _ in 0..40 {
+        assert_eq!(rt; check(rt.alloc(), &[&part])?, Ok(()));
+    }
+    let grown = size(&rt)?.saturating_sub(before);
+    assert!(rt; grown < MOST, "{grown}");
+    Ok(())
+}
+
+#[test]
+fn no_room_for_the_longest_item(rt: HostRuntime) -> Result<(), Fail> {
+    let part = bytes_of(rt.alloc(), &[HEADER, NAME_1_A])?;
+    let done = Ok(Joined { parts: 1, facts: 1 });
+    assert_eq!(rt; join(rt.alloc(), &[&part])?, done);
+    assert_eq!(rt; check(rt.alloc(), &[&part])?, Ok(()));
+    // The longest item has nearly 4,194,304 thousands.
+    let most = peak(&rt)?;
+    assert!(rt; most < 1_000_000, "{most}");
+    Ok(())
+}
