@@ -8,8 +8,8 @@ use crate::samples::{
     record,
 };
 use crate::writers::Limited;
+use hprof_devices::{Device, WriteFault};
 use hprof_engine::ToolFault;
-use hprof_items::{Device, WriteFault};
 use hprof_reports::check_to;
 use hprof_stream::Limits;
 use hprof_tool::Status;

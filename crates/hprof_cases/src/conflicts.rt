@@ -1,9 +1,10 @@
 //! Parts that do not go together.
 
 use crate::samples::{HEADER, NAME_1_A, NAME_1_B, WIDE_HEADER, bytes_of, expect_refused, record};
+use hprof_devices::WriteFault;
 use hprof_engine::{Joined, ToolFault};
 use hprof_heap::Key;
-use hprof_items::{Reason, WriteFault};
+use hprof_items::Reason;
 use hprof_stream::{PartFault, SinkFault};
 use std::alloc::{AllocError, Global};
 use std::test::Fail;

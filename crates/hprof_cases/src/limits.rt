@@ -5,13 +5,14 @@ use crate::samples::{
     END, HEADER, NAME_1_A, NAME_1_B, NAME_2_B, WIDE_HEADER, bytes_of, joined_under, plain_part,
     record,
 };
+use hprof_devices::Device;
 use hprof_engine::{Joined, ToolFault, join_to};
 use hprof_heap::Key;
-use hprof_items::{Device, Reason};
+use hprof_items::Reason;
 use hprof_stream::{Limits, PartFault, laws};
 use std::alloc::Global;
-use std::io;
 use std::io::Read;
+use std::io;
 use std::process::Abort;
 use std::test::Fail;
 

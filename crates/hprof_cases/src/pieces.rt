@@ -1,8 +1,10 @@
 //! Parts that are cut into pieces.
 
 use crate::samples::{HEADER, bytes_of, fed, plain_part};
-use hprof_heap::{Gatherer, write_canonical};
-use hprof_items::{Device, Reason};
+use hprof_devices::Device;
+use hprof_dump::write_canonical;
+use hprof_heap::Gatherer;
+use hprof_items::Reason;
 use hprof_stream::{Limits, PartFault, PartReader};
 use std::alloc::Global;
 use std::test::Fail;

@@ -2,9 +2,9 @@
 
 use crate::counters::TALLY;
 use crate::samples::{HEADER, NAME_1_A, NAME_1_B, bytes_of, readers_of, record};
+use hprof_devices::Device;
 use hprof_engine::{Joined, ToolFault, join_to};
 use hprof_heap::Key;
-use hprof_items::Device;
 use hprof_reports::check_to;
 use hprof_stream::Limits;
 use std::alloc::{AllocError, Global};

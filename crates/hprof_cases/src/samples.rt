@@ -1,12 +1,12 @@
 //! Parts to join, and joining them in memory.
 
 ghost use Rattle.std.specs.Prelude.{◌≡◌, All, IfOk};
-ghost use Rattle.hprof_items.specs.declared.health.Health.TheVariants.{Well};
-ghost use Rattle.hprof_items.specs.Device.{health_of};
+ghost use Rattle.hprof_devices.specs.declared.health.Health.TheVariants.{Well};
+ghost use Rattle.hprof_devices.specs.Device.{health_of};
 
+use hprof_devices::Device;
 use hprof_engine::{Joined, Kept, ToolFault, join_kept, join_to};
 use hprof_heap::Gatherer;
-use hprof_items::Device;
 use hprof_stream::{Limits, PartFault, PartReader, PartSummary};
 use std::alloc::{AllocError, Global};
 use std::process::Abort;

@@ -5,13 +5,13 @@ ghost use Rattle.std.specs.Prelude.{◌≡◌};
 use crate::counters::{TALLY, Tally};
 use crate::outputs::long_dump;
 use crate::samples::{HEADER, NAME_1_A, bytes_of, plain_dump, plain_part};
+use hprof_devices::{Device, WriteFault};
 use hprof_engine::{Joined, ToolFault, join_to};
-use hprof_items::{Device, WriteFault};
 use hprof_reports::check_to;
 use hprof_stream::Limits;
 use std::alloc::Global;
-use std::io;
 use std::io::Write;
+use std::io;
 use std::test::Fail;
 
 /// A writer that takes some bytes, so many at a call, and then fails or takes none. A write of no bytes fails.

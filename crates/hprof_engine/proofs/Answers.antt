@@ -7,9 +7,9 @@ use Rattle.std.specs.Io.KnownBytes.{Appends}
 use Rattle.std.proofs.Math.Seq.{take-length}
 use Rattle.std.proofs.lemmas.Result.{err_from_is_err_and}
 use Rattle.std.proofs.lemmas.Option.{get_or_from_slice_get, slice_get_within}
-use Rattle.hprof_items.specs.declared.health.Health.{Health}
-use Rattle.hprof_items.specs.declared.health.Health.TheVariants as healths
-use Rattle.hprof_items.specs.declared.health.WriteFault.{WriteFault}
+use Rattle.hprof_devices.specs.declared.health.Health.{Health}
+use Rattle.hprof_devices.specs.declared.health.Health.TheVariants as healths
+use Rattle.hprof_devices.specs.declared.health.WriteFault.{WriteFault}
 use Rattle.hprof_values.specs.declared.ids.IdSize.{IdSize}
 use Rattle.hprof_values.specs.declared.ids.IdSize.TheVariants.{Four}
 use Rattle.hprof_values.specs.declared.reason.Reason.{Reason}
@@ -23,15 +23,15 @@ use Rattle.hprof_stream.specs.declared.summary.PartSummary.{PartSummary}
 use Rattle.hprof_stream.specs.Fault.{IsFirstFault}
 use Rattle.hprof_stream.specs.Part.{IsPart}
 use Rattle.hprof_stream.proofs.Faults.{first_fault_once, no_fault_no_first}
-use Rattle.hprof_heap.specs.declared.key.Key.{Key}
+use Rattle.hprof_rows.specs.declared.key.Key.{Key}
 use Rattle.hprof_heap.specs.declared.standing.Refusal.{Refusal}
 use Rattle.hprof_heap.specs.declared.standing.Refusal.TheVariants as refusals
-use Rattle.hprof_heap.specs.Dump.{canonical_dump}
+use Rattle.hprof_dump.specs.Dump.{canonical_dump}
 use Rattle.hprof_heap.specs.Gathering.{Gathered, Given, nothing_gathered, all_given, Gathers, Tells}
-use Rattle.hprof_heap.specs.HeapValue.{HeapValue}
+use Rattle.hprof_rows.specs.HeapValue.{HeapValue}
 use Rattle.hprof_heap.specs.State.{PartState, StatesIt, IsLeastOf, IsState, HaveTwoSizes}
 use Rattle.hprof_heap.proofs.Least.{no_least}
-use Rattle.hprof_heap.proofs.Order.{order_agrees}
+use Rattle.hprof_rows.proofs.Order.{order_agrees}
 use Rattle.hprof_engine.specs.declared.joined.Joined.{Joined}
 use Rattle.hprof_engine.specs.declared.tool_fault.ToolFault.{ToolFault}
 use Rattle.hprof_engine.specs.declared.tool_fault.ToolFault.TheVariants as tool

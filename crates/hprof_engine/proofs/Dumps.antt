@@ -4,13 +4,13 @@ use Rattle.std.specs.List.{flat_map}
 use Rattle.hprof_values.specs.declared.ids.IdSize.{IdSize}
 use Rattle.hprof_items.specs.FactValue.{FactValue}
 use Rattle.hprof_stream.specs.Part.{IsPart}
-use Rattle.hprof_heap.specs.Dump.{canonical_dump}
-use Rattle.hprof_heap.specs.Facts.{SameFacts}
-use Rattle.hprof_heap.specs.HeapValue.{IsHeap}
+use Rattle.hprof_dump.specs.Dump.{canonical_dump}
+use Rattle.hprof_rows.specs.Facts.{SameFacts}
+use Rattle.hprof_rows.specs.HeapValue.{IsHeap}
 use Rattle.hprof_heap.specs.State.{IsState}
-use Rattle.hprof_heap.proofs.Dump.{dump_is_part}
-use Rattle.hprof_heap.proofs.FactSets.{SameFacts-trans}
-use Rattle.hprof_heap.proofs.Order.{one_order}
+use Rattle.hprof_dump.proofs.Dump.{dump_is_part}
+use Rattle.hprof_rows.proofs.FactSets.{SameFacts-trans}
+use Rattle.hprof_rows.proofs.Order.{one_order}
 use Rattle.hprof_engine.specs.Joining.{Agree}
 use Rattle.hprof_stream.proofs.Parts.{states_one}
 

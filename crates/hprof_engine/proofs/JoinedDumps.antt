@@ -10,14 +10,14 @@ use Rattle.hprof_items.specs.Header.{IsMillis}
 use Rattle.hprof_items.specs.Spelling.{Fits}
 use Rattle.hprof_stream.specs.Part.{Stated, IsPart, all_facts}
 use Rattle.hprof_stream.specs.Record.{IsRecord, IsSubFact, states, ends, dumps, skips}
-use Rattle.hprof_heap.specs.declared.key.Key.{Key}
-use Rattle.hprof_heap.specs.Dump.{canonical_dump}
-use Rattle.hprof_heap.specs.Facts.{Has, SameFacts}
-use Rattle.hprof_heap.specs.HeapValue.{IsHeap}
+use Rattle.hprof_rows.specs.declared.key.Key.{Key}
+use Rattle.hprof_dump.specs.Dump.{canonical_dump}
+use Rattle.hprof_rows.specs.Facts.{Has, SameFacts}
+use Rattle.hprof_rows.specs.HeapValue.{IsHeap}
 use Rattle.hprof_heap.specs.State.{IsState}
-use Rattle.hprof_heap.proofs.Conflicts.{HasConflict-more, no_conflict}
-use Rattle.hprof_heap.proofs.Dump.{dump_is_part}
-use Rattle.hprof_heap.proofs.FactSets.{Has-parts, Has-front, Has-back, All-has, SameFacts-refl}
+use Rattle.hprof_rows.proofs.Conflicts.{HasConflict-more, no_conflict}
+use Rattle.hprof_dump.proofs.Dump.{dump_is_part}
+use Rattle.hprof_rows.proofs.FactSets.{Has-parts, Has-front, Has-back, All-has, SameFacts-refl}
 use Rattle.hprof_heap.proofs.Least.{IsLeastOf-one}
 use Rattle.hprof_engine.specs.Dividing.{AreDivided}
 use Rattle.hprof_engine.specs.Joining.{Agree, Disagree}

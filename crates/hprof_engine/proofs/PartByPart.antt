@@ -5,9 +5,9 @@ use Rattle.std.specs.List.{AllByRecursion, Contains, flat_map}
 use Rattle.hprof_values.specs.declared.ids.IdSize.{IdSize}
 use Rattle.hprof_items.specs.FactValue.{FactValue}
 use Rattle.hprof_stream.specs.Part.{IsPart}
-use Rattle.hprof_heap.specs.Facts.{Has, SameFacts}
+use Rattle.hprof_rows.specs.Facts.{Has, SameFacts}
 use Rattle.hprof_heap.specs.State.{PartState, StatesIt, IsLeastOf, IsState}
-use Rattle.hprof_heap.proofs.FactSets.{Has-parts, Has-front, Has-back}
+use Rattle.hprof_rows.proofs.FactSets.{Has-parts, Has-front, Has-back}
 use Rattle.hprof_stream.proofs.Parts.{states_one}
 
 -- ---- the elements of a list

@@ -6,7 +6,7 @@ use Rattle.std.proofs.lemmas.Option.{slice_get_cases, get_or_from_slice_get}
 use Rattle.std.specs.Io.KnownBytes.{Consumes, IsAtEnd}
 use Rattle.std.specs.Prelude.{slice_get}
 use Rattle.hprof_items.specs.declared.header.Header.{Header}
-use Rattle.hprof_items.specs.declared.health.Health.{Health}
+use Rattle.hprof_devices.specs.declared.health.Health.{Health}
 use Rattle.hprof_items.specs.FactValue.{FactValue}
 use Rattle.hprof_stream.specs.declared.limits.Limits.{Limits}
 use Rattle.hprof_stream.specs.declared.summary.PartSummary.{PartSummary}

@@ -5,7 +5,7 @@ use Rattle.std.specs.List.{AllByRecursion, flat_map}
 use Rattle.hprof_values.specs.declared.ids.IdSize.{IdSize}
 use Rattle.hprof_items.specs.FactValue.{FactValue}
 use Rattle.hprof_stream.specs.declared.limits.Limits.{Limits}
-use Rattle.hprof_heap.specs.Facts.{SameFacts}
+use Rattle.hprof_rows.specs.Facts.{SameFacts}
 use Rattle.hprof_heap.specs.Gathering.{Given, all_given}
 use Rattle.hprof_heap.specs.State.{PartState, StatesIt, IsLeastOf, IsState, HaveTwoSizes}
 use Rattle.hprof_heap.proofs.Least.{IsLeastOf-one, IsLeastOf-cons}

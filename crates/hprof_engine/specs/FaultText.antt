@@ -1,8 +1,8 @@
 -- The texts of refusals, each in one line, this project's own.
 use Rattle.std.specs.Prelude.{◌≡◌, ℕ, List, ◌++◌, codes, decimal}
 use Rattle.hprof_text.specs.Identifier.{id_digits}
-use Rattle.hprof_heap.specs.declared.key.Key.{Key}
-use Rattle.hprof_heap.specs.declared.key.Key.TheVariants as keys
+use Rattle.hprof_rows.specs.declared.key.Key.{Key}
+use Rattle.hprof_rows.specs.declared.key.Key.TheVariants as keys
 use Rattle.hprof_engine.specs.declared.tool_fault.ToolFault.{ToolFault}
 use Rattle.hprof_engine.specs.declared.tool_fault.ToolFault.TheVariants as tool
 

@@ -4,8 +4,8 @@ use Rattle.std.specs.Prelude.{Result, Ok, Err, ⊤, slice_get}
 use Rattle.std.specs.List.{AllByRecursion}
 use Rattle.std.specs.Io.KnownBytes.{Appends, Consumes, IsAtEnd}
 use Rattle.hprof_items.specs.declared.header.Header.{Header}
-use Rattle.hprof_items.specs.declared.health.Health.{Health}
-use Rattle.hprof_items.specs.declared.health.Health.TheVariants as healths
+use Rattle.hprof_devices.specs.declared.health.Health.{Health}
+use Rattle.hprof_devices.specs.declared.health.Health.TheVariants as healths
 use Rattle.hprof_values.specs.declared.ids.IdSize.{IdSize}
 use Rattle.hprof_items.specs.FactValue.{FactValue}
 use Rattle.hprof_stream.specs.declared.limits.Limits.{Limits}
@@ -16,10 +16,10 @@ use Rattle.hprof_stream.specs.Part.{IsPart, all_facts}
 use Rattle.hprof_stream.specs.Item.{header_before}
 use Rattle.hprof_stream.specs.Reader.{BeginsWhole, whole_len, IsUnheld, Pulled, PulledOut, CameLast}
 use Rattle.hprof_stream.specs.Fault.{HasNoFault, IsFirstFault, HasNoSettledFault, is_lasting}
-use Rattle.hprof_heap.specs.declared.key.Key.{Key}
-use Rattle.hprof_heap.specs.Conflict.{IsConsistent, IsLeastConflict}
-use Rattle.hprof_heap.specs.Dump.{canonical_dump}
-use Rattle.hprof_heap.specs.Order.{IsCanonicalOrder}
+use Rattle.hprof_rows.specs.declared.key.Key.{Key}
+use Rattle.hprof_rows.specs.Conflict.{IsConsistent, IsLeastConflict}
+use Rattle.hprof_dump.specs.Dump.{canonical_dump}
+use Rattle.hprof_rows.specs.Order.{IsCanonicalOrder}
 use Rattle.hprof_heap.specs.Gathering.{Gathered, Given, Gathers, IsNewBehind}
 use Rattle.hprof_heap.specs.State.{IsState}
 use Rattle.hprof_engine.specs.declared.tool_fault.ToolFault.{ToolFault}

@@ -3,14 +3,14 @@
 ghost use Rattle.std.specs.Prelude.{◌≡◌, ◌↔◌, ℕ, List, [], length, All, IfOk, Err};
 ghost use Rattle.std.specs.List.{AllByRecursion};
 ghost use Rattle.std.specs.Io.KnownBytes.{Appends};
-ghost use Rattle.hprof_items.specs.declared.health.Health.TheVariants.{Well};
-ghost use Rattle.hprof_items.specs.declared.health.WriteFault.{WriteFault};
+ghost use Rattle.hprof_devices.specs.declared.health.Health.TheVariants.{Well};
+ghost use Rattle.hprof_devices.specs.declared.health.WriteFault.{WriteFault};
 ghost use Rattle.hprof_values.specs.declared.ids.IdSize.{IdSize};
-ghost use Rattle.hprof_items.specs.Device.{health_after};
+ghost use Rattle.hprof_devices.specs.Device.{health_after};
 ghost use Rattle.hprof_items.specs.FactValue.{FactValue};
 ghost use Rattle.hprof_stream.specs.declared.part_fault.PartFault.{PartFault};
-ghost use Rattle.hprof_heap.specs.declared.key.Key.{Key};
-ghost use Rattle.hprof_heap.specs.Dump.{canonical_dump};
+ghost use Rattle.hprof_rows.specs.declared.key.Key.{Key};
+ghost use Rattle.hprof_dump.specs.Dump.{canonical_dump};
 ghost use Rattle.hprof_heap.specs.Heap.{heap_of};
 ghost use Rattle.hprof_heap.specs.State.{IsState, HaveTwoSizes};
 ghost use Rattle.hprof_engine.specs.Joining.{joined_of, Tell, Joins, StopsWriting, Disagree, IsAccepted, RefusesPart, AreReadOut};
@@ -19,8 +19,8 @@ ghost use Rattle.hprof_engine.specs.Joining.{read_count, AreRead, IsHindered, Is
 use crate::joined::{Joined, Kept};
 use crate::read::read_heap;
 use crate::tool_fault::ToolFault;
-use hprof_heap::write_canonical;
-use hprof_items::{Source, Target};
+use hprof_devices::{Source, Target};
+use hprof_dump::write_canonical;
 use hprof_stream::Limits;
 use std::alloc::Global;
 

@@ -4,11 +4,11 @@ ghost use Rattle.std.specs.Prelude.{◌≡◌, ◌↔◌, ℕ, List, [], ◌∷�
 ghost use Rattle.hprof_values.specs.declared.ids.IdSize.{IdSize};
 ghost use Rattle.hprof_items.specs.FactValue.{FactValue};
 ghost use Rattle.hprof_stream.specs.Part.{IsPart};
-ghost use Rattle.hprof_heap.specs.declared.key.Key.{Key};
-ghost use Rattle.hprof_heap.specs.Conflict.{IsConsistent, IsLeastConflict};
-ghost use Rattle.hprof_heap.specs.Dump.{canonical_dump};
-ghost use Rattle.hprof_heap.specs.Facts.{SameFacts};
-ghost use Rattle.hprof_heap.specs.HeapValue.{IsHeap};
+ghost use Rattle.hprof_rows.specs.declared.key.Key.{Key};
+ghost use Rattle.hprof_rows.specs.Conflict.{IsConsistent, IsLeastConflict};
+ghost use Rattle.hprof_dump.specs.Dump.{canonical_dump};
+ghost use Rattle.hprof_rows.specs.Facts.{SameFacts};
+ghost use Rattle.hprof_rows.specs.HeapValue.{IsHeap};
 ghost use Rattle.hprof_heap.specs.State.{IsState};
 ghost use Rattle.hprof_engine.specs.Dividing.{AreDivided};
 ghost use Rattle.hprof_engine.specs.Joining.{Agree, Disagree};

@@ -1,15 +1,15 @@
 //! Reading all parts into one gatherer.
 
 ghost use Rattle.std.specs.Prelude.{◌≡◌, length, All};
-ghost use Rattle.hprof_items.specs.declared.health.Health.TheVariants.{Well};
+ghost use Rattle.hprof_devices.specs.declared.health.Health.TheVariants.{Well};
 ghost use Rattle.hprof_heap.specs.Gathering.{gathered, nothing_gathered};
 ghost use Rattle.hprof_engine.specs.Joining.{ReadsAll, read_count};
 ghost use Rattle.hprof_engine.specs.Summaries.{KeepsFirst};
 
 use crate::summaries::Summaries;
 use crate::tool_fault::ToolFault;
+use hprof_devices::Source;
 use hprof_heap::Gatherer;
-use hprof_items::Source;
 use hprof_stream::{Limits, read_part};
 use std::alloc::Global;
 

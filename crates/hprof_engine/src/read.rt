@@ -2,12 +2,12 @@
 
 ghost use Rattle.std.specs.Prelude.{◌≡◌, ◌↔◌, ℕ, List, [], length, All, IfOk, Err};
 ghost use Rattle.std.specs.List.{AllByRecursion};
-ghost use Rattle.hprof_items.specs.declared.health.Health.TheVariants.{Well};
-ghost use Rattle.hprof_items.specs.declared.health.WriteFault.{WriteFault};
+ghost use Rattle.hprof_devices.specs.declared.health.Health.TheVariants.{Well};
+ghost use Rattle.hprof_devices.specs.declared.health.WriteFault.{WriteFault};
 ghost use Rattle.hprof_values.specs.declared.ids.IdSize.{IdSize};
 ghost use Rattle.hprof_items.specs.FactValue.{FactValue};
 ghost use Rattle.hprof_stream.specs.declared.part_fault.PartFault.{PartFault};
-ghost use Rattle.hprof_heap.specs.declared.key.Key.{Key};
+ghost use Rattle.hprof_rows.specs.declared.key.Key.{Key};
 ghost use Rattle.hprof_heap.specs.Heap.{heap_of};
 ghost use Rattle.hprof_heap.specs.State.{IsState, HaveTwoSizes};
 ghost use Rattle.hprof_engine.specs.Joining.{Tell, Agree, Disagree, IsAccepted, RefusesPart, AreReadOut, read_count, AreRead, IsHindered};
@@ -17,8 +17,8 @@ ghost use Rattle.hprof_engine.specs.Summaries.{KeepsFirst, KeepsSummaries};
 use crate::parts::read_parts;
 use crate::summaries::Summaries;
 use crate::tool_fault::ToolFault;
+use hprof_devices::Source;
 use hprof_heap::{Gatherer, Heap, Refusal};
-use hprof_items::Source;
 use hprof_stream::Limits;
 use std::alloc::Global;
 

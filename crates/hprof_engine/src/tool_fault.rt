@@ -4,8 +4,8 @@ ghost use Rattle.std.specs.Prelude.{◌≡◌, ◌++◌, IfOk, codes, decimal, s
 ghost use Rattle.hprof_text.specs.Identifier.{id_digits};
 ghost use Rattle.hprof_engine.specs.FaultText.{IsFaultText, IsPartText, conflict_text};
 
+use hprof_devices::WriteFault;
 use hprof_heap::Key;
-use hprof_items::WriteFault;
 use hprof_stream::PartFault;
 use hprof_text::push_id;
 use std::alloc::{AllocError, Global};

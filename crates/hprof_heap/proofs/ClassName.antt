@@ -4,18 +4,17 @@ use Rattle.std.proofs.Common.{inr, arith}
 use Rattle.std.specs.Prelude.{slice_index}
 use Rattle.std.specs.List.{filter}
 use Rattle.hprof_items.specs.FactValue.{FactValue, Load}
-use Rattle.hprof_heap.specs.declared.number_rows.LoadRow.{LoadRow}
-use Rattle.hprof_heap.specs.declared.table.Table.TheVariants as tables
+use Rattle.hprof_rows.specs.declared.number_rows.LoadRow.{LoadRow}
+use Rattle.hprof_rows.specs.declared.table.Table.TheVariants as tables
 use Rattle.hprof_heap.specs.ClassName.{NamesClass}
-use Rattle.hprof_heap.specs.Facts.{Has}
-use Rattle.hprof_heap.specs.Heap.{stands_in}
-use Rattle.hprof_heap.specs.HeapRows.{HeapRows, AreHeap, heap_of_rows, load_facts, tables_of}
-use Rattle.hprof_heap.specs.Order.{place_of}
+use Rattle.hprof_rows.specs.Facts.{Has}
+use Rattle.hprof_rows.specs.Tables.{stands_in, joined}
+use Rattle.hprof_rows.specs.HeapRows.{HeapRows, AreHeap, heap_of_rows, load_facts, tables_of}
+use Rattle.hprof_rows.specs.Order.{place_of}
 use Rattle.hprof_tables.specs.SortedRows.{IsAscending}
-use Rattle.hprof_heap.specs.Tables.{joined}
-use Rattle.hprof_heap.proofs.HeapRows.{table_facts}
+use Rattle.hprof_rows.proofs.HeapRows.{table_facts}
 use Rattle.hprof_tables.proofs.SortedRows.{AllKeys, ascending_head, ascending_tail}
-use Rattle.hprof_heap.proofs.TableRows.{has_joined}
+use Rattle.hprof_rows.proofs.ReadBack.{has_joined}
 
 -- ---- two loads that are one
 

@@ -4,20 +4,19 @@ use Rattle.std.proofs.lemmas.List.{append-nil}
 use Rattle.std.specs.List.{filter}
 use Rattle.std.specs.Prelude.{Bool, true, false}
 use Rattle.hprof_items.specs.FactValue.{FactValue}
-use Rattle.hprof_heap.specs.declared.table.Table.{Table}
-use Rattle.hprof_heap.specs.declared.table.Table.TheVariants as tables
-use Rattle.hprof_heap.specs.Conflict.{IsConsistent}
-use Rattle.hprof_heap.specs.Facts.{Has, SameFacts}
-use Rattle.hprof_heap.specs.Heap.{facts_of_table, number_of_table, stands_in}
-use Rattle.hprof_heap.specs.HeapRows.{HeapRows, AreHeap, heap_of_rows, tables_of}
-use Rattle.hprof_heap.specs.HeapValue.{HeapValue, IsHeap}
+use Rattle.hprof_rows.specs.declared.table.Table.{Table}
+use Rattle.hprof_rows.specs.declared.table.Table.TheVariants as tables
+use Rattle.hprof_rows.specs.Conflict.{IsConsistent}
+use Rattle.hprof_rows.specs.Facts.{Has, SameFacts}
+use Rattle.hprof_rows.specs.Tables.{facts_of_table, number_of_table, stands_in, joined}
+use Rattle.hprof_rows.specs.HeapRows.{HeapRows, AreHeap, heap_of_rows, tables_of}
+use Rattle.hprof_rows.specs.HeapValue.{HeapValue, IsHeap}
 use Rattle.hprof_heap.specs.Join.{IsBetween, LacksFact, LacksFactIn, TakesFacts}
-use Rattle.hprof_heap.specs.Tables.{joined}
-use Rattle.hprof_heap.proofs.Conflicts.{IsConsistent-same}
-use Rattle.hprof_heap.proofs.FactSets.{Has-front, Has-back, Has-both, SameFacts-refl, SameFacts-sym, SameFacts-trans, SameFacts-append}
-use Rattle.hprof_heap.proofs.HeapRows.{table_facts}
+use Rattle.hprof_rows.proofs.Conflicts.{IsConsistent-same}
+use Rattle.hprof_rows.proofs.FactSets.{Has-front, Has-back, Has-both, SameFacts-refl, SameFacts-sym, SameFacts-trans, SameFacts-append}
+use Rattle.hprof_rows.proofs.HeapRows.{table_facts}
 use Rattle.hprof_heap.proofs.Joins.{between_facts}
-use Rattle.hprof_heap.proofs.Tables.{table_at}
+use Rattle.hprof_rows.proofs.Tables.{table_at}
 
 -- ---- the facts of tables
 

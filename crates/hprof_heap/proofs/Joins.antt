@@ -12,20 +12,21 @@ use Rattle.hprof_tables.specs.declared.relation.Stated.{Stated}
 use Rattle.hprof_tables.specs.declared.relation.Stated.TheVariants.{New, Same, Differs}
 use Rattle.hprof_heap.specs.declared.join_refusal.JoinRefusal.{JoinRefusal}
 use Rattle.hprof_heap.specs.declared.join_refusal.JoinRefusal.TheVariants as refusals
-use Rattle.hprof_heap.specs.declared.key.Key.{Key}
-use Rattle.hprof_heap.specs.Conflict.{IsConsistent, IsLeastConflict}
-use Rattle.hprof_heap.specs.Facts.{Has, SameFacts, AllFit}
-use Rattle.hprof_heap.specs.Gathering.{HasOther, StatesInto, mark_after}
-use Rattle.hprof_heap.specs.HeapValue.{HeapValue, IsHeap}
+use Rattle.hprof_rows.specs.declared.key.Key.{Key}
+use Rattle.hprof_rows.specs.Conflict.{IsConsistent, IsLeastConflict}
+use Rattle.hprof_rows.specs.Facts.{Has, SameFacts, AllFit}
+use Rattle.hprof_rows.specs.Stating.{HasOther, StatesInto}
+use Rattle.hprof_heap.specs.Gathering.{mark_after}
+use Rattle.hprof_rows.specs.HeapValue.{HeapValue, IsHeap}
 use Rattle.hprof_heap.specs.Join.{IsUnion, IsBetween, IsJoin}
-use Rattle.hprof_heap.proofs.Conflicts.{IsConsistent-same, IsConsistent-some, IsLeastConflict-same, one_least, no_conflict}
-use Rattle.hprof_heap.proofs.FactEquality.{one_or_two}
-use Rattle.hprof_heap.proofs.FactSets.{Has-parts, Has-front, Has-back, Has-both, SameFacts-refl, SameFacts-sym, SameFacts-trans}
-use Rattle.hprof_heap.proofs.FactSets.{SameFacts-append, SameFacts-turned, SameFacts-twice}
+use Rattle.hprof_rows.proofs.Conflicts.{IsConsistent-same, IsConsistent-some, IsLeastConflict-same, one_least, no_conflict}
+use Rattle.hprof_rows.proofs.FactEquality.{one_or_two}
+use Rattle.hprof_rows.proofs.FactSets.{Has-parts, Has-front, Has-back, Has-both, SameFacts-refl, SameFacts-sym, SameFacts-trans}
+use Rattle.hprof_rows.proofs.FactSets.{SameFacts-append, SameFacts-turned, SameFacts-twice}
 use Rattle.hprof_heap.proofs.Gathering.{Holds, holds_new, holds_same, holds_differs, holds_all, holds_least}
-use Rattle.hprof_heap.proofs.Inserting.{agreeing-order, find-Some, inserted, inserted-adds, states-sound}
-use Rattle.hprof_heap.proofs.Keys.{same_place, same_place-true, HaveOneKey-sym}
-use Rattle.hprof_heap.proofs.Order.{one_order, order_agrees}
+use Rattle.hprof_rows.proofs.Inserting.{agreeing-order, find-Some, inserted, inserted-adds, states-sound}
+use Rattle.hprof_rows.proofs.Keys.{same_place, same_place-true, HaveOneKey-sym}
+use Rattle.hprof_rows.proofs.Order.{one_order, order_agrees}
 
 -- ---- heaps as values
 

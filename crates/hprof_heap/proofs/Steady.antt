@@ -8,10 +8,11 @@ use Rattle.hprof_heap.specs.declared.gatherer.Gatherer.{Gatherer}
 use Rattle.hprof_heap.specs.declared.heap.Heap.{Heap}
 use Rattle.hprof_tables.specs.declared.relation.Stated.{Stated}
 use Rattle.hprof_tables.specs.declared.relation.Stated.TheVariants.{New, Same, Differs}
-use Rattle.hprof_heap.specs.HeapValue.{HeapValue}
+use Rattle.hprof_rows.specs.HeapValue.{HeapValue}
 use Rattle.hprof_heap.specs.Heap.{heap_of}
 use Rattle.hprof_heap.specs.Steady.{IsSteady}
-use Rattle.hprof_heap.specs.Gathering.{gathered, StatesInto, Takes, mark_after}
+use Rattle.hprof_rows.specs.Stating.{StatesInto}
+use Rattle.hprof_heap.specs.Gathering.{gathered, Takes, mark_after}
 
 -- stating a fact keeps the size
 pub states_ids : {E : Type 0} (r : Result Stated E) (heap new : HeapValue) (fact : FactValue)

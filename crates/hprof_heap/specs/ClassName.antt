@@ -1,7 +1,7 @@
 -- The name of a class.
 use Rattle.std.specs.Prelude.{◌≤◌, ℕ, List, Option, Some, None}
 use Rattle.hprof_items.specs.FactValue.{FactValue, Load}
-use Rattle.hprof_heap.specs.Facts.{Has}
+use Rattle.hprof_rows.specs.Facts.{Has}
 
 -- of the facts that load the class, the one of least serial gives it this name
 pub record IsNamedFirst (facts : List FactValue) (class name : ℕ) : Type 0 where

@@ -9,18 +9,19 @@ use Rattle.hprof_items.specs.FactValue.{FactValue}
 use Rattle.hprof_stream.specs.Run.{Run}
 use Rattle.hprof_heap.specs.declared.gatherer.Gatherer.{Gatherer}
 use Rattle.hprof_heap.specs.declared.heap.Heap.{Heap}
-use Rattle.hprof_heap.specs.declared.key.Key.{Key}
+use Rattle.hprof_rows.specs.declared.key.Key.{Key}
 use Rattle.hprof_tables.specs.declared.relation.Stated.{Stated}
 use Rattle.hprof_tables.specs.declared.relation.Stated.TheVariants.{New, Same, Differs}
 use Rattle.hprof_heap.specs.declared.standing.Refusal.{Refusal}
 use Rattle.hprof_heap.specs.declared.standing.Refusal.TheVariants as refusals
 use Rattle.hprof_heap.specs.declared.standing.Standing.{Standing}
 use Rattle.hprof_heap.specs.declared.standing.Standing.TheVariants as standings
-use Rattle.hprof_heap.specs.Key.{HaveOneKey, key_of, lesser_key}
-use Rattle.hprof_heap.specs.Facts.{Has, SameFacts}
-use Rattle.hprof_heap.specs.Conflict.{IsConsistent, IsLeastConflict}
+use Rattle.hprof_rows.specs.Key.{key_of, lesser_key}
+use Rattle.hprof_rows.specs.Facts.{SameFacts}
+use Rattle.hprof_rows.specs.Conflict.{IsConsistent, IsLeastConflict}
 use Rattle.hprof_heap.specs.State.{IsLeastOf}
-use Rattle.hprof_heap.specs.HeapValue.{HeapValue, IsHeap}
+use Rattle.hprof_rows.specs.HeapValue.{HeapValue, IsHeap}
+use Rattle.hprof_rows.specs.Stating.{IsNewAmong, StatesInto}
 use Rattle.hprof_heap.specs.Heap.{heap_of}
 
 -- the heap so far, if a part was begun; the size that was begun last; the least key that came with two contents;
@@ -77,39 +78,11 @@ pub record Begins (old : Gathered) (header : Header) (new : Gathered) : Type 0 w
 
 -- ---- a fact
 
--- a fact at a new key is added: the facts are this one and those that were there, in canonical order
-pub record Adds (heap : HeapValue) (fact : FactValue) (new : HeapValue) : Type 0 where
-  pub is_new : (other : FactValue) → Has heap.facts other → HaveOneKey other fact → ⊥
-  pub absent : Has heap.facts fact → ⊥
-  pub ids : new.ids ≡ heap.ids
-  pub millis : new.millis ≡ heap.millis
-  pub facts : SameFacts new.facts (fact ∷ heap.facts)
-  pub is_heap : IsHeap new
-
--- none of the facts has its key, and it is not one of them
-pub record IsNewAmong (facts : List FactValue) (fact : FactValue) : Type 0 where
-  pub is_new : (other : FactValue) → Has facts other → HaveOneKey other fact → ⊥
-  pub absent : Has facts fact → ⊥
-
 -- a fact was given that is new to the heap, while one size was begun
 abbrev pub LacksRow : Gathered → List FactValue → Type 0
 LacksRow gathered [] = ⊥
 LacksRow gathered (fact ∷ rest) = (gathered.two_sizes ≡ false) × ((heap : HeapValue) × (gathered.heap ≡ Some heap)
     × IsNewAmong heap.facts fact)
-
--- another fact than this one is there with its key
-pub record HasOther (facts : List FactValue) (fact : FactValue) : Type 0 where
-  pub other : FactValue
-  pub has_other : Has facts other
-  pub one_key : HaveOneKey other fact
-  pub differ : other ≢ fact
-
--- what stating a fact does to a heap: one at a new key is added; nothing changes where it is there, or another one with
--- its key
-abbrev pub StatesInto : HeapValue → FactValue → Stated → HeapValue → Type 0
-StatesInto heap fact New new = Adds heap fact new
-StatesInto heap fact Same new = Has heap.facts fact × (new ≡ heap)
-StatesInto heap fact Differs new = HasOther heap.facts fact × (new ≡ heap)
 
 -- the mark of the least conflict, where there is one more
 abbrev pub marked : Option Key → Option Key → Option Key

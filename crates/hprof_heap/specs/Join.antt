@@ -3,11 +3,11 @@ use Rattle.std.specs.Prelude.{◌≡◌, ◌≢◌, ◌++◌, min, List, Result,
 use Rattle.hprof_heap.specs.declared.join_refusal.JoinRefusal.{JoinRefusal}
 use Rattle.hprof_heap.specs.declared.join_refusal.JoinRefusal.TheVariants as refusals
 use Rattle.hprof_items.specs.FactValue.{FactValue}
-use Rattle.hprof_heap.specs.Conflict.{IsConsistent, IsLeastConflict}
-use Rattle.hprof_heap.specs.declared.table.Table.{Table}
-use Rattle.hprof_heap.specs.Facts.{Has, SameFacts}
-use Rattle.hprof_heap.specs.Heap.{facts_of_table}
-use Rattle.hprof_heap.specs.HeapValue.{HeapValue, IsHeap}
+use Rattle.hprof_rows.specs.Conflict.{IsConsistent, IsLeastConflict}
+use Rattle.hprof_rows.specs.declared.table.Table.{Table}
+use Rattle.hprof_rows.specs.Facts.{Has, SameFacts}
+use Rattle.hprof_rows.specs.Tables.{facts_of_table}
+use Rattle.hprof_rows.specs.HeapValue.{HeapValue, IsHeap}
 
 -- the heap of both: they have one size, which is its size; the earlier time; the facts of both, in canonical order, so that
 -- they agree

@@ -4,7 +4,7 @@ use Rattle.std.specs.List.{AllByRecursion, Contains, flat_map}
 use Rattle.hprof_values.specs.declared.ids.IdSize.{IdSize}
 use Rattle.hprof_items.specs.FactValue.{FactValue}
 use Rattle.hprof_stream.specs.Part.{IsPart}
-use Rattle.hprof_heap.specs.Facts.{SameFacts}
+use Rattle.hprof_rows.specs.Facts.{SameFacts}
 
 -- what one part states
 pub record PartState : Type 0 where

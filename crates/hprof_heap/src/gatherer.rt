@@ -4,13 +4,13 @@ ghost use Rattle.std.specs.Prelude.{◌≡◌, List, Some};
 ghost use Rattle.std.specs.Option.{option_map};
 ghost use Rattle.std.specs.Result.{result_ok};
 ghost use Rattle.hprof_items.specs.FactValue.{value_of};
-ghost use Rattle.hprof_heap.specs.Key.{key_of};
+ghost use Rattle.hprof_rows.specs.Key.{key_of};
 ghost use Rattle.hprof_heap.specs.Steady.{IsSteady, IsSteady-prop};
 
 use crate::heap::Heap;
-use crate::key::Key;
 use crate::standing::{Refusal, Standing};
 use hprof_items::{Fact, Header, IdSize};
+use hprof_rows::Key;
 use hprof_stream::{Sink, SinkFault};
 use hprof_tables::Stated;
 use std::alloc::Global;

@@ -2,30 +2,27 @@
 
 ghost use Rattle.std.specs.Prelude.{◌≡◌, [], ◌∷◌, length, find, min, ◌↔◌, OnErr, IfOk, IfSome, IsTrue};
 ghost use Rattle.std.specs.Option.{option_map};
-ghost use Rattle.hprof_values.specs.Lists.{identifiers_of, identifiers_size};
+ghost use Rattle.hprof_lists.specs.Lists.{identifiers_of, identifiers_size};
 ghost use Rattle.hprof_items.specs.FactValue.{Name, Load, Unload, Frame, Trace, Start, End, Rooted, ListsHave, value_of};
 ghost use Rattle.hprof_items.specs.Spelling.{Fits};
 ghost use Rattle.hprof_items.specs.SubRecord.{dump_bytes};
-ghost use Rattle.hprof_heap.specs.declared.key.Key.TheVariants as keys;
-ghost use Rattle.hprof_heap.specs.Key.{has_key};
-ghost use Rattle.hprof_heap.specs.HeapRows.{AreHeap, AreHeap-prop, HaveSameRecords, HaveSameSubs};
-ghost use Rattle.hprof_heap.specs.HeapValue.{IsHeap};
-ghost use Rattle.hprof_heap.specs.Order.{IsCanonicalOrder, place_of};
+ghost use Rattle.hprof_rows.specs.declared.key.Key.TheVariants as keys;
+ghost use Rattle.hprof_rows.specs.Key.{has_key};
+ghost use Rattle.hprof_rows.specs.HeapRows.{AreHeap, AreHeap-prop, HaveSameRecords, HaveSameSubs};
+ghost use Rattle.hprof_rows.specs.HeapValue.{IsHeap};
+ghost use Rattle.hprof_rows.specs.Order.{IsCanonicalOrder, place_of};
 ghost use Rattle.hprof_tables.specs.Relation.{rows_of};
-ghost use Rattle.hprof_heap.specs.RootSet.{roots_of};
+ghost use Rattle.hprof_rows.specs.RootSet.{roots_of};
 ghost use Rattle.hprof_tables.specs.BytesTable.{byte_rows};
 
-use crate::facts::Facts;
-use crate::number_rows::{FrameRow, KeyRow, LoadRow, StartRow};
-use crate::root_set::RootSet;
-use crate::spelled::spelled_fact;
-use crate::sub_rows::SubRows;
-use crate::table::Table;
-use crate::table_rows::TableRows;
-use crate::trace_row::{TraceFrames, TraceRow};
 use hprof_items::Fact;
+use hprof_lists::IdList;
+use hprof_rows::{
+    Facts, FrameRow, KeyRow, LoadRow, RootSet, StartRow, SubRows, Table, TableRows, TraceFrames,
+    TraceRow, spelled_fact,
+};
 use hprof_tables::{BytesTable, Relation, Stated};
-use hprof_values::{IdList, IdSize, Root};
+use hprof_values::{IdSize, Root};
 use std::alloc::{AllocError, Global};
 
 mod differing;
@@ -63,13 +60,14 @@ pub struct Heap {
 }
 
 impl Heap {
-    ghost use Rattle.hprof_heap.specs.Heap.{heap_of, rows_in, facts_of_table};
-    ghost use Rattle.hprof_heap.specs.Gathering.{StatesInto, IsNewAmong};
-    ghost use Rattle.hprof_heap.specs.TableRows.{AreReadable, facts_in_rows};
+    ghost use Rattle.hprof_rows.specs.Tables.{facts_of_table};
+    ghost use Rattle.hprof_heap.specs.Heap.{heap_of, rows_in};
+    ghost use Rattle.hprof_rows.specs.Stating.{StatesInto, IsNewAmong};
+    ghost use Rattle.hprof_rows.specs.TableRows.{AreReadable, facts_in_rows};
     ghost use Rattle.hprof_heap.specs.ClassName.{NamesClass};
-    ghost use Rattle.hprof_heap.specs.FactsLeft.{facts_left, facts_ids};
-    ghost use Rattle.hprof_heap.specs.Dump.{sub_facts};
-    ghost use Rattle.hprof_heap.specs.SubRows.{subs_left, subs_ids};
+    ghost use Rattle.hprof_rows.specs.FactsLeft.{facts_left, facts_ids};
+    ghost use Rattle.hprof_rows.specs.SubFacts.{sub_facts};
+    ghost use Rattle.hprof_rows.specs.SubRows.{subs_left, subs_ids};
 
     /// A heap without facts. It takes no memory yet.
     pub(crate) fn new(alloc: Global, ids: IdSize, millis: u64) -> Self

@@ -1,6 +1,6 @@
 //! Why a heap is not joined with another.
 
-use crate::key::Key;
+use hprof_rows::Key;
 
 /// Why a heap is not joined with another.
 #[derive(Clone, Copy, Debug, PartialEq, Eq)]

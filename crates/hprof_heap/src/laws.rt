@@ -3,18 +3,15 @@
 ghost use Rattle.std.specs.Prelude.{◌≡◌, ℕ, List, Result, Ok};
 ghost use Rattle.hprof_values.specs.declared.ids.IdSize.{IdSize};
 ghost use Rattle.hprof_items.specs.FactValue.{FactValue};
-ghost use Rattle.hprof_stream.specs.Part.{IsPart};
 ghost use Rattle.hprof_heap.specs.declared.gatherer.Gatherer.{Gatherer};
 ghost use Rattle.hprof_heap.specs.declared.join_refusal.JoinRefusal.{JoinRefusal};
-ghost use Rattle.hprof_heap.specs.declared.key.Key.{Key};
-ghost use Rattle.hprof_heap.specs.Conflict.{IsConsistent, IsLeastConflict};
-ghost use Rattle.hprof_heap.specs.Dump.{canonical_dump};
-ghost use Rattle.hprof_heap.specs.Facts.{SameFacts};
+ghost use Rattle.hprof_rows.specs.declared.key.Key.{Key};
+ghost use Rattle.hprof_rows.specs.Conflict.{IsConsistent, IsLeastConflict};
+ghost use Rattle.hprof_rows.specs.Facts.{SameFacts};
 ghost use Rattle.hprof_heap.specs.Gathering.{Given, Gathers, Tells, answer_of, gathered, nothing_gathered};
-ghost use Rattle.hprof_heap.specs.HeapValue.{HeapValue, IsHeap};
+ghost use Rattle.hprof_rows.specs.HeapValue.{HeapValue, IsHeap};
 ghost use Rattle.hprof_heap.specs.Join.{IsBetween, IsJoin, IsUnion};
-ghost use Rattle.hprof_heap.specs.Order.{IsCanonicalOrder};
-ghost use Rattle.hprof_heap.specs.Segments.{IsPacked, packed};
+ghost use Rattle.hprof_rows.specs.Order.{IsCanonicalOrder};
 
 /// A set of facts that agree has a list in canonical order.
 pub fn agreeing_facts_have_an_order()
@@ -45,20 +42,6 @@ pub fn conflicts_are_of_the_set()
 pub fn answers_tell_of_the_parts()
     ensures { (parts : List Given) (gatherer : Gatherer) → Gathers nothing_gathered parts (gathered gatherer)
         → Tells parts (answer_of (gathered gatherer)) }
-{}
-
-/// There is one way to divide sub-records among segments that are as full as they can be, whatever their sizes and
-/// the most that a segment of more than one may have: each goes into the segment that was begun last, where it has room.
-pub fn sub_records_are_packed_in_one_way()
-    ensures once { (size : FactValue → ℕ) (most : ℕ) (subs : List FactValue) (segments others : List (List FactValue))
-        → IsPacked size most subs segments → IsPacked size most subs others → segments ≡ others }
-    ensures greedy { (size : FactValue → ℕ) (most : ℕ) (subs : List FactValue) → IsPacked size most subs (packed size most subs) }
-{}
-
-/// The canonical dump of a heap is a part, and states the heap's facts, each once.
-pub fn dump_reads_back()
-    ensures { (ids : IdSize) (millis : ℕ) (rows : List FactValue) → IsHeap (record { ids = ids; millis = millis; facts = rows })
-        → IsPart (canonical_dump ids millis rows) ids millis rows }
 {}
 
 /// Two heaps come to one thing, the heap of both or a refusal, and in either order to the same. A heap that is joined with an

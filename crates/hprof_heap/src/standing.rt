@@ -1,6 +1,6 @@
 //! What a gatherer comes to.
 
-use crate::key::Key;
+use hprof_rows::Key;
 
 /// How a gatherer stands.
 #[derive(Clone, Copy, Debug, PartialEq, Eq)]

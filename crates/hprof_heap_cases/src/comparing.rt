@@ -3,8 +3,9 @@
 use crate::samples::{array, begun, heap_of, load_of};
 use hprof_heap::same;
 use hprof_items::{Fact, IdSize};
+use hprof_lists::{ConstantList, FieldList, IdList, StaticList};
 use hprof_tables::{BytesTable, Relation, Stated};
-use hprof_values::{Basic, ConstantList, FieldList, IdList, Root, StaticList};
+use hprof_values::{Basic, Root};
 use std::alloc::Global;
 use std::process::Abort;
 use std::test::*;

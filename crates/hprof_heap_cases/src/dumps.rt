@@ -1,8 +1,10 @@
 //! Tests of the canonical dump.
 
 use crate::samples::{array, give, heap_of};
-use hprof_heap::{Gatherer, Heap, laws, write_canonical};
-use hprof_items::{Device, Fact, IdSize};
+use hprof_devices::Device;
+use hprof_dump::write_canonical;
+use hprof_heap::{Gatherer, Heap, laws};
+use hprof_items::{Fact, IdSize};
 use hprof_values::{Basic, Root};
 use std::alloc::Global;
 use std::process::Abort;

@@ -3,8 +3,9 @@
 use crate::samples::{array, begun, check_rows, heap_of, state_all, state_fact};
 use hprof_heap::Table;
 use hprof_items::{Fact, IdSize};
+use hprof_lists::{ConstantList, FieldList, IdList, StaticList};
 use hprof_tables::Stated;
-use hprof_values::{Basic, ConstantList, FieldList, IdList, Root, StaticList};
+use hprof_values::{Basic, Root};
 use std::test::*;
 
 fn load<'a>(serial: u32, class: u64, name: u64) -> Fact<'a> {

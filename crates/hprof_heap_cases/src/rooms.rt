@@ -3,7 +3,7 @@
 use crate::samples::{begun, state_all};
 use hprof_heap::Gatherer;
 use hprof_items::{Fact, IdSize};
-use hprof_values::IdList;
+use hprof_lists::IdList;
 use std::alloc::Global;
 use std::fs;
 use std::process::Abort;

@@ -5,11 +5,13 @@ ghost use Rattle.hprof_items.specs.FactValue.{value_of};
 ghost use Rattle.hprof_items.specs.SubRecord.{dump_bytes};
 ghost use Rattle.hprof_heap.specs.Gathering.{gathered};
 
+use hprof_devices::Device;
 use hprof_heap::{Gatherer, Heap, LoadRow, Table};
-use hprof_items::{Device, Fact, Header, IdSize, Step, Version, fits, read_sub, write_fact};
+use hprof_items::{Fact, Header, IdSize, Step, Version, read_sub};
 use hprof_stream::{Sink, SinkFault};
 use hprof_tables::Stated;
 use hprof_values::Basic;
+use hprof_writing::{fits, write_fact};
 use std::alloc::Global;
 use std::process::Abort;
 use std::test::Fail;

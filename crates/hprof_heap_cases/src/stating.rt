@@ -3,8 +3,8 @@
 use crate::samples::{begun, state_record, state_sub};
 use hprof_heap::{Key, Refusal, Standing, Table};
 use hprof_items::{Fact, IdSize};
+use hprof_lists::IdList;
 use hprof_tables::Stated;
-use hprof_values::IdList;
 use std::test::*;
 
 #[test]

@@ -1,7 +1,7 @@
 //! Tables of rows.
 
 ghost use Rattle.std.specs.Prelude.{◌≡◌, Some, IfOk};
-ghost use Rattle.hprof_heap.specs.NumberRows.{load_numbers};
+ghost use Rattle.hprof_rows.specs.NumberRows.{load_numbers};
 ghost use Rattle.hprof_heap.specs.Gathering.{gathered};
 
 use crate::samples::{begun, load_of, state_record};

@@ -2,7 +2,6 @@ pub mod Steps
 pub mod Headers
 pub mod RecordBodies
 pub mod Heads
-pub mod Writes
 pub mod Limits
 pub mod SubRecords
 pub mod ArrayRecords
@@ -13,5 +12,3 @@ pub mod WalksMore
 pub mod WalksReads
 pub mod Walks
 pub mod WalksFronts
-pub mod Fronts
-pub mod Lengths

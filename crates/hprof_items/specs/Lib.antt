@@ -10,4 +10,3 @@ pub mod ObjectTag
 pub mod Spelling
 pub mod Reading
 pub mod SubReading
-pub mod Device

@@ -4,14 +4,15 @@ ghost use Rattle.std.specs.Prelude.{◌≡◌, ◌≤◌, length, sum, Ok, Err, 
 ghost use Rattle.hprof_values.specs.Fields.{fields_in};
 ghost use Rattle.hprof_values.specs.Item.{bounds_of};
 ghost use Rattle.hprof_values.specs.declared.ids.IdSize.{IdSize};
-ghost use Rattle.hprof_values.specs.Lists.{constants_of, constants_size, statics_of, statics_size, fields_of, fields_size};
+ghost use Rattle.hprof_lists.specs.Lists.{constants_of, constants_size, statics_of, statics_size, fields_of, fields_size};
 ghost use Rattle.hprof_items.specs.ClassDump.{class_widths, class_of, class_at};
 ghost use Rattle.hprof_items.specs.Fronts.{class_front};
 ghost use Rattle.hprof_items.specs.FactValue.{value_of, ListsHave};
 
 use crate::fact::Fact;
+use hprof_lists::{ConstantList, EntryKind, FieldList, StaticList, list_at};
 use hprof_values::number::{split_id, split_u32};
-use hprof_values::{ConstantList, EntryKind, FieldList, IdSize, Item, StaticList, Stop, list_at};
+use hprof_values::{IdSize, Item, Stop};
 
 /// The fields of a class in front of its lists.
 #[derive(Clone, Copy, Debug)]

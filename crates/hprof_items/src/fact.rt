@@ -1,6 +1,7 @@
 //! What a record or a sub-record states, over its bytes.
 
-use hprof_values::{Basic, ConstantList, FieldList, IdList, Root, StaticList};
+use hprof_lists::{ConstantList, FieldList, IdList, StaticList};
+use hprof_values::{Basic, Root};
 
 /// What a record or a sub-record states.
 #[derive(Clone, Copy, Debug, PartialEq, Eq)]

@@ -10,15 +10,17 @@ use crate::step::Step;
 use byteorder::{BigEndian, ByteOrder};
 use hprof_values::{IdSize, Reason};
 
-/// The text that each version's header begins with, and the zero byte behind it.
-pub(crate) const TEXT_V101: &[u8; 19] = b"JAVA PROFILE 1.0.1\0";
+/// The text that a header of version 1.0.1 begins with, and the zero byte behind it.
+pub const TEXT_V101: &[u8; 19] = b"JAVA PROFILE 1.0.1\0";
 
-pub(crate) const TEXT_V102: &[u8; 19] = b"JAVA PROFILE 1.0.2\0";
+/// The text that a header of version 1.0.2 begins with, and the zero byte behind it.
+pub const TEXT_V102: &[u8; 19] = b"JAVA PROFILE 1.0.2\0";
 
-/// The number of bytes in a header's text, and in that and the size.
-pub(crate) const TEXT_LEN: usize = 19;
+/// The number of bytes in a header's text.
+pub const TEXT_LEN: usize = 19;
 
-pub(crate) const SIZED_LEN: usize = 23;
+/// The number of bytes in a header's text and the size of identifiers.
+pub const SIZED_LEN: usize = 23;
 
 fn version_in(text: &[u8]) -> Option<Version>
     ensures { result ≡ version_of text.now }

@@ -11,7 +11,8 @@ use crate::object_reading::{read_instance, read_obj_array, read_prim_array};
 use crate::root_reading::read_root;
 use crate::sub_reading::read_tag;
 use byteorder::{BigEndian, ByteOrder};
-use hprof_values::{EntryKind, IdSize, Item, Stop, SubTag, entry_end};
+use hprof_lists::{EntryKind, entry_end};
+use hprof_values::{IdSize, Item, Stop, SubTag};
 
 /// How far a sub-record was walked.
 #[derive(Clone, Copy, Debug, PartialEq, Eq)]

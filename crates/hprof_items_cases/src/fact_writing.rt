@@ -1,12 +1,11 @@
 //! What each fact is written as, and what has no spelling.
 
-use hprof_items::{
-    Basic, ConstantList, Device, Fact, FieldList, IdList, IdSize, Root, StaticList, fits, laws,
-    spelled_len, write_fact,
-};
+use hprof_devices::Device;
+use hprof_items::{Basic, ConstantList, Fact, FieldList, IdList, IdSize, Root, StaticList, laws};
+use hprof_writing::{fits, spelled_len, write_fact};
 use std::alloc::Global;
-use std::io;
 use std::io::Write;
+use std::io;
 use std::process::Abort;
 use std::test::*;
 

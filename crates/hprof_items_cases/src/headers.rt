@@ -1,9 +1,8 @@
 //! The header of a dump, and the heads of records.
 
-use hprof_items::{
-    Device, Head, Header, Health, IdSize, Reason, Step, Version, laws, read_head, read_header,
-    write_head, write_header,
-};
+use hprof_devices::{Device, Health};
+use hprof_items::{Head, Header, IdSize, Reason, Step, Version, laws, read_head, read_header};
+use hprof_writing::{write_head, write_header};
 use std::test::*;
 
 // The bytes of a dump by hand: the text, a size of 4, the time 1.

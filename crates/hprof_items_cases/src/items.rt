@@ -1,9 +1,8 @@
 //! Sub-records that are read.
 
-use hprof_items::{
-    Basic, ConstantList, Device, Fact, FieldList, IdList, IdSize, Reason, Root, StaticList, Step,
-    Stop, fits, laws, read_sub, read_sub_into, write_fact,
-};
+use hprof_devices::Device;
+use hprof_items::{Basic, ConstantList, Fact, FieldList, IdList, IdSize, Reason, Root, StaticList, Step, Stop, laws, read_sub, read_sub_into};
+use hprof_writing::{fits, write_fact};
 use std::test::*;
 
 // What a heap dump record with much room has at its front.

@@ -1,9 +1,7 @@
 //! Lists of identifiers and of a class's entries.
 
-use hprof_values::{
-    Basic, Constant, ConstantList, Field, FieldList, IdList, IdSize, Static, StaticList, Value,
-    laws,
-};
+use hprof_lists::{Constant, ConstantList, Field, FieldList, IdList, Static, StaticList, Value};
+use hprof_values::{Basic, IdSize, laws};
 use std::test::*;
 
 #[test]

@@ -4,10 +4,9 @@ ghost use Rattle.std.specs.Prelude.{IfSome};
 ghost use Rattle.hprof_items.specs.Spelling.{longest_body};
 ghost use Rattle.hprof_items.specs.Reading.{IsRightHead};
 
-use hprof_items::{
-    Device, Fact, HEAD_LEN, Head, HeadKind, IdList, IdSize, Reason, Step, fits, laws, read_body,
-    read_body_into, read_head, spelled_len, write_fact,
-};
+use hprof_devices::Device;
+use hprof_items::{Fact, HEAD_LEN, Head, HeadKind, IdList, IdSize, Reason, Step, laws, read_body, read_body_into, read_head};
+use hprof_writing::{fits, spelled_len, write_fact};
 use std::test::*;
 
 // What the record states that the bytes are, by its head and its body.

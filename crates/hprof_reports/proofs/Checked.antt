@@ -1,11 +1,11 @@
 -- What checking parts answers.
 use Rattle.std.proofs.Common.{◌≡◌, ℕ, List, [], ◌∷◌, ◌++◌, Option, Result, Ok, Err, refl, sym, ap, subst, ◌∙◌, append_assoc, append-nil}
 use Rattle.std.specs.Prelude.{IfOk, IsErrAnd, MatchResult}
-use Rattle.hprof_items.specs.Device.{Writes, LeavesHealth, health_after}
-use Rattle.hprof_items.specs.declared.health.Health.{Health}
-use Rattle.hprof_items.specs.declared.health.WriteFault.{WriteFault}
+use Rattle.hprof_devices.specs.Device.{Writes, LeavesHealth, health_after}
+use Rattle.hprof_devices.specs.declared.health.Health.{Health}
+use Rattle.hprof_devices.specs.declared.health.WriteFault.{WriteFault}
 use Rattle.hprof_stream.specs.declared.summary.PartSummary.{PartSummary}
-use Rattle.hprof_heap.specs.HeapValue.{HeapValue}
+use Rattle.hprof_rows.specs.HeapValue.{HeapValue}
 use Rattle.hprof_engine.specs.declared.tool_fault.ToolFault.{ToolFault}
 use Rattle.hprof_engine.specs.declared.tool_fault.ToolFault.TheVariants as tool
 use Rattle.hprof_engine.specs.Joining.{Agree}

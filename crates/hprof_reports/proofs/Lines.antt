@@ -7,13 +7,13 @@ use Rattle.std.specs.List.{flat_map}
 use Rattle.hprof_values.specs.declared.ids.IdSize.TheVariants.{Four}
 use Rattle.hprof_values.specs.Ids.{width_of}
 use Rattle.hprof_items.specs.declared.header.Version.TheVariants.{V101}
-use Rattle.hprof_items.specs.declared.health.WriteFault.{WriteFault}
-use Rattle.hprof_items.specs.Device.{Writes}
+use Rattle.hprof_devices.specs.declared.health.WriteFault.{WriteFault}
+use Rattle.hprof_devices.specs.Device.{Writes}
 use Rattle.hprof_items.specs.FactValue.{FactValue}
-use Rattle.hprof_items.proofs.Writes.{WritesFront, Writes-then, Writes-stops, Pushed}
+use Rattle.hprof_devices.proofs.Writes.{WritesFront, Writes-then, Writes-stops, Pushed}
 use Rattle.hprof_stream.specs.declared.summary.PartSummary.{PartSummary}
-use Rattle.hprof_heap.specs.declared.table.Table.{Table}
-use Rattle.hprof_heap.specs.Heap.{facts_of_table}
+use Rattle.hprof_rows.specs.declared.table.Table.{Table}
+use Rattle.hprof_rows.specs.Tables.{facts_of_table}
 use Rattle.hprof_reports.specs.Check.{all_tables, check_text, part_line, part_lines, table_word, table_line, version_text, yes_or_no}
 use Rattle.hprof_reports.specs.Line.{count_line}
 

@@ -22,12 +22,12 @@ use Rattle.hprof_stream.proofs.Faults.{item_once}
 use Rattle.hprof_stream.proofs.Lengths.{length-record, length-header}
 use Rattle.hprof_stream.proofs.Parts.{states_one, written_states}
 use Rattle.hprof_stream.proofs.SubFacts.{record_fits}
-use Rattle.hprof_heap.specs.declared.table.Table.TheVariants as tables
-use Rattle.hprof_heap.specs.Heap.{facts_of_table}
-use Rattle.hprof_heap.specs.Facts.{SameFacts}
+use Rattle.hprof_rows.specs.declared.table.Table.TheVariants as tables
+use Rattle.hprof_rows.specs.Tables.{facts_of_table}
+use Rattle.hprof_rows.specs.Facts.{SameFacts}
 use Rattle.hprof_heap.specs.State.{PartState, StatesIt}
-use Rattle.hprof_heap.proofs.FactSets.{SameFacts-sym, SameFacts-trans}
-use Rattle.hprof_heap.proofs.Order.{one_order}
+use Rattle.hprof_rows.proofs.FactSets.{SameFacts-sym, SameFacts-trans}
+use Rattle.hprof_rows.proofs.Order.{one_order}
 use Rattle.hprof_engine.specs.Joining.{Agree}
 use Rattle.hprof_engine.specs.Summaries.{AreSummaries}
 use Rattle.hprof_reports.specs.Check.{IsBadName, IsCheck, check_text}

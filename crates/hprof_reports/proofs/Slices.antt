@@ -3,10 +3,11 @@ use Rattle.std.proofs.Common.{◌≡◌, ℕ, ◌+◌, ◌<◌, ◌≤◌, List,
 use Rattle.std.specs.Io.KnownBytes.{Appends}
 use Rattle.std.specs.List.{flat_map}
 use Rattle.std.proofs.lemmas.List.{drop_all}
-use Rattle.hprof_items.specs.declared.health.WriteFault.{WriteFault}
-use Rattle.hprof_items.specs.Device.{Writes}
-use Rattle.hprof_items.proofs.Writes.{WritesFront}
-use Rattle.hprof_heap.proofs.Writing.{Wrote, Wrote-more, Wrote-stops, Wrote-all, drop_from}
+use Rattle.hprof_devices.specs.declared.health.WriteFault.{WriteFault}
+use Rattle.hprof_devices.specs.Device.{Writes}
+use Rattle.hprof_devices.proofs.Writes.{WritesFront}
+use Rattle.hprof_rows.proofs.Tables.{drop_from}
+use Rattle.hprof_devices.proofs.OneByOne.{Wrote, Wrote-more, Wrote-stops, Wrote-all}
 
 module _ {A : Type 0} (bytes_of : A → List ℕ) (old mid new : Option (List ℕ)) (all : List A) (place : ℕ) where
   -- the element at the place was written

@@ -8,9 +8,9 @@ use Rattle.hprof_items.specs.declared.header.Version.{Version}
 use Rattle.hprof_items.specs.declared.header.Version.TheVariants.{V101, V102}
 use Rattle.hprof_items.specs.FactValue.{FactValue, Name}
 use Rattle.hprof_stream.specs.declared.summary.PartSummary.{PartSummary}
-use Rattle.hprof_heap.specs.declared.table.Table.{Table}
-use Rattle.hprof_heap.specs.declared.table.Table.TheVariants as tables
-use Rattle.hprof_heap.specs.Heap.{facts_of_table}
+use Rattle.hprof_rows.specs.declared.table.Table.{Table}
+use Rattle.hprof_rows.specs.declared.table.Table.TheVariants as tables
+use Rattle.hprof_rows.specs.Tables.{facts_of_table}
 use Rattle.hprof_reports.specs.Counts.{IsCountOf}
 use Rattle.hprof_reports.specs.Line.{count_line}
 

@@ -1,16 +1,17 @@
 //! The report `check`: what was read of each part, and what their heap has.
 
 ghost use Rattle.std.specs.Prelude.{◌≡◌, ◌↔◌, List, ℕ, flat_map, IsTrue};
-ghost use Rattle.hprof_items.specs.declared.health.Health.TheVariants.{Well};
-ghost use Rattle.hprof_items.specs.Device.{Writes, LeavesHealth};
+ghost use Rattle.hprof_devices.specs.declared.health.Health.TheVariants.{Well};
+ghost use Rattle.hprof_devices.specs.Device.{Writes, LeavesHealth};
 ghost use Rattle.hprof_items.specs.FactValue.{value_of};
 ghost use Rattle.hprof_heap.specs.Heap.{heap_of};
 ghost use Rattle.hprof_reports.specs.Check.{version_text, yes_or_no, part_line, part_lines, table_word, table_line, all_tables, IsBadName};
 ghost use Rattle.hprof_reports.specs.Check.{AreBadNames, IsCheck};
 
 use crate::line::{write_count, write_pieces};
+use hprof_devices::{Target, WriteFault};
 use hprof_heap::{Heap, Table};
-use hprof_items::{Fact, Target, Version, WriteFault};
+use hprof_items::{Fact, Version};
 use hprof_stream::PartSummary;
 use hprof_text::is_modified;
 use itoa::Buffer;

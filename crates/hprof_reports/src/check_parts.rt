@@ -2,21 +2,21 @@
 
 ghost use Rattle.std.specs.Prelude.{◌≡◌, ◌↔◌, ◌<◌, ℕ, List, [], length, All, IfOk, OnErr, Err, vec_capacity};
 ghost use Rattle.std.specs.List.{AllByRecursion};
-ghost use Rattle.hprof_items.specs.declared.health.Health.TheVariants.{Well};
-ghost use Rattle.hprof_items.specs.declared.health.WriteFault.{WriteFault};
+ghost use Rattle.hprof_devices.specs.declared.health.Health.TheVariants.{Well};
+ghost use Rattle.hprof_devices.specs.declared.health.WriteFault.{WriteFault};
 ghost use Rattle.hprof_values.specs.declared.ids.IdSize.{IdSize};
-ghost use Rattle.hprof_items.specs.Device.{health_after};
+ghost use Rattle.hprof_devices.specs.Device.{health_after};
 ghost use Rattle.hprof_items.specs.FactValue.{FactValue};
 ghost use Rattle.hprof_stream.specs.declared.part_fault.PartFault.{PartFault};
-ghost use Rattle.hprof_heap.specs.declared.key.Key.{Key};
+ghost use Rattle.hprof_rows.specs.declared.key.Key.{Key};
 ghost use Rattle.hprof_heap.specs.State.{IsState, HaveTwoSizes};
 ghost use Rattle.hprof_engine.specs.Joining.{Tell, Disagree, IsAccepted, RefusesPart, AreReadOut, read_count, AreRead, IsHindered};
 ghost use Rattle.hprof_engine.specs.Joining.{IsOkOrConflict, IsBeforeWriting};
 ghost use Rattle.hprof_reports.specs.Checking.{Checks, StopsChecking};
 
 use crate::check::write_check;
+use hprof_devices::{Source, Target};
 use hprof_engine::{ToolFault, read_heap};
-use hprof_items::{Source, Target};
 use hprof_stream::{Limits, PartSummary};
 use std::alloc::{AllocError, Global};
 

@@ -1,11 +1,11 @@
 //! Lines of reports.
 
 ghost use Rattle.std.specs.Prelude.{◌≡◌, flat_map};
-ghost use Rattle.hprof_items.specs.declared.health.Health.TheVariants.{Well};
-ghost use Rattle.hprof_items.specs.Device.{Writes, LeavesHealth};
+ghost use Rattle.hprof_devices.specs.declared.health.Health.TheVariants.{Well};
+ghost use Rattle.hprof_devices.specs.Device.{Writes, LeavesHealth};
 ghost use Rattle.hprof_reports.specs.Line.{count_line};
 
-use hprof_items::{Target, WriteFault, push_all};
+use hprof_devices::{Target, WriteFault, push_all};
 use itoa::Buffer;
 
 /// Writes the pieces, one behind the other. At a fault some of their bytes were written, from the front.

@@ -1,8 +1,8 @@
 // The texts are by hand.
 use super::*;
+use hprof_devices::Device;
 use hprof_engine::ToolFault;
 use hprof_heap::{Gatherer, Heap};
-use hprof_items::Device;
 use hprof_stream::{Limits, PartSummary, read_part};
 use std::alloc::Global;
 use std::process::Abort;

@@ -5,8 +5,8 @@ use Rattle.std.proofs.KnownBytes.{Consumes-nil, Consumes-trans}
 use Rattle.std.proofs.lemmas.List.{length-append, nil_from_length}
 use Rattle.std.specs.Io.KnownBytes.{Consumes, IsAtEnd}
 use Rattle.hprof_items.specs.declared.header.Header.{Header}
-use Rattle.hprof_items.specs.declared.health.Health.{Health}
-use Rattle.hprof_items.specs.declared.health.Health.TheVariants as healths
+use Rattle.hprof_devices.specs.declared.health.Health.{Health}
+use Rattle.hprof_devices.specs.declared.health.Health.TheVariants as healths
 use Rattle.hprof_values.specs.declared.reason.Reason.TheVariants.{BadMagic, BadIdSize, Truncated, BadLength, BadSubTag, PastEnd, BadType}
 use Rattle.hprof_items.specs.FactValue.{FactValue}
 use Rattle.hprof_stream.specs.declared.limits.Limits.{Limits}

@@ -2,8 +2,8 @@
 use Rattle.std.specs.Prelude.{◌≡◌, ℕ, Bool, List, Option, Result, Ok, Err}
 use Rattle.std.specs.Io.KnownBytes.{IsAtEnd}
 use Rattle.hprof_items.specs.declared.header.Header.{Header}
-use Rattle.hprof_items.specs.declared.health.Health.{Health}
-use Rattle.hprof_items.specs.declared.health.Health.TheVariants as healths
+use Rattle.hprof_devices.specs.declared.health.Health.{Health}
+use Rattle.hprof_devices.specs.declared.health.Health.TheVariants as healths
 use Rattle.hprof_items.specs.FactValue.{FactValue}
 use Rattle.hprof_stream.specs.declared.limits.Limits.{Limits}
 use Rattle.hprof_stream.specs.declared.part_fault.PartFault.{PartFault}

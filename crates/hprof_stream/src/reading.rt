@@ -2,7 +2,7 @@
 
 ghost use Rattle.std.specs.Prelude.{◌≡◌, ℕ, ◌+◌, ◌≤◌, ◌<◌, List, length, []};
 ghost use Rattle.std.specs.Io.KnownBytes.{Consumes};
-ghost use Rattle.hprof_items.specs.declared.health.Health.TheVariants.{Well};
+ghost use Rattle.hprof_devices.specs.declared.health.Health.TheVariants.{Well};
 ghost use Rattle.hprof_stream.specs.declared.limits.Limits.{Limits};
 ghost use Rattle.hprof_stream.specs.Reader.{HasRead, IsReady, ReadsPart};
 ghost use Rattle.hprof_stream.specs.Feeding.{FeedsAll};
@@ -12,7 +12,7 @@ use crate::part_fault::PartFault;
 use crate::part_reader::PartReader;
 use crate::sink::Sink;
 use crate::summary::PartSummary;
-use hprof_items::Source;
+use hprof_devices::Source;
 use std::alloc::Global;
 
 /// The number of bytes that a read asks for.

@@ -3,7 +3,8 @@
 ghost use Rattle.std.specs.Prelude.{None};
 
 use crate::samples::{HEADER, PART, Seen};
-use hprof_items::{Device, Health, IdSize, ReadFault, Source};
+use hprof_devices::{Device, Health, ReadFault, Source};
+use hprof_items::IdSize;
 use hprof_stream::{Limits, PartFault, PartSummary, SinkFault, read_part};
 use std::test::*;
 

@@ -1,8 +1,8 @@
 -- What is made of files.
 use Rattle.std.proofs.Common.{◌≡◌, ℕ, List, length, Option, Result, Ok, Err, sym, subst}
 use Rattle.std.specs.Prelude.{IfOk, IfErr, IsErrAnd}
-use Rattle.hprof_items.specs.declared.device.Device.{Device}
-use Rattle.hprof_items.specs.Device.{inner_of}
+use Rattle.hprof_devices.specs.declared.device.Device.{Device}
+use Rattle.hprof_devices.specs.Device.{inner_of}
 use Rattle.hprof_tool.specs.declared.program.product.Product.TheVariants as products
 use Rattle.hprof_tool.specs.declared.program.refused.Refused.{Refused}
 use Rattle.hprof_tool.specs.declared.program.refused.Refused.TheVariants as refusals

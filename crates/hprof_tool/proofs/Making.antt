@@ -5,15 +5,15 @@ use Rattle.std.specs.Prelude.{IfErr, IsErrAnd, OnOk, OnErr, IsOk}
 use Rattle.std.specs.Io.KnownBytes.{Appends, Keeps, append_known}
 use Rattle.std.proofs.KnownBytes.{Appends-kept}
 use Rattle.std.proofs.Math.Seq.{take-length}
-use Rattle.hprof_items.specs.declared.health.Health.{Health}
-use Rattle.hprof_items.specs.declared.health.WriteFault.{WriteFault}
-use Rattle.hprof_items.specs.declared.health.WriteFault.TheVariants as faults
+use Rattle.hprof_devices.specs.declared.health.Health.{Health}
+use Rattle.hprof_devices.specs.declared.health.WriteFault.{WriteFault}
+use Rattle.hprof_devices.specs.declared.health.WriteFault.TheVariants as faults
 use Rattle.hprof_stream.specs.declared.limits.Limits.{Limits}
 use Rattle.hprof_stream.specs.declared.part_fault.PartFault.{PartFault}
 use Rattle.hprof_stream.specs.declared.part_fault.PartFault.TheVariants as part_faults
 use Rattle.hprof_stream.specs.declared.sink.SinkFault.TheVariants as sinks
-use Rattle.hprof_heap.specs.declared.key.Key.{Key}
-use Rattle.hprof_heap.specs.Dump.{canonical_dump}
+use Rattle.hprof_rows.specs.declared.key.Key.{Key}
+use Rattle.hprof_dump.specs.Dump.{canonical_dump}
 use Rattle.hprof_heap.specs.Gathering.{Given}
 use Rattle.hprof_heap.specs.State.{HaveTwoSizes}
 use Rattle.hprof_engine.specs.declared.tool_fault.ToolFault.{ToolFault}

@@ -4,15 +4,15 @@ use Rattle.std.specs.List.{AllByRecursion}
 use Rattle.std.specs.Io.KnownBytes.{Appends}
 use Rattle.clap.specs.declared.error.ErrorKind.{ErrorKind}
 use Rattle.clap.specs.declared.error.ErrorKind.TheVariants as kinds
-use Rattle.hprof_items.specs.declared.device.Device.{Device}
+use Rattle.hprof_devices.specs.declared.device.Device.{Device}
 use Rattle.hprof_values.specs.declared.ids.IdSize.{IdSize}
 use Rattle.hprof_items.specs.FactValue.{FactValue}
-use Rattle.hprof_items.specs.Device.{inner_of}
+use Rattle.hprof_devices.specs.Device.{inner_of}
 use Rattle.hprof_stream.specs.declared.limits.Limits.{Limits}
 use Rattle.hprof_stream.specs.declared.part_fault.PartFault.{PartFault}
 use Rattle.hprof_stream.specs.declared.part_fault.PartFault.TheVariants as faults
 use Rattle.hprof_stream.specs.declared.sink.SinkFault.TheVariants as sinks
-use Rattle.hprof_heap.specs.Dump.{canonical_dump}
+use Rattle.hprof_dump.specs.Dump.{canonical_dump}
 use Rattle.hprof_heap.specs.State.{HaveTwoSizes}
 use Rattle.hprof_engine.specs.declared.tool_fault.ToolFault.{ToolFault}
 use Rattle.hprof_engine.specs.declared.tool_fault.ToolFault.TheVariants as tool

@@ -2,9 +2,6 @@ pub mod Ids
 pub mod Basic
 pub mod Fields
 pub mod Item
-pub mod Entries
-pub mod Value
-pub mod Lists
 pub mod Numbers
 pub mod SubTag
 pub mod Root

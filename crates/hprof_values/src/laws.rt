@@ -6,13 +6,9 @@ ghost use Rattle.std.specs.Ordering.{nat_cmp};
 ghost use Rattle.hprof_values.specs.declared.ids.IdSize.{IdSize};
 ghost use Rattle.hprof_values.specs.declared.basic.Basic.{Basic};
 ghost use Rattle.hprof_values.specs.Basic.{code_of_basic};
-ghost use Rattle.hprof_values.specs.declared.entry.Entry.{Entry};
-ghost use Rattle.hprof_values.specs.declared.entry.EntryKind.{EntryKind};
 ghost use Rattle.hprof_values.specs.declared.root.Root.{Root};
 ghost use Rattle.hprof_values.specs.declared.stop.Stop.TheVariants as stops;
 ghost use Rattle.hprof_values.specs.Ids.{IsBytes};
-ghost use Rattle.hprof_values.specs.Entries.{IsEntryList};
-ghost use Rattle.hprof_values.specs.Lists.{IsIdList};
 ghost use Rattle.hprof_values.specs.Fields.{field_bytes, fields_in, FitFields, Bounds, reached, IsWithin, with_more};
 ghost use Rattle.hprof_values.specs.Root.{root_bytes, RootFits};
 
@@ -48,12 +44,4 @@ pub fn fronts_are_short()
         → at + sum widths ≤ bounds.room → at + sum widths ≤ bounds.longest → reached bounds at widths ≡ Err stops.Short }
     ensures more { (bounds : Bounds) (at more : ℕ) (widths : List ℕ)
         → (reached bounds at widths ≡ Err stops.Short) ⊎ (reached (with_more bounds more) at widths ≡ reached bounds at widths) }
-{}
-
-/// Bytes spell one list of entries of a kind, and one list of identifiers.
-pub fn one_list()
-    ensures entries { (ids : IdSize) (kind : EntryKind) (entries others : List Entry) (bytes : List ℕ)
-        → IsEntryList ids kind entries bytes → IsEntryList ids kind others bytes → entries ≡ others }
-    ensures identifiers { (ids : IdSize) (numbers others bytes : List ℕ)
-        → IsIdList ids numbers bytes → IsIdList ids others bytes → numbers ≡ others }
 {}

@@ -1,12 +1,12 @@
 //! Where the facts of two heaps differ.
 
 ghost use Rattle.std.specs.Prelude.{◌≡◌, ◌++◌, None, Some};
-ghost use Rattle.hprof_heap.specs.declared.key.Key.{Key};
-ghost use Rattle.hprof_heap.specs.Conflict.{IsConsistent, IsLeastConflict};
+ghost use Rattle.hprof_rows.specs.declared.key.Key.{Key};
+ghost use Rattle.hprof_rows.specs.Conflict.{IsConsistent, IsLeastConflict};
 ghost use Rattle.hprof_heap.specs.Heap.{heap_of};
 
 use super::Heap;
-use crate::key::Key;
+use hprof_rows::Key;
 
 impl Heap {
     /// The least key under which both have facts that differ. The tables of both are gone over side by side, each once.

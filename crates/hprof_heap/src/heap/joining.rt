@@ -1,13 +1,14 @@
 //! Joining two heaps.
 
 ghost use Rattle.std.specs.Prelude.{◌≡◌, ◌++◌, IfOk, OnErr};
-ghost use Rattle.hprof_heap.specs.Conflict.{IsConsistent};
-ghost use Rattle.hprof_heap.specs.Heap.{heap_of, facts_of_table};
+ghost use Rattle.hprof_rows.specs.Conflict.{IsConsistent};
+ghost use Rattle.hprof_rows.specs.Tables.{facts_of_table};
+ghost use Rattle.hprof_heap.specs.Heap.{heap_of};
 ghost use Rattle.hprof_heap.specs.Join.{IsBetween, JoinsInto, LacksFact, LacksFactIn, TakesFacts};
 
 use super::Heap;
 use crate::join_refusal::JoinRefusal;
-use crate::table::Table;
+use hprof_rows::Table;
 use std::alloc::AllocError;
 
 /// All tables, in order.

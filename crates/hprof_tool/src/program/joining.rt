@@ -1,8 +1,8 @@
 //! What is made of a stream, or of files.
 
 ghost use Rattle.std.specs.Prelude.{◌≡◌, ℕ, List, [], ◌∷◌, length, All, Some, Err, IfOk, IfErr};
-ghost use Rattle.hprof_items.specs.declared.health.Health.TheVariants.{Well};
-ghost use Rattle.hprof_items.specs.Device.{health_of};
+ghost use Rattle.hprof_devices.specs.declared.health.Health.TheVariants.{Well};
+ghost use Rattle.hprof_devices.specs.Device.{health_of};
 ghost use Rattle.hprof_tool.specs.declared.program.product.Product.TheVariants.{Dump};
 ghost use Rattle.hprof_tool.specs.Program.{IsRefusal, IsMadeOfStream, IsJoinOfFiles, IsReportOfFiles, IsFilesRefusal, IsReportRefusal};
 ghost use Rattle.hprof_tool.specs.Program.{IsOfMaking, IsOfOpening};
@@ -10,11 +10,11 @@ ghost use Rattle.hprof_tool.specs.Program.{IsOfMaking, IsOfOpening};
 use crate::program::making::make_buffered;
 use crate::program::product::Product;
 use crate::program::refused::Refused;
+use hprof_devices::Device;
 use hprof_engine::ToolFault;
-use hprof_items::Device;
 use std::alloc::Global;
-use std::fs;
 use std::fs::File;
+use std::fs;
 use std::io::{Read, Write};
 use std::rt::Files;
 

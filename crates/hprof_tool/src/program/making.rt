@@ -3,8 +3,8 @@
 ghost use Rattle.std.specs.Prelude.{◌≡◌, ◌↔◌, ℕ, List, [], length, All, Err, IsOk, OnOk, OnErr, IfOk, IfErr};
 ghost use Rattle.std.specs.Io.KnownBytes.{Keeps, append_known};
 ghost use Rattle.std.specs.Io.Buffered.{writer_inner, writer_buffer, writer_contents};
-ghost use Rattle.hprof_items.specs.declared.health.Health.TheVariants.{Well};
-ghost use Rattle.hprof_items.specs.declared.health.WriteFault.{WriteFault};
+ghost use Rattle.hprof_devices.specs.declared.health.Health.TheVariants.{Well};
+ghost use Rattle.hprof_devices.specs.declared.health.WriteFault.{WriteFault};
 ghost use Rattle.hprof_stream.specs.declared.part_fault.PartFault.{PartFault};
 ghost use Rattle.hprof_engine.specs.Joining.{Tell, RefusesPart, AreReadOut};
 ghost use Rattle.hprof_tool.specs.declared.program.product.Product.TheVariants.{Dump};
@@ -12,8 +12,8 @@ ghost use Rattle.hprof_tool.specs.Program.{usual_limits, refused_of, count_read,
 
 use crate::program::product::Product;
 use crate::program::refused::{Refused, WRITE_FAILED};
+use hprof_devices::{Device, Source};
 use hprof_engine::ToolFault;
-use hprof_items::{Device, Source};
 use std::alloc::Global;
 use std::io::{BufWriter, Write};
 use std::mem;

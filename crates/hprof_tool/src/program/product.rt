@@ -1,21 +1,21 @@
 //! What is made of parts.
 
 ghost use Rattle.std.specs.Prelude.{◌≡◌, ◌↔◌, ℕ, List, [], length, All, OnOk, Err};
-ghost use Rattle.hprof_items.specs.declared.health.Health.TheVariants.{Well};
-ghost use Rattle.hprof_items.specs.declared.health.WriteFault.{WriteFault};
-ghost use Rattle.hprof_items.specs.Device.{health_after};
+ghost use Rattle.hprof_devices.specs.declared.health.Health.TheVariants.{Well};
+ghost use Rattle.hprof_devices.specs.declared.health.WriteFault.{WriteFault};
+ghost use Rattle.hprof_devices.specs.Device.{health_after};
 ghost use Rattle.hprof_items.specs.FactValue.{FactValue};
 ghost use Rattle.hprof_values.specs.declared.ids.IdSize.{IdSize};
 ghost use Rattle.hprof_stream.specs.declared.part_fault.PartFault.{PartFault};
-ghost use Rattle.hprof_heap.specs.declared.key.Key.{Key};
+ghost use Rattle.hprof_rows.specs.declared.key.Key.{Key};
 ghost use Rattle.hprof_heap.specs.State.{IsState, HaveTwoSizes};
 ghost use Rattle.hprof_engine.specs.Joining.{Tell, Disagree, RefusesPart, AreReadOut, read_count, IsBeforeWriting, IsHindered};
 ghost use Rattle.hprof_engine.specs.Joining.{IsOkOrConflict};
 ghost use Rattle.hprof_tool.specs.declared.program.product.Product.TheVariants.{Dump};
 ghost use Rattle.hprof_tool.specs.Program.{usual_limits, IsMade, IsStopped};
 
+use hprof_devices::{Source, Target};
 use hprof_engine::{ToolFault, join_kept};
-use hprof_items::{Source, Target};
 use hprof_reports::check_to;
 use hprof_stream::Limits;
 use std::alloc::Global;

@@ -3,8 +3,8 @@
 ghost use Rattle.std.specs.Prelude.{◌≡◌, IfOk, string_bytes};
 ghost use Rattle.hprof_tool.specs.Program.{IsRefusalText};
 
+use hprof_devices::WriteFault;
 use hprof_engine::ToolFault;
-use hprof_items::WriteFault;
 use std::alloc::{AllocError, AllocFailed, Global};
 
 /// Why the program refused.

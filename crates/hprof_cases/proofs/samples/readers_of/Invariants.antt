@@ -1,6 +1,6 @@
 use Rattle.std.proofs.Common.{◌≡◌, All}
-use Rattle.hprof_items.specs.declared.health.Health.TheVariants.{Well}
-use Rattle.hprof_items.specs.Device.{health_of}
+use Rattle.hprof_devices.specs.declared.health.Health.TheVariants.{Well}
+use Rattle.hprof_devices.specs.Device.{health_of}
 use Rattle.hprof_cases.proofs.samples.readers_of.Given as goal
 
 -- the readers so far are well

@@ -1,5 +1,5 @@
 use Rattle.std.proofs.Common.{length, Result, ap, sym, subst, ◌∙◌}
-use Rattle.hprof_items.specs.Device.{health_after}
+use Rattle.hprof_devices.specs.Device.{health_after}
 use Rattle.hprof_heap.specs.declared.heap.Heap.{Heap}
 use Rattle.hprof_heap.specs.Heap.{heap_of}
 use Rattle.hprof_engine.specs.declared.joined.Kept.{Kept}

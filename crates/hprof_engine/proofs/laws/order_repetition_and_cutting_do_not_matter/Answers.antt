@@ -1,4 +1,4 @@
-use Rattle.hprof_heap.proofs.Conflicts.{IsConsistent-same, IsLeastConflict-same}
+use Rattle.hprof_rows.proofs.Conflicts.{IsConsistent-same, IsLeastConflict-same}
 use Rattle.hprof_engine.proofs.Dumps.{state_of_set, dump_of_set}
 use Rattle.hprof_engine.proofs.laws.order_repetition_and_cutting_do_not_matter.Goals as goal
 

@@ -1,4 +1,4 @@
-use Rattle.hprof_heap.proofs.Dump.{dump_is_part}
+use Rattle.hprof_dump.proofs.Dump.{dump_is_part}
 use Rattle.hprof_engine.proofs.laws.the_dump_reads_back.Goals as goal
 
 pub returns : goal.returns

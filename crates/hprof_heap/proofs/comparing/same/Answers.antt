@@ -1,6 +1,6 @@
 use Rattle.std.proofs.Common.{◌≡◌, false, rules}
 use Rattle.hprof_heap.specs.Heap.{rows_in}
-use Rattle.hprof_heap.proofs.SameHeaps.{same_heap, records_same, subs_same}
+use Rattle.hprof_rows.proofs.SameHeaps.{same_heap, records_same, subs_same}
 use Rattle.hprof_heap.proofs.comparing.same.Goals as goal
 
 pub returns-then-same_records : goal.returns-then-same_records

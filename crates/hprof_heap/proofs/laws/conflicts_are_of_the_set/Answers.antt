@@ -1,4 +1,4 @@
-use Rattle.hprof_heap.proofs.Conflicts.{IsConsistent-same, IsLeastConflict-same, one_least, no_conflict}
+use Rattle.hprof_rows.proofs.Conflicts.{IsConsistent-same, IsLeastConflict-same, one_least, no_conflict}
 use Rattle.hprof_heap.proofs.laws.conflicts_are_of_the_set.Goals as goal
 
 pub returns-clause-consistent : goal.returns-clause-consistent

@@ -1,4 +1,4 @@
-use Rattle.hprof_heap.proofs.Order.{one_order, order_agrees}
+use Rattle.hprof_rows.proofs.Order.{one_order, order_agrees}
 use Rattle.hprof_heap.proofs.laws.one_order.Goals as goal
 
 pub returns-clause-one : goal.returns-clause-one

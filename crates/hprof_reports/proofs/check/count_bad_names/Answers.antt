@@ -1,8 +1,9 @@
 use Rattle.std.proofs.Common.{sym, subst, rules}
 use Rattle.hprof_items.specs.FactValue.{value_of}
-use Rattle.hprof_heap.specs.declared.table.Table.TheVariants as tables
-use Rattle.hprof_heap.specs.FactsLeft.{facts_left}
-use Rattle.hprof_heap.specs.Heap.{heap_of, facts_of_table}
+use Rattle.hprof_rows.specs.declared.table.Table.TheVariants as tables
+use Rattle.hprof_rows.specs.FactsLeft.{facts_left}
+use Rattle.hprof_rows.specs.Tables.{facts_of_table}
+use Rattle.hprof_heap.specs.Heap.{heap_of}
 use Rattle.hprof_reports.specs.Check.{IsBadName}
 use Rattle.hprof_reports.proofs.Counts.{IsCountedTo, counted_none, counted_one, counted_other, counted_all, room_at_first, room_after_one}
 use Rattle.hprof_reports.proofs.Counts.{room_after_other}

@@ -1,7 +1,8 @@
 use Rattle.std.proofs.Common.{◌≤◌, ◌+◌, length}
-use Rattle.hprof_heap.specs.declared.table.Table.TheVariants as tables
-use Rattle.hprof_heap.specs.FactsLeft.{facts_left}
-use Rattle.hprof_heap.specs.Heap.{heap_of, facts_of_table}
+use Rattle.hprof_rows.specs.declared.table.Table.TheVariants as tables
+use Rattle.hprof_rows.specs.FactsLeft.{facts_left}
+use Rattle.hprof_rows.specs.Tables.{facts_of_table}
+use Rattle.hprof_heap.specs.Heap.{heap_of}
 use Rattle.hprof_reports.specs.Check.{IsBadName}
 use Rattle.hprof_reports.proofs.Counts.{IsCountedTo}
 use Rattle.hprof_reports.proofs.check.count_bad_names.Given as goal

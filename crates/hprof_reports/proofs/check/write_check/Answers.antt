@@ -1,7 +1,7 @@
 use Rattle.std.proofs.Common.{codes, refl, zero}
 use Rattle.std.specs.List.{flat_map}
 use Rattle.std.proofs.lemmas.Result.{err_from_is_err_and}
-use Rattle.hprof_items.proofs.Writes.{Writes-then, Writes-stops}
+use Rattle.hprof_devices.proofs.Writes.{Writes-then, Writes-stops}
 use Rattle.hprof_heap.specs.Heap.{heap_of}
 use Rattle.hprof_reports.specs.Check.{all_tables, check_text, table_line}
 use Rattle.hprof_reports.specs.Line.{count_line}

@@ -1,6 +1,6 @@
 use Rattle.std.proofs.Common.{ap, subst, ◌∙◌}
 use Rattle.std.specs.Fmt.{decimal}
-use Rattle.hprof_items.specs.Device.{Writes}
+use Rattle.hprof_devices.specs.Device.{Writes}
 use Rattle.hprof_reports.proofs.Lines.{part_line_of}
 use Rattle.hprof_reports.proofs.check.write_part.Goals as goal
 

@@ -1,7 +1,7 @@
 use Rattle.std.proofs.Common.{◌+◌, List, length, get_or, drop, ap}
 use Rattle.std.proofs.lemmas.List.{drop_all}
 use Rattle.std.proofs.lemmas.Result.{err_from_is_err_and}
-use Rattle.hprof_items.proofs.Writes.{Pushed-more, Pushed-all}
+use Rattle.hprof_devices.proofs.Writes.{Pushed-more, Pushed-all}
 use Rattle.hprof_stream.specs.declared.summary.PartSummary.{PartSummary}
 use Rattle.hprof_reports.specs.Check.{part_line, part_lines}
 use Rattle.hprof_reports.proofs.Lines.{no_part, part_lines_from, Pushed-stops}

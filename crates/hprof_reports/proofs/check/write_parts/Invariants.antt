@@ -1,6 +1,6 @@
 use Rattle.std.proofs.Common.{◌≡◌, drop}
-use Rattle.hprof_items.specs.declared.health.Health.TheVariants.{Well}
-use Rattle.hprof_items.proofs.Writes.{Pushed}
+use Rattle.hprof_devices.specs.declared.health.Health.TheVariants.{Well}
+use Rattle.hprof_devices.proofs.Writes.{Pushed}
 use Rattle.hprof_reports.specs.Check.{part_lines}
 use Rattle.hprof_reports.proofs.check.write_parts.Given as goal
 

@@ -1,8 +1,8 @@
 use Rattle.std.proofs.Common.{get_or, subst}
 use Rattle.std.specs.Io.KnownBytes.{Appends}
 use Rattle.std.proofs.lemmas.Result.{err_from_is_err_and}
-use Rattle.hprof_items.proofs.Writes.{WritesFront}
-use Rattle.hprof_heap.specs.declared.table.Table.TheVariants.{Names}
+use Rattle.hprof_devices.proofs.Writes.{WritesFront}
+use Rattle.hprof_rows.specs.declared.table.Table.TheVariants.{Names}
 use Rattle.hprof_heap.specs.Heap.{heap_of}
 use Rattle.hprof_reports.specs.Check.{all_tables, table_line}
 use Rattle.hprof_reports.proofs.Lines.{table_line_of}

@@ -1,7 +1,7 @@
 use Rattle.std.proofs.Common.{◌≡◌, drop}
-use Rattle.hprof_items.specs.declared.health.Health.TheVariants.{Well}
+use Rattle.hprof_devices.specs.declared.health.Health.TheVariants.{Well}
 use Rattle.hprof_heap.specs.Heap.{heap_of}
-use Rattle.hprof_heap.proofs.Writing.{Wrote}
+use Rattle.hprof_devices.proofs.OneByOne.{Wrote}
 use Rattle.hprof_reports.specs.Check.{all_tables, table_line}
 use Rattle.hprof_reports.proofs.check.write_tables.Given as goal
 

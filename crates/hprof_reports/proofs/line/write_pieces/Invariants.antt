@@ -1,6 +1,6 @@
 use Rattle.std.proofs.Common.{◌≡◌, ℕ, List, Bor, drop}
-use Rattle.hprof_items.specs.declared.health.Health.TheVariants.{Well}
-use Rattle.hprof_heap.proofs.Writing.{Wrote}
+use Rattle.hprof_devices.specs.declared.health.Health.TheVariants.{Well}
+use Rattle.hprof_devices.proofs.OneByOne.{Wrote}
 use Rattle.hprof_reports.proofs.line.write_pieces.Given as goal
 
 abbrev pub invariant-loop-piece : goal.invariant-loop-piece

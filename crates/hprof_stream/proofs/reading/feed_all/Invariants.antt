@@ -1,5 +1,5 @@
 use Rattle.std.proofs.Common.{◌≡◌, ◌+◌, ◌<◌, ◌≤◌, [], length}
-use Rattle.hprof_items.specs.declared.health.Health.TheVariants.{Well}
+use Rattle.hprof_devices.specs.declared.health.Health.TheVariants.{Well}
 use Rattle.hprof_stream.specs.declared.limits.Limits.{Limits}
 use Rattle.hprof_stream.specs.Reader.{HasRead, IsReady}
 use Rattle.hprof_stream.proofs.Sources.{HasFed}

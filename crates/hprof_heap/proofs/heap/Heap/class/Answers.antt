@@ -1,14 +1,14 @@
 use Rattle.std.proofs.Common.{[], Some, ap, refl, sym, ◌∙◌, arith}
 use Rattle.std.specs.Option.{option_map}
 use Rattle.hprof_items.specs.FactValue.{FactValue, value_of, Class}
-use Rattle.hprof_heap.specs.declared.key.Key.TheVariants as keys
-use Rattle.hprof_heap.specs.Content.{spelled_fact}
+use Rattle.hprof_rows.specs.declared.key.Key.TheVariants as keys
+use Rattle.hprof_rows.specs.Content.{spelled_fact}
 use Rattle.hprof_tables.specs.Places.{the_bytes}
 use Rattle.hprof_heap.specs.Heap.{rows_in}
-use Rattle.hprof_heap.specs.Key.{has_key}
+use Rattle.hprof_rows.specs.Key.{has_key}
 use Rattle.hprof_tables.specs.BytesTable.{byte_rows}
-use Rattle.hprof_heap.proofs.HeapRows.{look_up_row, found_fits, row_spells}
-use Rattle.hprof_heap.proofs.RowFacts.{right_found}
+use Rattle.hprof_rows.proofs.HeapRows.{look_up_row, found_fits, row_spells}
+use Rattle.hprof_rows.proofs.RowFacts.{right_found}
 use Rattle.hprof_heap.proofs.heap.Heap.class.Goals as goal
 
 pub returns-in_err-bytes-clause-value : goal.returns-in_err-bytes-clause-value

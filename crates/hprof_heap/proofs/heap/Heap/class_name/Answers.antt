@@ -1,5 +1,5 @@
 use Rattle.std.proofs.Common.{ℕ, Some, None}
-use Rattle.hprof_heap.specs.declared.number_rows.LoadRow.{LoadRow}
+use Rattle.hprof_rows.specs.declared.number_rows.LoadRow.{LoadRow}
 use Rattle.hprof_heap.specs.Heap.{rows_in}
 use Rattle.hprof_tables.specs.Relation.{rows_of}
 use Rattle.hprof_tables.specs.Rows.{rows_left}

@@ -1,7 +1,7 @@
 use Rattle.std.proofs.Common.{arith, ◌<◌, ◌^◌}
-use Rattle.hprof_heap.specs.declared.key.Key.TheVariants as keys
+use Rattle.hprof_rows.specs.declared.key.Key.TheVariants as keys
 use Rattle.hprof_heap.specs.Heap.{rows_in}
-use Rattle.hprof_heap.proofs.Differing.{first_least, last_agree, last_least, differ_fits, made_by_call}
+use Rattle.hprof_rows.proofs.Differing.{first_least, last_agree, last_least, differ_fits, made_by_call}
 use Rattle.hprof_heap.proofs.heap.Heap.first_difference.Goals as goal
 
 pub returns-in-Some-clause-some : goal.returns-in-Some-clause-some

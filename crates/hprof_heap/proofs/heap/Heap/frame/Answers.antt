@@ -1,13 +1,13 @@
 use Rattle.std.proofs.Common.{Some, ap, refl, sym, ◌∙◌}
 use Rattle.std.specs.Option.{option_map}
 use Rattle.hprof_items.specs.FactValue.{FactValue, value_of, Frame}
-use Rattle.hprof_heap.specs.declared.key.Key.TheVariants as keys
+use Rattle.hprof_rows.specs.declared.key.Key.TheVariants as keys
 use Rattle.std.specs.Prelude.{ℤ, pos}
-use Rattle.hprof_heap.specs.Content.{frame_fact}
-use Rattle.hprof_heap.specs.NumberRows.{frame_numbers}
+use Rattle.hprof_rows.specs.Content.{frame_fact}
+use Rattle.hprof_rows.specs.NumberRows.{frame_numbers}
 use Rattle.hprof_heap.specs.Heap.{rows_in}
 use Rattle.hprof_tables.specs.Relation.{rows_of}
-use Rattle.hprof_heap.proofs.HeapRows.{look_up_row, frames_right, line_again}
+use Rattle.hprof_rows.proofs.HeapRows.{look_up_row, frames_right, line_again}
 use Rattle.hprof_heap.proofs.heap.Heap.frame.Goals as goal
 
 pub returns-in_err-row : goal.returns-in_err-row

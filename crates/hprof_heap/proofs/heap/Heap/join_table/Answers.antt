@@ -1,6 +1,6 @@
 use Rattle.hprof_tables.specs.BytesTable.{byte_rows}
 use Rattle.hprof_tables.specs.Relation.{rows_of}
-use Rattle.hprof_heap.specs.RootSet.{roots_of}
+use Rattle.hprof_rows.specs.RootSet.{roots_of}
 use Rattle.hprof_heap.proofs.JoinTables.{can_join, names_joined, loads_joined, unloads_joined, frames_joined, traces_joined, starts_joined}
 use Rattle.hprof_heap.proofs.JoinTables.{ends_joined, roots_joined, classes_joined, objects_joined}
 use Rattle.hprof_heap.proofs.heap.Heap.join_table.Goals as goal

@@ -1,13 +1,13 @@
 use Rattle.std.proofs.Common.{◌+◌, List, drop, get_or, sym, subst}
 use Rattle.std.proofs.lemmas.Result.{err_from_is_err_and}
 use Rattle.hprof_tables.proofs.Missing.{on_err}
-use Rattle.hprof_heap.specs.declared.table.Table.{Table}
-use Rattle.hprof_heap.specs.declared.table.Table.TheVariants.{Names}
+use Rattle.hprof_rows.specs.declared.table.Table.{Table}
+use Rattle.hprof_rows.specs.declared.table.Table.TheVariants.{Names}
 use Rattle.hprof_heap.specs.Heap.{heap_of, rows_in}
-use Rattle.hprof_heap.specs.HeapValue.{HeapValue}
+use Rattle.hprof_rows.specs.HeapValue.{HeapValue}
 use Rattle.hprof_heap.specs.Join.{IsBetween, LacksFact}
 use Rattle.hprof_heap.proofs.JoinHeaps.{TakesSome, all_tables, all_facts, takes_none, takes_next, takes_between, still_agree, lacks_in}
-use Rattle.hprof_heap.proofs.Writing.{drop_from}
+use Rattle.hprof_rows.proofs.Tables.{drop_from}
 use Rattle.hprof_heap.proofs.heap.Heap.join_tables.Goals as goal
 
 pub loop-table-init : goal.loop-table-init

@@ -1,16 +1,16 @@
 use Rattle.std.proofs.Common.{◌∙◌}
 use Rattle.hprof_items.specs.FactValue.{Name}
-use Rattle.hprof_heap.specs.declared.table.Table.TheVariants as tables
-use Rattle.hprof_heap.specs.Content.{load_fact, unload_fact, frame_fact, trace_fact, start_fact, end_fact, spelled_fact}
+use Rattle.hprof_rows.specs.declared.table.Table.TheVariants as tables
+use Rattle.hprof_rows.specs.Content.{load_fact, unload_fact, frame_fact, trace_fact, start_fact, end_fact, spelled_fact}
 use Rattle.hprof_tables.specs.Places.{the_bytes}
 use Rattle.hprof_heap.specs.Heap.{rows_in}
-use Rattle.hprof_heap.specs.HeapRows.{no_content}
-use Rattle.hprof_heap.specs.NumberRows.{load_numbers, frame_numbers, start_numbers}
+use Rattle.hprof_rows.specs.HeapRows.{no_content}
+use Rattle.hprof_rows.specs.NumberRows.{load_numbers, frame_numbers, start_numbers}
 use Rattle.hprof_tables.specs.Relation.{rows_of}
-use Rattle.hprof_heap.specs.RootSet.{roots_of}
+use Rattle.hprof_rows.specs.RootSet.{roots_of}
 use Rattle.hprof_tables.specs.BytesTable.{byte_rows}
-use Rattle.hprof_heap.specs.TraceRow.{trace_content}
-use Rattle.hprof_heap.proofs.HeapRows.{length_rows, length_roots, table_length}
+use Rattle.hprof_rows.specs.TraceRow.{trace_content}
+use Rattle.hprof_rows.proofs.HeapRows.{length_rows, length_roots, table_length}
 use Rattle.hprof_heap.proofs.heap.Heap.len.Goals as goal
 
 pub returns-in-Names : goal.returns-in-Names

@@ -1,7 +1,8 @@
 use Rattle.std.proofs.Common.{sym, subst, ◌∙◌}
-use Rattle.hprof_heap.specs.Heap.{heap_of, number_of_table, stands_in}
-use Rattle.hprof_heap.specs.Order.{IsCanonicalOrder}
-use Rattle.hprof_heap.proofs.TableRows.{passed_ordered}
+use Rattle.hprof_rows.specs.Tables.{number_of_table, stands_in}
+use Rattle.hprof_heap.specs.Heap.{heap_of}
+use Rattle.hprof_rows.specs.Order.{IsCanonicalOrder}
+use Rattle.hprof_rows.proofs.ReadBack.{passed_ordered}
 use Rattle.hprof_heap.proofs.heap.Heap.rows.Goals as goal
 
 pub returns-clause-ordered : goal.returns-clause-ordered

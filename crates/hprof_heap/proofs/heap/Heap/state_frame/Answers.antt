@@ -1,14 +1,13 @@
-use Rattle.std.proofs.Common.{[], ◌∷◌, refl, arith}
+use Rattle.std.proofs.Common.{[], ◌∷◌, refl, arith, ap}
 use Rattle.std.specs.Prelude.{ℤ}
-use Rattle.std.proofs.Common.{ap}
 use Rattle.hprof_items.specs.FactValue.{Frame}
 use Rattle.hprof_heap.specs.Heap.{rows_in}
-use Rattle.hprof_heap.specs.Content.{frame_fact}
-use Rattle.hprof_heap.specs.HeapRows.{frame_facts}
-use Rattle.hprof_heap.specs.NumberRows.{frame_numbers}
+use Rattle.hprof_rows.specs.Content.{frame_fact}
+use Rattle.hprof_rows.specs.HeapRows.{frame_facts}
+use Rattle.hprof_rows.specs.NumberRows.{frame_numbers}
 use Rattle.hprof_tables.specs.Relation.{rows_of}
-use Rattle.hprof_heap.proofs.HeapRows.{frames_right, line_again, into_heap, into_heap-sound, unseen_row}
-use Rattle.hprof_heap.proofs.RowFacts.{rows_tried, rows_kept}
+use Rattle.hprof_rows.proofs.HeapRows.{frames_right, line_again, into_heap, into_heap-sound, unseen_row}
+use Rattle.hprof_rows.proofs.RowFacts.{rows_tried, rows_kept}
 use Rattle.hprof_heap.proofs.heap.Heap.state_frame.Goals as goal
 
 pub invariant_of-self : goal.invariant_of-self

@@ -1,12 +1,12 @@
 use Rattle.std.proofs.Common.{[], ◌∷◌, refl, arith}
 use Rattle.hprof_items.specs.FactValue.{Load}
 use Rattle.hprof_heap.specs.Heap.{rows_in}
-use Rattle.hprof_heap.specs.Content.{load_fact}
-use Rattle.hprof_heap.specs.HeapRows.{load_facts}
-use Rattle.hprof_heap.specs.NumberRows.{load_numbers}
+use Rattle.hprof_rows.specs.Content.{load_fact}
+use Rattle.hprof_rows.specs.HeapRows.{load_facts}
+use Rattle.hprof_rows.specs.NumberRows.{load_numbers}
 use Rattle.hprof_tables.specs.Relation.{rows_of}
-use Rattle.hprof_heap.proofs.HeapRows.{loads_right, into_heap, into_heap-sound, unseen_row}
-use Rattle.hprof_heap.proofs.RowFacts.{rows_tried, rows_kept}
+use Rattle.hprof_rows.proofs.HeapRows.{loads_right, into_heap, into_heap-sound, unseen_row}
+use Rattle.hprof_rows.proofs.RowFacts.{rows_tried, rows_kept}
 use Rattle.hprof_heap.proofs.heap.Heap.state_load.Goals as goal
 
 pub invariant_of-self : goal.invariant_of-self

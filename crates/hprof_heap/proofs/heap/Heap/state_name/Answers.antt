@@ -2,10 +2,10 @@ use Rattle.std.proofs.Common.{[], ◌∷◌, refl, arith}
 use Rattle.hprof_items.specs.FactValue.{Name}
 use Rattle.hprof_tables.specs.Places.{the_bytes}
 use Rattle.hprof_heap.specs.Heap.{rows_in}
-use Rattle.hprof_heap.specs.HeapRows.{name_facts}
+use Rattle.hprof_rows.specs.HeapRows.{name_facts}
 use Rattle.hprof_tables.specs.BytesTable.{byte_rows}
-use Rattle.hprof_heap.proofs.HeapRows.{names_right, into_heap, into_heap-sound, unseen_row}
-use Rattle.hprof_heap.proofs.RowFacts.{rows_tried, rows_kept}
+use Rattle.hprof_rows.proofs.HeapRows.{names_right, into_heap, into_heap-sound, unseen_row}
+use Rattle.hprof_rows.proofs.RowFacts.{rows_tried, rows_kept}
 use Rattle.hprof_heap.proofs.heap.Heap.state_name.Goals as goal
 
 pub invariant_of-self : goal.invariant_of-self

@@ -1,12 +1,12 @@
 use Rattle.std.proofs.Common.{refl, arith}
 use Rattle.hprof_items.specs.FactValue.{value_of}
-use Rattle.hprof_heap.specs.Content.{spelled_fact}
+use Rattle.hprof_rows.specs.Content.{spelled_fact}
 use Rattle.hprof_tables.specs.Places.{the_bytes}
 use Rattle.hprof_heap.specs.Heap.{rows_in}
-use Rattle.hprof_heap.specs.HeapRows.{spelled_facts}
+use Rattle.hprof_rows.specs.HeapRows.{spelled_facts}
 use Rattle.hprof_tables.specs.BytesTable.{byte_rows}
-use Rattle.hprof_heap.proofs.HeapRows.{sub_at_place, spelled_again, spelled_stated, of_key, into_heap, into_heap-sound, unseen_row}
-use Rattle.hprof_heap.proofs.RowFacts.{rows_tried, rows_kept, tried_right}
+use Rattle.hprof_rows.proofs.HeapRows.{sub_at_place, spelled_again, spelled_stated, of_key, into_heap, into_heap-sound, unseen_row}
+use Rattle.hprof_rows.proofs.RowFacts.{rows_tried, rows_kept, tried_right}
 use Rattle.hprof_heap.proofs.heap.Heap.state_object.Goals as goal
 
 pub invariant_of-self : goal.invariant_of-self

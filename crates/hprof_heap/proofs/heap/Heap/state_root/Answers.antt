@@ -3,10 +3,10 @@ use Rattle.hprof_values.specs.Root.{tag_of_root, root_numbers}
 use Rattle.hprof_values.specs.SubTag.{code_of_tag}
 use Rattle.hprof_items.specs.FactValue.{Rooted}
 use Rattle.hprof_heap.specs.Heap.{rows_in}
-use Rattle.hprof_heap.specs.HeapRows.{root_facts}
-use Rattle.hprof_heap.specs.RootSet.{roots_of}
-use Rattle.hprof_heap.proofs.HeapRows.{into_heap, into_heap-sound, unseen_in_heap}
-use Rattle.hprof_heap.proofs.Roots.{roots_tried, roots_kept, roots_unseen}
+use Rattle.hprof_rows.specs.HeapRows.{root_facts}
+use Rattle.hprof_rows.specs.RootSet.{roots_of}
+use Rattle.hprof_rows.proofs.HeapRows.{into_heap, into_heap-sound, unseen_in_heap}
+use Rattle.hprof_rows.proofs.Roots.{roots_tried, roots_kept, roots_unseen}
 use Rattle.hprof_heap.proofs.heap.Heap.state_root.Goals as goal
 
 pub invariant_of-self : goal.invariant_of-self

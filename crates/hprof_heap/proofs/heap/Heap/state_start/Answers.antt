@@ -1,12 +1,12 @@
 use Rattle.std.proofs.Common.{[], ◌∷◌, refl, arith}
 use Rattle.hprof_items.specs.FactValue.{Start}
 use Rattle.hprof_heap.specs.Heap.{rows_in}
-use Rattle.hprof_heap.specs.Content.{start_fact}
-use Rattle.hprof_heap.specs.HeapRows.{start_facts}
-use Rattle.hprof_heap.specs.NumberRows.{start_numbers}
+use Rattle.hprof_rows.specs.Content.{start_fact}
+use Rattle.hprof_rows.specs.HeapRows.{start_facts}
+use Rattle.hprof_rows.specs.NumberRows.{start_numbers}
 use Rattle.hprof_tables.specs.Relation.{rows_of}
-use Rattle.hprof_heap.proofs.HeapRows.{starts_right, into_heap, into_heap-sound, unseen_row}
-use Rattle.hprof_heap.proofs.RowFacts.{rows_tried, rows_kept}
+use Rattle.hprof_rows.proofs.HeapRows.{starts_right, into_heap, into_heap-sound, unseen_row}
+use Rattle.hprof_rows.proofs.RowFacts.{rows_tried, rows_kept}
 use Rattle.hprof_heap.proofs.heap.Heap.state_start.Goals as goal
 
 pub invariant_of-self : goal.invariant_of-self

@@ -2,17 +2,17 @@ use Rattle.std.proofs.Common.{◌≡◌, ℕ, List, [], ◌∷◌, length, Resul
 use Rattle.std.specs.Prelude.{IfOk}
 use Rattle.hprof_values.specs.declared.ids.IdSize.{IdSize}
 use Rattle.hprof_values.specs.Fields.{field_bytes}
-use Rattle.hprof_values.specs.Lists.{id_widths, identifiers_of}
+use Rattle.hprof_lists.specs.Lists.{id_widths, identifiers_of}
 use Rattle.hprof_items.specs.FactValue.{Trace}
-use Rattle.hprof_heap.specs.declared.trace_row.TraceRow.{TraceRow}
+use Rattle.hprof_rows.specs.declared.trace_row.TraceRow.{TraceRow}
 use Rattle.hprof_tables.specs.declared.relation.Stated.{Stated}
-use Rattle.hprof_heap.specs.Content.{content_of, trace_fact}
+use Rattle.hprof_rows.specs.Content.{content_of, trace_fact}
 use Rattle.hprof_heap.specs.Heap.{rows_in}
-use Rattle.hprof_heap.specs.HeapRows.{trace_facts}
+use Rattle.hprof_rows.specs.HeapRows.{trace_facts}
 use Rattle.hprof_tables.specs.Relation.{rows_of, States}
-use Rattle.hprof_heap.specs.TraceRow.{trace_content}
-use Rattle.hprof_heap.proofs.HeapRows.{trace_again, into_heap, into_heap-sound, unseen_row}
-use Rattle.hprof_heap.proofs.RowFacts.{rows_tried, rows_kept, tried_right}
+use Rattle.hprof_rows.specs.TraceRow.{trace_content}
+use Rattle.hprof_rows.proofs.HeapRows.{trace_again, into_heap, into_heap-sound, unseen_row}
+use Rattle.hprof_rows.proofs.RowFacts.{rows_tried, rows_kept, tried_right}
 use Rattle.hprof_heap.proofs.heap.Heap.state_trace.Goals as goal
 
 -- what was stated of frames of one size was stated of the fact

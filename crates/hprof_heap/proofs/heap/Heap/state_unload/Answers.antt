@@ -1,11 +1,11 @@
 use Rattle.std.proofs.Common.{[], ◌∷◌, refl, arith}
 use Rattle.hprof_items.specs.FactValue.{Unload}
 use Rattle.hprof_heap.specs.Heap.{rows_in}
-use Rattle.hprof_heap.specs.Content.{unload_fact}
-use Rattle.hprof_heap.specs.HeapRows.{unload_facts, no_content}
+use Rattle.hprof_rows.specs.Content.{unload_fact}
+use Rattle.hprof_rows.specs.HeapRows.{unload_facts, no_content}
 use Rattle.hprof_tables.specs.Relation.{rows_of}
-use Rattle.hprof_heap.proofs.HeapRows.{unloads_right, into_heap, into_heap-sound, unseen_row}
-use Rattle.hprof_heap.proofs.RowFacts.{rows_tried, rows_kept}
+use Rattle.hprof_rows.proofs.HeapRows.{unloads_right, into_heap, into_heap-sound, unseen_row}
+use Rattle.hprof_rows.proofs.RowFacts.{rows_tried, rows_kept}
 use Rattle.hprof_heap.proofs.heap.Heap.state_unload.Goals as goal
 
 pub invariant_of-self : goal.invariant_of-self

@@ -1,6 +1,6 @@
 use Rattle.std.proofs.Common.{◌∙◌}
 use Rattle.hprof_heap.specs.Heap.{rows_in}
-use Rattle.hprof_heap.proofs.DumpTables.{heap_subs, subs_writable}
+use Rattle.hprof_rows.proofs.DumpTables.{heap_subs, subs_writable}
 use Rattle.hprof_heap.proofs.heap.Heap.sub_rows.Goals as goal
 
 pub new-requires : goal.new-requires

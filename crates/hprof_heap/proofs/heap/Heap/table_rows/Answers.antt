@@ -1,12 +1,12 @@
 use Rattle.std.proofs.Common.{ap, sym, subst, ◌∙◌}
-use Rattle.hprof_heap.specs.declared.table.Table.TheVariants as tables
+use Rattle.hprof_rows.specs.declared.table.Table.TheVariants as tables
 use Rattle.hprof_heap.specs.Heap.{rows_in}
-use Rattle.hprof_heap.specs.HeapRows.{name_facts, load_facts, unload_facts, frame_facts, trace_facts, start_facts, end_facts, root_facts}
-use Rattle.hprof_heap.specs.HeapRows.{spelled_facts}
-use Rattle.hprof_heap.specs.TableRows.{AreSerials, AreWhole, AreSpelled}
-use Rattle.hprof_heap.proofs.HeapRows.{table_facts}
-use Rattle.hprof_heap.proofs.TableRows.{load_serials, unload_serials, traces_whole, start_serials, end_serials, classes_spelled}
-use Rattle.hprof_heap.proofs.TableRows.{objects_spelled}
+use Rattle.hprof_rows.specs.HeapRows.{name_facts, load_facts, unload_facts, frame_facts, trace_facts, start_facts, end_facts, root_facts}
+use Rattle.hprof_rows.specs.HeapRows.{spelled_facts}
+use Rattle.hprof_rows.specs.TableRows.{AreSerials, AreWhole, AreSpelled}
+use Rattle.hprof_rows.proofs.HeapRows.{table_facts}
+use Rattle.hprof_rows.proofs.ReadBack.{load_serials, unload_serials, traces_whole, start_serials, end_serials, classes_spelled}
+use Rattle.hprof_rows.proofs.ReadBack.{objects_spelled}
 use Rattle.hprof_heap.proofs.heap.Heap.table_rows.Goals as goal
 
 pub returns-in-Names-clause-all : goal.returns-in-Names-clause-all

@@ -1,12 +1,12 @@
 use Rattle.std.proofs.Common.{Some, ap, refl, sym, ◌∙◌}
 use Rattle.std.specs.Option.{option_map}
 use Rattle.hprof_items.specs.FactValue.{FactValue, value_of, Start}
-use Rattle.hprof_heap.specs.declared.key.Key.TheVariants as keys
-use Rattle.hprof_heap.specs.Content.{start_fact}
-use Rattle.hprof_heap.specs.NumberRows.{start_numbers}
+use Rattle.hprof_rows.specs.declared.key.Key.TheVariants as keys
+use Rattle.hprof_rows.specs.Content.{start_fact}
+use Rattle.hprof_rows.specs.NumberRows.{start_numbers}
 use Rattle.hprof_heap.specs.Heap.{rows_in}
 use Rattle.hprof_tables.specs.Relation.{rows_of}
-use Rattle.hprof_heap.proofs.HeapRows.{look_up_row, starts_right}
+use Rattle.hprof_rows.proofs.HeapRows.{look_up_row, starts_right}
 use Rattle.hprof_heap.proofs.heap.Heap.thread.Goals as goal
 
 pub returns-in_err-row : goal.returns-in_err-row

@@ -1,14 +1,14 @@
 use Rattle.std.proofs.Common.{[], Some, ap, refl, sym, ◌∙◌}
 use Rattle.std.specs.Option.{option_map}
 use Rattle.hprof_items.specs.FactValue.{FactValue, value_of, Trace}
-use Rattle.hprof_heap.specs.declared.key.Key.TheVariants as keys
-use Rattle.hprof_heap.specs.Content.{trace_fact}
+use Rattle.hprof_rows.specs.declared.key.Key.TheVariants as keys
+use Rattle.hprof_rows.specs.Content.{trace_fact}
 use Rattle.hprof_heap.specs.Heap.{rows_in}
-use Rattle.hprof_heap.specs.Key.{has_key}
+use Rattle.hprof_rows.specs.Key.{has_key}
 use Rattle.hprof_tables.specs.Relation.{rows_of}
-use Rattle.hprof_heap.specs.TraceRow.{trace_content, frames_bytes}
-use Rattle.hprof_heap.proofs.HeapRows.{look_up_row, found_fits, row_whole}
-use Rattle.hprof_heap.proofs.RowFacts.{right_found}
+use Rattle.hprof_rows.specs.TraceRow.{trace_content, frames_bytes}
+use Rattle.hprof_rows.proofs.HeapRows.{look_up_row, found_fits, row_whole}
+use Rattle.hprof_rows.proofs.RowFacts.{right_found}
 use Rattle.hprof_heap.proofs.heap.Heap.trace.Goals as goal
 
 pub returns-in_err-row-clause-value : goal.returns-in_err-row-clause-value

@@ -1,6 +1,6 @@
 use Rattle.std.proofs.Common.{◌≡◌, All, length}
-use Rattle.hprof_items.specs.declared.health.Health.TheVariants.{Well}
-use Rattle.hprof_items.specs.Device.{health_of}
+use Rattle.hprof_devices.specs.declared.health.Health.TheVariants.{Well}
+use Rattle.hprof_devices.specs.Device.{health_of}
 use Rattle.hprof_tool.proofs.program.joining.open_parts.Given as goal
 
 -- each name so far was opened, and the part is well

@@ -1,0 +1,105 @@
+//! Readers and writers of std as sources and targets.
+
+ghost use Rattle.std.specs.Prelude.{◌≡◌};
+ghost use Rattle.hprof_devices.specs.declared.health.Health.TheVariants.{Well};
+ghost use Rattle.hprof_devices.specs.Device.{EndsRead, EndsWrite};
+
+use crate::health::{Health, ReadFault, WriteFault};
+use crate::source::Source;
+use crate::target::Target;
+use std::io;
+use std::io::{Read, Write};
+
+/// A std reader or writer that keeps its health. An error of any kind is a failure, and nothing is tried again.
+#[derive(Drop)]
+pub struct Device<T> {
+    inner: T,
+    health: Health,
+    pulls: u64,
+}
+
+impl<T> Device<T> {
+    ghost use Rattle.hprof_devices.specs.Device.{inner_of, health_of, pulls_of};
+
+    /// A device that is well, with no pull made.
+    pub fn new(inner: T) -> Self
+        ensures inner { inner_of result ≡ inner }
+        ensures health { health_of result ≡ Well }
+        ensures pulls { pulls_of result ≡ 0 }
+    {
+        Device {
+            inner,
+            health: Health::Well,
+            pulls: 0,
+        }
+    }
+
+    /// How the reader or writer is doing.
+    pub fn health(&self) -> Health
+        ensures { result ≡ health_of self.now }
+    {
+        self.health
+    }
+
+    /// How many pulls were made. It stays at the greatest number.
+    pub fn pulls(&self) -> u64
+        ensures { result ≡ pulls_of self.now }
+    {
+        self.pulls
+    }
+
+    /// The reader or writer itself.
+    pub fn into_inner(self) -> T
+        ensures { result ≡ inner_of self }
+    {
+        self.inner
+    }
+}
+
+/// What std's answer to a read comes to: the device's own answer, and the health in which it leaves a device.
+fn end_of_read(answer: io::Result<usize>) -> (Result<usize, ReadFault>, Health)
+    ensures { EndsRead answer result.0 result.1 }
+{
+    match answer {
+        Ok(read) => (Ok(read), Health::Well),
+        Err(_) => (Err(ReadFault::Failed), Health::Failed),
+    }
+}
+
+/// What std's answer to a write comes to, of a piece of that length.
+fn end_of_write(answer: io::Result<usize>, length: usize) -> (Result<usize, WriteFault>, Health)
+    ensures { EndsWrite answer length result.0 result.1 }
+{
+    match answer {
+        Ok(0) if length > 0 => (Err(WriteFault::Stuck), Health::Stuck),
+        Ok(taken) => (Ok(taken), Health::Well),
+        Err(_) => (Err(WriteFault::Failed), Health::Failed),
+    }
+}
+
+impl<T: Read> Source for Device<T> {
+    ghost left = { λ d. T.remaining d.inner };
+
+    ghost health = { λ d. d.health };
+
+    ghost pulls = { λ d. d.pulls };
+
+    fn pull(&mut self, piece: &mut [u8]) -> Result<usize, ReadFault> {
+        self.pulls = self.pulls.saturating_add(1);
+        let (outcome, health) = end_of_read(self.inner.read(piece));
+        self.health = health;
+        outcome
+    }
+}
+
+impl<T: Write> Target for Device<T> {
+    ghost written = { λ d. T.contents d.inner };
+
+    ghost health = { λ d. d.health };
+
+    fn push(&mut self, piece: &[u8]) -> Result<usize, WriteFault> {
+        let (outcome, health) = end_of_write(self.inner.write(piece), piece.len());
+        self.health = health;
+        outcome
+    }
+}

@@ -1,0 +1,15 @@
+//! Where the bytes of heap dumps come from and go to: a source that is pulled, a target that is pushed to, and the
+//! devices that make them of readers and writers. No call of this crate takes memory.
+#![tactic(auto)]
+
+mod device;
+mod health;
+mod pushing;
+mod source;
+mod target;
+
+pub use device::Device;
+pub use health::{Health, ReadFault, WriteFault};
+pub use pushing::push_all;
+pub use source::Source;
+pub use target::Target;

@@ -1,0 +1,23 @@
+//! Pushing all of some bytes to a target.
+
+ghost use Rattle.std.specs.Prelude.{◌≡◌};
+ghost use Rattle.hprof_devices.specs.declared.health.Health.TheVariants.{Well};
+ghost use Rattle.hprof_devices.specs.Device.{Writes, LeavesHealth};
+
+use crate::health::WriteFault;
+use crate::target::Target;
+
+/// Pushes all of the bytes: what one push did not take is pushed again. At a fault some of them were written, from the
+/// front.
+pub fn push_all<W: Target>(bytes: &[u8], target: &mut W) -> Result<(), WriteFault>
+    requires { W.health target.old ≡ Well }
+    ensures bytes { Writes (W.written target.old) (W.written target.new) result bytes.now }
+    ensures health { LeavesHealth result (W.health target.new) }
+{
+    let mut rest = bytes;
+    while !rest.is_empty() {
+        let count = target.push(rest)?;
+        (_, rest) = rest.split_at(count);
+    }
+    Ok(())
+}

@@ -1,0 +1,5 @@
+pub mod Packing
+pub mod Dump
+pub mod RecordTables
+pub mod Writing
+pub mod Counting

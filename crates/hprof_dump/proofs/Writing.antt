@@ -1,0 +1,29 @@
+-- Writing the dump.
+use Rattle.std.proofs.Common.{◌≡◌, ℕ, zero, suc, ◌-◌, ◌<◌, List, [], ◌∷◌, ◌++◌, Option, Result, Err, refl, sym, ap, subst, ◌∙◌}
+use Rattle.std.proofs.Common.{append_assoc, append-nil, length, get_or, take, drop, add-one, drop-cons, ◌+◌, arith}
+use Rattle.std.specs.List.{flat_map}
+use Rattle.std.specs.Io.KnownBytes.{Appends}
+use Rattle.std.proofs.KnownBytes.{Appends-nil, Appends-trans}
+use Rattle.std.proofs.lemmas.Grind.{flat_map-append}
+use Rattle.hprof_values.specs.declared.ids.IdSize.{IdSize}
+use Rattle.hprof_items.specs.declared.header.Header.{Header}
+use Rattle.hprof_devices.specs.declared.health.WriteFault.{WriteFault}
+use Rattle.hprof_devices.specs.Device.{Writes}
+use Rattle.hprof_items.specs.FactValue.{FactValue}
+use Rattle.hprof_items.specs.Head.{head_bytes}
+use Rattle.hprof_items.specs.Header.{header_bytes}
+use Rattle.hprof_devices.proofs.Writes.{WritesFront, Writes-then, Writes-stops}
+use Rattle.hprof_dump.specs.Dump.{canonical_dump, record_facts_bytes, sub_facts_bytes}
+use Rattle.hprof_dump.proofs.Dump.{dump_header}
+
+-- ---- writing the dump
+
+-- the header was written, and then the rest as far as it went
+pub dump_after_header : {B : Type 0} (ids : IdSize) (millis : ℕ) (rows : List FactValue) (header : Header) (old mid new : Option (List ℕ))
+    (r : Result B WriteFault) → header ≡ dump_header ids millis → Appends old mid (header_bytes header)
+    → Writes mid new r (record_facts_bytes ids rows ++ (sub_facts_bytes ids rows ++ head_bytes 0x2c 0 0))
+    → Writes old new r (canonical_dump ids millis rows)
+dump_after_header ids millis rows header old mid new r e appends rest =
+    Writes-then old mid new zero r (header_bytes (dump_header ids millis))
+    (record_facts_bytes ids rows ++ (sub_facts_bytes ids rows ++ head_bytes 0x2c 0 0))
+    (subst (λ (h : Header). Appends old mid (header_bytes h)) e appends) rest

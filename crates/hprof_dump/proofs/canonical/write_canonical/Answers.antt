@@ -1,0 +1,71 @@
+use Rattle.std.proofs.Common.{◌≡◌, ◌++◌, zero, subst}
+use Rattle.std.proofs.lemmas.Result.{err_from_is_err_and}
+use Rattle.hprof_items.specs.declared.header.Header.{Header}
+use Rattle.hprof_items.specs.Head.{head_bytes}
+use Rattle.hprof_items.specs.Header.{header_bytes}
+use Rattle.hprof_devices.proofs.Writes.{WritesFront, Writes-then, Writes-stops}
+use Rattle.hprof_dump.specs.Dump.{record_facts_bytes, sub_facts_bytes}
+use Rattle.hprof_heap.specs.Heap.{heap_of}
+use Rattle.hprof_dump.proofs.Dump.{dump_header}
+use Rattle.hprof_dump.proofs.Writing.{dump_after_header}
+use Rattle.hprof_dump.proofs.canonical.write_canonical.Goals as goal
+
+pub returns-in_err-write_header-clause-bytes : goal.returns-in_err-write_header-clause-bytes
+returns-in_err-write_header-clause-bytes g c =
+    let heap = heap_of c.args.heap.now in
+    let r = c.from_residual.result in
+    let p = err_from_is_err_and r c.from_residual.ensures.1 in
+    let header : dump_header c.ids.result c.millis.result ≡ dump_header heap.ids heap.millis = cc in
+    let old = g.W.Target.written c.args.target.now in
+    let new = g.W.Target.written c.write_header.new.target in
+    Writes-stops old new r p.0 (header_bytes (dump_header heap.ids heap.millis))
+    (record_facts_bytes heap.ids heap.facts ++ (sub_facts_bytes heap.ids heap.facts ++ head_bytes 0x2c 0 0)) p.1
+    (subst (λ (h : Header). WritesFront old new (header_bytes h)) header c.in_err-write_header.ensures.bytes)
+
+pub returns-in_err-write_records-clause-bytes : goal.returns-in_err-write_records-clause-bytes
+returns-in_err-write_records-clause-bytes g c =
+    let heap = heap_of c.args.heap.now in
+    let r = c.from_residual-in_err-write_records.result in
+    let p = err_from_is_err_and r c.from_residual-in_err-write_records.ensures.1 in
+    let header : dump_header c.ids.result c.millis.result ≡ dump_header heap.ids heap.millis = cc in
+    let mid = g.W.Target.written c.write_header.new.target in
+    let new = g.W.Target.written c.write_records.new.target in
+    dump_after_header heap.ids heap.millis heap.facts (dump_header c.ids.result c.millis.result)
+    (g.W.Target.written c.args.target.now) mid new r header
+    c.in_ok-write_header.ensures.bytes
+    (Writes-stops mid new r p.0 (record_facts_bytes heap.ids heap.facts) (sub_facts_bytes heap.ids heap.facts ++ head_bytes 0x2c 0 0) p.1
+    c.in_err-write_records.ensures.bytes)
+
+pub returns-in_err-write_segments-clause-bytes : goal.returns-in_err-write_segments-clause-bytes
+returns-in_err-write_segments-clause-bytes g c =
+    let heap = heap_of c.args.heap.now in
+    let r = c.from_residual-in_err-write_segments.result in
+    let p = err_from_is_err_and r c.from_residual-in_err-write_segments.ensures.1 in
+    let header : dump_header c.ids.result c.millis.result ≡ dump_header heap.ids heap.millis = cc in
+    let mid = g.W.Target.written c.write_header.new.target in
+    let later = g.W.Target.written c.write_records.new.target in
+    let new = g.W.Target.written c.write_segments.new.target in
+    let subs = sub_facts_bytes heap.ids heap.facts in
+    dump_after_header heap.ids heap.millis heap.facts (dump_header c.ids.result c.millis.result)
+    (g.W.Target.written c.args.target.now) mid new r header
+    c.in_ok-write_header.ensures.bytes
+    (Writes-then mid later new zero r (record_facts_bytes heap.ids heap.facts)
+    (subs ++ head_bytes 0x2c 0 0) c.in_ok-write_records.ensures.bytes
+    (Writes-stops later new r p.0 subs (head_bytes 0x2c 0 0) p.1 c.in_err-write_segments.ensures.bytes))
+
+pub returns-clause-bytes : goal.returns-clause-bytes
+returns-clause-bytes g c =
+    let heap = heap_of c.args.heap.now in
+    let r = c.write_head.result in
+    let header : dump_header c.ids.result c.millis.result ≡ dump_header heap.ids heap.millis = cc in
+    let mid = g.W.Target.written c.write_header.new.target in
+    let later = g.W.Target.written c.write_records.new.target in
+    let last = g.W.Target.written c.write_segments.new.target in
+    let new = g.W.Target.written c.write_head.new.target in
+    let subs = sub_facts_bytes heap.ids heap.facts in
+    dump_after_header heap.ids heap.millis heap.facts (dump_header c.ids.result c.millis.result)
+    (g.W.Target.written c.args.target.now) mid new r header
+    c.in_ok-write_header.ensures.bytes
+    (Writes-then mid later new zero r (record_facts_bytes heap.ids heap.facts)
+    (subs ++ head_bytes 0x2c 0 0) c.in_ok-write_records.ensures.bytes
+    (Writes-then later last new zero r subs (head_bytes 0x2c 0 0) c.in_ok-write_segments.ensures.bytes c.write_head.ensures.bytes))

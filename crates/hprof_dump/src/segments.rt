@@ -1,0 +1,122 @@
+//! Writing sub-records in segments that are as full as they can be.
+
+ghost use Rattle.std.specs.Prelude.{◌≡◌, ◌≤◌, ◌∷◌, length, take, drop, flat_map, IfSome, OnOk};
+ghost use Rattle.hprof_devices.specs.declared.health.Health.TheVariants.{Well};
+ghost use Rattle.hprof_devices.specs.Device.{Writes, LeavesHealth};
+ghost use Rattle.hprof_items.specs.Spelling.{longest_body};
+ghost use Rattle.hprof_items.specs.SubRecord.{dump_bytes};
+ghost use Rattle.hprof_dump.specs.Dump.{segment_bytes, sub_facts_bytes};
+ghost use Rattle.hprof_heap.specs.Heap.{heap_of};
+ghost use Rattle.hprof_rows.specs.SubRow.{sub_fact, IsWritable};
+ghost use Rattle.hprof_dump.specs.Counted.{IsCounted, with_taken};
+ghost use Rattle.hprof_rows.specs.SubRows.{subs_left, subs_ids};
+
+use hprof_devices::{Target, WriteFault};
+use hprof_heap::Heap;
+use hprof_items::tag;
+use hprof_rows::{SubRow, SubRows};
+use hprof_writing::write_head;
+
+/// The most bytes of a segment that has more than one sub-record.
+const MOST_IN_SEGMENT: u64 = 1_048_576;
+
+/// A segment that was counted: how many sub-records it has, how many bytes they have, and the one behind it.
+#[derive(Clone, Copy)]
+struct Segment<'a> {
+    count: u64,
+    len: u64,
+    next: Option<SubRow<'a>>,
+}
+
+/// Walks from the first sub-record of a segment to the first of the next.
+fn count_segment<'a>(first: SubRow<'a>, ahead: &mut SubRows<'a>) -> Segment<'a>
+    requires { IsWritable (subs_ids ahead.old) first }
+    ensures counted { IsCounted (subs_ids ahead.old) (sub_fact (subs_ids ahead.old) first.entry ∷ subs_left ahead.old) result.count
+        result.len
+        (with_taken (subs_ids ahead.old) result.next (subs_left ahead.new)) }
+    ensures next { IfSome result.next (IsWritable (subs_ids ahead.old)) }
+    ensures ids { subs_ids ahead.new ≡ subs_ids ahead.old }
+{
+    let ids = ahead.ids();
+    let mut count = 1;
+    let mut len = first.len(ids);
+    while let Some(row) = ahead.next() {
+        let longer = len + row.len(ids);
+        if longer > MOST_IN_SEGMENT {
+            let next = Some(row);
+            return Segment { count, len, next };
+        }
+        count += 1;
+        len = longer;
+    }
+    Segment {
+        count,
+        len,
+        next: None,
+    }
+}
+
+/// Writes the next sub-records, that many. At a fault some of them were written, from the front.
+fn write_rows<W: Target>(
+    rows: &mut SubRows<'_>,
+    count: u64,
+    target: &mut W,
+) -> Result<(), WriteFault>
+    requires { W.health target.old ≡ Well }
+    ensures bytes { Writes (W.written target.old) (W.written target.new) result
+        (flat_map (dump_bytes (subs_ids rows.old)) (take count (subs_left rows.old))) }
+    ensures left { OnOk result (subs_left rows.new ≡ drop count (subs_left rows.old)) }
+    ensures ids { subs_ids rows.new ≡ subs_ids rows.old }
+    ensures health { LeavesHealth result (W.health target.new) }
+{
+    let ids = rows.ids();
+    let mut left = count;
+    while left > 0 {
+        let Some(row) = rows.next() else {
+            return Ok(());
+        };
+        row.write(ids, target)?;
+        left -= 1;
+    }
+    Ok(())
+}
+
+/// Writes a segment of the next sub-records, of which there are that many, with that many bytes. At a fault some of it
+/// was written, from the front.
+fn write_segment<W: Target>(
+    rows: &mut SubRows<'_>,
+    count: u64,
+    len: u64,
+    target: &mut W,
+) -> Result<(), WriteFault>
+    requires well { W.health target.old ≡ Well }
+    requires len { len ≡ length (flat_map (dump_bytes (subs_ids rows.old)) (take count (subs_left rows.old))) }
+    requires short { len ≤ longest_body }
+    ensures bytes { Writes (W.written target.old) (W.written target.new) result
+        (segment_bytes (subs_ids rows.old) (take count (subs_left rows.old))) }
+    ensures left { OnOk result (subs_left rows.new ≡ drop count (subs_left rows.old)) }
+    ensures ids { subs_ids rows.new ≡ subs_ids rows.old }
+    ensures health { LeavesHealth result (W.health target.new) }
+{
+    write_head(tag::HEAP_DUMP_SEGMENT, len as u32, target)?;
+    write_rows(rows, count, target)
+}
+
+/// Writes the heap's sub-records in segments. Each segment is counted by a walk ahead, and then written. At a fault
+/// some of them were written, from the front.
+pub(crate) fn write_segments<W: Target>(heap: &Heap, target: &mut W) -> Result<(), WriteFault>
+    requires { W.health target.old ≡ Well }
+    ensures bytes { Writes (W.written target.old) (W.written target.new) result
+        (sub_facts_bytes (heap_of heap.now).ids (heap_of heap.now).facts) }
+    ensures health { LeavesHealth result (W.health target.new) }
+{
+    let mut rows = heap.sub_rows();
+    let mut ahead = heap.sub_rows();
+    let mut next = ahead.next();
+    while let Some(first) = next {
+        let segment = count_segment(first, &mut ahead);
+        write_segment(&mut rows, segment.count, segment.len, target)?;
+        next = segment.next;
+    }
+    Ok(())
+}

@@ -1,7 +1,0 @@
-use Rattle.std.proofs.lemmas.Slice.Eq.{slice_eq-Decides}
-use Rattle.hprof_heap.specs.RootSet.{roots_of}
-use Rattle.hprof_heap.proofs.RootEquality.{root_eq-Decides}
-use Rattle.hprof_heap.proofs.root_set.RootSet.same.Goals as goal
-
-pub returns : goal.returns
-returns c = slice_eq-Decides root_eq-Decides (roots_of c.args.self.now) (roots_of c.args.other.now) c.eq.result c.eq.ensures

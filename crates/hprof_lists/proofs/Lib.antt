@@ -1,0 +1,4 @@
+pub mod EntryLists
+pub mod Counting
+pub mod IdLists
+pub mod ListEnds

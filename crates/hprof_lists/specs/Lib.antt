@@ -1,0 +1,3 @@
+pub mod Entries
+pub mod Value
+pub mod Lists

@@ -1,0 +1,150 @@
+//! The fields that the instances have of a class.
+
+ghost use Rattle.std.specs.Prelude.{◌≡◌};
+ghost use Rattle.hprof_lists.specs.declared.entry.EntryKind.TheVariants as kinds;
+ghost use Rattle.hprof_lists.specs.Entries.{entries_bytes, entries_in};
+
+use super::in_range;
+use crate::entries::{count_entries, next_entry, nth_entry};
+use crate::entry::EntryKind;
+use crate::entry_span::EntrySpan;
+use crate::value::Field;
+use hprof_values::IdSize;
+
+/// The fields that the instances have of a class, over the bytes that spell them, without their count.
+#[derive(Clone, Copy, Debug, PartialEq, Eq)]
+pub struct FieldList<'a> {
+    bytes: &'a [u8],
+    ids: IdSize,
+    len: u16,
+    /// They fill the bytes.
+    ghost spelled: { bytes.now ≡ entries_bytes ids kinds.Field (entries_in ids kinds.Field len bytes.now) },
+}
+
+impl<'a> FieldList<'a> {
+    ghost use Rattle.std.specs.Prelude.{◌↔◌, IsTrue, List, [], length, slice_get, option_map, IfSome, IsSomeAnd};
+    ghost use Rattle.hprof_lists.specs.declared.entry.Entry.{Entry};
+    ghost use Rattle.hprof_lists.specs.Entries.{IsEntryList, ListFits};
+    ghost use Rattle.hprof_lists.specs.Value.{field_of};
+    ghost use Rattle.hprof_lists.specs.Lists.{fields_of, fields_left, fields_size};
+
+    /// The list that the bytes spell. There is none where an entry ends past them or has a type that stands for
+    /// none, or where there are more than 65,535.
+    pub fn new(bytes: &'a [u8], ids: IdSize) -> Option<FieldList<'a>>
+        ensures found { IfSome result (λ list. IsEntryList ids EntryKind.Field (fields_of list) bytes.now) }
+        ensures size { IfSome result (λ list. fields_size list ≡ ids) }
+        ensures only { (entries : List Entry) → IsEntryList ids EntryKind.Field entries bytes.now
+            → IsSomeAnd result (λ list. fields_of list ≡ entries) }
+    {
+        let count = count_entries(bytes, EntryKind::Field, ids)?;
+        Some(FieldList {
+            bytes,
+            ids,
+            len: count as u16,
+        })
+    }
+
+    /// The list that was read.
+    pub fn of_span(span: EntrySpan<'a>, ids: IdSize) -> FieldList<'a>
+        requires { span.bytes.now ≡ entries_bytes ids kinds.Field (entries_in ids kinds.Field span.count span.bytes.now) }
+        ensures entries { fields_of result ≡ entries_in ids kinds.Field span.entry.count span.entry.bytes.now }
+        ensures size { fields_size result ≡ ids }
+    {
+        FieldList {
+            bytes: span.bytes,
+            ids,
+            len: span.count,
+        }
+    }
+
+    /// How many there are.
+    pub fn len(&self) -> usize
+        ensures { result ≡ length (fields_of self.now) }
+    {
+        self.len as usize
+    }
+
+    /// Whether there is none.
+    pub fn is_empty(&self) -> bool
+        ensures { IsTrue result ↔ (fields_of self.now ≡ []) }
+    {
+        self.len == 0
+    }
+
+    /// The field at that place. It is found by a walk over those before it.
+    pub fn get(&self, place: usize) -> Option<Field>
+        ensures { result ≡ option_map field_of (slice_get (fields_of self.now) place) }
+    {
+        let entry = nth_entry(
+            self.bytes,
+            self.len as usize,
+            place,
+            EntryKind::Field,
+            self.ids,
+        )?;
+        Some(Field::of(entry))
+    }
+
+    /// The bytes that spell them, without their count.
+    pub fn bytes(&self) -> &'a [u8]
+        ensures spelled { IsEntryList (fields_size self.now) EntryKind.Field (fields_of self.now) result.now }
+    {
+        // The range of what is read is known.
+        let _count = self.len;
+        in_range(self.bytes)
+    }
+
+    /// The size of identifiers among them. They have a spelling under it.
+    pub fn id_size(&self) -> IdSize
+        ensures size { result ≡ fields_size self.now }
+        ensures fits { ListFits result EntryKind.Field (fields_of self.now) }
+    {
+        // The range of what is read is known.
+        let _count = self.len;
+        let _bytes = in_range(self.bytes);
+        self.ids
+    }
+
+    /// The fields that the instances have in their order, in one walk over the bytes.
+    pub fn iter(&self) -> Fields<'a>
+        ensures { fields_left result ≡ fields_of self.now }
+    {
+        Fields {
+            rest: self.bytes,
+            ids: self.ids,
+            left: self.len as usize,
+        }
+    }
+}
+
+/// The fields that the instances have of a class, one after the other.
+#[derive(Drop)]
+pub struct Fields<'a> {
+    rest: &'a [u8],
+    ids: IdSize,
+    left: usize,
+    ghost spelled: { rest.now ≡ entries_bytes ids kinds.Field (entries_in ids kinds.Field left rest.now) },
+}
+
+impl<'a> Iterator for Fields<'a> {
+    ghost use Rattle.std.specs.Prelude.{map};
+    ghost use Rattle.std.specs.Iterator.{YieldsFirst, item_count};
+    ghost use Rattle.hprof_lists.specs.Value.{field_of};
+    ghost use Rattle.hprof_lists.specs.Lists.{fields_left};
+
+    type Item = Field;
+
+    ghost next_gives = { YieldsFirst (λ fields. map field_of (fields_left fields)) };
+
+    ghost remaining = { item_count fields_left };
+
+    fn next(&mut self) -> Option<Field> {
+        if self.left == 0 {
+            return None;
+        }
+        let (entry, rest) = next_entry(self.rest, self.left, EntryKind::Field, self.ids);
+        self.rest = rest;
+        self.left -= 1;
+        Some(Field::of(entry))
+    }
+}

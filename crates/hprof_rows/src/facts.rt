@@ -1,0 +1,46 @@
+//! The facts of a table, one after the other.
+
+ghost use Rattle.hprof_rows.specs.TableRows.{AreReadable, AreReadable-prop};
+
+use crate::table_rows::{TableRows, next_fact};
+use hprof_items::Fact;
+use hprof_values::IdSize;
+
+/// The facts of a table, in canonical order. They borrow from the heap.
+#[derive(Drop)]
+pub struct Facts<'a> {
+    ids: IdSize,
+    rows: TableRows<'a>,
+    // Each row that is still to come can be read back.
+    ghost sound: { AreReadable ids rows } by { AreReadable-prop ids rows },
+}
+
+impl<'a> Facts<'a> {
+    ghost use Rattle.std.specs.Prelude.{◌≡◌};
+    ghost use Rattle.hprof_rows.specs.TableRows.{facts_in_rows};
+    ghost use Rattle.hprof_rows.specs.FactsLeft.{facts_left, facts_ids};
+
+    /// The facts of those rows.
+    pub fn new(ids: IdSize, rows: TableRows<'a>) -> Self
+        requires { AreReadable ids rows }
+        ensures all { facts_left result ≡ facts_in_rows ids rows.entry }
+        ensures ids { facts_ids result ≡ ids }
+    {
+        Facts { ids, rows }
+    }
+}
+
+impl<'a> Iterator for Facts<'a> {
+    ghost use Rattle.std.specs.Iterator.{item_count};
+    ghost use Rattle.hprof_rows.specs.FactsLeft.{YieldsFact, facts_left};
+
+    type Item = Fact<'a>;
+
+    ghost next_gives = { YieldsFact };
+
+    ghost remaining = { item_count facts_left };
+
+    fn next(&mut self) -> Option<Fact<'a>> {
+        next_fact(&mut self.rows, self.ids)
+    }
+}

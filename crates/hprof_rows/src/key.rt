@@ -1,0 +1,33 @@
+//! Keys: what two facts may not both be about.
+
+ghost use Rattle.std.specs.Prelude.{◌≡◌};
+
+/// The key of a fact. Keys are ordered as they are listed here, and then by number.
+#[derive(Clone, Copy, Debug, PartialEq, Eq, PartialOrd, Ord)]
+pub enum Key {
+    /// A name, by its identifier.
+    Name(u64),
+    /// A loaded class, by its serial.
+    Load(u32),
+    /// A stack frame, by its identifier.
+    Frame(u64),
+    /// A stack trace, by its serial.
+    Trace(u32),
+    /// A thread that was started, by its serial.
+    Thread(u32),
+    /// A class dump, by the identifier of its class.
+    Class(u64),
+    /// A dump of an instance or an array, by its identifier.
+    Object(u64),
+}
+
+impl Key {
+    ghost use Rattle.hprof_rows.specs.Key.{lesser_key};
+
+    /// The key that comes first.
+    pub fn lesser(self, other: Key) -> Key
+        ensures { result ≡ lesser_key self other }
+    {
+        if self <= other { self } else { other }
+    }
+}

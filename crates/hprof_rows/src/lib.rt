@@ -1,0 +1,25 @@
+//! The rows of a heap's tables: the keys and contents of facts, how facts are kept as rows, and how rows are read back as
+//! facts.
+#![tactic(auto)]
+
+mod facts;
+mod key;
+mod number_rows;
+mod root_set;
+mod spelled;
+mod sub_row;
+mod sub_rows;
+mod table;
+mod table_rows;
+mod trace_row;
+
+pub use facts::Facts;
+pub use key::Key;
+pub use number_rows::{FrameRow, KeyRow, LoadRow, StartRow};
+pub use root_set::RootSet;
+pub use spelled::spelled_fact;
+pub use sub_row::SubRow;
+pub use sub_rows::SubRows;
+pub use table::Table;
+pub use table_rows::{TableRows, next_fact};
+pub use trace_row::{TraceFrames, TraceRow};

@@ -1,0 +1,84 @@
+//! The set of roots.
+
+ghost use Rattle.std.specs.Prelude.{◌≡◌, ◌↔◌, [], length, false, IfOk, OnErr, IsTrue};
+ghost use Rattle.std.specs.List.{list_any};
+ghost use Rattle.std.specs.BTreeMap.{is_at};
+ghost use Rattle.std.specs.List.Sorted.{IsStrictlySortedBy, IsStrictlySortedBy-prop};
+ghost use Rattle.hprof_rows.specs.Order.{root_cmp};
+
+use hprof_tables::Stated;
+use hprof_values::Root;
+use std::alloc::{AllocError, Global};
+use std::collections::{BTreeSet, btree_set};
+
+/// Roots, each once, in the order of their spellings.
+#[derive(Drop)]
+pub struct RootSet {
+    roots: BTreeSet<Root>,
+    alloc: Global,
+    ghost sound: { IsStrictlySortedBy root_cmp roots.keys } by { IsStrictlySortedBy-prop root_cmp roots.keys },
+}
+
+impl RootSet {
+    ghost use Rattle.hprof_rows.specs.RootSet.{roots_of, IsUnionOfRoots, LacksRoot, StatesRoot};
+
+    /// A set with no roots. It takes no memory yet.
+    pub fn new(alloc: Global) -> Self
+        ensures { roots_of result ≡ [] }
+    {
+        RootSet {
+            roots: BTreeSet::new(alloc),
+            alloc,
+        }
+    }
+
+    /// States a root. One that is there takes no memory.
+    pub fn state(&mut self, root: Root) -> Result<Stated, AllocError>
+        ensures ok { IfOk result (λ stated. StatesRoot (roots_of self.old) root stated (roots_of self.new)) }
+        ensures err { OnErr result (roots_of self.new ≡ roots_of self.old) }
+        ensures absent { OnErr result (list_any (is_at (root_cmp root)) (roots_of self.old) ≡ false) }
+    {
+        match self.roots.insert(root) {
+            Ok(true) => Ok(Stated::New),
+            Ok(false) => Ok(Stated::Same),
+            Err(_) => Err(AllocError),
+        }
+    }
+
+    /// The number of roots.
+    pub fn len(&self) -> usize
+        ensures { result ≡ length (roots_of self.now) }
+    {
+        self.roots.len()
+    }
+
+    /// Whether both have the same roots.
+    pub fn same(&self, other: &Self) -> bool
+        ensures { IsTrue result ↔ (roots_of self.now ≡ roots_of other.now) }
+    {
+        self.roots == other.roots
+    }
+
+    /// Takes the roots of another. Both are gone over side by side; where memory is refused, nothing changes. No memory is
+    /// wanted where all of them are there.
+    pub fn join(&mut self, other: &Self) -> Result<(), AllocError>
+        ensures ok { IfOk result (λ _. IsUnionOfRoots (roots_of self.old) (roots_of other.now) (roots_of self.new)) }
+        ensures err { OnErr result (roots_of self.new ≡ roots_of self.old) }
+        ensures absent { OnErr result (LacksRoot (roots_of self.old) (roots_of other.now)) }
+        ensures unchanged { IfOk result (λ _. (LacksRoot (roots_of self.old) (roots_of other.now) → ⊥) → self.new ≡ self.old) }
+    {
+        if other.roots.is_subset(&self.roots) {
+            return Ok(());
+        }
+        let all = self.roots.union(&other.roots).copied().collect(self.alloc)?;
+        self.roots = all;
+        Ok(())
+    }
+
+    /// The roots, in order.
+    pub fn iter(&self) -> btree_set::Iter<'_, Root>
+        ensures { result ≡ roots_of self.now }
+    {
+        self.roots.iter()
+    }
+}

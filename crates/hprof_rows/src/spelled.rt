@@ -1,0 +1,21 @@
+//! Classes and objects, which are kept as they are spelled.
+
+ghost use Rattle.std.specs.Prelude.{◌≡◌};
+ghost use Rattle.hprof_items.specs.FactValue.{FactValue, ListsHave, value_of};
+ghost use Rattle.hprof_rows.specs.Spelled.{Spells};
+
+use hprof_items::{Fact, Step, read_sub};
+use hprof_values::IdSize;
+
+/// The fact that the bytes of a sub-record spell.
+pub fn spelled_fact(bytes: &[u8], ids: IdSize) -> Fact<'_>
+    requires { (fact : FactValue) × Spells ids fact bytes.now }
+    ensures fact { (fact : FactValue) → Spells ids fact bytes.now → value_of result ≡ fact }
+    ensures lists { ListsHave ids result }
+{
+    let len = bytes.len() as u32;
+    match read_sub(bytes, len, len, ids) {
+        Step::Whole(fact, _) => fact,
+        Step::Short | Step::TooLong | Step::Fault(_) => unreachable!(),
+    }
+}

@@ -1,0 +1,74 @@
+//! The sub-records of a heap, one after the other.
+
+ghost use Rattle.hprof_tables.specs.BytesTable.{byte_rows_left};
+ghost use Rattle.hprof_rows.specs.SubRow.{AreWritable, AreWritable-prop, HasEnded, HasEnded-prop};
+
+use crate::sub_row::SubRow;
+use hprof_tables::BytesRows;
+use hprof_values::{IdSize, Root};
+use std::collections::btree_set;
+
+/// The sub-records of a heap that are still to come, in canonical order: its roots, its classes, its objects.
+#[derive(Drop)]
+pub struct SubRows<'a> {
+    ids: IdSize,
+    roots: btree_set::Iter<'a, Root>,
+    classes: BytesRows<'a>,
+    objects: BytesRows<'a>,
+    // Whether roots and classes were found to be at their ends, so that they are not asked again for each object.
+    at_objects: bool,
+    ghost ended: { HasEnded at_objects roots (byte_rows_left classes) } by { HasEnded-prop at_objects roots (byte_rows_left classes) },
+    // Each of them can be written.
+    ghost sound: { AreWritable ids roots (byte_rows_left classes) (byte_rows_left objects) } by { AreWritable-prop ids roots
+        (byte_rows_left classes) (byte_rows_left objects) },
+}
+
+impl<'a> SubRows<'a> {
+    ghost use Rattle.std.specs.Prelude.{◌≡◌};
+    ghost use Rattle.hprof_rows.specs.SubRow.{facts_of_subs};
+    ghost use Rattle.hprof_rows.specs.SubRows.{YieldsSub, subs_left, subs_ids};
+
+    /// The sub-records of those tables.
+    pub fn new(
+        ids: IdSize,
+        roots: btree_set::Iter<'a, Root>,
+        classes: BytesRows<'a>,
+        objects: BytesRows<'a>,
+    ) -> Self
+        requires { AreWritable ids roots (byte_rows_left classes) (byte_rows_left objects) }
+        ensures all { subs_left result ≡ facts_of_subs ids roots.entry (byte_rows_left classes.entry) (byte_rows_left objects.entry) }
+        ensures ids { subs_ids result ≡ ids }
+    {
+        SubRows {
+            ids,
+            roots,
+            classes,
+            objects,
+            at_objects: false,
+        }
+    }
+
+    /// The size of their identifiers.
+    pub fn ids(&self) -> IdSize
+        ensures { result ≡ subs_ids self.now }
+    {
+        self.ids
+    }
+
+    /// Takes the first.
+    pub fn next(&mut self) -> Option<SubRow<'a>>
+        ensures { YieldsSub self.old result self.new }
+    {
+        if !self.at_objects {
+            if let Some(root) = self.roots.next() {
+                return Some(SubRow::Root(*root));
+            }
+            if let Some((_id, bytes)) = self.classes.next() {
+                return Some(SubRow::Spelled(bytes));
+            }
+            self.at_objects = true;
+        }
+        let (_id, bytes) = self.objects.next()?;
+        Some(SubRow::Spelled(bytes))
+    }
+}

@@ -1,0 +1,164 @@
+//! The rows of one table, whichever it is, and the facts that are read from them.
+
+ghost use Rattle.std.specs.Prelude.{◌≡◌, ◌<◌, IfSome};
+ghost use Rattle.std.specs.Iterator.{YieldsFirstBy};
+ghost use Rattle.hprof_values.specs.declared.ids.IdSize.{IdSize};
+ghost use Rattle.hprof_items.specs.FactValue.{ListsHave, value_of};
+ghost use Rattle.hprof_rows.specs.HeapRows.{name_facts, load_facts, unload_facts, frame_facts, trace_facts, start_facts, end_facts};
+ghost use Rattle.hprof_rows.specs.HeapRows.{root_facts, spelled_facts};
+ghost use Rattle.hprof_tables.specs.Rows.{rows_left};
+ghost use Rattle.hprof_tables.specs.BytesTable.{byte_rows_left};
+ghost use Rattle.hprof_rows.specs.TableRows.{AreSerials, AreWhole, AreSpelled, AreReadable, facts_in_rows};
+
+use crate::number_rows::{FrameRow, KeyRow, LoadRow, StartRow};
+use crate::spelled::spelled_fact;
+use crate::trace_row::TraceRow;
+use hprof_items::Fact;
+use hprof_tables::{BytesRows, Rows};
+use hprof_values::{IdSize, Root};
+use std::collections::btree_set;
+
+/// The rows of a table that are still to come.
+#[derive(Drop)]
+pub enum TableRows<'a> {
+    /// Names, by identifier.
+    Names(BytesRows<'a>),
+    /// Classes that were loaded, by serial.
+    Loads(Rows<'a, LoadRow>),
+    /// Classes that were unloaded, by serial.
+    Unloads(Rows<'a, KeyRow>),
+    /// Frames of stacks, by identifier.
+    Frames(Rows<'a, FrameRow>),
+    /// Stacks, by serial.
+    Traces(Rows<'a, TraceRow>),
+    /// Threads that were started, by serial.
+    Starts(Rows<'a, StartRow>),
+    /// Threads that ended, by serial.
+    Ends(Rows<'a, KeyRow>),
+    /// Roots.
+    Roots(btree_set::Iter<'a, Root>),
+    /// Classes, by identifier.
+    Classes(BytesRows<'a>),
+    /// Instances and arrays, by identifier.
+    Objects(BytesRows<'a>),
+}
+
+/// The fact of the first row. The rows behind it are left.
+#[inline(always)]
+pub fn next_fact<'a>(rows: &mut TableRows<'a>, ids: IdSize) -> Option<Fact<'a>>
+    requires { AreReadable ids rows.old }
+    ensures first { YieldsFirstBy value_of (facts_in_rows ids) rows.old result rows.new }
+    ensures lists { IfSome result (ListsHave ids) }
+    ensures kept { AreReadable ids rows.new }
+{
+    match rows {
+        TableRows::Names(rows) => next_name(rows),
+        TableRows::Loads(rows) => next_load(rows),
+        TableRows::Unloads(rows) => next_unload(rows),
+        TableRows::Frames(rows) => next_frame(rows),
+        TableRows::Traces(rows) => next_trace(rows, ids),
+        TableRows::Starts(rows) => next_start(rows),
+        TableRows::Ends(rows) => next_end(rows),
+        TableRows::Roots(roots) => next_root(roots),
+        TableRows::Classes(rows) => next_spelled(rows, ids),
+        TableRows::Objects(rows) => next_spelled(rows, ids),
+    }
+}
+
+/// The first name.
+#[inline(always)]
+fn next_name<'a>(rows: &mut BytesRows<'a>) -> Option<Fact<'a>>
+    ensures first { YieldsFirstBy value_of (λ rows. name_facts (byte_rows_left rows)) rows.old result rows.new }
+    ensures lists { (ids : IdSize) → IfSome result (ListsHave ids) }
+{
+    let (id, text) = rows.next()?;
+    Some(Fact::Name { id, text })
+}
+
+/// The first class that was loaded.
+fn next_load<'a>(rows: &mut Rows<'a, LoadRow>) -> Option<Fact<'a>>
+    requires { AreSerials (rows_left rows.old) }
+    ensures first { YieldsFirstBy value_of (λ rows. load_facts (rows_left rows)) rows.old result rows.new }
+    ensures lists { (ids : IdSize) → IfSome result (ListsHave ids) }
+    ensures kept { AreSerials (rows_left rows.new) }
+{
+    let (serial, row) = rows.next()?;
+    Some(row.fact(serial as u32))
+}
+
+/// The first class that was unloaded.
+fn next_unload<'a>(rows: &mut Rows<'a, KeyRow>) -> Option<Fact<'a>>
+    requires { AreSerials (rows_left rows.old) }
+    ensures first { YieldsFirstBy value_of (λ rows. unload_facts (rows_left rows)) rows.old result rows.new }
+    ensures lists { (ids : IdSize) → IfSome result (ListsHave ids) }
+    ensures kept { AreSerials (rows_left rows.new) }
+{
+    let (serial, _row) = rows.next()?;
+    Some(Fact::Unload {
+        serial: serial as u32,
+    })
+}
+
+/// The first frame.
+fn next_frame<'a>(rows: &mut Rows<'a, FrameRow>) -> Option<Fact<'a>>
+    ensures first { YieldsFirstBy value_of (λ rows. frame_facts (rows_left rows)) rows.old result rows.new }
+    ensures lists { (ids : IdSize) → IfSome result (ListsHave ids) }
+{
+    let (id, row) = rows.next()?;
+    Some(row.fact(id))
+}
+
+/// The first stack.
+fn next_trace<'a>(rows: &mut Rows<'a, TraceRow>, ids: IdSize) -> Option<Fact<'a>>
+    requires { AreWhole ids (rows_left rows.old) }
+    ensures first { YieldsFirstBy value_of (λ rows. trace_facts ids (rows_left rows)) rows.old result rows.new }
+    ensures lists { IfSome result (ListsHave ids) }
+    ensures kept { AreWhole ids (rows_left rows.new) }
+{
+    let (serial, row) = rows.next()?;
+    Some(row.fact(serial as u32, ids))
+}
+
+/// The first thread that was started.
+fn next_start<'a>(rows: &mut Rows<'a, StartRow>) -> Option<Fact<'a>>
+    requires { AreSerials (rows_left rows.old) }
+    ensures first { YieldsFirstBy value_of (λ rows. start_facts (rows_left rows)) rows.old result rows.new }
+    ensures lists { (ids : IdSize) → IfSome result (ListsHave ids) }
+    ensures kept { AreSerials (rows_left rows.new) }
+{
+    let (thread, row) = rows.next()?;
+    Some(row.fact(thread as u32))
+}
+
+/// The first thread that ended.
+fn next_end<'a>(rows: &mut Rows<'a, KeyRow>) -> Option<Fact<'a>>
+    requires { AreSerials (rows_left rows.old) }
+    ensures first { YieldsFirstBy value_of (λ rows. end_facts (rows_left rows)) rows.old result rows.new }
+    ensures lists { (ids : IdSize) → IfSome result (ListsHave ids) }
+    ensures kept { AreSerials (rows_left rows.new) }
+{
+    let (thread, _row) = rows.next()?;
+    Some(Fact::End {
+        thread: thread as u32,
+    })
+}
+
+/// The first root.
+fn next_root<'a>(roots: &mut btree_set::Iter<'a, Root>) -> Option<Fact<'a>>
+    ensures first { YieldsFirstBy value_of root_facts roots.old result roots.new }
+    ensures lists { (ids : IdSize) → IfSome result (ListsHave ids) }
+{
+    let root = roots.next()?;
+    Some(Fact::Root(*root))
+}
+
+/// The first class or object.
+fn next_spelled<'a>(rows: &mut BytesRows<'a>, ids: IdSize) -> Option<Fact<'a>>
+    requires { AreSpelled ids (byte_rows_left rows.old) }
+    ensures first { YieldsFirstBy value_of (λ rows. spelled_facts ids (byte_rows_left rows)) rows.old result rows.new }
+    ensures lists { IfSome result (ListsHave ids) }
+    ensures kept { AreSpelled ids (byte_rows_left rows.new) }
+{
+    let (_id, bytes) = rows.next()?;
+    Some(spelled_fact(bytes, ids))
+}

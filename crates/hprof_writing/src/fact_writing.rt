@@ -1,0 +1,40 @@
+//! Writing any fact.
+
+ghost use Rattle.std.specs.Prelude.{◌≡◌};
+ghost use Rattle.hprof_devices.specs.declared.health.Health.TheVariants.{Well};
+ghost use Rattle.hprof_items.specs.Spelling.{spelling, Fits};
+ghost use Rattle.hprof_items.specs.FactValue.{value_of, ListsHave};
+ghost use Rattle.hprof_devices.specs.Device.{Writes, LeavesHealth};
+
+use crate::class_writing::write_class;
+use crate::object_writing::{write_instance, write_obj_array, write_prim_array, write_root};
+use crate::record_writing::{
+    write_end, write_frame, write_load, write_name, write_start, write_trace, write_unload,
+};
+use hprof_devices::{Target, WriteFault};
+use hprof_items::Fact;
+use hprof_values::IdSize;
+
+/// Writes the fact's spelling. At a fault some of it was written, from the front. Nothing is flushed.
+pub fn write_fact<W: Target>(fact: &Fact<'_>, ids: IdSize, target: &mut W) -> Result<(), WriteFault>
+    requires well { W.health target.old ≡ Well }
+    requires fits { Fits ids (value_of fact.now) }
+    requires lists { ListsHave ids fact.now }
+    ensures bytes { Writes (W.written target.old) (W.written target.new) result (spelling ids (value_of fact.now)) }
+    ensures health { LeavesHealth result (W.health target.new) }
+{
+    match *fact {
+        Fact::Name { .. } => write_name(fact, ids, target),
+        Fact::Load { .. } => write_load(fact, ids, target),
+        Fact::Unload { .. } => write_unload(fact, ids, target),
+        Fact::Frame { .. } => write_frame(fact, ids, target),
+        Fact::Trace { .. } => write_trace(fact, ids, target),
+        Fact::Start { .. } => write_start(fact, ids, target),
+        Fact::End { .. } => write_end(fact, ids, target),
+        Fact::Root(root) => write_root(root, ids, target),
+        Fact::Class { .. } => write_class(fact, ids, target),
+        Fact::Instance { .. } => write_instance(fact, ids, target),
+        Fact::ObjArray { .. } => write_obj_array(fact, ids, target),
+        Fact::PrimArray { .. } => write_prim_array(fact, ids, target),
+    }
+}

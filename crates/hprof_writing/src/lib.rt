@@ -1,0 +1,18 @@
+//! Headers, heads of records and facts, written to a target: what fits its bytes, how many they are, and the writing
+//! itself. No call of this crate takes memory.
+#![tactic(auto)]
+
+mod class_writing;
+mod fact_writing;
+mod fitting;
+mod front_fitting;
+mod front_writing;
+mod object_fitting;
+mod object_writing;
+mod record_fitting;
+mod record_writing;
+mod writing;
+
+pub use fact_writing::write_fact;
+pub use fitting::{fits, spelled_len};
+pub use writing::{write_head, write_header};
