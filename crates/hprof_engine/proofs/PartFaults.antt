@@ -18,7 +18,7 @@ use Rattle.hprof_stream.specs.Fault.{IsFirstFault, is_lasting, is_settled}
 use Rattle.hprof_stream.specs.Reader.{Pulled, none, once_more, RanUpTo, IsUnheld, LacksAtLast, ReadsPart}
 use Rattle.hprof_heap.specs.declared.gatherer.Gatherer.{Gatherer}
 use Rattle.hprof_heap.specs.Gathering.{Given, gathered, nothing_gathered, Begins, Takes, Gathers, LacksRow, IsNewBehind}
-use Rattle.hprof_heap.proofs.Gathering.{new_behind}
+use Rattle.hprof_heap.proofs.Told.{new_behind}
 use Rattle.hprof_engine.specs.Joining.{IsPartFault, IsOfPart}
 use Rattle.hprof_engine.proofs.Gathered.{Run-shown, Run-sound}
 use Rattle.hprof_stream.proofs.Longer.{longer_input}

@@ -23,7 +23,8 @@ use Rattle.hprof_rows.proofs.Conflicts.{IsConsistent-same, IsConsistent-some, Is
 use Rattle.hprof_rows.proofs.FactEquality.{one_or_two}
 use Rattle.hprof_rows.proofs.FactSets.{Has-parts, Has-front, Has-back, Has-both, SameFacts-refl, SameFacts-sym, SameFacts-trans}
 use Rattle.hprof_rows.proofs.FactSets.{SameFacts-append, SameFacts-turned, SameFacts-twice}
-use Rattle.hprof_heap.proofs.Gathering.{Holds, holds_new, holds_same, holds_differs, holds_all, holds_least}
+use Rattle.hprof_heap.proofs.Told.{holds_all, holds_least}
+use Rattle.hprof_heap.proofs.Marks.{Holds, holds_new, holds_same, holds_differs}
 use Rattle.hprof_rows.proofs.Inserting.{agreeing-order, find-Some, inserted, inserted-adds, states-sound}
 use Rattle.hprof_rows.proofs.Keys.{same_place, same_place-true, HaveOneKey-sym}
 use Rattle.hprof_rows.proofs.Order.{one_order, order_agrees}

@@ -1,7 +1,10 @@
 pub mod Least
 pub mod ClassName
 pub mod Steady
+pub mod Marks
 pub mod Gathering
+pub mod Told
 pub mod Joins
+pub mod TableOrder
 pub mod JoinTables
 pub mod JoinHeaps

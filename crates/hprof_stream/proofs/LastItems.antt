@@ -17,7 +17,7 @@ use Rattle.hprof_stream.specs.Reader.{header_of, HasRead, RanUpTo, whole_len}
 use Rattle.hprof_stream.proofs.Items.{item_again}
 use Rattle.hprof_stream.proofs.ItemLists.{AreItems-then, all_bytes-then, all_facts-then, items_headers}
 use Rattle.hprof_stream.proofs.Faults.{item_once}
-use Rattle.hprof_stream.proofs.Feeding.{taken_is}
+use Rattle.hprof_stream.proofs.PieceRoom.{taken_is}
 
 -- what is short is not whole
 never_whole : (step : Step Found) (found : Found) (n : ℕ) → step ≡ Whole found n → step ≡ Short → ⊥

@@ -9,8 +9,10 @@ pub mod ItemSteps
 pub mod Rests
 pub mod ItemLists
 pub mod Runs
+pub mod Behind
 pub mod Walks
 pub mod Stepping
+pub mod Holding
 pub mod HeldOn
 pub mod Faults
 pub mod Grammar
@@ -20,8 +22,11 @@ pub mod SubEnds
 pub mod SubLimits
 pub mod Smaller
 pub mod Feeding
+pub mod PieceRoom
+pub mod FedRefusals
 pub mod Finishing
 pub mod LastItems
+pub mod FedRuns
 pub mod Sources
 pub mod Rooms
 pub mod Tallies

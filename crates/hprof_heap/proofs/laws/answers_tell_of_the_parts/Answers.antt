@@ -1,4 +1,4 @@
-use Rattle.hprof_heap.proofs.Gathering.{told}
+use Rattle.hprof_heap.proofs.Told.{told}
 use Rattle.hprof_heap.proofs.laws.answers_tell_of_the_parts.Goals as goal
 
 pub returns : goal.returns

@@ -1,6 +1,6 @@
 use Rattle.std.proofs.Common.{refl, sym, ◌∙◌}
 use Rattle.hprof_stream.specs.Progress.{place_of}
-use Rattle.hprof_stream.proofs.HeldOn.{IsRest-held, IsRest-passing, not_some}
+use Rattle.hprof_stream.proofs.Holding.{IsRest-held, IsRest-passing, not_some}
 use Rattle.hprof_stream.proofs.held.count_passed.Goals as goal
 
 pub returns-in-Some-clause-rest : goal.returns-in-Some-clause-rest

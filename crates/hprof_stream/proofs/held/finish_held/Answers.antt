@@ -1,7 +1,8 @@
 use Rattle.std.proofs.Common.{◌<◌, length, refl, ap, inr, arith}
 use Rattle.std.proofs.lemmas.Result.{err_from_is_err_and}
 use Rattle.std.specs.Vec.{vec_len}
-use Rattle.hprof_stream.proofs.HeldOn.{some_len, GoesOn-then, GoesOn-halted}
+use Rattle.hprof_stream.proofs.Holding.{some_len}
+use Rattle.hprof_stream.proofs.HeldOn.{GoesOn-then, GoesOn-halted}
 use Rattle.hprof_stream.proofs.Rooms.{KeepsRoom-then, NeedsGrowth-from}
 use Rattle.hprof_stream.proofs.held.finish_held.Goals as goal
 

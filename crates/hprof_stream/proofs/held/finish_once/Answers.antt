@@ -11,7 +11,8 @@ use Rattle.hprof_stream.specs.Progress.{place_of}
 use Rattle.hprof_stream.specs.Item.{item_at}
 use Rattle.hprof_stream.specs.Rest.{IsRest, IsWalkOf, passing_of, passed_len, rest_len}
 use Rattle.hprof_stream.specs.Walking.{GoesOn, IsHalted, StepsOver}
-use Rattle.hprof_stream.proofs.HeldOn.{cut_bytes, held_more, IsRest-held, GoesOn-still, GoesOn-whole, FinishesHeld-refused, IsWalkOf-front}
+use Rattle.hprof_stream.proofs.Holding.{cut_bytes, held_more, IsRest-held, IsWalkOf-front}
+use Rattle.hprof_stream.proofs.HeldOn.{GoesOn-still, GoesOn-whole, FinishesHeld-refused}
 use Rattle.hprof_stream.proofs.HeldOn.{item_longer}
 use Rattle.hprof_stream.proofs.ItemLists.{room_behind}
 use Rattle.hprof_stream.proofs.Rests.{IsRest-none}

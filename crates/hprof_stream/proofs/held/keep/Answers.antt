@@ -1,6 +1,6 @@
 use Rattle.std.proofs.Common.{refl, sym, ◌∙◌, arith}
 use Rattle.hprof_stream.specs.Progress.{place_of}
-use Rattle.hprof_stream.proofs.HeldOn.{kept_behind, on_ok, not_some, not_empty}
+use Rattle.hprof_stream.proofs.Holding.{kept_behind, on_ok, not_some, not_empty}
 use Rattle.hprof_stream.proofs.held.keep.Goals as goal
 
 pub returns-clause-ok : goal.returns-clause-ok

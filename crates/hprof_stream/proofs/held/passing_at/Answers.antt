@@ -1,5 +1,5 @@
 use Rattle.std.proofs.Common.{refl, arith}
-use Rattle.hprof_stream.proofs.HeldOn.{head_there}
+use Rattle.hprof_stream.proofs.Holding.{head_there}
 use Rattle.hprof_stream.proofs.held.passing_at.Goals as goal
 
 pub overflow_cast-result : goal.overflow_cast-result

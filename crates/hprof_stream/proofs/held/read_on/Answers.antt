@@ -2,10 +2,11 @@ use Rattle.std.proofs.Common.{◌≡◌, ◌⊎◌, ◌<◌, ◌++◌, length, O
 use Rattle.std.specs.Vec.{vec_len}
 use Rattle.hprof_items.specs.declared.header.Header.{Header}
 use Rattle.hprof_stream.specs.Walking.{IsBegun, seen}
-use Rattle.hprof_stream.proofs.HeldOn.{Behind-held, Behind-over, ReadsOn-kept, ReadsOn-walk, none_left, counted_behind, some_len, no_len}
-use Rattle.hprof_stream.proofs.HeldOn.{none_is}
+use Rattle.hprof_stream.proofs.Holding.{some_len, no_len}
+use Rattle.hprof_stream.proofs.HeldOn.{Behind-held, Behind-over, ReadsOn-kept, ReadsOn-walk, none_left, counted_behind}
+use Rattle.hprof_stream.proofs.Holding.{none_is}
 use Rattle.hprof_stream.proofs.Stepping.{all_keeps}
-use Rattle.hprof_stream.proofs.Walks.{IsCounted-less}
+use Rattle.hprof_stream.proofs.Behind.{IsCounted-less}
 use Rattle.hprof_stream.proofs.held.read_on.Goals as goal
 use Rattle.hprof_stream.proofs.held.read_on.Goals.{then-is_some-via-then-is_some, then-is_some-via-else-is_some+then-not-is_empty}
 

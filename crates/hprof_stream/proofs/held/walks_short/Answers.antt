@@ -1,7 +1,7 @@
 use Rattle.std.proofs.Common.{length, Err, sym, ap, subst, ◌∙◌, arith}
 use Rattle.hprof_stream.specs.Item.{Place, item_at}
 use Rattle.hprof_stream.specs.Rest.{IsWalkOf, passing_of}
-use Rattle.hprof_stream.proofs.HeldOn.{IsWalkOf-on, walked_short, placed_at, some_room, place_within}
+use Rattle.hprof_stream.proofs.Holding.{IsWalkOf-on, walked_short, placed_at, some_room, place_within}
 use Rattle.hprof_stream.proofs.held.walks_short.Goals as goal
 
 pub returns-in-Err-Short-clause-walk : goal.returns-in-Err-Short-clause-walk

@@ -3,7 +3,8 @@ use Rattle.std.proofs.KnownBytes.{Consumes-nil, Consumes-kept}
 use Rattle.std.proofs.lemmas.List.{length-take-le}
 use Rattle.std.proofs.lemmas.Result.{err_from_is_err_and}
 use Rattle.std.specs.Io.KnownBytes.{Consumes}
-use Rattle.hprof_stream.proofs.Sources.{no_bytes_no_header, HasFed-none, HasFed-more, HasFed-fault, HasFed-end, HasFed-failed, HasFed-spent}
+use Rattle.hprof_stream.proofs.FedRuns.{no_bytes_no_header}
+use Rattle.hprof_stream.proofs.Sources.{HasFed-none, HasFed-more, HasFed-fault, HasFed-end, HasFed-failed, HasFed-spent}
 use Rattle.hprof_stream.proofs.reading.feed_all.Goals as goal
 
 pub loop-init : goal.loop-init

@@ -2,7 +2,7 @@ use Rattle.std.proofs.Common.{◌≡◌, subst, rules, Ok, Err}
 use Rattle.hprof_heap.specs.declared.standing.Refusal.TheVariants as refusals
 use Rattle.hprof_heap.specs.Heap.{heap_of}
 use Rattle.hprof_heap.specs.Gathering.{gathered, answer_of, Tells}
-use Rattle.hprof_heap.proofs.Gathering.{told}
+use Rattle.hprof_heap.proofs.Told.{told}
 use Rattle.hprof_heap.proofs.gatherer.Gatherer.finish.Goals as goal
 
 pub returns-then-failed-clause-told : goal.returns-then-failed-clause-told

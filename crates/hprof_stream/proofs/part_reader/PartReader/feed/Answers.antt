@@ -3,8 +3,10 @@ use Rattle.std.proofs.lemmas.Bool.{both_ways, eqb-true, eqb-false}
 use Rattle.std.proofs.lemmas.List.{length-drop, nil_from_length}
 use Rattle.std.specs.Prelude.{OnOk}
 use Rattle.std.specs.Result.{is_err}
-use Rattle.hprof_stream.proofs.Feeding.{KeepsLeft, room_of, front_kept, taken_whole, taken_some, taken_all, takes_all, Feeds-refused}
-use Rattle.hprof_stream.proofs.Feeding.{IsFeedFault-excess, Feeds-kept, Feeds-unheld}
+use Rattle.hprof_stream.proofs.FedRefusals.{KeepsLeft, Feeds-refused}
+use Rattle.hprof_stream.proofs.PieceRoom.{room_of, taken_whole, taken_some, taken_all, takes_all}
+use Rattle.hprof_stream.proofs.Feeding.{front_kept}
+use Rattle.hprof_stream.proofs.FedRefusals.{IsFeedFault-excess, Feeds-kept, Feeds-unheld}
 use Rattle.hprof_stream.proofs.part_reader.PartReader.feed.Goals.{in-Ok, in-Ok-2, in-Err}
 use Rattle.hprof_stream.proofs.part_reader.PartReader.feed.Goals as goal
 

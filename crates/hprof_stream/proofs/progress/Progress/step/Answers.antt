@@ -3,7 +3,8 @@ use Rattle.hprof_items.specs.declared.header.Header.{Header}
 use Rattle.hprof_stream.specs.declared.progress.Progress.{Progress}
 use Rattle.hprof_stream.specs.ItemValue.{with_fact}
 use Rattle.hprof_stream.specs.Walking.{Walks, GivesFit}
-use Rattle.hprof_stream.proofs.Walks.{bare_after, bare_next, bare_told, Walks-item, given_fits, read_within, next_counted, Stops-refused}
+use Rattle.hprof_stream.proofs.Behind.{bare_after, bare_next, bare_told}
+use Rattle.hprof_stream.proofs.Walks.{Walks-item, given_fits, read_within, next_counted, Stops-refused}
 use Rattle.hprof_stream.proofs.progress.Progress.step.Goals as goal
 
 pub split_at-requires : goal.split_at-requires
