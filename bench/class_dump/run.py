@@ -20,7 +20,6 @@ PIECES = [1 << 30, 4_096, 1]
 
 HERE = pathlib.Path(__file__).resolve().parent
 ROOT = HERE.parent.parent
-CRATES = ["hprof_values", "hprof_items", "hprof_stream", "hprof_heap"]
 
 HEADER = b"JAVA PROFILE 1.0.2\0" + struct.pack(">IQ", 8, 1)
 
@@ -40,16 +39,27 @@ def part(last_type):
     return HEADER + b"\x1c" + struct.pack(">II", 0, len(body)) + body
 
 
+def crates_below(crate):
+    """The crate and those that it stands on, as crates.txt names them."""
+    lines = [line.split(":") for line in (ROOT / "crates.txt").read_text().split("\n") if ":" in line and not line.startswith("#")]
+    below = {name: libraries.split() for name, libraries in lines}
+    wanted = [crate]
+    for name in wanted:
+        wanted += [library for library in below[name] if library in below and library not in wanted]
+    return wanted
+
+
 def build(folder):
-    for crate in CRATES:
+    crates = crates_below("hprof_heap")
+    for crate in crates:
         shutil.copytree(ROOT / "crates" / crate, folder / "crates" / crate, ignore=shutil.ignore_patterns("out"))
     program = folder / "crates" / "class_dump_bench"
     (program / "src").mkdir(parents=True)
     shutil.copy(HERE / "main.rt.in", program / "src" / "main.rt")
     (program / "proofs" / "fed").mkdir(parents=True)
     shutil.copy(HERE / "Invariants.antt.in", program / "proofs" / "fed" / "Invariants.antt")
-    lines = [line for line in (ROOT / "crates.txt").read_text().split("\n") if line.split(":")[0] in CRATES]
-    lines.append("class_dump_bench: hprof_stream hprof_heap hprof_items hprof_values")
+    lines = [line for line in (ROOT / "crates.txt").read_text().split("\n") if line.split(":")[0] in crates]
+    lines.append("class_dump_bench: hprof_stream hprof_heap")
     (folder / "crates.txt").write_text("\n".join(lines) + "\n")
     built = subprocess.run(["rt", "run", "--jobs", "2"], cwd=program, capture_output=True, text=True)
     if built.returncode != 0:

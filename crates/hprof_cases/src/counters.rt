@@ -3,8 +3,8 @@
 use std::alloc::Allocator;
 use std::cell::Cell;
 use std::fs::{Metadata, OpenOptions};
-use std::io::{ErrorKind, Read, Write};
 use std::io;
+use std::io::{ErrorKind, Read, Write};
 use std::rt::Files;
 
 /// A reader that gives these bytes, as many at a time as there is room for, and counts its reads.

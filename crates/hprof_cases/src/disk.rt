@@ -2,8 +2,8 @@
 
 use std::alloc::Allocator;
 use std::fs::{Metadata, OpenFile, OpenOptions};
-use std::io::{ErrorKind, Read, Seek, SeekFrom, Write};
 use std::io;
+use std::io::{ErrorKind, Read, Seek, SeekFrom, Write};
 use std::rt::Files;
 
 /// What goes wrong in the end.

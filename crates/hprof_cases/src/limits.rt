@@ -11,8 +11,8 @@ use hprof_heap::Key;
 use hprof_items::Reason;
 use hprof_stream::{Limits, PartFault, laws};
 use std::alloc::Global;
-use std::io::Read;
 use std::io;
+use std::io::Read;
 use std::process::Abort;
 use std::test::Fail;
 

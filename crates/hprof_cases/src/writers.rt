@@ -10,8 +10,8 @@ use hprof_engine::{Joined, ToolFault, join_to};
 use hprof_reports::check_to;
 use hprof_stream::Limits;
 use std::alloc::Global;
-use std::io::Write;
 use std::io;
+use std::io::Write;
 use std::test::Fail;
 
 /// A writer that takes some bytes, so many at a call, and then fails or takes none. A write of no bytes fails.

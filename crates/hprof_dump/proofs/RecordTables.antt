@@ -1,28 +1,19 @@
 -- What records state, table by table.
-use Rattle.std.proofs.Common.{◌≡◌, ℕ, zero, suc, ◌+◌, ◌<◌, ◌≤◌, Bool, true, false, List, [], ◌∷◌, ◌++◌, take, drop, append-nil, refl, sym}
-use Rattle.std.proofs.Common.{ap, subst, ◌∙◌, inl, inr, arith}
-use Rattle.std.specs.Prelude.{not, nat_lt, slice_index}
-use Rattle.std.specs.List.{AllByRecursion, filter, flat_map}
-use Rattle.std.proofs.lemmas.Bool.{lt-ltb, le-ltb}
+use Rattle.std.proofs.Common.{◌≡◌, ℕ, ◌+◌, List, [], ◌∷◌, ◌++◌, take, refl, sym}
+use Rattle.std.proofs.Common.{ap, ◌∙◌}
+use Rattle.std.specs.List.{flat_map}
 use Rattle.std.proofs.lemmas.Grind.{flat_map-append}
-use Rattle.std.proofs.lemmas.List.Elements.{filter-append}
 use Rattle.hprof_values.specs.declared.ids.IdSize.{IdSize}
-use Rattle.hprof_values.specs.declared.root.Root.{Root}
-use Rattle.hprof_items.specs.FactValue.{FactValue, Rooted}
-use Rattle.hprof_items.specs.Spelling.{Fits, spelling}
+use Rattle.hprof_items.specs.FactValue.{FactValue}
+use Rattle.hprof_items.specs.Spelling.{spelling}
 use Rattle.hprof_rows.specs.declared.table.Table.{Table}
 use Rattle.hprof_rows.specs.declared.table.Table.TheVariants as tables
-use Rattle.hprof_rows.specs.SubFacts.{is_record_fact, is_sub_fact, sub_facts}
 use Rattle.hprof_dump.specs.Dump.{record_facts_bytes}
-use Rattle.hprof_rows.specs.Facts.{Has, AllFit}
 use Rattle.hprof_rows.specs.Tables.{facts_of_table, number_of_table, joined}
-use Rattle.hprof_rows.specs.HeapRows.{HeapRows, AreHeap, tables_of, root_facts, spelled_facts}
-use Rattle.hprof_rows.specs.SubRow.{AllRootsFit, AreWritable, facts_of_subs}
+use Rattle.hprof_rows.specs.HeapRows.{HeapRows, AreHeap, tables_of}
 use Rattle.hprof_rows.proofs.DumpTables.{heap_records}
-use Rattle.hprof_rows.proofs.FactSets.{Has-back}
-use Rattle.hprof_rows.proofs.HeapRows.{heap_tables, table_facts}
-use Rattle.hprof_rows.proofs.ReadBack.{table_fits, classes_spelled, objects_spelled}
-use Rattle.hprof_rows.proofs.Tables.{IsOf, AllOf, AreTables, filter_none, filter_all, all_weaker, table_at}
+use Rattle.hprof_rows.proofs.HeapRows.{table_facts}
+use Rattle.hprof_rows.proofs.Tables.{table_at}
 
 -- ---- their spellings, table by table
 

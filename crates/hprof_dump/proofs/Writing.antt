@@ -1,10 +1,7 @@
 -- Writing the dump.
-use Rattle.std.proofs.Common.{◌≡◌, ℕ, zero, suc, ◌-◌, ◌<◌, List, [], ◌∷◌, ◌++◌, Option, Result, Err, refl, sym, ap, subst, ◌∙◌}
-use Rattle.std.proofs.Common.{append_assoc, append-nil, length, get_or, take, drop, add-one, drop-cons, ◌+◌, arith}
-use Rattle.std.specs.List.{flat_map}
+use Rattle.std.proofs.Common.{◌≡◌, ℕ, zero, ◌-◌, List, ◌++◌, Option, Result, subst}
+use Rattle.std.proofs.Common.{◌+◌}
 use Rattle.std.specs.Io.KnownBytes.{Appends}
-use Rattle.std.proofs.KnownBytes.{Appends-nil, Appends-trans}
-use Rattle.std.proofs.lemmas.Grind.{flat_map-append}
 use Rattle.hprof_values.specs.declared.ids.IdSize.{IdSize}
 use Rattle.hprof_items.specs.declared.header.Header.{Header}
 use Rattle.hprof_devices.specs.declared.health.WriteFault.{WriteFault}
@@ -12,7 +9,7 @@ use Rattle.hprof_devices.specs.Device.{Writes}
 use Rattle.hprof_items.specs.FactValue.{FactValue}
 use Rattle.hprof_items.specs.Head.{head_bytes}
 use Rattle.hprof_items.specs.Header.{header_bytes}
-use Rattle.hprof_devices.proofs.Writes.{WritesFront, Writes-then, Writes-stops}
+use Rattle.hprof_devices.proofs.Writes.{Writes-then}
 use Rattle.hprof_dump.specs.Dump.{canonical_dump, record_facts_bytes, sub_facts_bytes}
 use Rattle.hprof_dump.proofs.Dump.{dump_header}
 

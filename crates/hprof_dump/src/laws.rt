@@ -4,7 +4,7 @@ ghost use Rattle.std.specs.Prelude.{◌≡◌, ℕ, List};
 ghost use Rattle.hprof_values.specs.declared.ids.IdSize.{IdSize};
 ghost use Rattle.hprof_items.specs.FactValue.{FactValue};
 ghost use Rattle.hprof_stream.specs.Part.{IsPart};
-ghost use Rattle.hprof_rows.specs.HeapValue.{HeapValue, IsHeap};
+ghost use Rattle.hprof_rows.specs.HeapValue.{IsHeap};
 ghost use Rattle.hprof_dump.specs.Dump.{canonical_dump};
 ghost use Rattle.hprof_dump.specs.Segments.{IsPacked, packed};
 

@@ -1,34 +1,22 @@
 -- What a gatherer holds after the parts that it was given.
 use Rattle.std.proofs.Common.{◌≡◌, ℕ, min, Bool, true, false, not, ◌||◌, cond, List, [], ◌∷◌, ◌++◌, map, Option, Some, None, refl, sym, ap}
-use Rattle.std.proofs.Common.{subst, ◌∙◌, append_assoc, ◌⊎◌, inl, inr}
+use Rattle.std.proofs.Common.{subst, ◌∙◌, append_assoc}
 use Rattle.std.specs.List.{AllByRecursion}
 use Rattle.std.proofs.lemmas.List.{append-nil, map-append}
-use Rattle.std.proofs.lemmas.Simd.{map-map}
 use Rattle.hprof_items.specs.declared.header.Header.{Header}
 use Rattle.hprof_values.specs.declared.ids.IdSize.{IdSize}
 use Rattle.hprof_values.specs.declared.ids.IdSize.TheVariants.{Four, Eight}
 use Rattle.hprof_items.specs.FactValue.{FactValue}
-use Rattle.hprof_stream.specs.Run.{Steps, Run}
-use Rattle.hprof_heap.specs.declared.gatherer.Gatherer.{Gatherer}
-use Rattle.hprof_heap.specs.declared.heap.Heap.{Heap}
+use Rattle.hprof_stream.specs.Run.{Steps}
 use Rattle.hprof_rows.specs.declared.key.Key.{Key}
 use Rattle.hprof_tables.specs.declared.relation.Stated.{Stated}
 use Rattle.hprof_tables.specs.declared.relation.Stated.TheVariants.{New, Same, Differs}
-use Rattle.hprof_rows.specs.Key.{HaveOneKey, key_of, key_le, lesser_key}
-use Rattle.hprof_rows.specs.Facts.{Has, SameFacts}
-use Rattle.hprof_rows.specs.Conflict.{HasConflict, IsLeastConflict}
-use Rattle.hprof_rows.specs.Order.{IsCanonicalOrder}
 use Rattle.hprof_heap.specs.State.{IsLeastOf}
-use Rattle.hprof_rows.specs.HeapValue.{HeapValue, IsHeap}
-use Rattle.hprof_heap.specs.Gathering.{Gathered, Given, gathered, lent_heap, nothing_gathered, same_size, begun_heap, has_other_size}
-use Rattle.hprof_rows.specs.Stating.{Adds, HasOther, IsNewAmong}
-use Rattle.hprof_heap.specs.Gathering.{Begins, marked, TakesInto, TakesHeap, LacksRow, HaveOneSize, IsNewBehind}
-use Rattle.hprof_heap.specs.Gathering.{Takes, Gathers, all_given, unconflicted, answer_of, Tells}
-use Rattle.hprof_rows.proofs.FactSets.{Has-parts, Has-front, Has-back}
+use Rattle.hprof_rows.specs.HeapValue.{HeapValue}
+use Rattle.hprof_heap.specs.Gathering.{Gathered, Given, nothing_gathered, same_size, begun_heap, has_other_size}
+use Rattle.hprof_heap.specs.Gathering.{Begins, TakesInto, TakesHeap}
+use Rattle.hprof_heap.specs.Gathering.{Takes, Gathers, all_given}
 use Rattle.hprof_heap.proofs.Least.{no_least, IsLeastOf-one, IsLeastOf-push}
-use Rattle.hprof_rows.proofs.Keys.{HaveOneKey-trans, key_le-refl, key_le-trans, lesser_is}
-use Rattle.hprof_rows.proofs.Order.{order_agrees}
-use Rattle.hprof_rows.proofs.Conflicts.{IsConsistent-same, HasConflict-more}
 use Rattle.hprof_heap.proofs.Marks.{Holds, holds_new, holds_same, holds_differs}
 
 -- ---- what a heap says of the parts

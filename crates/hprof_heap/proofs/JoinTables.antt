@@ -1,8 +1,7 @@
 -- Joining one table of a heap with that of another.
-use Rattle.std.proofs.Common.{◌≡◌, ℕ, zero, suc, ◌+◌, ◌<◌, List, [], ◌∷◌, ◌++◌, length, Result, Ok, Err, refl, sym, ap, subst, ◌∙◌}
-use Rattle.std.proofs.Common.{append_assoc, inl, inr, arith}
+use Rattle.std.proofs.Common.{◌≡◌, ℕ, ◌+◌, ◌<◌, List, ◌++◌, Result, Ok, Err, refl, sym, ap, subst, ◌∙◌}
+use Rattle.std.proofs.Common.{inl, inr, arith}
 use Rattle.std.specs.Prelude.{IfOk, OnErr}
-use Rattle.std.specs.List.{AllByRecursion}
 use Rattle.hprof_values.specs.declared.ids.IdSize.{IdSize}
 use Rattle.hprof_items.specs.FactValue.{FactValue, Name, Rooted}
 use Rattle.hprof_tables.specs.Relation.{contents_of}
@@ -21,28 +20,26 @@ use Rattle.hprof_rows.specs.declared.table.Table.TheVariants as tables
 use Rattle.hprof_rows.specs.Conflict.{IsConsistent}
 use Rattle.hprof_rows.specs.Content.{load_fact, unload_fact, frame_fact, trace_fact, start_fact, end_fact, spelled_fact, facts_of_rows}
 use Rattle.hprof_rows.specs.Content.{AreRight}
-use Rattle.hprof_rows.specs.Facts.{Has, SameFacts}
+use Rattle.hprof_rows.specs.Facts.{Has}
 use Rattle.hprof_rows.specs.Tables.{facts_of_table, number_of_table, stands_in, joined}
 use Rattle.hprof_heap.specs.Heap.{rows_in, heap_of}
 use Rattle.hprof_rows.specs.HeapRows.{HeapRows, AreHeap, heap_of_rows, tables_of, no_content, root_facts}
 use Rattle.hprof_rows.specs.HeapValue.{HeapValue, IsHeap}
 use Rattle.hprof_heap.specs.Join.{LacksFactIn, TakesFacts}
 use Rattle.hprof_rows.specs.NumberRows.{load_numbers, frame_numbers, start_numbers}
-use Rattle.hprof_rows.specs.Order.{IsBefore, IsCanonicalOrder}
+use Rattle.hprof_rows.specs.Order.{IsCanonicalOrder}
 use Rattle.hprof_rows.specs.RootSet.{IsUnionOfRoots, LacksRoot}
 use Rattle.hprof_rows.specs.TraceRow.{trace_content}
 use Rattle.hprof_rows.proofs.Conflicts.{IsConsistent-key}
-use Rattle.hprof_rows.proofs.FactSets.{Has-parts, Has-front, Has-back, All-has, All-from_has, SameFacts-refl, SameFacts-trans}
-use Rattle.hprof_rows.proofs.FactSets.{SameFacts-append, SameFacts-turned}
+use Rattle.hprof_rows.proofs.FactSets.{Has-parts, Has-front, Has-back, All-has, All-from_has}
 use Rattle.hprof_rows.proofs.HeapRows.{heap_tables, root_of_table, unseen_in_heap, unseen_row, table_facts, with_same, names_right}
 use Rattle.hprof_rows.proofs.HeapRows.{loads_right, unloads_right, frames_right, starts_right, ends_right}
-use Rattle.hprof_rows.proofs.Order.{is_before-true}
 use Rattle.hprof_rows.proofs.Roots.{find_root, has_root, roots_kept}
 use Rattle.hprof_rows.proofs.RowFacts.{right_found}
 use Rattle.hprof_rows.proofs.SameHeaps.{bytes_again, from_contents}
 use Rattle.hprof_rows.proofs.Stating.{with_facts}
 use Rattle.hprof_rows.proofs.ReadBack.{has_joined, table_fits, passed_ordered}
-use Rattle.hprof_rows.proofs.Tables.{IsOf, AllOf, AreTables, IsPast, table_at, with_table, all_append, all_past, earlier}
+use Rattle.hprof_rows.proofs.Tables.{IsOf, AllOf, table_at, with_table, all_append}
 use Rattle.hprof_rows.proofs.UnionRows.{AgreeAtPlaces, IsTableOfBoth, contents_right, has_stated, union_facts, tried_union_right}
 use Rattle.hprof_rows.proofs.UnionRoots.{tried_roots}
 use Rattle.hprof_heap.proofs.TableOrder.{ordered_with, same_with, of_table}

@@ -1,7 +1,6 @@
 //! Laws of the definitions. None of these functions does anything.
 
-ghost use Rattle.std.specs.Prelude.{◌≡◌, ℕ, List, Result, Ok};
-ghost use Rattle.hprof_values.specs.declared.ids.IdSize.{IdSize};
+ghost use Rattle.std.specs.Prelude.{◌≡◌, List, Result, Ok};
 ghost use Rattle.hprof_items.specs.FactValue.{FactValue};
 ghost use Rattle.hprof_heap.specs.declared.gatherer.Gatherer.{Gatherer};
 ghost use Rattle.hprof_heap.specs.declared.join_refusal.JoinRefusal.{JoinRefusal};

@@ -2,8 +2,8 @@
 
 use crate::samples::{array, give, heap_of};
 use hprof_devices::Device;
-use hprof_dump::write_canonical;
-use hprof_heap::{Gatherer, Heap, laws};
+use hprof_dump::{laws, write_canonical};
+use hprof_heap::{Gatherer, Heap};
 use hprof_items::{Fact, IdSize};
 use hprof_values::{Basic, Root};
 use std::alloc::Global;

@@ -66,7 +66,7 @@ fn a_heap(rt: HostRuntime) -> Result<(), Fail> {
     assert_eq!(rt; heap.name(1), Some(one));
     assert_eq!(rt; heap.name(3), None);
     assert_eq!(rt; heap.name(2), Some(two));
-    laws::sub_records_are_packed_in_one_way();
+    hprof_dump::laws::sub_records_are_packed_in_one_way();
     Ok(())
 }
 

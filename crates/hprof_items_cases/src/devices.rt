@@ -4,8 +4,8 @@ ghost use Rattle.std.specs.Prelude.{◌≤◌, IfOk};
 
 use hprof_devices::{Device, Health, ReadFault, Source, Target, WriteFault};
 use hprof_writing::write_head;
-use std::io::{Read, Write};
 use std::io;
+use std::io::{Read, Write};
 use std::test::*;
 
 // Moves some bytes in all, three a call, and from then on fails or moves none.

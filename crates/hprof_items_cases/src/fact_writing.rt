@@ -4,8 +4,8 @@ use hprof_devices::Device;
 use hprof_items::{Basic, ConstantList, Fact, FieldList, IdList, IdSize, Root, StaticList, laws};
 use hprof_writing::{fits, spelled_len, write_fact};
 use std::alloc::Global;
-use std::io::Write;
 use std::io;
+use std::io::Write;
 use std::process::Abort;
 use std::test::*;
 

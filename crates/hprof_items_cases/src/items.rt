@@ -1,7 +1,10 @@
 //! Sub-records that are read.
 
 use hprof_devices::Device;
-use hprof_items::{Basic, ConstantList, Fact, FieldList, IdList, IdSize, Reason, Root, StaticList, Step, Stop, laws, read_sub, read_sub_into};
+use hprof_items::{
+    Basic, ConstantList, Fact, FieldList, IdList, IdSize, Reason, Root, StaticList, Step, Stop,
+    laws, read_sub, read_sub_into,
+};
 use hprof_writing::{fits, write_fact};
 use std::test::*;
 

@@ -1,7 +1,9 @@
 //! Lists of identifiers and of a class's entries.
 
-use hprof_lists::{Constant, ConstantList, Field, FieldList, IdList, Static, StaticList, Value};
-use hprof_values::{Basic, IdSize, laws};
+use hprof_lists::{
+    Constant, ConstantList, Field, FieldList, IdList, Static, StaticList, Value, laws,
+};
+use hprof_values::{Basic, IdSize};
 use std::test::*;
 
 #[test]

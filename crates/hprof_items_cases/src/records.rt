@@ -5,7 +5,10 @@ ghost use Rattle.hprof_items.specs.Spelling.{longest_body};
 ghost use Rattle.hprof_items.specs.Reading.{IsRightHead};
 
 use hprof_devices::Device;
-use hprof_items::{Fact, HEAD_LEN, Head, HeadKind, IdList, IdSize, Reason, Step, laws, read_body, read_body_into, read_head};
+use hprof_items::{
+    Fact, HEAD_LEN, Head, HeadKind, IdList, IdSize, Reason, Step, laws, read_body, read_body_into,
+    read_head,
+};
 use hprof_writing::{fits, spelled_len, write_fact};
 use std::test::*;
 

@@ -1,6 +1,8 @@
 //! Types, tags, and numbers of given widths.
 
-use hprof_values::{Basic, IdSize, Number, Root, SubTag, laws, numbers_fit, numbers_len, put_numbers};
+use hprof_values::{
+    Basic, IdSize, Number, Root, SubTag, laws, numbers_fit, numbers_len, put_numbers,
+};
 use std::test::*;
 
 #[test]

@@ -2,14 +2,13 @@
 use Rattle.std.proofs.Common.{◌≡◌, ℕ, zero, suc, ◌+◌, ◌<◌, ◌≤◌, Bool, true, false, List, [], ◌∷◌, ◌++◌, take, drop, append-nil, refl, sym}
 use Rattle.std.proofs.Common.{ap, subst, ◌∙◌, inl, inr, arith}
 use Rattle.std.specs.Prelude.{not, nat_lt, slice_index}
-use Rattle.std.specs.List.{AllByRecursion, filter, flat_map}
+use Rattle.std.specs.List.{AllByRecursion, filter}
 use Rattle.std.proofs.lemmas.Bool.{lt-ltb, le-ltb}
-use Rattle.std.proofs.lemmas.Grind.{flat_map-append}
 use Rattle.std.proofs.lemmas.List.Elements.{filter-append}
 use Rattle.hprof_values.specs.declared.ids.IdSize.{IdSize}
 use Rattle.hprof_values.specs.declared.root.Root.{Root}
 use Rattle.hprof_items.specs.FactValue.{FactValue, Rooted}
-use Rattle.hprof_items.specs.Spelling.{Fits, spelling}
+use Rattle.hprof_items.specs.Spelling.{Fits}
 use Rattle.hprof_rows.specs.declared.table.Table.{Table}
 use Rattle.hprof_rows.specs.declared.table.Table.TheVariants as tables
 use Rattle.hprof_rows.specs.SubFacts.{is_record_fact, is_sub_fact, sub_facts}
@@ -21,7 +20,7 @@ use Rattle.hprof_rows.proofs.DumpOrder.{by_place}
 use Rattle.hprof_rows.proofs.FactSets.{Has-back}
 use Rattle.hprof_rows.proofs.HeapRows.{heap_tables, table_facts}
 use Rattle.hprof_rows.proofs.ReadBack.{table_fits, classes_spelled, objects_spelled}
-use Rattle.hprof_rows.proofs.Tables.{IsOf, AllOf, AreTables, filter_none, filter_all, all_weaker, table_at}
+use Rattle.hprof_rows.proofs.Tables.{IsOf, AllOf, AreTables, filter_none, filter_all, all_weaker}
 
 -- ---- a table's facts
 

@@ -21,5 +21,5 @@ pub use spelled::spelled_fact;
 pub use sub_row::SubRow;
 pub use sub_rows::SubRows;
 pub use table::Table;
-pub use table_rows::{TableRows, next_fact};
+pub use table_rows::TableRows;
 pub use trace_row::{TraceFrames, TraceRow};

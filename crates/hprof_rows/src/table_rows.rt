@@ -45,7 +45,7 @@ pub enum TableRows<'a> {
 
 /// The fact of the first row. The rows behind it are left.
 #[inline(always)]
-pub fn next_fact<'a>(rows: &mut TableRows<'a>, ids: IdSize) -> Option<Fact<'a>>
+pub(crate) fn next_fact<'a>(rows: &mut TableRows<'a>, ids: IdSize) -> Option<Fact<'a>>
     requires { AreReadable ids rows.old }
     ensures first { YieldsFirstBy value_of (facts_in_rows ids) rows.old result rows.new }
     ensures lists { IfSome result (ListsHave ids) }

@@ -13,8 +13,8 @@ use std::alloc::{AllocError, Global};
 #[derive(Drop)]
 pub struct TraceRow {
     /// The serial of the thread.
-    pub thread: u32,
-    pub frames: Vec<u8>,
+    pub(crate) thread: u32,
+    pub(crate) frames: Vec<u8>,
 }
 
 impl TraceRow {
@@ -41,7 +41,9 @@ impl TraceRow {
 /// The thread and the frames of a stack trace, where they stand in a piece of a part.
 #[derive(Clone, Copy)]
 pub struct TraceFrames<'a> {
+    /// The serial of the thread.
     pub thread: u32,
+    /// The identifiers of the frames.
     pub frames: IdList<'a>,
 }
 

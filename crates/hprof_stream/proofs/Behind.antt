@@ -1,41 +1,21 @@
 -- Where an item leads to.
-use Rattle.std.proofs.Common.{◌≡◌, ℕ, zero, suc, ◌+◌, ◌-◌, ◌<◌, ◌≤◌, Bool, true, false, ◌||◌, List, [], ◌∷◌, ◌++◌, length, take, drop}
-use Rattle.std.proofs.Common.{Option, Some, None, refl, sym, ap, subst, ◌∙◌, append_assoc, append-nil, take-append-drop, arith}
-use Rattle.std.proofs.Math.Bool.{or_assoc, or-false}
-use Rattle.std.proofs.lemmas.List.{get_or-take, length-append, length-take-le}
-use Rattle.std.proofs.lemmas.List.Folds.{list_any-append}
-use Rattle.std.specs.List.{list_any}
-use Rattle.std.specs.Prelude.{◌==◌, slice_index}
-use Rattle.hprof_values.specs.Ids.{IsBytes}
-use Rattle.hprof_values.specs.declared.ids.IdSize.{IdSize}
-use Rattle.hprof_values.specs.declared.record_tag.RecordTag.{RecordTag}
+use Rattle.std.proofs.Common.{◌≡◌, ℕ, zero, suc, ◌+◌, ◌-◌, ◌<◌, ◌≤◌, Bool, true, false, ◌||◌, List, length, take}
+use Rattle.std.proofs.Common.{Option, Some, None, refl, sym, arith}
+use Rattle.std.proofs.Math.Bool.{or-false}
+use Rattle.std.proofs.lemmas.List.{get_or-take}
+use Rattle.std.specs.Prelude.{slice_index}
 use Rattle.hprof_items.specs.declared.header.Header.{Header}
-use Rattle.hprof_items.specs.declared.step.Step.TheVariants.{Whole}
 use Rattle.hprof_items.specs.declared.fact.Fact.{Fact}
-use Rattle.hprof_items.specs.FactValue.{FactValue, value_of, ListsHave, Name, Load, Unload, Frame, Trace, Start, End, Rooted, Class}
-use Rattle.hprof_items.specs.FactValue.{Instance, ObjArray, PrimArray}
-use Rattle.hprof_items.specs.RecordBody.{record_of}
-use Rattle.hprof_items.specs.Spelling.{Fits, longest_body}
-use Rattle.hprof_items.specs.SubRecord.{dump_bytes}
+use Rattle.hprof_items.specs.FactValue.{End}
 use Rattle.hprof_stream.specs.declared.item.Item.{Item}
 use Rattle.hprof_stream.specs.declared.item.Item.TheVariants as kinds
 use Rattle.hprof_stream.specs.ItemValue.{ItemValue, with_fact, bare}
 use Rattle.hprof_stream.specs.ItemValue as items
-use Rattle.hprof_stream.specs.declared.limits.Limits.{Limits}
-use Rattle.hprof_stream.specs.declared.part_fault.PartFault.TheVariants as faults
-use Rattle.hprof_stream.specs.declared.sink.SinkFault.{SinkFault}
 use Rattle.hprof_stream.specs.declared.progress.Progress.{Progress}
-use Rattle.hprof_stream.specs.Part.{Stated, all_bytes, all_facts, is_end}
-use Rattle.hprof_stream.specs.Item.{Place, Within, place_in, place_behind, begun_at, header_before, IsItem, is_header, is_fact, is_dump_end}
-use Rattle.hprof_stream.specs.Item.{is_dump, is_sub, is_skipped, none, more, item_at}
-use Rattle.hprof_stream.specs.ItemStep.{facts_of, place_after, Stands, is_end_item, IsOfPlace, ItemLists}
+use Rattle.hprof_stream.specs.Item.{place_behind, begun_at}
+use Rattle.hprof_stream.specs.ItemStep.{facts_of, place_after, Stands, is_end_item}
 use Rattle.hprof_stream.specs.Progress.{place_of, advanced, IsCounted, IsNext}
-use Rattle.hprof_stream.specs.Run.{Run, became, FitsBegun, ListsHaveBegun, SpellsBegun}
-use Rattle.hprof_stream.specs.Walking.{Gives, GivesFit, GivesSome, IsBegun, told_by, Walks, Refuses, Stops}
-use Rattle.hprof_stream.proofs.Items.{item_found}
-use Rattle.hprof_stream.proofs.ItemLists.{AreItems-then, all_bytes-then, all_facts-then, records_begun-then, items_size, records_size}
-use Rattle.hprof_stream.proofs.ItemLists.{items_headers, header_in, room_behind}
-use Rattle.hprof_stream.proofs.Runs.{Run-none, Run-then}
+use Rattle.hprof_stream.specs.Walking.{told_by}
 
 -- ---- the fact beside an item
 

@@ -1,28 +1,23 @@
 -- What a reader knows of the facts, and the runs of its sink from where reading began.
-use Rattle.std.proofs.Common.{◌≡◌, ℕ, Bool, true, false, ◌+◌, ◌<◌, List, [], ◌++◌, length, take, Option, Some, None, Result, Ok, Err, inl}
-use Rattle.std.proofs.Common.{inr, refl, sym, ap, subst, ◌∙◌, append-nil, arith}
+use Rattle.std.proofs.Common.{◌≡◌, ℕ, Bool, ◌+◌, ◌<◌, List, [], ◌++◌, length, take, Option, Some, None}
+use Rattle.std.proofs.Common.{refl, sym, ap, ◌∙◌, arith}
 use Rattle.std.proofs.KnownBytes.{Consumes-nil, Consumes-trans}
 use Rattle.std.proofs.lemmas.List.{length-append, nil_from_length}
-use Rattle.std.specs.Io.KnownBytes.{Consumes, IsAtEnd}
+use Rattle.std.specs.Io.KnownBytes.{Consumes}
 use Rattle.hprof_items.specs.declared.header.Header.{Header}
-use Rattle.hprof_devices.specs.declared.health.Health.{Health}
-use Rattle.hprof_devices.specs.declared.health.Health.TheVariants as healths
-use Rattle.hprof_values.specs.declared.reason.Reason.TheVariants.{BadMagic, BadIdSize, Truncated, BadLength, BadSubTag, PastEnd, BadType}
 use Rattle.hprof_items.specs.FactValue.{FactValue}
 use Rattle.hprof_stream.specs.declared.limits.Limits.{Limits}
 use Rattle.hprof_stream.specs.declared.part_fault.PartFault.{PartFault}
 use Rattle.hprof_stream.specs.declared.part_fault.PartFault.TheVariants as faults
 use Rattle.hprof_stream.specs.declared.part_reader.PartReader.{PartReader}
 use Rattle.hprof_stream.specs.declared.sink.SinkFault.{SinkFault}
-use Rattle.hprof_stream.specs.declared.summary.PartSummary.{PartSummary}
 use Rattle.hprof_stream.specs.Part.{Stated, all_bytes, all_facts}
 use Rattle.hprof_stream.specs.Item.{Place, Start, header_before, AreItems, none, more}
-use Rattle.hprof_stream.specs.Fault.{is_whole, is_settled, IsFirstFault, StatesSoFar}
+use Rattle.hprof_stream.specs.Fault.{is_whole, StatesSoFar}
 use Rattle.hprof_stream.specs.Progress.{place_of}
 use Rattle.hprof_stream.specs.Run.{Run}
-use Rattle.hprof_stream.specs.Feeding.{FeedsAll}
-use Rattle.hprof_stream.specs.Reader.{header_of, HasRead, RanOver, RanUpTo, IsFeedFault, Feeds, Finishes, IsPull, Pulled, none, once_more}
-use Rattle.hprof_stream.specs.Reader.{PulledOut, CameLast, IsJudged, RefusesAtLast, ReadsPart}
+use Rattle.hprof_stream.specs.Reader.{header_of, HasRead, RanOver, RanUpTo, IsFeedFault, IsPull, Pulled, none, once_more}
+use Rattle.hprof_stream.specs.Reader.{CameLast, IsJudged, RefusesAtLast}
 use Rattle.hprof_stream.proofs.Runs.{Run-then}
 use Rattle.hprof_stream.proofs.Faults.{short_unsettled}
 use Rattle.hprof_stream.proofs.ItemLists.{items_headers, items_size, header_at_place, header_behind}

@@ -1,29 +1,20 @@
 -- Going on with what is held of an item.
-use Rattle.std.proofs.Common.{◌≡◌, ℕ, zero, suc, ◌+◌, ◌-◌, ◌<◌, ◌≤◌, ◌⊎◌, inl, inr, ltb, Bool, true, false, cond, List, [], ◌∷◌, ◌++◌}
-use Rattle.std.proofs.Common.{length, take, drop, Option, Some, None, OnOk, IfOk, Bor, is_some, Ok, Err, refl, sym, ap, subst, ◌∙◌}
+use Rattle.std.proofs.Common.{◌≡◌, ℕ, zero, suc, ◌+◌, ◌-◌, ◌<◌, ◌≤◌, ◌⊎◌, inl, inr, ltb, Bool, true, false, List, [], ◌++◌}
+use Rattle.std.proofs.Common.{length, take, drop, Option, Some, None, IfOk, Bor, is_some, Ok, Err, refl, sym, ap, subst, ◌∙◌}
 use Rattle.std.proofs.Common.{append_assoc, append-nil, take-append-drop, arith}
-use Rattle.std.proofs.lemmas.Bool.{eqb-true, ltb-true, ltb-false}
-use Rattle.std.proofs.lemmas.List.{length-append, take-append-le, drop-append-le, nil_from_length}
+use Rattle.std.proofs.lemmas.Bool.{ltb-true, ltb-false}
+use Rattle.std.proofs.lemmas.List.{length-append, take-append-le, drop-append-le}
 use Rattle.std.proofs.Math.Seq.{drop-append-add}
 use Rattle.hprof_values.specs.Ids.{IsBytes}
-use Rattle.hprof_values.specs.Fields.{Bounds, with_more}
-use Rattle.hprof_values.specs.declared.ids.IdSize.{IdSize}
-use Rattle.hprof_values.specs.declared.stop.Stop.{Stop}
 use Rattle.hprof_values.specs.declared.stop.Stop.TheVariants as stops
 use Rattle.hprof_items.specs.declared.header.Header.{Header}
-use Rattle.hprof_items.specs.declared.head.Head.{Head}
 use Rattle.hprof_items.specs.declared.step.Step.{Step}
-use Rattle.hprof_items.specs.declared.step.Step.TheVariants.{Whole, Short, TooLong, Fault}
+use Rattle.hprof_items.specs.declared.step.Step.TheVariants.{Whole, Short}
 use Rattle.hprof_items.specs.declared.walk.Walk.{Walk}
-use Rattle.hprof_items.specs.declared.walk.Walk.TheVariants.{Front, Entries}
+use Rattle.hprof_items.specs.declared.walk.Walk.TheVariants.{Front}
 use Rattle.hprof_items.specs.FactValue.{FactValue}
-use Rattle.hprof_items.specs.Head.{head_bytes, kind_of}
-use Rattle.hprof_items.specs.Reading.{head_at}
-use Rattle.hprof_items.specs.SubReading.{bounds_within}
-use Rattle.hprof_items.specs.SubRecord.{sub_at}
-use Rattle.hprof_items.specs.Walk.{walked, end_of_read, IsPlaced}
-use Rattle.hprof_values.specs.declared.item.Item as values
-use Rattle.std.specs.Prelude.{Result, ◌==◌}
+use Rattle.hprof_items.specs.Walk.{walked}
+use Rattle.std.specs.Prelude.{Result}
 use Rattle.hprof_stream.specs.declared.part_fault.PartFault.{PartFault}
 use Rattle.hprof_stream.specs.declared.part_fault.PartFault.TheVariants as faults
 use Rattle.hprof_stream.specs.declared.progress.Progress.{Progress}
@@ -31,16 +22,16 @@ use Rattle.hprof_stream.specs.declared.rest.Passing.{Passing}
 use Rattle.hprof_stream.specs.declared.rest.Rest.{Rest}
 use Rattle.hprof_stream.specs.declared.sink.SinkFault.{SinkFault}
 use Rattle.hprof_stream.specs.Part.{Stated}
-use Rattle.hprof_stream.specs.Item.{Place, Start, Between, Within, HasRoom, Found, found_sub, place_behind, is_skipped_kind}
-use Rattle.hprof_stream.specs.Item.{is_skipped_head, is_passed_over, held_of, item_at}
+use Rattle.hprof_stream.specs.Item.{Place, Start, Between, Within, HasRoom, Found, place_behind}
+use Rattle.hprof_stream.specs.Item.{held_of, item_at}
 use Rattle.hprof_stream.specs.Progress.{place_of, advanced, IsCounted}
 use Rattle.hprof_stream.specs.ItemStep.{Stands, place_after}
 use Rattle.hprof_stream.specs.ItemValue as items
 use Rattle.hprof_items.specs.Spelling.{longest_body}
-use Rattle.hprof_stream.specs.Rest.{passing_by, passing_of, walk_at, IsWalked, IsWalkOf, IsRest, PassesOver, passed_len, rest_len}
+use Rattle.hprof_stream.specs.Rest.{IsWalkOf, IsRest, PassesOver, passed_len, rest_len}
 use Rattle.hprof_stream.specs.Walking.{Walks, StepsOver, Halts, GoesOn, IsHalted, ReadsOn, WalksAll, seen}
 use Rattle.hprof_stream.proofs.Items.{item_found, item_again}
-use Rattle.hprof_stream.proofs.Rests.{passed_of, passed_none_held, passed_walk, held_none, passing_none, IsBytes-append, IsRest-none}
+use Rattle.hprof_stream.proofs.Rests.{held_none, passing_none, IsBytes-append, IsRest-none}
 use Rattle.hprof_stream.proofs.Stepping.{Halts-step, Halts-then, Halts-same}
 use Rattle.hprof_stream.proofs.Walks.{Walks-none, Walks-item, Walks-more, Walks-then, Walks-at, Walks-counted, same_item}
 use Rattle.hprof_stream.proofs.Holding.{IsWalkOf-front, IsRest-empty, some_not_none}

@@ -1,40 +1,15 @@
 -- The room for a piece.
-use Rattle.std.proofs.Common.{◌≡◌, ◌⊎◌, ℕ, ◌+◌, ◌-◌, ◌<◌, ◌≤◌, min, Bool, true, false, cond, ◌||◌, List, [], ◌++◌, length, take, drop}
-use Rattle.std.proofs.Common.{Option, Some, None, Result, Ok, Err, inl, inr, refl, sym, ap, subst, ◌∙◌, append_assoc, arith}
+use Rattle.std.proofs.Common.{◌≡◌, ℕ, ◌+◌, ◌-◌, ◌<◌, ◌≤◌, min, List, [], ◌++◌, length, take, drop}
+use Rattle.std.proofs.Common.{sym, ap, ◌∙◌, arith}
 use Rattle.std.proofs.Math.Seq.{take-append-add}
 use Rattle.std.proofs.lemmas.List.{length-append, length-take, length-drop, take_min, take_all}
-use Rattle.std.proofs.lemmas.List.Folds.{list_any-append}
-use Rattle.std.specs.Prelude.{OnOk, OnErr}
-use Rattle.std.specs.List.{list_any}
-use Rattle.std.specs.Result.{is_err}
-use Rattle.hprof_items.specs.declared.header.Header.{Header}
-use Rattle.hprof_items.specs.declared.head.Head.{Head}
-use Rattle.hprof_items.specs.declared.step.Step.{Step}
-use Rattle.hprof_items.specs.declared.step.Step.TheVariants.{Whole, Short, TooLong, Fault}
 use Rattle.hprof_items.specs.FactValue.{FactValue}
-use Rattle.hprof_items.specs.Head.{kind_of}
-use Rattle.hprof_items.specs.Reading.{head_at}
 use Rattle.hprof_stream.specs.declared.limits.Limits.{Limits}
-use Rattle.hprof_stream.specs.declared.part_fault.PartFault.{PartFault}
-use Rattle.hprof_stream.specs.declared.part_fault.PartFault.TheVariants as faults
 use Rattle.hprof_stream.specs.declared.part_reader.PartReader.{PartReader}
-use Rattle.hprof_stream.specs.declared.progress.Progress.{Progress}
-use Rattle.hprof_stream.specs.declared.rest.Rest.{Rest}
-use Rattle.hprof_stream.specs.declared.sink.SinkFault.{SinkFault}
-use Rattle.hprof_stream.specs.Part.{Stated, all_bytes, all_facts, is_end}
-use Rattle.hprof_stream.specs.Item.{Place, Start, Between, Within, header_before, IsItem, AreItems, none, records_begun, is_skipped_kind}
-use Rattle.hprof_stream.specs.Item.{is_skipped_head, held_of, item_at}
-use Rattle.hprof_stream.specs.Fault.{Splits, is_whole, IsFirstFault, HasNoSettledFault, is_settled}
-use Rattle.hprof_stream.specs.Progress.{start_of, place_of}
-use Rattle.hprof_stream.specs.Rest.{passing_by, passing_of, IsWalkOf, IsRest, passed_len, rest_len}
-use Rattle.hprof_stream.specs.Run.{Run, became}
-use Rattle.hprof_stream.specs.Reader.{header_of, has_failed, HasRead, IsWithinItem, RanOver, RanUpTo, IsFeedFault, Feeds}
-use Rattle.hprof_stream.specs.Walking.{Walks, Refuses, Stops, Halts, ReadsOn}
-use Rattle.hprof_stream.proofs.Faults.{Splits-then, fault_is_first, too_long_is_first, short_unsettled}
-use Rattle.hprof_stream.proofs.ItemLists.{AreItems-then, all_bytes-then, all_facts-then, records_begun-then, header_at_place, items_headers}
-use Rattle.hprof_stream.proofs.Refusals.{item_stays, item_stays_long}
-use Rattle.hprof_stream.proofs.Rests.{IsRest-none}
-use Rattle.hprof_stream.proofs.Walks.{Walks-at}
+use Rattle.hprof_stream.specs.Part.{all_bytes}
+use Rattle.hprof_stream.specs.Progress.{place_of}
+use Rattle.hprof_stream.specs.Rest.{rest_len}
+use Rattle.hprof_stream.specs.Reader.{HasRead}
 use Rattle.hprof_stream.proofs.Feeding.{rest_len_is}
 
 -- ---- the room for a piece

@@ -1,8 +1,7 @@
 -- Reading a part from a source: what the reader was fed so far, and what that comes to.
-use Rattle.std.proofs.Common.{◌≡◌, ℕ, Bool, true, false, ◌+◌, ◌<◌, List, [], ◌++◌, length, take, Option, Some, None, Result, Ok, Err, inl}
-use Rattle.std.proofs.Common.{inr, refl, sym, ap, subst, ◌∙◌, append-nil, arith}
+use Rattle.std.proofs.Common.{◌≡◌, ℕ, Bool, true, false, ◌+◌, ◌<◌, List, [], ◌++◌, length, Option, Some, None, Result, Ok, Err, inl}
+use Rattle.std.proofs.Common.{inr, refl, sym, subst, append-nil}
 use Rattle.std.proofs.KnownBytes.{Consumes-nil, Consumes-trans}
-use Rattle.std.proofs.lemmas.List.{length-append, nil_from_length}
 use Rattle.std.specs.Io.KnownBytes.{Consumes, IsAtEnd}
 use Rattle.hprof_items.specs.declared.header.Header.{Header}
 use Rattle.hprof_devices.specs.declared.health.Health.{Health}
@@ -15,18 +14,13 @@ use Rattle.hprof_stream.specs.declared.part_fault.PartFault.TheVariants as fault
 use Rattle.hprof_stream.specs.declared.part_reader.PartReader.{PartReader}
 use Rattle.hprof_stream.specs.declared.sink.SinkFault.{SinkFault}
 use Rattle.hprof_stream.specs.declared.summary.PartSummary.{PartSummary}
-use Rattle.hprof_stream.specs.Part.{Stated, all_bytes, all_facts}
-use Rattle.hprof_stream.specs.Item.{Place, Start, header_before, AreItems, none, more}
-use Rattle.hprof_stream.specs.Fault.{is_whole, is_settled, IsFirstFault, StatesSoFar}
-use Rattle.hprof_stream.specs.Progress.{place_of}
+use Rattle.hprof_stream.specs.Item.{none, more}
+use Rattle.hprof_stream.specs.Fault.{is_settled, IsFirstFault}
 use Rattle.hprof_stream.specs.Run.{Run}
 use Rattle.hprof_stream.specs.Feeding.{FeedsAll}
-use Rattle.hprof_stream.specs.Reader.{header_of, HasRead, RanOver, RanUpTo, IsFeedFault, Feeds, Finishes, IsPull, Pulled, none, once_more}
-use Rattle.hprof_stream.specs.Reader.{PulledOut, CameLast, IsJudged, RefusesAtLast, ReadsPart}
+use Rattle.hprof_stream.specs.Reader.{header_of, HasRead, IsFeedFault, Feeds, Finishes, IsPull, Pulled, none, once_more}
+use Rattle.hprof_stream.specs.Reader.{PulledOut, CameLast, ReadsPart}
 use Rattle.hprof_stream.proofs.Runs.{Run-then}
-use Rattle.hprof_stream.proofs.Faults.{short_unsettled}
-use Rattle.hprof_stream.proofs.ItemLists.{items_headers, items_size, header_at_place, header_behind}
-use Rattle.hprof_stream.proofs.LastItems.{ends_behind}
 use Rattle.hprof_stream.proofs.FedRuns.{no_header_no_fact, RanOver-read, IsFeedFault-from, RefusesAtLast-fed, IsJudged-read}
 use Rattle.hprof_stream.proofs.FedRuns.{Pulled-consumes, CameLast-read}
 

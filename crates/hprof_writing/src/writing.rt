@@ -1,13 +1,9 @@
 //! Writing a header, a head or a fact.
 
-ghost use Rattle.std.specs.Prelude.{◌≡◌, ◌≤◌, ◌++◌, length, take, drop};
-ghost use Rattle.byteorder.specs.Endian.{big_bytes};
+ghost use Rattle.std.specs.Prelude.{◌≡◌, ◌≤◌, ◌++◌, length, drop};
 ghost use Rattle.hprof_devices.specs.declared.health.Health.TheVariants.{Well};
-ghost use Rattle.hprof_values.specs.Ids.{width_of, IsId};
 ghost use Rattle.hprof_items.specs.Header.{text_of, header_bytes};
 ghost use Rattle.hprof_items.specs.Head.{head_bytes};
-ghost use Rattle.hprof_items.specs.FactValue.{Name, value_of};
-ghost use Rattle.hprof_items.specs.Spelling.{Fits, spelling};
 ghost use Rattle.hprof_devices.specs.Device.{Writes, LeavesHealth};
 
 use byteorder::{BigEndian, ByteOrder};
