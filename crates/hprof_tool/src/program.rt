@@ -11,8 +11,8 @@ use joining::{join_files, join_stream, report_files};
 use product::Product;
 use std::alloc::Global;
 use std::env::Args;
-use std::io::{Read, Write};
 use std::io;
+use std::io::{Read, Write};
 use std::rt::Files;
 
 mod answers;

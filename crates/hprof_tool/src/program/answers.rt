@@ -11,8 +11,8 @@ use crate::status::Status;
 use clap::Error;
 use clap::error::ErrorKind;
 use std::alloc::Global;
-use std::io::Write;
 use std::io;
+use std::io::Write;
 
 /// Says in one line why the program refused. A text that finds no memory is that there is none.
 fn refuse<E: Write>(alloc: Global, refused: &Refused, errors: &mut E) -> Status

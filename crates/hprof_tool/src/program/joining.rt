@@ -13,8 +13,8 @@ use crate::program::refused::Refused;
 use hprof_devices::Device;
 use hprof_engine::ToolFault;
 use std::alloc::Global;
-use std::fs::File;
 use std::fs;
+use std::fs::File;
 use std::io::{Read, Write};
 use std::rt::Files;
 
