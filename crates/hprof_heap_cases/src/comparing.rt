@@ -1,7 +1,7 @@
 //! Tables and heaps compared with one another.
 
 use crate::samples::{array, begun, heap_of, load_of};
-use hprof_heap::same;
+use hprof_heap::{Heap, same};
 use hprof_items::{Fact, IdSize};
 use hprof_lists::{ConstantList, FieldList, IdList, StaticList};
 use hprof_tables::{BytesTable, Relation, Stated};
@@ -109,13 +109,12 @@ fn check_differ(
     other: Fact<'_>,
 ) -> Result<(), Fail> {
     let heap = heap_of(rt, alloc, IdSize::Four, &[fact])?;
-    let again = heap_of(rt, alloc, IdSize::Four, &[fact])?;
-    let changed = heap_of(rt, alloc, IdSize::Four, &[other])?;
-    let empty = heap_of(rt, alloc, IdSize::Four, &[])?;
-    assert!(rt; same(&heap, &again));
-    assert!(rt; !same(&heap, &changed));
-    assert!(rt; !same(&heap, &empty));
-    assert!(rt; !same(&empty, &heap));
+    let facts = [fact, other];
+    for (facts, alike) in [(&facts[..1], true), (&facts[1..], false), (&[], false)] {
+        let another = heap_of(rt, alloc, IdSize::Four, facts)?;
+        assert_eq!(rt; same(&heap, &another), alike);
+        assert_eq!(rt; same(&another, &heap), alike);
+    }
     Ok(())
 }
 
@@ -163,15 +162,21 @@ fn heaps_of_the_same_facts(rt: HostRuntime) -> Result<(), Fail> {
     Ok(())
 }
 
+fn without_facts(alloc: Global, ids: IdSize, millis: u64) -> Result<Heap, Fail> {
+    Ok(begun(alloc, ids, millis)?.finish()?)
+}
+
 #[test]
 fn heaps_of_two_sizes_or_times(rt: HostRuntime) -> Result<(), Fail> {
-    let heap = begun(rt.alloc(), IdSize::Four, 1)?.finish()?;
-    let again = begun(rt.alloc(), IdSize::Four, 1)?.finish()?;
-    let later = begun(rt.alloc(), IdSize::Four, 2)?.finish()?;
-    let wider = begun(rt.alloc(), IdSize::Eight, 1)?.finish()?;
-    assert!(rt; same(&heap, &again));
-    assert!(rt; !same(&heap, &later));
-    assert!(rt; !same(&later, &heap));
-    assert!(rt; !same(&heap, &wider));
+    let heap = without_facts(rt.alloc(), IdSize::Four, 1)?;
+    for (ids, millis, alike) in [
+        (IdSize::Four, 1, true),
+        (IdSize::Four, 2, false),
+        (IdSize::Eight, 1, false),
+    ] {
+        let other = without_facts(rt.alloc(), ids, millis)?;
+        assert_eq!(rt; same(&heap, &other), alike);
+        assert_eq!(rt; same(&other, &heap), alike);
+    }
     Ok(())
 }

@@ -11,13 +11,13 @@ use std::test::*;
 #[test]
 fn joined_tables_of_numbers(rt: HostRuntime) -> Result<(), Fail> {
     let mut one = Relation::new(rt.alloc());
-    assert_eq!(rt; one.state(2, load_of(5))?, Stated::New);
-    assert_eq!(rt; one.state(4, load_of(6))?, Stated::New);
-    assert_eq!(rt; one.state(1, load_of(7))?, Stated::New);
+    for (key, name) in [(2, 5), (4, 6), (1, 7)] {
+        assert_eq!(rt; one.state(key, load_of(name))?, Stated::New);
+    }
     let mut other = Relation::new(rt.alloc());
-    assert_eq!(rt; other.state(4, load_of(6))?, Stated::New);
-    assert_eq!(rt; other.state(3, load_of(8))?, Stated::New);
-    assert_eq!(rt; other.state(9, load_of(9))?, Stated::New);
+    for (key, name) in [(4, 6), (3, 8), (9, 9)] {
+        assert_eq!(rt; other.state(key, load_of(name))?, Stated::New);
+    }
     assert_eq!(rt; one.first_difference(&other), None);
     one.join(&other)?;
     assert_eq!(rt; one.len(), 5);
@@ -30,9 +30,9 @@ fn joined_tables_of_numbers(rt: HostRuntime) -> Result<(), Fail> {
     }
     assert!(rt; rows.next().is_none());
     // What was joined is a table like any other.
-    assert_eq!(rt; one.state(3, load_of(8))?, Stated::Same);
-    assert_eq!(rt; one.state(5, load_of(8))?, Stated::New);
-    assert_eq!(rt; one.state(10, load_of(8))?, Stated::New);
+    for (key, stated) in [(3, Stated::Same), (5, Stated::New), (10, Stated::New)] {
+        assert_eq!(rt; one.state(key, load_of(8))?, stated);
+    }
     assert_eq!(rt; one.len(), 7);
     Ok(())
 }
@@ -56,12 +56,14 @@ fn tables_of_numbers_that_differ(rt: HostRuntime) -> Result<(), Fail> {
 #[test]
 fn joined_tables_of_bytes(rt: HostRuntime) -> Result<(), Fail> {
     let mut one = BytesTable::new(rt.alloc());
-    assert_eq!(rt; one.state(4, b"D")?, Stated::New);
-    assert_eq!(rt; one.state(2, b"BB")?, Stated::New);
+    for (key, bytes) in [(4, b"D".as_slice()), (2, b"BB".as_slice())] {
+        assert_eq!(rt; one.state(key, bytes)?, Stated::New);
+    }
     let mut other = BytesTable::new(rt.alloc());
-    assert_eq!(rt; other.state(1, b"AAA")?, Stated::New);
-    assert_eq!(rt; other.state(4, b"D")?, Stated::New);
-    assert_eq!(rt; other.state(5, b"")?, Stated::New);
+    let rows: [(u64, &[u8]); 3] = [(1, b"AAA"), (4, b"D"), (5, b"")];
+    for (key, bytes) in rows {
+        assert_eq!(rt; other.state(key, bytes)?, Stated::New);
+    }
     assert_eq!(rt; one.first_difference(&other), None);
     one.join(&other)?;
     let expected: [(u64, &[u8]); 4] = [(1, b"AAA"), (2, b"BB"), (4, b"D"), (5, b"")];
@@ -106,17 +108,15 @@ fn joined_heaps(rt: HostRuntime) -> Result<(), Fail> {
 fn heaps_that_are_not_joined(rt: HostRuntime) -> Result<(), Fail> {
     let mut one = named(rt.alloc(), IdSize::Four, 2000, &[(1, b"A"), (3, b"C")])?;
     let first = named(rt.alloc(), IdSize::Four, 2000, &[(1, b"A"), (3, b"C")])?;
-    let clash = named(
-        rt.alloc(),
-        IdSize::Four,
-        1000,
-        &[(0, b"N"), (1, b"C"), (3, b"D")],
-    )?;
-    assert_eq!(rt; one.join(&clash), Err(JoinRefusal::Conflict(Key::Name(1))));
-    assert!(rt; same(&one, &first));
-    let wider = named(rt.alloc(), IdSize::Eight, 1000, &[(2, b"B")])?;
-    assert_eq!(rt; one.join(&wider), Err(JoinRefusal::IdSizes));
-    assert!(rt; same(&one, &first));
+    let clash: [(u64, &[u8]); 3] = [(0, b"N"), (1, b"C"), (3, b"D")];
+    for (ids, refusal) in [
+        (IdSize::Four, JoinRefusal::Conflict(Key::Name(1))),
+        (IdSize::Eight, JoinRefusal::IdSizes),
+    ] {
+        let other = named(rt.alloc(), ids, 1000, &clash)?;
+        assert_eq!(rt; one.join(&other), Err(refusal));
+        assert!(rt; same(&one, &first));
+    }
     Ok(())
 }
 
@@ -153,16 +153,18 @@ fn joined_heaps_of_all_tables(rt: HostRuntime) -> Result<(), Fail> {
     let all = heap_of(&rt, rt.alloc(), IdSize::Four, &facts)?;
     assert_eq!(rt; one.join(&other), Ok(()));
     assert!(rt; same(&one, &all));
-    let clash = heap_of(
-        &rt,
-        rt.alloc(),
-        IdSize::Four,
-        &[array(1, Basic::Char, b"abcd")],
-    )?;
-    assert_eq!(rt;
-        one.join(&clash),
-        Err(JoinRefusal::Conflict(Key::Object(1)))
-    );
-    assert!(rt; same(&one, &all));
+    Ok(())
+}
+
+#[test]
+fn heaps_with_objects_that_contradict(rt: HostRuntime) -> Result<(), Fail> {
+    let bytes = array(1, Basic::Byte, b"abcd");
+    let chars = array(1, Basic::Char, b"abcd");
+    let mut one = heap_of(&rt, rt.alloc(), IdSize::Four, &[bytes])?;
+    let first = heap_of(&rt, rt.alloc(), IdSize::Four, &[bytes])?;
+    let clash = heap_of(&rt, rt.alloc(), IdSize::Four, &[chars])?;
+    let refused = Err(JoinRefusal::Conflict(Key::Object(1)));
+    assert_eq!(rt; one.join(&clash), refused);
+    assert!(rt; same(&one, &first));
     Ok(())
 }

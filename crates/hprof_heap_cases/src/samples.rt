@@ -132,6 +132,24 @@ pub(crate) fn state_fact(
     }
 }
 
+// Gives these facts, each of which comes to that.
+pub(crate) fn state_each(
+    rt: &impl Abort,
+    alloc: Global,
+    gatherer: &mut Gatherer,
+    ids: IdSize,
+    facts: &[Fact<'_>],
+    stated: Stated,
+) -> Result<(), SinkFault>
+    requires { (gathered gatherer.old).begun ≡ Some ids }
+    ensures { OnOk result ((gathered gatherer.new).begun ≡ Some ids) }
+{
+    for &fact in facts {
+        assert_eq!(rt; state_fact(alloc, gatherer, ids, fact)?, Some(stated));
+    }
+    Ok(())
+}
+
 // Gives these facts, which are new.
 pub(crate) fn state_all(
     rt: &impl Abort,
@@ -143,10 +161,7 @@ pub(crate) fn state_all(
     requires { (gathered gatherer.old).begun ≡ Some ids }
     ensures { OnOk result ((gathered gatherer.new).begun ≡ Some ids) }
 {
-    for &fact in facts {
-        assert_eq!(rt; state_fact(alloc, gatherer, ids, fact)?, Some(Stated::New));
-    }
-    Ok(())
+    state_each(rt, alloc, gatherer, ids, facts, Stated::New)
 }
 
 // The heap of these facts, each of which is new.

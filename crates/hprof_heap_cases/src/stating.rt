@@ -1,10 +1,15 @@
 //! What facts of all forms come to, one after the other.
 
-use crate::samples::{begun, state_record, state_sub};
-use hprof_heap::{Key, Refusal, Standing, Table};
+ghost use Rattle.std.specs.Prelude.{◌≡◌, Some, OnOk};
+ghost use Rattle.hprof_heap.specs.Gathering.{gathered};
+
+use crate::samples::{begun, state_each, state_record, state_sub};
+use hprof_heap::{Gatherer, Key, Refusal, Standing, Table};
 use hprof_items::{Fact, IdSize};
 use hprof_lists::IdList;
+use hprof_stream::SinkFault;
 use hprof_tables::Stated;
+use std::process::Abort;
 use std::test::*;
 
 #[test]
@@ -23,10 +28,6 @@ fn records_in_a_heap(rt: HostRuntime) -> Result<(), Fail> {
         trace: 9,
         name: 4,
     };
-    assert_eq!(rt; state_record(&mut gatherer, ids, load)?, Some(Stated::New));
-    assert_eq!(rt; state_record(&mut gatherer, ids, load)?, Some(Stated::Same));
-    let heap = gatherer.heap().ok_or("no heap")?;
-    assert_eq!(rt; heap.load(1), Some(load));
     let frame = Fact::Frame {
         id: 1,
         method: 2,
@@ -35,21 +36,11 @@ fn records_in_a_heap(rt: HostRuntime) -> Result<(), Fail> {
         class_serial: 5,
         line: -3,
     };
-    assert_eq!(rt; state_record(&mut gatherer, ids, frame)?, Some(Stated::New));
-    let heap = gatherer.heap().ok_or("no heap")?;
-    assert_eq!(rt; heap.frame(1), Some(frame));
     let trace = Fact::Trace {
         serial: 6,
         thread: 7,
         frames: IdList::new(b"\0\0\0\x01", IdSize::Four).ok_or("no list")?,
     };
-    assert_eq!(rt; state_record(&mut gatherer, ids, trace)?, Some(Stated::New));
-    assert_eq!(rt;
-        state_record(&mut gatherer, ids, trace)?,
-        Some(Stated::Same)
-    );
-    let heap = gatherer.heap().ok_or("no heap")?;
-    assert_eq!(rt; heap.trace(6), Some(trace));
     let start = Fact::Start {
         thread: 7,
         object: 8,
@@ -58,18 +49,16 @@ fn records_in_a_heap(rt: HostRuntime) -> Result<(), Fail> {
         group: 3,
         parent_group: 4,
     };
-    assert_eq!(rt; state_record(&mut gatherer, ids, start)?, Some(Stated::New));
-    let heap = gatherer.heap().ok_or("no heap")?;
-    assert_eq!(rt; heap.thread(7), Some(start));
     let unload = Fact::Unload { serial: 1 };
     let end = Fact::End { thread: 7 };
-    assert_eq!(rt;
-        state_record(&mut gatherer, ids, unload)?,
-        Some(Stated::New)
-    );
-    assert_eq!(rt; state_record(&mut gatherer, ids, end)?, Some(Stated::New));
-    assert_eq!(rt; state_record(&mut gatherer, ids, end)?, Some(Stated::Same));
+    let facts = [load, frame, trace, start, unload, end];
+    state_each(&rt, rt.alloc(), &mut gatherer, ids, &facts, Stated::New)?;
+    state_each(&rt, rt.alloc(), &mut gatherer, ids, &facts, Stated::Same)?;
     let heap = gatherer.heap().ok_or("no heap")?;
+    assert_eq!(rt; heap.load(1), Some(load));
+    assert_eq!(rt; heap.frame(1), Some(frame));
+    assert_eq!(rt; heap.trace(6), Some(trace));
+    assert_eq!(rt; heap.thread(7), Some(start));
     assert_eq!(rt; heap.count(), 6);
     assert_eq!(rt; heap.len(Table::Ends), 1);
     // From the first that differs on, the heap is shown no more.
@@ -85,21 +74,29 @@ fn records_in_a_heap(rt: HostRuntime) -> Result<(), Fail> {
     Ok(())
 }
 
+// Gives a sub-record that is new, and again.
+fn state_twice(
+    rt: &impl Abort,
+    gatherer: &mut Gatherer,
+    ids: IdSize,
+    bytes: &[u8],
+) -> Result<(), SinkFault>
+    requires { (gathered gatherer.old).begun ≡ Some ids }
+    ensures { OnOk result ((gathered gatherer.new).begun ≡ Some ids) }
+{
+    assert_eq!(rt; state_sub(gatherer, ids, bytes)?, Some(Stated::New));
+    assert_eq!(rt; state_sub(gatherer, ids, bytes)?, Some(Stated::Same));
+    Ok(())
+}
+
 #[test]
 fn sub_records_in_a_heap(rt: HostRuntime) -> Result<(), Fail> {
     let ids = IdSize::Four;
     let mut gatherer = begun(rt.alloc(), ids, 5)?;
     let root = b"\x05\0\0\0\x07";
-    assert_eq!(rt; state_sub(&mut gatherer, ids, root)?, Some(Stated::New));
-    assert_eq!(rt; state_sub(&mut gatherer, ids, root)?, Some(Stated::Same));
-    let heap = gatherer.heap().ok_or("no heap")?;
-    assert_eq!(rt; heap.len(Table::Roots), 1);
+    state_twice(&rt, &mut gatherer, ids, root)?;
     let instance = b"\x21\0\0\0\x07\0\0\0\x01\0\0\0\x02\0\0\0\x03abc";
-    assert_eq!(rt; state_sub(&mut gatherer, ids, instance)?, Some(Stated::New));
-    assert_eq!(rt;
-        state_sub(&mut gatherer, ids, instance)?,
-        Some(Stated::Same)
-    );
+    state_twice(&rt, &mut gatherer, ids, instance)?;
     let heap = gatherer.heap().ok_or("no heap")?;
     let fact = Fact::Instance {
         id: 7,
@@ -110,6 +107,7 @@ fn sub_records_in_a_heap(rt: HostRuntime) -> Result<(), Fail> {
     assert_eq!(rt; heap.object(7), Some(fact));
     assert_eq!(rt; heap.object(8), None);
     assert_eq!(rt; heap.class(7), None);
+    assert_eq!(rt; heap.len(Table::Roots), 1);
     assert_eq!(rt; heap.len(Table::Objects), 1);
     assert_eq!(rt; heap.count(), 2);
     Ok(())

@@ -34,9 +34,9 @@ impl Statement<LoadRow> for Prepared {
 #[test]
 fn stating_rows(rt: HostRuntime) -> Result<(), Fail> {
     let mut loads = Relation::new(rt.alloc());
-    assert_eq!(rt; loads.state(1, load_of(3))?, Stated::New);
-    assert_eq!(rt; loads.state(1, load_of(3))?, Stated::Same);
-    assert_eq!(rt; loads.state(1, load_of(4))?, Stated::Differs);
+    for (name, stated) in [(3, Stated::New), (3, Stated::Same), (4, Stated::Differs)] {
+        assert_eq!(rt; loads.state(1, load_of(name))?, stated);
+    }
     assert_eq!(rt; loads.state_from(1, Prepared(load_of(5)))?, Stated::Differs);
     let row = loads.get(1).ok_or("no row")?;
     assert!(rt; row.agrees(&load_of(3)));
@@ -44,12 +44,11 @@ fn stating_rows(rt: HostRuntime) -> Result<(), Fail> {
     assert_eq!(rt; loads.len(), 1);
     assert_eq!(rt; loads.state_from(0, Prepared(load_of(4)))?, Stated::New);
     let mut rows = loads.rows();
-    let (key, row) = rows.next().ok_or("no first row")?;
-    assert_eq!(rt; key, 0);
-    assert!(rt; row.agrees(&load_of(4)));
-    let (key, row) = rows.next().ok_or("no second row")?;
-    assert_eq!(rt; key, 1);
-    assert!(rt; row.agrees(&load_of(3)));
+    for (key, name) in [(0, 4), (1, 3)] {
+        let (found, row) = rows.next().ok_or("no row")?;
+        assert_eq!(rt; found, key);
+        assert!(rt; row.agrees(&load_of(name)));
+    }
     assert!(rt; rows.next().is_none());
     Ok(())
 }
@@ -57,14 +56,18 @@ fn stating_rows(rt: HostRuntime) -> Result<(), Fail> {
 #[test]
 fn stating_bytes(rt: HostRuntime) -> Result<(), Fail> {
     let mut names = BytesTable::new(rt.alloc());
-    assert_eq!(rt; names.state(1, b"A")?, Stated::New);
-    assert_eq!(rt; names.state(1, b"A")?, Stated::Same);
-    assert_eq!(rt; names.state(1, b"B")?, Stated::Differs);
-    assert_eq!(rt; names.state(1, b"AB")?, Stated::Differs);
-    assert_eq!(rt; names.state(2, b"")?, Stated::New);
-    assert_eq!(rt; names.state(0, b"BC")?, Stated::New);
-    assert_eq!(rt; names.state(2, b"")?, Stated::Same);
-    assert_eq!(rt; names.state(0, b"BC")?, Stated::Same);
+    for (id, text, stated) in [
+        (1, b"A".as_slice(), Stated::New),
+        (1, b"A".as_slice(), Stated::Same),
+        (1, b"B".as_slice(), Stated::Differs),
+        (1, b"AB".as_slice(), Stated::Differs),
+        (2, b"".as_slice(), Stated::New),
+        (0, b"BC".as_slice(), Stated::New),
+        (2, b"".as_slice(), Stated::Same),
+        (0, b"BC".as_slice(), Stated::Same),
+    ] {
+        assert_eq!(rt; names.state(id, text)?, stated);
+    }
     assert_eq!(rt; names.get(1), Some(b"A".as_slice()));
     assert!(rt; names.get(3).is_none());
     assert_eq!(rt; names.len(), 3);
@@ -78,7 +81,7 @@ fn stating_bytes(rt: HostRuntime) -> Result<(), Fail> {
 }
 
 #[test]
-fn stating_numbers(rt: HostRuntime) -> Result<(), Fail> {
+fn stating_loads(rt: HostRuntime) -> Result<(), Fail> {
     let load = LoadRow {
         class: 9,
         trace: 1,
@@ -91,6 +94,11 @@ fn stating_numbers(rt: HostRuntime) -> Result<(), Fail> {
         loads.state(1, LoadRow { trace: 2, ..load })?,
         Stated::Differs
     );
+    Ok(())
+}
+
+#[test]
+fn stating_frames(rt: HostRuntime) -> Result<(), Fail> {
     let frame = FrameRow {
         method: 1,
         signature: 2,
@@ -107,6 +115,11 @@ fn stating_numbers(rt: HostRuntime) -> Result<(), Fail> {
             Stated::Differs
         );
     }
+    Ok(())
+}
+
+#[test]
+fn stating_starts_and_ends(rt: HostRuntime) -> Result<(), Fail> {
     let start = StartRow {
         object: 1,
         trace: 2,
