@@ -1,9 +1,11 @@
 //! Tables and heaps compared with one another.
 
-use crate::samples::{array, begun, heap_of, load_of};
+use crate::expecting::{equal, holds};
+use crate::samples::{
+    array, begun, class_of, frame_of, heap_of, load_of, loaded, start_of, trace_of,
+};
 use hprof_heap::{Heap, same};
 use hprof_items::{Fact, IdSize};
-use hprof_lists::{ConstantList, FieldList, IdList, StaticList};
 use hprof_tables::{BytesTable, Relation, Stated};
 use hprof_values::{Basic, Root};
 use std::alloc::Global;
@@ -14,15 +16,15 @@ use std::test::*;
 fn tables_of_numbers(rt: HostRuntime) -> Result<(), Fail> {
     let mut one = Relation::new(rt.alloc());
     let mut other = Relation::new(rt.alloc());
-    assert!(rt; one.same(&other));
-    assert_eq!(rt; one.state(1, load_of(5))?, Stated::New);
-    assert!(rt; !one.same(&other));
-    assert!(rt; !other.same(&one));
-    assert_eq!(rt; other.state(1, load_of(5))?, Stated::New);
-    assert!(rt; one.same(&other));
-    assert_eq!(rt; one.state(2, load_of(6))?, Stated::New);
-    assert_eq!(rt; other.state(2, load_of(7))?, Stated::New);
-    assert!(rt; !one.same(&other));
+    holds(&rt, one.same(&other));
+    equal(&rt, one.state(1, load_of(5))?, Stated::New);
+    holds(&rt, !one.same(&other));
+    holds(&rt, !other.same(&one));
+    equal(&rt, other.state(1, load_of(5))?, Stated::New);
+    holds(&rt, one.same(&other));
+    equal(&rt, one.state(2, load_of(6))?, Stated::New);
+    equal(&rt, other.state(2, load_of(7))?, Stated::New);
+    holds(&rt, !one.same(&other));
     Ok(())
 }
 
@@ -30,75 +32,19 @@ fn tables_of_numbers(rt: HostRuntime) -> Result<(), Fail> {
 fn tables_of_bytes(rt: HostRuntime) -> Result<(), Fail> {
     let mut one = BytesTable::new(rt.alloc());
     let mut other = BytesTable::new(rt.alloc());
-    assert!(rt; one.same(&other));
-    assert_eq!(rt; one.state(1, b"A")?, Stated::New);
-    assert_eq!(rt; one.state(2, b"B")?, Stated::New);
-    assert_eq!(rt; other.state(2, b"B")?, Stated::New);
-    assert!(rt; !one.same(&other));
-    assert!(rt; !other.same(&one));
-    assert_eq!(rt; other.state(1, b"A")?, Stated::New);
-    assert!(rt; one.same(&other));
-    assert!(rt; other.same(&one));
-    assert_eq!(rt; one.state(3, b"AB")?, Stated::New);
-    assert_eq!(rt; other.state(4, b"AB")?, Stated::New);
-    assert!(rt; !one.same(&other));
+    holds(&rt, one.same(&other));
+    equal(&rt, one.state(1, b"A")?, Stated::New);
+    equal(&rt, one.state(2, b"B")?, Stated::New);
+    equal(&rt, other.state(2, b"B")?, Stated::New);
+    holds(&rt, !one.same(&other));
+    holds(&rt, !other.same(&one));
+    equal(&rt, other.state(1, b"A")?, Stated::New);
+    holds(&rt, one.same(&other));
+    holds(&rt, other.same(&one));
+    equal(&rt, one.state(3, b"AB")?, Stated::New);
+    equal(&rt, other.state(4, b"AB")?, Stated::New);
+    holds(&rt, !one.same(&other));
     Ok(())
-}
-
-fn class_of<'a>(id: u64, size: u32) -> Option<Fact<'a>> {
-    Some(Fact::Class {
-        id,
-        trace: 1,
-        parent: 0,
-        loader: 0,
-        signers: 0,
-        domain: 0,
-        reserved1: 0,
-        reserved2: 0,
-        size,
-        constants: ConstantList::new(b"", IdSize::Four)?,
-        statics: StaticList::new(b"", IdSize::Four)?,
-        fields: FieldList::new(b"", IdSize::Four)?,
-    })
-}
-
-fn start_of<'a>(thread: u32, name: u64) -> Fact<'a> {
-    Fact::Start {
-        thread,
-        object: 8,
-        trace: 6,
-        name,
-        group: 3,
-        parent_group: 4,
-    }
-}
-
-fn frame_of<'a>(id: u64, line: i32) -> Fact<'a> {
-    Fact::Frame {
-        id,
-        method: 2,
-        signature: 3,
-        source: 4,
-        class_serial: 5,
-        line,
-    }
-}
-
-fn trace_of<'a>(serial: u32, frame: &'a [u8]) -> Option<Fact<'a>> {
-    Some(Fact::Trace {
-        serial,
-        thread: 7,
-        frames: IdList::new(frame, IdSize::Four)?,
-    })
-}
-
-fn loaded<'a>(serial: u32, name: u64) -> Fact<'a> {
-    Fact::Load {
-        serial,
-        class: 1,
-        trace: 2,
-        name,
-    }
 }
 
 // That heaps of one fact and of the other differ, from one another and from one without facts.
@@ -112,8 +58,8 @@ fn check_differ(
     let facts = [fact, other];
     for (facts, alike) in [(&facts[..1], true), (&facts[1..], false), (&[], false)] {
         let another = heap_of(rt, alloc, IdSize::Four, facts)?;
-        assert_eq!(rt; same(&heap, &another), alike);
-        assert_eq!(rt; same(&another, &heap), alike);
+        equal(rt, same(&heap, &another), alike);
+        equal(rt, same(&another, &heap), alike);
     }
     Ok(())
 }
@@ -157,8 +103,8 @@ fn heaps_of_the_same_facts(rt: HostRuntime) -> Result<(), Fail> {
     let heap = heap_of(&rt, rt.alloc(), IdSize::Four, &facts)?;
     let facts = [object, loaded(1, 2), other_name, name, class];
     let other = heap_of(&rt, rt.alloc(), IdSize::Four, &facts)?;
-    assert!(rt; same(&heap, &other));
-    assert!(rt; same(&other, &heap));
+    holds(&rt, same(&heap, &other));
+    holds(&rt, same(&other, &heap));
     Ok(())
 }
 
@@ -175,8 +121,8 @@ fn heaps_of_two_sizes_or_times(rt: HostRuntime) -> Result<(), Fail> {
         (IdSize::Eight, 1, false),
     ] {
         let other = without_facts(rt.alloc(), ids, millis)?;
-        assert_eq!(rt; same(&heap, &other), alike);
-        assert_eq!(rt; same(&other, &heap), alike);
+        equal(&rt, same(&heap, &other), alike);
+        equal(&rt, same(&other, &heap), alike);
     }
     Ok(())
 }

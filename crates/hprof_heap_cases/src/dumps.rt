@@ -1,5 +1,6 @@
 //! Tests of the canonical dump.
 
+use crate::expecting::{equal, holds};
 use crate::samples::{array, give, heap_of};
 use hprof_devices::Device;
 use hprof_dump::{laws, write_canonical};
@@ -7,6 +8,8 @@ use hprof_heap::{Gatherer, Heap};
 use hprof_items::{Fact, IdSize};
 use hprof_values::{Basic, Root};
 use std::alloc::Global;
+use std::io;
+use std::io::Write;
 use std::process::Abort;
 use std::test::*;
 
@@ -20,11 +23,38 @@ const PLAIN: &[u8; 98] = b"JAVA PROFILE 1.0.2\0\0\0\0\x04\0\0\0\0\0\0\0\x01\
     \x1c\0\0\0\0\0\0\0\x15\x05\0\0\0\x10\x23\0\0\0\x10\0\0\0\x01\0\0\0\x02\x08\x01\x02\
     \x2c\0\0\0\0\0\0\0\0";
 
-// The dump of the heap.
-fn dump_of(rt: &impl Abort, alloc: Global, heap: &Heap) -> Vec<u8> {
-    let mut device = Device::new(Vec::new(alloc));
-    assert_eq!(rt; write_canonical(heap, &mut device), Ok(()));
-    device.into_inner()
+// A writer that counts its writes. A write of no bytes fails.
+#[derive(Drop)]
+struct Counted {
+    bytes: Vec<u8>,
+    writes: u64,
+}
+
+impl Write for Counted {
+    fn write(&mut self, bytes: &[u8]) -> io::Result<usize> {
+        if bytes.is_empty() {
+            return Err(io::Error::from(io::ErrorKind::Other));
+        }
+        self.bytes.extend_from_slice(bytes)?;
+        self.writes = self.writes.saturating_add(1);
+        Ok(bytes.len())
+    }
+
+    fn flush(&mut self) -> io::Result<()> {
+        Ok(())
+    }
+}
+
+// The dump of the heap, which takes so many writes.
+fn dump_of(rt: &impl Abort, alloc: Global, heap: &Heap, writes: u64) -> Vec<u8> {
+    let mut device = Device::new(Counted {
+        bytes: Vec::new(alloc),
+        writes: 0,
+    });
+    equal(rt, write_canonical(heap, &mut device), Ok(()));
+    let counted = device.into_inner();
+    equal(rt, counted.writes, writes);
+    counted.bytes
 }
 
 #[test]
@@ -34,8 +64,9 @@ fn a_dump_of_names(rt: HostRuntime) -> Result<(), Fail> {
     give(&mut gatherer, IdSize::Four, 1, &[(2, b"B")])?;
     give(&mut gatherer, IdSize::Four, 3, &[])?;
     let heap = gatherer.heap().ok_or("no heap")?;
-    let bytes = dump_of(&rt, rt.alloc(), heap);
-    assert_eq!(rt; bytes.as_slice(), NAMES.as_slice());
+    // A header, two names in two pieces each, an end.
+    let bytes = dump_of(&rt, rt.alloc(), heap, 6);
+    equal(&rt, bytes.as_slice(), NAMES.as_slice());
     laws::dump_reads_back();
     Ok(())
 }
@@ -49,8 +80,9 @@ fn sub_records_share_a_segment(rt: HostRuntime) -> Result<(), Fail> {
         Fact::Name { id: 1, text: b"A" },
     ];
     let heap = heap_of(&rt, rt.alloc(), IdSize::Four, &facts)?;
-    let bytes = dump_of(&rt, rt.alloc(), &heap);
-    assert_eq!(rt; bytes.as_slice(), PLAIN.as_slice());
+    // A header, two names in two pieces each, the head of a segment, its sub-records, an end.
+    let bytes = dump_of(&rt, rt.alloc(), &heap, 9);
+    equal(&rt, bytes.as_slice(), PLAIN.as_slice());
     Ok(())
 }
 
@@ -72,11 +104,15 @@ fn a_full_segment(rt: HostRuntime) -> Result<(), Fail> {
         array(17, Basic::Byte, b"ab"),
     ];
     let heap = heap_of(&rt, rt.alloc(), IdSize::Four, &arrays)?;
-    let bytes = dump_of(&rt, rt.alloc(), &heap);
-    assert_eq!(rt; bytes.len(), 1_048_648);
-    assert!(rt; has_at(&bytes, 31, b"\x1c\0\0\0\0\0\x10\0\0\x23\0\0\0\x10"));
+    // A header, two segments, whose arrays are written as they lie, an end.
+    let bytes = dump_of(&rt, rt.alloc(), &heap, 7);
+    equal(&rt, bytes.len(), 1_048_648);
+    holds(
+        &rt,
+        has_at(&bytes, 31, b"\x1c\0\0\0\0\0\x10\0\0\x23\0\0\0\x10"),
+    );
     let rest = b"\x1c\0\0\0\0\0\0\0\x0e\x23\0\0\0\x12\0\0\0\x01\0\0\0\0\x08\x2c\0\0\0\0\0\0\0\0";
-    assert!(rt; has_at(&bytes, 1_048_616, rest));
+    holds(&rt, has_at(&bytes, 1_048_616, rest));
     Ok(())
 }
 
@@ -86,11 +122,14 @@ fn a_segment_of_one_sub_record(rt: HostRuntime) -> Result<(), Fail> {
     let zeros = vec![in rt.alloc(); 0; 1_048_563]?;
     let arrays = [array(17, Basic::Byte, &zeros), array(16, Basic::Byte, b"")];
     let heap = heap_of(&rt, rt.alloc(), IdSize::Four, &arrays)?;
-    let bytes = dump_of(&rt, rt.alloc(), &heap);
-    assert_eq!(rt; bytes.len(), 1_048_649);
+    let bytes = dump_of(&rt, rt.alloc(), &heap, 6);
+    equal(&rt, bytes.len(), 1_048_649);
     let first = b"\x1c\0\0\0\0\0\0\0\x0e\x23\0\0\0\x10\0\0\0\x01\0\0\0\0\x08";
-    assert!(rt; has_at(&bytes, 31, first));
-    assert!(rt; has_at(&bytes, 54, b"\x1c\0\0\0\0\0\x10\0\x01\x23\0\0\0\x11"));
-    assert!(rt; has_at(&bytes, 1_048_640, b"\x2c\0\0\0\0\0\0\0\0"));
+    holds(&rt, has_at(&bytes, 31, first));
+    holds(
+        &rt,
+        has_at(&bytes, 54, b"\x1c\0\0\0\0\0\x10\0\x01\x23\0\0\0\x11"),
+    );
+    holds(&rt, has_at(&bytes, 1_048_640, b"\x2c\0\0\0\0\0\0\0\0"));
     Ok(())
 }

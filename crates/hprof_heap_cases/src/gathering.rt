@@ -1,5 +1,6 @@
 //! What parts come to together.
 
+use crate::expecting::{equal, holds};
 use crate::samples::give;
 use hprof_heap::{Gatherer, Key, Refusal, Standing, Table, laws};
 use hprof_items::{Fact, IdSize};
@@ -8,9 +9,9 @@ use std::test::*;
 #[test]
 fn no_parts(rt: HostRuntime) {
     let gatherer = Gatherer::new(rt.alloc());
-    assert_eq!(rt; gatherer.standing(), Standing::Empty);
-    assert!(rt; gatherer.heap().is_none());
-    assert_eq!(rt; gatherer.finish().err(), Some(Refusal::NoParts));
+    equal(&rt, gatherer.standing(), Standing::Empty);
+    holds(&rt, gatherer.heap().is_none());
+    equal(&rt, gatherer.finish().err(), Some(Refusal::NoParts));
 }
 
 #[test]
@@ -29,11 +30,12 @@ fn the_least_conflict(rt: HostRuntime) -> Result<(), Fail> {
             (4, b"B"),
         ],
     )?;
-    assert_eq!(rt; gatherer.standing(), Standing::InConflict);
-    assert!(rt; gatherer.heap().is_none());
-    assert_eq!(rt;
+    equal(&rt, gatherer.standing(), Standing::InConflict);
+    holds(&rt, gatherer.heap().is_none());
+    equal(
+        &rt,
         gatherer.finish().err(),
-        Some(Refusal::Conflict(Key::Name(3)))
+        Some(Refusal::Conflict(Key::Name(3))),
     );
     laws::conflicts_are_of_the_set();
     Ok(())
@@ -45,8 +47,8 @@ fn two_sizes_come_before_a_conflict(rt: HostRuntime) -> Result<(), Fail> {
     give(&mut gatherer, IdSize::Four, 1, &[(1, b"A"), (1, b"B")])?;
     give(&mut gatherer, IdSize::Eight, 1, &[(1, b"A")])?;
     give(&mut gatherer, IdSize::Four, 1, &[(1, b"A")])?;
-    assert_eq!(rt; gatherer.standing(), Standing::InConflict);
-    assert_eq!(rt; gatherer.finish().err(), Some(Refusal::IdSizes));
+    equal(&rt, gatherer.standing(), Standing::InConflict);
+    equal(&rt, gatherer.finish().err(), Some(Refusal::IdSizes));
     laws::answers_tell_of_the_parts();
     Ok(())
 }
@@ -59,13 +61,13 @@ fn a_heap(rt: HostRuntime) -> Result<(), Fail> {
     give(&mut gatherer, IdSize::Eight, 2000, &[(2, b"B")])?;
     give(&mut gatherer, IdSize::Eight, 1000, &[(1, b"A")])?;
     let heap = gatherer.finish()?;
-    assert_eq!(rt; heap.ids(), IdSize::Eight);
-    assert_eq!(rt; heap.millis(), 1000);
-    assert_eq!(rt; heap.count(), 2);
-    assert_eq!(rt; heap.len(Table::Names), 2);
-    assert_eq!(rt; heap.name(1), Some(one));
-    assert_eq!(rt; heap.name(3), None);
-    assert_eq!(rt; heap.name(2), Some(two));
+    equal(&rt, heap.ids(), IdSize::Eight);
+    equal(&rt, heap.millis(), 1000);
+    equal(&rt, heap.count(), 2);
+    equal(&rt, heap.len(Table::Names), 2);
+    equal(&rt, heap.name(1), Some(one));
+    equal(&rt, heap.name(3), None);
+    equal(&rt, heap.name(2), Some(two));
     hprof_dump::laws::sub_records_are_packed_in_one_way();
     Ok(())
 }

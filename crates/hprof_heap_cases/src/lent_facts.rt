@@ -1,5 +1,6 @@
 //! Tests of the facts of each table, and of the names of classes.
 
+use crate::expecting::equal;
 use crate::samples::{array, begun, check_rows, heap_of, state_all, state_fact};
 use hprof_heap::Table;
 use hprof_items::{Fact, IdSize};
@@ -30,13 +31,13 @@ fn instance(id: u64, class: u64, bytes: &[u8]) -> Fact<'_> {
 fn names_of_classes(rt: HostRuntime) -> Result<(), Fail> {
     let loads = [load(1, 100, 2), load(2, 102, 9), load(3, 100, 1)];
     let heap = heap_of(&rt, rt.alloc(), IdSize::Four, &[])?;
-    assert_eq!(rt; heap.class_name(100), None);
+    equal(&rt, heap.class_name(100), None);
     let stated = [loads[2], loads[0], loads[1]];
     let heap = heap_of(&rt, rt.alloc(), IdSize::Four, &stated)?;
     check_rows(&rt, &heap, Table::Loads, &loads);
-    assert_eq!(rt; heap.class_name(100), Some(2));
-    assert_eq!(rt; heap.class_name(101), None);
-    assert_eq!(rt; heap.class_name(102), Some(9));
+    equal(&rt, heap.class_name(100), Some(2));
+    equal(&rt, heap.class_name(101), None);
+    equal(&rt, heap.class_name(102), Some(9));
     Ok(())
 }
 
@@ -58,7 +59,7 @@ fn objects_of_all_kinds_are_one_table(rt: HostRuntime) -> Result<(), Fail> {
     let stated = [objects[4], objects[1], objects[3], objects[0], objects[2]];
     let heap = heap_of(&rt, rt.alloc(), IdSize::Four, &stated)?;
     check_rows(&rt, &heap, Table::Objects, &objects);
-    assert_eq!(rt; heap.object(204), Some(objects[4]));
+    equal(&rt, heap.object(204), Some(objects[4]));
     Ok(())
 }
 
@@ -87,12 +88,13 @@ fn a_class_and_an_instance_of_one_identifier(rt: HostRuntime) -> Result<(), Fail
     let object = instance(16, 16, b"");
     let mut gatherer = begun(rt.alloc(), ids, 1)?;
     state_all(&rt, rt.alloc(), &mut gatherer, ids, &[object, class])?;
-    assert_eq!(rt;
+    equal(
+        &rt,
         state_fact(rt.alloc(), &mut gatherer, ids, class)?,
-        Some(Stated::Same)
+        Some(Stated::Same),
     );
     let heap = gatherer.finish()?;
-    assert_eq!(rt; heap.class(16), Some(class));
+    equal(&rt, heap.class(16), Some(class));
     check_rows(&rt, &heap, Table::Classes, &[class]);
     check_rows(&rt, &heap, Table::Objects, &[object]);
     Ok(())
@@ -114,9 +116,10 @@ fn roots_in_the_order_of_their_spellings(rt: HostRuntime) -> Result<(), Fail> {
     let mut gatherer = begun(rt.alloc(), ids, 1)?;
     let stated = [unknown, thread, global];
     state_all(&rt, rt.alloc(), &mut gatherer, ids, &stated)?;
-    assert_eq!(rt;
+    equal(
+        &rt,
         state_fact(rt.alloc(), &mut gatherer, ids, unknown)?,
-        Some(Stated::Same)
+        Some(Stated::Same),
     );
     let heap = gatherer.finish()?;
     check_rows(&rt, &heap, Table::Roots, &[global, thread, unknown]);

@@ -1,10 +1,12 @@
-//! Tests of hprof_heap, through public calls. It has no code of its own.
+//! Tests of hprof_tables, hprof_rows, hprof_heap and hprof_dump, through public calls. It has no code of its own.
 #![tactic(auto)]
 
 #[cfg(test)]
 mod comparing;
 #[cfg(test)]
 mod dumps;
+#[cfg(test)]
+mod expecting;
 #[cfg(test)]
 mod gathering;
 #[cfg(test)]

@@ -1,9 +1,11 @@
 //! The room that rows take.
 
+use crate::expecting::equal;
 use crate::samples::{begun, state_all};
-use hprof_heap::Gatherer;
+use hprof_heap::{Gatherer, Heap};
 use hprof_items::{Fact, IdSize};
 use hprof_lists::IdList;
+use hprof_values::Root;
 use std::alloc::Global;
 use std::fs;
 use std::process::Abort;
@@ -17,11 +19,11 @@ fn size(rt: &HostRuntime) -> Result<u64, Fail> {
     Ok(pages.saturating_mul(4_096))
 }
 
-// A gatherer that was given 256 stacks, all of these bytes.
-fn traces_of(rt: &impl Abort, alloc: Global, bytes: &[u8]) -> Result<Gatherer, Fail> {
+// A gatherer that was given so many stacks, all of these bytes.
+fn traces_of(rt: &impl Abort, alloc: Global, count: u32, bytes: &[u8]) -> Result<Gatherer, Fail> {
     let ids = IdSize::Four;
     let mut gatherer = begun(alloc, ids, 1)?;
-    for serial in 0..256u32 {
+    for serial in 0..count {
         let frames = IdList::new(bytes, ids).ok_or("no list")?;
         let trace = Fact::Trace {
             serial,
@@ -38,9 +40,62 @@ fn traces_of(rt: &impl Abort, alloc: Global, bytes: &[u8]) -> Result<Gatherer, F
 fn rows_have_no_room_to_spare(rt: HostRuntime) -> Result<(), Fail> {
     let bytes = vec![in rt.alloc(); 0; 79_000]?;
     let before = size(&rt)?;
-    let heap = traces_of(&rt, rt.alloc(), &bytes)?.finish()?;
+    let heap = traces_of(&rt, rt.alloc(), 256, &bytes)?.finish()?;
     let grown = size(&rt)?.saturating_sub(before);
-    assert_eq!(rt; heap.count(), 256);
+    equal(&rt, heap.count(), 256);
     assert!(rt; grown <= 20_426_240, "{grown}");
+    Ok(())
+}
+
+// A stack of two frames takes a row of some 40 bytes, for which the table may have room twice, and a piece of memory.
+#[test]
+fn rows_of_small_stacks_are_small(rt: HostRuntime) -> Result<(), Fail> {
+    let before = size(&rt)?;
+    let heap = traces_of(&rt, rt.alloc(), 100_000, &[0; 8])?.finish()?;
+    let grown = size(&rt)?.saturating_sub(before);
+    equal(&rt, heap.count(), 100_000);
+    assert!(rt; grown <= 20_000_000, "{grown}");
+    Ok(())
+}
+
+// What a join takes for the rows that were missing, it takes once.
+#[test]
+fn joined_rows_have_no_room_to_spare(rt: HostRuntime) -> Result<(), Fail> {
+    let bytes = vec![in rt.alloc(); 0; 79_000]?;
+    let other = traces_of(&rt, rt.alloc(), 256, &bytes)?.finish()?;
+    let mut heap = begun(rt.alloc(), IdSize::Four, 1)?.finish()?;
+    let before = size(&rt)?;
+    equal(&rt, heap.join(&other), Ok(()));
+    let grown = size(&rt)?.saturating_sub(before);
+    equal(&rt, heap.count(), 256);
+    assert!(rt; grown <= 20_426_240, "{grown}");
+    Ok(())
+}
+
+// A heap that was given so many roots, from that one on.
+fn roots_from(rt: &impl Abort, alloc: Global, first: u64, count: u64) -> Result<Heap, Fail> {
+    let ids = IdSize::Eight;
+    let mut gatherer = begun(alloc, ids, 1)?;
+    for number in 0..count {
+        let root = Root::Sticky {
+            id: first.wrapping_add(number),
+        };
+        state_all(rt, alloc, &mut gatherer, ids, &[Fact::Root(root)])?;
+    }
+    Ok(gatherer.finish()?)
+}
+
+// Each join makes a new set of 1,000 roots and more, and the old one is given back.
+#[test]
+fn joins_give_roots_back(rt: HostRuntime) -> Result<(), Fail> {
+    let mut heap = roots_from(&rt, rt.alloc(), 0, 1_000)?;
+    let before = size(&rt)?;
+    for number in 0..400u64 {
+        let other = roots_from(&rt, rt.alloc(), 1_000 + number, 1)?;
+        equal(&rt, heap.join(&other), Ok(()));
+    }
+    let grown = size(&rt)?.saturating_sub(before);
+    equal(&rt, heap.count(), 1_400);
+    assert!(rt; grown <= 3_000_000, "{grown}");
     Ok(())
 }

@@ -5,9 +5,11 @@ ghost use Rattle.hprof_items.specs.FactValue.{value_of};
 ghost use Rattle.hprof_items.specs.SubRecord.{dump_bytes};
 ghost use Rattle.hprof_heap.specs.Gathering.{gathered};
 
+use crate::expecting::{equal, holds};
 use hprof_devices::Device;
 use hprof_heap::{Gatherer, Heap, LoadRow, Table};
 use hprof_items::{Fact, Header, IdSize, Step, Version, read_sub};
+use hprof_lists::{ConstantList, FieldList, IdList, StaticList};
 use hprof_stream::{Sink, SinkFault};
 use hprof_tables::Stated;
 use hprof_values::Basic;
@@ -145,7 +147,7 @@ pub(crate) fn state_each(
     ensures { OnOk result ((gathered gatherer.new).begun ≡ Some ids) }
 {
     for &fact in facts {
-        assert_eq!(rt; state_fact(alloc, gatherer, ids, fact)?, Some(stated));
+        equal(rt, state_fact(alloc, gatherer, ids, fact)?, Some(stated));
     }
     Ok(())
 }
@@ -178,12 +180,12 @@ pub(crate) fn heap_of(
 
 // That a table has these facts, in this order.
 pub(crate) fn check_rows(rt: &impl Abort, heap: &Heap, table: Table, expected: &[Fact<'_>]) {
-    assert_eq!(rt; heap.len(table), expected.len());
+    equal(rt, heap.len(table), expected.len());
     let mut facts = heap.rows(table);
     for &fact in expected {
-        assert_eq!(rt; facts.next(), Some(fact));
+        equal(rt, facts.next(), Some(fact));
     }
-    assert!(rt; facts.next().is_none());
+    holds(rt, facts.next().is_none());
 }
 
 pub(crate) fn array(id: u64, elem: Basic, bytes: &[u8]) -> Fact<'_> {
@@ -198,6 +200,62 @@ pub(crate) fn array(id: u64, elem: Basic, bytes: &[u8]) -> Fact<'_> {
 // The load of the class 1 by that name.
 pub(crate) fn load_of(name: u64) -> LoadRow {
     LoadRow {
+        class: 1,
+        trace: 2,
+        name,
+    }
+}
+
+pub(crate) fn class_of<'a>(id: u64, size: u32) -> Option<Fact<'a>> {
+    Some(Fact::Class {
+        id,
+        trace: 1,
+        parent: 0,
+        loader: 0,
+        signers: 0,
+        domain: 0,
+        reserved1: 0,
+        reserved2: 0,
+        size,
+        constants: ConstantList::new(b"", IdSize::Four)?,
+        statics: StaticList::new(b"", IdSize::Four)?,
+        fields: FieldList::new(b"", IdSize::Four)?,
+    })
+}
+
+pub(crate) fn start_of<'a>(thread: u32, name: u64) -> Fact<'a> {
+    Fact::Start {
+        thread,
+        object: 8,
+        trace: 6,
+        name,
+        group: 3,
+        parent_group: 4,
+    }
+}
+
+pub(crate) fn frame_of<'a>(id: u64, line: i32) -> Fact<'a> {
+    Fact::Frame {
+        id,
+        method: 2,
+        signature: 3,
+        source: 4,
+        class_serial: 5,
+        line,
+    }
+}
+
+pub(crate) fn trace_of<'a>(serial: u32, frame: &'a [u8]) -> Option<Fact<'a>> {
+    Some(Fact::Trace {
+        serial,
+        thread: 7,
+        frames: IdList::new(frame, IdSize::Four)?,
+    })
+}
+
+pub(crate) fn loaded<'a>(serial: u32, name: u64) -> Fact<'a> {
+    Fact::Load {
+        serial,
         class: 1,
         trace: 2,
         name,

@@ -3,6 +3,7 @@
 ghost use Rattle.std.specs.Prelude.{◌≡◌, Some, OnOk};
 ghost use Rattle.hprof_heap.specs.Gathering.{gathered};
 
+use crate::expecting::equal;
 use crate::samples::{begun, state_each, state_record, state_sub};
 use hprof_heap::{Gatherer, Key, Refusal, Standing, Table};
 use hprof_items::{Fact, IdSize};
@@ -55,21 +56,23 @@ fn records_in_a_heap(rt: HostRuntime) -> Result<(), Fail> {
     state_each(&rt, rt.alloc(), &mut gatherer, ids, &facts, Stated::New)?;
     state_each(&rt, rt.alloc(), &mut gatherer, ids, &facts, Stated::Same)?;
     let heap = gatherer.heap().ok_or("no heap")?;
-    assert_eq!(rt; heap.load(1), Some(load));
-    assert_eq!(rt; heap.frame(1), Some(frame));
-    assert_eq!(rt; heap.trace(6), Some(trace));
-    assert_eq!(rt; heap.thread(7), Some(start));
-    assert_eq!(rt; heap.count(), 6);
-    assert_eq!(rt; heap.len(Table::Ends), 1);
+    equal(&rt, heap.load(1), Some(load));
+    equal(&rt, heap.frame(1), Some(frame));
+    equal(&rt, heap.trace(6), Some(trace));
+    equal(&rt, heap.thread(7), Some(start));
+    equal(&rt, heap.count(), 6);
+    equal(&rt, heap.len(Table::Ends), 1);
     // From the first that differs on, the heap is shown no more.
-    assert_eq!(rt;
+    equal(
+        &rt,
         state_record(&mut gatherer, ids, other)?,
-        Some(Stated::Differs)
+        Some(Stated::Differs),
     );
-    assert_eq!(rt; gatherer.standing(), Standing::InConflict);
-    assert_eq!(rt;
+    equal(&rt, gatherer.standing(), Standing::InConflict);
+    equal(
+        &rt,
         gatherer.finish().err(),
-        Some(Refusal::Conflict(Key::Load(1)))
+        Some(Refusal::Conflict(Key::Load(1))),
     );
     Ok(())
 }
@@ -84,8 +87,8 @@ fn state_twice(
     requires { (gathered gatherer.old).begun ≡ Some ids }
     ensures { OnOk result ((gathered gatherer.new).begun ≡ Some ids) }
 {
-    assert_eq!(rt; state_sub(gatherer, ids, bytes)?, Some(Stated::New));
-    assert_eq!(rt; state_sub(gatherer, ids, bytes)?, Some(Stated::Same));
+    equal(rt, state_sub(gatherer, ids, bytes)?, Some(Stated::New));
+    equal(rt, state_sub(gatherer, ids, bytes)?, Some(Stated::Same));
     Ok(())
 }
 
@@ -104,12 +107,12 @@ fn sub_records_in_a_heap(rt: HostRuntime) -> Result<(), Fail> {
         class: 2,
         bytes: b"abc",
     };
-    assert_eq!(rt; heap.object(7), Some(fact));
-    assert_eq!(rt; heap.object(8), None);
-    assert_eq!(rt; heap.class(7), None);
-    assert_eq!(rt; heap.len(Table::Roots), 1);
-    assert_eq!(rt; heap.len(Table::Objects), 1);
-    assert_eq!(rt; heap.count(), 2);
+    equal(&rt, heap.object(7), Some(fact));
+    equal(&rt, heap.object(8), None);
+    equal(&rt, heap.class(7), None);
+    equal(&rt, heap.len(Table::Roots), 1);
+    equal(&rt, heap.len(Table::Objects), 1);
+    equal(&rt, heap.count(), 2);
     Ok(())
 }
 
@@ -122,15 +125,21 @@ fn sub_records_that_differ(rt: HostRuntime) -> Result<(), Fail> {
     let array: &[u8] = b"\x23\0\0\0\x07\0\0\0\x01\0\0\0\x03\x08abc";
     for other in [longer, array] {
         let mut gatherer = begun(rt.alloc(), ids, 5)?;
-        assert_eq!(rt; state_sub(&mut gatherer, ids, instance)?, Some(Stated::New));
-        assert_eq!(rt;
-            state_sub(&mut gatherer, ids, other)?,
-            Some(Stated::Differs)
+        equal(
+            &rt,
+            state_sub(&mut gatherer, ids, instance)?,
+            Some(Stated::New),
         );
-        assert_eq!(rt; gatherer.standing(), Standing::InConflict);
-        assert_eq!(rt;
+        equal(
+            &rt,
+            state_sub(&mut gatherer, ids, other)?,
+            Some(Stated::Differs),
+        );
+        equal(&rt, gatherer.standing(), Standing::InConflict);
+        equal(
+            &rt,
             gatherer.finish().err(),
-            Some(Refusal::Conflict(Key::Object(7)))
+            Some(Refusal::Conflict(Key::Object(7))),
         );
     }
     Ok(())

@@ -4,6 +4,7 @@ ghost use Rattle.std.specs.Prelude.{◌≡◌, Some, IfOk};
 ghost use Rattle.hprof_rows.specs.NumberRows.{load_numbers};
 ghost use Rattle.hprof_heap.specs.Gathering.{gathered};
 
+use crate::expecting::{equal, holds};
 use crate::samples::{begun, load_of, state_record};
 use hprof_heap::{FrameRow, Gatherer, Key, KeyRow, LoadRow, Refusal, StartRow, Table};
 use hprof_items::{Fact, IdSize};
@@ -35,21 +36,25 @@ impl Statement<LoadRow> for Prepared {
 fn stating_rows(rt: HostRuntime) -> Result<(), Fail> {
     let mut loads = Relation::new(rt.alloc());
     for (name, stated) in [(3, Stated::New), (3, Stated::Same), (4, Stated::Differs)] {
-        assert_eq!(rt; loads.state(1, load_of(name))?, stated);
+        equal(&rt, loads.state(1, load_of(name))?, stated);
     }
-    assert_eq!(rt; loads.state_from(1, Prepared(load_of(5)))?, Stated::Differs);
+    equal(
+        &rt,
+        loads.state_from(1, Prepared(load_of(5)))?,
+        Stated::Differs,
+    );
     let row = loads.get(1).ok_or("no row")?;
-    assert!(rt; row.agrees(&load_of(3)));
-    assert!(rt; loads.get(2).is_none());
-    assert_eq!(rt; loads.len(), 1);
-    assert_eq!(rt; loads.state_from(0, Prepared(load_of(4)))?, Stated::New);
+    holds(&rt, row.agrees(&load_of(3)));
+    holds(&rt, loads.get(2).is_none());
+    equal(&rt, loads.len(), 1);
+    equal(&rt, loads.state_from(0, Prepared(load_of(4)))?, Stated::New);
     let mut rows = loads.rows();
     for (key, name) in [(0, 4), (1, 3)] {
         let (found, row) = rows.next().ok_or("no row")?;
-        assert_eq!(rt; found, key);
-        assert!(rt; row.agrees(&load_of(name)));
+        equal(&rt, found, key);
+        holds(&rt, row.agrees(&load_of(name)));
     }
-    assert!(rt; rows.next().is_none());
+    holds(&rt, rows.next().is_none());
     Ok(())
 }
 
@@ -66,17 +71,17 @@ fn stating_bytes(rt: HostRuntime) -> Result<(), Fail> {
         (2, b"".as_slice(), Stated::Same),
         (0, b"BC".as_slice(), Stated::Same),
     ] {
-        assert_eq!(rt; names.state(id, text)?, stated);
+        equal(&rt, names.state(id, text)?, stated);
     }
-    assert_eq!(rt; names.get(1), Some(b"A".as_slice()));
-    assert!(rt; names.get(3).is_none());
-    assert_eq!(rt; names.len(), 3);
+    equal(&rt, names.get(1), Some(b"A".as_slice()));
+    holds(&rt, names.get(3).is_none());
+    equal(&rt, names.len(), 3);
     let mut rows = names.rows();
     let expected: [(u64, &[u8]); 3] = [(0, b"BC"), (1, b"A"), (2, b"")];
     for row in expected {
-        assert_eq!(rt; rows.next(), Some(row));
+        equal(&rt, rows.next(), Some(row));
     }
-    assert!(rt; rows.next().is_none());
+    holds(&rt, rows.next().is_none());
     Ok(())
 }
 
@@ -88,11 +93,12 @@ fn stating_loads(rt: HostRuntime) -> Result<(), Fail> {
         name: 2,
     };
     let mut loads = Relation::new(rt.alloc());
-    assert_eq!(rt; loads.state(1, load)?, Stated::New);
-    assert_eq!(rt; loads.state(1, load)?, Stated::Same);
-    assert_eq!(rt;
+    equal(&rt, loads.state(1, load)?, Stated::New);
+    equal(&rt, loads.state(1, load)?, Stated::Same);
+    equal(
+        &rt,
         loads.state(1, LoadRow { trace: 2, ..load })?,
-        Stated::Differs
+        Stated::Differs,
     );
     Ok(())
 }
@@ -107,12 +113,13 @@ fn stating_frames(rt: HostRuntime) -> Result<(), Fail> {
         line: 1,
     };
     let mut frames = Relation::new(rt.alloc());
-    assert_eq!(rt; frames.state(7, frame)?, Stated::New);
-    assert_eq!(rt; frames.state(7, frame)?, Stated::Same);
+    equal(&rt, frames.state(7, frame)?, Stated::New);
+    equal(&rt, frames.state(7, frame)?, Stated::Same);
     for line in [-1, 2, -2] {
-        assert_eq!(rt;
+        equal(
+            &rt,
             frames.state(7, FrameRow { line, ..frame })?,
-            Stated::Differs
+            Stated::Differs,
         );
     }
     Ok(())
@@ -128,21 +135,22 @@ fn stating_starts_and_ends(rt: HostRuntime) -> Result<(), Fail> {
         parent_group: 5,
     };
     let mut starts = Relation::new(rt.alloc());
-    assert_eq!(rt; starts.state(0, start)?, Stated::New);
-    assert_eq!(rt;
+    equal(&rt, starts.state(0, start)?, Stated::New);
+    equal(
+        &rt,
         starts.state(
             0,
             StartRow {
                 parent_group: 6,
                 ..start
-            }
+            },
         )?,
-        Stated::Differs
+        Stated::Differs,
     );
     let mut ends = Relation::new(rt.alloc());
-    assert_eq!(rt; ends.state(3, KeyRow)?, Stated::New);
-    assert_eq!(rt; ends.state(3, KeyRow)?, Stated::Same);
-    assert_eq!(rt; ends.len(), 1);
+    equal(&rt, ends.state(3, KeyRow)?, Stated::New);
+    equal(&rt, ends.state(3, KeyRow)?, Stated::Same);
+    equal(&rt, ends.len(), 1);
     Ok(())
 }
 
@@ -157,8 +165,8 @@ fn state(
     if let Ok(stated) = names.state(id, text) {
         return Ok(stated);
     }
-    assert!(rt; names.get(id).is_none());
-    assert_eq!(rt; names.len(), count);
+    holds(rt, names.get(id).is_none());
+    equal(rt, names.len(), count);
     names.state(id, text)
 }
 
@@ -175,7 +183,7 @@ fn given_names(
         if stated != Stated::Differs {
             let name = Fact::Name { id, text };
             let came = state_record(&mut gatherer, IdSize::Four, name)?;
-            assert_eq!(rt; came, Some(stated));
+            equal(rt, came, Some(stated));
         }
     }
     Ok(gatherer)
@@ -193,21 +201,21 @@ fn check_heap(
             let mut gatherer = given_names(rt, alloc, &given[..place])?;
             let name = Fact::Name { id, text };
             let came = state_record(&mut gatherer, IdSize::Four, name)?;
-            assert_eq!(rt; came, Some(Stated::Differs));
+            equal(rt, came, Some(Stated::Differs));
             let conflict = Refusal::Conflict(Key::Name(id));
-            assert_eq!(rt; gatherer.finish().err(), Some(conflict));
+            equal(rt, gatherer.finish().err(), Some(conflict));
         }
     }
     let heap = given_names(rt, alloc, given)?.finish()?;
-    assert_eq!(rt; heap.len(Table::Names), expected.len());
+    equal(rt, heap.len(Table::Names), expected.len());
     let mut facts = heap.rows(Table::Names);
     for &(id, text) in expected {
         let name = Some(Fact::Name { id, text });
-        assert_eq!(rt; facts.next(), name);
-        assert_eq!(rt; heap.name(id), name);
-        assert_eq!(rt; heap.name(id | 1), None);
+        equal(rt, facts.next(), name);
+        equal(rt, heap.name(id), name);
+        equal(rt, heap.name(id | 1), None);
     }
-    assert!(rt; facts.next().is_none());
+    holds(rt, facts.next().is_none());
     Ok(())
 }
 
@@ -220,16 +228,16 @@ fn check_names(
 ) -> Result<(), Fail> {
     let mut names = BytesTable::new(alloc);
     for &(id, text, stated) in given {
-        assert_eq!(rt; state(rt, &mut names, id, text)?, stated);
+        equal(rt, state(rt, &mut names, id, text)?, stated);
     }
-    assert_eq!(rt; names.len(), expected.len());
+    equal(rt, names.len(), expected.len());
     let mut rows = names.rows();
     for &(id, text) in expected {
-        assert_eq!(rt; rows.next(), Some((id, text)));
-        assert_eq!(rt; names.get(id), Some(text));
-        assert!(rt; names.get(id | 1).is_none());
+        equal(rt, rows.next(), Some((id, text)));
+        equal(rt, names.get(id), Some(text));
+        holds(rt, names.get(id | 1).is_none());
     }
-    assert!(rt; rows.next().is_none());
+    holds(rt, rows.next().is_none());
     check_heap(rt, alloc, given, expected)
 }
 

@@ -2,6 +2,7 @@
 
 ghost use Rattle.std.specs.Prelude.{◌≤◌, IfOk};
 
+use crate::expecting::equal;
 use hprof_devices::{Device, Health, ReadFault, Source, Target, WriteFault};
 use hprof_writing::write_head;
 use std::io;
@@ -46,20 +47,19 @@ impl Write for Narrow {
 
 #[test]
 fn a_writer_that_stops(rt: HostRuntime) {
-    for (fails, fault, health) in [
-        (true, WriteFault::Failed, Health::Failed),
-        (false, WriteFault::Stuck, Health::Stuck),
+    for (room, fails, want, health) in [
+        (5, true, Err(WriteFault::Failed), Health::Failed),
+        (5, false, Err(WriteFault::Stuck), Health::Stuck),
+        (9, true, Ok(()), Health::Well),
     ] {
-        let mut device = Device::new(Narrow { room: 5, fails });
-        assert_eq!(rt; write_head(0x2c, 0, &mut device), Err(fault));
-        assert_eq!(rt; device.health(), health);
-        assert_eq!(rt; device.into_inner().room, 0);
+        let mut device = Device::new(Narrow { room, fails });
+        let written = write_head(0x2c, 0, &mut device);
+        equal(
+            &rt,
+            (written, device.health(), device.into_inner().room),
+            (want, health, 0),
+        );
     }
-    let mut device = Device::new(Narrow {
-        room: 9,
-        fails: true,
-    });
-    assert_eq!(rt; write_head(0x2c, 0, &mut device), Ok(()));
 }
 
 #[test]
@@ -69,24 +69,35 @@ fn a_reader_that_stops(rt: HostRuntime) {
         fails: true,
     });
     let mut piece = [0; 4];
-    assert_eq!(rt; device.pulls(), 0);
+    equal(&rt, device.pulls(), 0);
     assert_eq!(rt; device.pull(&mut piece), Ok(3));
-    assert_eq!(rt; device.health(), Health::Well);
-    assert_eq!(rt; device.pull(&mut piece), Err(ReadFault::Failed));
-    assert_eq!(rt; device.health(), Health::Failed);
-    assert_eq!(rt; device.pulls(), 2);
+    equal(&rt, device.health(), Health::Well);
+    let pulled = device.pull(&mut piece);
+    equal(
+        &rt,
+        (pulled, device.health(), device.pulls()),
+        (Err(ReadFault::Failed), Health::Failed, 2),
+    );
+}
 
+#[test]
+fn a_reader_of_bytes(rt: HostRuntime) {
+    let mut piece = [0; 4];
     let mut bytes = Device::new(b"ab".as_slice());
     assert_eq!(rt; bytes.pull(&mut piece), Ok(2));
-    assert_eq!(rt; piece, [b'a', b'b', 0, 0]);
-    assert_eq!(rt; bytes.health(), Health::Well);
-    assert_eq!(rt; bytes.pull(&mut piece), Ok(0));
+    equal(
+        &rt,
+        (piece, bytes.health()),
+        ([b'a', b'b', 0, 0], Health::Well),
+    );
+    equal(&rt, bytes.pull(&mut piece), Ok(0));
 }
 
 // Fails once, and works from then on.
 #[derive(Drop)]
 struct FailsOnce {
     failed: bool,
+    kind: io::ErrorKind,
 }
 
 impl FailsOnce {
@@ -97,7 +108,7 @@ impl FailsOnce {
             return Ok(0);
         }
         self.failed = true;
-        Err(io::Error::from(io::ErrorKind::Interrupted))
+        Err(io::Error::from(self.kind))
     }
 }
 
@@ -119,12 +130,33 @@ impl Write for FailsOnce {
 
 #[test]
 fn nothing_is_tried_again(rt: HostRuntime) {
-    let mut source = Device::new(FailsOnce { failed: false });
-    assert_eq!(rt; source.pull(&mut [0]), Err(ReadFault::Failed));
-    assert_eq!(rt; source.health(), Health::Failed);
-    let mut target = Device::new(FailsOnce { failed: false });
-    assert_eq!(rt; target.push(b"a"), Err(WriteFault::Failed));
-    assert_eq!(rt; target.health(), Health::Failed);
+    for kind in [
+        io::ErrorKind::Interrupted,
+        io::ErrorKind::WouldBlock,
+        io::ErrorKind::TimedOut,
+        io::ErrorKind::UnexpectedEof,
+        io::ErrorKind::WriteZero,
+        io::ErrorKind::OutOfMemory,
+    ] {
+        let failing = || FailsOnce {
+            failed: false,
+            kind,
+        };
+        let mut source = Device::new(failing());
+        let pulled = source.pull(&mut [0]);
+        equal(
+            &rt,
+            (pulled, source.health()),
+            (Err(ReadFault::Failed), Health::Failed),
+        );
+        let mut target = Device::new(failing());
+        let pushed = target.push(b"a");
+        equal(
+            &rt,
+            (pushed, target.health()),
+            (Err(WriteFault::Failed), Health::Failed),
+        );
+    }
 }
 
 #[test]
@@ -134,7 +166,7 @@ fn a_push(rt: HostRuntime) {
         fails: false,
     });
     assert_eq!(rt; device.push(b"abcd"), Ok(3));
-    assert_eq!(rt; device.health(), Health::Well);
-    assert_eq!(rt; device.push(b""), Ok(0));
-    assert_eq!(rt; device.health(), Health::Well);
+    equal(&rt, device.health(), Health::Well);
+    let pushed = device.push(b"");
+    equal(&rt, (pushed, device.health()), (Ok(0), Health::Well));
 }

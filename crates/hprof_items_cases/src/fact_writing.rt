@@ -1,5 +1,6 @@
 //! What each fact is written as, and what has no spelling.
 
+use crate::expecting::{equal, equal_at, holds};
 use hprof_devices::Device;
 use hprof_items::{Basic, ConstantList, Fact, FieldList, IdList, IdSize, Root, StaticList, laws};
 use hprof_writing::{fits, spelled_len, write_fact};
@@ -9,15 +10,20 @@ use std::io::Write;
 use std::process::Abort;
 use std::test::*;
 
-// A writer that takes all, and counts its calls.
+// A writer that takes all, and counts its calls. A write of no bytes fails.
 #[derive(Drop)]
 struct Counting {
+    bytes: Vec<u8>,
     writes: u64,
     flushes: u64,
 }
 
 impl Write for Counting {
     fn write(&mut self, buf: &[u8]) -> io::Result<usize> {
+        if buf.is_empty() {
+            return Err(io::Error::from(io::ErrorKind::Other));
+        }
+        self.bytes.extend_from_slice(buf)?;
         self.writes = self.writes.saturating_add(1);
         Ok(buf.len())
     }
@@ -28,35 +34,49 @@ impl Write for Counting {
     }
 }
 
-// A front is one push, the bytes behind it another, and bytes that are none no push; nothing is flushed.
-#[test]
-fn pushes_of_a_fact(rt: HostRuntime) {
-    for (bytes, writes) in [(b"ab".as_slice(), 2), (b"".as_slice(), 1)] {
-        let fact = Fact::Instance {
-            id: 1,
-            trace: 2,
-            class: 3,
-            bytes,
-        };
-        let mut device = Device::new(Counting {
-            writes: 0,
-            flushes: 0,
-        });
-        assert_eq!(rt; write_fact(&fact, IdSize::Four, &mut device), Ok(()));
-        let counting = device.into_inner();
-        assert_eq!(rt; (counting.writes, counting.flushes), (writes, 0));
-    }
-    laws::one_spelling_in_each_family();
+// How many pushes a fact takes: its fields are one push, and so are the bytes behind them, where there are any. Of a class each
+// count of entries is one.
+fn pushes_of(fact: &Fact<'_>) -> u64 {
+    let behind = match *fact {
+        Fact::Name { text, .. } => text.len(),
+        Fact::Trace { frames, .. } => frames.len(),
+        Fact::Instance { bytes, .. } | Fact::PrimArray { bytes, .. } => bytes.len(),
+        Fact::ObjArray { elements, .. } => elements.len(),
+        Fact::Class {
+            constants,
+            statics,
+            fields,
+            ..
+        } => {
+            let lists = [constants.len(), statics.len(), fields.len()];
+            return 3 + lists.iter().filter(|&&len| len > 0).count() as u64;
+        }
+        _ => 0,
+    };
+    if behind > 0 { 2 } else { 1 }
 }
 
-// That the fact fits, and that it is written as these bytes.
+// That the fact fits, and that it is written as these bytes, in no more pushes than it takes; nothing is flushed.
 fn check(rt: &impl Abort, alloc: Global, fact: &Fact<'_>, ids: IdSize, want: &[u8]) {
     assert!(rt; fits(fact, ids), "{want:?}");
-    assert_eq!(rt; spelled_len(fact, ids), want.len() as u64, "{want:?}");
-    let mut device = Device::new(Vec::new(alloc));
-    assert_eq!(rt; write_fact(fact, ids, &mut device), Ok(()), "{want:?}");
-    let bytes = device.into_inner();
-    assert_eq!(rt; bytes.as_slice(), want);
+    let len = spelled_len(fact, ids);
+    let mut device = Device::new(Counting {
+        bytes: Vec::new(alloc),
+        writes: 0,
+        flushes: 0,
+    });
+    let written = write_fact(fact, ids, &mut device);
+    let counting = device.into_inner();
+    equal(
+        rt,
+        (len, written, counting.bytes.as_slice()),
+        (want.len() as u64, Ok(()), want),
+    );
+    equal(
+        rt,
+        (counting.writes, counting.flushes),
+        (pushes_of(fact), 0),
+    );
 }
 
 // A frame with an unknown line.
@@ -72,47 +92,18 @@ const FRAME: Fact<'static> = Fact::Frame {
 #[test]
 fn records(rt: HostRuntime) -> Result<(), Fail> {
     let name = Fact::Name { id: 1, text: b"A" };
-    check(
-        &rt,
-        rt.alloc(),
-        &name,
-        IdSize::Four,
-        b"\x01\0\0\0\0\0\0\0\x05\0\0\0\x01A",
-    );
     let load = Fact::Load {
         serial: 1,
         class: 16,
         trace: 2,
         name: 3,
     };
-    check(
-        &rt,
-        rt.alloc(),
-        &load,
-        IdSize::Four,
-        b"\x02\0\0\0\0\0\0\0\x10\0\0\0\x01\0\0\0\x10\0\0\0\x02\0\0\0\x03",
-    );
     let unload = Fact::Unload { serial: 7 };
-    check(
-        &rt,
-        rt.alloc(),
-        &unload,
-        IdSize::Four,
-        b"\x03\0\0\0\0\0\0\0\x04\0\0\0\x07",
-    );
-    let frames = IdList::new(b"\0\0\0\x05\0\0\0\x06", IdSize::Four).ok_or("no list")?;
     let trace = Fact::Trace {
         serial: 9,
         thread: 2,
-        frames,
+        frames: IdList::new(b"\0\0\0\x05\0\0\0\x06", IdSize::Four).ok_or("no list")?,
     };
-    check(
-        &rt,
-        rt.alloc(),
-        &trace,
-        IdSize::Four,
-        b"\x05\0\0\0\0\0\0\0\x14\0\0\0\x09\0\0\0\x02\0\0\0\x02\0\0\0\x05\0\0\0\x06",
-    );
     let start = Fact::Start {
         thread: 1,
         object: 32,
@@ -121,21 +112,27 @@ fn records(rt: HostRuntime) -> Result<(), Fail> {
         group: 4,
         parent_group: 0,
     };
-    check(
-        &rt,
-        rt.alloc(),
-        &start,
-        IdSize::Four,
-        b"\x0a\0\0\0\0\0\0\0\x18\0\0\0\x01\0\0\0\x20\0\0\0\x09\0\0\0\x03\0\0\0\x04\0\0\0\0",
-    );
     let end = Fact::End { thread: 1 };
-    check(
-        &rt,
-        rt.alloc(),
-        &end,
-        IdSize::Four,
-        b"\x0b\0\0\0\0\0\0\0\x04\0\0\0\x01",
-    );
+    let records: [(Fact<'_>, &[u8]); 6] = [
+        (name, b"\x01\0\0\0\0\0\0\0\x05\0\0\0\x01A"),
+        (
+            load,
+            b"\x02\0\0\0\0\0\0\0\x10\0\0\0\x01\0\0\0\x10\0\0\0\x02\0\0\0\x03",
+        ),
+        (unload, b"\x03\0\0\0\0\0\0\0\x04\0\0\0\x07"),
+        (
+            trace,
+            b"\x05\0\0\0\0\0\0\0\x14\0\0\0\x09\0\0\0\x02\0\0\0\x02\0\0\0\x05\0\0\0\x06",
+        ),
+        (
+            start,
+            b"\x0a\0\0\0\0\0\0\0\x18\0\0\0\x01\0\0\0\x20\0\0\0\x09\0\0\0\x03\0\0\0\x04\0\0\0\0",
+        ),
+        (end, b"\x0b\0\0\0\0\0\0\0\x04\0\0\0\x01"),
+    ];
+    for (fact, want) in records {
+        check(&rt, rt.alloc(), &fact, IdSize::Four, want);
+    }
     Ok(())
 }
 
@@ -197,40 +194,65 @@ fn written_objects(rt: HostRuntime) -> Result<(), Fail> {
         class: 9,
         bytes: b"ab",
     };
-    check(
-        &rt,
-        rt.alloc(),
-        &instance,
-        IdSize::Four,
-        b"\x21\0\0\0\x10\0\0\0\x01\0\0\0\x09\0\0\0\x02ab",
-    );
-    let elements = IdList::new(b"\0\0\0\x10", IdSize::Four).ok_or("no list")?;
     let objects = Fact::ObjArray {
         id: 17,
         trace: 1,
         class: 9,
-        elements,
+        elements: IdList::new(b"\0\0\0\x10", IdSize::Four).ok_or("no list")?,
     };
-    check(
-        &rt,
-        rt.alloc(),
-        &objects,
-        IdSize::Four,
-        b"\x22\0\0\0\x11\0\0\0\x01\0\0\0\x01\0\0\0\x09\0\0\0\x10",
-    );
     let numbers = Fact::PrimArray {
         id: 18,
         trace: 1,
         elem: Basic::Char,
         bytes: b"\0A\0B",
     };
-    check(
-        &rt,
-        rt.alloc(),
-        &numbers,
-        IdSize::Four,
-        b"\x23\0\0\0\x12\0\0\0\x01\0\0\0\x02\x05\0A\0B",
-    );
+    let written: [(Fact<'_>, &[u8]); 3] = [
+        (instance, b"\x21\0\0\0\x10\0\0\0\x01\0\0\0\x09\0\0\0\x02ab"),
+        (
+            objects,
+            b"\x22\0\0\0\x11\0\0\0\x01\0\0\0\x01\0\0\0\x09\0\0\0\x10",
+        ),
+        (numbers, b"\x23\0\0\0\x12\0\0\0\x01\0\0\0\x02\x05\0A\0B"),
+    ];
+    for (fact, want) in written {
+        check(&rt, rt.alloc(), &fact, IdSize::Four, want);
+    }
+    Ok(())
+}
+
+#[test]
+fn facts_without_bytes(rt: HostRuntime) -> Result<(), Fail> {
+    let none = IdList::new(b"", IdSize::Four).ok_or("no list")?;
+    let stack = Fact::Trace {
+        serial: 9,
+        thread: 2,
+        frames: none,
+    };
+    let instance = Fact::Instance {
+        id: 16,
+        trace: 1,
+        class: 9,
+        bytes: b"",
+    };
+    let objects = Fact::ObjArray {
+        id: 17,
+        trace: 1,
+        class: 9,
+        elements: none,
+    };
+    let facts: [(Fact<'_>, &[u8]); 4] = [
+        (
+            Fact::Name { id: 1, text: b"" },
+            b"\x01\0\0\0\0\0\0\0\x04\0\0\0\x01",
+        ),
+        (stack, b"\x05\0\0\0\0\0\0\0\x0c\0\0\0\x09\0\0\0\x02\0\0\0\0"),
+        (instance, b"\x21\0\0\0\x10\0\0\0\x01\0\0\0\x09\0\0\0\0"),
+        (objects, b"\x22\0\0\0\x11\0\0\0\x01\0\0\0\0\0\0\0\x09"),
+    ];
+    for (fact, want) in facts {
+        check(&rt, rt.alloc(), &fact, IdSize::Four, want);
+    }
+    laws::one_spelling_in_each_family();
     Ok(())
 }
 
@@ -257,7 +279,7 @@ fn class_of<'a>(
 }
 
 #[test]
-fn classes(rt: HostRuntime) -> Result<(), Fail> {
+fn a_class_with_entries(rt: HostRuntime) -> Result<(), Fail> {
     // A constant 1 of type int, 7; a static field 3 of type boolean, 1; fields 4 of type object and 5 of type long.
     let ids = IdSize::Four;
     let constants = ConstantList::new(b"\0\x01\x0a\0\0\0\x07", ids).ok_or("no list")?;
@@ -271,7 +293,12 @@ fn classes(rt: HostRuntime) -> Result<(), Fail> {
         ids,
         b"\x20\0\0\0\x30\0\0\0\x09\0\0\0\x31\0\0\0\x32\0\0\0\0\0\0\0\0\0\0\0\0\0\0\0\0\0\0\0\x0c\0\x01\0\x01\x0a\0\0\0\x07\0\x01\0\0\0\x03\x04\x01\0\x02\0\0\0\x04\x02\0\0\0\x05\x0b",
     );
-    assert!(rt; !fits(&class, IdSize::Eight));
+    holds(&rt, !fits(&class, IdSize::Eight));
+    Ok(())
+}
+
+#[test]
+fn a_class_with_long_identifiers(rt: HostRuntime) -> Result<(), Fail> {
     // No constant; a static field 3 of type object, 16; no field.
     let ids = IdSize::Eight;
     let constants = ConstantList::new(b"", ids).ok_or("no list")?;
@@ -289,17 +316,11 @@ fn classes(rt: HostRuntime) -> Result<(), Fail> {
     Ok(())
 }
 
+// An identifier past four bytes, or a list with identifiers of eight bytes.
 #[test]
-fn facts_that_do_not_fit(rt: HostRuntime) -> Result<(), Fail> {
+fn facts_that_fit_eight_bytes(rt: HostRuntime) -> Result<(), Fail> {
     let great = 4294967296;
-    let frames = IdList::new(b"", IdSize::Eight).ok_or("no list")?;
-    let array = |elem, bytes| Fact::PrimArray {
-        id: 1,
-        trace: 1,
-        elem,
-        bytes,
-    };
-    // An identifier past four bytes.
+    let list = IdList::new(b"", IdSize::Eight).ok_or("no list")?;
     for fact in [
         Fact::Name {
             id: great,
@@ -318,31 +339,39 @@ fn facts_that_do_not_fit(rt: HostRuntime) -> Result<(), Fail> {
             class: great,
             bytes: b"",
         },
-    ] {
-        assert!(rt; !fits(&fact, IdSize::Four));
-        assert!(rt; fits(&fact, IdSize::Eight));
-    }
-    // A list with identifiers of eight bytes.
-    for fact in [
         Fact::Trace {
             serial: 1,
             thread: 1,
-            frames,
+            frames: list,
         },
         Fact::ObjArray {
             id: 1,
             trace: 1,
             class: 1,
-            elements: frames,
+            elements: list,
         },
     ] {
-        assert!(rt; !fits(&fact, IdSize::Four));
-        assert!(rt; fits(&fact, IdSize::Eight));
+        let found = (fits(&fact, IdSize::Four), fits(&fact, IdSize::Eight));
+        equal_at(&rt, fact, found, (false, true));
     }
-    // A type of elements that is none, and an element that is cut.
-    assert!(rt; !fits(&array(Basic::Object, b""), IdSize::Four));
-    assert!(rt; !fits(&array(Basic::Array, b""), IdSize::Four));
-    assert!(rt; !fits(&array(Basic::Int, b"abc"), IdSize::Four));
-    assert!(rt; fits(&array(Basic::Int, b"abcd"), IdSize::Four));
     Ok(())
+}
+
+// A type of elements that is none, and an element that is cut.
+#[test]
+fn arrays_that_do_not_fit(rt: HostRuntime) {
+    for (elem, bytes, fit) in [
+        (Basic::Object, b"".as_slice(), false),
+        (Basic::Array, b"", false),
+        (Basic::Int, b"abc", false),
+        (Basic::Int, b"abcd", true),
+    ] {
+        let array = Fact::PrimArray {
+            id: 1,
+            trace: 1,
+            elem,
+            bytes,
+        };
+        equal_at(&rt, array, fits(&array, IdSize::Four), fit);
+    }
 }

@@ -1,5 +1,6 @@
 //! The header of a dump, and the heads of records.
 
+use crate::expecting::{equal, equal_at};
 use hprof_devices::{Device, Health};
 use hprof_items::{Head, Header, IdSize, Reason, Step, Version, laws, read_head, read_header};
 use hprof_writing::{write_head, write_header};
@@ -16,23 +17,26 @@ fn a_header(rt: HostRuntime) {
         millis: 1,
     };
     let mut device = Device::new(Vec::new(rt.alloc()));
-    assert_eq!(rt; write_header(&header, &mut device), Ok(()));
-    assert_eq!(rt; device.health(), Health::Well);
+    let written = write_header(&header, &mut device);
+    equal(&rt, (written, device.health()), (Ok(()), Health::Well));
     let bytes = device.into_inner();
-    assert_eq!(rt; bytes.as_slice(), HEADER.as_slice());
-    assert_eq!(rt; read_header(&bytes), Step::Whole(header, 31));
+    equal(
+        &rt,
+        (bytes.as_slice(), read_header(&bytes)),
+        (HEADER.as_slice(), Step::Whole(header, 31)),
+    );
     laws::headers_read_back();
 }
 
 #[test]
 fn faults_of_a_header(rt: HostRuntime) {
     let magic = b"JAVA PROFILE 1.0.3\0";
-    assert_eq!(rt; read_header(magic), Step::Fault(Reason::BadMagic));
-    assert_eq!(rt; read_header(&magic[..18]), Step::Short);
+    equal(&rt, read_header(magic), Step::Fault(Reason::BadMagic));
+    equal(&rt, read_header(&magic[..18]), Step::Short);
     let size = b"JAVA PROFILE 1.0.1\0\0\0\0\x02";
-    assert_eq!(rt; read_header(size), Step::Fault(Reason::BadIdSize));
-    assert_eq!(rt; read_header(&size[..22]), Step::Short);
-    assert_eq!(rt; read_header(&HEADER[..30]), Step::Short);
+    equal(&rt, read_header(size), Step::Fault(Reason::BadIdSize));
+    equal(&rt, read_header(&size[..22]), Step::Short);
+    equal(&rt, read_header(&HEADER[..30]), Step::Short);
 }
 
 #[test]
@@ -49,24 +53,18 @@ fn faults_of_a_head(rt: HostRuntime) {
         (0x01, 5, 5, Step::Whole(name, 9)),
         (0x01, 1, 0, Step::Fault(Reason::BadLength)),
     ] {
+        let bytes = [tag, 0, 0, 0, 0, 0, 0, 0, len as u8];
         let mut device = Device::new(Vec::new(rt.alloc()));
-        assert_eq!(rt; write_head(tag, len, &mut device), Ok(()), "{tag} {len}");
-        let bytes = device.into_inner();
-        assert_eq!(rt;
-            bytes.as_slice(),
-            [tag, 0, 0, 0, 0, 0, 0, 0, len as u8].as_slice(),
-            "{tag} {len}"
+        let written = write_head(tag, len, &mut device);
+        equal_at(
+            &rt,
+            (tag, len),
+            (written, device.into_inner().as_slice()),
+            (Ok(()), bytes.as_slice()),
         );
-        assert_eq!(rt;
-            read_head(&bytes, IdSize::Four, longest),
-            want,
-            "{tag} {len}"
-        );
-        assert_eq!(rt;
-            read_head(&bytes[..8], IdSize::Four, longest),
-            Step::Short,
-            "{tag} {len}"
-        );
+        let read = read_head(&bytes, IdSize::Four, longest);
+        let short = read_head(&bytes[..8], IdSize::Four, longest);
+        equal_at(&rt, (tag, len), (read, short), (want, Step::Short));
     }
     laws::heads_read_back();
 }

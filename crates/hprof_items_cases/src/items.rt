@@ -1,5 +1,6 @@
 //! Sub-records that are read.
 
+use crate::expecting::{equal, holds};
 use hprof_devices::Device;
 use hprof_items::{
     Basic, ConstantList, Fact, FieldList, IdList, IdSize, Reason, Root, StaticList, Step, Stop,
@@ -22,25 +23,35 @@ fn roots(rt: HostRuntime) {
         trace: 2,
     };
     let ids = IdSize::Four;
-    assert_eq!(rt; sub(bytes, ids), Step::Whole(Fact::Root(root), 13));
-    assert_eq!(rt;
+    equal(&rt, sub(bytes, ids), Step::Whole(Fact::Root(root), 13));
+    equal(
+        &rt,
         read_sub(bytes, 13, 13, ids),
-        Step::Whole(Fact::Root(root), 13)
+        Step::Whole(Fact::Root(root), 13),
     );
-    assert_eq!(rt; read_sub(bytes, 13, 12, ids), Step::TooLong);
-    assert_eq!(rt; read_sub(bytes, 12, 12, ids), Step::Fault(Reason::PastEnd));
-    assert_eq!(rt; read_sub(bytes, 12, 4, ids), Step::TooLong);
-    assert_eq!(rt; sub(b"\x08\0\0", ids), Step::Short);
-    assert_eq!(rt; read_sub(b"", 1, 0, ids), Step::Short);
-    assert_eq!(rt; read_sub(b"\x08", 1, 0, ids), Step::TooLong);
-    assert_eq!(rt; sub(b"\x09\0\0\0\x01", ids), Step::Fault(Reason::BadSubTag));
+    equal(&rt, read_sub(bytes, 13, 12, ids), Step::TooLong);
+    equal(
+        &rt,
+        read_sub(bytes, 12, 12, ids),
+        Step::Fault(Reason::PastEnd),
+    );
+    equal(&rt, read_sub(bytes, 12, 4, ids), Step::TooLong);
+    equal(&rt, sub(b"\x08\0\0", ids), Step::Short);
+    equal(&rt, read_sub(b"", 1, 0, ids), Step::Short);
+    equal(&rt, read_sub(b"\x08", 1, 0, ids), Step::TooLong);
+    equal(
+        &rt,
+        sub(b"\x09\0\0\0\x01", ids),
+        Step::Fault(Reason::BadSubTag),
+    );
     let global = Root::JniGlobal {
         id: 16,
         reference: 17,
     };
-    assert_eq!(rt;
+    equal(
+        &rt,
         sub(b"\x01\0\0\0\0\0\0\0\x10\0\0\0\0\0\0\0\x11", IdSize::Eight),
-        Step::Whole(Fact::Root(global), 17)
+        Step::Whole(Fact::Root(global), 17),
     );
     laws::sub_records_read_back();
 }
@@ -50,28 +61,31 @@ fn facts_in_one_place(rt: HostRuntime) {
     let ids = IdSize::Four;
     let mut fact = Fact::Unload { serial: 7 };
     let root: &[u8] = b"\x05\0\0\0\x10\xff";
-    assert_eq!(rt; read_sub_into(root, 5, 5, ids, &mut fact), Ok(5));
-    assert_eq!(rt; fact, Fact::Root(Root::Sticky { id: 16 }));
+    equal(&rt, read_sub_into(root, 5, 5, ids, &mut fact), Ok(5));
+    equal(&rt, fact, Fact::Root(Root::Sticky { id: 16 }));
     let array: &[u8] = b"\x23\0\0\0\x10\0\0\0\x01\0\0\0\x02\x08\x01\x02\xff";
-    assert_eq!(rt; read_sub_into(array, 16, 100, ids, &mut fact), Ok(16));
+    equal(&rt, read_sub_into(array, 16, 100, ids, &mut fact), Ok(16));
     let same = Fact::PrimArray {
         id: 16,
         trace: 1,
         elem: Basic::Byte,
         bytes: &[1, 2],
     };
-    assert_eq!(rt; fact, same);
-    assert_eq!(rt;
+    equal(&rt, fact, same);
+    equal(
+        &rt,
         read_sub_into(array, 15, 100, ids, &mut fact),
-        Err(Stop::Fault(Reason::PastEnd))
+        Err(Stop::Fault(Reason::PastEnd)),
     );
-    assert_eq!(rt;
+    equal(
+        &rt,
         read_sub_into(array, 16, 15, ids, &mut fact),
-        Err(Stop::TooLong)
+        Err(Stop::TooLong),
     );
-    assert_eq!(rt;
+    equal(
+        &rt,
         read_sub_into(b"\x23", 16, 100, ids, &mut fact),
-        Err(Stop::Short)
+        Err(Stop::Short),
     );
 }
 
@@ -124,11 +138,15 @@ fn each_root(rt: HostRuntime) {
     for (bytes, root) in threes.into_iter().chain(twos).chain(ones) {
         let fact = Fact::Root(root);
         let ids = IdSize::Four;
-        assert_eq!(rt; sub(bytes, ids), Step::Whole(fact, bytes.len()));
-        assert!(rt; fits(&fact, ids));
+        equal(&rt, sub(bytes, ids), Step::Whole(fact, bytes.len()));
+        holds(&rt, fits(&fact, ids));
         let mut device = Device::new(Vec::new(rt.alloc()));
-        assert_eq!(rt; write_fact(&fact, ids, &mut device), Ok(()));
-        assert_eq!(rt; device.into_inner().as_slice(), bytes);
+        let written = write_fact(&fact, ids, &mut device);
+        equal(
+            &rt,
+            (written, device.into_inner().as_slice()),
+            (Ok(()), bytes),
+        );
     }
 }
 
@@ -142,10 +160,11 @@ fn objects(rt: HostRuntime) -> Result<(), Fail> {
         class: 9,
         bytes: b"ab",
     };
-    assert_eq!(rt; read_sub(instance, 19, 19, ids), Step::Whole(fact, 19));
-    assert_eq!(rt;
+    equal(&rt, read_sub(instance, 19, 19, ids), Step::Whole(fact, 19));
+    equal(
+        &rt,
         read_sub(instance, 18, 17, ids),
-        Step::Fault(Reason::PastEnd)
+        Step::Fault(Reason::PastEnd),
     );
     let objects: &[u8] = b"\x22\0\0\0\x11\0\0\0\x01\0\0\0\x01\0\0\0\x09\0\0\0\x10";
     let elements = IdList::new(b"\0\0\0\x10", ids).ok_or("no list")?;
@@ -155,7 +174,7 @@ fn objects(rt: HostRuntime) -> Result<(), Fail> {
         class: 9,
         elements,
     };
-    assert_eq!(rt; read_sub(objects, 21, 21, ids), Step::Whole(fact, 21));
+    equal(&rt, read_sub(objects, 21, 21, ids), Step::Whole(fact, 21));
     let numbers: &[u8] = b"\x23\0\0\0\x12\0\0\0\x01\0\0\0\x01\x05\0A";
     let fact = Fact::PrimArray {
         id: 18,
@@ -163,9 +182,9 @@ fn objects(rt: HostRuntime) -> Result<(), Fail> {
         elem: Basic::Char,
         bytes: b"\0A",
     };
-    assert_eq!(rt; read_sub(numbers, 16, 16, ids), Step::Whole(fact, 16));
+    equal(&rt, read_sub(numbers, 16, 16, ids), Step::Whole(fact, 16));
     let bad: &[u8] = b"\x23\0\0\0\x12\0\0\0\x01\0\0\0\0\x02";
-    assert_eq!(rt; sub(bad, ids), Step::Fault(Reason::BadType));
+    equal(&rt, sub(bad, ids), Step::Fault(Reason::BadType));
     Ok(())
 }
 
@@ -173,9 +192,10 @@ fn objects(rt: HostRuntime) -> Result<(), Fail> {
 #[test]
 fn an_array_of_all_numbers(rt: HostRuntime) {
     let array: &[u8] = b"\x22\0\0\0\0\0\0\0\x10\0\0\0\x01\xff\xff\xff\xff\0\0\0\0\0\0\0\x09";
-    assert_eq!(rt;
+    equal(
+        &rt,
         read_sub(array, u32::MAX, u32::MAX, IdSize::Eight),
-        Step::Fault(Reason::PastEnd)
+        Step::Fault(Reason::PastEnd),
     );
 }
 
@@ -206,14 +226,18 @@ fn a_class(rt: HostRuntime) -> Result<(), Fail> {
         statics,
         fields,
     };
-    assert_eq!(rt; sub(CLASS, ids), Step::Whole(class, 68));
-    assert_eq!(rt; sub(&CLASS[..67], ids), Step::Short);
-    assert_eq!(rt; read_sub(CLASS, 67, 67, ids), Step::Fault(Reason::PastEnd));
-    assert_eq!(rt; read_sub(CLASS, 68, 67, ids), Step::TooLong);
+    equal(&rt, sub(CLASS, ids), Step::Whole(class, 68));
+    equal(&rt, sub(&CLASS[..67], ids), Step::Short);
+    equal(
+        &rt,
+        read_sub(CLASS, 67, 67, ids),
+        Step::Fault(Reason::PastEnd),
+    );
+    equal(&rt, read_sub(CLASS, 68, 67, ids), Step::TooLong);
     // The type of the second constant is 3.
     let mut wrong = *CLASS;
     wrong[48] = 3;
-    assert_eq!(rt; sub(&wrong[..48], ids), Step::Short);
-    assert_eq!(rt; sub(&wrong[..49], ids), Step::Fault(Reason::BadType));
+    equal(&rt, sub(&wrong[..48], ids), Step::Short);
+    equal(&rt, sub(&wrong[..49], ids), Step::Fault(Reason::BadType));
     Ok(())
 }

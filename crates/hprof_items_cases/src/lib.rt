@@ -1,8 +1,11 @@
-//! Tests of hprof_values and hprof_items, through public calls. It has no code of its own.
+//! Tests of hprof_values, hprof_lists, hprof_devices, hprof_items and hprof_writing, through public calls. It has no code of
+//! its own.
 #![tactic(auto)]
 
 #[cfg(test)]
 mod devices;
+#[cfg(test)]
+mod expecting;
 #[cfg(test)]
 mod fact_writing;
 #[cfg(test)]

@@ -1,5 +1,6 @@
 //! Lists of identifiers and of a class's entries.
 
+use crate::expecting::equal;
 use hprof_lists::{
     Constant, ConstantList, Field, FieldList, IdList, Static, StaticList, Value, laws,
 };
@@ -7,7 +8,7 @@ use hprof_values::{Basic, IdSize};
 use std::test::*;
 
 #[test]
-fn entries(rt: HostRuntime) -> Result<(), Fail> {
+fn constants(rt: HostRuntime) -> Result<(), Fail> {
     // A constant 1 of type int, 7; a constant 2 of type object, 10.
     let bytes: &[u8] = b"\0\x01\x0a\0\0\0\x07\0\x02\x02\0\0\0\x10";
     let list = ConstantList::new(bytes, IdSize::Four).ok_or("no list")?;
@@ -18,33 +19,45 @@ fn entries(rt: HostRuntime) -> Result<(), Fail> {
             bits: 16,
         },
     };
-    assert_eq!(rt; list.len(), 2);
-    assert!(rt; !list.is_empty());
-    assert_eq!(rt; list.get(1), Some(second));
-    assert_eq!(rt; list.get(2), None);
-    assert_eq!(rt; list.iter().last(), Some(second));
-    assert_eq!(rt; ConstantList::new(bytes, IdSize::Eight), None);
+    equal(&rt, (list.len(), list.is_empty()), (2, false));
+    equal(
+        &rt,
+        (list.get(1), list.get(2), list.iter().last()),
+        (Some(second), None, Some(second)),
+    );
+    equal(&rt, ConstantList::new(bytes, IdSize::Eight), None);
+    Ok(())
+}
+
+#[test]
+fn fields(rt: HostRuntime) -> Result<(), Fail> {
     let own: &[u8] = b"\0\0\0\x09\x04\0\0\0\x08\x01";
     let list = FieldList::new(own, IdSize::Four).ok_or("no list")?;
-    assert_eq!(rt; list.bytes(), own);
-    assert_eq!(rt; list.id_size(), IdSize::Four);
-    assert_eq!(rt;
+    equal(&rt, (list.bytes(), list.id_size()), (own, IdSize::Four));
+    equal(
+        &rt,
         list.get(1),
         Some(Field {
             name: 8,
-            basic: Basic::Array
-        })
+            basic: Basic::Array,
+        }),
     );
+    Ok(())
+}
+
+#[test]
+fn statics(rt: HostRuntime) -> Result<(), Fail> {
     let list = StaticList::new(b"\0\0\0\x09\x04\x02", IdSize::Four).ok_or("no list")?;
-    assert_eq!(rt;
+    equal(
+        &rt,
         list.iter().next(),
         Some(Static {
             name: 9,
             value: Value {
                 basic: Basic::Boolean,
-                bits: 2
-            }
-        })
+                bits: 2,
+            },
+        }),
     );
     laws::one_list();
     Ok(())
@@ -54,10 +67,27 @@ fn entries(rt: HostRuntime) -> Result<(), Fail> {
 fn identifiers(rt: HostRuntime) -> Result<(), Fail> {
     let bytes: &[u8] = b"\0\0\0\x01\xff\0\0\0";
     let list = IdList::new(bytes, IdSize::Four).ok_or("no list")?;
-    assert_eq!(rt; list.len(), 2);
-    assert_eq!(rt; list.get(1), Some(0xff00_0000));
-    assert_eq!(rt; list.get(2), None);
-    assert_eq!(rt; list.iter().next(), Some(1));
-    assert_eq!(rt; IdList::new(b"\0\0\0\x01\xff", IdSize::Four), None);
+    equal(&rt, list.len(), 2);
+    equal(
+        &rt,
+        (list.get(1), list.get(2), list.iter().next()),
+        (Some(0xff00_0000), None, Some(1)),
+    );
+    equal(&rt, IdList::new(b"\0\0\0\x01\xff", IdSize::Four), None);
+    Ok(())
+}
+
+// One pass over so many constants takes a millisecond; with a walk from the front for each of them, these would take minutes.
+#[test]
+fn constants_in_one_pass(rt: HostRuntime) -> Result<(), Fail> {
+    let constant = [0, 1, 8, 7];
+    let mut bytes = Vec::new(rt.alloc());
+    for _ in 0..65_535 {
+        bytes.extend_from_slice(&constant)?;
+    }
+    let list = ConstantList::new(&bytes, IdSize::Four).ok_or("no list")?;
+    for _ in 0..40 {
+        equal(&rt, list.iter().count(), 65_535);
+    }
     Ok(())
 }

@@ -1,9 +1,6 @@
 //! Records that are read, and names that are written.
 
-ghost use Rattle.std.specs.Prelude.{IfSome};
-ghost use Rattle.hprof_items.specs.Spelling.{longest_body};
-ghost use Rattle.hprof_items.specs.Reading.{IsRightHead};
-
+use crate::expecting::{equal, equal_at, holds};
 use hprof_devices::Device;
 use hprof_items::{
     Fact, HEAD_LEN, Head, HeadKind, IdList, IdSize, Reason, Step, laws, read_body, read_body_into,
@@ -38,13 +35,13 @@ fn fact_in<'a>(bytes: &'a [u8], ids: IdSize) -> Option<Result<Fact<'a>, Reason>>
 fn records_with_short_identifiers(rt: HostRuntime) {
     let name: &[u8] = b"\x01\0\0\0\x07\0\0\0\x06\0\0\0\x01ab";
     let fact = Fact::Name { id: 1, text: b"ab" };
-    assert_eq!(rt; fact_in(name, IdSize::Four), Some(Ok(fact)));
+    equal(&rt, fact_in(name, IdSize::Four), Some(Ok(fact)));
     let empty: &[u8] = b"\x01\0\0\0\0\0\0\0\x04\xff\xff\xff\xff";
     let fact = Fact::Name {
         id: 4294967295,
         text: b"",
     };
-    assert_eq!(rt; fact_in(empty, IdSize::Four), Some(Ok(fact)));
+    equal(&rt, fact_in(empty, IdSize::Four), Some(Ok(fact)));
 
     let load: &[u8] = b"\x02\0\0\0\0\0\0\0\x10\0\0\0\x01\0\0\0\x02\0\0\0\x03\0\0\0\x04";
     let fact = Fact::Load {
@@ -53,15 +50,15 @@ fn records_with_short_identifiers(rt: HostRuntime) {
         trace: 3,
         name: 4,
     };
-    assert_eq!(rt; fact_in(load, IdSize::Four), Some(Ok(fact)));
+    equal(&rt, fact_in(load, IdSize::Four), Some(Ok(fact)));
 
     let unload: &[u8] = b"\x03\0\0\0\0\0\0\0\x04\0\0\x01\x02";
     let fact = Fact::Unload { serial: 258 };
-    assert_eq!(rt; fact_in(unload, IdSize::Four), Some(Ok(fact)));
+    equal(&rt, fact_in(unload, IdSize::Four), Some(Ok(fact)));
 
     let end: &[u8] = b"\x0b\0\0\0\0\0\0\0\x04\0\0\0\x09";
     let fact = Fact::End { thread: 9 };
-    assert_eq!(rt; fact_in(end, IdSize::Four), Some(Ok(fact)));
+    equal(&rt, fact_in(end, IdSize::Four), Some(Ok(fact)));
     laws::records_read_back();
     laws::one_record_spelling();
 }
@@ -87,7 +84,7 @@ fn frames(rt: HostRuntime) {
             class_serial: 5,
             line,
         };
-        assert_eq!(rt; fact_in(&bytes, IdSize::Four), Some(Ok(fact)), "{line}");
+        equal(&rt, fact_in(&bytes, IdSize::Four), Some(Ok(fact)));
     }
 }
 
@@ -100,7 +97,7 @@ fn traces(rt: HostRuntime) -> Result<(), Fail> {
         thread: 2,
         frames,
     };
-    assert_eq!(rt; fact_in(trace, IdSize::Four), Some(Ok(fact)));
+    equal(&rt, fact_in(trace, IdSize::Four), Some(Ok(fact)));
 
     let none: &[u8] = b"\x05\0\0\0\0\0\0\0\x0c\0\0\0\x01\0\0\0\x02\0\0\0\0";
     let frames = IdList::new(b"", IdSize::Four).ok_or("no list")?;
@@ -109,14 +106,18 @@ fn traces(rt: HostRuntime) -> Result<(), Fail> {
         thread: 2,
         frames,
     };
-    assert_eq!(rt; fact_in(none, IdSize::Four), Some(Ok(fact)));
+    equal(&rt, fact_in(none, IdSize::Four), Some(Ok(fact)));
 
     let fewer: &[u8] = b"\x05\0\0\0\0\0\0\0\x10\0\0\0\x01\0\0\0\x02\0\0\0\x02\0\0\0\x10";
     let more: &[u8] = b"\x05\0\0\0\0\0\0\0\x10\0\0\0\x01\0\0\0\x02\0\0\0\0\0\0\0\x10";
     let cut: &[u8] = b"\x05\0\0\0\0\0\0\0\x0e\0\0\0\x01\0\0\0\x02\0\0\0\x01\0\0";
     let wrapped: &[u8] = b"\x05\0\0\0\0\0\0\0\x0c\0\0\0\x01\0\0\0\x02\x40\0\0\0";
     for bytes in [fewer, more, cut, wrapped] {
-        assert_eq!(rt; fact_in(bytes, IdSize::Four), Some(Err(Reason::BadLength)));
+        equal(
+            &rt,
+            fact_in(bytes, IdSize::Four),
+            Some(Err(Reason::BadLength)),
+        );
     }
     Ok(())
 }
@@ -135,8 +136,8 @@ fn threads(rt: HostRuntime) {
         group: 5,
         parent_group: 6,
     };
-    assert_eq!(rt; fact_in(four, IdSize::Four), Some(Ok(fact)));
-    assert_eq!(rt; fact_in(eight, IdSize::Eight), Some(Ok(fact)));
+    equal(&rt, fact_in(four, IdSize::Four), Some(Ok(fact)));
+    equal(&rt, fact_in(eight, IdSize::Eight), Some(Ok(fact)));
 }
 
 #[test]
@@ -146,7 +147,7 @@ fn records_with_long_identifiers(rt: HostRuntime) -> Result<(), Fail> {
         id: 18446744073709551614,
         text: b"A",
     };
-    assert_eq!(rt; fact_in(name, IdSize::Eight), Some(Ok(fact)));
+    equal(&rt, fact_in(name, IdSize::Eight), Some(Ok(fact)));
     let load: &[u8] =
         b"\x02\0\0\0\0\0\0\0\x18\0\0\0\x01\0\0\0\x01\0\0\0\x02\0\0\0\x03\0\0\0\0\0\0\0\x04";
     let fact = Fact::Load {
@@ -155,7 +156,7 @@ fn records_with_long_identifiers(rt: HostRuntime) -> Result<(), Fail> {
         trace: 3,
         name: 4,
     };
-    assert_eq!(rt; fact_in(load, IdSize::Eight), Some(Ok(fact)));
+    equal(&rt, fact_in(load, IdSize::Eight), Some(Ok(fact)));
     let trace: &[u8] = b"\x05\0\0\0\0\0\0\0\x14\0\0\0\x01\0\0\0\x02\0\0\0\x01\0\0\0\0\0\0\0\x10";
     let frames = IdList::new(b"\0\0\0\0\0\0\0\x10", IdSize::Eight).ok_or("no list")?;
     let fact = Fact::Trace {
@@ -163,7 +164,7 @@ fn records_with_long_identifiers(rt: HostRuntime) -> Result<(), Fail> {
         thread: 2,
         frames,
     };
-    assert_eq!(rt; fact_in(trace, IdSize::Eight), Some(Ok(fact)));
+    equal(&rt, fact_in(trace, IdSize::Eight), Some(Ok(fact)));
     Ok(())
 }
 
@@ -209,12 +210,9 @@ fn legal_lengths(rt: HostRuntime) {
         (0xff, IdSize::Eight, 7),
     ] {
         let bytes = head_of(tag, len);
-        assert_eq!(rt; read_head(&bytes, ids, 255), whole(tag, len), "{tag} {len}");
-        assert_eq!(rt;
-            read_head(&bytes[..8], ids, 255),
-            Step::Short,
-            "{tag} {len}"
-        );
+        let read = read_head(&bytes, ids, 255);
+        let short = read_head(&bytes[..8], ids, 255);
+        equal_at(&rt, ids, (read, short), (whole(tag, len), Step::Short));
     }
     laws::heads_read_back();
 }
@@ -241,8 +239,9 @@ fn illegal_lengths(rt: HostRuntime) {
     ] {
         let bytes = head_of(tag, len);
         let bad = Step::Fault(Reason::BadLength);
-        assert_eq!(rt; read_head(&bytes, ids, 0), bad, "{tag} {len}");
-        assert_eq!(rt; read_head(&bytes[..8], ids, 0), Step::Short, "{tag} {len}");
+        let read = read_head(&bytes, ids, 0);
+        let short = read_head(&bytes[..8], ids, 0);
+        equal_at(&rt, (tag, ids, len), (read, short), (bad, Step::Short));
     }
 }
 
@@ -258,32 +257,18 @@ fn long_records(rt: HostRuntime) {
         (0x0b, 4),
     ] {
         let bytes = head_of(tag, len);
-        let longest = u32::from(len);
-        assert_eq!(rt; read_head(&bytes, IdSize::Four, 3), Step::TooLong, "{tag}");
-        assert_eq!(rt;
-            read_head(&bytes, IdSize::Four, longest),
-            whole(tag, len),
-            "{tag}"
-        );
+        let long = read_head(&bytes, IdSize::Four, 3);
+        let longest = read_head(&bytes, IdSize::Four, u32::from(len));
+        equal_at(&rt, tag, (long, longest), (Step::TooLong, whole(tag, len)));
     }
     for tag in [0x0c, 0x1c, 0x06, 0x0e] {
         let bytes = head_of(tag, 9);
-        assert_eq!(rt; read_head(&bytes, IdSize::Four, 0), whole(tag, 9), "{tag}");
-    }
-}
-
-// The head at the front.
-fn head_in(bytes: &[u8], ids: IdSize) -> Option<Head>
-    ensures { IfSome result (λ head. IsRightHead ids longest_body head) }
-{
-    match read_head(bytes, ids, u32::MAX) {
-        Step::Whole(head, _) => Some(head),
-        _ => None,
+        equal(&rt, read_head(&bytes, IdSize::Four, 0), whole(tag, 9));
     }
 }
 
 #[test]
-fn names(rt: HostRuntime) -> Result<(), Fail> {
+fn names(rt: HostRuntime) {
     let four: &[u8] = b"\x01\0\0\0\0\0\0\0\x05\0\0\0\x01A";
     let eight: &[u8] = b"\x01\0\0\0\0\0\0\0\x09\0\0\0\0\0\0\0\x01A";
     let greatest: &[u8] = b"\x01\0\0\0\0\0\0\0\x09\xff\xff\xff\xff\xff\xff\xff\xffA";
@@ -294,24 +279,23 @@ fn names(rt: HostRuntime) -> Result<(), Fail> {
     ] {
         let fact = Fact::Name { id, text: b"A" };
         assert!(rt; fits(&fact, ids), "{id}");
-        assert_eq!(rt; spelled_len(&fact, ids), want.len() as u64, "{id}");
+        let len = spelled_len(&fact, ids);
         let mut device = Device::new(Vec::new(rt.alloc()));
-        assert_eq!(rt; write_fact(&fact, ids, &mut device), Ok(()), "{id}");
+        let written = write_fact(&fact, ids, &mut device);
         let bytes = device.into_inner();
-        assert_eq!(rt; bytes.as_slice(), want, "{id}");
-        let head = head_in(&bytes, ids).ok_or("no head")?;
-        let body = bytes.get(9..).ok_or("no body")?;
-        assert_eq!(rt; head.kind(), HeadKind::FactRecord, "{id}");
-        assert_eq!(rt; body.len(), head.length as usize, "{id}");
-        assert_eq!(rt; read_body(&head, body, ids), Ok(fact), "{id}");
+        equal_at(
+            &rt,
+            (ids, id),
+            (len, written, bytes.as_slice(), fact_in(&bytes, ids)),
+            (want.len() as u64, Ok(()), want, Some(Ok(fact))),
+        );
     }
     let too_great = Fact::Name {
         id: 4294967296,
         text: b"A",
     };
-    assert!(rt; !fits(&too_great, IdSize::Four));
-    assert_eq!(rt; (IdSize::Four.width(), IdSize::Eight.width()), (4, 8));
+    holds(&rt, !fits(&too_great, IdSize::Four));
+    equal(&rt, (IdSize::Four.width(), IdSize::Eight.width()), (4, 8));
     laws::one_record_spelling();
     laws::records_read_back();
-    Ok(())
 }

@@ -2,6 +2,7 @@
 
 ghost use Rattle.std.specs.Prelude.{◌≡◌, ◌≤◌, length};
 
+use crate::expecting::{equal, equal_at};
 use hprof_items::{EntryKind, IdSize, Reason, Stop, Walk, go_on, laws};
 use hprof_values::Item;
 use std::test::*;
@@ -66,10 +67,11 @@ fn a_class_byte_by_byte(rt: HostRuntime) {
         (CLASS, 73, 0, (1, Err(Stop::TooLong))),
         (CLASS, 36, 99, (33, past)),
     ] {
-        assert_eq!(rt;
+        equal_at(
+            &rt,
+            (room, longest),
             byte_by_byte(bytes, room, longest),
             want,
-            "{room} {longest}"
         );
     }
     laws::fronts_of_sub_records_are_short();
@@ -88,18 +90,20 @@ fn how_far_a_class_is_walked(rt: HostRuntime) {
     ] {
         let walk = Walk::Entries { kind, left, at };
         let item = front(CLASS, there, 73, 73);
-        assert_eq!(rt;
+        equal_at(
+            &rt,
+            there,
             go_on(&item, IdSize::Four, Walk::Front),
             (walk, Err(Stop::Short)),
-            "{there}"
         );
     }
     for there in 0..39 {
         let item = front(CLASS, there, 73, 73);
-        assert_eq!(rt;
+        equal_at(
+            &rt,
+            there,
             go_on(&item, IdSize::Four, Walk::Front),
             (Walk::Front, Err(Stop::Short)),
-            "{there}"
         );
     }
 }
@@ -120,18 +124,20 @@ fn great_lengths(rt: HostRuntime) {
             (len, len - 1, Stop::TooLong),
         ] {
             let want = (bytes.len(), Err(want));
-            assert_eq!(rt;
+            equal_at(
+                &rt,
+                (len, room, longest),
                 byte_by_byte(bytes, room, longest),
                 want,
-                "{len} {room} {longest}"
             );
         }
     }
     let other: &[u8] = b"\x09";
-    assert_eq!(rt;
+    equal(
+        &rt,
         byte_by_byte(other, 9, 9),
-        (1, Err(Stop::Fault(Reason::BadSubTag)))
+        (1, Err(Stop::Fault(Reason::BadSubTag))),
     );
     let root: &[u8] = b"\x05\0\0\0\x01";
-    assert_eq!(rt; byte_by_byte(root, 5, 5), (5, Ok(5)));
+    equal(&rt, byte_by_byte(root, 5, 5), (5, Ok(5)));
 }

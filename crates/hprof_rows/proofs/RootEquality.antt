@@ -32,6 +32,24 @@ three make a b c x y z known =
     (both (a == x) ((b == y) && (c == z)) (a ≡ x) ((b ≡ y) × (c ≡ z)) (Decides-eqb a x)
     (both (b == y) (c == z) (b ≡ y) (c ≡ z) (Decides-eqb b y) (Decides-eqb c z)))
 
+-- the form of a root, as a number
+abbrev form : Root → ℕ
+form (roots.JniGlobal a b) = 0
+form (roots.JniLocal a b c) = 1
+form (roots.JavaFrame a b c) = 2
+form (roots.NativeStack a b) = 3
+form (roots.Sticky a) = 4
+form (roots.Block a b) = 5
+form (roots.Monitor a) = 6
+form (roots.ThreadObject a b c) = 7
+form (roots.Unknown a) = 8
+
+-- roots of two forms are two
+apart : (root other : Root) → (form root == form other) ≡ false → Decides false (root ≡ other)
+apart root other differ =
+    let same_form : root ≡ other → (form root == form other) ≡ true = λ same. (Decides-eqb (form root) (form other)).1 (ap form same)
+    in (λ e. absurd cc, λ same. let t = same_form same in cc)
+
 pub root_eq-Decides : (root other : Root) → Decides ((root_eq.eq-value).it root other) (root ≡ other)
 root_eq-Decides (roots.JniGlobal a b) (roots.JniGlobal x y) = two roots.JniGlobal a b x y (λ same. (cc, cc))
 root_eq-Decides (roots.JniLocal a b c) (roots.JniLocal x y z) = three roots.JniLocal a b c x y z (λ same. (cc, (cc, cc)))
@@ -42,4 +60,4 @@ root_eq-Decides (roots.Block a b) (roots.Block x y) = two roots.Block a b x y (�
 root_eq-Decides (roots.Monitor a) (roots.Monitor x) = one roots.Monitor a x (λ same. cc)
 root_eq-Decides (roots.ThreadObject a b c) (roots.ThreadObject x y z) = three roots.ThreadObject a b c x y z (λ same. (cc, (cc, cc)))
 root_eq-Decides (roots.Unknown a) (roots.Unknown x) = one roots.Unknown a x (λ same. cc)
-root_eq-Decides root other = (λ yes. absurd cc, λ same. absurd cc)
+root_eq-Decides root other = apart root other refl

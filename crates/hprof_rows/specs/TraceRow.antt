@@ -13,7 +13,10 @@ trace_content row = row.thread ∷ row.frames.items
 abbrev pub frames_bytes : TraceRow → List ℕ
 frames_bytes row = row.frames.items
 
+-- the bytes of the frames that are stated
+abbrev pub stated_bytes : TraceFrames → List ℕ
+stated_bytes trace =
+    field_bytes (id_widths (identifiers_size trace.frames) (length (identifiers_of trace.frames))) (identifiers_of trace.frames)
+
 abbrev pub frames_content : TraceFrames → List ℕ
-frames_content trace =
-    trace.thread ∷ field_bytes (id_widths (identifiers_size trace.frames) (length (identifiers_of trace.frames)))
-    (identifiers_of trace.frames)
+frames_content trace = trace.thread ∷ stated_bytes trace

@@ -1,7 +1,7 @@
 //! The rows of stack traces.
 
-ghost use Rattle.std.specs.Prelude.{⊤};
-ghost use Rattle.hprof_rows.specs.TraceRow.{trace_content, frames_content};
+ghost use Rattle.std.specs.Prelude.{◌≡◌, ◌<◌, length, IfOk, OnErr};
+ghost use Rattle.hprof_rows.specs.TraceRow.{trace_content, frames_content, frames_bytes, stated_bytes};
 
 use hprof_items::Fact;
 use hprof_lists::IdList;
@@ -18,11 +18,10 @@ pub struct TraceRow {
 }
 
 impl TraceRow {
-    ghost use Rattle.std.specs.Prelude.{◌≡◌, ◌%◌, length};
+    ghost use Rattle.std.specs.Prelude.{◌%◌};
     ghost use Rattle.hprof_values.specs.Ids.{width_of};
     ghost use Rattle.hprof_items.specs.FactValue.{ListsHave, value_of};
     ghost use Rattle.hprof_rows.specs.Content.{trace_fact};
-    ghost use Rattle.hprof_rows.specs.TraceRow.{frames_bytes};
 
     /// The fact of the row under a serial.
     pub fn fact(&self, serial: u32, ids: IdSize) -> Fact<'_>
@@ -38,6 +37,16 @@ impl TraceRow {
     }
 }
 
+/// A vector of these bytes. Where there are none it takes no memory.
+fn copy_of(alloc: Global, bytes: &[u8]) -> Result<Vec<u8>, AllocError>
+    ensures bytes { IfOk result (λ copy. copy.items ≡ bytes.now) }
+    ensures full { OnErr result (0 < length bytes.now) }
+{
+    let mut copy = Vec::with_capacity(alloc, bytes.len())?;
+    copy.extend_from_slice(bytes)?;
+    Ok(copy)
+}
+
 /// The thread and the frames of a stack trace, where they stand in a piece of a part.
 #[derive(Clone, Copy)]
 pub struct TraceFrames<'a> {
@@ -50,15 +59,15 @@ pub struct TraceFrames<'a> {
 impl Content for TraceRow {
     ghost content = { trace_content };
 
-    // Its frames take memory of their own.
-    ghost refuses = { λ _. ⊤ };
+    // Its frames take memory of their own, where it has any.
+    ghost refuses = { λ row. 0 < length (frames_bytes row) };
 
     fn agrees(&self, other: &Self) -> bool {
         self.thread == other.thread && self.frames.as_slice() == other.frames.as_slice()
     }
 
     fn copied(&self, alloc: Global) -> Result<Self, AllocError> {
-        let frames = Vec::from_slice(alloc, &self.frames)?;
+        let frames = copy_of(alloc, &self.frames)?;
         Ok(TraceRow {
             thread: self.thread,
             frames,
@@ -69,15 +78,15 @@ impl Content for TraceRow {
 impl Statement<TraceRow> for TraceFrames<'_> {
     ghost content = { frames_content };
 
-    // Its frames take memory of their own.
-    ghost refuses = { λ _. ⊤ };
+    // Its frames take memory of their own, where it has any.
+    ghost refuses = { λ trace. 0 < length (stated_bytes trace) };
 
     fn matches(&self, row: &TraceRow) -> bool {
         row.thread == self.thread && row.frames.as_slice() == self.frames.bytes()
     }
 
     fn into_row(self, alloc: Global) -> Result<TraceRow, AllocError> {
-        let frames = Vec::from_slice(alloc, self.frames.bytes())?;
+        let frames = copy_of(alloc, self.frames.bytes())?;
         Ok(TraceRow {
             thread: self.thread,
             frames,

@@ -2,6 +2,7 @@
 
 ghost use Rattle.std.specs.Prelude.{◌<◌};
 
+use crate::expecting::{equal, equal_at};
 use crate::samples::{PART, Seen, feed_in};
 use hprof_items::Reason;
 use hprof_stream::{Limits, PartFault, PartReader};
@@ -32,9 +33,36 @@ fn declared(rt: &impl Abort, alloc: Global, bytes: &[u8], len: usize, held: usiz
     let mut sink = Seen::new(alloc, 0);
     let mut reader = PartReader::new(alloc, Limits::usual());
     let fed = feed_in(&mut reader, bytes, len, &mut sink);
-    assert!(rt; fed.is_ok(), "{len}");
-    assert_eq!(rt; reader.buffered(), held, "{len}");
+    equal_at(rt, len, (fed.is_ok(), reader.buffered()), (true, held));
     reader
+}
+
+// Many more readers of those bytes, each with the offset at which they are cut short.
+fn add(
+    rt: &impl Abort,
+    alloc: Global,
+    readers: &mut Vec<(PartReader, u64)>,
+    bytes: &[u8],
+    held: usize,
+    at: u64,
+) -> Result<(), AllocError> {
+    for _ in 0..20_000 {
+        for len in [60, 7] {
+            readers.push((declared(rt, alloc, bytes, len, held), at))?;
+        }
+    }
+    Ok(())
+}
+
+// Each answers that its bytes are cut short.
+fn finish(rt: &impl Abort, readers: Vec<(PartReader, u64)>) {
+    for (reader, at) in readers {
+        let truncated = PartFault::Malformed {
+            at,
+            reason: Reason::Truncated,
+        };
+        equal(rt, reader.finish(), Err(truncated));
+    }
 }
 
 // How many bytes of addresses the process has.
@@ -55,21 +83,12 @@ fn a_declared_length_asks_for_no_memory(rt: HostRuntime) -> Result<(), Fail> {
         (CLASS.as_slice(), 43, 40),
     ] {
         let before = size(&rt)?;
-        for _ in 0..20_000 {
-            readers.push((declared(&rt, rt.alloc(), bytes, 60, held), at))?;
-            readers.push((declared(&rt, rt.alloc(), bytes, 7, held), at))?;
-        }
+        add(&rt, rt.alloc(), &mut readers, bytes, held, at)?;
         // Each has room for a few times what came, and no more: 112 bytes, with what is added to a block.
         let grown = size(&rt)?.saturating_sub(before);
         assert!(rt; grown <= 4_480_000, "{grown}");
     }
-    for (reader, at) in readers {
-        let truncated = PartFault::Malformed {
-            at,
-            reason: Reason::Truncated,
-        };
-        assert_eq!(rt; reader.finish(), Err(truncated));
-    }
+    finish(&rt, readers);
     Ok(())
 }
 
@@ -82,23 +101,30 @@ fn append(class: &mut Vec<u8>, count: u16, entry: &[u8]) -> Result<(), AllocErro
     Ok(())
 }
 
-// Walked from its front again at each byte, it would take hours.
-#[test]
-fn a_class_is_walked_on_from_where_it_was_cut(rt: HostRuntime) -> Result<(), Fail> {
-    // The head of a segment, and in it a class with as many entries of each kind as it can have.
-    let mut class = Vec::from_slice(
-        rt.alloc(),
-        b"\x1c\0\0\0\0\0\x0f\0\x1c\x20\0\0\0\x10\0\0\0\x01",
-    )?;
-    class.extend_from_slice(&[0; 28])?;
+// The head of a segment, and in it a class with as many entries of each kind as it can have.
+fn greatest_class(alloc: Global) -> Result<Vec<u8>, AllocError> {
+    let front =
+        b"\x1c\0\0\0\0\0\x0f\0\x1c\x20\0\0\0\x10\0\0\0\x01\0\0\0\0\0\0\0\0\0\0\0\0\0\0\0\0\0\0\0\0\0\0\0\0\0\0\0\0";
+    let mut class = Vec::from_slice(alloc, front)?;
     append(&mut class, u16::MAX, b"\0\x01\x08\x05")?;
     append(&mut class, u16::MAX, b"\0\0\0\x02\x08\x05")?;
     append(&mut class, u16::MAX, b"\0\0\0\x03\x08")?;
-    assert_eq!(rt; class.len(), 983_077);
+    Ok(class)
+}
+
+// Walked from its front again at each byte, it would take hours.
+#[test]
+fn a_class_is_walked_on_from_where_it_was_cut(rt: HostRuntime) -> Result<(), Fail> {
+    let class = greatest_class(rt.alloc())?;
     let mut sink = Seen::new(rt.alloc(), 1);
     let mut reader = PartReader::new(rt.alloc(), Limits::usual());
-    assert_eq!(rt; feed_in(&mut reader, &PART[..31], 31, &mut sink), Ok(0));
-    assert_eq!(rt; feed_in(&mut reader, &class, 1, &mut sink), Ok(983_067));
-    assert_eq!(rt; sink.numbers.as_slice(), [16].as_slice());
+    let header = feed_in(&mut reader, &PART[..31], 31, &mut sink);
+    let fed = feed_in(&mut reader, &class, 1, &mut sink);
+    equal(
+        &rt,
+        (class.len(), header, fed),
+        (983_077, Ok(0), Ok(983_067)),
+    );
+    equal(&rt, sink.numbers.as_slice(), [16].as_slice());
     Ok(())
 }

@@ -1,5 +1,6 @@
 //! Parts of all forms, in pieces and cut.
 
+use crate::expecting::equal_at;
 use crate::samples::{HEADER, PART, Seen, feed_in, read_in};
 use hprof_items::{Header, IdSize, Reason};
 use hprof_stream::{Limits, PartFault, PartReader, PartSummary};
@@ -55,10 +56,13 @@ fn reads(
         let mut sink = Seen::new(alloc, 100);
         let mut reader = PartReader::new(alloc, Limits::usual());
         let fed = feed_in(&mut reader, part, len, &mut sink);
-        assert_eq!(rt; fed, Ok(held), "{len}");
-        assert_eq!(rt; sink.numbers.as_slice(), numbers, "{len}");
-        assert_eq!(rt; reader.header(), Some(want.header), "{len}");
-        assert_eq!(rt; reader.finish(), Ok(want), "{len}");
+        let header = reader.header();
+        equal_at(
+            rt,
+            len,
+            (fed, sink.numbers.as_slice(), header, reader.finish()),
+            (Ok(held), numbers, Some(want.header), Ok(want)),
+        );
     }
 }
 
@@ -116,8 +120,8 @@ fn cut_everywhere(rt: &impl Abort, alloc: Global, part: &[u8], ends: &[(usize, b
                 at,
                 reason: Reason::Truncated,
             };
-            assert_eq!(rt; read.is_ok(), whole, "{cut} {len}");
-            assert!(rt; whole || read == Err(short), "{cut} {len}");
+            let found = (read.is_ok(), whole || read == Err(short));
+            equal_at(rt, (cut, len), found, (whole, true));
         }
     }
 }

@@ -1,5 +1,6 @@
 //! What is malformed, and where.
 
+use crate::expecting::{equal, equal_at};
 use crate::samples::{HEADER, PART, Seen, feed_in, read_in};
 use hprof_items::Reason;
 use hprof_stream::{Limits, PartFault, PartReader, PartSummary};
@@ -25,12 +26,11 @@ fn comes_to(
         let mut sink = Seen::new(alloc, 100);
         let mut reader = PartReader::new(alloc, limits);
         let header = feed_in(&mut reader, &PART[..31], len, &mut sink);
-        assert!(rt; header.is_ok(), "{len}");
         let read = match feed_in(&mut reader, behind, len, &mut sink) {
             Ok(_) => reader.finish(),
             Err(fault) => Err(fault),
         };
-        assert_eq!(rt; read, want, "{len}");
+        equal_at(rt, len, (header.is_ok(), read), (true, want));
     }
 }
 
@@ -94,24 +94,16 @@ fn arrays_that_pass_the_end(rt: HostRuntime) {
         \x1c\0\0\0\0\xff\xff\xff\xff\x22\0\0\0\0\0\0\0\x10\0\0\0\x01\xff\xff\xff\xff\0\0\0\0\0\0\0\x64";
     let longs = b"JAVA PROFILE 1.0.2\0\0\0\0\x08\0\0\0\0\0\0\0\x01\
         \x1c\0\0\0\0\xff\xff\xff\xff\x23\0\0\0\0\0\0\0\x10\0\0\0\x01\xff\xff\xff\xff\x0b";
-    for len in [65_536, 3, 1] {
-        let usual = Limits::usual();
-        assert_eq!(rt;
-            read_in(rt.alloc(), usual, objects, len),
-            Err(past),
-            "{len}"
-        );
-        assert_eq!(rt;
-            read_in(rt.alloc(), usual, &objects[..64], len),
-            Err(truncated),
-            "{len}"
-        );
-        assert_eq!(rt; read_in(rt.alloc(), usual, longs, len), Err(past), "{len}");
-        assert_eq!(rt;
-            read_in(rt.alloc(), usual, &longs[..57], len),
-            Err(truncated),
-            "{len}"
-        );
+    for (part, fault) in [
+        (objects.as_slice(), past),
+        (&objects[..64], truncated),
+        (longs.as_slice(), past),
+        (&longs[..57], truncated),
+    ] {
+        for len in [65_536, 3, 1] {
+            let read = read_in(rt.alloc(), Limits::usual(), part, len);
+            equal_at(&rt, (part.len(), len), read, Err(fault));
+        }
     }
 }
 
@@ -181,11 +173,8 @@ fn faults_of_headers(rt: HostRuntime) {
     ] {
         let bad = PartFault::Malformed { at: 0, reason };
         for len in [65_536, 3, 1] {
-            assert_eq!(rt;
-                read_in(rt.alloc(), Limits::usual(), bytes, len),
-                Err(bad),
-                "{len}"
-            );
+            let read = read_in(rt.alloc(), Limits::usual(), bytes, len);
+            equal_at(&rt, len, read, Err(bad));
         }
     }
 }
@@ -198,13 +187,13 @@ fn past_the_end_byte_by_byte(rt: HostRuntime) {
     };
     let mut sink = Seen::new(rt.alloc(), 0);
     let mut reader = PartReader::new(rt.alloc(), Limits::usual());
-    assert_eq!(rt; feed_in(&mut reader, &PART[..31], 1, &mut sink), Ok(30));
-    let head = b"\x1c\0\0\0\0\0\0\0\x04";
-    assert_eq!(rt; feed_in(&mut reader, head, 1, &mut sink), Ok(8));
-    assert_eq!(rt; reader.buffered(), 0);
-    assert_eq!(rt; reader.feed(&[5], &mut sink), Err(past));
-    assert_eq!(rt; reader.buffered(), 0);
-    assert_eq!(rt; reader.feed(&[0], &mut sink), Err(PartFault::Failed));
-    assert_eq!(rt; reader.header(), Some(HEADER));
-    assert_eq!(rt; reader.finish(), Err(PartFault::Failed));
+    let header = feed_in(&mut reader, &PART[..31], 1, &mut sink);
+    let head = feed_in(&mut reader, b"\x1c\0\0\0\0\0\0\0\x04", 1, &mut sink);
+    equal(&rt, (header, head, reader.buffered()), (Ok(30), Ok(8), 0));
+    let fed = reader.feed(&[5], &mut sink);
+    equal(&rt, (fed, reader.buffered()), (Err(past), 0));
+    let fed = reader.feed(&[0], &mut sink);
+    let failed = Err(PartFault::Failed);
+    equal(&rt, (fed, reader.header()), (failed, Some(HEADER)));
+    equal(&rt, reader.finish(), Err(PartFault::Failed));
 }

@@ -6,6 +6,8 @@ mod declared_lengths;
 #[cfg(test)]
 mod dumps;
 #[cfg(test)]
+mod expecting;
+#[cfg(test)]
 mod faults;
 #[cfg(test)]
 mod passed_over;

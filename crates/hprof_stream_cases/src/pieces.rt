@@ -1,5 +1,6 @@
 //! Parts that are fed in pieces.
 
+use crate::expecting::{equal, equal_at};
 use crate::samples::{HEADER, PART, Seen, feed_in};
 use hprof_items::{Fact, Header, IdSize, Reason};
 use hprof_stream::{Limits, PartFault, PartReader, PartSummary, Sink, SinkFault, laws};
@@ -7,23 +8,29 @@ use std::test::*;
 
 #[test]
 fn a_part_in_pieces(rt: HostRuntime) {
+    let want = PartSummary {
+        header: HEADER,
+        records: 3,
+        facts: 4,
+        ended: false,
+    };
     for (len, most) in [(89, 0), (3, 30), (1, 30)] {
         let mut sink = Seen::new(rt.alloc(), 4);
         let mut reader = PartReader::new(rt.alloc(), Limits::usual());
-        assert_eq!(rt;
-            feed_in(&mut reader, PART, len, &mut sink),
-            Ok(most),
-            "{len}"
+        let fed = feed_in(&mut reader, PART, len, &mut sink);
+        let header = reader.header();
+        equal_at(
+            &rt,
+            len,
+            (fed, header, reader.finish()),
+            (Ok(most), Some(HEADER), Ok(want)),
         );
-        assert_eq!(rt; reader.header(), Some(HEADER), "{len}");
-        assert_eq!(rt; sink.numbers.as_slice(), [2, 1, 16, 0].as_slice(), "{len}");
-        let want = PartSummary {
-            header: HEADER,
-            records: 3,
-            facts: 4,
-            ended: false,
-        };
-        assert_eq!(rt; reader.finish(), Ok(want), "{len}");
+        equal_at(
+            &rt,
+            len,
+            (sink.numbers.as_slice(), sink.of_part),
+            ([2, 1, 16, 0].as_slice(), 4),
+        );
     }
     laws::bytes_state_one_thing();
     laws::one_first_fault();
@@ -36,14 +43,17 @@ fn a_part_in_pieces(rt: HostRuntime) {
 fn no_bytes(rt: HostRuntime) {
     let mut sink = Seen::new(rt.alloc(), 0);
     let mut reader = PartReader::new(rt.alloc(), Limits::usual());
-    assert_eq!(rt; reader.feed(&[], &mut sink), Ok(()));
-    assert_eq!(rt; reader.header(), None);
-    assert_eq!(rt; reader.buffered(), 0);
+    let fed = reader.feed(&[], &mut sink);
+    equal(
+        &rt,
+        (fed, reader.header(), reader.buffered()),
+        (Ok(()), None, 0),
+    );
     let cut = PartFault::Malformed {
         at: 0,
         reason: Reason::Truncated,
     };
-    assert_eq!(rt; reader.finish(), Err(cut));
+    equal(&rt, reader.finish(), Err(cut));
 }
 
 #[test]
@@ -51,15 +61,16 @@ fn a_bad_text(rt: HostRuntime) {
     let text = b"JAVA PROFILE 1.0.3\0";
     let mut sink = Seen::new(rt.alloc(), 0);
     let mut reader = PartReader::new(rt.alloc(), Limits::usual());
-    assert_eq!(rt; feed_in(&mut reader, &text[..18], 1, &mut sink), Ok(18));
+    let held = feed_in(&mut reader, &text[..18], 1, &mut sink);
+    let fed = reader.feed(&text[18..], &mut sink);
     let bad = PartFault::Malformed {
         at: 0,
         reason: Reason::BadMagic,
     };
-    assert_eq!(rt; reader.feed(&text[18..], &mut sink), Err(bad));
-    assert_eq!(rt; reader.buffered(), 0);
-    assert_eq!(rt; reader.feed(&[], &mut sink), Err(PartFault::Failed));
-    assert_eq!(rt; reader.finish(), Err(PartFault::Failed));
+    equal(&rt, (held, fed, reader.buffered()), (Ok(18), Err(bad), 0));
+    let fed = reader.feed(&[], &mut sink);
+    let failed = PartFault::Failed;
+    equal(&rt, (fed, reader.finish()), (Err(failed), Err(failed)));
 }
 
 // Refuses each header.
@@ -98,11 +109,12 @@ fn a_header_that_is_refused(rt: HostRuntime) {
         failed: false,
     };
     let mut reader = PartReader::new(rt.alloc(), Limits::usual());
-    assert_eq!(rt;
-        reader.feed(PART, &mut sink),
-        Err(PartFault::Sink(SinkFault::Failed))
+    let fed = reader.feed(PART, &mut sink);
+    let refused = PartFault::Sink(SinkFault::Failed);
+    equal(
+        &rt,
+        (fed, reader.header(), reader.buffered()),
+        (Err(refused), Some(HEADER), 0),
     );
-    assert_eq!(rt; reader.header(), Some(HEADER));
-    assert_eq!(rt; reader.buffered(), 0);
-    assert_eq!(rt; reader.finish(), Err(PartFault::Failed));
+    equal(&rt, reader.finish(), Err(PartFault::Failed));
 }

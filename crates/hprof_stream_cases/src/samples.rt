@@ -3,7 +3,7 @@
 ghost use Rattle.std.specs.Prelude.{◌<◌};
 ghost use Rattle.hprof_stream.specs.Reader.{IsReady};
 
-use hprof_items::{Fact, Header, IdSize, Version};
+use hprof_items::{Basic, Fact, Header, IdSize, Root, Version};
 use hprof_stream::{Limits, PartFault, PartReader, PartSummary, Sink, SinkFault};
 use std::alloc::Global;
 
@@ -15,16 +15,30 @@ pub(crate) const PART: &[u8; 89] = b"JAVA PROFILE 1.0.2\0\0\0\0\x04\0\0\0\0\0\0\
     \x23\0\0\0\x10\0\0\0\x01\0\0\0\x02\x08\x01\x02\
     \x05\0\0\0\x10";
 
+// What PART states.
+const FACTS: [Fact<'static>; 4] = [
+    Fact::Name { id: 2, text: b"B" },
+    Fact::Name { id: 1, text: b"A" },
+    Fact::PrimArray {
+        id: 16,
+        trace: 1,
+        elem: Basic::Byte,
+        bytes: b"\x01\x02",
+    },
+    Fact::Root(Root::Sticky { id: 16 }),
+];
+
 pub(crate) const HEADER: Header = Header {
     version: Version::V102,
     ids: IdSize::Four,
     millis: 1,
 };
 
-// Keeps a number of each fact, up to so many facts.
+// Keeps a number of each fact, up to so many facts, and how many of them are those that PART states, each in its place.
 #[derive(Drop)]
 pub(crate) struct Seen {
     pub(crate) numbers: Vec<u64>,
+    pub(crate) of_part: usize,
     room: usize,
     pub(crate) begun: Option<IdSize>,
     failed: bool,
@@ -34,6 +48,7 @@ impl Seen {
     pub(crate) fn new(alloc: Global, room: usize) -> Self {
         Seen {
             numbers: Vec::new(alloc),
+            of_part: 0,
             room,
             begun: None,
             failed: false,
@@ -75,6 +90,9 @@ impl Sink for Seen {
     fn take(&mut self, fact: &Fact<'_>, _spelled: &[u8]) -> Result<(), SinkFault> {
         if self.failed {
             return Err(SinkFault::Failed);
+        }
+        if FACTS.get(self.numbers.len()) == Some(fact) {
+            self.of_part = self.of_part.saturating_add(1);
         }
         if self.numbers.len() == self.room || self.numbers.push(number_of(fact)).is_err() {
             self.failed = true;

@@ -2,6 +2,7 @@
 
 ghost use Rattle.std.specs.Prelude.{None};
 
+use crate::expecting::{equal, equal_at};
 use crate::samples::{HEADER, PART, Seen};
 use hprof_devices::{Device, Health, ReadFault, Source};
 use hprof_items::IdSize;
@@ -18,11 +19,12 @@ fn a_whole_part_from_a_source(rt: HostRuntime) {
         facts: 4,
         ended: false,
     };
-    assert_eq!(rt;
-        read_part(rt.alloc(), &mut source, Limits::usual(), &mut sink),
-        Ok(want)
+    let read = read_part(rt.alloc(), &mut source, Limits::usual(), &mut sink);
+    equal(
+        &rt,
+        (read, sink.numbers.as_slice(), sink.of_part),
+        (Ok(want), [2, 1, 16, 0].as_slice(), 4),
     );
-    assert_eq!(rt; sink.numbers.as_slice(), [2, 1, 16, 0].as_slice());
 }
 
 #[test]
@@ -48,12 +50,13 @@ fn from_a_source(rt: HostRuntime) {
         };
         let mut sink = Seen::new(rt.alloc(), 1);
         let mut source = Device::new(&PART[..len]);
-        assert_eq!(rt;
-            read_part(rt.alloc(), &mut source, limits, &mut sink),
-            want,
-            "{max_reads} {max_bytes} {len}"
+        let read = read_part(rt.alloc(), &mut source, limits, &mut sink);
+        equal_at(
+            &rt,
+            (max_reads, max_bytes, len),
+            (read, source.pulls() <= max_reads),
+            (want, true),
         );
-        assert!(rt; source.pulls() <= max_reads, "{max_reads}");
     }
 }
 
@@ -94,8 +97,14 @@ fn a_source_that_fails(rt: HostRuntime) {
         health: Health::Well,
     };
     let read = read_part(rt.alloc(), &mut source, Limits::usual(), &mut sink);
-    assert_eq!(rt; read, Err(PartFault::Read));
-    assert_eq!(rt; (source.pulls, source.room), (2, 65_536));
-    assert_eq!(rt; source.health, Health::Failed);
-    assert_eq!(rt; sink.begun, Some(IdSize::Four));
+    equal(
+        &rt,
+        (read, sink.begun),
+        (Err(PartFault::Read), Some(IdSize::Four)),
+    );
+    equal(
+        &rt,
+        (source.pulls, source.room, source.health),
+        (2, 65_536, Health::Failed),
+    );
 }

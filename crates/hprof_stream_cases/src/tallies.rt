@@ -1,23 +1,34 @@
 //! Facts that are counted.
 
+use crate::expecting::equal;
 use crate::samples::PART;
 use hprof_items::{Fact, Header, IdSize, Version};
 use hprof_stream::{Limits, PartFault, PartReader, Sink, Tally};
 use std::test::*;
 
+// How many facts of each form there are in PART.
+const COUNTS: [u64; 12] = [2, 0, 0, 0, 0, 0, 0, 1, 0, 0, 0, 1];
+
 #[test]
 fn the_facts_of_a_part(rt: HostRuntime) {
-    let counts = [2, 0, 0, 0, 0, 0, 0, 1, 0, 0, 0, 1];
     let mut tally = Tally::new();
     let mut reader = PartReader::new(rt.alloc(), Limits::usual());
-    assert_eq!(rt; reader.feed(PART, &mut tally), Ok(()));
-    assert_eq!(rt; tally.counts(), counts);
+    let fed = reader.feed(PART, &mut tally);
+    equal(&rt, (fed, tally.counts()), (Ok(()), COUNTS));
+}
+
+#[test]
+fn the_facts_of_a_part_in_two_pieces(rt: HostRuntime) {
     let mut tally = Tally::new();
     let mut reader = PartReader::new(rt.alloc(), Limits::usual());
     let (front, back) = PART.split_at(40);
-    assert_eq!(rt; reader.feed(front, &mut tally), Ok(()));
-    assert_eq!(rt; reader.feed(back, &mut tally), Ok(()));
-    assert_eq!(rt; tally.counts(), counts);
+    let first = reader.feed(front, &mut tally);
+    let second = reader.feed(back, &mut tally);
+    equal(
+        &rt,
+        (first, second, tally.counts()),
+        (Ok(()), Ok(()), COUNTS),
+    );
 }
 
 #[test]
@@ -29,13 +40,17 @@ fn the_facts_before_one_that_is_too_long(rt: HostRuntime) {
     let mut tally = Tally::new();
     let mut reader = PartReader::new(rt.alloc(), limits);
     let too_long = PartFault::ItemTooLong { at: 68 };
-    assert_eq!(rt; reader.feed(PART, &mut tally), Err(too_long));
-    assert_eq!(rt; tally.counts(), [2, 0, 0, 0, 0, 0, 0, 0, 0, 0, 0, 0]);
+    let fed = reader.feed(PART, &mut tally);
+    equal(
+        &rt,
+        (fed, tally.counts()),
+        (Err(too_long), [2, 0, 0, 0, 0, 0, 0, 0, 0, 0, 0, 0]),
+    );
 }
 
 // Parts of either size, one behind the other.
 #[test]
-fn the_facts_of_all_parts(rt: HostRuntime) {
+fn the_facts_of_all_parts(rt: HostRuntime) -> Result<(), Fail> {
     let mut tally = Tally::new();
     for ids in [IdSize::Four, IdSize::Eight] {
         let header = Header {
@@ -43,9 +58,10 @@ fn the_facts_of_all_parts(rt: HostRuntime) {
             ids,
             millis: 1,
         };
-        assert_eq!(rt; tally.begin_part(header), Ok(()));
-        assert_eq!(rt; tally.take(&Fact::End { thread: 1 }, &[]), Ok(()));
-        assert_eq!(rt; tally.take(&Fact::Unload { serial: 1 }, &[]), Ok(()));
+        tally.begin_part(header)?;
+        tally.take(&Fact::End { thread: 1 }, &[])?;
+        tally.take(&Fact::Unload { serial: 1 }, &[])?;
     }
-    assert_eq!(rt; tally.counts(), [0, 0, 2, 0, 0, 0, 2, 0, 0, 0, 0, 0]);
+    equal(&rt, tally.counts(), [0, 0, 2, 0, 0, 0, 2, 0, 0, 0, 0, 0]);
+    Ok(())
 }

@@ -1,5 +1,6 @@
 //! The texts of faults.
 
+use crate::expecting::equal;
 use hprof_items::Reason;
 use hprof_stream::{PartFault, SinkFault};
 use std::test::*;
@@ -22,7 +23,25 @@ fn texts(rt: HostRuntime) -> Result<(), Fail> {
         (PartFault::BytesExceeded, "too many bytes"),
     ] {
         let text = format!(in rt.alloc(); "{fault}")?;
-        assert_eq!(rt; text.as_str(), want);
+        equal(&rt, text.as_str(), want);
+    }
+    Ok(())
+}
+
+#[test]
+fn texts_of_reasons(rt: HostRuntime) -> Result<(), Fail> {
+    for (reason, want) in [
+        (Reason::BadMagic, "malformed at 0: BadMagic"),
+        (Reason::BadIdSize, "malformed at 0: BadIdSize"),
+        (Reason::Truncated, "malformed at 0: Truncated"),
+        (Reason::BadLength, "malformed at 0: BadLength"),
+        (Reason::BadSubTag, "malformed at 0: BadSubTag"),
+        (Reason::PastEnd, "malformed at 0: PastEnd"),
+        (Reason::BadType, "malformed at 0: BadType"),
+    ] {
+        let fault = PartFault::Malformed { at: 0, reason };
+        let text = format!(in rt.alloc(); "{fault}")?;
+        equal(&rt, text.as_str(), want);
     }
     Ok(())
 }
