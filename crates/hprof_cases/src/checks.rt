@@ -1,7 +1,9 @@
 //! The report `check`.
 
 use crate::counters::{TALLY, Tally};
-use crate::program::{FailsOnce, ended, outcome_of, path_of, written};
+use crate::expecting::{equal, equal_bytes, equal_text};
+use crate::outputs::WRITE_FAILED;
+use crate::program::{FailsOnce, ended, expect_done, expect_told, path_of, remove, written};
 use crate::records::as_the_jdk_writes;
 use crate::samples::{
     END, HEADER, NAME_1_A, NAME_1_B, OLD_HEADER, WIDE_HEADER, bytes_of, plain_part, readers_of,
@@ -15,9 +17,9 @@ use hprof_stream::Limits;
 use hprof_tool::Status;
 use std::alloc::{AllocError, Global};
 use std::convert::AsStr;
+use std::env;
 use std::process::Abort;
 use std::test::Fail;
-use std::{env, fs};
 
 /// The report on the plain part.
 const PLAIN: &str =
@@ -41,9 +43,9 @@ fn expect_report(
     let mut readers = readers_of(alloc, parts)?;
     let mut target = Device::new(Vec::new(alloc));
     let answer = check_to(alloc, &mut readers, &mut target, Limits::usual());
-    assert_eq!(rt; answer, Ok(()));
+    equal(rt, answer, Ok(()));
     let bytes = target.into_inner();
-    assert_eq!(rt; str::from_utf8(&bytes)?, report);
+    equal_text(rt, &bytes, report)?;
     Ok(())
 }
 
@@ -133,11 +135,8 @@ fn a_report_cut_at_each_byte(rt: HostRuntime) -> Result<(), Fail> {
             } else {
                 Ok(())
             };
-            assert_eq!(rt; answer, expected);
-            assert_eq!(rt;
-                target.into_inner().taken.as_slice(),
-                &PLAIN.as_bytes()[..room]
-            );
+            equal(&rt, answer, expected);
+            equal_bytes(&rt, &target.into_inner().taken, &PLAIN.as_bytes()[..room]);
         }
     }
     Ok(())
@@ -147,12 +146,9 @@ fn a_report_cut_at_each_byte(rt: HostRuntime) -> Result<(), Fail> {
 fn the_program_prints_a_report(rt: HostRuntime) -> Result<(), Fail> {
     let plain = plain_part(rt.alloc())?;
     let part = written(&rt, "check-plain", &[&plain])?;
-    let ran = outcome_of(rt.alloc(), &rt, &["check", part.as_str()], &[])?;
-    assert_eq!(rt; ran.status.code(), 0);
-    assert_eq!(rt; str::from_utf8(&ran.output)?, PLAIN);
-    assert_eq!(rt; ran.errors.len(), 0);
-    fs::remove_file(&rt, part.as_str())?;
-    Ok(())
+    let words = ["check", part.as_str()];
+    expect_done(&rt, rt.alloc(), &words, &[], PLAIN.as_bytes())?;
+    remove(&rt, &words[1..])
 }
 
 #[test]
@@ -160,12 +156,8 @@ fn the_program_reports_on_three_parts(rt: HostRuntime) -> Result<(), Fail> {
     let plain = plain_part(rt.alloc())?;
     let part = written(&rt, "check-thrice", &[&plain])?;
     let words = ["check", part.as_str(), part.as_str(), part.as_str()];
-    let ran = outcome_of(rt.alloc(), &rt, &words, &[])?;
-    assert_eq!(rt; ran.status, Status::Done);
-    assert_eq!(rt; str::from_utf8(&ran.output)?, THRICE);
-    assert_eq!(rt; ran.errors.len(), 0);
-    fs::remove_file(&rt, part.as_str())?;
-    Ok(())
+    expect_done(&rt, rt.alloc(), &words, &[], THRICE.as_bytes())?;
+    remove(&rt, &[part.as_str()])
 }
 
 #[test]
@@ -177,27 +169,9 @@ fn the_program_reports_on_many_parts(rt: HostRuntime) -> Result<(), Fail> {
     for _ in &numbers {
         words.push(one.as_str())?;
     }
-    let ran = outcome_of(rt.alloc(), &rt, &words, &[])?;
-    assert_eq!(rt; ran.status, Status::Done);
     let report = report_on(rt.alloc(), &numbers)?;
-    assert_eq!(rt; str::from_utf8(&ran.output)?, report.as_str());
-    assert_eq!(rt; ran.errors.len(), 0);
-    fs::remove_file(&rt, one.as_str())?;
-    Ok(())
-}
-
-/// Checks that the program refuses to report on the parts, with that line.
-fn expect_no_report(
-    rt: &impl Abort,
-    files: &HostRuntime,
-    words: &[&str],
-    line: &str,
-) -> Result<(), Fail> {
-    let ran = outcome_of(files.alloc(), files, words, &[])?;
-    assert_eq!(rt; ran.status, Status::Refused);
-    assert_eq!(rt; ran.output.len(), 0);
-    assert_eq!(rt; str::from_utf8(&ran.errors)?, line);
-    Ok(())
+    expect_done(&rt, rt.alloc(), &words, &[], report.as_bytes())?;
+    remove(&rt, &[one.as_str()])
 }
 
 #[test]
@@ -207,22 +181,28 @@ fn parts_without_a_report(rt: HostRuntime) -> Result<(), Fail> {
     let wide = written(&rt, "check-wide", &[WIDE_HEADER])?;
     let cut = written(&rt, "check-cut", &[HEADER, &NAME_1_A[..10]])?;
     let missing = path_of(&rt, "check-missing")?;
-    expect_no_report(&rt, &rt, &["check"], "hprof: no parts\n")?;
+    expect_told(&rt, rt.alloc(), &["check"], &[], "hprof: no parts\n")?;
     let words = ["check", one.as_str(), other.as_str()];
-    expect_no_report(&rt, &rt, &words, "hprof: conflict at name 1\n")?;
+    expect_told(&rt, rt.alloc(), &words, &[], "hprof: conflict at name 1\n")?;
     let words = ["check", one.as_str(), wide.as_str()];
-    expect_no_report(&rt, &rt, &words, "hprof: identifier sizes differ\n")?;
+    expect_told(
+        &rt,
+        rt.alloc(),
+        &words,
+        &[],
+        "hprof: identifier sizes differ\n",
+    )?;
     let words = ["check", one.as_str(), cut.as_str()];
     let line = "hprof: part 1: malformed at 31: Truncated\n";
-    expect_no_report(&rt, &rt, &words, line)?;
+    expect_told(&rt, rt.alloc(), &words, &[], line)?;
     let words = ["check", one.as_str(), missing.as_str()];
-    expect_no_report(&rt, &rt, &words, "hprof: cannot open part 1\n")?;
+    expect_told(&rt, rt.alloc(), &words, &[], "hprof: cannot open part 1\n")?;
     let words = ["check", missing.as_str(), one.as_str(), missing.as_str()];
-    expect_no_report(&rt, &rt, &words, "hprof: cannot open part 0\n")?;
-    for path in [&one, &other, &wide, &cut] {
-        fs::remove_file(&rt, path.as_str())?;
-    }
-    Ok(())
+    expect_told(&rt, rt.alloc(), &words, &[], "hprof: cannot open part 0\n")?;
+    remove(
+        &rt,
+        &[one.as_str(), other.as_str(), wide.as_str(), cut.as_str()],
+    )
 }
 
 #[test]
@@ -231,11 +211,10 @@ fn a_report_that_cannot_be_printed(rt: HostRuntime) -> Result<(), Fail> {
     let mut writes = 0;
     let words = ["check", part.as_str()];
     let (status, errors) = ended(rt.alloc(), &rt, &words, HEADER, FailsOnce(&mut writes))?;
-    assert_eq!(rt; status, Status::Refused);
-    assert_eq!(rt; errors.as_slice(), b"hprof: write failed\n".as_slice());
-    assert_eq!(rt; writes, 1);
-    fs::remove_file(&rt, part.as_str())?;
-    Ok(())
+    equal(&rt, status, Status::Refused);
+    equal_bytes(&rt, &errors, WRITE_FAILED);
+    equal(&rt, writes, 1);
+    remove(&rt, &[part.as_str()])
 }
 
 #[test]
@@ -247,11 +226,10 @@ fn a_report_that_cannot_be_flushed(rt: HostRuntime) -> Result<(), Fail> {
     };
     let words = ["check", part.as_str()];
     let (status, errors) = ended(rt.alloc(), &rt, &words, HEADER, &mut output)?;
-    assert_eq!(rt; status, Status::Refused);
-    assert_eq!(rt; str::from_utf8(&errors)?, "hprof: write failed\n");
-    assert_eq!(rt; (output.writes, output.flushes), (1, 1));
-    fs::remove_file(&rt, part.as_str())?;
-    Ok(())
+    equal(&rt, status, Status::Refused);
+    equal_bytes(&rt, &errors, WRITE_FAILED);
+    equal(&rt, (output.writes, output.flushes), (1, 1));
+    remove(&rt, &[part.as_str()])
 }
 
 #[test]
@@ -260,9 +238,14 @@ fn a_folder_to_report_on(rt: HostRuntime) -> Result<(), Fail> {
     let folder = env::temp_dir(&rt)?;
     let folder = folder.to_str().ok_or("the folder's name is text")?;
     let line = "hprof: part 0: read failed\n";
-    expect_no_report(&rt, &rt, &["check", folder], line)?;
+    expect_told(&rt, rt.alloc(), &["check", folder], &[], line)?;
     let line = "hprof: part 1: read failed\n";
-    expect_no_report(&rt, &rt, &["check", part.as_str(), folder], line)?;
-    fs::remove_file(&rt, part.as_str())?;
-    Ok(())
+    expect_told(
+        &rt,
+        rt.alloc(),
+        &["check", part.as_str(), folder],
+        &[],
+        line,
+    )?;
+    remove(&rt, &[part.as_str()])
 }

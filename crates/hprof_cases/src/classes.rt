@@ -1,5 +1,6 @@
 //! Classes and their instances, joined.
 
+use crate::expecting::equal;
 use crate::samples::{END, HEADER, bytes_of, expect_joined, record};
 use std::alloc::{AllocError, Global};
 use std::test::Fail;
@@ -34,13 +35,13 @@ fn part_of(alloc: Global, sub: &[u8]) -> Result<Vec<u8>, AllocError> {
 fn classes_that_come_late(rt: HostRuntime) -> Result<(), Fail> {
     let upper = class_99(rt.alloc())?;
     let lower = class_100(rt.alloc())?;
-    assert_eq!(rt; (upper.len(), lower.len()), (48, 53));
+    equal(&rt, (upper.len(), lower.len()), (48, 53));
     let one = part_of(rt.alloc(), INSTANCE_200)?;
     let two = part_of(rt.alloc(), &lower)?;
     let three = part_of(rt.alloc(), &upper)?;
     let all = record(rt.alloc(), 0x1c, &[&upper, &lower, INSTANCE_200])?;
     let dump = bytes_of(rt.alloc(), &[HEADER, &all, END])?;
-    assert_eq!(rt; dump.len(), 176);
+    equal(&rt, dump.len(), 176);
     expect_joined(&rt, rt.alloc(), &[&one, &two, &three], &[&dump], 3)?;
     expect_joined(&rt, rt.alloc(), &[&one, &three, &two], &[&dump], 3)?;
     expect_joined(&rt, rt.alloc(), &[&two, &one, &three], &[&dump], 3)?;
@@ -66,7 +67,7 @@ fn a_class_with_constants_and_static_fields(rt: HostRuntime) -> Result<(), Fail>
     let behind =
         b"\0\0\0\0\0\x01\0\x03\x02\0\0\0\xc8\0\x02\0\0\0\x05\x01\0\0\0\xc9\0\0\0\x06\x0a\0\0\0\x07\0\0";
     let class = class_dump(rt.alloc(), 100, 0, behind)?;
-    assert_eq!(rt; class.len(), 68);
+    equal(&rt, class.len(), 68);
     let segment = record(rt.alloc(), 0x0c, &[&class])?;
     let written = record(rt.alloc(), 0x1c, &[&class])?;
     let part = bytes_of(rt.alloc(), &[HEADER, &segment])?;

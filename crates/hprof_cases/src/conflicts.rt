@@ -1,5 +1,6 @@
 //! Parts that do not go together.
 
+use crate::expecting::{equal, holds};
 use crate::samples::{HEADER, NAME_1_A, NAME_1_B, WIDE_HEADER, bytes_of, expect_refused, record};
 use hprof_devices::WriteFault;
 use hprof_engine::{Joined, ToolFault};
@@ -100,14 +101,20 @@ fn texts_of_conflicts(rt: HostRuntime) -> Result<(), Fail> {
         (Key::Thread(7), "conflict at thread 7"),
         (Key::Class(16), "conflict at class 10"),
         (Key::Class(0xab), "conflict at class ab"),
+        (Key::Object(200), "conflict at object c8"),
         (Key::Object(u64::MAX), "conflict at object ffffffffffffffff"),
     ];
     for (key, text) in texts {
-        assert_eq!(rt; ToolFault::Conflict(key).text(rt.alloc())?.as_str(), text);
+        equal(
+            &rt,
+            ToolFault::Conflict(key).text(rt.alloc())?.as_str(),
+            text,
+        );
     }
-    assert_eq!(rt;
+    equal(
+        &rt,
         ToolFault::IdSizes.text(rt.alloc())?.as_str(),
-        "identifier sizes differ"
+        "identifier sizes differ",
     );
     Ok(())
 }
@@ -132,18 +139,18 @@ fn texts_of_parts_and_of_memory(rt: HostRuntime) -> Result<(), Fail> {
         (3, sink, "part 3: out of memory"),
     ] {
         let told = ToolFault::Part { index, fault }.text(rt.alloc())?;
-        assert_eq!(rt; told.as_str(), text);
+        equal(&rt, told.as_str(), text);
     }
     let told = ToolFault::OutOfMemory.text(rt.alloc())?;
-    assert_eq!(rt; told.as_str(), "out of memory");
+    equal(&rt, told.as_str(), "out of memory");
     Ok(())
 }
 
 #[test]
 fn answers_that_differ(rt: HostRuntime) -> Result<(), Fail> {
     let joined = Joined { parts: 1, facts: 1 };
-    assert!(rt; joined != Joined { parts: 1, facts: 2 });
-    assert!(rt; joined != Joined { parts: 2, facts: 1 });
+    holds(&rt, joined != Joined { parts: 1, facts: 2 });
+    holds(&rt, joined != Joined { parts: 2, facts: 1 });
     let read = PartFault::Read;
     let faults = [
         ToolFault::Part {
@@ -169,7 +176,7 @@ fn answers_that_differ(rt: HostRuntime) -> Result<(), Fail> {
     ];
     for (place, fault) in faults.iter().enumerate() {
         for (other, another) in faults.iter().enumerate() {
-            assert_eq!(rt; fault == another, place == other);
+            equal(&rt, fault == another, place == other);
         }
     }
     Ok(())

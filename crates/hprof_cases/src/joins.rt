@@ -1,5 +1,6 @@
 //! Parts that are joined.
 
+use crate::expecting::{equal, equal_bytes};
 use crate::samples::{
     ARRAY_16, END, HEADER, NAME_1_A, NAME_2_B, OLD_HEADER, STICKY_16, WIDE_HEADER, bytes_of,
     expect_joined, joined, joined_and_kept, plain_dump, plain_part, record,
@@ -21,8 +22,8 @@ fn header_alone(rt: HostRuntime) -> Result<(), Fail> {
 #[test]
 fn no_parts(rt: HostRuntime) -> Result<(), Fail> {
     let (answer, written) = joined(rt.alloc(), &[])?;
-    assert_eq!(rt; answer, Err(ToolFault::NoParts));
-    assert_eq!(rt; written.len(), 0);
+    equal(&rt, answer, Err(ToolFault::NoParts));
+    equal(&rt, written.len(), 0);
     Ok(())
 }
 
@@ -55,14 +56,14 @@ fn the_heap_is_handed_back(rt: HostRuntime) -> Result<(), Fail> {
     let part = bytes_of(rt.alloc(), &[HEADER, NAME_2_B, NAME_1_A])?;
     let (answer, written) = joined_and_kept(rt.alloc(), &[&part])?;
     let dump = bytes_of(rt.alloc(), &[HEADER, NAME_1_A, NAME_2_B, END])?;
-    assert_eq!(rt; written.as_slice(), dump.as_slice());
+    equal_bytes(&rt, &written, &dump);
     let Ok(kept) = answer else {
         return Err("the parts were refused".into());
     };
-    assert_eq!(rt; kept.joined, Joined { parts: 1, facts: 2 });
-    assert_eq!(rt; kept.heap.count(), 2);
-    assert_eq!(rt; kept.heap.name(1).is_some(), true);
-    assert_eq!(rt; kept.heap.name(3).is_none(), true);
+    equal(&rt, kept.joined, Joined { parts: 1, facts: 2 });
+    equal(&rt, kept.heap.count(), 2);
+    equal(&rt, kept.heap.name(1).is_some(), true);
+    equal(&rt, kept.heap.name(3).is_none(), true);
     Ok(())
 }
 
@@ -82,7 +83,7 @@ fn eight_byte_identifiers(rt: HostRuntime) -> Result<(), Fail> {
 fn the_plain_part(rt: HostRuntime) -> Result<(), Fail> {
     let part = plain_part(rt.alloc())?;
     let dump = plain_dump(rt.alloc())?;
-    assert_eq!(rt; (part.len(), dump.len()), (89, 98));
+    equal(&rt, (part.len(), dump.len()), (89, 98));
     expect_joined(&rt, rt.alloc(), &[&part], &[&dump], 4)?;
     expect_joined(&rt, rt.alloc(), &[&part, &part], &[&dump], 4)?;
     expect_joined(&rt, rt.alloc(), &[&dump, &part], &[&dump], 4)?;
@@ -104,7 +105,7 @@ fn one_sub_record_in_each_segment(rt: HostRuntime) -> Result<(), Fail> {
     let array = record(rt.alloc(), 0x1c, &[ARRAY_16])?;
     let texts = [HEADER, NAME_1_A, NAME_2_B, &root, &array, END];
     let apart = bytes_of(rt.alloc(), &texts)?;
-    assert_eq!(rt; apart.len(), 107);
+    equal(&rt, apart.len(), 107);
     let dump = plain_dump(rt.alloc())?;
     expect_joined(&rt, rt.alloc(), &[&apart], &[&dump], 4)?;
     expect_joined(&rt, rt.alloc(), &[&apart, &apart], &[&dump], 4)

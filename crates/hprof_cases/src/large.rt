@@ -1,5 +1,6 @@
 //! The program, with parts that only its usual limits let through.
 
+use crate::expecting::{equal, equal_at, equal_bytes, holds};
 use crate::limits::ByteByByte;
 use crate::program::ended;
 use crate::samples::{END, HEADER, NAME_1_A, bytes_of, expect_joined};
@@ -23,8 +24,8 @@ fn long_names_pass(rt: HostRuntime) -> Result<(), Fail> {
         let dump = dump_of(rt.alloc(), front, length)?;
         let mut output = Vec::new(rt.alloc());
         let (status, errors) = ended(rt.alloc(), &rt, &[], dump.as_slice(), &mut output)?;
-        assert_eq!(rt; (status, errors.len()), (Status::Done, 0), "{length}");
-        assert!(rt; output.as_slice() == dump.as_slice(), "{length}");
+        equal_at(&rt, length, (status, errors.len()), (Status::Done, 0));
+        holds(&rt, output.as_slice() == dump.as_slice());
     }
     Ok(())
 }
@@ -35,8 +36,8 @@ fn many_reads_pass(rt: HostRuntime) -> Result<(), Fail> {
     let mut output = Vec::new(rt.alloc());
     let input = ByteByByte(&dump);
     let (status, errors) = ended(rt.alloc(), &rt, &[], input, &mut output)?;
-    assert_eq!(rt; (status, errors.len()), (Status::Done, 0));
-    assert_eq!(rt; output.as_slice(), dump.as_slice());
+    equal(&rt, (status, errors.len()), (Status::Done, 0));
+    equal_bytes(&rt, &output, &dump);
     Ok(())
 }
 

@@ -12,6 +12,8 @@ mod counters;
 #[cfg(test)]
 mod disk;
 #[cfg(test)]
+mod expecting;
+#[cfg(test)]
 mod files;
 #[cfg(test)]
 mod joins;

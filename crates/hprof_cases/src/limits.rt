@@ -1,6 +1,7 @@
 //! Limits, one below what a part needs and just what it needs.
 
 use crate::counters::CountedReads;
+use crate::expecting::equal;
 use crate::samples::{
     END, HEADER, NAME_1_A, NAME_1_B, NAME_2_B, WIDE_HEADER, bytes_of, joined_under, plain_part,
     record,
@@ -23,7 +24,7 @@ fn answer(alloc: Global, part: &[u8], limits: Limits) -> Result<Result<Joined, T
 
 /// Checks that the answer is this fault of the one part.
 fn expect_fault(rt: &impl Abort, answer: Result<Joined, ToolFault>, fault: PartFault) {
-    assert_eq!(rt; answer, Err(ToolFault::Part { index: 0, fault }));
+    equal(rt, answer, Err(ToolFault::Part { index: 0, fault }));
 }
 
 /// A reader that gives one byte at a time.
@@ -98,14 +99,14 @@ const ONE_PART: Joined = Joined { parts: 1, facts: 0 };
 
 #[test]
 fn limit_of_reads(rt: HostRuntime) -> Result<(), Fail> {
-    assert_eq!(rt; answer(rt.alloc(), HEADER, reads(2))?, Ok(ONE_PART));
+    equal(&rt, answer(rt.alloc(), HEADER, reads(2))?, Ok(ONE_PART));
     expect_fault(
         &rt,
         answer(rt.alloc(), HEADER, reads(1))?,
         PartFault::ReadsExceeded,
     );
     expect_fault(&rt, slow_answer(rt.alloc(), 10), PartFault::ReadsExceeded);
-    assert_eq!(rt; slow_answer(rt.alloc(), 32), Ok(ONE_PART));
+    equal(&rt, slow_answer(rt.alloc(), 32), Ok(ONE_PART));
     // What came is judged first.
     let wrong = wrong_record(rt.alloc())?;
     expect_fault(&rt, answer(rt.alloc(), &wrong, reads(1))?, WRONG);
@@ -114,7 +115,7 @@ fn limit_of_reads(rt: HostRuntime) -> Result<(), Fail> {
 
 #[test]
 fn limit_of_bytes(rt: HostRuntime) -> Result<(), Fail> {
-    assert_eq!(rt; answer(rt.alloc(), HEADER, bytes(31))?, Ok(ONE_PART));
+    equal(&rt, answer(rt.alloc(), HEADER, bytes(31))?, Ok(ONE_PART));
     expect_fault(
         &rt,
         answer(rt.alloc(), HEADER, bytes(30))?,
@@ -152,7 +153,7 @@ fn failed_read(rt: HostRuntime) -> Result<(), Fail> {
 #[test]
 fn failed_read_at_each_byte(rt: HostRuntime) -> Result<(), Fail> {
     let part = plain_part(rt.alloc())?;
-    assert_eq!(rt; part.len(), 89);
+    equal(&rt, part.len(), 89);
     for len in 0..90usize {
         expect_fault(
             &rt,
@@ -163,7 +164,7 @@ fn failed_read_at_each_byte(rt: HostRuntime) -> Result<(), Fail> {
     let root = b"\x05\0\0\0".as_slice();
     let segment = record(rt.alloc(), 0x1c, &[root])?;
     let part = bytes_of(rt.alloc(), &[HEADER, &segment])?;
-    assert_eq!(rt; part.len(), 44);
+    equal(&rt, part.len(), 44);
     let past_end = PartFault::Malformed {
         at: 40,
         reason: Reason::PastEnd,
@@ -179,7 +180,7 @@ fn failed_read_at_each_byte(rt: HostRuntime) -> Result<(), Fail> {
 fn longest_item(rt: HostRuntime) -> Result<(), Fail> {
     let part = bytes_of(rt.alloc(), &[HEADER, NAME_2_B, NAME_1_A])?;
     let joined = Joined { parts: 1, facts: 2 };
-    assert_eq!(rt; answer(rt.alloc(), &part, longest(5))?, Ok(joined));
+    equal(&rt, answer(rt.alloc(), &part, longest(5))?, Ok(joined));
     expect_fault(
         &rt,
         answer(rt.alloc(), &part, longest(4))?,
@@ -193,7 +194,7 @@ fn longest_item(rt: HostRuntime) -> Result<(), Fail> {
 fn longest_item_of_the_plain_part(rt: HostRuntime) -> Result<(), Fail> {
     let part = plain_part(rt.alloc())?;
     let joined = Joined { parts: 1, facts: 4 };
-    assert_eq!(rt; answer(rt.alloc(), &part, longest(16))?, Ok(joined));
+    equal(&rt, answer(rt.alloc(), &part, longest(16))?, Ok(joined));
     for (max_item, at) in [(15, 68), (4, 31)] {
         let fault = PartFault::ItemTooLong { at };
         expect_fault(&rt, answer(rt.alloc(), &part, longest(max_item))?, fault);
@@ -229,7 +230,7 @@ fn too_long_before_truncated(rt: HostRuntime) -> Result<(), Fail> {
 #[test]
 fn longest_item_of_nothing(rt: HostRuntime) -> Result<(), Fail> {
     let ended = bytes_of(rt.alloc(), &[HEADER, END])?;
-    assert_eq!(rt; answer(rt.alloc(), &ended, longest(0))?, Ok(ONE_PART));
+    equal(&rt, answer(rt.alloc(), &ended, longest(0))?, Ok(ONE_PART));
     // The length is judged first.
     let part = bytes_of(rt.alloc(), &[HEADER, b"\x01\0\0\0\0\0\0\0\x01\0"])?;
     let fault = PartFault::Malformed {
@@ -257,7 +258,7 @@ fn no_reads_and_no_bytes(rt: HostRuntime) -> Result<(), Fail> {
     let answer_of_none = join_to(rt.alloc(), &mut readers, &mut target, reads(0));
     expect_fault(&rt, answer_of_none, PartFault::ReadsExceeded);
     let [reader] = readers;
-    assert_eq!(rt; reader.into_inner().reads, 0);
+    equal(&rt, reader.into_inner().reads, 0);
     for part in [b"J".as_slice(), HEADER] {
         let answer_of_some = answer(rt.alloc(), part, bytes(0))?;
         expect_fault(&rt, answer_of_some, PartFault::BytesExceeded);
@@ -282,9 +283,9 @@ fn a_read_takes_as_much_as_there_is_room_for(rt: HostRuntime) -> Result<(), Fail
     for (length, most) in [(65_536usize, 2), (65_537, 3)] {
         let name = long_name(rt.alloc(), length - 44)?;
         let part = bytes_of(rt.alloc(), &[HEADER, &name])?;
-        assert_eq!(rt; part.len(), length);
+        equal(&rt, part.len(), length);
         let joined = Joined { parts: 1, facts: 1 };
-        assert_eq!(rt; answer(rt.alloc(), &part, reads(most))?, Ok(joined));
+        equal(&rt, answer(rt.alloc(), &part, reads(most))?, Ok(joined));
         expect_fault(
             &rt,
             answer(rt.alloc(), &part, reads(most - 1))?,
@@ -311,13 +312,13 @@ fn a_limit_behind_parts_that_do_not_go_together(rt: HostRuntime) -> Result<(), F
             (reads(2), PartFault::ReadsExceeded),
         ] {
             let (told, written) = joined_under(rt.alloc(), &parts, limits)?;
-            assert_eq!(rt; told, Err(ToolFault::Part { index: 2, fault }));
-            assert_eq!(rt; written.len(), 0);
+            equal(&rt, told, Err(ToolFault::Part { index: 2, fault }));
+            equal(&rt, written.len(), 0);
             let (told, _) = joined_under(rt.alloc(), &parts[..2], limits)?;
-            assert_eq!(rt; told, Err(untold));
+            equal(&rt, told, Err(untold));
         }
         let (told, _) = joined_under(rt.alloc(), &parts, Limits::usual())?;
-        assert_eq!(rt; told, Err(untold));
+        equal(&rt, told, Err(untold));
     }
     Ok(())
 }

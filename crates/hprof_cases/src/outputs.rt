@@ -1,7 +1,8 @@
 //! The program, where its output cannot be written.
 
 use crate::disk::{Disk, Narrow, Trouble};
-use crate::program::{ended, path_of, written};
+use crate::expecting::{equal, equal_at, equal_bytes};
+use crate::program::{ended, path_of, remove, written};
 use crate::samples::{END, HEADER, bytes_of};
 use hprof_tool::Status;
 use std::alloc::{AllocError, Global};
@@ -44,10 +45,10 @@ fn long_dump_to_a_stream_that_fails(rt: HostRuntime) -> Result<(), Fail> {
             trouble,
         };
         let (status, errors) = ended(rt.alloc(), &rt, &[], dump.as_slice(), output)?;
-        assert_eq!(rt; status, Status::Refused, "{room} {trouble:?}");
-        assert_eq!(rt; errors.as_slice(), WRITE_FAILED, "{room} {trouble:?}");
+        equal_at(&rt, (room, trouble), status, Status::Refused);
+        equal_bytes(&rt, &errors, WRITE_FAILED);
         let front = &dump[..room.min(dump.len())];
-        assert_eq!(rt; taken.as_slice(), front, "{room} {trouble:?}");
+        equal_bytes(&rt, &taken, front);
     }
     Ok(())
 }
@@ -66,12 +67,11 @@ fn long_dump_to_a_file_that_fails(rt: HostRuntime) -> Result<(), Fail> {
         };
         let mut output = Vec::new(rt.alloc());
         let (status, errors) = ended(rt.alloc(), &disk, &words, [].as_slice(), &mut output)?;
-        assert_eq!(rt; status, Status::Refused, "{room} {trouble:?}");
-        assert_eq!(rt; errors.as_slice(), WRITE_FAILED, "{room} {trouble:?}");
-        assert!(rt; fs::read(&rt, out.as_str()).is_err(), "{room} {trouble:?}");
+        equal_at(&rt, (room, trouble), status, Status::Refused);
+        equal_bytes(&rt, &errors, WRITE_FAILED);
+        equal_at(&rt, (room, trouble), fs::exists(&rt, out.as_str())?, false);
     }
-    fs::remove_file(&rt, part.as_str())?;
-    Ok(())
+    remove(&rt, &[part.as_str()])
 }
 
 #[test]
@@ -84,9 +84,9 @@ fn help_that_cannot_be_written(rt: HostRuntime) -> Result<(), Fail> {
             trouble,
         };
         let (status, errors) = ended(rt.alloc(), &rt, &["--help"], [].as_slice(), output)?;
-        assert_eq!(rt; status, Status::Refused, "{trouble:?}");
-        assert_eq!(rt; errors.as_slice(), WRITE_FAILED, "{trouble:?}");
-        assert_eq!(rt; taken.len(), 0, "{trouble:?}");
+        equal_at(&rt, trouble, status, Status::Refused);
+        equal_bytes(&rt, &errors, WRITE_FAILED);
+        equal_at(&rt, trouble, taken.len(), 0);
     }
     Ok(())
 }
@@ -100,7 +100,7 @@ fn help_that_cannot_be_flushed(rt: HostRuntime) -> Result<(), Fail> {
         trouble: Trouble::FailsToFlush,
     };
     let (status, errors) = ended(rt.alloc(), &rt, &["--help"], [].as_slice(), output)?;
-    assert_eq!(rt; status, Status::Refused);
-    assert_eq!(rt; errors.as_slice(), WRITE_FAILED);
+    equal(&rt, status, Status::Refused);
+    equal_bytes(&rt, &errors, WRITE_FAILED);
     Ok(())
 }

@@ -1,6 +1,7 @@
 //! Parts that are cut into pieces.
 
-use crate::samples::{HEADER, bytes_of, fed, plain_part};
+use crate::expecting::{equal, equal_bytes};
+use crate::samples::{HEADER, bytes_of, fed, plain_dump, plain_part};
 use hprof_devices::Device;
 use hprof_dump::write_canonical;
 use hprof_heap::Gatherer;
@@ -17,10 +18,10 @@ fn reader_fed_nothing(rt: HostRuntime) {
     };
     let mut gatherer = Gatherer::new(rt.alloc());
     let mut reader = PartReader::new(rt.alloc(), Limits::usual());
-    assert_eq!(rt; reader.feed(&[], &mut gatherer), Ok(()));
-    assert_eq!(rt; reader.header(), None);
-    assert_eq!(rt; reader.buffered(), 0);
-    assert_eq!(rt; reader.finish(), Err(truncated));
+    equal(&rt, reader.feed(&[], &mut gatherer), Ok(()));
+    equal(&rt, reader.header(), None);
+    equal(&rt, reader.buffered(), 0);
+    equal(&rt, reader.finish(), Err(truncated));
 }
 
 /// The record of a name `A` with that identifier.
@@ -42,33 +43,44 @@ fn descending_names_in_pieces_of_seven(rt: HostRuntime) -> Result<(), Fail> {
     let summary = fed(rt.alloc(), &part, 7, &mut gatherer)
         .ok()
         .ok_or("the part is whole")?;
-    assert_eq!(rt;
+    equal(
+        &rt,
         (summary.records, summary.facts, summary.ended),
-        (3000, 3000, false)
+        (3000, 3000, false),
     );
-    let heap = gatherer.finish().ok().ok_or("the names agree")?;
-    let mut target = Device::new(Vec::new(rt.alloc()));
-    assert_eq!(rt; write_canonical(&heap, &mut target), Ok(()));
-    let written = target.into_inner();
-    assert_eq!(rt; written.len(), 42_040);
-    assert_eq!(rt; written.as_slice(), expected.as_slice());
+    let written = dump_of(rt.alloc(), gatherer)?;
+    equal(&rt, written.len(), 42_040);
+    equal_bytes(&rt, &written, &expected);
     Ok(())
+}
+
+/// The canonical dump of what the gatherer has.
+fn dump_of(alloc: Global, gatherer: Gatherer) -> Result<Vec<u8>, Fail> {
+    let heap = gatherer.finish().ok().ok_or("the facts agree")?;
+    let mut target = Device::new(Vec::new(alloc));
+    write_canonical(&heap, &mut target)
+        .ok()
+        .ok_or("the writer takes all")?;
+    Ok(target.into_inner())
 }
 
 #[test]
 fn the_plain_part_whole_in_threes_and_byte_by_byte(rt: HostRuntime) -> Result<(), Fail> {
     let part = plain_part(rt.alloc())?;
+    let dump = plain_dump(rt.alloc())?;
     for (piece_len, most) in [(89usize, 0), (3, 30), (1, 30)] {
         let mut gatherer = Gatherer::new(rt.alloc());
         let summary = fed(rt.alloc(), &part, piece_len, &mut gatherer)
             .ok()
             .ok_or("whole")?;
-        assert_eq!(rt;
+        equal(
+            &rt,
             (summary.records, summary.facts, summary.ended),
-            (3, 4, false)
+            (3, 4, false),
         );
-        assert_eq!(rt; gatherer.heap().ok_or("the facts agree")?.count(), 4);
-        assert_eq!(rt; most_buffered(rt.alloc(), &part, piece_len)?, most);
+        equal(&rt, gatherer.heap().ok_or("the facts agree")?.count(), 4);
+        equal_bytes(&rt, &dump_of(rt.alloc(), gatherer)?, &dump);
+        equal(&rt, most_buffered(rt.alloc(), &part, piece_len)?, most);
     }
     Ok(())
 }

@@ -1,5 +1,6 @@
 //! The plain part, cut to each of its prefixes.
 
+use crate::expecting::equal;
 use crate::samples::{fed, plain_part};
 use hprof_heap::Gatherer;
 use hprof_items::Reason;
@@ -26,7 +27,7 @@ fn border_below(len: usize) -> usize {
 #[test]
 fn every_prefix_of_the_plain_part(rt: HostRuntime) -> Result<(), Fail> {
     let part = plain_part(rt.alloc())?;
-    assert_eq!(rt; part.len(), 89);
+    equal(&rt, part.len(), 89);
     for len in 0..90usize {
         let expected = if ENDS.contains(&len) {
             None
@@ -39,7 +40,7 @@ fn every_prefix_of_the_plain_part(rt: HostRuntime) -> Result<(), Fail> {
         for piece_len in [89usize, 3, 1] {
             let mut gatherer = Gatherer::new(rt.alloc());
             let summary = fed(rt.alloc(), &part[..len], piece_len, &mut gatherer);
-            assert_eq!(rt; summary.err(), expected);
+            equal(&rt, summary.err(), expected);
         }
     }
     laws::no_fault_exactly_in_the_grammar();

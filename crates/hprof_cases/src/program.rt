@@ -1,5 +1,6 @@
 //! The program, with its words, its files and its standard streams.
 
+use crate::expecting::{equal, equal_at, equal_bytes, equal_text, holds};
 use crate::samples::{END, HEADER, NAME_1_A, NAME_1_B, NAME_2_B, WIDE_HEADER, bytes_of};
 use hprof_tool::{Status, run};
 use std::alloc::Global;
@@ -79,6 +80,37 @@ pub(crate) fn outcome_of<F: Files>(
     })
 }
 
+/// Checks that the program does what these words ask for, and that it writes these bytes and tells nothing.
+pub(crate) fn expect_done<F: Files + Abort>(
+    rt: &F,
+    alloc: Global,
+    words: &[&str],
+    input: &[u8],
+    output: &[u8],
+) -> Result<(), Fail> {
+    let ran = outcome_of(alloc, rt, words, input)?;
+    equal_text(rt, &ran.errors, "")?;
+    equal(rt, ran.status.code(), 0);
+    equal_bytes(rt, &ran.output, output);
+    Ok(())
+}
+
+/// Checks that the program refuses what these words ask for with that line, and writes nothing.
+pub(crate) fn expect_told<F: Files + Abort>(
+    rt: &F,
+    alloc: Global,
+    words: &[&str],
+    input: &[u8],
+    line: &str,
+) -> Result<(), Fail> {
+    let ran = outcome_of(alloc, rt, words, input)?;
+    equal_text(rt, &ran.errors, line)?;
+    equal(rt, ran.status, Status::Refused);
+    equal(rt, ran.status.code(), 1);
+    equal(rt, ran.output.len(), 0);
+    Ok(())
+}
+
 /// The path of a file of that name in the folder for such files.
 pub(crate) fn path_of(rt: &HostRuntime, name: &str) -> Result<String, Fail> {
     let folder = env::temp_dir(rt)?;
@@ -90,16 +122,32 @@ pub(crate) fn path_of(rt: &HostRuntime, name: &str) -> Result<String, Fail> {
     Ok(path)
 }
 
+/// Checks that the file has these bytes.
+pub(crate) fn expect_file(
+    rt: &impl Abort,
+    files: &HostRuntime,
+    path: &str,
+    bytes: &[u8],
+) -> Result<(), Fail> {
+    equal_bytes(rt, &fs::read(files, path)?, bytes);
+    Ok(())
+}
+
+/// Removes the files.
+pub(crate) fn remove(rt: &HostRuntime, paths: &[&str]) -> Result<(), Fail> {
+    for path in paths {
+        fs::remove_file(rt, path)?;
+    }
+    Ok(())
+}
+
 #[test]
 fn no_words(rt: HostRuntime) -> Result<(), Fail> {
     let part = bytes_of(rt.alloc(), &[HEADER, NAME_2_B, NAME_1_A])?;
     let dump = bytes_of(rt.alloc(), &[HEADER, NAME_1_A, NAME_2_B, END])?;
     // What only says that no option follows is no word.
     for count in 0..=1 {
-        let ran = outcome_of(rt.alloc(), &rt, &["--"][..count], &part)?;
-        assert_eq!(rt; ran.status.code(), 0);
-        assert_eq!(rt; ran.output.as_slice(), dump.as_slice());
-        assert_eq!(rt; ran.errors.len(), 0);
+        expect_done(&rt, rt.alloc(), &["--"][..count], &part, &dump)?;
     }
     Ok(())
 }
@@ -127,9 +175,9 @@ fn nothing_is_written_again(rt: HostRuntime) -> Result<(), Fail> {
     let mut writes = 0;
     let output = FailsOnce(&mut writes);
     let (status, errors) = ended(rt.alloc(), &rt, &[], HEADER, output)?;
-    assert_eq!(rt; status, Status::Refused);
-    assert_eq!(rt; errors.as_slice(), b"hprof: write failed\n".as_slice());
-    assert_eq!(rt; writes, 1);
+    equal(&rt, status, Status::Refused);
+    equal_text(&rt, &errors, "hprof: write failed\n")?;
+    equal(&rt, writes, 1);
     Ok(())
 }
 
@@ -147,22 +195,14 @@ fn joins_files_to_a_new_file(rt: HostRuntime) -> Result<(), Fail> {
     let two = written(&rt, "join-two", &[HEADER, NAME_1_A])?;
     let out = path_of(&rt, "join-out")?;
     let words = ["join", out.as_str(), one.as_str(), two.as_str()];
-    let first = outcome_of(rt.alloc(), &rt, &words, &[])?;
-    assert_eq!(rt; first.status, Status::Done);
-    assert_eq!(rt; (first.output.len(), first.errors.len()), (0, 0));
+    expect_done(&rt, rt.alloc(), &words, &[], &[])?;
     let dump = bytes_of(rt.alloc(), &[HEADER, NAME_1_A, NAME_2_B, END])?;
-    let joined = fs::read(&rt, out.as_str())?;
-    assert_eq!(rt; joined.as_slice(), dump.as_slice());
+    expect_file(&rt, &rt, out.as_str(), &dump)?;
     // What is there already is refused, and stays.
-    let second = outcome_of(rt.alloc(), &rt, &words, &[])?;
-    assert_eq!(rt; second.status, Status::Refused);
-    let text = b"hprof: cannot create the output\n".as_slice();
-    assert_eq!(rt; second.errors.as_slice(), text);
-    assert_eq!(rt; fs::read(&rt, out.as_str())?.as_slice(), dump.as_slice());
-    for path in [&out, &one, &two] {
-        fs::remove_file(&rt, path.as_str())?;
-    }
-    Ok(())
+    let line = "hprof: cannot create the output\n";
+    expect_told(&rt, rt.alloc(), &words, &[], line)?;
+    expect_file(&rt, &rt, out.as_str(), &dump)?;
+    remove(&rt, &words[1..])
 }
 
 #[test]
@@ -173,44 +213,33 @@ fn refused_part_leaves_no_file(rt: HostRuntime) -> Result<(), Fail> {
         &[HEADER, b"\x03\0\0\0\0\0\0\0\x05\0\0\0\x01"],
     )?;
     let out = path_of(&rt, "refused-out")?;
-    let ran = outcome_of(rt.alloc(), &rt, &["join", out.as_str(), part.as_str()], &[])?;
-    assert_eq!(rt; ran.status.code(), 1);
-    let text = b"hprof: part 0: malformed at 31: BadLength\n".as_slice();
-    assert_eq!(rt; ran.errors.as_slice(), text);
-    assert!(rt; fs::read(&rt, out.as_str()).is_err());
-    fs::remove_file(&rt, part.as_str())?;
-    Ok(())
+    let line = "hprof: part 0: malformed at 31: BadLength\n";
+    expect_refused(&rt, rt.alloc(), out.as_str(), &[part.as_str()], line)?;
+    remove(&rt, &[part.as_str()])
 }
 
 #[test]
 fn part_that_cannot_be_opened(rt: HostRuntime) -> Result<(), Fail> {
     let part = path_of(&rt, "no-such-part")?;
     let out = path_of(&rt, "no-such-out")?;
-    let ran = outcome_of(rt.alloc(), &rt, &["join", out.as_str(), part.as_str()], &[])?;
-    assert_eq!(rt; ran.status.code(), 1);
-    let text = b"hprof: cannot open part 0\n".as_slice();
-    assert_eq!(rt; ran.errors.as_slice(), text);
-    assert!(rt; fs::read(&rt, out.as_str()).is_err());
-    Ok(())
+    let line = "hprof: cannot open part 0\n";
+    expect_refused(&rt, rt.alloc(), out.as_str(), &[part.as_str()], line)
 }
 
-/// Checks that joining these parts to a new file is refused with that text, and that the file is not there afterwards.
+/// Checks that joining these parts to a new file is refused with that line, and that the file is not there afterwards.
 pub(crate) fn expect_refused<F: Files + Abort>(
     rt: &F,
     alloc: Global,
     out: &str,
     parts: &[&str],
-    text: &[u8],
+    line: &str,
 ) -> Result<(), Fail> {
     let mut words = Vec::new(alloc);
     words.push("join")?;
     words.push(out)?;
     words.extend_from_slice(parts)?;
-    let ran = outcome_of(alloc, rt, &words, &[])?;
-    assert_eq!(rt; ran.status.code(), 1);
-    assert_eq!(rt; ran.output.len(), 0);
-    assert_eq!(rt; ran.errors.as_slice(), text);
-    assert!(rt; !fs::exists(rt, out)?);
+    expect_told(rt, alloc, &words, &[], line)?;
+    holds(rt, !fs::exists(rt, out)?);
     Ok(())
 }
 
@@ -224,14 +253,11 @@ fn second_part_that_is_malformed(rt: HostRuntime) -> Result<(), Fail> {
     let out = path_of(&rt, "malformed-out")?;
     let [out, good, bad] = [&out, &good, &bad].map(|path| path.as_str());
     // The header has 31 bytes, and the name's record 14.
-    let text = b"hprof: part 1: malformed at 45: BadLength\n";
+    let text = "hprof: part 1: malformed at 45: BadLength\n";
     expect_refused(&rt, rt.alloc(), out, &[good, bad], text)?;
-    let text = b"hprof: part 0: malformed at 45: BadLength\n";
+    let text = "hprof: part 0: malformed at 45: BadLength\n";
     expect_refused(&rt, rt.alloc(), out, &[bad, good], text)?;
-    for path in [good, bad] {
-        fs::remove_file(&rt, path)?;
-    }
-    Ok(())
+    remove(&rt, &[good, bad])
 }
 
 #[test]
@@ -241,25 +267,22 @@ fn parts_that_do_not_go_together(rt: HostRuntime) -> Result<(), Fail> {
     let wide = written(&rt, "apart-wide", &[WIDE_HEADER])?;
     let out = path_of(&rt, "apart-out")?;
     let [out, one, other, wide] = [&out, &one, &other, &wide].map(|path| path.as_str());
-    let conflict = b"hprof: conflict at name 1\n";
+    let conflict = "hprof: conflict at name 1\n";
     expect_refused(&rt, rt.alloc(), out, &[one, other], conflict)?;
-    let sizes = b"hprof: identifier sizes differ\n";
+    let sizes = "hprof: identifier sizes differ\n";
     expect_refused(&rt, rt.alloc(), out, &[one, wide], sizes)?;
-    for path in [one, other, wide] {
-        fs::remove_file(&rt, path)?;
-    }
-    Ok(())
+    remove(&rt, &[one, other, wide])
 }
 
 #[test]
 fn no_parts_to_join(rt: HostRuntime) -> Result<(), Fail> {
     let out = path_of(&rt, "none-out")?;
-    expect_refused(&rt, rt.alloc(), out.as_str(), &[], b"hprof: no parts\n")?;
+    expect_refused(&rt, rt.alloc(), out.as_str(), &[], "hprof: no parts\n")?;
     // Without a new file the words are not understood.
     let ran = outcome_of(rt.alloc(), &rt, &["join"], HEADER)?;
-    assert_eq!(rt; ran.status.code(), 2);
-    assert_eq!(rt; ran.output.len(), 0);
-    assert!(rt; !ran.errors.is_empty());
+    equal(&rt, ran.status.code(), 2);
+    equal(&rt, ran.output.len(), 0);
+    holds(&rt, !ran.errors.is_empty());
     Ok(())
 }
 
@@ -269,7 +292,7 @@ fn folder_for_a_part(rt: HostRuntime) -> Result<(), Fail> {
     let folder = env::temp_dir(&rt)?;
     let folder = folder.to_str().ok_or("the folder's name is text")?;
     let out = path_of(&rt, "folder-out")?;
-    let text = b"hprof: part 1: read failed\n";
+    let text = "hprof: part 1: read failed\n";
     expect_refused(
         &rt,
         rt.alloc(),
@@ -277,8 +300,7 @@ fn folder_for_a_part(rt: HostRuntime) -> Result<(), Fail> {
         &[good.as_str(), folder],
         text,
     )?;
-    fs::remove_file(&rt, good.as_str())?;
-    Ok(())
+    remove(&rt, &[good.as_str()])
 }
 
 #[test]
@@ -288,23 +310,20 @@ fn later_part_that_cannot_be_opened(rt: HostRuntime) -> Result<(), Fail> {
     let lost = path_of(&rt, "opened-lost")?;
     let out = path_of(&rt, "opened-out")?;
     let [out, one, two, lost] = [&out, &one, &two, &lost].map(|path| path.as_str());
-    let text = b"hprof: cannot open part 1\n";
+    let text = "hprof: cannot open part 1\n";
     expect_refused(&rt, rt.alloc(), out, &[one, lost, two], text)?;
-    let text = b"hprof: cannot open part 2\n";
+    let text = "hprof: cannot open part 2\n";
     expect_refused(&rt, rt.alloc(), out, &[one, two, lost], text)?;
     // Of two that cannot be opened the first is named.
-    let text = b"hprof: cannot open part 1\n";
+    let text = "hprof: cannot open part 1\n";
     expect_refused(&rt, rt.alloc(), out, &[one, lost, two, lost], text)?;
-    for path in [one, two] {
-        fs::remove_file(&rt, path)?;
-    }
-    Ok(())
+    remove(&rt, &[one, two])
 }
 
 #[test]
 fn part_that_is_the_new_file(rt: HostRuntime) -> Result<(), Fail> {
     let out = path_of(&rt, "itself")?;
-    let text = b"hprof: cannot open part 0\n";
+    let text = "hprof: cannot open part 0\n";
     expect_refused(&rt, rt.alloc(), out.as_str(), &[out.as_str()], text)
 }
 
@@ -326,25 +345,22 @@ fn many_parts(rt: HostRuntime) -> Result<(), Fail> {
     for path in &paths {
         words.push(path.as_str())?;
     }
-    let ran = outcome_of(rt.alloc(), &rt, &words, &[])?;
-    assert_eq!(rt; ran.status, Status::Done);
-    assert_eq!(rt; (ran.output.len(), ran.errors.len()), (0, 0));
-    assert_eq!(rt; fs::read(&rt, out.as_str())?.as_slice(), dump.as_slice());
+    expect_done(&rt, rt.alloc(), &words, &[], &[])?;
+    expect_file(&rt, &rt, out.as_str(), &dump)?;
     for path in &paths {
         fs::remove_file(&rt, path.as_str())?;
     }
-    fs::remove_file(&rt, out.as_str())?;
-    Ok(())
+    remove(&rt, &[out.as_str()])
 }
 
 #[test]
 fn words(rt: HostRuntime) -> Result<(), Fail> {
     for word in ["frob", "help"] {
         let unknown = outcome_of(rt.alloc(), &rt, &[word], HEADER)?;
-        assert_eq!(rt; unknown.status.code(), 2);
-        assert_eq!(rt; unknown.output.len(), 0);
+        equal(&rt, unknown.status.code(), 2);
+        equal(&rt, unknown.output.len(), 0);
         let text = str::from_utf8(&unknown.errors)?;
-        assert!(rt; text.contains(word), "{word}");
+        equal_at(&rt, word, text.contains(word), true);
     }
     Ok(())
 }
@@ -360,10 +376,10 @@ fn help(rt: HostRuntime) -> Result<(), Fail> {
         (&["check", "--help"], "PART"),
     ] {
         let ran = outcome_of(rt.alloc(), &rt, words, &[])?;
-        assert_eq!(rt; ran.status.code(), 0, "{words:?}");
-        assert_eq!(rt; ran.errors.len(), 0, "{words:?}");
+        equal_at(&rt, words, ran.status.code(), 0);
+        equal_at(&rt, words, ran.errors.len(), 0);
         let text = str::from_utf8(&ran.output)?;
-        assert!(rt; text.contains(named), "{words:?}");
+        equal_at(&rt, words, text.contains(named), true);
     }
     Ok(())
 }
@@ -382,9 +398,9 @@ fn words_that_cannot_be_had(rt: HostRuntime) -> Result<(), Fail> {
         let mut errors = Vec::new(rt.alloc());
         let words = Err(io::Error::from(kind));
         let status = run(rt.alloc(), &rt, words, HEADER, &mut output, &mut errors);
-        assert_eq!(rt; status.code(), code);
-        assert_eq!(rt; output.len(), 0);
-        assert_eq!(rt; errors.as_slice(), text.as_bytes());
+        equal(&rt, status.code(), code);
+        equal(&rt, output.len(), 0);
+        equal_text(&rt, &errors, text)?;
     }
     Ok(())
 }

@@ -1,5 +1,6 @@
 //! Records and sub-records of all kinds, joined.
 
+use crate::expecting::equal;
 use crate::samples::{
     ARRAY_16, END, HEADER, NAME_1_A, STICKY_16, WIDE_HEADER, bytes_of, expect_joined, record,
 };
@@ -60,7 +61,11 @@ fn roots_in_order(rt: HostRuntime) -> Result<(), Fail> {
     let came = record(rt.alloc(), 0x1c, &[unknown, thread, global])?;
     let ordered = record(rt.alloc(), 0x1c, &[global, thread, unknown])?;
     let part = bytes_of(rt.alloc(), &[HEADER, &came])?;
-    assert_eq!(rt; bytes_of(rt.alloc(), &[HEADER, &ordered, END])?.len(), 76);
+    equal(
+        &rt,
+        bytes_of(rt.alloc(), &[HEADER, &ordered, END])?.len(),
+        76,
+    );
     expect_joined(&rt, rt.alloc(), &[&part], &[HEADER, &ordered, END], 3)
 }
 
@@ -84,7 +89,7 @@ fn identifiers_of_eight_bytes(rt: HostRuntime) -> Result<(), Fail> {
     let frame = record(rt.alloc(), 0x04, &[frame.as_slice()])?;
     let segment = record(rt.alloc(), 0x1c, &[root])?;
     let texts = [WIDE_HEADER, &name, &frame, &segment, END];
-    assert_eq!(rt; bytes_of(rt.alloc(), &texts)?.len(), 133);
+    equal(&rt, bytes_of(rt.alloc(), &texts)?.len(), 133);
     let part = bytes_of(rt.alloc(), &texts[..4])?;
     expect_joined(&rt, rt.alloc(), &[&part], &texts, 3)
 }
@@ -127,6 +132,6 @@ pub(crate) fn as_the_jdk_writes(alloc: Global, canonical: bool) -> Result<Vec<u8
 fn a_part_as_the_jdk_writes_it(rt: HostRuntime) -> Result<(), Fail> {
     let part = as_the_jdk_writes(rt.alloc(), false)?;
     let dump = as_the_jdk_writes(rt.alloc(), true)?;
-    assert_eq!(rt; (part.len(), dump.len()), (226, 226));
+    equal(&rt, (part.len(), dump.len()), (226, 226));
     expect_joined(&rt, rt.alloc(), &[&part], &[&dump], 6)
 }

@@ -1,6 +1,7 @@
 //! The room that joins and reports take.
 
 use crate::counters::TALLY;
+use crate::expecting::{equal, equal_at, holds};
 use crate::samples::{HEADER, NAME_1_A, NAME_1_B, bytes_of, readers_of, record};
 use hprof_devices::Device;
 use hprof_engine::{Joined, ToolFault, join_to};
@@ -68,13 +69,13 @@ fn joins_give_their_room_back(rt: HostRuntime) -> Result<(), Fail> {
         parts: 1,
         facts: 100,
     });
-    assert_eq!(rt; join(rt.alloc(), &[&part])?, done);
+    equal(&rt, join(rt.alloc(), &[&part])?, done);
     let before = size(&rt)?;
     for _ in 0..40 {
-        assert_eq!(rt; join(rt.alloc(), &[&part])?, done);
+        equal(&rt, join(rt.alloc(), &[&part])?, done);
     }
     let grown = size(&rt)?.saturating_sub(before);
-    assert!(rt; grown < MOST, "{grown}");
+    equal_at(&rt, grown, grown < MOST, true);
     Ok(())
 }
 
@@ -90,27 +91,27 @@ fn refused_joins_give_their_room_back(rt: HostRuntime) -> Result<(), Fail> {
     let other = bytes_of(rt.alloc(), &[HEADER, NAME_1_B])?;
     let fault = ToolFault::Conflict(Key::Name(1));
     let conflict = Err(fault);
-    assert_eq!(rt; join(rt.alloc(), &[&one, &other])?, conflict);
+    equal(&rt, join(rt.alloc(), &[&one, &other])?, conflict);
     let before = size(&rt)?;
     for _ in 0..20 {
-        assert_eq!(rt; join(rt.alloc(), &[&one, &other])?, conflict);
-        assert!(rt; is_refused(rt.alloc(), &part)?);
+        equal(&rt, join(rt.alloc(), &[&one, &other])?, conflict);
+        holds(&rt, is_refused(rt.alloc(), &part)?);
     }
     let grown = size(&rt)?.saturating_sub(before);
-    assert!(rt; grown < MOST, "{grown}");
+    equal_at(&rt, grown, grown < MOST, true);
     Ok(())
 }
 
 #[test]
 fn reports_give_their_room_back(rt: HostRuntime) -> Result<(), Fail> {
     let part = large_part(rt.alloc())?;
-    assert_eq!(rt; check(rt.alloc(), &[&part])?, Ok(()));
+    equal(&rt, check(rt.alloc(), &[&part])?, Ok(()));
     let before = size(&rt)?;
     for _ in 0..40 {
-        assert_eq!(rt; check(rt.alloc(), &[&part])?, Ok(()));
+        equal(&rt, check(rt.alloc(), &[&part])?, Ok(()));
     }
     let grown = size(&rt)?.saturating_sub(before);
-    assert!(rt; grown < MOST, "{grown}");
+    equal_at(&rt, grown, grown < MOST, true);
     Ok(())
 }
 
@@ -118,10 +119,10 @@ fn reports_give_their_room_back(rt: HostRuntime) -> Result<(), Fail> {
 fn no_room_for_the_longest_item(rt: HostRuntime) -> Result<(), Fail> {
     let part = bytes_of(rt.alloc(), &[HEADER, NAME_1_A])?;
     let done = Ok(Joined { parts: 1, facts: 1 });
-    assert_eq!(rt; join(rt.alloc(), &[&part])?, done);
-    assert_eq!(rt; check(rt.alloc(), &[&part])?, Ok(()));
+    equal(&rt, join(rt.alloc(), &[&part])?, done);
+    equal(&rt, check(rt.alloc(), &[&part])?, Ok(()));
     // The longest item has nearly 4,194,304 thousands.
     let most = peak(&rt)?;
-    assert!(rt; most < 1_000_000, "{most}");
+    equal_at(&rt, most, most < 1_000_000, true);
     Ok(())
 }

@@ -4,6 +4,7 @@ ghost use Rattle.std.specs.Prelude.{◌≡◌, All, IfOk};
 ghost use Rattle.hprof_devices.specs.declared.health.Health.TheVariants.{Well};
 ghost use Rattle.hprof_devices.specs.Device.{health_of};
 
+use crate::expecting::{equal, equal_bytes};
 use hprof_devices::Device;
 use hprof_engine::{Joined, Kept, ToolFault, join_kept, join_to};
 use hprof_heap::Gatherer;
@@ -144,8 +145,8 @@ pub(crate) fn expect_joined(
         parts: parts.len(),
         facts,
     };
-    assert_eq!(rt; answer, Ok(expected));
-    assert_eq!(rt; written.as_slice(), bytes_of(alloc, texts)?.as_slice());
+    equal(rt, answer, Ok(expected));
+    equal_bytes(rt, &written, &bytes_of(alloc, texts)?);
     Ok(())
 }
 
@@ -157,7 +158,7 @@ pub(crate) fn expect_refused(
     fault: ToolFault,
 ) -> Result<(), Fail> {
     let (answer, written) = joined(alloc, parts)?;
-    assert_eq!(rt; answer, Err(fault));
-    assert_eq!(rt; written.len(), 0);
+    equal(rt, answer, Err(fault));
+    equal(rt, written.len(), 0);
     Ok(())
 }

@@ -2,25 +2,21 @@
 
 use crate::conflicts::array_of;
 use crate::counters::{CountedReads, FailedReads, TALLY, Tally};
+use crate::expecting::{equal, equal_at, equal_bytes, equal_text, holds};
 use crate::limits::{Broken, ByteByByte};
 use crate::outputs::{WRITE_FAILED, long_dump};
-use crate::program::{SHORT_TRACE, ended, outcome_of, path_of, written};
+use crate::program::{SHORT_TRACE, ended, expect_file, expect_told, path_of, remove, written};
 use crate::samples::{END, HEADER, NAME_1_A, NAME_1_B, bytes_of, record};
 use hprof_tool::Status;
 use std::alloc::{AllocError, Global};
-use std::fs;
 use std::process::Abort;
 use std::test::Fail;
 
 #[test]
 fn malformed_part_on_the_input(rt: HostRuntime) -> Result<(), Fail> {
     let part = bytes_of(rt.alloc(), &[HEADER, NAME_1_A, SHORT_TRACE])?;
-    let ran = outcome_of(rt.alloc(), &rt, &[], &part)?;
-    assert_eq!(rt; ran.status.code(), 1);
-    assert_eq!(rt; ran.output.len(), 0);
-    let text = b"hprof: part 0: malformed at 45: BadLength\n".as_slice();
-    assert_eq!(rt; ran.errors.as_slice(), text);
-    Ok(())
+    let line = "hprof: part 0: malformed at 45: BadLength\n";
+    expect_told(&rt, rt.alloc(), &[], &part, line)
 }
 
 #[test]
@@ -32,10 +28,7 @@ fn input_that_contradicts_itself(rt: HostRuntime) -> Result<(), Fail> {
         (&first, &second, "hprof: conflict at object 10\n"),
     ] {
         let part = bytes_of(rt.alloc(), &[HEADER, one, other])?;
-        let ran = outcome_of(rt.alloc(), &rt, &[], &part)?;
-        assert_eq!(rt; ran.status, Status::Refused);
-        assert_eq!(rt; ran.output.len(), 0);
-        assert_eq!(rt; str::from_utf8(&ran.errors)?, line);
+        expect_told(&rt, rt.alloc(), &[], &part, line)?;
     }
     Ok(())
 }
@@ -47,9 +40,9 @@ fn input_that_fails(rt: HostRuntime) -> Result<(), Fail> {
         let mut output = Vec::new(rt.alloc());
         let input = Broken(ByteByByte(came));
         let (status, errors) = ended(rt.alloc(), &rt, &[], input, &mut output)?;
-        assert_eq!(rt; status, Status::Refused);
-        assert_eq!(rt; output.len(), 0);
-        assert_eq!(rt; str::from_utf8(&errors)?, "hprof: part 0: read failed\n");
+        equal(&rt, status, Status::Refused);
+        equal(&rt, output.len(), 0);
+        equal_text(&rt, &errors, "hprof: part 0: read failed\n")?;
     }
     Ok(())
 }
@@ -61,9 +54,9 @@ fn nothing_is_flushed_again(rt: HostRuntime) -> Result<(), Fail> {
         ..TALLY
     };
     let (status, errors) = ended(rt.alloc(), &rt, &[], HEADER, &mut output)?;
-    assert_eq!(rt; status, Status::Refused);
-    assert_eq!(rt; errors.as_slice(), WRITE_FAILED);
-    assert_eq!(rt; (output.writes, output.flushes), (1, 1));
+    equal(&rt, status, Status::Refused);
+    equal_bytes(&rt, &errors, WRITE_FAILED);
+    equal(&rt, (output.writes, output.flushes), (1, 1));
     Ok(())
 }
 
@@ -81,9 +74,9 @@ fn dumps_as_long_as_the_buffer(rt: HostRuntime) -> Result<(), Fail> {
         let dump = bytes_of(rt.alloc(), &[HEADER, &name, END])?;
         let mut output = Vec::new(rt.alloc());
         let (status, errors) = ended(rt.alloc(), &rt, &[], dump.as_slice(), &mut output)?;
-        assert_eq!(rt; (status, errors.len()), (Status::Done, 0), "{length}");
-        assert_eq!(rt; output.len(), length);
-        assert!(rt; output.as_slice() == dump.as_slice(), "{length}");
+        equal_at(&rt, length, (status, errors.len()), (Status::Done, 0));
+        equal(&rt, output.len(), length);
+        holds(&rt, output.as_slice() == dump.as_slice());
     }
     Ok(())
 }
@@ -93,9 +86,9 @@ fn writes_of_a_long_dump(rt: HostRuntime) -> Result<(), Fail> {
     let dump = long_dump(rt.alloc())?;
     let mut output = TALLY;
     let (status, errors) = ended(rt.alloc(), &rt, &[], dump.as_slice(), &mut output)?;
-    assert_eq!(rt; (status, errors.len()), (Status::Done, 0));
+    equal(&rt, (status, errors.len()), (Status::Done, 0));
     // The buffer has no room for all, and is flushed at the end.
-    assert_eq!(rt; (output.writes, output.flushes), (2, 1));
+    equal(&rt, (output.writes, output.flushes), (2, 1));
     Ok(())
 }
 
@@ -103,18 +96,18 @@ fn writes_of_a_long_dump(rt: HostRuntime) -> Result<(), Fail> {
 fn reads_of_the_input(rt: HostRuntime) -> Result<(), Fail> {
     let name = long_name(rt.alloc(), 99_956)?;
     let part = bytes_of(rt.alloc(), &[HEADER, &name])?;
-    assert_eq!(rt; part.len(), 100_000);
+    equal(&rt, part.len(), 100_000);
     let mut input = CountedReads {
         bytes: &part,
         reads: 0,
     };
     let mut output = Vec::new(rt.alloc());
     let (status, errors) = ended(rt.alloc(), &rt, &[], &mut input, &mut output)?;
-    assert_eq!(rt; (status, errors.len()), (Status::Done, 0));
+    equal(&rt, (status, errors.len()), (Status::Done, 0));
     let dump = bytes_of(rt.alloc(), &[&part, END])?;
-    assert!(rt; output.as_slice() == dump.as_slice());
+    holds(&rt, output.as_slice() == dump.as_slice());
     // 65,536 bytes, the rest, and the end.
-    assert_eq!(rt; input.reads, 3);
+    equal(&rt, input.reads, 3);
     Ok(())
 }
 
@@ -123,9 +116,10 @@ fn nothing_is_read_behind_a_fault(rt: HostRuntime) -> Result<(), Fail> {
     let mut input = FailedReads { reads: 0 };
     let mut output = Vec::new(rt.alloc());
     let (status, _) = ended(rt.alloc(), &rt, &[], &mut input, &mut output)?;
-    assert_eq!(rt;
+    equal(
+        &rt,
         (status, output.len(), input.reads),
-        (Status::Refused, 0, 1)
+        (Status::Refused, 0, 1),
     );
     Ok(())
 }
@@ -136,8 +130,8 @@ fn expect_unread(rt: &impl Abort, files: &HostRuntime, words: &[&str]) -> Result
     let mut input = FailedReads { reads: 0 };
     let mut output = Vec::new(alloc);
     let (status, errors) = ended(alloc, files, words, &mut input, &mut output)?;
-    assert_eq!(rt; (status, errors.len()), (Status::Done, 0), "{words:?}");
-    assert_eq!(rt; input.reads, 0, "{words:?}");
+    equal_at(rt, words, (status, errors.len()), (Status::Done, 0));
+    equal_at(rt, words, input.reads, 0);
     Ok(())
 }
 
@@ -150,9 +144,6 @@ fn input_beside_files_is_not_read(rt: HostRuntime) -> Result<(), Fail> {
     expect_unread(&rt, &rt, &["check", part])?;
     expect_unread(&rt, &rt, &["--help"])?;
     let dump = bytes_of(rt.alloc(), &[HEADER, NAME_1_A, END])?;
-    assert_eq!(rt; fs::read(&rt, out)?.as_slice(), dump.as_slice());
-    for path in [out, part] {
-        fs::remove_file(&rt, path)?;
-    }
-    Ok(())
+    expect_file(&rt, &rt, out, &dump)?;
+    remove(&rt, &[out, part])
 }

@@ -1,7 +1,8 @@
 //! The program, with words that are not understood, and errors that cannot be told.
 
 use crate::counters::{TALLY, Tally};
-use crate::program::{outcome_of, path_of, status_of, written};
+use crate::expecting::{equal_at, holds};
+use crate::program::{outcome_of, path_of, remove, status_of, written};
 use crate::samples::{HEADER, NAME_1_A, NAME_1_B, bytes_of};
 use hprof_tool::Status;
 use std::fs;
@@ -11,9 +12,9 @@ use std::test::Fail;
 /// Checks that the program does not understand the words, and says so on the errors alone.
 fn expect_not_understood(rt: &impl Abort, files: &HostRuntime, words: &[&str]) -> Result<(), Fail> {
     let ran = outcome_of(files.alloc(), files, words, HEADER)?;
-    assert_eq!(rt; ran.status.code(), 2, "{words:?}");
-    assert_eq!(rt; ran.output.len(), 0, "{words:?}");
-    assert!(rt; !ran.errors.is_empty(), "{words:?}");
+    equal_at(rt, words, ran.status.code(), 2);
+    equal_at(rt, words, ran.output.len(), 0);
+    holds(rt, !ran.errors.is_empty());
     Ok(())
 }
 
@@ -26,9 +27,8 @@ fn options_that_there_are_not(rt: HostRuntime) -> Result<(), Fail> {
     expect_not_understood(&rt, &rt, &["check", "--frob"])?;
     expect_not_understood(&rt, &rt, &["check", part, "--frob"])?;
     expect_not_understood(&rt, &rt, &["join", out, part, "--frob"])?;
-    assert!(rt; !fs::exists(&rt, out)?);
-    fs::remove_file(&rt, part)?;
-    Ok(())
+    holds(&rt, !fs::exists(&rt, out)?);
+    remove(&rt, &[part])
 }
 
 #[test]
@@ -46,8 +46,8 @@ fn refusals_are_told_once(rt: HostRuntime) -> Result<(), Fail> {
         };
         let input = part.as_slice();
         let ended = status_of(rt.alloc(), &rt, words, input, &mut output, &mut errors)?;
-        assert_eq!(rt; ended, status, "{words:?}");
-        assert_eq!(rt; (output.writes, errors.writes), (0, 1), "{words:?}");
+        equal_at(&rt, words, ended, status);
+        equal_at(&rt, words, (output.writes, errors.writes), (0, 1));
     }
     Ok(())
 }

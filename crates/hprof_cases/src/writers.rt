@@ -3,6 +3,7 @@
 ghost use Rattle.std.specs.Prelude.{◌≡◌};
 
 use crate::counters::{TALLY, Tally};
+use crate::expecting::{equal, equal_at, equal_bytes};
 use crate::outputs::long_dump;
 use crate::samples::{HEADER, NAME_1_A, bytes_of, plain_dump, plain_part};
 use hprof_devices::{Device, WriteFault};
@@ -51,11 +52,8 @@ fn writer_that_fails_or_sticks(rt: HostRuntime) -> Result<(), Fail> {
         });
         let mut readers = [Device::new(part.as_slice())];
         let answer = join_to(rt.alloc(), &mut readers, &mut target, Limits::usual());
-        assert_eq!(rt; answer, Err(ToolFault::Write(fault)));
-        assert_eq!(rt;
-            target.into_inner().taken.as_slice(),
-            b"JAVA PROFI".as_slice()
-        );
+        equal(&rt, answer, Err(ToolFault::Write(fault)));
+        equal_bytes(&rt, &target.into_inner().taken, b"JAVA PROFI");
     }
     Ok(())
 }
@@ -64,7 +62,7 @@ fn writer_that_fails_or_sticks(rt: HostRuntime) -> Result<(), Fail> {
 fn plain_dump_cut_at_each_byte(rt: HostRuntime) -> Result<(), Fail> {
     let part = plain_part(rt.alloc())?;
     let dump = plain_dump(rt.alloc())?;
-    assert_eq!(rt; dump.len(), 98);
+    equal(&rt, dump.len(), 98);
     for room in 0..99usize {
         for (sticks, fault) in [(false, WriteFault::Failed), (true, WriteFault::Stuck)] {
             let mut target = Device::new(Limited {
@@ -80,8 +78,8 @@ fn plain_dump_cut_at_each_byte(rt: HostRuntime) -> Result<(), Fail> {
             } else {
                 Ok(Joined { parts: 1, facts: 4 })
             };
-            assert_eq!(rt; answer, expected);
-            assert_eq!(rt; target.into_inner().taken.as_slice(), &dump[..room]);
+            equal(&rt, answer, expected);
+            equal_bytes(&rt, &target.into_inner().taken, &dump[..room]);
         }
     }
     Ok(())
@@ -111,8 +109,8 @@ fn nothing_is_pushed_behind_a_fault(rt: HostRuntime) -> Result<(), Fail> {
     let part = plain_part(rt.alloc())?;
     for made in [Made::Dump, Made::Report] {
         let (answer, whole) = tallied(rt.alloc(), made, &part, TALLY);
-        assert_eq!(rt; (answer, whole.flushes), (Ok(()), 0), "{made:?}");
-        assert!(rt; whole.writes > 1, "{made:?}");
+        equal_at(&rt, made, (answer, whole.flushes), (Ok(()), 0));
+        equal_at(&rt, made, whole.writes > 1, true);
         for number in 1..=whole.writes {
             let tally = Tally {
                 failing_write: number,
@@ -120,11 +118,12 @@ fn nothing_is_pushed_behind_a_fault(rt: HostRuntime) -> Result<(), Fail> {
             };
             let (answer, tally) = tallied(rt.alloc(), made, &part, tally);
             let fault = ToolFault::Write(WriteFault::Failed);
-            assert_eq!(rt; answer, Err(fault), "{made:?} {number}");
-            assert_eq!(rt;
+            equal_at(&rt, (made, number), answer, Err(fault));
+            equal_at(
+                &rt,
+                (made, number),
                 (tally.writes, tally.flushes),
                 (number, 0),
-                "{made:?} {number}"
             );
         }
     }
@@ -135,13 +134,13 @@ fn nothing_is_pushed_behind_a_fault(rt: HostRuntime) -> Result<(), Fail> {
 fn pieces_are_pushed_whole(rt: HostRuntime) -> Result<(), Fail> {
     let dump = long_dump(rt.alloc())?;
     let (answer, tally) = tallied(rt.alloc(), Made::Dump, &dump, TALLY);
-    assert_eq!(rt; answer, Ok(()));
+    equal(&rt, answer, Ok(()));
     // A header, the fronts of three names with their bytes, and an end.
-    assert_eq!(rt; (tally.writes, tally.longest), (8, 30_000));
+    equal(&rt, (tally.writes, tally.longest), (8, 30_000));
     let part = plain_part(rt.alloc())?;
     let (answer, tally) = tallied(rt.alloc(), Made::Report, &part, TALLY);
-    assert_eq!(rt; answer, Ok(()));
+    equal(&rt, answer, Ok(()));
     // The lines have 37 words, behind each of which stands a space or a line feed.
-    assert!(rt; tally.writes <= 74, "{}", tally.writes);
+    equal_at(&rt, tally.writes, tally.writes <= 74, true);
     Ok(())
 }
