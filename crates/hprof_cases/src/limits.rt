@@ -153,7 +153,7 @@ fn failed_read(rt: HostRuntime) -> Result<(), Fail> {
 #[test]
 fn failed_read_at_each_byte(rt: HostRuntime) -> Result<(), Fail> {
     let part = plain_part(rt.alloc())?;
-    equal(&rt, part.len(), 89);
+    assert_eq!(rt; part.len(), 89);
     for len in 0..90usize {
         expect_fault(
             &rt,
@@ -164,7 +164,7 @@ fn failed_read_at_each_byte(rt: HostRuntime) -> Result<(), Fail> {
     let root = b"\x05\0\0\0".as_slice();
     let segment = record(rt.alloc(), 0x1c, &[root])?;
     let part = bytes_of(rt.alloc(), &[HEADER, &segment])?;
-    equal(&rt, part.len(), 44);
+    assert_eq!(rt; part.len(), 44);
     let past_end = PartFault::Malformed {
         at: 40,
         reason: Reason::PastEnd,

@@ -27,7 +27,7 @@ fn border_below(len: usize) -> usize {
 #[test]
 fn every_prefix_of_the_plain_part(rt: HostRuntime) -> Result<(), Fail> {
     let part = plain_part(rt.alloc())?;
-    equal(&rt, part.len(), 89);
+    assert_eq!(rt; part.len(), 89);
     for len in 0..90usize {
         let expected = if ENDS.contains(&len) {
             None

@@ -59,11 +59,11 @@ fn expect_malformed_behind(
 #[test]
 fn a_root_past_the_end(rt: HostRuntime) -> Result<(), Fail> {
     let cut = record(rt.alloc(), 0x1c, &[b"\x05\0\0\0".as_slice()])?;
-    equal(&rt, cut.len(), 13);
+    assert_eq!(rt; cut.len(), 13);
     expect_malformed_behind(&rt, rt.alloc(), &cut, 40, Reason::PastEnd)?;
     expect_malformed_behind(&rt, rt.alloc(), &cut[..10], 40, Reason::PastEnd)?;
     let whole = record(rt.alloc(), 0x1c, &[STICKY_16])?;
-    equal(&rt, whole.len(), 14);
+    assert_eq!(rt; whole.len(), 14);
     expect_malformed_behind(&rt, rt.alloc(), &whole[..11], 40, Reason::Truncated)
 }
 
@@ -93,7 +93,7 @@ fn bad_lengths(rt: HostRuntime) -> Result<(), Fail> {
     }
     let trace = b"\0\0\0\x01\0\0\0\0\0\0\0\x01".as_slice();
     let trace = record(rt.alloc(), 0x05, &[trace])?;
-    equal(&rt, trace.len(), 21);
+    assert_eq!(rt; trace.len(), 21);
     expect_malformed_behind(&rt, rt.alloc(), &trace, 31, Reason::BadLength)?;
     expect_malformed_behind(&rt, rt.alloc(), &trace[..17], 31, Reason::Truncated)?;
     let many = b"\0\0\0\x01\0\0\0\0\xff\xff\xff\xff".as_slice();

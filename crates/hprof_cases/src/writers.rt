@@ -62,7 +62,7 @@ fn writer_that_fails_or_sticks(rt: HostRuntime) -> Result<(), Fail> {
 fn plain_dump_cut_at_each_byte(rt: HostRuntime) -> Result<(), Fail> {
     let part = plain_part(rt.alloc())?;
     let dump = plain_dump(rt.alloc())?;
-    equal(&rt, dump.len(), 98);
+    assert_eq!(rt; dump.len(), 98);
     for room in 0..99usize {
         for (sticks, fault) in [(false, WriteFault::Failed), (true, WriteFault::Stuck)] {
             let mut target = Device::new(Limited {
