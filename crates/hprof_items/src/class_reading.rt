@@ -15,7 +15,7 @@ use hprof_values::number::{split_id, split_u32};
 use hprof_values::{IdSize, Item, Stop};
 
 /// The fields of a class in front of its lists.
-#[derive(Clone, Copy, Debug)]
+#[derive(Clone, Copy)]
 struct ClassFront {
     id: u64,
     trace: u32,

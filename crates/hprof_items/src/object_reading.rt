@@ -15,7 +15,7 @@ use hprof_values::number::{byte_at, id_at, ids_len, split_id, split_u32, values_
 use hprof_values::{Basic, IdSize, Item, Reason, Stop};
 
 /// The fields of an instance in front of its bytes.
-#[derive(Clone, Copy, Debug)]
+#[derive(Clone, Copy)]
 struct InstanceFront {
     id: u64,
     trace: u32,
@@ -70,7 +70,7 @@ pub(crate) fn read_instance<'a>(
 }
 
 /// The fields of an array of objects in front of its elements.
-#[derive(Clone, Copy, Debug)]
+#[derive(Clone, Copy)]
 struct ObjArrayFront {
     id: u64,
     trace: u32,
@@ -125,7 +125,7 @@ pub(crate) fn read_obj_array<'a>(
 }
 
 /// The fields of an array of numbers or truth values in front of its elements.
-#[derive(Clone, Copy, Debug)]
+#[derive(Clone, Copy)]
 struct PrimArrayFront {
     id: u64,
     trace: u32,

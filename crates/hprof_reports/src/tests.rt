@@ -33,6 +33,12 @@ fn read(alloc: Global, bytes: &[u8]) -> Result<(PartSummary, Heap), Fail> {
     Ok((summary, gatherer.finish()?))
 }
 
+// Ends the test where these bytes are not this text.
+fn equal_text(rt: &impl Abort, found: &[u8], expected: &str) -> Result<(), Fail> {
+    assert_eq!(rt; str::from_utf8(found)?, expected);
+    Ok(())
+}
+
 // That the report is this text.
 fn check_text(
     rt: &impl Abort,
@@ -43,9 +49,24 @@ fn check_text(
 ) -> Result<(), Fail> {
     let mut device = Device::new(Vec::new(alloc));
     assert_eq!(rt; write_check(parts, heap, &mut device), Ok(()));
-    let bytes = device.into_inner();
-    assert_eq!(rt; str::from_utf8(&bytes)?, text);
-    Ok(())
+    equal_text(rt, &device.into_inner(), text)
+}
+
+// That the check of these parts answers this, behind this text.
+fn checks(
+    rt: &impl Abort,
+    alloc: Global,
+    parts: &[&[u8]],
+    answer: Result<(), ToolFault>,
+    text: &str,
+) -> Result<(), Fail> {
+    let mut readers = Vec::new(alloc);
+    for part in parts {
+        readers.push(Device::new(*part))?;
+    }
+    let mut target = Device::new(Vec::new(alloc));
+    assert_eq!(rt; check_to(alloc, &mut readers, &mut target, Limits::usual()), answer);
+    equal_text(rt, &target.into_inner(), text)
 }
 
 #[test]
@@ -68,14 +89,7 @@ fn parts_and_bad_names(rt: HostRuntime) -> Result<(), Fail> {
 
 #[test]
 fn checks_one_part(rt: HostRuntime) -> Result<(), Fail> {
-    let mut readers = [Device::new(PLAIN)];
-    let mut target = Device::new(Vec::new(rt.alloc()));
-    assert_eq!(rt;
-        check_to(rt.alloc(), &mut readers, &mut target, Limits::usual()),
-        Ok(())
-    );
-    let bytes = target.into_inner();
-    assert_eq!(rt; str::from_utf8(&bytes)?, PLAIN_TEXT);
+    checks(&rt, rt.alloc(), &[PLAIN], Ok(()), PLAIN_TEXT)?;
     laws::one_check_of_parts();
     Ok(())
 }
@@ -85,26 +99,10 @@ fn checks_a_part_twice(rt: HostRuntime) -> Result<(), Fail> {
     let text = "part 0: version 1.0.2 ids 4 time 1 records 3 facts 4 end no\n\
         part 1: version 1.0.2 ids 4 time 1 records 3 facts 4 end no\nnames 2\nloads 0\nunloads 0\nframes 0\ntraces 0\n\
         starts 0\nends 0\nroots 1\nclasses 0\nobjects 1\nbad names 0\n";
-    let mut readers = [Device::new(PLAIN), Device::new(PLAIN)];
-    let mut target = Device::new(Vec::new(rt.alloc()));
-    assert_eq!(rt;
-        check_to(rt.alloc(), &mut readers, &mut target, Limits::usual()),
-        Ok(())
-    );
-    let bytes = target.into_inner();
-    assert_eq!(rt; str::from_utf8(&bytes)?, text);
-    Ok(())
+    checks(&rt, rt.alloc(), &[PLAIN, PLAIN], Ok(()), text)
 }
 
 #[test]
 fn checks_no_parts(rt: HostRuntime) -> Result<(), Fail> {
-    let mut readers: [Device<&[u8]>; 0] = [];
-    let mut target = Device::new(Vec::new(rt.alloc()));
-    assert_eq!(rt;
-        check_to(rt.alloc(), &mut readers, &mut target, Limits::usual()),
-        Err(ToolFault::NoParts)
-    );
-    let bytes = target.into_inner();
-    assert_eq!(rt; bytes.len(), 0);
-    Ok(())
+    checks(&rt, rt.alloc(), &[], Err(ToolFault::NoParts), "")
 }

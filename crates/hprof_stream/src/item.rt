@@ -16,7 +16,7 @@ use hprof_items::{
 
 /// What stands at the front as one item. The fact that it states is put beside it, so that no fact is moved from call to
 /// call.
-#[derive(Clone, Copy, Debug)]
+#[derive(Clone, Copy)]
 pub(crate) enum Item {
     /// The header.
     Header(Header),

@@ -13,7 +13,7 @@ use hprof_items::Walk;
 use std::alloc::Global;
 
 /// How much of a record that is passed over was seen. Nothing of it is held.
-#[derive(Clone, Copy, Debug, PartialEq, Eq)]
+#[derive(Clone, Copy)]
 pub(crate) struct Passing {
     /// The number of its bytes that came, with its head.
     pub(crate) seen: u64,

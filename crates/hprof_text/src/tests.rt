@@ -1,7 +1,52 @@
 // Expected values are by hand, from the table of the Java Virtual Machine Specification, section
-// 4.4.7, and from the printed form as `printed` documents it.
+// 4.4.7, and from the printed form as `printed` documents it. What is found of one case stands in a function of its own, since a
+// comparison that is written out in a loop costs the prover as much as several calls.
 use super::*;
+use std::alloc::Global;
+use std::fmt::Debug;
+use std::process::Abort;
 use std::test::Fail;
+
+// Ends the test where what was found is not what is expected.
+fn equal<T: PartialEq + Debug + Drop>(rt: &impl Abort, found: T, expected: T) {
+    assert_eq!(rt; found, expected);
+}
+
+// That the bytes of this name are printed so.
+fn prints(rt: &impl Abort, alloc: Global, name: &str, text: &str) -> Result<(), Fail> {
+    let bytes = hex::decode(alloc, name)?;
+    assert_eq!(rt; printed(alloc, &bytes)?.as_str(), text, "of {name}");
+    Ok(())
+}
+
+// That these units have this form, in hexadecimal.
+fn encodes(rt: &impl Abort, alloc: Global, text_units: &[u16], text: &str) -> Result<(), Fail> {
+    let bytes = encode_units(alloc, text_units)?;
+    assert_eq!(rt; hex::encode(alloc, bytes.as_slice())?.as_str(), text);
+    Ok(())
+}
+
+// That these bytes in hexadecimal are the form of one unit.
+fn decodes(rt: &impl Abort, alloc: Global, text: &str, unit: u16) -> Result<(), Fail> {
+    let bytes = hex::decode(alloc, text)?;
+    equal(rt, units(alloc, &bytes)?, Some(vec![in alloc; unit]?));
+    Ok(())
+}
+
+// That these bytes in hexadecimal are a form, and no front of them that has bytes is one.
+fn no_front_is_a_form(rt: &impl Abort, alloc: Global, text: &str) -> Result<(), Fail> {
+    let bytes = hex::decode(alloc, text)?;
+    for len in 1..=bytes.len() {
+        assert_eq!(rt; is_modified(&bytes[..len]), len == bytes.len(), "{len} bytes of {text}");
+    }
+    Ok(())
+}
+
+// That these bytes are no form.
+fn refuses(rt: &impl Abort, alloc: Global, bytes: &[u8]) -> Result<(), Fail> {
+    assert_eq!(rt; (is_modified(bytes), units(alloc, bytes)?), (false, None), "{bytes:?}");
+    Ok(())
+}
 
 #[test]
 fn prints_names(rt: HostRuntime) -> Result<(), Fail> {
@@ -18,8 +63,7 @@ fn prints_names(rt: HostRuntime) -> Result<(), Fail> {
         ("4c6a6176612f6c616e672f4f626a6563743b", "Ljava/lang/Object;"),
         ("2061c3a9627e7f", " a\\u00e9b~\\u007f"),
     ] {
-        let bytes = hex::decode(rt.alloc(), name)?;
-        assert_eq!(rt; printed(rt.alloc(), &bytes)?.as_str(), text, "of {name}");
+        prints(&rt, rt.alloc(), name, text)?;
     }
     laws::one_printed_form();
     Ok(())
@@ -40,35 +84,23 @@ fn borders_of_the_rows(rt: HostRuntime) -> Result<(), Fail> {
         (0xe000, "ee8080"),
         (0xffff, "efbfbf"),
     ] {
-        let bytes = hex::decode(rt.alloc(), text)?;
-        assert_eq!(rt;
-            encode_units(rt.alloc(), &[unit])?.as_slice(),
-            bytes.as_slice()
-        );
-        assert_eq!(rt;
-            units(rt.alloc(), &bytes)?,
-            Some(vec![in rt.alloc(); unit]?)
-        );
-        assert!(rt; is_modified(&bytes), "{text}");
-        for len in 1..bytes.len() {
-            assert!(rt; !is_modified(&bytes[..len]), "{len} bytes of {text}");
-        }
+        encodes(&rt, rt.alloc(), &[unit], text)?;
+        decodes(&rt, rt.alloc(), text, unit)?;
+        no_front_is_a_form(&rt, rt.alloc(), text)?;
     }
     Ok(())
 }
 
 #[test]
 fn several_units(rt: HostRuntime) -> Result<(), Fail> {
+    encodes(&rt, rt.alloc(), &[0, 0xd800], "c080eda080")?;
     let bytes = encode_units(rt.alloc(), &[0, 0xd800])?;
-    assert_eq!(rt;
-        hex::encode(rt.alloc(), bytes.as_slice())?.as_str(),
-        "c080eda080"
-    );
-    assert_eq!(rt;
+    equal(
+        &rt,
         units(rt.alloc(), &bytes)?,
-        Some(vec![in rt.alloc(); 0, 0xd800]?)
+        Some(vec![in rt.alloc(); 0, 0xd800]?),
     );
-    assert_eq!(rt; units(rt.alloc(), &[])?, Some(Vec::new(rt.alloc())));
+    equal(&rt, units(rt.alloc(), &[])?, Some(Vec::new(rt.alloc())));
     laws::one_list_of_units();
     laws::one_list_of_bytes();
     laws::units_come_back();
@@ -82,34 +114,36 @@ fn other_forms_are_refused(rt: HostRuntime) -> Result<(), Fail> {
         "e0a07f", "e07f80", "e0a0c0", "f0808080", "f09f9880", "ff", "fe", "4100", "41c3",
     ] {
         let bytes = hex::decode(rt.alloc(), text)?;
-        assert!(rt; !is_modified(&bytes), "{text}");
-        assert_eq!(rt; units(rt.alloc(), &bytes)?, None);
+        refuses(&rt, rt.alloc(), &bytes)?;
     }
     for byte in 0x80..=0xbf {
-        assert!(rt; !is_modified(&[byte]), "{byte}");
-        assert_eq!(rt; units(rt.alloc(), &[byte])?, None);
+        refuses(&rt, rt.alloc(), &[byte])?;
     }
+    Ok(())
+}
+
+// That the identifier is pushed behind what stands, in these digits, which are read back.
+fn pushes(rt: &impl Abort, alloc: Global, id: u64, digits: &str) -> Result<(), Fail> {
+    let mut written = String::from_str(alloc, "id ")?;
+    push_id(&mut written, id)?;
+    let expected = format!(in alloc; "id {digits}")?;
+    assert_eq!(rt; written.as_str(), expected.as_str());
+    equal(rt, parse_id(digits), Some(id));
     Ok(())
 }
 
 #[test]
 fn identifiers(rt: HostRuntime) -> Result<(), Fail> {
-    for (id, text) in [
+    for (id, digits) in [
         (0, "0"),
         (15, "f"),
         (16, "10"),
         (0x7f3a_0000_12c8, "7f3a000012c8"),
         (u64::MAX, "ffffffffffffffff"),
     ] {
-        let mut written = String::from_str(rt.alloc(), "id ")?;
-        push_id(&mut written, id)?;
-        assert_eq!(rt;
-            written.as_str(),
-            format!(in rt.alloc(); "id {text}")?.as_str()
-        );
-        assert_eq!(rt; parse_id(text), Some(id));
+        pushes(&rt, rt.alloc(), id, digits)?;
     }
-    assert_eq!(rt; parse_id("00Ff"), Some(255));
+    equal(&rt, parse_id("00Ff"), Some(255));
     for text in ["0x1", "", "00000000000000001", "-1", "+1", " 1", "g", "1_0"] {
         assert_eq!(rt; parse_id(text), None, "{text}");
     }

@@ -22,7 +22,7 @@ use std::alloc::Global;
 use std::mem;
 
 /// What is made of parts.
-#[derive(Clone, Copy, Debug, PartialEq, Eq)]
+#[derive(Clone, Copy)]
 pub(crate) enum Product {
     /// Their canonical dump.
     Dump,

@@ -8,7 +8,7 @@ use hprof_engine::ToolFault;
 use std::alloc::{AllocError, AllocFailed, Global};
 
 /// Why the program refused.
-#[derive(Debug, Drop)]
+#[derive(Drop)]
 pub(crate) enum Refused {
     /// The engine refused.
     Engine(ToolFault),
