@@ -65,7 +65,10 @@ fn checks(
         readers.push(Device::new(*part))?;
     }
     let mut target = Device::new(Vec::new(alloc));
-    assert_eq!(rt; check_to(alloc, &mut readers, &mut target, Limits::usual()), answer);
+    assert_eq!(rt;
+        check_to(alloc, &mut readers, &mut target, Limits::usual()),
+        answer
+    );
     equal_text(rt, &target.into_inner(), text)
 }
 

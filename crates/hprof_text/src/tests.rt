@@ -37,14 +37,22 @@ fn decodes(rt: &impl Abort, alloc: Global, text: &str, unit: u16) -> Result<(), 
 fn no_front_is_a_form(rt: &impl Abort, alloc: Global, text: &str) -> Result<(), Fail> {
     let bytes = hex::decode(alloc, text)?;
     for len in 1..=bytes.len() {
-        assert_eq!(rt; is_modified(&bytes[..len]), len == bytes.len(), "{len} bytes of {text}");
+        assert_eq!(rt;
+            is_modified(&bytes[..len]),
+            len == bytes.len(),
+            "{len} bytes of {text}"
+        );
     }
     Ok(())
 }
 
 // That these bytes are no form.
 fn refuses(rt: &impl Abort, alloc: Global, bytes: &[u8]) -> Result<(), Fail> {
-    assert_eq!(rt; (is_modified(bytes), units(alloc, bytes)?), (false, None), "{bytes:?}");
+    assert_eq!(rt;
+        (is_modified(bytes), units(alloc, bytes)?),
+        (false, None),
+        "{bytes:?}"
+    );
     Ok(())
 }
 
