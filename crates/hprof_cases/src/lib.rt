@@ -34,6 +34,8 @@ mod records;
 #[cfg(test)]
 mod refusals;
 #[cfg(test)]
+mod reports;
+#[cfg(test)]
 mod rooms;
 #[cfg(test)]
 mod samples;

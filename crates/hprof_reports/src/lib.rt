@@ -8,6 +8,3 @@ mod line;
 
 pub use check::write_check;
 pub use check_parts::check_to;
-
-#[cfg(test)]
-mod tests;

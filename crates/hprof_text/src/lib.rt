@@ -11,6 +11,3 @@ pub use decoding::{is_modified, units};
 pub use encoding::encode_units;
 pub use identifier::{parse_id, push_id};
 pub use printing::printed;
-
-#[cfg(test)]
-mod tests;

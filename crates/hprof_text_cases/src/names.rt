@@ -1,16 +1,11 @@
-// Expected values are by hand, from the table of the Java Virtual Machine Specification, section
-// 4.4.7, and from the printed form as `printed` documents it. What is found of one case stands in a function of its own, since a
-// comparison that is written out in a loop costs the prover as much as several calls.
-use super::*;
+//! Names, printed and as units. Expected values are by hand, from the table of the Java Virtual Machine Specification, section 4.4.7,
+//! and from the printed form as `printed` documents it.
+
+use crate::expecting::equal;
+use hprof_text::{encode_units, is_modified, laws, printed, units};
 use std::alloc::Global;
-use std::fmt::Debug;
 use std::process::Abort;
 use std::test::Fail;
-
-// Ends the test where what was found is not what is expected.
-fn equal<T: PartialEq + Debug + Drop>(rt: &impl Abort, found: T, expected: T) {
-    assert_eq!(rt; found, expected);
-}
 
 // That the bytes of this name are printed so.
 fn prints(rt: &impl Abort, alloc: Global, name: &str, text: &str) -> Result<(), Fail> {
@@ -127,35 +122,5 @@ fn other_forms_are_refused(rt: HostRuntime) -> Result<(), Fail> {
     for byte in 0x80..=0xbf {
         refuses(&rt, rt.alloc(), &[byte])?;
     }
-    Ok(())
-}
-
-// That the identifier is pushed behind what stands, in these digits, which are read back.
-fn pushes(rt: &impl Abort, alloc: Global, id: u64, digits: &str) -> Result<(), Fail> {
-    let mut written = String::from_str(alloc, "id ")?;
-    push_id(&mut written, id)?;
-    let expected = format!(in alloc; "id {digits}")?;
-    assert_eq!(rt; written.as_str(), expected.as_str());
-    equal(rt, parse_id(digits), Some(id));
-    Ok(())
-}
-
-#[test]
-fn identifiers(rt: HostRuntime) -> Result<(), Fail> {
-    for (id, digits) in [
-        (0, "0"),
-        (15, "f"),
-        (16, "10"),
-        (0x7f3a_0000_12c8, "7f3a000012c8"),
-        (u64::MAX, "ffffffffffffffff"),
-    ] {
-        pushes(&rt, rt.alloc(), id, digits)?;
-    }
-    equal(&rt, parse_id("00Ff"), Some(255));
-    for text in ["0x1", "", "00000000000000001", "-1", "+1", " 1", "g", "1_0"] {
-        assert_eq!(rt; parse_id(text), None, "{text}");
-    }
-    laws::digits_are_shortest();
-    laws::digits_are_taken();
     Ok(())
 }

@@ -1,12 +1,15 @@
-// The texts are by hand.
-use super::*;
+//! What hprof_reports writes. The texts are by hand.
+
+use crate::expecting::{equal, equal_text};
+use crate::samples::readers_of;
 use hprof_devices::Device;
 use hprof_engine::ToolFault;
 use hprof_heap::{Gatherer, Heap};
+use hprof_reports::{check_to, laws, write_check};
 use hprof_stream::{Limits, PartSummary, read_part};
 use std::alloc::Global;
 use std::process::Abort;
-use std::test::*;
+use std::test::Fail;
 
 // A part with identifiers of 4 bytes and the time 1: the names 1 = A and 2 = B, and in one segment a sticky class root 16
 // and a byte array 16.
@@ -33,12 +36,6 @@ fn read(alloc: Global, bytes: &[u8]) -> Result<(PartSummary, Heap), Fail> {
     Ok((summary, gatherer.finish()?))
 }
 
-// Ends the test where these bytes are not this text.
-fn equal_text(rt: &impl Abort, found: &[u8], expected: &str) -> Result<(), Fail> {
-    assert_eq!(rt; str::from_utf8(found)?, expected);
-    Ok(())
-}
-
 // That the report is this text.
 fn check_text(
     rt: &impl Abort,
@@ -48,7 +45,7 @@ fn check_text(
     text: &str,
 ) -> Result<(), Fail> {
     let mut device = Device::new(Vec::new(alloc));
-    assert_eq!(rt; write_check(parts, heap, &mut device), Ok(()));
+    equal(rt, write_check(parts, heap, &mut device), Ok(()));
     equal_text(rt, &device.into_inner(), text)
 }
 
@@ -60,14 +57,12 @@ fn checks(
     answer: Result<(), ToolFault>,
     text: &str,
 ) -> Result<(), Fail> {
-    let mut readers = Vec::new(alloc);
-    for part in parts {
-        readers.push(Device::new(*part))?;
-    }
+    let mut readers = readers_of(alloc, parts)?;
     let mut target = Device::new(Vec::new(alloc));
-    assert_eq!(rt;
+    equal(
+        rt,
         check_to(alloc, &mut readers, &mut target, Limits::usual()),
-        answer
+        answer,
     );
     equal_text(rt, &target.into_inner(), text)
 }
