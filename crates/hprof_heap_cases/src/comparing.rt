@@ -8,7 +8,7 @@ use hprof_heap::{Heap, same};
 use hprof_items::{Fact, IdSize};
 use hprof_tables::{BytesTable, Relation, Stated};
 use hprof_values::{Basic, Root};
-use std::alloc::Global;
+use std::alloc::{AllocError, Global};
 use std::process::Abort;
 use std::test::*;
 
@@ -28,22 +28,53 @@ fn tables_of_numbers(rt: HostRuntime) -> Result<(), Fail> {
     Ok(())
 }
 
+// States new rows.
+fn state_rows(
+    rt: &impl Abort,
+    table: &mut BytesTable,
+    rows: &[(u64, &[u8])],
+) -> Result<(), AllocError> {
+    for &(key, bytes) in rows {
+        equal(rt, table.state(key, bytes)?, Stated::New);
+    }
+    Ok(())
+}
+
+// That two tables are alike or not, whichever is asked.
+fn check_alike(rt: &impl Abort, one: &BytesTable, other: &BytesTable, alike: bool) {
+    equal(rt, one.same(other), alike);
+    equal(rt, other.same(one), alike);
+}
+
 #[test]
 fn tables_of_bytes(rt: HostRuntime) -> Result<(), Fail> {
     let mut one = BytesTable::new(rt.alloc());
     let mut other = BytesTable::new(rt.alloc());
-    holds(&rt, one.same(&other));
-    equal(&rt, one.state(1, b"A")?, Stated::New);
-    equal(&rt, one.state(2, b"B")?, Stated::New);
-    equal(&rt, other.state(2, b"B")?, Stated::New);
-    holds(&rt, !one.same(&other));
-    holds(&rt, !other.same(&one));
-    equal(&rt, other.state(1, b"A")?, Stated::New);
-    holds(&rt, one.same(&other));
-    holds(&rt, other.same(&one));
-    equal(&rt, one.state(3, b"AB")?, Stated::New);
-    equal(&rt, other.state(4, b"AB")?, Stated::New);
-    holds(&rt, !one.same(&other));
+    check_alike(&rt, &one, &other, true);
+    let steps: [(&[(u64, &[u8])], &[(u64, &[u8])], bool); 3] = [
+        (&[(1, b"A"), (2, b"B")], &[(2, b"B")], false),
+        (&[], &[(1, b"A")], true),
+        (&[(3, b"AB")], &[(4, b"AB")], false),
+    ];
+    for (rows, other_rows, alike) in steps {
+        state_rows(&rt, &mut one, rows)?;
+        state_rows(&rt, &mut other, other_rows)?;
+        check_alike(&rt, &one, &other, alike);
+    }
+    Ok(())
+}
+
+// That the heap is like one of these facts or not, whichever is asked.
+fn check_facts(
+    rt: &impl Abort,
+    alloc: Global,
+    heap: &Heap,
+    facts: &[Fact<'_>],
+    alike: bool,
+) -> Result<(), Fail> {
+    let another = heap_of(rt, alloc, IdSize::Four, facts)?;
+    equal(rt, same(heap, &another), alike);
+    equal(rt, same(&another, heap), alike);
     Ok(())
 }
 
@@ -57,9 +88,7 @@ fn check_differ(
     let heap = heap_of(rt, alloc, IdSize::Four, &[fact])?;
     let facts = [fact, other];
     for (facts, alike) in [(&facts[..1], true), (&facts[1..], false), (&[], false)] {
-        let another = heap_of(rt, alloc, IdSize::Four, facts)?;
-        equal(rt, same(&heap, &another), alike);
-        equal(rt, same(&another, &heap), alike);
+        check_facts(rt, alloc, &heap, facts, alike)?;
     }
     Ok(())
 }
@@ -102,14 +131,26 @@ fn heaps_of_the_same_facts(rt: HostRuntime) -> Result<(), Fail> {
     let facts = [name, other_name, loaded(1, 2), class, object];
     let heap = heap_of(&rt, rt.alloc(), IdSize::Four, &facts)?;
     let facts = [object, loaded(1, 2), other_name, name, class];
-    let other = heap_of(&rt, rt.alloc(), IdSize::Four, &facts)?;
-    holds(&rt, same(&heap, &other));
-    holds(&rt, same(&other, &heap));
-    Ok(())
+    check_facts(&rt, rt.alloc(), &heap, &facts, true)
 }
 
 fn without_facts(alloc: Global, ids: IdSize, millis: u64) -> Result<Heap, Fail> {
     Ok(begun(alloc, ids, millis)?.finish()?)
+}
+
+// That the heap is like one without facts of this size and time or not, whichever is asked.
+fn check_empty(
+    rt: &impl Abort,
+    alloc: Global,
+    heap: &Heap,
+    ids: IdSize,
+    millis: u64,
+    alike: bool,
+) -> Result<(), Fail> {
+    let other = without_facts(alloc, ids, millis)?;
+    equal(rt, same(heap, &other), alike);
+    equal(rt, same(&other, heap), alike);
+    Ok(())
 }
 
 #[test]
@@ -120,9 +161,7 @@ fn heaps_of_two_sizes_or_times(rt: HostRuntime) -> Result<(), Fail> {
         (IdSize::Four, 2, false),
         (IdSize::Eight, 1, false),
     ] {
-        let other = without_facts(rt.alloc(), ids, millis)?;
-        equal(&rt, same(&heap, &other), alike);
-        equal(&rt, same(&other, &heap), alike);
+        check_empty(&rt, rt.alloc(), &heap, ids, millis, alike)?;
     }
     Ok(())
 }

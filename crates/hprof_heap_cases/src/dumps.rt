@@ -1,10 +1,10 @@
 //! Tests of the canonical dump.
 
 use crate::expecting::{equal, holds};
-use crate::samples::{array, give, heap_of};
+use crate::samples::{Part, array, given, heap_of};
 use hprof_devices::Device;
 use hprof_dump::{laws, write_canonical};
-use hprof_heap::{Gatherer, Heap};
+use hprof_heap::Heap;
 use hprof_items::{Fact, IdSize};
 use hprof_values::{Basic, Root};
 use std::alloc::Global;
@@ -14,11 +14,11 @@ use std::process::Abort;
 use std::test::*;
 
 // A dump with identifiers of 4 bytes and the time 1, of the names 1 = A and 2 = B.
-const NAMES: &[u8; 68] = b"JAVA PROFILE 1.0.2\0\0\0\0\x04\0\0\0\0\0\0\0\x01\
+const NAMES: &[u8] = b"JAVA PROFILE 1.0.2\0\0\0\0\x04\0\0\0\0\0\0\0\x01\
     \x01\0\0\0\0\0\0\0\x05\0\0\0\x01A\x01\0\0\0\0\0\0\0\x05\0\0\0\x02B\x2c\0\0\0\0\0\0\0\0";
 
 // The dump of both names, a sticky class root 16, and a byte array 16: both sub-records have one segment.
-const PLAIN: &[u8; 98] = b"JAVA PROFILE 1.0.2\0\0\0\0\x04\0\0\0\0\0\0\0\x01\
+const PLAIN: &[u8] = b"JAVA PROFILE 1.0.2\0\0\0\0\x04\0\0\0\0\0\0\0\x01\
     \x01\0\0\0\0\0\0\0\x05\0\0\0\x01A\x01\0\0\0\0\0\0\0\x05\0\0\0\x02B\
     \x1c\0\0\0\0\0\0\0\x15\x05\0\0\0\x10\x23\0\0\0\x10\0\0\0\x01\0\0\0\x02\x08\x01\x02\
     \x2c\0\0\0\0\0\0\0\0";
@@ -57,16 +57,48 @@ fn dump_of(rt: &impl Abort, alloc: Global, heap: &Heap, writes: u64) -> Vec<u8> 
     counted.bytes
 }
 
+// That these bytes are the dump of the heap, which takes so many writes.
+fn check_dump(rt: &impl Abort, alloc: Global, heap: &Heap, writes: u64, expected: &[u8]) {
+    let bytes = dump_of(rt, alloc, heap, writes);
+    assert_eq!(rt; bytes.as_slice(), expected);
+}
+
+// Whether those bytes stand at that place.
+fn has_at(bytes: &[u8], place: usize, expected: &[u8]) -> bool {
+    match bytes.get(place..) {
+        Some(rest) => rest.starts_with(expected),
+        None => false,
+    }
+}
+
+// That the dump of a heap of these facts takes so many writes, has so many bytes, and these at these places.
+fn check_places(
+    rt: &impl Abort,
+    alloc: Global,
+    facts: &[Fact<'_>],
+    writes: u64,
+    len: usize,
+    places: &[(usize, &[u8])],
+) -> Result<(), Fail> {
+    let heap = heap_of(rt, alloc, IdSize::Four, facts)?;
+    let bytes = dump_of(rt, alloc, &heap, writes);
+    equal(rt, bytes.len(), len);
+    for &(place, expected) in places {
+        holds(rt, has_at(&bytes, place, expected));
+    }
+    Ok(())
+}
+
 #[test]
 fn a_dump_of_names(rt: HostRuntime) -> Result<(), Fail> {
-    let mut gatherer = Gatherer::new(rt.alloc());
-    give(&mut gatherer, IdSize::Four, 2, &[(2, b"B"), (1, b"A")])?;
-    give(&mut gatherer, IdSize::Four, 1, &[(2, b"B")])?;
-    give(&mut gatherer, IdSize::Four, 3, &[])?;
-    let heap = gatherer.heap().ok_or("no heap")?;
+    let parts: [Part<'_>; 3] = [
+        (IdSize::Four, 2, &[(2, b"B"), (1, b"A")]),
+        (IdSize::Four, 1, &[(2, b"B")]),
+        (IdSize::Four, 3, &[]),
+    ];
+    let gatherer = given(rt.alloc(), &parts)?;
     // A header, two names in two pieces each, an end.
-    let bytes = dump_of(&rt, rt.alloc(), heap, 6);
-    equal(&rt, bytes.as_slice(), NAMES.as_slice());
+    check_dump(&rt, rt.alloc(), gatherer.heap().ok_or("no heap")?, 6, NAMES);
     laws::dump_reads_back();
     Ok(())
 }
@@ -81,20 +113,12 @@ fn sub_records_share_a_segment(rt: HostRuntime) -> Result<(), Fail> {
     ];
     let heap = heap_of(&rt, rt.alloc(), IdSize::Four, &facts)?;
     // A header, two names in two pieces each, the head of a segment, its sub-records, an end.
-    let bytes = dump_of(&rt, rt.alloc(), &heap, 9);
-    equal(&rt, bytes.as_slice(), PLAIN.as_slice());
+    check_dump(&rt, rt.alloc(), &heap, 9, PLAIN);
     Ok(())
 }
 
-// Whether those bytes stand at that place.
-fn has_at(bytes: &[u8], place: usize, expected: &[u8]) -> bool {
-    match bytes.get(place..) {
-        Some(rest) => rest.starts_with(expected),
-        None => false,
-    }
-}
-
-// A segment of 1,048,576 bytes has no room for the third array.
+// A segment of 1,048,576 bytes has no room for the third array. What is written: a header, two segments, whose arrays are
+// written as they lie, an end.
 #[test]
 fn a_full_segment(rt: HostRuntime) -> Result<(), Fail> {
     let zeros = vec![in rt.alloc(); 0; 1_048_546]?;
@@ -103,17 +127,10 @@ fn a_full_segment(rt: HostRuntime) -> Result<(), Fail> {
         array(16, Basic::Byte, &zeros),
         array(17, Basic::Byte, b"ab"),
     ];
-    let heap = heap_of(&rt, rt.alloc(), IdSize::Four, &arrays)?;
-    // A header, two segments, whose arrays are written as they lie, an end.
-    let bytes = dump_of(&rt, rt.alloc(), &heap, 7);
-    equal(&rt, bytes.len(), 1_048_648);
-    holds(
-        &rt,
-        has_at(&bytes, 31, b"\x1c\0\0\0\0\0\x10\0\0\x23\0\0\0\x10"),
-    );
+    let first = b"\x1c\0\0\0\0\0\x10\0\0\x23\0\0\0\x10";
     let rest = b"\x1c\0\0\0\0\0\0\0\x0e\x23\0\0\0\x12\0\0\0\x01\0\0\0\0\x08\x2c\0\0\0\0\0\0\0\0";
-    holds(&rt, has_at(&bytes, 1_048_616, rest));
-    Ok(())
+    let places: [(usize, &[u8]); 2] = [(31, first), (1_048_616, rest)];
+    check_places(&rt, rt.alloc(), &arrays, 7, 1_048_648, &places)
 }
 
 // An array of 1,048,577 bytes stands alone.
@@ -121,15 +138,9 @@ fn a_full_segment(rt: HostRuntime) -> Result<(), Fail> {
 fn a_segment_of_one_sub_record(rt: HostRuntime) -> Result<(), Fail> {
     let zeros = vec![in rt.alloc(); 0; 1_048_563]?;
     let arrays = [array(17, Basic::Byte, &zeros), array(16, Basic::Byte, b"")];
-    let heap = heap_of(&rt, rt.alloc(), IdSize::Four, &arrays)?;
-    let bytes = dump_of(&rt, rt.alloc(), &heap, 6);
-    equal(&rt, bytes.len(), 1_048_649);
     let first = b"\x1c\0\0\0\0\0\0\0\x0e\x23\0\0\0\x10\0\0\0\x01\0\0\0\0\x08";
-    holds(&rt, has_at(&bytes, 31, first));
-    holds(
-        &rt,
-        has_at(&bytes, 54, b"\x1c\0\0\0\0\0\x10\0\x01\x23\0\0\0\x11"),
-    );
-    holds(&rt, has_at(&bytes, 1_048_640, b"\x2c\0\0\0\0\0\0\0\0"));
-    Ok(())
+    let second = b"\x1c\0\0\0\0\0\x10\0\x01\x23\0\0\0\x11";
+    let end = b"\x2c\0\0\0\0\0\0\0\0";
+    let places: [(usize, &[u8]); 3] = [(31, first), (54, second), (1_048_640, end)];
+    check_places(&rt, rt.alloc(), &arrays, 6, 1_048_649, &places)
 }

@@ -1,9 +1,11 @@
 //! What parts come to together.
 
 use crate::expecting::{equal, holds};
-use crate::samples::give;
-use hprof_heap::{Gatherer, Key, Refusal, Standing, Table, laws};
+use crate::samples::{Part, given};
+use hprof_heap::{Gatherer, Heap, Key, Refusal, Standing, Table, laws};
 use hprof_items::{Fact, IdSize};
+use std::alloc::Global;
+use std::process::Abort;
 use std::test::*;
 
 #[test]
@@ -14,60 +16,67 @@ fn no_parts(rt: HostRuntime) {
     equal(&rt, gatherer.finish().err(), Some(Refusal::NoParts));
 }
 
+// That a gatherer of these parts is in conflict, and refuses for this reason.
+fn check_refused(
+    rt: &impl Abort,
+    alloc: Global,
+    parts: &[Part<'_>],
+    refusal: Refusal,
+) -> Result<(), Fail> {
+    let gatherer = given(alloc, parts)?;
+    equal(rt, gatherer.standing(), Standing::InConflict);
+    holds(rt, gatherer.heap().is_none());
+    equal(rt, gatherer.finish().err(), Some(refusal));
+    Ok(())
+}
+
 #[test]
 fn the_least_conflict(rt: HostRuntime) -> Result<(), Fail> {
-    let mut gatherer = Gatherer::new(rt.alloc());
-    give(
-        &mut gatherer,
-        IdSize::Four,
-        1,
-        &[
-            (5, b"A"),
-            (5, b"B"),
-            (3, b"A"),
-            (3, b"B"),
-            (4, b"A"),
-            (4, b"B"),
-        ],
-    )?;
-    equal(&rt, gatherer.standing(), Standing::InConflict);
-    holds(&rt, gatherer.heap().is_none());
-    equal(
-        &rt,
-        gatherer.finish().err(),
-        Some(Refusal::Conflict(Key::Name(3))),
-    );
+    let names: [(u64, &[u8]); 6] = [
+        (5, b"A"),
+        (5, b"B"),
+        (3, b"A"),
+        (3, b"B"),
+        (4, b"A"),
+        (4, b"B"),
+    ];
+    let refusal = Refusal::Conflict(Key::Name(3));
+    check_refused(&rt, rt.alloc(), &[(IdSize::Four, 1, &names)], refusal)?;
     laws::conflicts_are_of_the_set();
     Ok(())
 }
 
 #[test]
 fn two_sizes_come_before_a_conflict(rt: HostRuntime) -> Result<(), Fail> {
-    let mut gatherer = Gatherer::new(rt.alloc());
-    give(&mut gatherer, IdSize::Four, 1, &[(1, b"A"), (1, b"B")])?;
-    give(&mut gatherer, IdSize::Eight, 1, &[(1, b"A")])?;
-    give(&mut gatherer, IdSize::Four, 1, &[(1, b"A")])?;
-    equal(&rt, gatherer.standing(), Standing::InConflict);
-    equal(&rt, gatherer.finish().err(), Some(Refusal::IdSizes));
+    let parts: [Part<'_>; 3] = [
+        (IdSize::Four, 1, &[(1, b"A"), (1, b"B")]),
+        (IdSize::Eight, 1, &[(1, b"A")]),
+        (IdSize::Four, 1, &[(1, b"A")]),
+    ];
+    check_refused(&rt, rt.alloc(), &parts, Refusal::IdSizes)?;
     laws::answers_tell_of_the_parts();
     Ok(())
 }
 
+// That the heap has the names 1 = A and 2 = B, and the time 1000.
+fn check_two_names(rt: &impl Abort, heap: &Heap) {
+    equal(rt, heap.ids(), IdSize::Eight);
+    equal(rt, heap.millis(), 1000);
+    equal(rt, heap.count(), 2);
+    equal(rt, heap.len(Table::Names), 2);
+    equal(rt, heap.name(1), Some(Fact::Name { id: 1, text: b"A" }));
+    equal(rt, heap.name(3), None);
+    equal(rt, heap.name(2), Some(Fact::Name { id: 2, text: b"B" }));
+}
+
 #[test]
 fn a_heap(rt: HostRuntime) -> Result<(), Fail> {
-    let one = Fact::Name { id: 1, text: b"A" };
-    let two = Fact::Name { id: 2, text: b"B" };
-    let mut gatherer = Gatherer::new(rt.alloc());
-    give(&mut gatherer, IdSize::Eight, 2000, &[(2, b"B")])?;
-    give(&mut gatherer, IdSize::Eight, 1000, &[(1, b"A")])?;
-    let heap = gatherer.finish()?;
-    equal(&rt, heap.ids(), IdSize::Eight);
-    equal(&rt, heap.millis(), 1000);
-    equal(&rt, heap.count(), 2);
-    equal(&rt, heap.len(Table::Names), 2);
-    equal(&rt, heap.name(1), Some(one));
-    equal(&rt, heap.name(3), None);
-    equal(&rt, heap.name(2), Some(two));
+    let parts: [Part<'_>; 2] = [
+        (IdSize::Eight, 2000, &[(2, b"B")]),
+        (IdSize::Eight, 1000, &[(1, b"A")]),
+    ];
+    let heap = given(rt.alloc(), &parts)?.finish()?;
+    check_two_names(&rt, &heap);
     hprof_dump::laws::sub_records_are_packed_in_one_way();
     Ok(())
 }

@@ -2,11 +2,12 @@
 
 use crate::expecting::{equal, holds};
 use crate::samples::{
-    array, class_of, frame_of, give, heap_of, load_of, loaded, start_of, trace_of,
+    Part, array, check_loads, class_of, frame_of, given, heap_of, load_of, loaded, start_of,
+    state_loads, trace_of,
 };
-use hprof_heap::{Gatherer, Heap, JoinRefusal, Key, Table, laws, same};
+use hprof_heap::{Heap, JoinRefusal, Key, Table, laws, same};
 use hprof_items::{Fact, IdSize};
-use hprof_tables::{BytesTable, Content, Relation, Stated};
+use hprof_tables::{BytesTable, Relation, Stated};
 use hprof_values::{Basic, Root};
 use std::alloc::Global;
 use std::process::Abort;
@@ -15,24 +16,12 @@ use std::test::*;
 #[test]
 fn joined_tables_of_numbers(rt: HostRuntime) -> Result<(), Fail> {
     let mut one = Relation::new(rt.alloc());
-    for (key, name) in [(2, 5), (4, 6), (1, 7)] {
-        equal(&rt, one.state(key, load_of(name))?, Stated::New);
-    }
+    state_loads(&rt, &mut one, &[(2, 5), (4, 6), (1, 7)])?;
     let mut other = Relation::new(rt.alloc());
-    for (key, name) in [(4, 6), (3, 8), (9, 9)] {
-        equal(&rt, other.state(key, load_of(name))?, Stated::New);
-    }
+    state_loads(&rt, &mut other, &[(4, 6), (3, 8), (9, 9)])?;
     equal(&rt, one.first_difference(&other), None);
     one.join(&other)?;
-    equal(&rt, one.len(), 5);
-    let expected = [(1, 7), (2, 5), (3, 8), (4, 6), (9, 9)];
-    let mut rows = one.rows();
-    for (key, name) in expected {
-        let (found, row) = rows.next().ok_or("no row")?;
-        equal(&rt, found, key);
-        holds(&rt, row.agrees(&load_of(name)));
-    }
-    holds(&rt, rows.next().is_none());
+    check_loads(&rt, &one, &[(1, 7), (2, 5), (3, 8), (4, 6), (9, 9)])?;
     // What was joined is a table like any other.
     for (key, stated) in [(3, Stated::Same), (5, Stated::New), (10, Stated::New)] {
         equal(&rt, one.state(key, load_of(8))?, stated);
@@ -45,12 +34,8 @@ fn joined_tables_of_numbers(rt: HostRuntime) -> Result<(), Fail> {
 fn tables_of_numbers_that_differ(rt: HostRuntime) -> Result<(), Fail> {
     let mut one = Relation::new(rt.alloc());
     let mut other = Relation::new(rt.alloc());
-    for key in [1, 5, 3, 7] {
-        equal(&rt, one.state(key, load_of(5))?, Stated::New);
-    }
-    for (key, name) in [(2, 1), (3, 6), (5, 6), (7, 5)] {
-        equal(&rt, other.state(key, load_of(name))?, Stated::New);
-    }
+    state_loads(&rt, &mut one, &[(1, 5), (5, 5), (3, 5), (7, 5)])?;
+    state_loads(&rt, &mut other, &[(2, 1), (3, 6), (5, 6), (7, 5)])?;
     equal(&rt, one.first_difference(&other), Some(3));
     equal(&rt, other.first_difference(&one), Some(3));
     equal(&rt, one.first_difference(&one), None);
@@ -84,57 +69,73 @@ fn joined_tables_of_bytes(rt: HostRuntime) -> Result<(), Fail> {
 }
 
 // The heap of these names.
-fn named(alloc: Global, ids: IdSize, millis: u64, names: &[(u64, &[u8])]) -> Result<Heap, Fail> {
-    let mut gatherer = Gatherer::new(alloc);
-    give(&mut gatherer, ids, millis, names)?;
-    Ok(gatherer.finish()?)
+fn named(alloc: Global, part: Part<'_>) -> Result<Heap, Fail> {
+    Ok(given(alloc, &[part])?.finish()?)
+}
+
+// The heap of the first names, joined with that of the others.
+fn joined_names(
+    rt: &impl Abort,
+    alloc: Global,
+    part: Part<'_>,
+    other: Part<'_>,
+) -> Result<Heap, Fail> {
+    let mut heap = named(alloc, part)?;
+    let other = named(alloc, other)?;
+    equal(rt, join(rt, &mut heap, &other), Ok(()));
+    Ok(heap)
 }
 
 #[test]
-fn joined_heaps(rt: HostRuntime) -> Result<(), Fail> {
-    let mut one = named(rt.alloc(), IdSize::Four, 2000, &[(1, b"A")])?;
-    let first = named(rt.alloc(), IdSize::Four, 2000, &[(1, b"A")])?;
-    let mut other = named(rt.alloc(), IdSize::Four, 1000, &[(2, b"B")])?;
-    // Joined with itself it is what it was.
-    equal(&rt, join(&rt, &mut one, &first), Ok(()));
-    holds(&rt, same(&one, &first));
-    equal(&rt, join(&rt, &mut one, &other), Ok(()));
-    equal(&rt, join(&rt, &mut other, &first), Ok(()));
-    holds(&rt, same(&one, &other));
-    equal(&rt, one.millis(), 1000);
-    equal(&rt, one.len(Table::Names), 2);
-    laws::two_heaps_have_one_join();
+fn joined_with_itself(rt: HostRuntime) -> Result<(), Fail> {
+    let part: Part<'_> = (IdSize::Four, 2000, &[(1, b"A")]);
+    let heap = joined_names(&rt, rt.alloc(), part, part)?;
+    holds(&rt, same(&heap, &named(rt.alloc(), part)?));
     laws::a_join_can_be_made_again();
     Ok(())
 }
 
 #[test]
-fn heaps_that_are_not_joined(rt: HostRuntime) -> Result<(), Fail> {
-    let mut one = named(rt.alloc(), IdSize::Four, 2000, &[(1, b"A"), (3, b"C")])?;
-    let first = named(rt.alloc(), IdSize::Four, 2000, &[(1, b"A"), (3, b"C")])?;
-    let clash = named(
-        rt.alloc(),
-        IdSize::Four,
-        1000,
-        &[(0, b"N"), (1, b"C"), (3, b"D")],
-    )?;
-    equal(
-        &rt,
-        one.join(&clash),
-        Err(JoinRefusal::Conflict(Key::Name(1))),
-    );
-    holds(&rt, same(&one, &first));
-    let wider = named(rt.alloc(), IdSize::Eight, 1000, &[(2, b"B")])?;
-    equal(&rt, one.join(&wider), Err(JoinRefusal::IdSizes));
-    holds(&rt, same(&one, &first));
+fn joined_heaps(rt: HostRuntime) -> Result<(), Fail> {
+    let part: Part<'_> = (IdSize::Four, 2000, &[(1, b"A")]);
+    let another: Part<'_> = (IdSize::Four, 1000, &[(2, b"B")]);
+    let one = joined_names(&rt, rt.alloc(), part, another)?;
+    let other = joined_names(&rt, rt.alloc(), another, part)?;
+    holds(&rt, same(&one, &other));
+    equal(&rt, (one.millis(), one.len(Table::Names)), (1000, 2));
+    laws::two_heaps_have_one_join();
+    Ok(())
+}
+
+// That a heap of two names is not joined with that of these, for this reason, and stays as it was.
+fn check_not_joined(
+    rt: &impl Abort,
+    alloc: Global,
+    other: Part<'_>,
+    refusal: JoinRefusal,
+) -> Result<(), Fail> {
+    let part: Part<'_> = (IdSize::Four, 2000, &[(1, b"A"), (3, b"C")]);
+    let mut heap = named(alloc, part)?;
+    let other = named(alloc, other)?;
+    equal(rt, heap.join(&other), Err(refusal));
+    holds(rt, same(&heap, &named(alloc, part)?));
     Ok(())
 }
 
 #[test]
+fn heaps_that_are_not_joined(rt: HostRuntime) -> Result<(), Fail> {
+    let clash: Part<'_> = (IdSize::Four, 1000, &[(0, b"N"), (1, b"C"), (3, b"D")]);
+    let refusal = JoinRefusal::Conflict(Key::Name(1));
+    check_not_joined(&rt, rt.alloc(), clash, refusal)?;
+    let wider: Part<'_> = (IdSize::Eight, 1000, &[(2, b"B")]);
+    check_not_joined(&rt, rt.alloc(), wider, JoinRefusal::IdSizes)
+}
+
+#[test]
 fn three_heaps_in_both_groupings(rt: HostRuntime) -> Result<(), Fail> {
-    let mut one = named(rt.alloc(), IdSize::Four, 1, &[(1, b"A")])?;
-    let mut other = named(rt.alloc(), IdSize::Four, 1, &[(2, b"B")])?;
-    let third = named(rt.alloc(), IdSize::Four, 1, &[(2, b"C")])?;
+    let mut one = named(rt.alloc(), (IdSize::Four, 1, &[(1, b"A")]))?;
+    let mut other = named(rt.alloc(), (IdSize::Four, 1, &[(2, b"B")]))?;
+    let third = named(rt.alloc(), (IdSize::Four, 1, &[(2, b"C")]))?;
     let refused = Err(JoinRefusal::Conflict(Key::Name(2)));
     equal(&rt, one.join(&other), Ok(()));
     equal(&rt, one.join(&third), refused);
@@ -152,29 +153,28 @@ fn joined_heaps_of_all_tables(rt: HostRuntime) -> Result<(), Fail> {
     let sticky = Fact::Root(Root::Sticky { id: 1 });
     let bytes = array(1, Basic::Byte, b"abcd");
     let ints = array(2, Basic::Int, b"abcd");
-    let mut one = heap_of(&rt, rt.alloc(), IdSize::Four, &[name, end, root, ints])?;
-    let other = heap_of(
-        &rt,
-        rt.alloc(),
-        IdSize::Four,
-        &[unload, root, sticky, bytes],
-    )?;
+    let given = [name, end, root, ints];
+    let others = [unload, root, sticky, bytes];
+    let mut one = joined(&rt, rt.alloc(), &given, &others)?;
     let facts = [name, unload, end, root, sticky, bytes, ints];
     let all = heap_of(&rt, rt.alloc(), IdSize::Four, &facts)?;
-    equal(&rt, one.join(&other), Ok(()));
     holds(&rt, same(&one, &all));
-    let clash = heap_of(
-        &rt,
-        rt.alloc(),
-        IdSize::Four,
-        &[array(1, Basic::Char, b"abcd")],
-    )?;
-    equal(
-        &rt,
-        one.join(&clash),
-        Err(JoinRefusal::Conflict(Key::Object(1))),
-    );
+    let chars = array(1, Basic::Char, b"abcd");
+    check_clash(&rt, rt.alloc(), &mut one, chars, Key::Object(1))?;
     holds(&rt, same(&one, &all));
+    Ok(())
+}
+
+// That the heap is not joined with one of this fact, which contradicts it under this key.
+fn check_clash(
+    rt: &impl Abort,
+    alloc: Global,
+    heap: &mut Heap,
+    fact: Fact<'_>,
+    key: Key,
+) -> Result<(), Fail> {
+    let clash = heap_of(rt, alloc, IdSize::Four, &[fact])?;
+    equal(rt, heap.join(&clash), Err(JoinRefusal::Conflict(key)));
     Ok(())
 }
 
@@ -190,6 +190,19 @@ fn join(rt: &impl Abort, heap: &mut Heap, other: &Heap) -> Result<(), JoinRefusa
     heap.join(other)
 }
 
+// A heap of the first facts, joined with one of the others.
+fn joined(
+    rt: &impl Abort,
+    alloc: Global,
+    facts: &[Fact<'_>],
+    others: &[Fact<'_>],
+) -> Result<Heap, Fail> {
+    let mut heap = heap_of(rt, alloc, IdSize::Four, facts)?;
+    let another = heap_of(rt, alloc, IdSize::Four, others)?;
+    equal(rt, join(rt, &mut heap, &another), Ok(()));
+    Ok(heap)
+}
+
 // That a heap of one fact joined with a heap of the other is the heap of both.
 fn check_joined(
     rt: &impl Abort,
@@ -197,10 +210,8 @@ fn check_joined(
     fact: Fact<'_>,
     other: Fact<'_>,
 ) -> Result<(), Fail> {
-    let mut heap = heap_of(rt, alloc, IdSize::Four, &[fact])?;
-    let another = heap_of(rt, alloc, IdSize::Four, &[other])?;
+    let heap = joined(rt, alloc, &[fact], &[other])?;
     let both = heap_of(rt, alloc, IdSize::Four, &[fact, other])?;
-    equal(rt, join(rt, &mut heap, &another), Ok(()));
     holds(rt, same(&heap, &both));
     Ok(())
 }

@@ -2,11 +2,12 @@
 
 use crate::expecting::equal;
 use crate::samples::{array, begun, check_rows, heap_of, state_all, state_fact};
-use hprof_heap::Table;
+use hprof_heap::{Heap, Table};
 use hprof_items::{Fact, IdSize};
 use hprof_lists::{ConstantList, FieldList, IdList, StaticList};
 use hprof_tables::Stated;
 use hprof_values::{Basic, Root};
+use std::process::Abort;
 use std::test::*;
 
 fn load<'a>(serial: u32, class: u64, name: u64) -> Fact<'a> {
@@ -27,17 +28,27 @@ fn instance(id: u64, class: u64, bytes: &[u8]) -> Fact<'_> {
     }
 }
 
+// That the classes have these names.
+fn check_class_names(rt: &impl Abort, heap: &Heap, expected: &[(u64, Option<u64>)]) {
+    for &(class, name) in expected {
+        equal(rt, heap.class_name(class), name);
+    }
+}
+
 #[test]
 fn names_of_classes(rt: HostRuntime) -> Result<(), Fail> {
     let loads = [load(1, 100, 2), load(2, 102, 9), load(3, 100, 1)];
-    let heap = heap_of(&rt, rt.alloc(), IdSize::Four, &[])?;
-    equal(&rt, heap.class_name(100), None);
     let stated = [loads[2], loads[0], loads[1]];
     let heap = heap_of(&rt, rt.alloc(), IdSize::Four, &stated)?;
     check_rows(&rt, &heap, Table::Loads, &loads);
-    equal(&rt, heap.class_name(100), Some(2));
-    equal(&rt, heap.class_name(101), None);
-    equal(&rt, heap.class_name(102), Some(9));
+    check_class_names(&rt, &heap, &[(100, Some(2)), (101, None), (102, Some(9))]);
+    Ok(())
+}
+
+#[test]
+fn no_names_of_classes(rt: HostRuntime) -> Result<(), Fail> {
+    let heap = heap_of(&rt, rt.alloc(), IdSize::Four, &[])?;
+    check_class_names(&rt, &heap, &[(100, None)]);
     Ok(())
 }
 

@@ -11,10 +11,10 @@ use hprof_heap::{Gatherer, Heap, LoadRow, Table};
 use hprof_items::{Fact, Header, IdSize, Step, Version, read_sub};
 use hprof_lists::{ConstantList, FieldList, IdList, StaticList};
 use hprof_stream::{Sink, SinkFault};
-use hprof_tables::Stated;
+use hprof_tables::{Content, Relation, Stated};
 use hprof_values::Basic;
 use hprof_writing::{fits, write_fact};
-use std::alloc::Global;
+use std::alloc::{AllocError, Global};
 use std::process::Abort;
 use std::test::Fail;
 
@@ -32,7 +32,7 @@ pub(crate) fn begun(alloc: Global, ids: IdSize, millis: u64) -> Result<Gatherer,
 }
 
 // Gives the gatherer a part with these names.
-pub(crate) fn give(
+fn give(
     gatherer: &mut Gatherer,
     ids: IdSize,
     millis: u64,
@@ -50,6 +50,18 @@ pub(crate) fn give(
         }
     }
     Ok(())
+}
+
+// A part's size and time, with its names.
+pub(crate) type Part<'a> = (IdSize, u64, &'a [(u64, &'a [u8])]);
+
+// A gatherer that was given these parts.
+pub(crate) fn given(alloc: Global, parts: &[Part<'_>]) -> Result<Gatherer, SinkFault> {
+    let mut gatherer = Gatherer::new(alloc);
+    for &(ids, millis, names) in parts {
+        give(&mut gatherer, ids, millis, names)?;
+    }
+    Ok(gatherer)
 }
 
 // How many facts the heap has, while the gatherer is clean.
@@ -204,6 +216,35 @@ pub(crate) fn load_of(name: u64) -> LoadRow {
         trace: 2,
         name,
     }
+}
+
+// That the table has these rows, loads of the class 1 by those names, in this order.
+pub(crate) fn check_loads(
+    rt: &impl Abort,
+    loads: &Relation<LoadRow>,
+    expected: &[(u64, u64)],
+) -> Result<(), Fail> {
+    equal(rt, loads.len(), expected.len());
+    let mut rows = loads.rows();
+    for &(key, name) in expected {
+        let (found, row) = rows.next().ok_or("no row")?;
+        equal(rt, found, key);
+        holds(rt, row.agrees(&load_of(name)));
+    }
+    holds(rt, rows.next().is_none());
+    Ok(())
+}
+
+// States loads of the class 1 by those names, which are new.
+pub(crate) fn state_loads(
+    rt: &impl Abort,
+    loads: &mut Relation<LoadRow>,
+    rows: &[(u64, u64)],
+) -> Result<(), AllocError> {
+    for &(key, name) in rows {
+        equal(rt, loads.state(key, load_of(name))?, Stated::New);
+    }
+    Ok(())
 }
 
 pub(crate) fn class_of<'a>(id: u64, size: u32) -> Option<Fact<'a>> {

@@ -10,6 +10,7 @@ use hprof_items::{Fact, IdSize};
 use hprof_lists::IdList;
 use hprof_stream::SinkFault;
 use hprof_tables::Stated;
+use std::alloc::Global;
 use std::process::Abort;
 use std::test::*;
 
@@ -56,12 +57,11 @@ fn records_in_a_heap(rt: HostRuntime) -> Result<(), Fail> {
     state_each(&rt, rt.alloc(), &mut gatherer, ids, &facts, Stated::New)?;
     state_each(&rt, rt.alloc(), &mut gatherer, ids, &facts, Stated::Same)?;
     let heap = gatherer.heap().ok_or("no heap")?;
-    equal(&rt, heap.load(1), Some(load));
-    equal(&rt, heap.frame(1), Some(frame));
-    equal(&rt, heap.trace(6), Some(trace));
-    equal(&rt, heap.thread(7), Some(start));
-    equal(&rt, heap.count(), 6);
-    equal(&rt, heap.len(Table::Ends), 1);
+    let found = (heap.load(1), heap.frame(1));
+    equal(&rt, found, (Some(load), Some(frame)));
+    let found = (heap.trace(6), heap.thread(7));
+    equal(&rt, found, (Some(trace), Some(start)));
+    equal(&rt, (heap.count(), heap.len(Table::Ends)), (6, 1));
     // From the first that differs on, the heap is shown no more.
     equal(
         &rt,
@@ -107,40 +107,46 @@ fn sub_records_in_a_heap(rt: HostRuntime) -> Result<(), Fail> {
         class: 2,
         bytes: b"abc",
     };
-    equal(&rt, heap.object(7), Some(fact));
-    equal(&rt, heap.object(8), None);
-    equal(&rt, heap.class(7), None);
-    equal(&rt, heap.len(Table::Roots), 1);
-    equal(&rt, heap.len(Table::Objects), 1);
-    equal(&rt, heap.count(), 2);
+    let found = (heap.object(7), heap.object(8), heap.class(7));
+    equal(&rt, found, (Some(fact), None, None));
+    let lens = (
+        heap.len(Table::Roots),
+        heap.len(Table::Objects),
+        heap.count(),
+    );
+    equal(&rt, lens, (1, 1, 2));
+    Ok(())
+}
+
+// That the second sub-record differs from the first, under this key.
+fn check_conflict(
+    rt: &impl Abort,
+    alloc: Global,
+    first: &[u8],
+    second: &[u8],
+    key: Key,
+) -> Result<(), Fail> {
+    let ids = IdSize::Four;
+    let mut gatherer = begun(alloc, ids, 5)?;
+    equal(rt, state_sub(&mut gatherer, ids, first)?, Some(Stated::New));
+    equal(
+        rt,
+        state_sub(&mut gatherer, ids, second)?,
+        Some(Stated::Differs),
+    );
+    equal(rt, gatherer.standing(), Standing::InConflict);
+    equal(rt, gatherer.finish().err(), Some(Refusal::Conflict(key)));
     Ok(())
 }
 
 // A longer instance and an array, where an instance of the same identifier is there.
 #[test]
 fn sub_records_that_differ(rt: HostRuntime) -> Result<(), Fail> {
-    let ids = IdSize::Four;
     let instance = b"\x21\0\0\0\x07\0\0\0\x01\0\0\0\x02\0\0\0\x03abc";
     let longer: &[u8] = b"\x21\0\0\0\x07\0\0\0\x01\0\0\0\x02\0\0\0\x04abcd";
     let array: &[u8] = b"\x23\0\0\0\x07\0\0\0\x01\0\0\0\x03\x08abc";
     for other in [longer, array] {
-        let mut gatherer = begun(rt.alloc(), ids, 5)?;
-        equal(
-            &rt,
-            state_sub(&mut gatherer, ids, instance)?,
-            Some(Stated::New),
-        );
-        equal(
-            &rt,
-            state_sub(&mut gatherer, ids, other)?,
-            Some(Stated::Differs),
-        );
-        equal(&rt, gatherer.standing(), Standing::InConflict);
-        equal(
-            &rt,
-            gatherer.finish().err(),
-            Some(Refusal::Conflict(Key::Object(7))),
-        );
+        check_conflict(&rt, rt.alloc(), instance, other, Key::Object(7))?;
     }
     Ok(())
 }

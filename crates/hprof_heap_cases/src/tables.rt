@@ -5,7 +5,7 @@ ghost use Rattle.hprof_rows.specs.NumberRows.{load_numbers};
 ghost use Rattle.hprof_heap.specs.Gathering.{gathered};
 
 use crate::expecting::{equal, holds};
-use crate::samples::{begun, load_of, state_record};
+use crate::samples::{begun, check_loads, load_of, state_record};
 use hprof_heap::{FrameRow, Gatherer, Key, KeyRow, LoadRow, Refusal, StartRow, Table};
 use hprof_items::{Fact, IdSize};
 use hprof_tables::{BytesTable, Content, Relation, Stated, Statement};
@@ -46,16 +46,9 @@ fn stating_rows(rt: HostRuntime) -> Result<(), Fail> {
     let row = loads.get(1).ok_or("no row")?;
     holds(&rt, row.agrees(&load_of(3)));
     holds(&rt, loads.get(2).is_none());
-    equal(&rt, loads.len(), 1);
+    check_loads(&rt, &loads, &[(1, 3)])?;
     equal(&rt, loads.state_from(0, Prepared(load_of(4)))?, Stated::New);
-    let mut rows = loads.rows();
-    for (key, name) in [(0, 4), (1, 3)] {
-        let (found, row) = rows.next().ok_or("no row")?;
-        equal(&rt, found, key);
-        holds(&rt, row.agrees(&load_of(name)));
-    }
-    holds(&rt, rows.next().is_none());
-    Ok(())
+    check_loads(&rt, &loads, &[(0, 4), (1, 3)])
 }
 
 #[test]

@@ -7,6 +7,8 @@ use hprof_items::{
     laws, read_sub, read_sub_into,
 };
 use hprof_writing::{fits, write_fact};
+use std::alloc::Global;
+use std::process::Abort;
 use std::test::*;
 
 // What a heap dump record with much room has at its front.
@@ -89,6 +91,20 @@ fn facts_in_one_place(rt: HostRuntime) {
     );
 }
 
+// That these bytes are read as this root, which is written so.
+fn check_root(rt: &impl Abort, alloc: Global, bytes: &[u8], root: Root) {
+    let (fact, ids) = (Fact::Root(root), IdSize::Four);
+    equal(rt, sub(bytes, ids), Step::Whole(fact, bytes.len()));
+    holds(rt, fits(&fact, ids));
+    let mut device = Device::new(Vec::new(alloc));
+    let written = write_fact(&fact, ids, &mut device);
+    equal(
+        rt,
+        (written, device.into_inner().as_slice()),
+        (Ok(()), bytes),
+    );
+}
+
 // Every root, with numbers that differ, behind its tag.
 #[test]
 fn each_root(rt: HostRuntime) {
@@ -136,17 +152,7 @@ fn each_root(rt: HostRuntime) {
         (b"\xff\0\0\0\x10", Root::Unknown { id }),
     ];
     for (bytes, root) in threes.into_iter().chain(twos).chain(ones) {
-        let fact = Fact::Root(root);
-        let ids = IdSize::Four;
-        equal(&rt, sub(bytes, ids), Step::Whole(fact, bytes.len()));
-        holds(&rt, fits(&fact, ids));
-        let mut device = Device::new(Vec::new(rt.alloc()));
-        let written = write_fact(&fact, ids, &mut device);
-        equal(
-            &rt,
-            (written, device.into_inner().as_slice()),
-            (Ok(()), bytes),
-        );
+        check_root(&rt, rt.alloc(), bytes, root);
     }
 }
 

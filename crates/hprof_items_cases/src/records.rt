@@ -7,6 +7,8 @@ use hprof_items::{
     read_head,
 };
 use hprof_writing::{fits, spelled_len, write_fact};
+use std::alloc::Global;
+use std::process::Abort;
 use std::test::*;
 
 // What the record states that the bytes are, by its head and its body.
@@ -267,6 +269,22 @@ fn long_records(rt: HostRuntime) {
     }
 }
 
+// That a name `A` of this identifier is written so, and read back.
+fn check_name(rt: &impl Abort, alloc: Global, ids: IdSize, id: u64, want: &[u8]) {
+    let fact = Fact::Name { id, text: b"A" };
+    assert!(rt; fits(&fact, ids), "{id}");
+    let len = spelled_len(&fact, ids);
+    let mut device = Device::new(Vec::new(alloc));
+    let written = write_fact(&fact, ids, &mut device);
+    let bytes = device.into_inner();
+    equal_at(
+        rt,
+        (ids, id),
+        (len, written, bytes.as_slice(), fact_in(&bytes, ids)),
+        (want.len() as u64, Ok(()), want, Some(Ok(fact))),
+    );
+}
+
 #[test]
 fn names(rt: HostRuntime) {
     let four: &[u8] = b"\x01\0\0\0\0\0\0\0\x05\0\0\0\x01A";
@@ -277,18 +295,7 @@ fn names(rt: HostRuntime) {
         (IdSize::Eight, 1, eight),
         (IdSize::Eight, 18446744073709551615, greatest),
     ] {
-        let fact = Fact::Name { id, text: b"A" };
-        assert!(rt; fits(&fact, ids), "{id}");
-        let len = spelled_len(&fact, ids);
-        let mut device = Device::new(Vec::new(rt.alloc()));
-        let written = write_fact(&fact, ids, &mut device);
-        let bytes = device.into_inner();
-        equal_at(
-            &rt,
-            (ids, id),
-            (len, written, bytes.as_slice(), fact_in(&bytes, ids)),
-            (want.len() as u64, Ok(()), want, Some(Ok(fact))),
-        );
+        check_name(&rt, rt.alloc(), ids, id, want);
     }
     let too_great = Fact::Name {
         id: 4294967296,
