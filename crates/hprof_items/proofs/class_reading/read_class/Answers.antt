@@ -1,4 +1,5 @@
-use Rattle.std.proofs.Common.{[], ◌∷◌, sym, ◌∙◌}
+use Rattle.std.proofs.Common.{[], ◌∷◌, sym, ◌∙◌, rules}
+use Rattle.hprof_items.specs.ClassDump.{class_at}
 use Rattle.hprof_values.specs.Item.{bounds_of}
 use Rattle.hprof_values.proofs.FieldGroups.{reached_passed}
 use Rattle.hprof_items.proofs.class_reading.read_class.Goals as goal
@@ -11,3 +12,11 @@ list_at-requires c =
 
 pub returns-clause-lists : goal.returns-clause-lists
 returns-clause-lists c = c.class_of.ensures.lists c.args.ids c.of_span.ensures.size c.of_span-2.ensures.size c.of_span-3.ensures.size
+
+pub returns-clause-fact : goal.returns-clause-fact
+unfolding class_at
+returns-clause-fact c = search rules
+
+pub returns-in_err-fields-clause-fact : goal.returns-in_err-fields-clause-fact
+unfolding class_at
+returns-in_err-fields-clause-fact c = search rules

@@ -1,4 +1,4 @@
-use Rattle.std.proofs.Common.{sym, ap, ◌∙◌, arith}
+use Rattle.std.proofs.Common.{sym, ap, ◌∙◌, arith, rules}
 use Rattle.hprof_items.specs.Reading.{head_at}
 use Rattle.hprof_items.proofs.Heads.{head_found, head_again}
 use Rattle.hprof_items.proofs.head_reading.read_head.Goals as goal
@@ -10,3 +10,6 @@ returns-clause-found c = λ head n e.
 pub returns-clause-only : goal.returns-clause-only
 returns-clause-only c = λ head rest right e.
     c.head_step.ensures ∙ ap (head_at c.args.ids c.args.longest) e ∙ head_again c.args.ids c.args.longest head rest right
+
+pub returns-clause-exact : goal.returns-clause-exact
+returns-clause-exact c = search rules

@@ -1,7 +1,8 @@
-use Rattle.std.proofs.Common.{◌≡◌, ℕ, ◌-◌, List, length, take, drop, sym, ap, ◌∙◌, arith}
+use Rattle.std.proofs.Common.{◌≡◌, ℕ, ◌-◌, List, length, take, drop, sym, ap, ◌∙◌, arith, rules}
+use Rattle.std.proofs.lemmas.Grind.{common_steps}
 use Rattle.byteorder.specs.Endian.{big_number}
 use Rattle.hprof_items.specs.declared.step.Step.TheVariants.{Whole}
-use Rattle.hprof_items.specs.Reading.{ids_of}
+use Rattle.hprof_items.specs.Reading.{ids_of, header_at}
 use Rattle.hprof_values.proofs.Numbers.{to_the_end}
 use Rattle.hprof_items.proofs.Headers.{header_made}
 use Rattle.hprof_items.proofs.header_reading.header_step.Goals as goal
@@ -18,3 +19,11 @@ returns c =
     ∙ sym c.in-Some-ids_in.ensures in
     ap (λ (m : ℕ). Whole (record { version = version; ids = ids; millis = m }) 31) time
     ∙ sym (header_made bytes version ids (omega arith) (sym c.in-Some.ensures) size)
+
+pub returns-then-bytes-lt-HEADER_LEN : goal.returns-then-bytes-lt-HEADER_LEN
+unfolding header_at
+returns-then-bytes-lt-HEADER_LEN c = grind (arith, common_steps)
+
+pub returns-then-bytes-lt-SIZED_LEN : goal.returns-then-bytes-lt-SIZED_LEN
+unfolding header_at
+returns-then-bytes-lt-SIZED_LEN c = search rules

@@ -1,4 +1,4 @@
-use Rattle.std.proofs.Common.{sym, ap, ◌∙◌, arith}
+use Rattle.std.proofs.Common.{sym, ap, ◌∙◌, arith, rules}
 use Rattle.hprof_items.specs.Reading.{header_at}
 use Rattle.hprof_items.proofs.Headers.{header_found, header_again}
 use Rattle.hprof_items.proofs.header_reading.read_header.Goals as goal
@@ -8,3 +8,6 @@ returns-clause-found c = λ h n e. header_found c.args.bytes.now h n (λ i. omeg
 
 pub returns-clause-only : goal.returns-clause-only
 returns-clause-only c = λ h rest fits e. c.header_step.ensures ∙ ap header_at e ∙ header_again h rest fits
+
+pub returns-clause-exact : goal.returns-clause-exact
+returns-clause-exact c = search rules

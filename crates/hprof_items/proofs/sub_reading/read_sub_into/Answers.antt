@@ -1,4 +1,4 @@
-use Rattle.std.proofs.Common.{◌≡◌, ℕ, ◌≤◌, ◌<◌, ◌^◌, List, ◌++◌, length, Result, Ok, Err, refl, sym, ◌∙◌, arith}
+use Rattle.std.proofs.Common.{◌≡◌, ℕ, ◌≤◌, ◌<◌, ◌^◌, List, ◌++◌, length, Result, Ok, Err, refl, sym, ◌∙◌, arith, rules}
 use Rattle.std.specs.Prelude.{IfOk, OnOk, IsOkAnd, MatchResult}
 use Rattle.hprof_values.specs.declared.ids.IdSize.{IdSize}
 use Rattle.hprof_values.specs.declared.stop.Stop.{Stop}
@@ -41,3 +41,6 @@ returns-clause-found c =
 pub returns-clause-only : goal.returns-clause-only
 returns-clause-only c = only_of c.args.ids c.args.room c.args.longest c.args.bytes.now c.read_item.new.fact c.read_item.result
     c.read_item.ensures.fact
+
+pub returns-clause-exact : goal.returns-clause-exact
+returns-clause-exact c = search rules

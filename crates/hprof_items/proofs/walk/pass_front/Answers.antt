@@ -1,4 +1,4 @@
-use Rattle.std.proofs.Common.{◌≡◌, Ok, refl, sym, ap, ◌∙◌}
+use Rattle.std.proofs.Common.{◌≡◌, Ok, refl, sym, ap, ◌∙◌, rules}
 use Rattle.hprof_values.specs.Item.{bounds_of}
 use Rattle.hprof_lists.specs.declared.entry.EntryKind.TheVariants as kinds
 use Rattle.hprof_values.specs.declared.sub_tag.SubTag.TheVariants as tags
@@ -50,3 +50,6 @@ returns-in-Err-class_count-clause-end c =
     ∙ ap Ok c.in-ClassDump.is in
     let count = sym c.class_count.ensures ∙ c.in-Err-class_count.is in
     sym (class_stopped c.args.ids (bounds_of item) item.bytes.now c.in-Err-class_count.stop tagged count)
+
+pub returns-in-Ok-class_count-clause-stands : goal.returns-in-Ok-class_count-clause-stands
+returns-in-Ok-class_count-clause-stands c = search rules
