@@ -1,11 +1,7 @@
-//! Readers, writers and files that count what is asked of them.
+//! Readers and writers that count what is asked of them.
 
-use std::alloc::Allocator;
-use std::cell::Cell;
-use std::fs::{Metadata, OpenOptions};
 use std::io;
 use std::io::{ErrorKind, Read, Write};
-use std::rt::Files;
 
 /// A reader that gives these bytes, as many at a time as there is room for, and counts its reads.
 #[derive(Drop)]
@@ -73,64 +69,5 @@ impl Write for Tally {
             return Err(io::Error::from(ErrorKind::Other));
         }
         Ok(())
-    }
-}
-
-/// The files of a system, with the number of times that one was opened or created.
-#[derive(Drop)]
-pub(crate) struct CountedFiles<'a, F> {
-    pub(crate) files: &'a F,
-    pub(crate) opened: &'a Cell<u32>,
-}
-
-/// What the program does not ask for.
-fn unsupported() -> io::Error {
-    io::Error::from(ErrorKind::Unsupported)
-}
-
-impl<F: Files> Files for CountedFiles<'_, F> {
-    type File = F::File;
-
-    type Dir = F::Dir;
-
-    fn open_file(&self, how: &OpenOptions, path: &str) -> io::Result<F::File> {
-        self.opened.set(self.opened.get().saturating_add(1));
-        self.files.open_file(how, path)
-    }
-
-    fn remove_file(&self, path: &str) -> io::Result<()> {
-        self.files.remove_file(path)
-    }
-
-    fn open_dir(&self, _path: &str) -> io::Result<F::Dir> {
-        Err(unsupported())
-    }
-
-    fn metadata(&self, _path: &str) -> io::Result<Metadata> {
-        Err(unsupported())
-    }
-
-    fn symlink_metadata(&self, _path: &str) -> io::Result<Metadata> {
-        Err(unsupported())
-    }
-
-    fn copy(&self, _from: &str, _to: &str) -> io::Result<u64> {
-        Err(unsupported())
-    }
-
-    fn rename(&self, _from: &str, _to: &str) -> io::Result<()> {
-        Err(unsupported())
-    }
-
-    fn create_dir(&self, _path: &str) -> io::Result<()> {
-        Err(unsupported())
-    }
-
-    fn remove_dir(&self, _path: &str) -> io::Result<()> {
-        Err(unsupported())
-    }
-
-    fn remove_dir_all<B: Allocator>(&self, _alloc: B, _path: &str) -> io::Result<()> {
-        Err(unsupported())
     }
 }

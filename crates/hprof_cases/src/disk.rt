@@ -1,6 +1,7 @@
 //! Writers with little room, and files that are such writers.
 
 use std::alloc::Allocator;
+use std::cell::Cell;
 use std::fs::{Metadata, OpenFile, OpenOptions};
 use std::io;
 use std::io::{ErrorKind, Read, Seek, SeekFrom, Write};
@@ -79,10 +80,12 @@ impl<F> OpenFile for Narrow<F> {
     }
 }
 
-/// The files of a system, of which each has so much room, and then is in trouble.
+/// The files of a system, of which each has so much room, and then is in trouble. How often one is opened or created is
+/// counted.
 #[derive(Drop)]
 pub(crate) struct Disk<'a, F> {
     pub(crate) files: &'a F,
+    pub(crate) opened: &'a Cell<u32>,
     pub(crate) room: usize,
     pub(crate) trouble: Trouble,
 }
@@ -93,6 +96,7 @@ impl<F: Files> Files for Disk<'_, F> {
     type Dir = F::Dir;
 
     fn open_file(&self, how: &OpenOptions, path: &str) -> io::Result<Narrow<F::File>> {
+        self.opened.set(self.opened.get().saturating_add(1));
         Ok(Narrow {
             inner: self.files.open_file(how, path)?,
             room: self.room,

@@ -1,7 +1,7 @@
 //! The program, with parts in files.
 
 use crate::conflicts::array_of;
-use crate::counters::CountedFiles;
+use crate::disk::{Disk, Trouble};
 use crate::expecting::equal_at;
 use crate::program::{
     SHORT_TRACE, ended, expect_done, expect_file, expect_refused, expect_told, path_of, remove,
@@ -86,9 +86,11 @@ fn each_file_is_opened_once(rt: HostRuntime) -> Result<(), Fail> {
     // Two parts and the new file, and three parts.
     for words in [["join", out, one, two], ["check", one, two, one]] {
         let opened = Cell::new(0);
-        let files = CountedFiles {
+        let files = Disk {
             files: &rt,
             opened: &opened,
+            room: usize::MAX,
+            trouble: Trouble::Fails,
         };
         let mut output = Vec::new(rt.alloc());
         let (status, errors) = ended(rt.alloc(), &files, &words, [].as_slice(), &mut output)?;

@@ -6,6 +6,7 @@ use crate::program::{ended, path_of, remove, written};
 use crate::samples::{END, HEADER, bytes_of};
 use hprof_tool::Status;
 use std::alloc::{AllocError, Global};
+use std::cell::Cell;
 use std::fs;
 use std::test::Fail;
 
@@ -60,16 +61,24 @@ fn long_dump_to_a_file_that_fails(rt: HostRuntime) -> Result<(), Fail> {
     let out = path_of(&rt, "long-out")?;
     let words = ["join", out.as_str(), part.as_str()];
     for (room, trouble) in TROUBLES {
+        let opened = Cell::new(0);
         let disk = Disk {
             files: &rt,
+            opened: &opened,
             room,
             trouble,
         };
         let mut output = Vec::new(rt.alloc());
         let (status, errors) = ended(rt.alloc(), &disk, &words, [].as_slice(), &mut output)?;
-        equal_at(&rt, (room, trouble), status, Status::Refused);
+        let there = fs::exists(&rt, out.as_str())?;
+        equal_at(
+            &rt,
+            (room, trouble),
+            (status, there),
+            (Status::Refused, false),
+        );
         equal_bytes(&rt, &errors, WRITE_FAILED);
-        equal_at(&rt, (room, trouble), fs::exists(&rt, out.as_str())?, false);
+        equal_at(&rt, (room, trouble), opened.get(), 2);
     }
     remove(&rt, &[part.as_str()])
 }
