@@ -43,3 +43,12 @@ loop-key-preserved c =
       same = λ nothing. absurd (omega (arith, nothing, length-append c.loop-key.yielded ((key, c.in-Some.row) ∷ [])));
       room = omega (arith, c.loop-key.invariant.room, c.make.ensures.room);
     }
+
+pub returns-in_err-place-clause-behind : goal.returns-in_err-place-clause-behind
+returns-in_err-place-clause-behind c = search rules
+
+pub returns-in_err-place-clause-room : goal.returns-in_err-place-clause-room
+returns-in_err-place-clause-room c = search rules
+
+pub returns-in_err-push-clause-room : goal.returns-in_err-push-clause-room
+returns-in_err-push-clause-room c = search rules

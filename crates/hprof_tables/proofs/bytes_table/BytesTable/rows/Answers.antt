@@ -1,3 +1,4 @@
+use Rattle.std.proofs.Common.{rules}
 use Rattle.hprof_tables.specs.SortedTable.{entries_left}
 use Rattle.hprof_tables.proofs.Places.{ascending_lying}
 use Rattle.hprof_tables.proofs.bytes_table.BytesTable.rows.Goals as goal
@@ -5,3 +6,6 @@ use Rattle.hprof_tables.proofs.bytes_table.BytesTable.rows.Goals as goal
 pub returns-clause-ascending : goal.returns-clause-ascending
 returns-clause-ascending c = ascending_lying c.as_slice.result.now (entries_left c.iter.result)
     (rw c.iter.ensures.all c.iter.ensures.both.ascends)
+
+pub returns-clause-all : goal.returns-clause-all
+returns-clause-all c = search rules

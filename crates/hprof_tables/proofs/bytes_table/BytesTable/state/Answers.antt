@@ -1,4 +1,4 @@
-use Rattle.std.proofs.Common.{Option, Bool, Some, ap, subst, ◌∙◌}
+use Rattle.std.proofs.Common.{Option, Bool, Some, ap, subst, ◌∙◌, rules}
 use Rattle.std.specs.Option.{option_map}
 use Rattle.hprof_tables.specs.Places.{lying, rows_lying, the_bytes}
 use Rattle.hprof_tables.specs.Relation.{States}
@@ -54,3 +54,15 @@ returns-in-Some-false-clause-ok c =
     (c.in-Some-false.is ∙ ap (λ (same : Bool). Some same) c.in-Some-false.field-0-test)
     (visited table.bytes.items c.visit.new.room.items c.args.bytes.now old new c.args.key c.in_ok-visit.field-0 table.sound
     c.in_ok-visit.ensures.ok c.in_ok-visit.ensures.kept)
+
+pub returns-in_err-visit-clause-err : goal.returns-in_err-visit-clause-err
+returns-in_err-visit-clause-err c = search rules
+
+pub returns-in_err-visit-clause-left : goal.returns-in_err-visit-clause-left
+returns-in_err-visit-clause-left c = search rules
+
+pub returns-in-None-clause-put : goal.returns-in-None-clause-put
+returns-in-None-clause-put c = search rules
+
+pub returns-in-Some-true-clause-kept : goal.returns-in-Some-true-clause-kept
+returns-in-Some-true-clause-kept c = search rules

@@ -36,3 +36,6 @@ returns-then-is_empty-clause-ok g c =
     let none : length c.args.fresh.items ≡ 0 = search rules in
     nothing_taken (merged old.run.items old.below.entries) c.args.fresh.items
     (table-ascending old.run.items old.below.entries old.sound) none
+
+pub returns-then-is_empty-clause-some : goal.returns-then-is_empty-clause-some
+returns-then-is_empty-clause-some g c = search rules
