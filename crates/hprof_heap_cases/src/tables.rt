@@ -6,7 +6,7 @@ ghost use Rattle.hprof_heap.specs.Gathering.{gathered};
 
 use crate::expecting::{equal, holds};
 use crate::samples::{begun, check_loads, load_of, state_record};
-use hprof_heap::{FrameRow, Gatherer, Key, KeyRow, LoadRow, Refusal, StartRow, Table};
+use hprof_heap::{FrameRow, Gatherer, Heap, Key, KeyRow, LoadRow, Refusal, StartRow, Table};
 use hprof_items::{Fact, IdSize};
 use hprof_tables::{BytesTable, Content, Relation, Stated, Statement};
 use std::alloc::{AllocError, Global};
@@ -182,6 +182,35 @@ fn given_names(
     Ok(gatherer)
 }
 
+// That this name differs behind those that are given, and is a conflict.
+fn check_conflict(
+    rt: &impl Abort,
+    alloc: Global,
+    given: &[(u64, &[u8], Stated)],
+    id: u64,
+    text: &[u8],
+) -> Result<(), Fail> {
+    let mut gatherer = given_names(rt, alloc, given)?;
+    let name = Fact::Name { id, text };
+    let came = state_record(&mut gatherer, IdSize::Four, name)?;
+    equal(rt, came, Some(Stated::Differs));
+    let conflict = Refusal::Conflict(Key::Name(id));
+    equal(rt, gatherer.finish().err(), Some(conflict));
+    Ok(())
+}
+
+// That the heap has these names of even identifiers, and no others.
+fn check_rows(rt: &impl Abort, heap: &Heap, expected: &[(u64, &[u8])]) {
+    equal(rt, heap.len(Table::Names), expected.len());
+    let mut facts = heap.rows(Table::Names);
+    for &(id, text) in expected {
+        let name = Some(Fact::Name { id, text });
+        equal(rt, (facts.next(), heap.name(id)), (name, name));
+        equal(rt, heap.name(id | 1), None);
+    }
+    holds(rt, facts.next().is_none());
+}
+
 // The same of a heap as of a table: it has these rows, and each name that differs is a conflict.
 fn check_heap(
     rt: &impl Abort,
@@ -191,24 +220,11 @@ fn check_heap(
 ) -> Result<(), Fail> {
     for (place, &(id, text, stated)) in given.iter().enumerate() {
         if stated == Stated::Differs {
-            let mut gatherer = given_names(rt, alloc, &given[..place])?;
-            let name = Fact::Name { id, text };
-            let came = state_record(&mut gatherer, IdSize::Four, name)?;
-            equal(rt, came, Some(Stated::Differs));
-            let conflict = Refusal::Conflict(Key::Name(id));
-            equal(rt, gatherer.finish().err(), Some(conflict));
+            check_conflict(rt, alloc, &given[..place], id, text)?;
         }
     }
     let heap = given_names(rt, alloc, given)?.finish()?;
-    equal(rt, heap.len(Table::Names), expected.len());
-    let mut facts = heap.rows(Table::Names);
-    for &(id, text) in expected {
-        let name = Some(Fact::Name { id, text });
-        equal(rt, facts.next(), name);
-        equal(rt, heap.name(id), name);
-        equal(rt, heap.name(id | 1), None);
-    }
-    holds(rt, facts.next().is_none());
+    check_rows(rt, &heap, expected);
     Ok(())
 }
 

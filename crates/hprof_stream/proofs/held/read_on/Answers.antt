@@ -1,4 +1,4 @@
-use Rattle.std.proofs.Common.{◌≡◌, ◌⊎◌, ◌<◌, ◌++◌, length, Option, None, true, is_some, inl, inr, sym, subst, ◌∙◌, arith}
+use Rattle.std.proofs.Common.{◌≡◌, ◌⊎◌, ◌<◌, ◌++◌, length, Option, None, true, is_some, inl, inr, sym, subst, ◌∙◌, arith, rules}
 use Rattle.std.specs.Vec.{vec_len}
 use Rattle.hprof_items.specs.declared.header.Header.{Header}
 use Rattle.hprof_stream.specs.Walking.{IsBegun, seen}
@@ -75,3 +75,21 @@ returns-clause-kept g c header e =
     all_keeps g.S.Sink.begins g.S.Sink.steps g.S.Sink.refuses g.S.Sink.failed c.pass_over-left.new.progress c.walk.new.self
     c.pass_over-left.result.now c.finish_held.new.sink c.walk.new.sink (seen c.walk.result) header c.walk.ensures.walk
     (c.pass_over-left.ensures.header ∙ c.in_ok-left.ensures.kept header e)
+
+pub returns-then-is_some-clause-counted : goal.returns-then-is_some-clause-counted
+returns-then-is_some-clause-counted g c = search rules
+
+pub returns-then-is_some-clause-full : goal.returns-then-is_some-clause-full
+returns-then-is_some-clause-full g c = search rules
+
+pub returns-then-is_some-clause-kept : goal.returns-then-is_some-clause-kept
+returns-then-is_some-clause-kept g c = search rules
+
+pub returns-then-is_some-clause-less : goal.returns-then-is_some-clause-less
+returns-then-is_some-clause-less g c = search rules
+
+pub returns-then-is_some-clause-room : goal.returns-then-is_some-clause-room
+returns-then-is_some-clause-room g c = search rules
+
+pub returns-then-is_some-clause-sound : goal.returns-then-is_some-clause-sound
+returns-then-is_some-clause-sound g c = search rules

@@ -1,4 +1,4 @@
-use Rattle.std.proofs.Common.{◌<◌, ◌≤◌, [], ℕ, length, take, subst, arith}
+use Rattle.std.proofs.Common.{◌<◌, ◌≤◌, [], ℕ, length, take, subst, arith, rules}
 use Rattle.std.proofs.KnownBytes.{Consumes-nil, Consumes-kept}
 use Rattle.std.proofs.lemmas.List.{length-take-le}
 use Rattle.std.proofs.lemmas.Result.{err_from_is_err_and}
@@ -80,3 +80,6 @@ returns-clause-fed g c =
     λ limits read same. HasFed-spent g.R.Source.left g.R.Source.health g.R.Source.pulls g.S.Sink.begins g.S.Sink.steps g.S.Sink.refuses
     g.S.Sink.failed limits c.loop.counter c.args.source.now c.loop.source c.loop.reader c.args.sink.now c.loop.sink before.well
     (before.fed limits read) (omega (arith, same))
+
+pub returns-then-count-eq0-clause-pulls : goal.returns-then-count-eq0-clause-pulls
+returns-then-count-eq0-clause-pulls g c = search rules

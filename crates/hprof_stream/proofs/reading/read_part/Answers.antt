@@ -1,4 +1,4 @@
-use Rattle.std.proofs.Common.{refl}
+use Rattle.std.proofs.Common.{refl, rules}
 use Rattle.std.proofs.lemmas.Result.{err_from_is_err_and}
 use Rattle.hprof_stream.proofs.Sources.{ReadsPart-memory, ReadsPart-finished}
 use Rattle.hprof_stream.proofs.reading.read_part.Goals as goal
@@ -26,3 +26,12 @@ returns-clause-read g c =
           c.args.sink.now c.feed_all.new.sink c.in_ok-feed_all.field-0 c.finish.result fed.2
           (λ facts was. c.finish.ensures.finished c.args.limits fed.0 facts was),
     )
+
+pub returns-clause-pulls : goal.returns-clause-pulls
+returns-clause-pulls g c = search rules
+
+pub returns-in_default-clause-pulls : goal.returns-in_default-clause-pulls
+returns-in_default-clause-pulls g c = search rules
+
+pub returns-in_err-feed_all-clause-pulls : goal.returns-in_err-feed_all-clause-pulls
+returns-in_err-feed_all-clause-pulls g c = search rules

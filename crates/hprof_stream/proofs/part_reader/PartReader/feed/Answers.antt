@@ -1,4 +1,4 @@
-use Rattle.std.proofs.Common.{◌≡◌, ◌<◌, min, length, ap, sym, subst, ◌∙◌, arith, true, false}
+use Rattle.std.proofs.Common.{◌≡◌, ◌<◌, min, length, ap, sym, subst, ◌∙◌, arith, true, false, rules}
 use Rattle.std.proofs.lemmas.Bool.{both_ways, eqb-true, eqb-false}
 use Rattle.std.proofs.lemmas.List.{length-drop, nil_from_length}
 use Rattle.std.specs.Prelude.{OnOk}
@@ -72,3 +72,12 @@ returns-else-is_err-clause-fed g c = λ limits bytes facts read.
       | in-Ok-2 w ↦ absurd (both_ways (is_err c.match-read_on.outcome) fine (ap is_err w.outcome-is))
       | in-Err w ↦ absurd (both_ways (is_err c.match-read_on.outcome) fine (ap is_err w.outcome-is))
     ]
+
+pub returns-then-is_err-clause-err : goal.returns-then-is_err-clause-err
+returns-then-is_err-clause-err g c = search rules
+
+pub returns-then-is_err-clause-full : goal.returns-then-is_err-clause-full
+returns-then-is_err-clause-full g c = search rules
+
+pub returns-then-is_err-clause-ready : goal.returns-then-is_err-clause-ready
+returns-then-is_err-clause-ready g c = search rules

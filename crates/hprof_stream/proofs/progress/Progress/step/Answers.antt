@@ -1,4 +1,4 @@
-use Rattle.std.proofs.Common.{ℕ, List, drop, Option, refl, sym, ap, subst, ◌∙◌, arith}
+use Rattle.std.proofs.Common.{ℕ, List, drop, Option, refl, sym, ap, subst, ◌∙◌, arith, rules}
 use Rattle.hprof_items.specs.declared.header.Header.{Header}
 use Rattle.hprof_stream.specs.declared.progress.Progress.{Progress}
 use Rattle.hprof_stream.specs.ItemValue.{with_fact}
@@ -60,3 +60,6 @@ returns-in-Err-clause-step g c =
           c.in-Err.ensures.refused.0 c.in-Err.ensures.refused.1,
       refl,
     )
+
+pub returns-in-Fault-clause-step : goal.returns-in-Fault-clause-step
+returns-in-Fault-clause-step g c = search rules
