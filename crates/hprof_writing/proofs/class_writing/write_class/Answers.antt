@@ -1,4 +1,4 @@
-use Rattle.std.proofs.Common.{◌≡◌, ℕ, ◌∷◌, ◌++◌, List, length, ap, subst, ◌∙◌, append_assoc}
+use Rattle.std.proofs.Common.{◌≡◌, ℕ, ◌∷◌, ◌++◌, List, length, ap, subst, ◌∙◌, append_assoc, rules}
 use Rattle.std.proofs.lemmas.Result.{err_from_is_err_and}
 use Rattle.std.specs.Io.KnownBytes.{Appends}
 use Rattle.byteorder.specs.Endian.{big_bytes}
@@ -105,3 +105,12 @@ returns-clause-bytes g c =
     writes_form c.args.ids _ _ _ c.args.fact.now _ class.is
     (subst (Writes _ _ c.write_list-3.result) parts (Writes-then _ _ _ c.in_ok-write_list.field-0 c.write_list-3.result _ _
     c.in_ok-write_list.ensures.bytes more))
+
+pub returns-clause-health : goal.returns-clause-health
+returns-clause-health g c = search rules
+
+pub returns-in_err-write_list-2-clause-health : goal.returns-in_err-write_list-2-clause-health
+returns-in_err-write_list-2-clause-health g c = search rules
+
+pub returns-in_err-write_list-clause-health : goal.returns-in_err-write_list-clause-health
+returns-in_err-write_list-clause-health g c = search rules

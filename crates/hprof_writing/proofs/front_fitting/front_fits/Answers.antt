@@ -1,4 +1,4 @@
-use Rattle.std.proofs.Common.{◌-◌, refl, arith}
+use Rattle.std.proofs.Common.{◌-◌, refl, arith, rules}
 use Rattle.std.proofs.lemmas.Bool.{le-leb, leb-true}
 use Rattle.hprof_values.proofs.NumberWriting.{widths_most}
 use Rattle.hprof_writing.proofs.front_fitting.front_fits.Goals as goal
@@ -16,3 +16,6 @@ returns-then-numbers_fit c =
       λ within. let le = leb-true c.args.more (4294967295 - c.numbers_len.result) within in (fits, omega (arith, le)),
       λ all. le-leb c.args.more (4294967295 - c.numbers_len.result) (omega (arith, all.1)),
     )
+
+pub returns-else-numbers_fit : goal.returns-else-numbers_fit
+returns-else-numbers_fit c = search rules

@@ -1,4 +1,4 @@
-use Rattle.std.proofs.Common.{◌≡◌, ◌+◌, ◌-◌, ◌++◌, ℕ, List, take, subst, sym, ◌∙◌, arith}
+use Rattle.std.proofs.Common.{◌≡◌, ◌+◌, ◌-◌, ◌++◌, ℕ, List, take, subst, sym, ◌∙◌, arith, rules}
 use Rattle.std.proofs.lemmas.Result.{err_from_is_err_and}
 use Rattle.std.specs.Prelude.{sum}
 use borrow.Rule.Slice.PartMut.{put_mid}
@@ -40,3 +40,9 @@ returns-clause-bytes g c =
     c.requires.head c.requires.fields c.put_numbers.ensures c.put_numbers-2.ensures c.numbers_len-begin.ensures c.numbers_len.ensures in
     Writes-then _ _ _ c.in_ok-push_all.field-0 c.push_all-2.result _ c.args.more.now
     (subst (Appends _ _) front c.in_ok-push_all.ensures.bytes) c.push_all-2.ensures.bytes
+
+pub returns-clause-health : goal.returns-clause-health
+returns-clause-health g c = search rules
+
+pub returns-in_err-push_all-clause-health : goal.returns-in_err-push_all-clause-health
+returns-in_err-push_all-clause-health g c = search rules

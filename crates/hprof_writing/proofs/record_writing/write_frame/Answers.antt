@@ -1,4 +1,4 @@
-use Rattle.std.proofs.Common.{◌≡◌, ℕ, ℤ, [], ◌∷◌, ◌++◌, List, Option, Result, ap, subst, ◌∙◌}
+use Rattle.std.proofs.Common.{◌≡◌, ℕ, ℤ, [], ◌∷◌, ◌++◌, List, Option, Result, ap, subst, ◌∙◌, rules}
 use Rattle.std.proofs.lemmas.Int.{to_z-of_z}
 use Rattle.std.specs.Int.{w32, cast_unsigned}
 use Rattle.hprof_values.specs.declared.ids.IdSize.{IdSize}
@@ -31,3 +31,6 @@ returns-clause-bytes g c =
     writes_form c.args.ids _ _ _ c.args.fact.now _ frame.is
     (line_written c.args.ids _ _ _ frame.id frame.method frame.signature frame.source frame.class_serial _ frame.line
     (c.cast_unsigned.ensures ∙ ap (cast_unsigned w32) (to_z-of_z w32 frame.line fits.0.rest)) c.write_record.ensures.bytes)
+
+pub returns-clause-health : goal.returns-clause-health
+returns-clause-health g c = search rules

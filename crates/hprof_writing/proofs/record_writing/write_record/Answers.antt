@@ -1,4 +1,4 @@
-use Rattle.std.proofs.Common.{ℕ, List, subst, arith}
+use Rattle.std.proofs.Common.{ℕ, List, subst, arith, rules}
 use Rattle.std.proofs.lemmas.List.{length-append}
 use Rattle.hprof_values.specs.Fields.{field_bytes}
 use Rattle.hprof_values.specs.Numbers.{number_widths, number_values}
@@ -46,3 +46,6 @@ returns-clause-bytes g c =
     c.args.more.now c.code.ensures (omega arith)
     (omega (arith, length-append fields c.args.more.now)) in
     subst (Writes _ _ c.write_front.result) parts c.write_front.ensures.bytes
+
+pub returns-clause-health : goal.returns-clause-health
+returns-clause-health g c = search rules

@@ -1,4 +1,4 @@
-use Rattle.std.proofs.Common.{◌≡◌, ℕ, [], ◌∷◌, ◌++◌, List, Option, Result, length, ap, subst, arith}
+use Rattle.std.proofs.Common.{◌≡◌, ℕ, [], ◌∷◌, ◌++◌, List, Option, Result, length, ap, subst, arith, rules}
 use Rattle.hprof_values.specs.declared.ids.IdSize.{IdSize}
 use Rattle.hprof_lists.specs.declared.lists.ids.IdList.{IdList}
 use Rattle.hprof_values.specs.declared.record_tag.RecordTag.TheVariants as tags
@@ -51,3 +51,6 @@ write_record-requires-clause-short g c =
     let bytes = ids_bytes c.args.ids trace.frames c.bytes.result.now (lists_form c.args.ids _ _ trace.is c.requires.lists)
     c.bytes.ensures.spelled in
     omega (arith, ap length bytes, fits.1)
+
+pub returns-clause-health : goal.returns-clause-health
+returns-clause-health g c = search rules
