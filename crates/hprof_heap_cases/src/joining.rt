@@ -90,7 +90,7 @@ fn joined_names(
 fn joined_with_itself(rt: HostRuntime) -> Result<(), Fail> {
     let part: Part<'_> = (IdSize::Four, 2000, &[(1, b"A")]);
     let heap = joined_names(&rt, rt.alloc(), part, part)?;
-    holds(&rt, same(&heap, &named(rt.alloc(), part)?));
+    check_names(&rt, rt.alloc(), &heap, part)?;
     laws::a_join_can_be_made_again();
     Ok(())
 }
@@ -107,6 +107,13 @@ fn joined_heaps(rt: HostRuntime) -> Result<(), Fail> {
     Ok(())
 }
 
+// That the heap is that of these names.
+fn check_names(rt: &impl Abort, alloc: Global, heap: &Heap, part: Part<'_>) -> Result<(), Fail> {
+    let expected = named(alloc, part)?;
+    holds(rt, same(heap, &expected));
+    Ok(())
+}
+
 // That a heap of two names is not joined with that of these, for this reason, and stays as it was.
 fn check_not_joined(
     rt: &impl Abort,
@@ -118,8 +125,7 @@ fn check_not_joined(
     let mut heap = named(alloc, part)?;
     let other = named(alloc, other)?;
     equal(rt, heap.join(&other), Err(refusal));
-    holds(rt, same(&heap, &named(alloc, part)?));
-    Ok(())
+    check_names(rt, alloc, &heap, part)
 }
 
 #[test]
@@ -157,11 +163,21 @@ fn joined_heaps_of_all_tables(rt: HostRuntime) -> Result<(), Fail> {
     let others = [unload, root, sticky, bytes];
     let mut one = joined(&rt, rt.alloc(), &given, &others)?;
     let facts = [name, unload, end, root, sticky, bytes, ints];
-    let all = heap_of(&rt, rt.alloc(), IdSize::Four, &facts)?;
-    holds(&rt, same(&one, &all));
+    check_facts(&rt, rt.alloc(), &one, &facts)?;
     let chars = array(1, Basic::Char, b"abcd");
     check_clash(&rt, rt.alloc(), &mut one, chars, Key::Object(1))?;
-    holds(&rt, same(&one, &all));
+    check_facts(&rt, rt.alloc(), &one, &facts)
+}
+
+// That the heap is that of these facts.
+fn check_facts(
+    rt: &impl Abort,
+    alloc: Global,
+    heap: &Heap,
+    facts: &[Fact<'_>],
+) -> Result<(), Fail> {
+    let expected = heap_of(rt, alloc, IdSize::Four, facts)?;
+    holds(rt, same(heap, &expected));
     Ok(())
 }
 
@@ -211,9 +227,7 @@ fn check_joined(
     other: Fact<'_>,
 ) -> Result<(), Fail> {
     let heap = joined(rt, alloc, &[fact], &[other])?;
-    let both = heap_of(rt, alloc, IdSize::Four, &[fact, other])?;
-    holds(rt, same(&heap, &both));
-    Ok(())
+    check_facts(rt, alloc, &heap, &[fact, other])
 }
 
 #[test]

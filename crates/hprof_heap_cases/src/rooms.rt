@@ -58,15 +58,20 @@ fn rows_of_small_stacks_are_small(rt: HostRuntime) -> Result<(), Fail> {
     Ok(())
 }
 
+// By how much the process grows where the heap is joined with the other.
+fn grown_by_join(rt: &HostRuntime, heap: &mut Heap, other: &Heap) -> Result<u64, Fail> {
+    let before = size(rt)?;
+    heap.join(other)?;
+    Ok(size(rt)?.saturating_sub(before))
+}
+
 // What a join takes for the rows that were missing, it takes once.
 #[test]
 fn joined_rows_have_no_room_to_spare(rt: HostRuntime) -> Result<(), Fail> {
     let bytes = vec![in rt.alloc(); 0; 79_000]?;
     let other = traces_of(&rt, rt.alloc(), 256, &bytes)?.finish()?;
     let mut heap = begun(rt.alloc(), IdSize::Four, 1)?.finish()?;
-    let before = size(&rt)?;
-    equal(&rt, heap.join(&other), Ok(()));
-    let grown = size(&rt)?.saturating_sub(before);
+    let grown = grown_by_join(&rt, &mut heap, &other)?;
     equal(&rt, heap.count(), 256);
     assert!(rt; grown <= 20_426_240, "{grown}");
     Ok(())
@@ -85,14 +90,20 @@ fn roots_from(rt: &impl Abort, alloc: Global, first: u64, count: u64) -> Result<
     Ok(gatherer.finish()?)
 }
 
+// Joins the heap with one of this root.
+fn join_root(rt: &impl Abort, alloc: Global, heap: &mut Heap, id: u64) -> Result<(), Fail> {
+    let other = roots_from(rt, alloc, id, 1)?;
+    equal(rt, heap.join(&other), Ok(()));
+    Ok(())
+}
+
 // Each join makes a new set of 1,000 roots and more, and the old one is given back.
 #[test]
 fn joins_give_roots_back(rt: HostRuntime) -> Result<(), Fail> {
     let mut heap = roots_from(&rt, rt.alloc(), 0, 1_000)?;
     let before = size(&rt)?;
     for number in 0..400u64 {
-        let other = roots_from(&rt, rt.alloc(), 1_000 + number, 1)?;
-        equal(&rt, heap.join(&other), Ok(()));
+        join_root(&rt, rt.alloc(), &mut heap, 1_000 + number)?;
     }
     let grown = size(&rt)?.saturating_sub(before);
     equal(&rt, heap.count(), 1_400);

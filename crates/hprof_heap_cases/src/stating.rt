@@ -5,7 +5,7 @@ ghost use Rattle.hprof_heap.specs.Gathering.{gathered};
 
 use crate::expecting::equal;
 use crate::samples::{begun, state_each, state_record, state_sub};
-use hprof_heap::{Gatherer, Key, Refusal, Standing, Table};
+use hprof_heap::{Gatherer, Heap, Key, Refusal, Standing, Table};
 use hprof_items::{Fact, IdSize};
 use hprof_lists::IdList;
 use hprof_stream::SinkFault;
@@ -13,6 +13,16 @@ use hprof_tables::Stated;
 use std::alloc::Global;
 use std::process::Abort;
 use std::test::*;
+
+// That the heap has this load and frame 1, trace 6 and thread 7, one end, and six facts in all.
+fn check_records(rt: &impl Abort, heap: &Heap, [load, frame, trace, start]: [Fact<'_>; 4]) {
+    equal(rt, heap.load(1), Some(load));
+    equal(rt, heap.frame(1), Some(frame));
+    equal(rt, heap.trace(6), Some(trace));
+    equal(rt, heap.thread(7), Some(start));
+    equal(rt, heap.count(), 6);
+    equal(rt, heap.len(Table::Ends), 1);
+}
 
 #[test]
 fn records_in_a_heap(rt: HostRuntime) -> Result<(), Fail> {
@@ -57,11 +67,7 @@ fn records_in_a_heap(rt: HostRuntime) -> Result<(), Fail> {
     state_each(&rt, rt.alloc(), &mut gatherer, ids, &facts, Stated::New)?;
     state_each(&rt, rt.alloc(), &mut gatherer, ids, &facts, Stated::Same)?;
     let heap = gatherer.heap().ok_or("no heap")?;
-    let found = (heap.load(1), heap.frame(1));
-    equal(&rt, found, (Some(load), Some(frame)));
-    let found = (heap.trace(6), heap.thread(7));
-    equal(&rt, found, (Some(trace), Some(start)));
-    equal(&rt, (heap.count(), heap.len(Table::Ends)), (6, 1));
+    check_records(&rt, heap, [load, frame, trace, start]);
     // From the first that differs on, the heap is shown no more.
     equal(
         &rt,
@@ -92,6 +98,22 @@ fn state_twice(
     Ok(())
 }
 
+// That the heap has one root and the instance 7, and nothing else.
+fn check_root_and_instance(rt: &impl Abort, heap: &Heap) {
+    let fact = Fact::Instance {
+        id: 7,
+        trace: 1,
+        class: 2,
+        bytes: b"abc",
+    };
+    equal(rt, heap.object(7), Some(fact));
+    equal(rt, heap.object(8), None);
+    equal(rt, heap.class(7), None);
+    equal(rt, heap.len(Table::Roots), 1);
+    equal(rt, heap.len(Table::Objects), 1);
+    equal(rt, heap.count(), 2);
+}
+
 #[test]
 fn sub_records_in_a_heap(rt: HostRuntime) -> Result<(), Fail> {
     let ids = IdSize::Four;
@@ -100,21 +122,7 @@ fn sub_records_in_a_heap(rt: HostRuntime) -> Result<(), Fail> {
     state_twice(&rt, &mut gatherer, ids, root)?;
     let instance = b"\x21\0\0\0\x07\0\0\0\x01\0\0\0\x02\0\0\0\x03abc";
     state_twice(&rt, &mut gatherer, ids, instance)?;
-    let heap = gatherer.heap().ok_or("no heap")?;
-    let fact = Fact::Instance {
-        id: 7,
-        trace: 1,
-        class: 2,
-        bytes: b"abc",
-    };
-    let found = (heap.object(7), heap.object(8), heap.class(7));
-    equal(&rt, found, (Some(fact), None, None));
-    let lens = (
-        heap.len(Table::Roots),
-        heap.len(Table::Objects),
-        heap.count(),
-    );
-    equal(&rt, lens, (1, 1, 2));
+    check_root_and_instance(&rt, gatherer.heap().ok_or("no heap")?);
     Ok(())
 }
 
