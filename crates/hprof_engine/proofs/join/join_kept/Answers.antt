@@ -1,4 +1,4 @@
-use Rattle.std.proofs.Common.{length, Result, ap, sym, subst, ◌∙◌}
+use Rattle.std.proofs.Common.{length, Result, ap, sym, subst, ◌∙◌, rules}
 use Rattle.hprof_devices.specs.Device.{health_after}
 use Rattle.hprof_heap.specs.declared.heap.Heap.{Heap}
 use Rattle.hprof_heap.specs.Heap.{heap_of}
@@ -39,3 +39,51 @@ returns-in-Err-clause-write g c = λ fault same.
         written = c.in-Err.ensures.bytes.2;
       },
     )
+
+pub returns-in-Err-clause-heap : goal.returns-in-Err-clause-heap
+returns-in-Err-clause-heap g c = search rules
+
+pub returns-in-Err-clause-ok : goal.returns-in-Err-clause-ok
+returns-in-Err-clause-ok g c = search rules
+
+pub returns-in-Err-clause-read_out : goal.returns-in-Err-clause-read_out
+returns-in-Err-clause-read_out g c = search rules
+
+pub returns-in-Ok-clause-accepted : goal.returns-in-Ok-clause-accepted
+returns-in-Ok-clause-accepted g c = search rules
+
+pub returns-in-Ok-clause-conflict : goal.returns-in-Ok-clause-conflict
+returns-in-Ok-clause-conflict g c = search rules
+
+pub returns-in-Ok-clause-heap : goal.returns-in-Ok-clause-heap
+returns-in-Ok-clause-heap g c = search rules
+
+pub returns-in-Ok-clause-id_sizes : goal.returns-in-Ok-clause-id_sizes
+returns-in-Ok-clause-id_sizes g c = search rules
+
+pub returns-in-Ok-clause-no_memory : goal.returns-in-Ok-clause-no_memory
+returns-in-Ok-clause-no_memory g c = search rules
+
+pub returns-in-Ok-clause-no_other : goal.returns-in-Ok-clause-no_other
+returns-in-Ok-clause-no_other g c = search rules
+
+pub returns-in-Ok-clause-no_parts : goal.returns-in-Ok-clause-no_parts
+returns-in-Ok-clause-no_parts g c = search rules
+
+pub returns-in-Ok-clause-part : goal.returns-in-Ok-clause-part
+returns-in-Ok-clause-part g c = search rules
+
+pub returns-in-Ok-clause-read_out : goal.returns-in-Ok-clause-read_out
+returns-in-Ok-clause-read_out g c = search rules
+
+pub returns-in-Ok-clause-unwritten : goal.returns-in-Ok-clause-unwritten
+returns-in-Ok-clause-unwritten g c = search rules
+
+pub returns-in-Ok-clause-well : goal.returns-in-Ok-clause-well
+returns-in-Ok-clause-well g c = search rules
+
+pub returns-in-Ok-clause-write : goal.returns-in-Ok-clause-write
+returns-in-Ok-clause-write g c = search rules
+
+pub returns-in_err-heap-clause-unwritten : goal.returns-in_err-heap-clause-unwritten
+returns-in_err-heap-clause-unwritten g c = search rules

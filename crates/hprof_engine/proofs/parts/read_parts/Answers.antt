@@ -1,5 +1,5 @@
 use Rattle.std.proofs.lemmas.List.{length-set}
-use Rattle.std.proofs.Common.{◌≡◌, ◌≢◌, ℕ, ◌+◌, ◌-◌, ◌<◌, length, set, get_or, Some, ap, subst, ◌∙◌, arith, get_or-set_other}
+use Rattle.std.proofs.Common.{◌≡◌, ◌≢◌, ℕ, ◌+◌, ◌-◌, ◌<◌, length, set, get_or, Some, ap, subst, ◌∙◌, arith, get_or-set_other, rules}
 use Rattle.hprof_items.specs.declared.header.Header.{Header}
 use Rattle.hprof_heap.specs.Gathering.{gathered}
 use Rattle.hprof_engine.proofs.Gathered.{Run-shown, Run-sound}
@@ -111,3 +111,6 @@ returns-clause-summaries g c =
     let all : c.loop-index.index ≡ length c.args.readers.now = omega arith in
     subst (λ (count : ℕ). KeepsFirst g.R.Source.left g.S.Summaries.keeps c.args.readers.now count c.args.summaries.now
     c.loop-index.summaries) all c.loop-index.invariant.kept
+
+pub returns-clause-read : goal.returns-clause-read
+returns-clause-read g c = search rules

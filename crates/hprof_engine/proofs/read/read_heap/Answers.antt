@@ -1,4 +1,4 @@
-use Rattle.std.proofs.Common.{ℕ, ◌≤◌, length, Result, refl, sym, subst, ◌∙◌, arith}
+use Rattle.std.proofs.Common.{ℕ, ◌≤◌, length, Result, refl, sym, subst, ◌∙◌, arith, rules}
 use Rattle.hprof_items.specs.Spelling.{longest_body}
 use Rattle.hprof_heap.specs.declared.heap.Heap.{Heap}
 use Rattle.hprof_heap.specs.declared.standing.Refusal.TheVariants as refusals
@@ -134,3 +134,12 @@ pub returns-in-Err-Conflict-clause-accepted : goal.returns-in-Err-Conflict-claus
 returns-in-Err-Conflict-clause-accepted g c = λ read_all parts told.
     let read = c.in_ok-read_parts.ensures.read.0 in
     all_accepted g.R.Source.left c.args.limits c.args.readers.now read.given read.of_readers parts told
+
+pub returns-in-Err-IdSizes-clause-no_parts : goal.returns-in-Err-IdSizes-clause-no_parts
+returns-in-Err-IdSizes-clause-no_parts g c = search rules
+
+pub returns-in-Err-NoParts-clause-id_sizes : goal.returns-in-Err-NoParts-clause-id_sizes
+returns-in-Err-NoParts-clause-id_sizes g c = search rules
+
+pub returns-in-Ok-clause-conflict : goal.returns-in-Ok-clause-conflict
+returns-in-Ok-clause-conflict g c = search rules

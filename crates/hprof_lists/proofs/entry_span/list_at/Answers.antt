@@ -1,4 +1,5 @@
-use Rattle.std.proofs.Common.{◌-◌, take, refl, ap, sym, ◌∙◌, arith}
+use Rattle.std.proofs.Common.{◌-◌, take, refl, ap, sym, ◌∙◌, arith, rules}
+use Rattle.hprof_lists.specs.Entries.{list_end}
 use Rattle.hprof_lists.proofs.ListEnds.{list_span}
 use Rattle.hprof_lists.proofs.entry_span.list_at.Goals as goal
 
@@ -21,3 +22,7 @@ returns-clause-spelled c =
     c.count_at-count.ensures.count
     (sym c.end_of.ensures ∙ c.in_ok-first.was) (sym c.entries_end.ensures.end ∙ c.in_ok-end.was) (c.split_at-2.ensures.front
     ∙ ap (take (c.in_ok-end.end - c.in_ok-first.first)) c.split_at.ensures.back)).spelled
+
+pub returns-clause-end : goal.returns-clause-end
+unfolding list_end
+returns-clause-end c = search rules

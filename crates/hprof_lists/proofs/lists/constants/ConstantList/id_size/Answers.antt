@@ -1,4 +1,4 @@
-use Rattle.std.proofs.Common.{subst, arith}
+use Rattle.std.proofs.Common.{subst, arith, rules}
 use Rattle.hprof_lists.specs.declared.entry.EntryKind.TheVariants as kinds
 use Rattle.hprof_values.specs.Ids.{IsBytes}
 use Rattle.hprof_lists.proofs.Counting.{entries_fit}
@@ -12,3 +12,6 @@ returns-clause-fits c =
       entries_fit list.ids kinds.Constant list.len list.bytes.now range,
       omega (arith, length-entries list.ids kinds.Constant list.len list.bytes.now),
     )
+
+pub returns-clause-size : goal.returns-clause-size
+returns-clause-size c = search rules

@@ -1,4 +1,4 @@
-use Rattle.std.proofs.Common.{arith}
+use Rattle.std.proofs.Common.{arith, rules}
 use Rattle.hprof_lists.proofs.IdLists.{ids_found, ids_again, whole_by, cut_by}
 use Rattle.hprof_lists.proofs.lists.ids.IdList.new.Goals as goal
 
@@ -13,3 +13,12 @@ returns-clause-found c =
 
 pub returns-clause-only : goal.returns-clause-only
 returns-clause-only c = λ identifiers list. (ids_again c.args.ids identifiers c.args.bytes.now list).1
+
+pub returns-clause-size : goal.returns-clause-size
+returns-clause-size c = search rules
+
+pub returns-then-bytes-width-ne0-clause-found : goal.returns-then-bytes-width-ne0-clause-found
+returns-then-bytes-width-ne0-clause-found c = search rules
+
+pub returns-then-bytes-width-ne0-clause-size : goal.returns-then-bytes-width-ne0-clause-size
+returns-then-bytes-width-ne0-clause-size c = search rules

@@ -1,0 +1,8 @@
+use Rattle.std.proofs.Common.{rules}
+use Rattle.hprof_lists.proofs.lists.constants.ConstantList.of_span.Goals as goal
+
+pub returns-clause-entries : goal.returns-clause-entries
+returns-clause-entries c = search rules
+
+pub returns-clause-size : goal.returns-clause-size
+returns-clause-size c = search rules
