@@ -20,3 +20,9 @@ returns-else-same_records c =
       λ yes. let no : c.same_records.result ≡ false = c.if-same_records.false in absurd cc,
       λ same. c.same_records.ensures.1 (records_same one other c.args.one.now.sound c.args.other.now.sound same),
     )
+
+pub returns-then-millis : goal.returns-then-millis
+returns-then-millis c = search rules
+
+pub returns-then-ne : goal.returns-then-ne
+returns-then-ne c = search rules

@@ -29,3 +29,9 @@ pub returns-in-Some-None-clause-told : goal.returns-in-Some-None-clause-told
 returns-in-Some-None-clause-told c =
     let answer : answer_of (gathered c.args.self) ≡ Ok (heap_of c.in-Some-default.field-0-0) = search rules in
     λ parts gathers. subst (Tells parts) answer (told c.args.self parts gathers)
+
+pub returns-in-Some-Some-clause-answer : goal.returns-in-Some-Some-clause-answer
+returns-in-Some-Some-clause-answer c = search rules
+
+pub returns-in-Some-default-clause-answer : goal.returns-in-Some-default-clause-answer
+returns-in-Some-default-clause-answer c = search rules

@@ -1,4 +1,4 @@
-use Rattle.std.proofs.Common.{◌≡◌, refl, sym, ap, subst, inl, inr}
+use Rattle.std.proofs.Common.{◌≡◌, refl, sym, ap, subst, inl, inr, rules}
 use Rattle.hprof_items.specs.FactValue.{value_of}
 use Rattle.hprof_tables.specs.declared.relation.Stated.{Stated}
 use Rattle.hprof_tables.specs.declared.relation.Stated.TheVariants.{New, Same, Differs}
@@ -32,3 +32,6 @@ returns-in-Differs-clause-steps c =
 pub returns-in_default-state-clause-err : goal.returns-in_default-state-clause-err
 returns-in_default-state-clause-err c =
     (λ sound. (refl, (c.if-self-2.false, (heap_of c.in-Some.heap, ap lent_heap c.in-Some.is, c.in_default-state.ensures.absent))), refl)
+
+pub returns-then-self-2 : goal.returns-then-self-2
+returns-then-self-2 c = search rules

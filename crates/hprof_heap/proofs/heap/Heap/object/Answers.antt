@@ -1,4 +1,4 @@
-use Rattle.std.proofs.Common.{[], Some, ap, refl, sym, ◌∙◌, arith}
+use Rattle.std.proofs.Common.{[], Some, ap, refl, sym, ◌∙◌, arith, rules}
 use Rattle.std.specs.Option.{option_map}
 use Rattle.hprof_items.specs.FactValue.{FactValue, value_of, Instance}
 use Rattle.hprof_rows.specs.declared.key.Key.TheVariants as keys
@@ -47,3 +47,9 @@ returns-clause-value c =
     let spells = row_spells heap.ids 9 c.args.id bytes (omega arith) right
     (found_fits (rows_in heap) (has_key (keys.Object c.args.id)) (spelled_fact heap.ids c.args.id bytes) heap.sound found) in
     ap (λ (fact : FactValue). Some fact) (c.spelled_fact.ensures.fact (spelled_fact heap.ids c.args.id bytes) spells) ∙ sym found
+
+pub returns-clause-lists : goal.returns-clause-lists
+returns-clause-lists c = search rules
+
+pub returns-in_err-bytes-clause-lists : goal.returns-in_err-bytes-clause-lists
+returns-in_err-bytes-clause-lists c = search rules

@@ -1,4 +1,4 @@
-use Rattle.std.proofs.Common.{sym, subst, ◌∙◌}
+use Rattle.std.proofs.Common.{sym, subst, ◌∙◌, rules}
 use Rattle.hprof_rows.specs.Tables.{number_of_table, stands_in}
 use Rattle.hprof_heap.specs.Heap.{heap_of}
 use Rattle.hprof_rows.specs.Order.{IsCanonicalOrder}
@@ -10,3 +10,9 @@ returns-clause-ordered c =
     let heap = c.args.self.now in
     subst IsCanonicalOrder (sym (c.new.ensures.all ∙ c.table_rows.ensures.all))
     (passed_ordered (stands_in (number_of_table c.args.table)) (heap_of heap).facts heap.sound.heap.ordered)
+
+pub returns-clause-all : goal.returns-clause-all
+returns-clause-all c = search rules
+
+pub returns-clause-ids : goal.returns-clause-ids
+returns-clause-ids c = search rules

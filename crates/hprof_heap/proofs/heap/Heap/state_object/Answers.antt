@@ -1,4 +1,4 @@
-use Rattle.std.proofs.Common.{refl, arith}
+use Rattle.std.proofs.Common.{refl, arith, rules}
 use Rattle.hprof_items.specs.FactValue.{value_of}
 use Rattle.hprof_rows.specs.Content.{spelled_fact}
 use Rattle.hprof_tables.specs.Places.{the_bytes}
@@ -53,3 +53,6 @@ returns-clause-absent c =
     let fact = value_of c.args.fact.now in
     unseen_row c.state.result (rows_in heap) 9 c.args.id (spelled_fact heap.ids) the_bytes (byte_rows heap.objects) fact heap.sound
     c.requires.place heap.sound.objects refl c.state.ensures.absent
+
+pub returns-clause-err : goal.returns-clause-err
+returns-clause-err c = search rules

@@ -1,4 +1,4 @@
-use Rattle.std.proofs.Common.{ap, sym, subst, ◌∙◌}
+use Rattle.std.proofs.Common.{ap, sym, subst, ◌∙◌, rules}
 use Rattle.hprof_rows.specs.declared.table.Table.TheVariants as tables
 use Rattle.hprof_heap.specs.Heap.{rows_in}
 use Rattle.hprof_rows.specs.HeapRows.{name_facts, load_facts, unload_facts, frame_facts, trace_facts, start_facts, end_facts, root_facts}
@@ -95,3 +95,12 @@ pub returns-in-Objects-clause-readable : goal.returns-in-Objects-clause-readable
 returns-in-Objects-clause-readable c =
     let heap = c.args.self.now in
     subst (AreSpelled heap.ids) (sym c.rows-in-Objects.ensures.all) (objects_spelled (rows_in heap) heap.sound)
+
+pub returns-in-Frames-clause-readable : goal.returns-in-Frames-clause-readable
+returns-in-Frames-clause-readable c = search rules
+
+pub returns-in-Names-clause-readable : goal.returns-in-Names-clause-readable
+returns-in-Names-clause-readable c = search rules
+
+pub returns-in-Roots-clause-readable : goal.returns-in-Roots-clause-readable
+returns-in-Roots-clause-readable c = search rules

@@ -1,4 +1,4 @@
-use Rattle.std.proofs.Common.{[], Some, ap, refl, sym, ◌∙◌}
+use Rattle.std.proofs.Common.{[], Some, ap, refl, sym, ◌∙◌, rules}
 use Rattle.std.specs.Option.{option_map}
 use Rattle.hprof_items.specs.FactValue.{FactValue, value_of, Trace}
 use Rattle.hprof_rows.specs.declared.key.Key.TheVariants as keys
@@ -39,3 +39,9 @@ returns-clause-value c =
     (rows_of heap.traces) (Trace c.args.serial 0 []) _
     heap.sound refl refl heap.sound.traces refl (sym c.in_ok-row.ensures) in
     ap (λ (fact : FactValue). Some fact) c.fact.ensures.value ∙ sym found
+
+pub returns-clause-lists : goal.returns-clause-lists
+returns-clause-lists c = search rules
+
+pub returns-in_err-row-clause-lists : goal.returns-in_err-row-clause-lists
+returns-in_err-row-clause-lists c = search rules
