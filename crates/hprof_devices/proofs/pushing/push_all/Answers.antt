@@ -1,5 +1,6 @@
-use Rattle.std.proofs.Common.{◌≡◌, ◌++◌, List, ℕ, take, sym, ap, ◌∙◌, take-append-drop}
+use Rattle.std.proofs.Common.{◌≡◌, ◌++◌, List, ℕ, take, sym, ap, ◌∙◌, take-append-drop, arith, rules}
 use Rattle.std.proofs.lemmas.Result.{err_from_is_err_and}
+use Rattle.std.proofs.lemmas.Grind.{common_steps}
 use Rattle.hprof_devices.proofs.Writes.{Pushed-more, Pushed-stopped}
 use Rattle.hprof_devices.proofs.pushing.push_all.Goals as goal
 
@@ -19,3 +20,12 @@ loop-rest-preserved g c =
           c.in_ok-count.ensures.bytes;
       well = c.in_ok-count.ensures.health;
     }
+
+pub returns-clause-bytes : goal.returns-clause-bytes
+returns-clause-bytes g c = grind (arith, common_steps)
+
+pub returns-clause-health : goal.returns-clause-health
+returns-clause-health g c = search rules
+
+pub returns-in_err-count-clause-health : goal.returns-in_err-count-clause-health
+returns-in_err-count-clause-health g c = search rules

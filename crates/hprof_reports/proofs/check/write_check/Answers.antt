@@ -1,4 +1,4 @@
-use Rattle.std.proofs.Common.{codes, refl, zero}
+use Rattle.std.proofs.Common.{codes, refl, zero, rules}
 use Rattle.std.specs.List.{flat_map}
 use Rattle.std.proofs.lemmas.Result.{err_from_is_err_and}
 use Rattle.hprof_devices.proofs.Writes.{Writes-then, Writes-stops}
@@ -52,3 +52,12 @@ returns-clause-bytes g c =
           (Writes-then mid last new zero r (flat_map (table_line facts) all_tables) (count_line (codes "bad names") bad)
           c.in_ok-write_tables.ensures.bytes c.write_count.ensures.bytes),
     )
+
+pub returns-clause-health : goal.returns-clause-health
+returns-clause-health g c = search rules
+
+pub returns-in_err-write_parts-clause-health : goal.returns-in_err-write_parts-clause-health
+returns-in_err-write_parts-clause-health g c = search rules
+
+pub returns-in_err-write_tables-clause-health : goal.returns-in_err-write_tables-clause-health
+returns-in_err-write_tables-clause-health g c = search rules

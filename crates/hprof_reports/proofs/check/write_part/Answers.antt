@@ -1,4 +1,4 @@
-use Rattle.std.proofs.Common.{ap, subst, ◌∙◌}
+use Rattle.std.proofs.Common.{ap, subst, ◌∙◌, rules}
 use Rattle.std.specs.Fmt.{decimal}
 use Rattle.hprof_devices.specs.Device.{Writes}
 use Rattle.hprof_reports.proofs.Lines.{part_line_of}
@@ -17,3 +17,6 @@ returns-clause-bytes g c =
     (c.as_bytes-5.ensures.value ∙ c.format-5.ensures.text)
     c.yes_or_no.ensures)
     c.write_pieces.ensures.bytes
+
+pub returns-clause-health : goal.returns-clause-health
+returns-clause-health g c = search rules

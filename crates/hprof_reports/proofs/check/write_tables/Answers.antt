@@ -1,4 +1,4 @@
-use Rattle.std.proofs.Common.{get_or, subst}
+use Rattle.std.proofs.Common.{get_or, subst, rules}
 use Rattle.std.specs.Io.KnownBytes.{Appends}
 use Rattle.std.proofs.lemmas.Result.{err_from_is_err_and}
 use Rattle.hprof_devices.proofs.Writes.{WritesFront}
@@ -41,3 +41,9 @@ pub returns-clause-bytes : goal.returns-clause-bytes
 returns-clause-bytes g c =
     slice_all (table_line (heap_of c.args.heap.now).facts) (g.W.Target.written c.args.target.now) (g.W.Target.written c.loop-table.target)
     all_tables c.loop-table.table-index c.loop-table-test.false c.loop-table.invariant.wrote
+
+pub returns-clause-health : goal.returns-clause-health
+returns-clause-health g c = search rules
+
+pub returns-in_err-write_count-clause-health : goal.returns-in_err-write_count-clause-health
+returns-in_err-write_count-clause-health g c = search rules

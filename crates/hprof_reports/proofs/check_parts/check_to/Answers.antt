@@ -1,4 +1,4 @@
-use Rattle.std.proofs.Common.{◌≡◌, Ok, Result, refl, sym, subst}
+use Rattle.std.proofs.Common.{◌≡◌, Ok, Result, refl, sym, subst, rules}
 use Rattle.std.specs.Prelude.{MatchResult, IsErrAnd}
 use Rattle.hprof_engine.specs.declared.tool_fault.ToolFault.{ToolFault}
 use Rattle.hprof_engine.specs.declared.tool_fault.ToolFault.TheVariants as tool
@@ -42,3 +42,63 @@ returns-clause-write g c = λ fault same.
           (c.in_ok-heap.ensures.ok parts told) c.deref.ensures.value read (g.W.Target.written c.args.target.now)
           (g.W.Target.written c.write_check.new.target) c.write_check.result c.write_check.ensures.bytes fault is,
     )
+
+pub returns-clause-accepted : goal.returns-clause-accepted
+returns-clause-accepted g c = search rules
+
+pub returns-clause-read_out : goal.returns-clause-read_out
+returns-clause-read_out g c = search rules
+
+pub returns-in_default-clause-accepted : goal.returns-in_default-clause-accepted
+returns-in_default-clause-accepted g c = search rules
+
+pub returns-in_default-clause-conflict : goal.returns-in_default-clause-conflict
+returns-in_default-clause-conflict g c = search rules
+
+pub returns-in_default-clause-id_sizes : goal.returns-in_default-clause-id_sizes
+returns-in_default-clause-id_sizes g c = search rules
+
+pub returns-in_default-clause-memory : goal.returns-in_default-clause-memory
+returns-in_default-clause-memory g c = search rules
+
+pub returns-in_default-clause-no_other : goal.returns-in_default-clause-no_other
+returns-in_default-clause-no_other g c = search rules
+
+pub returns-in_default-clause-no_parts : goal.returns-in_default-clause-no_parts
+returns-in_default-clause-no_parts g c = search rules
+
+pub returns-in_default-clause-ok : goal.returns-in_default-clause-ok
+returns-in_default-clause-ok g c = search rules
+
+pub returns-in_default-clause-part : goal.returns-in_default-clause-part
+returns-in_default-clause-part g c = search rules
+
+pub returns-in_default-clause-read_out : goal.returns-in_default-clause-read_out
+returns-in_default-clause-read_out g c = search rules
+
+pub returns-in_default-clause-unwritten : goal.returns-in_default-clause-unwritten
+returns-in_default-clause-unwritten g c = search rules
+
+pub returns-in_default-clause-well : goal.returns-in_default-clause-well
+returns-in_default-clause-well g c = search rules
+
+pub returns-in_default-clause-write : goal.returns-in_default-clause-write
+returns-in_default-clause-write g c = search rules
+
+pub returns-in_err-heap-clause-accepted : goal.returns-in_err-heap-clause-accepted
+returns-in_err-heap-clause-accepted g c = search rules
+
+pub returns-in_err-heap-clause-conflict : goal.returns-in_err-heap-clause-conflict
+returns-in_err-heap-clause-conflict g c = search rules
+
+pub returns-in_err-heap-clause-id_sizes : goal.returns-in_err-heap-clause-id_sizes
+returns-in_err-heap-clause-id_sizes g c = search rules
+
+pub returns-in_err-heap-clause-part : goal.returns-in_err-heap-clause-part
+returns-in_err-heap-clause-part g c = search rules
+
+pub returns-in_err-heap-clause-read_out : goal.returns-in_err-heap-clause-read_out
+returns-in_err-heap-clause-read_out g c = search rules
+
+pub returns-in_err-heap-clause-unwritten : goal.returns-in_err-heap-clause-unwritten
+returns-in_err-heap-clause-unwritten g c = search rules

@@ -1,4 +1,4 @@
-use Rattle.std.proofs.Common.{◌≡◌, ℕ, length, Result, Err, sym, ap, subst, ◌∙◌}
+use Rattle.std.proofs.Common.{◌≡◌, ℕ, length, Result, Err, sym, ap, subst, ◌∙◌, rules}
 use Rattle.hprof_engine.specs.Joining.{AreReadOut}
 use Rattle.hprof_tool.specs.declared.program.refused.Refused.{Refused}
 use Rattle.hprof_tool.specs.Program.{usual_limits, count_read}
@@ -17,3 +17,21 @@ returns-in_err-outcome-clause-read_out g c =
     subst (λ (count : ℕ). AreReadOut g.R.Source.left g.R.Source.health g.R.Source.pulls usual_limits c.args.readers.now
     c.make_into-outcome.new.readers count) (unit ∙ given)
     c.make_into-outcome.ensures.read_out
+
+pub returns-in_err-outcome-clause-kind : goal.returns-in_err-outcome-clause-kind
+returns-in_err-outcome-clause-kind g c = search rules
+
+pub returns-in_err-outcome-clause-memory : goal.returns-in_err-outcome-clause-memory
+returns-in_err-outcome-clause-memory g c = search rules
+
+pub returns-in_err-outcome-clause-no_parts : goal.returns-in_err-outcome-clause-no_parts
+returns-in_err-outcome-clause-no_parts g c = search rules
+
+pub returns-in_err-outcome-clause-ok : goal.returns-in_err-outcome-clause-ok
+returns-in_err-outcome-clause-ok g c = search rules
+
+pub returns-in_err-outcome-clause-part : goal.returns-in_err-outcome-clause-part
+returns-in_err-outcome-clause-part g c = search rules
+
+pub returns-in_err-outcome-clause-refused : goal.returns-in_err-outcome-clause-refused
+returns-in_err-outcome-clause-refused g c = search rules

@@ -1,4 +1,4 @@
-use Rattle.std.proofs.Common.{ℕ, length, subst}
+use Rattle.std.proofs.Common.{ℕ, length, subst, rules}
 use Rattle.std.specs.Io.Buffered.{writer_inner, writer_buffer}
 use Rattle.hprof_engine.specs.declared.tool_fault.ToolFault.TheVariants as tool
 use Rattle.hprof_engine.specs.Joining.{AreReadOut}
@@ -78,3 +78,12 @@ pub returns-clause-no_memory : goal.returns-clause-no_memory
 returns-clause-no_memory g c = λ dump is.
     let end = c.end_of_writing-outcome.ensures in
     c.make-made.ensures.no_memory dump (memory_answered c.make-made.result c.end_of_writing-outcome.result end.failed end.refused is)
+
+pub returns-clause-flushed : goal.returns-clause-flushed
+returns-clause-flushed g c = search rules
+
+pub returns-clause-no_parts : goal.returns-clause-no_parts
+returns-clause-no_parts g c = search rules
+
+pub returns-clause-unwritten : goal.returns-clause-unwritten
+returns-clause-unwritten g c = search rules

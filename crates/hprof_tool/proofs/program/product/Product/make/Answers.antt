@@ -1,4 +1,4 @@
-use Rattle.std.proofs.Common.{ℕ, length, Result, Err, sym, ap, subst}
+use Rattle.std.proofs.Common.{ℕ, length, Result, Err, sym, ap, subst, rules}
 use Rattle.hprof_stream.specs.declared.limits.Limits.{Limits}
 use Rattle.hprof_engine.specs.declared.joined.Joined.{Joined}
 use Rattle.hprof_engine.specs.declared.tool_fault.ToolFault.{ToolFault}
@@ -84,3 +84,9 @@ returns-in-Check-clause-write g c = λ fault same.
     let new = g.W.Target.written c.check_to.new.target in
     let stops = c.check_to.ensures.write fault same in
     (stops.0, λ parts told. subst (λ (p : Product). IsStopped p parts old new) (sym c.in-Check.is) (stops.1 parts told))
+
+pub returns-in-Check-clause-no_other : goal.returns-in-Check-clause-no_other
+returns-in-Check-clause-no_other g c = search rules
+
+pub returns-in-Check-clause-ok : goal.returns-in-Check-clause-ok
+returns-in-Check-clause-ok g c = search rules
