@@ -1,4 +1,4 @@
-use Rattle.std.proofs.Common.{◌≡◌, ◌++◌, List, sym, subst, ◌∙◌}
+use Rattle.std.proofs.Common.{◌≡◌, ◌++◌, List, sym, subst, ◌∙◌, rules}
 use Rattle.std.specs.Io.KnownBytes.{Appends}
 use Rattle.std.proofs.lemmas.Result.{err_from_is_err_and}
 use Rattle.hprof_values.specs.declared.ids.IdSize.{IdSize}
@@ -64,3 +64,12 @@ returns-in_err-write_fact-clause-bytes g c =
     Wrote-stops (spelling heap.ids) old mid new r p.0 all fact (facts_left c.next.new.self) p.1
     (subst (Wrote (spelling heap.ids) old mid all) c.in-Some.ensures.steps.0 loop.invariant.wrote)
     (subst (λ (ids : IdSize). WritesFront mid new (spelling ids fact)) c.ids-ids.ensures.value c.in_err-write_fact.ensures.bytes)
+
+pub returns-clause-bytes : goal.returns-clause-bytes
+returns-clause-bytes g c = search rules
+
+pub returns-clause-health : goal.returns-clause-health
+returns-clause-health g c = search rules
+
+pub returns-in_err-write_fact-clause-health : goal.returns-in_err-write_fact-clause-health
+returns-in_err-write_fact-clause-health g c = search rules

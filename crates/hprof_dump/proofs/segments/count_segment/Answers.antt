@@ -1,4 +1,4 @@
-use Rattle.std.proofs.Common.{◌≡◌, ◌∷◌, length, refl, subst, ◌∙◌}
+use Rattle.std.proofs.Common.{◌≡◌, ◌∷◌, length, refl, subst, ◌∙◌, rules}
 use Rattle.hprof_values.specs.declared.ids.IdSize.{IdSize}
 use Rattle.hprof_items.specs.SubRecord.{dump_bytes}
 use Rattle.hprof_rows.specs.SubRow.{sub_fact}
@@ -53,3 +53,9 @@ returns-clause-counted c =
     let loop = c.loop-row in
     let subs = sub_fact ids c.args.first ∷ subs_left c.args.ahead.now in
     Counts-all ids subs loop.count loop.len (subst (Counts ids subs loop.count loop.len) c.in_default.ensures.first.0 loop.invariant.counts)
+
+pub returns-then-longer-gt-MOST_IN_SEGMENT-clause-ids : goal.returns-then-longer-gt-MOST_IN_SEGMENT-clause-ids
+returns-then-longer-gt-MOST_IN_SEGMENT-clause-ids c = search rules
+
+pub returns-then-longer-gt-MOST_IN_SEGMENT-clause-next : goal.returns-then-longer-gt-MOST_IN_SEGMENT-clause-next
+returns-then-longer-gt-MOST_IN_SEGMENT-clause-next c = search rules

@@ -1,4 +1,4 @@
-use Rattle.std.proofs.Common.{◌≡◌, List, length, take, subst, sym, ◌∙◌}
+use Rattle.std.proofs.Common.{◌≡◌, List, length, take, subst, sym, ◌∙◌, rules}
 use Rattle.std.specs.Prelude.{IfSome}
 use Rattle.std.specs.Io.KnownBytes.{Appends}
 use Rattle.std.specs.List.{flat_map}
@@ -103,3 +103,12 @@ loop-next-preserved g c =
       ahead_ids = c.count_segment-segment.ensures.ids ∙ loop.invariant.ahead_ids;
       well = c.in_ok-write_segment.ensures.health;
     }
+
+pub returns-clause-bytes : goal.returns-clause-bytes
+returns-clause-bytes g c = search rules
+
+pub returns-clause-health : goal.returns-clause-health
+returns-clause-health g c = search rules
+
+pub returns-in_err-write_segment-clause-health : goal.returns-in_err-write_segment-clause-health
+returns-in_err-write_segment-clause-health g c = search rules

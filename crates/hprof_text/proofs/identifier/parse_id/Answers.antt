@@ -17,3 +17,6 @@ returns-clause-value c =
 
 pub returns-clause-digits : goal.returns-clause-digits
 returns-clause-digits c = parses_to c.args.text.now c.ok.result (returns-clause-value c)
+
+pub returns-then-text-gt16-clause-value : goal.returns-then-text-gt16-clause-value
+returns-then-text-gt16-clause-value c = search rules

@@ -30,3 +30,6 @@ returns-clause-ok c =
     let text = (MatchResult-at_ok _ _ c.unwrap.result c.unwrap.ensures c.from_utf8.ensures.cases).0 in
     pushes c.push_str.result _ _ c.unwrap.result.now _ (text ∙ written (goal.at.returns-clause-ok c).After-hex_digit-2)
     c.push_str.ensures.bytes
+
+pub returns-clause-err : goal.returns-clause-err
+returns-clause-err c = search rules
