@@ -3,7 +3,9 @@
 use crate::counters::{TALLY, Tally};
 use crate::expecting::{equal, equal_bytes, equal_text};
 use crate::outputs::WRITE_FAILED;
-use crate::program::{FailsOnce, ended, expect_done, expect_told, path_of, remove, written};
+use crate::program::{
+    FailsOnce, ended, expect_done, expect_each_unreported, expect_told, path_of, remove, written,
+};
 use crate::records::as_the_jdk_writes;
 use crate::samples::{
     END, HEADER, NAME_1_A, NAME_1_B, OLD_HEADER, WIDE_HEADER, bytes_of, plain_part, readers_of,
@@ -181,28 +183,19 @@ fn parts_without_a_report(rt: HostRuntime) -> Result<(), Fail> {
     let wide = written(&rt, "check-wide", &[WIDE_HEADER])?;
     let cut = written(&rt, "check-cut", &[HEADER, &NAME_1_A[..10]])?;
     let missing = path_of(&rt, "check-missing")?;
+    let [one, other, wide, cut, missing] = [&one, &other, &wide, &cut, &missing].map(
+        |path| path.as_str(),
+    );
     expect_told(&rt, rt.alloc(), &["check"], &[], "hprof: no parts\n")?;
-    let words = ["check", one.as_str(), other.as_str()];
-    expect_told(&rt, rt.alloc(), &words, &[], "hprof: conflict at name 1\n")?;
-    let words = ["check", one.as_str(), wide.as_str()];
-    expect_told(
-        &rt,
-        rt.alloc(),
-        &words,
-        &[],
-        "hprof: identifier sizes differ\n",
-    )?;
-    let words = ["check", one.as_str(), cut.as_str()];
-    let line = "hprof: part 1: malformed at 31: Truncated\n";
-    expect_told(&rt, rt.alloc(), &words, &[], line)?;
-    let words = ["check", one.as_str(), missing.as_str()];
-    expect_told(&rt, rt.alloc(), &words, &[], "hprof: cannot open part 1\n")?;
-    let words = ["check", missing.as_str(), one.as_str(), missing.as_str()];
-    expect_told(&rt, rt.alloc(), &words, &[], "hprof: cannot open part 0\n")?;
-    remove(
-        &rt,
-        &[one.as_str(), other.as_str(), wide.as_str(), cut.as_str()],
-    )
+    let cases: [(&[&str], &str); 5] = [
+        (&[one, other], "hprof: conflict at name 1\n"),
+        (&[one, wide], "hprof: identifier sizes differ\n"),
+        (&[one, cut], "hprof: part 1: malformed at 31: Truncated\n"),
+        (&[one, missing], "hprof: cannot open part 1\n"),
+        (&[missing, one, missing], "hprof: cannot open part 0\n"),
+    ];
+    expect_each_unreported(&rt, rt.alloc(), &cases)?;
+    remove(&rt, &[one, other, wide, cut])
 }
 
 #[test]

@@ -2,16 +2,19 @@
 
 use crate::conflicts::array_of;
 use crate::disk::{Disk, Trouble};
-use crate::expecting::equal_at;
+use crate::expecting::{equal, equal_at};
 use crate::program::{
-    SHORT_TRACE, ended, expect_done, expect_file, expect_refused, expect_told, path_of, remove,
-    written,
+    SHORT_TRACE, ended, expect_done, expect_each_refused, expect_file, expect_refused, expect_told,
+    path_of, remove, written,
 };
 use crate::samples::{
     ARRAY_16, END, HEADER, NAME_1_A, NAME_2_B, STICKY_16, bytes_of, plain_dump, record,
 };
 use hprof_tool::Status;
+use std::alloc::Global;
 use std::cell::Cell;
+use std::process::Abort;
+use std::rt::Files;
 use std::test::Fail;
 
 #[test]
@@ -24,9 +27,12 @@ fn objects_that_contradict(rt: HostRuntime) -> Result<(), Fail> {
     let out = path_of(&rt, "object-out")?;
     let [out, one, other, both] = [&out, &one, &other, &both].map(|path| path.as_str());
     let text = "hprof: conflict at object 10\n";
-    expect_refused(&rt, rt.alloc(), out, &[one, other], text)?;
-    expect_refused(&rt, rt.alloc(), out, &[other, one], text)?;
-    expect_refused(&rt, rt.alloc(), out, &[both], text)?;
+    let cases: [(&[&str], &str); 3] = [
+        (&[one, other], text),
+        (&[other, one], text),
+        (&[both], text),
+    ];
+    expect_each_refused(&rt, rt.alloc(), out, &cases)?;
     remove(&rt, &[one, other, both])
 }
 
@@ -59,10 +65,11 @@ fn empty_file_for_a_part(rt: HostRuntime) -> Result<(), Fail> {
     let void = written(&rt, "void-part", &[])?;
     let out = path_of(&rt, "void-out")?;
     let [out, good, void] = [&out, &good, &void].map(|path| path.as_str());
-    let text = "hprof: part 0: malformed at 0: Truncated\n";
-    expect_refused(&rt, rt.alloc(), out, &[void], text)?;
-    let text = "hprof: part 1: malformed at 0: Truncated\n";
-    expect_refused(&rt, rt.alloc(), out, &[good, void], text)?;
+    let cases: [(&[&str], &str); 2] = [
+        (&[void], "hprof: part 0: malformed at 0: Truncated\n"),
+        (&[good, void], "hprof: part 1: malformed at 0: Truncated\n"),
+    ];
+    expect_each_refused(&rt, rt.alloc(), out, &cases)?;
     remove(&rt, &[good, void])
 }
 
@@ -77,6 +84,26 @@ fn empty_file_for_the_new_one(rt: HostRuntime) -> Result<(), Fail> {
     remove(&rt, &words[1..])
 }
 
+/// Checks that the program does what these words ask for, and opens or creates three files.
+fn expect_three_opened<F: Files + Abort>(
+    rt: &F,
+    alloc: Global,
+    words: &[&str],
+) -> Result<(), Fail> {
+    let opened = Cell::new(0);
+    let files = Disk {
+        files: rt,
+        opened: &opened,
+        room: usize::MAX,
+        trouble: Trouble::Fails,
+    };
+    let mut output = Vec::new(alloc);
+    let (status, errors) = ended(alloc, &files, words, [].as_slice(), &mut output)?;
+    equal_at(rt, opened.get(), (status, errors.len()), (Status::Done, 0));
+    equal(rt, opened.get(), 3);
+    Ok(())
+}
+
 #[test]
 fn each_file_is_opened_once(rt: HostRuntime) -> Result<(), Fail> {
     let one = written(&rt, "once-one", &[HEADER, NAME_1_A])?;
@@ -85,17 +112,7 @@ fn each_file_is_opened_once(rt: HostRuntime) -> Result<(), Fail> {
     let [one, two, out] = [&one, &two, &out].map(|path| path.as_str());
     // Two parts and the new file, and three parts.
     for words in [["join", out, one, two], ["check", one, two, one]] {
-        let opened = Cell::new(0);
-        let files = Disk {
-            files: &rt,
-            opened: &opened,
-            room: usize::MAX,
-            trouble: Trouble::Fails,
-        };
-        let mut output = Vec::new(rt.alloc());
-        let (status, errors) = ended(rt.alloc(), &files, &words, [].as_slice(), &mut output)?;
-        equal_at(&rt, words, (status, errors.len()), (Status::Done, 0));
-        equal_at(&rt, words, opened.get(), 3);
+        expect_three_opened(&rt, rt.alloc(), &words)?;
     }
     let dump = bytes_of(rt.alloc(), &[HEADER, NAME_1_A, NAME_2_B, END])?;
     expect_file(&rt, &rt, out, &dump)?;

@@ -3,7 +3,7 @@
 use crate::expecting::{equal, equal_at, equal_bytes, equal_text, holds};
 use crate::samples::{END, HEADER, NAME_1_A, NAME_1_B, NAME_2_B, WIDE_HEADER, bytes_of};
 use hprof_tool::{Status, run};
-use std::alloc::Global;
+use std::alloc::{AllocError, Global};
 use std::io::{Read, Write};
 use std::process::Abort;
 use std::rt::Files;
@@ -243,6 +243,34 @@ pub(crate) fn expect_refused<F: Files + Abort>(
     Ok(())
 }
 
+/// Checks the same of each of these lists of parts, with its line.
+pub(crate) fn expect_each_refused<F: Files + Abort>(
+    rt: &F,
+    alloc: Global,
+    out: &str,
+    cases: &[(&[&str], &str)],
+) -> Result<(), Fail> {
+    for &(parts, line) in cases {
+        expect_refused(rt, alloc, out, parts, line)?;
+    }
+    Ok(())
+}
+
+/// Checks that no report is made of each of these lists of parts, with its line.
+pub(crate) fn expect_each_unreported<F: Files + Abort>(
+    rt: &F,
+    alloc: Global,
+    cases: &[(&[&str], &str)],
+) -> Result<(), Fail> {
+    for &(parts, line) in cases {
+        let mut words = Vec::new(alloc);
+        words.push("check")?;
+        words.extend_from_slice(parts)?;
+        expect_told(rt, alloc, &words, &[], line)?;
+    }
+    Ok(())
+}
+
 /// A record that is shorter than its kind can be.
 pub(crate) const SHORT_TRACE: &[u8] = b"\x05\0\0\0\0\0\0\0\x0b\0\0\0\0\0\0\0\0\0\0\0";
 
@@ -253,10 +281,11 @@ fn second_part_that_is_malformed(rt: HostRuntime) -> Result<(), Fail> {
     let out = path_of(&rt, "malformed-out")?;
     let [out, good, bad] = [&out, &good, &bad].map(|path| path.as_str());
     // The header has 31 bytes, and the name's record 14.
-    let text = "hprof: part 1: malformed at 45: BadLength\n";
-    expect_refused(&rt, rt.alloc(), out, &[good, bad], text)?;
-    let text = "hprof: part 0: malformed at 45: BadLength\n";
-    expect_refused(&rt, rt.alloc(), out, &[bad, good], text)?;
+    let cases: [(&[&str], &str); 2] = [
+        (&[good, bad], "hprof: part 1: malformed at 45: BadLength\n"),
+        (&[bad, good], "hprof: part 0: malformed at 45: BadLength\n"),
+    ];
+    expect_each_refused(&rt, rt.alloc(), out, &cases)?;
     remove(&rt, &[good, bad])
 }
 
@@ -267,10 +296,11 @@ fn parts_that_do_not_go_together(rt: HostRuntime) -> Result<(), Fail> {
     let wide = written(&rt, "apart-wide", &[WIDE_HEADER])?;
     let out = path_of(&rt, "apart-out")?;
     let [out, one, other, wide] = [&out, &one, &other, &wide].map(|path| path.as_str());
-    let conflict = "hprof: conflict at name 1\n";
-    expect_refused(&rt, rt.alloc(), out, &[one, other], conflict)?;
-    let sizes = "hprof: identifier sizes differ\n";
-    expect_refused(&rt, rt.alloc(), out, &[one, wide], sizes)?;
+    let cases: [(&[&str], &str); 2] = [
+        (&[one, other], "hprof: conflict at name 1\n"),
+        (&[one, wide], "hprof: identifier sizes differ\n"),
+    ];
+    expect_each_refused(&rt, rt.alloc(), out, &cases)?;
     remove(&rt, &[one, other, wide])
 }
 
@@ -310,13 +340,13 @@ fn later_part_that_cannot_be_opened(rt: HostRuntime) -> Result<(), Fail> {
     let lost = path_of(&rt, "opened-lost")?;
     let out = path_of(&rt, "opened-out")?;
     let [out, one, two, lost] = [&out, &one, &two, &lost].map(|path| path.as_str());
-    let text = "hprof: cannot open part 1\n";
-    expect_refused(&rt, rt.alloc(), out, &[one, lost, two], text)?;
-    let text = "hprof: cannot open part 2\n";
-    expect_refused(&rt, rt.alloc(), out, &[one, two, lost], text)?;
     // Of two that cannot be opened the first is named.
-    let text = "hprof: cannot open part 1\n";
-    expect_refused(&rt, rt.alloc(), out, &[one, lost, two, lost], text)?;
+    let cases: [(&[&str], &str); 3] = [
+        (&[one, lost, two], "hprof: cannot open part 1\n"),
+        (&[one, two, lost], "hprof: cannot open part 2\n"),
+        (&[one, lost, two, lost], "hprof: cannot open part 1\n"),
+    ];
+    expect_each_refused(&rt, rt.alloc(), out, &cases)?;
     remove(&rt, &[one, two])
 }
 
@@ -329,15 +359,7 @@ fn part_that_is_the_new_file(rt: HostRuntime) -> Result<(), Fail> {
 
 #[test]
 fn many_parts(rt: HostRuntime) -> Result<(), Fail> {
-    let mut dump = bytes_of(rt.alloc(), &[HEADER])?;
-    let mut paths = Vec::new(rt.alloc());
-    for id in 1..=70u8 {
-        let name = [1, 0, 0, 0, 0, 0, 0, 0, 5, 0, 0, 0, id, b'n'];
-        dump.extend_from_slice(&name)?;
-        let file = format!(in rt.alloc(); "many-{id}")?;
-        paths.push(written(&rt, file.as_str(), &[HEADER, &name])?)?;
-    }
-    dump.extend_from_slice(END)?;
+    let paths = named_parts(&rt, 70)?;
     let out = path_of(&rt, "many-out")?;
     let mut words = Vec::new(rt.alloc());
     words.push("join")?;
@@ -346,11 +368,36 @@ fn many_parts(rt: HostRuntime) -> Result<(), Fail> {
         words.push(path.as_str())?;
     }
     expect_done(&rt, rt.alloc(), &words, &[], &[])?;
-    expect_file(&rt, &rt, out.as_str(), &dump)?;
+    expect_file(&rt, &rt, out.as_str(), &dump_of_names(rt.alloc(), 70)?)?;
     for path in &paths {
         fs::remove_file(&rt, path.as_str())?;
     }
     remove(&rt, &[out.as_str()])
+}
+
+/// The record of the name `n` of this identifier.
+fn name_of(id: u8) -> [u8; 14] {
+    [1, 0, 0, 0, 0, 0, 0, 0, 5, 0, 0, 0, id, b'n']
+}
+
+/// The paths of so many parts, each of one name, from 1 on.
+fn named_parts(rt: &HostRuntime, count: u8) -> Result<Vec<String>, Fail> {
+    let mut paths = Vec::new(rt.alloc());
+    for id in 1..=count {
+        let file = format!(in rt.alloc(); "many-{id}")?;
+        paths.push(written(rt, file.as_str(), &[HEADER, &name_of(id)])?)?;
+    }
+    Ok(paths)
+}
+
+/// The dump of as many names.
+fn dump_of_names(alloc: Global, count: u8) -> Result<Vec<u8>, AllocError> {
+    let mut dump = bytes_of(alloc, &[HEADER])?;
+    for id in 1..=count {
+        dump.extend_from_slice(&name_of(id))?;
+    }
+    dump.extend_from_slice(END)?;
+    Ok(dump)
 }
 
 #[test]

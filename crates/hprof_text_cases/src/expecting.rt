@@ -8,3 +8,13 @@ use std::process::Abort;
 pub(crate) fn equal<T: PartialEq + Debug + Drop>(rt: &impl Abort, found: T, expected: T) {
     assert_eq!(rt; found, expected);
 }
+
+/// The same at one of several cases, which is told where it ends the test.
+pub(crate) fn equal_at<C: Debug + Drop, T: PartialEq + Debug + Drop>(
+    rt: &impl Abort,
+    case: C,
+    found: T,
+    expected: T,
+) {
+    assert_eq!(rt; found, expected, "{case:?}");
+}

@@ -1,6 +1,6 @@
 //! Identifiers as text.
 
-use crate::expecting::equal;
+use crate::expecting::{equal, equal_at};
 use hprof_text::{laws, parse_id, push_id};
 use std::alloc::Global;
 use std::process::Abort;
@@ -11,7 +11,7 @@ fn pushes(rt: &impl Abort, alloc: Global, id: u64, digits: &str) -> Result<(), F
     let mut written = String::from_str(alloc, "id ")?;
     push_id(&mut written, id)?;
     let expected = format!(in alloc; "id {digits}")?;
-    assert_eq!(rt; written.as_str(), expected.as_str());
+    equal(rt, written.as_str(), expected.as_str());
     equal(rt, parse_id(digits), Some(id));
     Ok(())
 }
@@ -29,7 +29,7 @@ fn identifiers(rt: HostRuntime) -> Result<(), Fail> {
     }
     equal(&rt, parse_id("00Ff"), Some(255));
     for text in ["0x1", "", "00000000000000001", "-1", "+1", " 1", "g", "1_0"] {
-        assert_eq!(rt; parse_id(text), None, "{text}");
+        equal_at(&rt, text, parse_id(text), None);
     }
     laws::digits_are_shortest();
     laws::digits_are_taken();

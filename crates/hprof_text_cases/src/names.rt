@@ -1,7 +1,7 @@
 //! Names, printed and as units. Expected values are by hand, from the table of the Java Virtual Machine Specification, section 4.4.7,
 //! and from the printed form as `printed` documents it.
 
-use crate::expecting::equal;
+use crate::expecting::{equal, equal_at};
 use hprof_text::{encode_units, is_modified, laws, printed, units};
 use std::alloc::Global;
 use std::process::Abort;
@@ -10,14 +10,14 @@ use std::test::Fail;
 // That the bytes of this name are printed so.
 fn prints(rt: &impl Abort, alloc: Global, name: &str, text: &str) -> Result<(), Fail> {
     let bytes = hex::decode(alloc, name)?;
-    assert_eq!(rt; printed(alloc, &bytes)?.as_str(), text, "of {name}");
+    equal_at(rt, name, printed(alloc, &bytes)?.as_str(), text);
     Ok(())
 }
 
 // That these units have this form, in hexadecimal.
 fn encodes(rt: &impl Abort, alloc: Global, text_units: &[u16], text: &str) -> Result<(), Fail> {
     let bytes = encode_units(alloc, text_units)?;
-    assert_eq!(rt; hex::encode(alloc, bytes.as_slice())?.as_str(), text);
+    equal(rt, hex::encode(alloc, bytes.as_slice())?.as_str(), text);
     Ok(())
 }
 
@@ -32,10 +32,11 @@ fn decodes(rt: &impl Abort, alloc: Global, text: &str, unit: u16) -> Result<(), 
 fn no_front_is_a_form(rt: &impl Abort, alloc: Global, text: &str) -> Result<(), Fail> {
     let bytes = hex::decode(alloc, text)?;
     for len in 1..=bytes.len() {
-        assert_eq!(rt;
+        equal_at(
+            rt,
+            (text, len),
             is_modified(&bytes[..len]),
             len == bytes.len(),
-            "{len} bytes of {text}"
         );
     }
     Ok(())
@@ -43,10 +44,11 @@ fn no_front_is_a_form(rt: &impl Abort, alloc: Global, text: &str) -> Result<(), 
 
 // That these bytes are no form.
 fn refuses(rt: &impl Abort, alloc: Global, bytes: &[u8]) -> Result<(), Fail> {
-    assert_eq!(rt;
+    equal_at(
+        rt,
+        bytes,
         (is_modified(bytes), units(alloc, bytes)?),
         (false, None),
-        "{bytes:?}"
     );
     Ok(())
 }

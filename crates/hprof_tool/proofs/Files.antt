@@ -3,13 +3,15 @@ use Rattle.std.proofs.Common.{◌≡◌, ℕ, List, length, Option, Result, Ok, 
 use Rattle.std.specs.Prelude.{IfOk, IfErr, IsErrAnd}
 use Rattle.hprof_devices.specs.declared.device.Device.{Device}
 use Rattle.hprof_devices.specs.Device.{inner_of}
+use Rattle.hprof_tool.specs.declared.program.product.Product.{Product}
 use Rattle.hprof_tool.specs.declared.program.product.Product.TheVariants as products
 use Rattle.hprof_tool.specs.declared.program.refused.Refused.{Refused}
 use Rattle.hprof_tool.specs.declared.program.refused.Refused.TheVariants as refusals
 use Rattle.hprof_engine.specs.declared.tool_fault.ToolFault.{ToolFault}
 use Rattle.hprof_engine.specs.declared.tool_fault.ToolFault.TheVariants as tool
 use Rattle.hprof_engine.specs.Joining.{Tell}
-use Rattle.hprof_tool.specs.Program.{OfParts, IsMade, IsRefusal, IsJoinOfFiles, IsFilesRefusal, IsReportRefusal, IsOfMaking, IsOfOpening}
+use Rattle.hprof_tool.specs.Program.{OfParts, IsMade, IsRefusal, IsJoinOfFiles, IsReportOfFiles, IsFilesRefusal}
+use Rattle.hprof_tool.specs.Program.{IsReportRefusal, IsOfMaking, IsOfOpening}
 
 -- opening answers no refusal of the engine
 pub not_of_engine : (count : ℕ) (refused : Refused) (fault : ToolFault) → IsOfOpening count refused → refused ≡ refusals.Engine fault → ⊥
@@ -66,6 +68,15 @@ module _ {F : Type 0} (remaining : F → Option (List ℕ)) (count : ℕ) where
       → IfOk outcome (IsJoinOfFiles remaining contents count)
   joined_of_files contents parts opened old (Ok new) made = (old, record { parts = parts; opened = opened; holds = made })
   joined_of_files contents parts opened old (Err refused) made = tt
+
+  -- a report on the files that were opened was written to the stream
+  pub reported_of_files : {O : Type 0} (report : Product) (contents : O → Option (List ℕ)) (parts : List (Device F))
+      → length parts ≡ count → (old : O) (outcome : Result O Refused)
+      → IfOk outcome (λ new. (told : List (List ℕ)) → Tell (λ part. remaining (inner_of part)) parts told
+      → IsMade report told (contents old) (contents new))
+      → IfOk outcome (IsReportOfFiles report remaining contents count old)
+  reported_of_files report contents parts opened old (Ok new) made = record { parts = parts; opened = opened; holds = made }
+  reported_of_files report contents parts opened old (Err refused) made = tt
 
 -- what holds of the only error holds of each
 pub if_the_error : {A : Type 0} (P : Refused → Type 0) (outcome : Result A Refused) (refused : Refused) → P refused

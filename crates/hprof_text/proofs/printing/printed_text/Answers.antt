@@ -17,3 +17,6 @@ returns-in_err-push_units c = search rules
 
 pub returns-in_err-text : goal.returns-in_err-text
 returns-in_err-text c = search rules
+
+pub returns : goal.returns
+returns c = search rules

@@ -9,3 +9,6 @@ returns-then-self c = search rules
 
 pub returns-then-self-2 : goal.returns-then-self-2
 returns-then-self-2 c = search rules
+
+pub returns : goal.returns
+returns c = search rules

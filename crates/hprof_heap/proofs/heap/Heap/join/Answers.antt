@@ -11,3 +11,6 @@ returns-then-is_err c = search rules
 
 pub returns-then-ne : goal.returns-then-ne
 returns-then-ne c = search rules
+
+pub returns : goal.returns
+returns c = search rules
