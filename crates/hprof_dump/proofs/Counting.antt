@@ -17,7 +17,7 @@ use Rattle.hprof_rows.specs.declared.sub_rows.SubRows.{SubRows}
 use Rattle.hprof_dump.specs.Dump.{segments_of, most_in_segment}
 use Rattle.hprof_dump.specs.Segments.{packed_behind}
 use Rattle.hprof_rows.specs.SubRow.{sub_fact}
-use Rattle.hprof_dump.specs.Counted.{IsCounted, with_taken}
+use Rattle.hprof_dump.specs.Counted.{IsFirstSegment, with_taken}
 use Rattle.hprof_rows.specs.SubRows.{YieldsSub, subs_ids, subs_left}
 
 abbrev size_of : IdSize → FactValue → ℕ
@@ -71,7 +71,7 @@ Counts-more ids subs count len size next left c e some room =
 
 -- the segment was counted
 counted : (ids : IdSize) (subs : List FactValue) (count len : ℕ) (left : List FactValue) → (c : Counts ids subs count len left)
-    → segments_of ids subs ≡ c.begun ∷ segments_of ids left → IsCounted ids subs count len left
+    → segments_of ids subs ≡ c.begun ∷ segments_of ids left → IsFirstSegment ids subs count len left
 counted ids subs count len left c first = record {
   segment = c.begun;
   parts = c.parts;
@@ -85,7 +85,7 @@ counted ids subs count len left c first = record {
 -- the next has no room in it
 pub Counts-full : (ids : IdSize) (subs : List FactValue) (count len size : ℕ) (next : FactValue) (left : List FactValue)
     → Counts ids subs count len (next ∷ left)
-    → size ≡ length (dump_bytes ids next) → most_in_segment < len + size → IsCounted ids subs count len (next ∷ left)
+    → size ≡ length (dump_bytes ids next) → most_in_segment < len + size → IsFirstSegment ids subs count len (next ∷ left)
 Counts-full ids subs count len size next left c e over =
     let full : most_in_segment < sum_by (size_of ids) c.begun + size_of ids next = omega (arith, c.has_len, e) in
     counted ids subs count len (next ∷ left) c
@@ -94,31 +94,31 @@ Counts-full ids subs count len size next left c e over =
     (lt-leb (sum_by (size_of ids) c.begun + size_of ids next) most_in_segment full))
 
 -- nothing is left
-pub Counts-all : (ids : IdSize) (subs : List FactValue) (count len : ℕ) → Counts ids subs count len [] → IsCounted ids subs count len []
+pub Counts-all : (ids : IdSize) (subs : List FactValue) (count len : ℕ) → Counts ids subs count len [] → IsFirstSegment ids subs count len []
 Counts-all ids subs count len c = counted ids subs count len [] c c.behind
 
 -- ---- a segment that was counted
 
 -- it is what stands at the front
-counted-take : (ids : IdSize) (subs rest : List FactValue) (count len : ℕ) → (c : IsCounted ids subs count len rest)
+counted-take : (ids : IdSize) (subs rest : List FactValue) (count len : ℕ) → (c : IsFirstSegment ids subs count len rest)
     → take count subs ≡ c.segment
 counted-take ids subs rest count len c = rw (c.has_count, c.parts) (take-append_seam c.segment rest)
 
-pub counted-drop : (ids : IdSize) (subs rest : List FactValue) (count len : ℕ) → IsCounted ids subs count len rest → drop count subs ≡ rest
+pub counted-drop : (ids : IdSize) (subs rest : List FactValue) (count len : ℕ) → IsFirstSegment ids subs count len rest → drop count subs ≡ rest
 counted-drop ids subs rest count len c = rw (c.has_count, c.parts) (drop-append_seam c.segment rest)
 
-pub counted-first : (ids : IdSize) (subs rest : List FactValue) (count len : ℕ) → IsCounted ids subs count len rest
+pub counted-first : (ids : IdSize) (subs rest : List FactValue) (count len : ℕ) → IsFirstSegment ids subs count len rest
     → segments_of ids subs ≡ take count subs ∷ segments_of ids rest
 counted-first ids subs rest count len c =
     c.first ∙ ap (λ (segment : List FactValue). segment ∷ segments_of ids rest) (sym (counted-take ids subs rest count len c))
 
-pub counted-len : (ids : IdSize) (subs rest : List FactValue) (count len : ℕ) → IsCounted ids subs count len rest
+pub counted-len : (ids : IdSize) (subs rest : List FactValue) (count len : ℕ) → IsFirstSegment ids subs count len rest
     → len ≡ length (flat_map (dump_bytes ids) (take count subs))
 counted-len ids subs rest count len c =
     c.has_len ∙ ap (λ (segment : List FactValue). length (flat_map (dump_bytes ids) segment)) (sym (counted-take ids subs rest count len c))
 
 -- fewer are left behind it
-pub counted-fewer : (ids : IdSize) (subs rest : List FactValue) (count len : ℕ) → IsCounted ids subs count len rest
+pub counted-fewer : (ids : IdSize) (subs rest : List FactValue) (count len : ℕ) → IsFirstSegment ids subs count len rest
     → length rest < length subs
 counted-fewer ids subs rest count len c = omega (arith, c.has_count, c.some, ap length c.parts, length-append c.segment rest)
 
@@ -133,9 +133,9 @@ taken_all old (Some row) new yields = sym yields.first
 -- a segment was counted of what is left to write
 pub counted_left : (walked ids : IdSize) (taken : Option SubRow) (first : SubRow) (next : Option SubRow) (ahead left after : List FactValue)
     (count len : ℕ) → taken ≡ Some first → walked ≡ ids → with_taken ids taken ahead ≡ left
-    → IsCounted walked (sub_fact walked first ∷ ahead) count len (with_taken walked next after)
-    → IsCounted ids left count len (with_taken ids next after)
+    → IsFirstSegment walked (sub_fact walked first ∷ ahead) count len (with_taken walked next after)
+    → IsFirstSegment ids left count len (with_taken ids next after)
 counted_left walked ids taken first next ahead left after count len is same pending c =
-    subst (λ (subs : List FactValue). IsCounted ids subs count len (with_taken ids next after))
+    subst (λ (subs : List FactValue). IsFirstSegment ids subs count len (with_taken ids next after))
     (subst (λ (t : Option SubRow). with_taken ids t ahead ≡ left) is pending)
-    (subst (λ (i : IdSize). IsCounted i (sub_fact i first ∷ ahead) count len (with_taken i next after)) same c)
+    (subst (λ (i : IdSize). IsFirstSegment i (sub_fact i first ∷ ahead) count len (with_taken i next after)) same c)

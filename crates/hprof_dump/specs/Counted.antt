@@ -15,7 +15,7 @@ with_taken ids None left = []
 with_taken ids (Some taken) left = sub_fact ids taken ∷ left
 
 -- the first segment of the sub-records has so many of them, one or more, and so many bytes; the others are the rest
-pub record IsCounted (ids : IdSize) (subs : List FactValue) (count len : ℕ) (rest : List FactValue) : Type 0 where
+pub record IsFirstSegment (ids : IdSize) (subs : List FactValue) (count len : ℕ) (rest : List FactValue) : Type 0 where
   pub segment : List FactValue
   pub parts : subs ≡ segment ++ rest
   pub first : segments_of ids subs ≡ segment ∷ segments_of ids rest

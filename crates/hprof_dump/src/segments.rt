@@ -8,7 +8,7 @@ ghost use Rattle.hprof_items.specs.SubRecord.{dump_bytes};
 ghost use Rattle.hprof_dump.specs.Dump.{segment_bytes, sub_facts_bytes};
 ghost use Rattle.hprof_heap.specs.Heap.{heap_of};
 ghost use Rattle.hprof_rows.specs.SubRow.{sub_fact, IsWritable};
-ghost use Rattle.hprof_dump.specs.Counted.{IsCounted, with_taken};
+ghost use Rattle.hprof_dump.specs.Counted.{IsFirstSegment, with_taken};
 ghost use Rattle.hprof_rows.specs.SubRows.{subs_left, subs_ids};
 
 use hprof_devices::{Target, WriteFault};
@@ -31,7 +31,7 @@ struct Segment<'a> {
 /// Walks from the first sub-record of a segment to the first of the next.
 fn count_segment<'a>(first: SubRow<'a>, ahead: &mut SubRows<'a>) -> Segment<'a>
     requires { IsWritable (subs_ids ahead.old) first }
-    ensures counted { IsCounted (subs_ids ahead.old) (sub_fact (subs_ids ahead.old) first.entry ∷ subs_left ahead.old) result.count
+    ensures counted { IsFirstSegment (subs_ids ahead.old) (sub_fact (subs_ids ahead.old) first.entry ∷ subs_left ahead.old) result.count
         result.len
         (with_taken (subs_ids ahead.old) result.next (subs_left ahead.new)) }
     ensures next { IfSome result.next (IsWritable (subs_ids ahead.old)) }

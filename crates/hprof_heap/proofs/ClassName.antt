@@ -10,7 +10,7 @@ use Rattle.hprof_heap.specs.ClassName.{NamesClass}
 use Rattle.hprof_rows.specs.Facts.{Has}
 use Rattle.hprof_rows.specs.Tables.{stands_in, joined}
 use Rattle.hprof_rows.specs.HeapRows.{HeapRows, AreHeap, heap_of_rows, load_facts, tables_of}
-use Rattle.hprof_rows.specs.Order.{place_of}
+use Rattle.hprof_rows.specs.Order.{order_of}
 use Rattle.hprof_tables.specs.SortedRows.{IsAscending}
 use Rattle.hprof_rows.proofs.HeapRows.{table_facts}
 use Rattle.hprof_tables.proofs.SortedRows.{AllKeys, ascending_head, ascending_tail}
@@ -18,8 +18,8 @@ use Rattle.hprof_rows.proofs.ReadBack.{has_joined}
 
 -- ---- two loads that are one
 
-same_serial : (one other : FactValue) → one ≡ other → slice_index (place_of one) 1 ≡ slice_index (place_of other) 1
-same_serial one other e = ap (λ (fact : FactValue). slice_index (place_of fact) 1) e
+same_serial : (one other : FactValue) → one ≡ other → slice_index (order_of one) 1 ≡ slice_index (order_of other) 1
+same_serial one other e = ap (λ (fact : FactValue). slice_index (order_of fact) 1) e
 
 abbrev class_in : FactValue → ℕ
 class_in (Load serial class trace name) = class

@@ -5,7 +5,7 @@ use Rattle.std.specs.Prelude.{IfOk, OnErr}
 use Rattle.hprof_values.specs.declared.ids.IdSize.{IdSize}
 use Rattle.hprof_items.specs.FactValue.{FactValue, Name, Rooted}
 use Rattle.hprof_tables.specs.Relation.{contents_of}
-use Rattle.hprof_tables.specs.Places.{the_bytes}
+use Rattle.hprof_tables.specs.Spans.{the_bytes}
 use Rattle.hprof_tables.specs.SideBySide.{LacksOne}
 use Rattle.hprof_tables.specs.Union.{AreUnion}
 use Rattle.hprof_values.specs.declared.root.Root.{Root}

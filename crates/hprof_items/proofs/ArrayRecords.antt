@@ -10,7 +10,7 @@ use Rattle.hprof_values.specs.declared.basic.Basic.TheVariants as basics
 use Rattle.hprof_values.specs.declared.stop.Stop.{Stop}
 use Rattle.hprof_values.specs.Ids.{width_of, IsBytes}
 use Rattle.hprof_values.specs.Basic.{code_of_basic, basic_of_code, width_of_basic}
-use Rattle.hprof_values.specs.Fields.{field_bytes, fields_in, FitFields, Bounds, ◌>>=◌, reached, IsWithin}
+use Rattle.hprof_values.specs.FieldGroups.{field_bytes, fields_in, FitFields, Bounds, ◌>>=◌, reached, IsWithin}
 use Rattle.hprof_lists.specs.Lists.{id_widths, IsIdList, ids_in}
 use Rattle.hprof_items.specs.FactValue.{FactValue, ObjArray, PrimArray}
 use Rattle.hprof_items.specs.SubRecord.{cut, obj_array_widths, obj_array_numbers, obj_array_at, prim_array_widths, prim_array_numbers}

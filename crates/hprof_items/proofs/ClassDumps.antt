@@ -8,7 +8,7 @@ use Rattle.hprof_lists.specs.declared.entry.Entry.{Entry}
 use Rattle.hprof_lists.specs.declared.entry.EntryKind.TheVariants as kinds
 use Rattle.hprof_values.specs.declared.stop.Stop.{Stop}
 use Rattle.hprof_values.specs.Ids.{width_of, IsBytes}
-use Rattle.hprof_values.specs.Fields.{field_bytes, fields_in, Bounds, ◌>>=◌, reached, IsWithin}
+use Rattle.hprof_values.specs.FieldGroups.{field_bytes, fields_in, Bounds, ◌>>=◌, reached, IsWithin}
 use Rattle.hprof_lists.specs.Entries.{list_bytes, ListFits, list_in, list_end}
 use Rattle.hprof_items.specs.FactValue.{FactValue, Class}
 use Rattle.hprof_items.specs.ClassDump.{class_widths, class_lists, class_of, class_at}

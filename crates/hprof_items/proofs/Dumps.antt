@@ -16,7 +16,7 @@ use Rattle.hprof_values.specs.declared.stop.Stop.TheVariants.{Short}
 use Rattle.hprof_lists.specs.declared.entry.EntryKind.TheVariants as kinds
 use Rattle.hprof_values.specs.Ids.{width_of, IsBytes}
 use Rattle.hprof_values.specs.Basic.{basic_of_code, width_of_basic}
-use Rattle.hprof_values.specs.Fields.{fields_in, Bounds, ◌>>=◌, reached, IsWithin, exactly}
+use Rattle.hprof_values.specs.FieldGroups.{fields_in, Bounds, ◌>>=◌, reached, IsWithin, exactly}
 use Rattle.hprof_values.specs.SubTag.{code_of_tag, all_tags, tag_of_code}
 use Rattle.hprof_values.specs.Root.{tag_of_root, root_fields}
 use Rattle.hprof_lists.specs.Entries.{list_in, list_end}

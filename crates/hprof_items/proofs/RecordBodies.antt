@@ -15,7 +15,7 @@ use Rattle.hprof_values.specs.declared.reason.Reason.TheVariants.{BadLength}
 use Rattle.hprof_values.specs.declared.record_tag.RecordTag.{RecordTag}
 use Rattle.hprof_values.specs.declared.record_tag.RecordTag.TheVariants as tags
 use Rattle.hprof_values.specs.Ids.{width_of, IsBytes}
-use Rattle.hprof_values.specs.Fields.{field_bytes, fields_in, FitFields}
+use Rattle.hprof_values.specs.FieldGroups.{field_bytes, fields_in, FitFields}
 use Rattle.hprof_lists.specs.Lists.{id_widths, IsIdList, ids_in}
 use Rattle.hprof_values.specs.RecordTag.{code_of_record, record_of_code, record_fields}
 use Rattle.hprof_values.proofs.Numbers.{IsBytes-drop, same_parts}

@@ -11,7 +11,7 @@ use Rattle.hprof_values.specs.declared.root.Root.TheVariants as roots
 use Rattle.hprof_values.specs.declared.sub_tag.SubTag.{SubTag}
 use Rattle.hprof_values.specs.declared.sub_tag.SubTag.TheVariants as tags
 use Rattle.hprof_values.specs.Ids.{width_of, IsBytes}
-use Rattle.hprof_values.specs.Fields.{field_bytes, fields_in, FitFields, Bounds, ◌>>=◌, reached, IsWithin}
+use Rattle.hprof_values.specs.FieldGroups.{field_bytes, fields_in, FitFields, Bounds, ◌>>=◌, reached, IsWithin}
 use Rattle.hprof_values.specs.Root.{tag_of_root, root_fields, root_numbers, root_bytes, RootFits}
 use Rattle.hprof_items.specs.FactValue.{FactValue, Rooted, Instance}
 use Rattle.hprof_items.specs.SubRecord.{cut, instance_widths, instance_numbers, instance_at, root_of, root_at, dump_bytes, DumpFits}

@@ -5,11 +5,11 @@ use Rattle.byteorder.specs.Endian.{big_number}
 use Rattle.hprof_values.specs.declared.ids.IdSize.{IdSize}
 use Rattle.hprof_lists.specs.declared.entry.EntryKind.{EntryKind}
 use Rattle.hprof_lists.specs.declared.entry.EntryKind.TheVariants as kinds
-use Rattle.hprof_values.specs.declared.item.Item.{Item}
+use Rattle.hprof_values.specs.declared.bounded_bytes.BoundedBytes.{BoundedBytes}
 use Rattle.hprof_values.specs.declared.stop.Stop.{Stop}
-use Rattle.hprof_values.specs.Fields.{Bounds, ◌>>=◌, reached, with_more}
+use Rattle.hprof_values.specs.FieldGroups.{Bounds, ◌>>=◌, reached, with_more}
 use Rattle.hprof_lists.specs.Entries.{entry_end, entries_end, list_end}
-use Rattle.hprof_values.specs.Item.{bounds_of}
+use Rattle.hprof_values.specs.BoundedBytes.{bounds_of}
 use Rattle.hprof_values.proofs.FieldGroups.{then_ok, then_next, then_stop, reached_passed, reached_more}
 use Rattle.hprof_items.specs.declared.walk.Walk.{Walk}
 use Rattle.hprof_items.specs.declared.walk.Walk.TheVariants.{Entries}
@@ -17,7 +17,7 @@ use Rattle.hprof_items.specs.Walk.{behind, walked, FindsSame, next_kind, count_a
 use Rattle.hprof_items.proofs.WalksMore.{IsSettled, then_more_at, entry_more, entry_lies, count_more}
 
 -- the bounds of the item when so many more bytes have come
-abbrev pub later : Item → List ℕ → Bounds
+abbrev pub later : BoundedBytes → List ℕ → Bounds
 later item more = with_more (bounds_of item) (length more)
 
 -- an answer that went well stays when more bytes have come
@@ -30,14 +30,14 @@ same_ok : {A : Type 0} (r : Result A Stop) (x y : A) → r ≡ Ok x → r ≡ Ok
 same_ok r x y e f = cc
 
 -- what is found when no more bytes have come
-nothing_more : (ids : IdSize) (item : Item) (walk : Walk)
+nothing_more : (ids : IdSize) (item : BoundedBytes) (walk : Walk)
     → walked ids (later item []) (item.bytes.now ++ []) walk ≡ walked ids (bounds_of item) item.bytes.now walk
 nothing_more ids item walk =
     let there : length item.bytes.now + 0 ≡ length item.bytes.now = omega arith in
     ap (λ (bytes : List ℕ). walked ids (later item []) bytes walk) (append-nil item.bytes.now)
     ∙ ap (λ (n : ℕ). walked ids (record { room = item.room; longest = item.longest; there = n }) item.bytes.now walk) there
 
-pub found_now : (ids : IdSize) (item : Item) (walk other : Walk) → FindsSame ids item walk other
+pub found_now : (ids : IdSize) (item : BoundedBytes) (walk other : Walk) → FindsSame ids item walk other
     → walked ids (bounds_of item) item.bytes.now walk ≡ walked ids (bounds_of item) item.bytes.now other
 found_now ids item walk other same = sym (nothing_more ids item walk) ∙ same [] ∙ nothing_more ids item other
 
@@ -55,7 +55,7 @@ first_entry ids kind bounds bytes (suc left) at some =
     ap (λ (n : ℕ). (entry_end ids kind bounds bytes at >>= others n) >>= behind ids kind bounds bytes) same
 
 -- an entry that was passed
-pub entry_passed : (ids : IdSize) (kind : EntryKind) (item : Item) (left at end : ℕ) → 0 < left
+pub entry_passed : (ids : IdSize) (kind : EntryKind) (item : BoundedBytes) (left at end : ℕ) → 0 < left
     → entry_end ids kind (bounds_of item) item.bytes.now at ≡ Ok end
     → FindsSame ids item (Entries kind (left - 1) end) (Entries kind left at)
 unfolding walked
@@ -68,12 +68,12 @@ entry_passed ids kind item left at end some passed = λ more.
     (λ (last : ℕ). entries_end ids kind (later item more) bytes (left - 1) last) end kept))
 
 -- an entry that was passed ends within the bytes
-pub entry_there : (ids : IdSize) (kind : EntryKind) (item : Item) (at end : ℕ)
+pub entry_there : (ids : IdSize) (kind : EntryKind) (item : BoundedBytes) (at end : ℕ)
     → entry_end ids kind (bounds_of item) item.bytes.now at ≡ Ok end → end ≤ length item.bytes.now
 entry_there ids kind item at end passed = (entry_lies ids kind (bounds_of item) item.bytes.now at end passed).1.there
 
 -- an entry that stopped the walk
-pub entry_stopped : (ids : IdSize) (kind : EntryKind) (item : Item) (left at : ℕ) (stop : Stop) → 0 < left
+pub entry_stopped : (ids : IdSize) (kind : EntryKind) (item : BoundedBytes) (left at : ℕ) (stop : Stop) → 0 < left
     → entry_end ids kind (bounds_of item) item.bytes.now at ≡ Err stop
     → walked ids (bounds_of item) item.bytes.now (Entries kind left at) ≡ Err stop
 entry_stopped ids kind item left at stop some stopped =
@@ -138,7 +138,7 @@ count_settled bounds bytes more at there =
     (λ begin passed. inr (ap (λ (n : ℕ). answer n begin) (count_more bounds bytes more at begin there passed)))
 
 -- a list whose count is there
-list_begun : (ids : IdSize) (kind next : EntryKind) (item : Item) (at left begin : ℕ) → next_kind kind ≡ Some next
+list_begun : (ids : IdSize) (kind next : EntryKind) (item : BoundedBytes) (at left begin : ℕ) → next_kind kind ≡ Some next
     → count_at (bounds_of item) item.bytes.now at ≡ Ok (left, begin)
     → FindsSame ids item (Entries next left begin) (Entries kind 0 at)
 unfolding walked
@@ -149,7 +149,7 @@ list_begun ids kind next item at left begin behind_it e = λ more.
     ∙ then_next (count_at (later item more) bytes at) (listed ids next (later item more) bytes) (left, begin) count)
 
 -- and its first entry begins within the bytes
-pub list_there : (item : Item) (at left begin : ℕ) → count_at (bounds_of item) item.bytes.now at ≡ Ok (left, begin)
+pub list_there : (item : BoundedBytes) (at left begin : ℕ) → count_at (bounds_of item) item.bytes.now at ≡ Ok (left, begin)
     → begin ≤ length item.bytes.now
 list_there item at left begin e =
     let count = big_number 2 (drop at item.bytes.now) in
@@ -181,7 +181,7 @@ lists_behind kinds.Field = 0
 -- ---- one walk after another
 
 -- an answer from as far as was walked, by what was told of that walk
-pub answer_by : (ids : IdSize) (item : Item) (walk told between other : Walk) (answer : Result ℕ Stop) → walk ≡ told
+pub answer_by : (ids : IdSize) (item : BoundedBytes) (walk told between other : Walk) (answer : Result ℕ Stop) → walk ≡ told
     → walked ids (bounds_of item) item.bytes.now told ≡ answer
     → FindsSame ids item walk between → FindsSame ids item between other → answer ≡ walked ids (bounds_of item) item.bytes.now other
 answer_by ids item walk told between other answer is found first second =
@@ -189,7 +189,7 @@ answer_by ids item walk told between other answer is found first second =
     ∙ found_now ids item between other second
 
 -- a list that was begun behind the entries that were passed
-pub list_after : (ids : IdSize) (kind next : EntryKind) (item : Item) (at left begin : ℕ) (walk between other : Walk)
+pub list_after : (ids : IdSize) (kind next : EntryKind) (item : BoundedBytes) (at left begin : ℕ) (walk between other : Walk)
     → next_kind kind ≡ Some next → count_at (bounds_of item) item.bytes.now at ≡ Ok (left, begin) → walk ≡ Entries kind 0 at
     → FindsSame ids item walk between → FindsSame ids item between other
     → FindsSame ids item (Entries next left begin) other

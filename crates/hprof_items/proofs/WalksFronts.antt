@@ -4,13 +4,13 @@ use Rattle.hprof_values.specs.declared.ids.IdSize.{IdSize}
 use Rattle.hprof_lists.specs.declared.entry.Entry.{Entry}
 use Rattle.hprof_lists.specs.declared.entry.EntryKind.{EntryKind}
 use Rattle.hprof_lists.specs.declared.entry.EntryKind.TheVariants as kinds
-use Rattle.hprof_values.specs.declared.item.Item.{Item}
+use Rattle.hprof_values.specs.declared.bounded_bytes.BoundedBytes.{BoundedBytes}
 use Rattle.hprof_values.specs.declared.stop.Stop.{Stop}
 use Rattle.hprof_values.specs.declared.sub_tag.SubTag.{SubTag}
 use Rattle.hprof_values.specs.declared.sub_tag.SubTag.TheVariants as tags
-use Rattle.hprof_values.specs.Fields.{fields_in, Bounds, ◌>>=◌, reached}
+use Rattle.hprof_values.specs.FieldGroups.{fields_in, Bounds, ◌>>=◌, reached}
 use Rattle.hprof_lists.specs.Entries.{list_in, list_end}
-use Rattle.hprof_values.specs.Item.{bounds_of}
+use Rattle.hprof_values.specs.BoundedBytes.{bounds_of}
 use Rattle.hprof_values.proofs.FieldGroups.{then_more, then_next, then_stop, reached_more}
 use Rattle.hprof_items.specs.declared.walk.Walk.TheVariants.{Front, Entries}
 use Rattle.hprof_items.specs.FactValue.{FactValue}
@@ -82,7 +82,7 @@ class_counted ids bounds bytes =
     ∙ then_assoc (reached bounds 1 (class_widths ids)) (count_at bounds bytes) (listed ids kinds.Constant bounds bytes)
 
 -- a class whose fields and first count are there is walked on from its first constant
-pub class_entered : (ids : IdSize) (item : Item) (left begin : ℕ) → tag_at (bounds_of item) item.bytes.now ≡ Ok tags.ClassDump
+pub class_entered : (ids : IdSize) (item : BoundedBytes) (left begin : ℕ) → tag_at (bounds_of item) item.bytes.now ≡ Ok tags.ClassDump
     → class_count ids (bounds_of item) item.bytes.now ≡ Ok (left, begin)
     → FindsSame ids item (Entries kinds.Constant left begin) Front
 unfolding walked
@@ -108,7 +108,7 @@ class_stopped ids bounds bytes stop tagged e =
     ∙ then_stop (class_count ids bounds bytes) (listed ids kinds.Constant bounds bytes) stop e
 
 -- what is no class is tested at once
-pub tested_at_once : (ids : IdSize) (item : Item) (tag : SubTag) (answer : Result ℕ Stop)
+pub tested_at_once : (ids : IdSize) (item : BoundedBytes) (tag : SubTag) (answer : Result ℕ Stop)
     → tag_at (bounds_of item) item.bytes.now ≡ Ok tag → (tag ≡ tags.ClassDump → ⊥)
     → IfErr answer (StopsAt ids item Front)
 tested_at_once ids item tag (Ok end) tagged other = tt

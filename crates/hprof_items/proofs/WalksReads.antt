@@ -14,7 +14,7 @@ use Rattle.hprof_values.specs.declared.stop.Stop.{Stop}
 use Rattle.hprof_values.specs.declared.stop.Stop.TheVariants.{Short}
 use Rattle.hprof_values.specs.Basic.{basic_of_code, width_of_basic}
 use Rattle.hprof_values.specs.Ids.{width_of}
-use Rattle.hprof_values.specs.Fields.{fields_in, Bounds, ◌>>=◌, reached, with_more}
+use Rattle.hprof_values.specs.FieldGroups.{fields_in, Bounds, ◌>>=◌, reached, with_more}
 use Rattle.hprof_lists.specs.Entries.{list_in, list_end}
 use Rattle.hprof_lists.specs.Lists.{ids_in}
 use Rattle.hprof_values.specs.Root.{root_fields}

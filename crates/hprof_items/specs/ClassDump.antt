@@ -5,7 +5,7 @@ use Rattle.hprof_lists.specs.declared.entry.Entry.{Entry}
 use Rattle.hprof_lists.specs.declared.entry.EntryKind.TheVariants as kinds
 use Rattle.hprof_values.specs.declared.stop.Stop.{Stop}
 use Rattle.hprof_values.specs.Ids.{width_of}
-use Rattle.hprof_values.specs.Fields.{fields_in, Bounds, ◌>>=◌, reached}
+use Rattle.hprof_values.specs.FieldGroups.{fields_in, Bounds, ◌>>=◌, reached}
 use Rattle.hprof_lists.specs.Entries.{list_bytes, list_in, list_end}
 use Rattle.hprof_items.specs.FactValue.{FactValue, Class}
 

@@ -14,7 +14,7 @@ use Rattle.hprof_values.specs.declared.stop.Stop.{Stop}
 use Rattle.hprof_values.specs.declared.stop.Stop.TheVariants.{Short, Fault}
 use Rattle.hprof_values.specs.Ids.{width_of, IsBytes}
 use Rattle.hprof_values.specs.Basic.{code_of_basic, basic_of_code, width_of_basic}
-use Rattle.hprof_values.specs.Fields.{field_bytes, fields_in, FitFields, Bounds, ◌>>=◌, reached, IsWithin}
+use Rattle.hprof_values.specs.FieldGroups.{field_bytes, fields_in, FitFields, Bounds, ◌>>=◌, reached, IsWithin}
 use Rattle.hprof_values.specs.SubTag.{code_of_tag, tag_of_code}
 use Rattle.hprof_values.specs.Root.{tag_of_root, root_fields, root_bytes, RootFits}
 use Rattle.hprof_lists.specs.Lists.{id_widths, ids_in}

@@ -4,12 +4,12 @@ use Rattle.byteorder.specs.Endian.{big_number}
 use Rattle.hprof_values.specs.declared.ids.IdSize.{IdSize}
 use Rattle.hprof_lists.specs.declared.entry.EntryKind.{EntryKind}
 use Rattle.hprof_lists.specs.declared.entry.EntryKind.TheVariants as kinds
-use Rattle.hprof_values.specs.declared.item.Item.{Item}
+use Rattle.hprof_values.specs.declared.bounded_bytes.BoundedBytes.{BoundedBytes}
 use Rattle.hprof_values.specs.declared.stop.Stop.{Stop}
 use Rattle.hprof_values.specs.declared.sub_tag.SubTag.TheVariants as tags
-use Rattle.hprof_values.specs.Fields.{Bounds, ◌>>=◌, reached, with_more}
+use Rattle.hprof_values.specs.FieldGroups.{Bounds, ◌>>=◌, reached, with_more}
 use Rattle.hprof_lists.specs.Entries.{entry_end, entries_end, list_end}
-use Rattle.hprof_values.specs.Item.{bounds_of}
+use Rattle.hprof_values.specs.BoundedBytes.{bounds_of}
 use Rattle.hprof_items.specs.declared.walk.Walk.{Walk}
 use Rattle.hprof_items.specs.declared.walk.Walk.TheVariants.{Front, Entries}
 use Rattle.hprof_items.specs.FactValue.{FactValue}
@@ -33,12 +33,12 @@ walked ids bounds bytes Front = end_of_read (sub_at ids bounds bytes)
 walked ids bounds bytes (Entries kind left at) = entries_end ids kind bounds bytes left at >>= λ end. behind ids kind bounds bytes end
 
 -- it was walked no further than the bytes that are there
-abbrev pub IsPlaced : Item → Walk → Type 0
+abbrev pub IsPlaced : BoundedBytes → Walk → Type 0
 IsPlaced item Front = ⊤
 IsPlaced item (Entries kind left at) = at ≤ length item.bytes.now
 
 -- what the walk finds is what another finds, also when more bytes have come
-abbrev pub FindsSame : IdSize → Item → Walk → Walk → Type 0
+abbrev pub FindsSame : IdSize → BoundedBytes → Walk → Walk → Type 0
 FindsSame ids item walk other =
     (more : List ℕ) → walked ids (with_more (bounds_of item) (length more)) (item.bytes.now ++ more) walk
     ≡ walked ids (with_more (bounds_of item) (length more)) (item.bytes.now ++ more) other
@@ -66,5 +66,5 @@ StopsIn ids bounds bytes Front stop = tag_at bounds bytes ≡ Ok tags.ClassDump 
 StopsIn ids bounds bytes (Entries kind zero at) stop = (kind ≢ kinds.Field) × (count_at bounds bytes at ≡ Err stop)
 StopsIn ids bounds bytes (Entries kind (suc left) at) stop = entry_end ids kind bounds bytes at ≡ Err stop
 
-abbrev pub StopsAt : IdSize → Item → Walk → Stop → Type 0
+abbrev pub StopsAt : IdSize → BoundedBytes → Walk → Stop → Type 0
 StopsAt ids item walk stop = StopsIn ids (bounds_of item) item.bytes.now walk stop

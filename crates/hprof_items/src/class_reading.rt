@@ -1,8 +1,8 @@
 //! Reading a class behind its tag.
 
 ghost use Rattle.std.specs.Prelude.{◌≡◌, ◌≤◌, length, sum, Ok, Err, OnOk, MatchResult};
-ghost use Rattle.hprof_values.specs.Fields.{fields_in};
-ghost use Rattle.hprof_values.specs.Item.{bounds_of};
+ghost use Rattle.hprof_values.specs.FieldGroups.{fields_in};
+ghost use Rattle.hprof_values.specs.BoundedBytes.{bounds_of};
 ghost use Rattle.hprof_values.specs.declared.ids.IdSize.{IdSize};
 ghost use Rattle.hprof_lists.specs.Lists.{constants_of, constants_size, statics_of, statics_size, fields_of, fields_size};
 ghost use Rattle.hprof_items.specs.ClassDump.{class_widths, class_of, class_at};
@@ -12,7 +12,7 @@ ghost use Rattle.hprof_items.specs.FactValue.{value_of, ListsHave};
 use crate::fact::Fact;
 use hprof_lists::{ConstantList, EntryKind, FieldList, StaticList, list_at};
 use hprof_values::number::{split_id, split_u32};
-use hprof_values::{IdSize, Item, Stop};
+use hprof_values::{BoundedBytes, IdSize, Stop};
 
 /// The fields of a class in front of its lists.
 #[derive(Clone, Copy)]
@@ -86,7 +86,7 @@ fn class_of<'a>(
 /// Reads a class, and puts it in the place of the fact.
 #[tactic(auto, unfolding(crate::specs::ClassDump::class_at))]
 pub(crate) fn read_class<'a>(
-    item: &Item<'a>,
+    item: &BoundedBytes<'a>,
     ids: IdSize,
     fact: &mut Fact<'a>,
 ) -> Result<usize, Stop>

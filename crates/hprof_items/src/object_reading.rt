@@ -2,8 +2,8 @@
 
 ghost use Rattle.std.specs.Prelude.{◌≡◌, ◌≤◌, length, sum, Ok, Err, OnOk, MatchResult};
 ghost use Rattle.hprof_values.specs.Basic.{basic_of_code};
-ghost use Rattle.hprof_values.specs.Fields.{fields_in};
-ghost use Rattle.hprof_values.specs.Item.{bounds_of};
+ghost use Rattle.hprof_values.specs.FieldGroups.{fields_in};
+ghost use Rattle.hprof_values.specs.BoundedBytes.{bounds_of};
 ghost use Rattle.hprof_items.specs.SubRecord.{instance_widths, obj_array_widths, prim_array_widths, element_type, instance_at};
 ghost use Rattle.hprof_items.specs.SubRecord.{obj_array_at, prim_array_at};
 ghost use Rattle.hprof_items.specs.Fronts.{instance_front, obj_array_front, prim_array_front};
@@ -12,7 +12,7 @@ ghost use Rattle.hprof_items.specs.FactValue.{value_of, ListsHave};
 use crate::fact::Fact;
 use hprof_lists::IdList;
 use hprof_values::number::{byte_at, id_at, ids_len, split_id, split_u32, values_len};
-use hprof_values::{Basic, IdSize, Item, Reason, Stop};
+use hprof_values::{Basic, BoundedBytes, IdSize, Reason, Stop};
 
 /// The fields of an instance in front of its bytes.
 #[derive(Clone, Copy)]
@@ -45,7 +45,7 @@ fn instance_fields(bytes: &[u8], ids: IdSize) -> InstanceFront
 /// Reads an instance, and puts it in the place of the fact.
 #[tactic(auto, unfolding(crate::specs::SubRecord::instance_at))]
 pub(crate) fn read_instance<'a>(
-    item: &Item<'a>,
+    item: &BoundedBytes<'a>,
     ids: IdSize,
     fact: &mut Fact<'a>,
 ) -> Result<usize, Stop>
@@ -99,7 +99,7 @@ fn obj_array_fields(bytes: &[u8], ids: IdSize) -> ObjArrayFront
 /// Reads an array of objects, and puts it in the place of the fact.
 #[tactic(auto, unfolding(crate::specs::SubRecord::obj_array_at))]
 pub(crate) fn read_obj_array<'a>(
-    item: &Item<'a>,
+    item: &BoundedBytes<'a>,
     ids: IdSize,
     fact: &mut Fact<'a>,
 ) -> Result<usize, Stop>
@@ -165,7 +165,7 @@ fn element_type(code: u8) -> Result<Basic, Stop>
 /// Reads an array of numbers or truth values, and puts it in the place of the fact.
 #[tactic(auto, unfolding(crate::specs::SubRecord::prim_array_at))]
 pub(crate) fn read_prim_array<'a>(
-    item: &Item<'a>,
+    item: &BoundedBytes<'a>,
     ids: IdSize,
     fact: &mut Fact<'a>,
 ) -> Result<usize, Stop>

@@ -1,17 +1,17 @@
 //! Reading a root behind its tag.
 
 ghost use Rattle.std.specs.Prelude.{◌≡◌, ◌≤◌, length, sum, Ok, Err, MatchResult};
-ghost use Rattle.hprof_values.specs.Fields.{fields_in, reached};
-ghost use Rattle.hprof_values.specs.Item.{bounds_of};
+ghost use Rattle.hprof_values.specs.FieldGroups.{fields_in, reached};
+ghost use Rattle.hprof_values.specs.BoundedBytes.{bounds_of};
 ghost use Rattle.hprof_values.specs.Root.{root_fields};
 ghost use Rattle.hprof_items.specs.FactValue.{Rooted};
 ghost use Rattle.hprof_items.specs.SubRecord.{root_of, root_at};
 
 use hprof_values::number::{split_id, split_u32};
-use hprof_values::{IdSize, Item, Root, Stop, SubTag};
+use hprof_values::{BoundedBytes, IdSize, Root, Stop, SubTag};
 
 /// Where the fields of a root end, or the first of their tests that fails.
-fn root_end(item: &Item<'_>, tag: SubTag, ids: IdSize) -> Result<usize, Stop>
+fn root_end(item: &BoundedBytes<'_>, tag: SubTag, ids: IdSize) -> Result<usize, Stop>
     ensures { result ≡ reached (bounds_of item.now) 1 (root_fields ids tag) }
 {
     let id = ids.width();
@@ -67,7 +67,11 @@ fn root_in(bytes: &[u8], tag: SubTag, ids: IdSize) -> Root
 
 /// Reads a root behind its tag.
 #[tactic(auto, unfolding(crate::specs::SubRecord::root_at))]
-pub(crate) fn read_root(item: &Item<'_>, tag: SubTag, ids: IdSize) -> Result<(Root, usize), Stop>
+pub(crate) fn read_root(
+    item: &BoundedBytes<'_>,
+    tag: SubTag,
+    ids: IdSize,
+) -> Result<(Root, usize), Stop>
     ensures fact { MatchResult result
         (λ read. root_at ids tag (bounds_of item.now) item.now.bytes.now ≡ Ok (Rooted read.0, read.1))
         (λ stop. root_at ids tag (bounds_of item.now) item.now.bytes.now ≡ Err stop) }

@@ -1,7 +1,7 @@
 //! Reading a sub-record at the front of some bytes.
 
 ghost use Rattle.std.specs.Prelude.{◌≡◌, ℕ, ◌≤◌, ◌++◌, List, length, Ok, Err, IfOk, OnOk, IsOkAnd, MatchResult};
-ghost use Rattle.hprof_values.specs.Item.{bounds_of};
+ghost use Rattle.hprof_values.specs.BoundedBytes.{bounds_of};
 ghost use Rattle.hprof_items.specs.FactValue.{FactValue, value_of, ListsHave};
 ghost use Rattle.hprof_items.specs.SubRecord.{dump_at, tag_at, sub_at, dump_bytes, DumpFits};
 ghost use Rattle.hprof_items.specs.SubReading.{bounds_within, IsStepOf, IsSubRead, IsReadOf, IsWholeOf};
@@ -11,12 +11,12 @@ use crate::fact::Fact;
 use crate::object_reading::{read_instance, read_obj_array, read_prim_array};
 use crate::root_reading::read_root;
 use crate::step::Step;
-use hprof_values::{IdSize, Item, Reason, Stop, SubTag};
+use hprof_values::{BoundedBytes, IdSize, Reason, Stop, SubTag};
 
 /// Reads a sub-record behind its tag, and puts what it states in the place of the fact.
 #[inline(always)]
 fn read_behind<'a>(
-    item: &Item<'a>,
+    item: &BoundedBytes<'a>,
     tag: SubTag,
     ids: IdSize,
     fact: &mut Fact<'a>,
@@ -40,7 +40,7 @@ fn read_behind<'a>(
 }
 
 /// The tag at the front.
-pub(crate) fn read_tag(item: &Item<'_>) -> Result<SubTag, Stop>
+pub(crate) fn read_tag(item: &BoundedBytes<'_>) -> Result<SubTag, Stop>
     ensures { result ≡ tag_at (bounds_of item.now) item.now.bytes.now }
 {
     if item.bytes.is_empty() {
@@ -56,7 +56,7 @@ pub(crate) fn read_tag(item: &Item<'_>) -> Result<SubTag, Stop>
 /// Reads the sub-record at the front, and puts what it states in the place of the fact.
 #[tactic(auto, using(crate::proofs::Dumps::sub_tagged, crate::proofs::Dumps::sub_stops))]
 #[inline(always)]
-fn read_item<'a>(item: &Item<'a>, ids: IdSize, fact: &mut Fact<'a>) -> Result<usize, Stop>
+fn read_item<'a>(item: &BoundedBytes<'a>, ids: IdSize, fact: &mut Fact<'a>) -> Result<usize, Stop>
     ensures fact { MatchResult result
         (λ end. sub_at ids (bounds_of item.now) item.now.bytes.now ≡ Ok (value_of fact.new, end))
         (λ stop. sub_at ids (bounds_of item.now) item.now.bytes.now ≡ Err stop) }
@@ -88,7 +88,7 @@ pub fn read_sub_into<'a>(
         → length (dump_bytes ids spelled) ≤ room → length (dump_bytes ids spelled) ≤ longest
         → IsOkAnd result (λ end. (value_of fact.new ≡ spelled) × (end ≡ length (dump_bytes ids spelled))) }
 {
-    let item = Item {
+    let item = BoundedBytes {
         bytes,
         room: room as usize,
         longest: longest as usize,

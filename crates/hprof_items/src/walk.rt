@@ -1,8 +1,8 @@
 //! Where a sub-record ends, by a walk that can stop where the bytes end and go on when more have come.
 
 ghost use Rattle.std.specs.Prelude.{◌≡◌, ◌≢◌, ◌≤◌, ◌++◌, ℕ, List, length, IfErr, MatchResult, Ok, Err};
-ghost use Rattle.hprof_values.specs.Fields.{with_more};
-ghost use Rattle.hprof_values.specs.Item.{bounds_of};
+ghost use Rattle.hprof_values.specs.FieldGroups.{with_more};
+ghost use Rattle.hprof_values.specs.BoundedBytes.{bounds_of};
 ghost use Rattle.hprof_items.specs.SubRecord.{dump_at};
 ghost use Rattle.hprof_items.specs.Walk.{end_of_read, walked, IsPlaced, FindsSame, StopsAt, next_kind, count_at, class_count};
 
@@ -12,7 +12,7 @@ use crate::root_reading::read_root;
 use crate::sub_reading::read_tag;
 use byteorder::{BigEndian, ByteOrder};
 use hprof_lists::{EntryKind, entry_end};
-use hprof_values::{IdSize, Item, Stop, SubTag};
+use hprof_values::{BoundedBytes, IdSize, Stop, SubTag};
 
 /// How far a sub-record was walked.
 #[derive(Clone, Copy, Debug, PartialEq, Eq)]
@@ -32,7 +32,7 @@ pub enum Walk {
 
 /// Passes the entries that are there, and tells where the last of the list ends.
 fn pass_entries(
-    item: &Item<'_>,
+    item: &BoundedBytes<'_>,
     ids: IdSize,
     kind: EntryKind,
     mut left: usize,
@@ -69,7 +69,7 @@ fn next_kind(kind: EntryKind) -> Option<EntryKind>
 }
 
 /// How many entries the list has whose count stands there, and where the first of them begins.
-fn count_at(item: &Item<'_>, at: usize) -> Result<(usize, usize), Stop>
+fn count_at(item: &BoundedBytes<'_>, at: usize) -> Result<(usize, usize), Stop>
     requires { at ≤ length item.now.bytes.now }
     ensures { result ≡ count_at (bounds_of item.now) item.now.bytes.now at }
 {
@@ -80,7 +80,7 @@ fn count_at(item: &Item<'_>, at: usize) -> Result<(usize, usize), Stop>
 
 /// Goes on with a list and those behind it.
 fn pass_lists(
-    item: &Item<'_>,
+    item: &BoundedBytes<'_>,
     ids: IdSize,
     mut kind: EntryKind,
     mut left: usize,
@@ -113,7 +113,7 @@ fn pass_lists(
 }
 
 /// How many constants a class has, and where the first of them begins.
-fn class_count(item: &Item<'_>, ids: IdSize) -> Result<(usize, usize), Stop>
+fn class_count(item: &BoundedBytes<'_>, ids: IdSize) -> Result<(usize, usize), Stop>
     ensures { result ≡ class_count ids (bounds_of item.now) item.now.bytes.now }
 {
     let id = ids.width();
@@ -122,7 +122,7 @@ fn class_count(item: &Item<'_>, ids: IdSize) -> Result<(usize, usize), Stop>
 }
 
 /// The end of a sub-record that is no class.
-fn plain_end(item: &Item<'_>, tag: SubTag, ids: IdSize) -> Result<usize, Stop>
+fn plain_end(item: &BoundedBytes<'_>, tag: SubTag, ids: IdSize) -> Result<usize, Stop>
     requires { tag ≢ SubTag.ClassDump }
     ensures { result ≡ end_of_read (dump_at ids tag (bounds_of item.now) item.now.bytes.now) }
 {
@@ -136,7 +136,7 @@ fn plain_end(item: &Item<'_>, tag: SubTag, ids: IdSize) -> Result<usize, Stop>
 }
 
 /// Walks from the front of a sub-record.
-fn pass_front(item: &Item<'_>, ids: IdSize) -> (Walk, Result<usize, Stop>)
+fn pass_front(item: &BoundedBytes<'_>, ids: IdSize) -> (Walk, Result<usize, Stop>)
     ensures placed { IsPlaced item.now result.0 }
     ensures kept { FindsSame ids item.now result.0 Walk.Front }
     ensures end { result.1 ≡ walked ids (bounds_of item.now) item.now.bytes.now Walk.Front }
@@ -157,7 +157,7 @@ fn pass_front(item: &Item<'_>, ids: IdSize) -> (Walk, Result<usize, Stop>)
 
 /// Goes on with a walk as far as there are bytes: where the sub-record ends, or what stopped the walk, and how far it
 /// had come where it was stopped. An entry that was passed is not tested again.
-pub fn go_on(item: &Item<'_>, ids: IdSize, walk: Walk) -> (Walk, Result<usize, Stop>)
+pub fn go_on(item: &BoundedBytes<'_>, ids: IdSize, walk: Walk) -> (Walk, Result<usize, Stop>)
     requires { IsPlaced item.now walk }
     ensures end { result.1 ≡ walked ids (bounds_of item.now) item.now.bytes.now walk }
     ensures placed { IsPlaced item.now result.0 }

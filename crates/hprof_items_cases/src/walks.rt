@@ -4,7 +4,7 @@ ghost use Rattle.std.specs.Prelude.{◌≡◌, ◌≤◌, length};
 
 use crate::expecting::{equal, equal_at};
 use hprof_items::{EntryKind, IdSize, Reason, Stop, Walk, go_on, laws};
-use hprof_values::Item;
+use hprof_values::BoundedBytes;
 use std::test::*;
 
 // A class dump: tag and fields, two constants, one static field, two own fields.
@@ -22,12 +22,12 @@ const BAD_CLASS: &[u8; 73] =
     \0\x02\0\0\0\x22\x05\0\0\0\x23\x0b";
 
 // The first bytes, with so much room and so long a longest item.
-fn front(bytes: &[u8], there: usize, room: usize, longest: usize) -> Item<'_>
+fn front(bytes: &[u8], there: usize, room: usize, longest: usize) -> BoundedBytes<'_>
     requires { there ≤ length bytes.now }
     ensures { length result.bytes.now ≡ there }
 {
     let (bytes, _) = bytes.split_at(there);
-    Item {
+    BoundedBytes {
         bytes,
         room,
         longest,

@@ -9,7 +9,7 @@ use Rattle.hprof_values.specs.declared.ids.IdSize.{IdSize}
 use Rattle.hprof_lists.specs.declared.entry.Entry.{Entry}
 use Rattle.hprof_lists.specs.declared.entry.EntryKind.{EntryKind}
 use Rattle.hprof_values.specs.Ids.{IsBytes}
-use Rattle.hprof_values.specs.Fields.{exactly, IsWithin}
+use Rattle.hprof_values.specs.FieldGroups.{exactly, IsWithin}
 use Rattle.hprof_lists.specs.Entries.{lead_width, bits_width, entry_len, entry_bytes, EntryFits, entries_bytes, EntriesFit, entry_in}
 use Rattle.hprof_lists.specs.Entries.{entries_in, entry_end, IsEntryList, most_entries}
 use Rattle.hprof_values.proofs.Numbers.{IsBytes-drop}

@@ -16,7 +16,7 @@ use Rattle.hprof_lists.specs.declared.entry.EntryKind.{EntryKind}
 use Rattle.hprof_lists.specs.declared.entry.EntryKind.TheVariants as kinds
 use Rattle.hprof_values.specs.Ids.{IsBytes}
 use Rattle.hprof_values.specs.Basic.{code_of_basic, all_basics, basic_of_code, width_of_basic}
-use Rattle.hprof_values.specs.Fields.{field_bytes, fields_in, Bounds, ◌>>=◌, reached, IsWithin}
+use Rattle.hprof_values.specs.FieldGroups.{field_bytes, fields_in, Bounds, ◌>>=◌, reached, IsWithin}
 use Rattle.hprof_lists.specs.Entries.{lead_width, bits_width, entry_widths, entry_numbers, entry_len, entry_bytes, EntryFits}
 use Rattle.hprof_lists.specs.Entries.{entries_bytes, EntriesFit, typed_entry, entry_in, entries_in, judged_type, entry_end}
 use Rattle.hprof_values.proofs.Numbers.{IsBytes-drop}

@@ -9,7 +9,7 @@ use Rattle.byteorder.specs.Endian.{big_number}
 use Rattle.hprof_values.specs.declared.ids.IdSize.{IdSize}
 use Rattle.hprof_values.specs.declared.ids.IdSize.TheVariants.{Four, Eight}
 use Rattle.hprof_values.specs.Ids.{width_of, IsBytes}
-use Rattle.hprof_values.specs.Fields.{field_bytes, fields_in, FitFields}
+use Rattle.hprof_values.specs.FieldGroups.{field_bytes, fields_in, FitFields}
 use Rattle.hprof_lists.specs.Lists.{id_widths, IsIdList, ids_in}
 use Rattle.hprof_values.proofs.FieldGroups.{sum_widths, length-fields, fields_again, fields_fit, fields_found}
 

@@ -11,7 +11,7 @@ use Rattle.hprof_values.specs.declared.stop.Stop.{Stop}
 use Rattle.hprof_lists.specs.declared.entry.Entry.{Entry}
 use Rattle.hprof_lists.specs.declared.entry.EntryKind.{EntryKind}
 use Rattle.hprof_values.specs.Ids.{IsBytes}
-use Rattle.hprof_values.specs.Fields.{Bounds, reached, IsWithin}
+use Rattle.hprof_values.specs.FieldGroups.{Bounds, reached, IsWithin}
 use Rattle.hprof_lists.specs.Entries.{entry_len, entry_in, entry_bytes, entries_bytes, EntriesFit, entries_in, entry_end, entries_end}
 use Rattle.hprof_lists.specs.Entries.{list_bytes, ListFits, list_in, list_end}
 use Rattle.hprof_values.proofs.Numbers.{IsBytes-drop, number_parts}

@@ -15,7 +15,7 @@ use Rattle.hprof_values.specs.declared.stop.Stop.{Stop}
 use Rattle.hprof_values.specs.declared.stop.Stop.TheVariants.{Fault}
 use Rattle.hprof_values.specs.Ids.{width_of}
 use Rattle.hprof_values.specs.Basic.{code_of_basic, basic_of_code, width_of_basic}
-use Rattle.hprof_values.specs.Fields.{field_bytes, FitFields, Bounds, ◌>>=◌, reached}
+use Rattle.hprof_values.specs.FieldGroups.{field_bytes, FitFields, Bounds, ◌>>=◌, reached}
 
 -- ---- what an entry is, and its bytes
 

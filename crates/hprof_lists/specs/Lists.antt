@@ -8,11 +8,11 @@ use Rattle.hprof_lists.specs.declared.lists.constants.Constants.{Constants}
 use Rattle.hprof_lists.specs.declared.lists.statics.StaticList.{StaticList}
 use Rattle.hprof_lists.specs.declared.lists.statics.Statics.{Statics}
 use Rattle.hprof_lists.specs.declared.lists.fields.FieldList.{FieldList}
-use Rattle.hprof_lists.specs.declared.lists.fields.Fields.{Fields}
+use Rattle.hprof_lists.specs.declared.lists.fields.OwnFields.{OwnFields}
 use Rattle.hprof_lists.specs.declared.lists.ids.IdList.{IdList}
 use Rattle.hprof_lists.specs.declared.lists.ids.Ids.{Ids}
 use Rattle.hprof_values.specs.Ids.{width_of}
-use Rattle.hprof_values.specs.Fields.{field_bytes, fields_in, FitFields}
+use Rattle.hprof_values.specs.FieldGroups.{field_bytes, fields_in, FitFields}
 use Rattle.hprof_lists.specs.Entries.{entries_in}
 
 -- the constants, those that are still to come, and the size of identifiers among them
@@ -39,7 +39,7 @@ statics_size list = list.ids
 abbrev pub fields_of : FieldList → List Entry
 fields_of list = entries_in list.ids kinds.Field list.len list.bytes.now
 
-abbrev pub fields_left : Fields → List Entry
+abbrev pub fields_left : OwnFields → List Entry
 fields_left fields = entries_in fields.ids kinds.Field fields.left fields.rest.now
 
 abbrev pub fields_size : FieldList → IdSize

@@ -3,11 +3,11 @@
 ghost use Rattle.std.specs.Prelude.{◌≡◌, ◌-◌, ◌<◌, ◌≤◌, List, ◌∷◌, slice_get, IfSome, IsSomeAnd};
 ghost use Rattle.std.specs.Result.{result_ok};
 ghost use Rattle.hprof_lists.specs.declared.entry.Entry.{Entry};
-ghost use Rattle.hprof_values.specs.Fields.{exactly};
+ghost use Rattle.hprof_values.specs.FieldGroups.{exactly};
 ghost use Rattle.hprof_lists.specs.Entries.{EntryFits, entries_bytes, entries_in, entry_end, IsEntryList, most_entries};
 
 use crate::entry::{Entry, EntryKind, entry_at, entry_end};
-use hprof_values::{IdSize, Item};
+use hprof_values::{BoundedBytes, IdSize};
 
 /// The greatest number of entries that the field for it can say.
 const MOST_ENTRIES: usize = u16::MAX as usize;
@@ -16,7 +16,7 @@ const MOST_ENTRIES: usize = u16::MAX as usize;
 fn first_len(bytes: &[u8], kind: EntryKind, ids: IdSize) -> Option<usize>
     ensures { result ≡ result_ok (entry_end ids kind (exactly bytes.now) bytes.now 0) }
 {
-    let item = Item {
+    let item = BoundedBytes {
         bytes,
         room: bytes.len(),
         longest: bytes.len(),

@@ -2,11 +2,11 @@
 
 ghost use Rattle.std.specs.Prelude.{◌≡◌, ◌+◌, ◌<◌, ◌≤◌, List, length, IfOk};
 ghost use Rattle.hprof_lists.specs.Entries.{lead_width, bits_width, entry_len, entry_in, EntryFits, entry_end};
-ghost use Rattle.hprof_values.specs.Item.{bounds_of};
+ghost use Rattle.hprof_values.specs.BoundedBytes.{bounds_of};
 
 use byteorder::{BigEndian, ByteOrder};
 use hprof_values::number::{bits_at, id_at};
-use hprof_values::{Basic, IdSize, Item, Reason, Stop};
+use hprof_values::{Basic, BoundedBytes, IdSize, Reason, Stop};
 
 /// Which of the three lists of a class dump an entry stands in.
 #[derive(Clone, Copy, Debug, PartialEq, Eq)]
@@ -54,7 +54,12 @@ impl EntryKind {
 
 /// The end of the entry that begins there, or the first of its tests that fails.
 #[tactic(auto, unfolding(crate::specs::Entries::entry_end))]
-pub fn entry_end(item: &Item<'_>, at: usize, kind: EntryKind, ids: IdSize) -> Result<usize, Stop>
+pub fn entry_end(
+    item: &BoundedBytes<'_>,
+    at: usize,
+    kind: EntryKind,
+    ids: IdSize,
+) -> Result<usize, Stop>
     requires { at ≤ length item.now.bytes.now }
     ensures end { result ≡ entry_end ids kind (bounds_of item.now) item.now.bytes.now at }
     ensures there { IfOk result (λ end. (at < end) × (end ≤ length item.now.bytes.now)) }

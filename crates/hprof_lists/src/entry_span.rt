@@ -4,11 +4,11 @@ ghost use Rattle.byteorder.specs.Endian.{big_number};
 ghost use Rattle.hprof_values.specs.Ids.{IsBytes};
 ghost use Rattle.std.specs.Prelude.{◌≡◌, ◌+◌, ◌≤◌, length, drop, Ok, Err, IfOk, MatchResult};
 ghost use Rattle.hprof_lists.specs.Entries.{entries_bytes, entries_in, entries_end, list_in, list_end};
-ghost use Rattle.hprof_values.specs.Item.{bounds_of};
+ghost use Rattle.hprof_values.specs.BoundedBytes.{bounds_of};
 
 use crate::entry::{EntryKind, entry_end};
 use byteorder::{BigEndian, ByteOrder};
-use hprof_values::{IdSize, Item, Stop};
+use hprof_values::{BoundedBytes, IdSize, Stop};
 
 /// So many entries, over the bytes that spell them.
 #[derive(Clone, Copy, Debug)]
@@ -33,7 +33,7 @@ fn count_at(bytes: &[u8], at: usize) -> u16
 
 /// Where the last of so many entries ends, or the first of their tests that fails.
 fn entries_end(
-    item: &Item<'_>,
+    item: &BoundedBytes<'_>,
     at: usize,
     count: u16,
     kind: EntryKind,
@@ -55,7 +55,7 @@ fn entries_end(
 /// Reads the list whose count stands there.
 #[tactic(auto, unfolding(crate::specs::Entries::list_end))]
 pub fn list_at<'a>(
-    item: &Item<'a>,
+    item: &BoundedBytes<'a>,
     at: usize,
     kind: EntryKind,
     ids: IdSize,

@@ -13,7 +13,7 @@ mod value;
 pub use entry::{Entry, EntryKind, entry_end};
 pub use entry_span::{EntrySpan, list_at};
 pub use lists::constants::{ConstantList, Constants};
-pub use lists::fields::{FieldList, Fields};
+pub use lists::fields::{FieldList, OwnFields};
 pub use lists::ids::{IdList, Ids};
 pub use lists::statics::{StaticList, Statics};
 pub use value::{Constant, Field, Static, Value};

@@ -10,7 +10,7 @@ use Rattle.std.proofs.lemmas.Map.Made.{lookup-map_values}
 use Rattle.hprof_values.specs.declared.ids.IdSize.{IdSize}
 use Rattle.hprof_items.specs.FactValue.{FactValue, Name, Load, Frame, Trace, Start, Class, Instance}
 use Rattle.hprof_items.specs.Spelling.{Fits}
-use Rattle.hprof_tables.specs.Places.{the_bytes}
+use Rattle.hprof_tables.specs.Spans.{the_bytes}
 use Rattle.hprof_tables.specs.Relation.{contents_of}
 use Rattle.hprof_tables.specs.SideBySide.{DifferAt, IsFirstDifference}
 use Rattle.hprof_tables.specs.SortedRows.{row_at}
@@ -22,7 +22,7 @@ use Rattle.hprof_rows.specs.Facts.{Has, AllFit}
 use Rattle.hprof_rows.specs.HeapRows.{HeapRows, AreHeap, tables_of}
 use Rattle.hprof_rows.specs.Key.{key_of, rank_of, number_of, key_le, has_key}
 use Rattle.hprof_rows.specs.NumberRows.{load_numbers, frame_numbers, start_numbers}
-use Rattle.hprof_rows.specs.Order.{place_of}
+use Rattle.hprof_rows.specs.Order.{order_of}
 use Rattle.hprof_rows.specs.Tables.{joined}
 use Rattle.hprof_rows.specs.TraceRow.{trace_content}
 use Rattle.hprof_rows.proofs.FactEquality.{one_or_two}
@@ -211,7 +211,7 @@ fact_of_key ids (keys.Object id) content = spelled_fact ids id content
 -- what is found in a table is kept among the facts of the heap
 module _ {V : Type 0} (rows : HeapRows) (are : AreHeap rows) (table number : ℕ) (key : Key) (fact : ℕ → List ℕ → FactValue)
     (content : V → List ℕ) (of_table : List (ℕ × V))
-    (any : FactValue) (at : place_of_key key ≡ table ∷ number ∷ []) (at_any : place_of any ≡ table ∷ number ∷ [])
+    (any : FactValue) (at : place_of_key key ≡ table ∷ number ∷ []) (at_any : order_of any ≡ table ∷ number ∷ [])
     (right : AreRight rows.ids table fact content of_table)
     (facts : table_at (tables_of rows) table ≡ facts_of_rows fact content of_table) where
   kept_by : (found : Option (List ℕ)) → found ≡ option_map content (row_at number of_table)

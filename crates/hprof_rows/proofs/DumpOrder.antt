@@ -6,23 +6,23 @@ use Rattle.std.specs.Ordering.{is_lt}
 use Rattle.std.proofs.lemmas.Bool.{cases_Bool, ltb-true, ltb-false}
 use Rattle.hprof_items.specs.FactValue.{FactValue, Name}
 use Rattle.hprof_rows.specs.SubFacts.{is_record_fact, is_sub_fact}
-use Rattle.hprof_rows.specs.Order.{place_of, IsBefore, IsCanonicalOrder}
+use Rattle.hprof_rows.specs.Order.{order_of, IsBefore, IsCanonicalOrder}
 use Rattle.hprof_rows.proofs.Tables.{IsOf, later, filter_none, all_weaker}
 
 -- the first seven tables are those of records
-pub by_place : (fact : FactValue) → is_record_fact fact ≡ nat_lt (slice_index (place_of fact) 0) 7
+pub by_place : (fact : FactValue) → is_record_fact fact ≡ nat_lt (slice_index (order_of fact) 0) 7
 by_place (Name id text) = refl
 by_place fact = refl
 
-stands_first : (fact : FactValue) → IsOf (slice_index (place_of fact) 0) fact
+stands_first : (fact : FactValue) → IsOf (slice_index (order_of fact) 0) fact
 stands_first (Name id text) = record { more = id ∷ []; stands = refl }
-stands_first fact = record { more = drop 1 (place_of fact); stands = refl }
+stands_first fact = record { more = drop 1 (order_of fact); stands = refl }
 
 -- what stands behind a sub-record is one
 sub_behind : (fact other : FactValue) → is_record_fact fact ≡ false → IsBefore fact other → is_record_fact other ≡ false
 sub_behind fact other sub before =
-    let place = slice_index (place_of fact) 0 in
-    let place_too = slice_index (place_of other) 0 in
+    let place = slice_index (order_of fact) 0 in
+    let place_too = slice_index (order_of other) 0 in
     let low : 7 ≤ place = ltb-false place 7 (sym (by_place fact) ∙ sub) in
     elim (cases_Bool (is_record_fact other)) [
       | inl recorded ↦

@@ -11,7 +11,7 @@ use Rattle.hprof_values.specs.declared.root.Root.{Root}
 use Rattle.hprof_values.specs.Root.{tag_of_root, root_numbers}
 use Rattle.hprof_values.specs.SubTag.{code_of_tag}
 use Rattle.hprof_values.specs.declared.record_tag.RecordTag.{RecordTag}
-use Rattle.hprof_values.specs.Fields.{exactly, field_bytes}
+use Rattle.hprof_values.specs.FieldGroups.{exactly, field_bytes}
 use Rattle.hprof_lists.specs.Lists.{id_widths, ids_in}
 use Rattle.hprof_values.specs.Ids.{width_of}
 use Rattle.hprof_lists.proofs.IdLists.{ids_again}
@@ -32,13 +32,13 @@ use Rattle.hprof_tables.specs.SortedRows.{row_at}
 use Rattle.hprof_rows.proofs.Keys.{place_of_key, stands_at, has_key_at, same_place}
 use Rattle.hprof_rows.specs.Content.{content_of, load_fact, unload_fact, frame_fact, trace_fact, start_fact, end_fact, spelled_fact}
 use Rattle.hprof_rows.specs.Content.{line_with, read_fact, facts_of_rows, IsRight, AreRight}
-use Rattle.hprof_tables.specs.Places.{the_bytes}
+use Rattle.hprof_tables.specs.Spans.{the_bytes}
 use Rattle.hprof_rows.specs.Stating.{StatesInto, IsNewAmong}
 use Rattle.hprof_rows.specs.declared.table.Table.{Table}
 use Rattle.hprof_rows.specs.Tables.{facts_of_table, number_of_table, joined}
 use Rattle.hprof_rows.specs.HeapRows.{HeapRows, AreHeap, tables_of, heap_of_rows, no_content, root_facts}
 use Rattle.hprof_rows.specs.HeapValue.{IsHeap}
-use Rattle.hprof_rows.specs.Order.{place_of}
+use Rattle.hprof_rows.specs.Order.{order_of}
 use Rattle.hprof_rows.specs.NumberRows.{line_numbers, load_numbers, frame_numbers, start_numbers}
 use Rattle.hprof_tables.specs.Relation.{States}
 use Rattle.hprof_rows.specs.Spelled.{Spells}
@@ -167,7 +167,7 @@ module _ {E : Type 0} (r : Result Stated E) (rows : HeapRows) (are : AreHeap row
       kept_heap (Err e) kept = ap (with_facts rows.ids rows.millis) kept
 
 -- a fact under a key of a table stands in the table
-pub of_key : (table key : ℕ) (fact : FactValue) → place_of fact ≡ table ∷ key ∷ [] → IsOf table fact
+pub of_key : (table key : ℕ) (fact : FactValue) → order_of fact ≡ table ∷ key ∷ [] → IsOf table fact
 of_key table key fact at = record { more = key ∷ []; stands = at }
 
 -- ---- facts for which memory was refused
@@ -179,7 +179,7 @@ unseen_in_heap (Ok answer) rows place fact are of none = tt
 unseen_in_heap (Err e) rows place fact are of none = unseen (heap_of_rows rows) fact (
     find_from (same_place fact) (tables_of rows) place 0 place
     (λ n other in_table differ. false_from_ne_true (same_place fact other) (λ yes.
-    let same : place ∷ of.more ≡ n ∷ in_table.more = sym of.stands ∙ (bytes_eq-Decides (place_of fact) (place_of other)).0 yes
+    let same : place ∷ of.more ≡ n ∷ in_table.more = sym of.stands ∙ (bytes_eq-Decides (order_of fact) (order_of other)).0 yes
     ∙ in_table.stands in
     differ (sym (ap (λ (ns : List ℕ). slice_index ns 0) same))))
     (omega arith) (heap_tables rows are)
@@ -189,7 +189,7 @@ unseen_in_heap (Err e) rows place fact are of none = unseen (heap_of_rows rows) 
 -- so is one whose key has no row
 pub unseen_row : {E V : Type 0} (r : Result Stated E) (rows : HeapRows) (table key : ℕ) (fact : ℕ → List ℕ → FactValue) (content : V
     → List ℕ) (of_table : List (ℕ × V))
-    (stated : FactValue) → AreHeap rows → place_of stated ≡ table ∷ key ∷ [] → AreRight rows.ids table fact content of_table
+    (stated : FactValue) → AreHeap rows → order_of stated ≡ table ∷ key ∷ [] → AreRight rows.ids table fact content of_table
     → table_at (tables_of rows) table ≡ facts_of_rows fact content of_table → OnErr r (row_at key of_table ≡ None)
     → OnErr r (IsNewAmong (heap_of_rows rows).facts stated)
 unseen_row (Ok answer) rows table key fact content of_table stated are at right facts none = tt
@@ -230,7 +230,7 @@ trace_again ids serial thread frames fits =
 -- ---- classes and objects
 
 -- the facts from the table of roots on are sub-records
-pub sub_of_place : (fact : FactValue) → 7 ≤ slice_index (place_of fact) 0 → record_of fact ≡ None
+pub sub_of_place : (fact : FactValue) → 7 ≤ slice_index (order_of fact) 0 → record_of fact ≡ None
 sub_of_place (Name id text) le = absurd (omega arith)
 sub_of_place (Load serial class trace name) le = absurd (omega arith)
 sub_of_place (Unload serial) le = absurd (omega arith)
@@ -244,8 +244,8 @@ sub_of_place (Instance id trace class bytes) le = refl
 sub_of_place (ObjArray id trace class elements) le = refl
 sub_of_place (PrimArray id trace elem bytes) le = refl
 
-pub sub_at_place : (fact : FactValue) (table key : ℕ) → place_of fact ≡ table ∷ key ∷ [] → 7 ≤ table → record_of fact ≡ None
-sub_at_place fact table key at le = let first : slice_index (place_of fact) 0 ≡ table =
+pub sub_at_place : (fact : FactValue) (table key : ℕ) → order_of fact ≡ table ∷ key ∷ [] → 7 ≤ table → record_of fact ≡ None
+sub_at_place fact table key at le = let first : slice_index (order_of fact) 0 ≡ table =
     ap (λ (ns : List ℕ). slice_index ns 0) at in sub_of_place fact (omega arith)
 
 -- their content is their spelling
@@ -305,21 +305,21 @@ look_up rows table number key are at =
     has_key_at key (table ∷ number ∷ []) fact at)
     ∙ find_from (stands_at (table ∷ number ∷ [])) (tables_of rows) table 0 table
     (λ n fact of differ. false_from_ne_true (stands_at (table ∷ number ∷ []) fact) (λ yes.
-    let same : table ∷ number ∷ [] ≡ n ∷ of.more = (bytes_eq-Decides (table ∷ number ∷ []) (place_of fact)).0 yes ∙ of.stands in
+    let same : table ∷ number ∷ [] ≡ n ∷ of.more = (bytes_eq-Decides (table ∷ number ∷ []) (order_of fact)).0 yes ∙ of.stands in
     differ (sym (ap (λ (ns : List ℕ). slice_index ns 0) same))))
     (omega arith) (heap_tables rows are)
 
 -- and is that of the key's row
 pub look_up_row : {V : Type 0} (rows : HeapRows) (table number : ℕ) (key : Key) (fact : ℕ → List ℕ → FactValue) (content : V → List ℕ)
     (of_table : List (ℕ × V))
-    (any : FactValue) (found : Option V) → AreHeap rows → place_of_key key ≡ table ∷ number ∷ [] → place_of any ≡ table ∷ number ∷ []
+    (any : FactValue) (found : Option V) → AreHeap rows → place_of_key key ≡ table ∷ number ∷ [] → order_of any ≡ table ∷ number ∷ []
     → AreRight rows.ids table fact content of_table → table_at (tables_of rows) table ≡ facts_of_rows fact content of_table
     → row_at number of_table ≡ found
     → find (has_key key) (joined (tables_of rows)) ≡ option_map (λ row. fact number (content row)) found
 look_up_row rows table number key fact content of_table any found are at at_any right facts e =
     look_up rows table number key are at ∙ ap (find (stands_at (table ∷ number ∷ []))) facts
     ∙ find_alike (stands_at (table ∷ number ∷ [])) (same_place any) (facts_of_rows fact content of_table)
-    (λ other. ap (λ (place : List ℕ). bytes_eq place (place_of other)) (sym at_any))
+    (λ other. ap (λ (place : List ℕ). bytes_eq place (order_of other)) (sym at_any))
     ∙ find_rows rows.ids table fact content of_table number any at_any right ∙ ap (option_map (λ row. fact number (content row))) e
 
 -- ---- rows that are found

@@ -16,7 +16,7 @@ use Rattle.hprof_items.specs.FactValue.{PrimArray}
 use Rattle.hprof_items.specs.SubRecord.{root_of}
 use Rattle.hprof_rows.specs.declared.key.Key.{Key}
 use Rattle.hprof_rows.specs.declared.key.Key.TheVariants as keys
-use Rattle.hprof_rows.specs.Order.{place_of}
+use Rattle.hprof_rows.specs.Order.{order_of}
 use Rattle.hprof_rows.specs.Key.{HaveOneKey, key_of, rank_of, number_of, key_le, lesser_key, is_key, has_key}
 
 -- the first number is less, or it is the same and the second is no greater
@@ -132,7 +132,7 @@ place_of_key (keys.Object id) = 9 ∷ id ∷ []
 keyed_place : (place : List ℕ) (known key : Key) → place ≡ place_of_key known → Some known ≡ Some key → place ≡ place_of_key key
 keyed_place place known key at e = let same : known ≡ key = cc in at ∙ ap place_of_key same
 
-key_place : (fact : FactValue) (key : Key) → key_of fact ≡ Some key → place_of fact ≡ place_of_key key
+key_place : (fact : FactValue) (key : Key) → key_of fact ≡ Some key → order_of fact ≡ place_of_key key
 key_place (Name id text) key e = keyed_place _ (keys.Name id) key refl e
 key_place (Load serial class trace name) key e = keyed_place _ (keys.Load serial) key refl e
 key_place (Unload serial) key e = absurd cc
@@ -162,7 +162,7 @@ key_of_place [] = None
 key_of_place (table ∷ []) = None
 key_of_place (table ∷ number ∷ more) = key_in table number
 
-place_key : (fact : FactValue) → key_of fact ≡ key_of_place (place_of fact)
+place_key : (fact : FactValue) → key_of fact ≡ key_of_place (order_of fact)
 unfolding key_of_place
 place_key (Name id text) = refl
 place_key (Load serial class trace name) = refl
@@ -200,7 +200,7 @@ unkeyed_at (table ∷ []) = Unload 0
 unkeyed_at (table ∷ number ∷ more) =
     if table == 2 then Unload number else (if table == 6 then End number else Rooted (root_with number more))
 
-unkeyed_is : (fact : FactValue) → key_of fact ≡ None → fact ≡ unkeyed_at (place_of fact)
+unkeyed_is : (fact : FactValue) → key_of fact ≡ None → fact ≡ unkeyed_at (order_of fact)
 unfolding unkeyed_at
 unkeyed_is (Unload serial) e = refl
 unkeyed_is (End thread) e = refl
@@ -217,10 +217,10 @@ unkeyed_is (PrimArray id trace elem bytes) e = absurd cc
 
 -- whether two facts stand at one place
 abbrev pub same_place : FactValue → FactValue → Bool
-same_place fact other = bytes_eq (place_of fact) (place_of other)
+same_place fact other = bytes_eq (order_of fact) (order_of other)
 
 -- two facts at one place have one key, or are one
-one_place : (one other : FactValue) (key : Option Key) → key_of one ≡ key → place_of one ≡ place_of other → HaveOneKey one other
+one_place : (one other : FactValue) (key : Option Key) → key_of one ≡ key → order_of one ≡ order_of other → HaveOneKey one other
     ⊎ (one ≡ other)
 one_place one other None e same =
     let none : key_of other ≡ None = place_key other ∙ ap key_of_place (sym same) ∙ sym (place_key one) ∙ e in
@@ -232,19 +232,19 @@ one_place one other (Some key) e same = inl (record {
 })
 
 pub same_place-true : (one other : FactValue) → same_place one other ≡ true → HaveOneKey one other ⊎ (one ≡ other)
-same_place-true one other e = one_place one other (key_of one) refl ((bytes_eq-Decides (place_of one) (place_of other)).0 e)
+same_place-true one other e = one_place one other (key_of one) refl ((bytes_eq-Decides (order_of one) (order_of other)).0 e)
 
 -- facts with one key stand at one place
-pub one_key_place : (one other : FactValue) → HaveOneKey one other → place_of one ≡ place_of other
+pub one_key_place : (one other : FactValue) → HaveOneKey one other → order_of one ≡ order_of other
 one_key_place one other have = key_place one have.key have.key_of_one ∙ sym (key_place other have.key have.key_of_other)
 
 pub same_place-false : (one other : FactValue) → same_place one other ≡ false → HaveOneKey one other → ⊥
 same_place-false one other e have =
-    not_from_Decides (same_place one other) (bytes_eq-Decides (place_of one) (place_of other)) e (one_key_place one other have)
+    not_from_Decides (same_place one other) (bytes_eq-Decides (order_of one) (order_of other)) e (one_key_place one other have)
 
 -- a fact stands in its own place
 pub same_place-same : (fact : FactValue) → same_place fact fact ≡ false → ⊥
-same_place-same fact e = not_from_Decides (same_place fact fact) (bytes_eq-Decides (place_of fact) (place_of fact)) e refl
+same_place-same fact e = not_from_Decides (same_place fact fact) (bytes_eq-Decides (order_of fact) (order_of fact)) e refl
 
 -- the facts have one key either way round
 pub HaveOneKey-sym : (one other : FactValue) → HaveOneKey one other → HaveOneKey other one
@@ -287,11 +287,11 @@ same_tests false false f g = refl
 
 -- whether a fact stands at that place
 abbrev pub stands_at : List ℕ → FactValue → Bool
-stands_at place fact = bytes_eq place (place_of fact)
+stands_at place fact = bytes_eq place (order_of fact)
 
 -- a fact has a key where it stands at the key's place
 pub has_key_at : (key : Key) (place : List ℕ) (fact : FactValue) → place_of_key key ≡ place → has_key key fact ≡ stands_at place fact
 has_key_at key place fact at = same_tests (has_key key fact) (stands_at place fact)
-    (λ yes. (bytes_eq-Decides place (place_of fact)).1 (sym at ∙ sym (key_place fact key (is_key-true key (key_of fact) yes))))
+    (λ yes. (bytes_eq-Decides place (order_of fact)).1 (sym at ∙ sym (key_place fact key (is_key-true key (key_of fact) yes))))
     (λ yes. true-is_key key (key_of fact)
-    (place_key fact ∙ ap key_of_place (sym ((bytes_eq-Decides place (place_of fact)).0 yes) ∙ sym at) ∙ key_of_its_place key))
+    (place_key fact ∙ ap key_of_place (sym ((bytes_eq-Decides place (order_of fact)).0 yes) ∙ sym at) ∙ key_of_its_place key))

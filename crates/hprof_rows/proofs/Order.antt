@@ -11,7 +11,7 @@ use Rattle.hprof_rows.specs.declared.key.Key.{Key}
 use Rattle.hprof_rows.specs.Key.{key_of}
 use Rattle.hprof_rows.specs.Facts.{Has, SameFacts}
 use Rattle.hprof_rows.specs.Conflict.{IsConsistent}
-use Rattle.hprof_rows.specs.Order.{place_of, IsBefore, IsCanonicalOrder}
+use Rattle.hprof_rows.specs.Order.{order_of, IsBefore, IsCanonicalOrder}
 use Rattle.hprof_rows.proofs.Keys.{same_place, one_key_place}
 use Rattle.hprof_rows.proofs.FactSets.{All-has, SameFacts-sym}
 
@@ -19,7 +19,7 @@ use Rattle.hprof_rows.proofs.FactSets.{All-has, SameFacts-sym}
 
 -- facts stand in one order
 pub IsBefore-trans : (one other more : FactValue) → IsBefore one other → IsBefore other more → IsBefore one more
-IsBefore-trans one other more a b = nat_list_cmp_total.trans (place_of one) (place_of other) (place_of more) a b
+IsBefore-trans one other more a b = nat_list_cmp_total.trans (order_of one) (order_of other) (order_of more) a b
 
 -- an order that is its own reverse is none of the two
 not_both : (o p : Ordering) → o ≡ Less → p ≡ Less → o ≡ ordering_reverse p → ⊥
@@ -28,15 +28,15 @@ not_both o p a b e = let clash : Less ≡ Greater = sym a ∙ e ∙ ap ordering_
 -- no two facts stand before each other
 pub IsBefore-asym : (one other : FactValue) → IsBefore one other → IsBefore other one → ⊥
 IsBefore-asym one other a b =
-    not_both (slice_cmp nat_cmp (place_of one) (place_of other)) (slice_cmp nat_cmp (place_of other) (place_of one)) a b
-    (nat_list_cmp_total.antisymm (place_of one) (place_of other))
+    not_both (slice_cmp nat_cmp (order_of one) (order_of other)) (slice_cmp nat_cmp (order_of other) (order_of one)) a b
+    (nat_list_cmp_total.antisymm (order_of one) (order_of other))
 
 -- nor one before itself
-IsBefore-place : (one other : FactValue) → place_of one ≡ place_of other → IsBefore one other → ⊥
+IsBefore-place : (one other : FactValue) → order_of one ≡ order_of other → IsBefore one other → ⊥
 IsBefore-place one other same a =
     IsBefore-asym one other a
-    (subst (λ (p : List ℕ). slice_cmp nat_cmp p (place_of one) ≡ Less) same
-    (subst (λ (p : List ℕ). slice_cmp nat_cmp (place_of one) p ≡ Less) (sym same) a))
+    (subst (λ (p : List ℕ). slice_cmp nat_cmp p (order_of one) ≡ Less) same
+    (subst (λ (p : List ℕ). slice_cmp nat_cmp (order_of one) p ≡ Less) (sym same) a))
 
 -- a fact stands before none of its key
 pub IsBefore-key : (one other : FactValue) (key : Key) → IsBefore one other → key_of one ≡ Some key → key_of other ≡ Some key → ⊥
@@ -45,7 +45,7 @@ IsBefore-key one other key before e f =
 
 -- whether the first fact stands before the second
 abbrev pub is_before : FactValue → FactValue → Bool
-is_before fact other = is_lt (slice_cmp nat_cmp (place_of fact) (place_of other))
+is_before fact other = is_lt (slice_cmp nat_cmp (order_of fact) (order_of other))
 
 less_by : (o : Ordering) → is_lt o ≡ true → o ≡ Less
 less_by Less e = refl
@@ -54,7 +54,7 @@ less_by Greater e = absurd cc
 
 -- what the test of two facts tells
 pub is_before-true : (one other : FactValue) → is_before one other ≡ true → IsBefore one other
-is_before-true one other e = less_by (slice_cmp nat_cmp (place_of one) (place_of other)) e
+is_before-true one other e = less_by (slice_cmp nat_cmp (order_of one) (order_of other)) e
 
 greater_by : (o : Ordering) → is_lt o ≡ false → is_eq o ≡ false → o ≡ Greater
 greater_by Less e f = absurd cc
@@ -64,8 +64,8 @@ greater_by Greater e f = refl
 -- of two facts at two places one stands before the other
 pub is_before-false : (one other : FactValue) → is_before one other ≡ false → same_place one other ≡ false → IsBefore other one
 is_before-false one other e f =
-    let apart = greater_by (slice_cmp nat_cmp (place_of one) (place_of other)) e (is_eq-slice_cmp (place_of one) (place_of other) ∙ f) in
-    nat_list_cmp_total.antisymm (place_of other) (place_of one) ∙ ap ordering_reverse apart
+    let apart = greater_by (slice_cmp nat_cmp (order_of one) (order_of other)) e (is_eq-slice_cmp (order_of one) (order_of other) ∙ f) in
+    nat_list_cmp_total.antisymm (order_of other) (order_of one) ∙ ap ordering_reverse apart
 
 -- ---- lists in order
 

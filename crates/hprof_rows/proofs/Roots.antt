@@ -19,7 +19,7 @@ use Rattle.hprof_tables.specs.declared.relation.Stated.{Stated}
 use Rattle.hprof_tables.specs.declared.relation.Stated.TheVariants.{New, Same, Differs}
 use Rattle.hprof_rows.specs.Facts.{Has}
 use Rattle.hprof_rows.specs.HeapRows.{root_facts}
-use Rattle.hprof_rows.specs.Order.{place_of, root_cmp}
+use Rattle.hprof_rows.specs.Order.{order_of, root_cmp}
 use Rattle.hprof_rows.specs.RootSet.{StatesRoot}
 use Rattle.hprof_rows.proofs.Keys.{same_place, same_place-true}
 use Rattle.hprof_rows.proofs.Inserting.{inserted}
@@ -36,7 +36,7 @@ three : (a b c x y z : ℕ) → ordering_then (nat_cmp a x) (ordering_then (nat_
 three a b c x y z = ap (ordering_then (nat_cmp a x)) (two b c y z)
 
 -- roots of one tag are compared by their numbers, others by their tags
-pub root_place : (root other : Root) → root_cmp root other ≡ slice_cmp nat_cmp (place_of (Rooted root)) (place_of (Rooted other))
+pub root_place : (root other : Root) → root_cmp root other ≡ slice_cmp nat_cmp (order_of (Rooted root)) (order_of (Rooted other))
 root_place (roots.JniGlobal a b) (roots.JniGlobal x y) = two a b x y
 root_place (roots.JniLocal a b c) (roots.JniLocal x y z) = three a b c x y z
 root_place (roots.JavaFrame a b c) (roots.JavaFrame x y z) = three a b c x y z
@@ -50,7 +50,7 @@ root_place root other = refl
 
 -- two roots stand at one place where they compare as equal
 pub root_same : (root other : Root) → same_place (Rooted root) (Rooted other) ≡ is_eq (root_cmp root other)
-root_same root other = sym (is_eq-slice_cmp (place_of (Rooted root)) (place_of (Rooted other))) ∙ ap is_eq (sym (root_place root other))
+root_same root other = sym (is_eq-slice_cmp (order_of (Rooted root)) (order_of (Rooted other))) ∙ ap is_eq (sym (root_place root other))
 
 insert_step : (o : Ordering) (a b c : List Root) → is_eq o ≡ false → root_facts (match_ordering o a b c) ≡ cond (is_lt o) (root_facts a)
     (root_facts c)

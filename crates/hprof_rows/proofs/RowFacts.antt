@@ -17,7 +17,7 @@ use Rattle.hprof_tables.specs.declared.relation.Stated.{Stated}
 use Rattle.hprof_tables.specs.declared.relation.Stated.TheVariants.{New, Same, Differs}
 use Rattle.hprof_rows.specs.Content.{content_of, facts_of_rows, IsRight, AreRight}
 use Rattle.hprof_rows.specs.Facts.{Has}
-use Rattle.hprof_rows.specs.Order.{place_of}
+use Rattle.hprof_rows.specs.Order.{order_of}
 use Rattle.hprof_tables.specs.Relation.{States}
 use Rattle.hprof_tables.specs.SortedRows.{row_at}
 use Rattle.hprof_rows.proofs.Keys.{same_place, same_place-true, HaveOneKey-sym}
@@ -52,13 +52,13 @@ place_lt : (table key other : ℕ) → is_lt (slice_cmp nat_cmp (table ∷ key �
 place_lt table key other = rw (← nat_cmp_is table table Equal refl) (ap is_lt (then_nothing (nat_cmp key other)) ∙ lt_by key other)
 
 -- two facts of a table stand at one place where their keys are one
-pub same_place_by : (table : ℕ) (one other : FactValue) (key more : ℕ) → place_of one ≡ table ∷ key ∷ []
-    → place_of other ≡ table ∷ more ∷ []
+pub same_place_by : (table : ℕ) (one other : FactValue) (key more : ℕ) → order_of one ≡ table ∷ key ∷ []
+    → order_of other ≡ table ∷ more ∷ []
     → same_place one other ≡ eqb key more
 same_place_by table one other key more at at_too = rw (at, at_too) (place_eq table key more)
 
 -- and that of the lesser key stands first
-pub before_by : (table : ℕ) (one other : FactValue) (key more : ℕ) → place_of one ≡ table ∷ key ∷ [] → place_of other ≡ table ∷ more ∷ []
+pub before_by : (table : ℕ) (one other : FactValue) (key more : ℕ) → order_of one ≡ table ∷ key ∷ [] → order_of other ≡ table ∷ more ∷ []
     → is_before one other ≡ ltb key more
 before_by table one other key more at at_too = rw (at, at_too) (place_lt table key more)
 
@@ -75,7 +75,7 @@ module _ {V : Type 0} (ids : IdSize) (table : ℕ) (fact : ℕ → List ℕ → 
 
   -- a fact of the table under a key, which is the fact of the key and its content
   pub record IsOfTable (key : ℕ) (stated : FactValue) : Type 0 where
-    pub stands : place_of stated ≡ table ∷ key ∷ []
+    pub stands : order_of stated ≡ table ∷ key ∷ []
     pub again : fact key (content_of ids stated) ≡ stated
 
   -- rows whose facts are right whatever their keys
@@ -91,7 +91,7 @@ module _ {V : Type 0} (ids : IdSize) (table : ℕ) (fact : ℕ → List ℕ → 
   find_step false key other row found rest same e = e
 
   -- the fact at the place of a key is that of its row
-  pub find_rows : (rows : List (ℕ × V)) (key : ℕ) (stated : FactValue) → place_of stated ≡ table ∷ key ∷ [] → Right rows
+  pub find_rows : (rows : List (ℕ × V)) (key : ℕ) (stated : FactValue) → order_of stated ≡ table ∷ key ∷ [] → Right rows
       → find (same_place stated) (facts rows) ≡ option_map (row_fact key) (row_at key rows)
   find_rows [] key stated at right = refl
   find_rows (row ∷ rows) key stated at right =
@@ -102,7 +102,7 @@ module _ {V : Type 0} (ids : IdSize) (table : ℕ) (fact : ℕ → List ℕ → 
       ∙ ap (option_map (row_fact key)) (sym (row_at-cons key row rows))
 
   -- what is put among the facts of rows comes before the first of them, or later
-  among : (t : Bool) (key : ℕ) (row : V) (first : ℕ × V) (rows : List (ℕ × V)) → place_of (row_fact key row) ≡ table ∷ key ∷ []
+  among : (t : Bool) (key : ℕ) (row : V) (first : ℕ × V) (rows : List (ℕ × V)) → order_of (row_fact key row) ≡ table ∷ key ∷ []
       → Right (first ∷ rows) → ltb key first.0 ≡ t
       → inserted (facts (first ∷ rows)) (row_fact key row) ≡ cond t (row_fact key row ∷ facts (first ∷ rows))
       (row_fact first.0 first.1 ∷ inserted (facts rows) (row_fact key row))
@@ -112,7 +112,7 @@ module _ {V : Type 0} (ids : IdSize) (table : ℕ) (fact : ℕ → List ℕ → 
       (before_by table (row_fact key row) (row_fact first.0 first.1) key first.0 at right.0.0 ∙ e)
 
   -- a row that is put in at a new key is its fact, put in its place
-  pub insert_rows : (rows : List (ℕ × V)) (key : ℕ) (row : V) → place_of (row_fact key row) ≡ table ∷ key ∷ [] → Right rows
+  pub insert_rows : (rows : List (ℕ × V)) (key : ℕ) (row : V) → order_of (row_fact key row) ≡ table ∷ key ∷ [] → Right rows
       → row_at key rows ≡ None → facts (insert_entry nat_cmp rows key row) ≡ inserted (facts rows) (row_fact key row)
   insert_rows [] key row at right none = refl
   insert_rows (first ∷ rows) key row at right none = elim (cases_order key first.0) [
@@ -155,7 +155,7 @@ module _ {V : Type 0} (ids : IdSize) (table : ℕ) (fact : ℕ → List ℕ → 
   ]
 
   -- the row that is there states a fact at the place of the key
-  there : (rows : List (ℕ × V)) (key : ℕ) (stated : FactValue) (row : V) → place_of stated ≡ table ∷ key ∷ [] → Right rows
+  there : (rows : List (ℕ × V)) (key : ℕ) (stated : FactValue) (row : V) → order_of stated ≡ table ∷ key ∷ [] → Right rows
       → row_at key rows ≡ Some row → Has (facts rows) (row_fact key row) × (same_place stated (row_fact key row) ≡ true)
   there rows key stated row at right e =
       find-Some (same_place stated) (facts rows) (row_fact key row) (find_rows rows key stated at right ∙ ap (option_map (row_fact key)) e)
@@ -170,7 +170,7 @@ module _ {V : Type 0} (ids : IdSize) (table : ℕ) (fact : ℕ → List ℕ → 
   rows_state old new key stated New of right s =
       let it = row_is key stated s.1.0 of s.1.1 in (
         find_rows old key stated of.stands right ∙ ap (option_map (row_fact key)) s.0,
-        ap facts s.1.2 ∙ insert_rows old key s.1.0 (ap place_of it ∙ of.stands) right s.0 ∙ ap (inserted (facts old)) it,
+        ap facts s.1.2 ∙ insert_rows old key s.1.0 (ap order_of it ∙ of.stands) right s.0 ∙ ap (inserted (facts old)) it,
       )
   rows_state old new key stated Same of right s =
       (subst (Has (facts old)) (row_is key stated s.1.0 of s.1.2) (there old key stated s.1.0 of.stands right s.1.1).0, ap facts s.0)
@@ -195,7 +195,7 @@ module _ {V : Type 0} (ids : IdSize) (table : ℕ) (fact : ℕ → List ℕ → 
       → States content old key (content_of ids stated) answer new → Right new
   rows_right old new key stated New of right s =
       let it = row_is key stated s.1.0 of s.1.1 in
-      rw s.1.2 (insert_right old key s.1.0 (ap place_of it ∙ of.stands, ap (content_of ids) it ∙ sym s.1.1) right)
+      rw s.1.2 (insert_right old key s.1.0 (ap order_of it ∙ of.stands, ap (content_of ids) it ∙ sym s.1.1) right)
   rows_right old new key stated Same of right s = rw s.0 right
   rows_right old new key stated Differs of right s = rw s.0 right
 

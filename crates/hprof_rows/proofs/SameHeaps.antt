@@ -8,13 +8,13 @@ use Rattle.hprof_rows.specs.declared.table.Table.{Table}
 use Rattle.hprof_rows.specs.declared.table.Table.TheVariants as tables
 use Rattle.hprof_rows.specs.Content.{content_of, load_fact, unload_fact, frame_fact, trace_fact, start_fact, end_fact, spelled_fact}
 use Rattle.hprof_rows.specs.Content.{facts_of_rows, AreRight}
-use Rattle.hprof_tables.specs.Places.{the_bytes}
+use Rattle.hprof_tables.specs.Spans.{the_bytes}
 use Rattle.hprof_rows.specs.Tables.{facts_of_table, number_of_table, joined}
 use Rattle.hprof_rows.specs.HeapRows.{HeapRows, AreHeap, HaveSameRecords, HaveSameSubs, heap_of_rows, tables_of, no_content, name_facts}
 use Rattle.hprof_rows.specs.HeapRows.{load_facts, unload_facts, frame_facts, trace_facts, start_facts, end_facts, root_facts, spelled_facts}
 use Rattle.hprof_rows.specs.HeapValue.{HeapValue}
 use Rattle.hprof_rows.specs.NumberRows.{load_numbers, frame_numbers, start_numbers}
-use Rattle.hprof_rows.specs.Order.{place_of}
+use Rattle.hprof_rows.specs.Order.{order_of}
 use Rattle.hprof_tables.specs.Relation.{contents_of}
 use Rattle.hprof_rows.specs.TraceRow.{trace_content}
 use Rattle.hprof_rows.proofs.HeapRows.{names_right, loads_right, unloads_right, frames_right, starts_right, ends_right, table_facts}
@@ -35,13 +35,13 @@ module _ {V : Type 0} (ids : IdSize) (table : ℕ) (fact : ℕ → List ℕ → 
 
   -- and these by the facts
   abbrev keyed : FactValue → ℕ × List ℕ
-  keyed stated = (slice_index (place_of stated) 1, content_of ids stated)
+  keyed stated = (slice_index (order_of stated) 1, content_of ids stated)
 
   to_contents : (rows : List (ℕ × V)) → AreRight ids table fact content rows
       → contents_of content rows ≡ map keyed (facts_of_rows fact content rows)
   to_contents [] right = refl
   to_contents (row ∷ rows) right =
-      let key : slice_index (place_of (fact row.0 (content row.1))) 1 ≡ row.0 = ap (λ (place : List ℕ). slice_index place 1) right.0.0 in
+      let key : slice_index (order_of (fact row.0 (content row.1))) 1 ≡ row.0 = ap (λ (place : List ℕ). slice_index place 1) right.0.0 in
       rw (key, right.0.1) (ap (λ (rest : List (ℕ × List ℕ)). (row.0, content row.1) ∷ rest) (to_contents rows right.1))
 
   same_contents : (rows others : List (ℕ × V)) → AreRight ids table fact content rows → AreRight ids table fact content others

@@ -15,7 +15,7 @@ use Rattle.hprof_items.specs.FactValue.{FactValue}
 use Rattle.hprof_tables.specs.declared.relation.Stated.{Stated}
 use Rattle.hprof_tables.specs.declared.relation.Stated.TheVariants.{New, Same, Differs}
 use Rattle.hprof_rows.specs.Tables.{stands_in, joined}
-use Rattle.hprof_rows.specs.Order.{place_of}
+use Rattle.hprof_rows.specs.Order.{order_of}
 use Rattle.hprof_rows.proofs.FactSets.{Has-front, Has-back}
 use Rattle.hprof_rows.proofs.Keys.{same_place}
 use Rattle.hprof_rows.proofs.Order.{is_before}
@@ -25,7 +25,7 @@ use Rattle.hprof_rows.proofs.Stating.{StatesAmong}
 -- the fact stands in the table of that number: its place begins with it
 pub record IsOf (table : ℕ) (fact : FactValue) : Type 0 where
   pub more : List ℕ
-  pub stands : place_of fact ≡ table ∷ more
+  pub stands : order_of fact ≡ table ∷ more
 
 abbrev pub AllOf : ℕ → List FactValue → Type 0
 AllOf table facts = AllByRecursion (IsOf table) facts
@@ -52,7 +52,7 @@ with_table (facts ∷ tables) (suc place) new = facts ∷ with_table tables plac
 -- they stand at two places
 apart : (m n : ℕ) (fact other : FactValue) → IsOf m fact → IsOf n other → (m ≡ n → ⊥) → same_place fact other ≡ false
 apart m n fact other of of_other differ = false_from_ne_true (same_place fact other) (λ yes.
-    let same : m ∷ of.more ≡ n ∷ of_other.more = sym of.stands ∙ (bytes_eq-Decides (place_of fact) (place_of other)).0 yes
+    let same : m ∷ of.more ≡ n ∷ of_other.more = sym of.stands ∙ (bytes_eq-Decides (order_of fact) (order_of other)).0 yes
     ∙ of_other.stands in
     differ (ap (λ (ns : List ℕ). slice_index ns 0) same))
 
@@ -249,7 +249,7 @@ filter_from p (facts ∷ tables) table number (suc place) fails passes e are =
     ∙ filter_from p tables table (suc number) place fails passes (omega arith) are.1
 
 -- the first number of a place
-first_of : (number : ℕ) (fact : FactValue) → IsOf number fact → slice_index (place_of fact) 0 ≡ number
+first_of : (number : ℕ) (fact : FactValue) → IsOf number fact → slice_index (order_of fact) 0 ≡ number
 first_of number fact of = ap (λ (ns : List ℕ). slice_index ns 0) of.stands
 
 -- the facts of a table are those whose places begin with its number
@@ -257,8 +257,8 @@ pub facts_in : (tables : List (List FactValue)) (table : ℕ) → AreTables 0 ta
     ≡ table_at tables table
 facts_in tables table are = filter_from (stands_in table) tables table 0 table
     (λ number fact of differ. false_from_ne_true (stands_in table fact) (λ yes.
-    differ (sym (first_of number fact of) ∙ eqb-true (slice_index (place_of fact) 0) table yes)))
-    (λ fact of. eq-eqb (slice_index (place_of fact) 0) table (first_of table fact of)) (omega arith) are
+    differ (sym (first_of number fact of) ∙ eqb-true (slice_index (order_of fact) 0) table yes)))
+    (λ fact of. eq-eqb (slice_index (order_of fact) 0) table (first_of table fact of)) (omega arith) are
 
 -- ---- from a place on
 

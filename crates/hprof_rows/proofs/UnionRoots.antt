@@ -13,7 +13,7 @@ use Rattle.hprof_values.specs.declared.root.Root.{Root}
 use Rattle.hprof_items.specs.FactValue.{FactValue, Rooted}
 use Rattle.hprof_rows.specs.Facts.{Has}
 use Rattle.hprof_rows.specs.HeapRows.{root_facts}
-use Rattle.hprof_rows.specs.Order.{place_of, root_cmp, IsBefore, IsCanonicalOrder}
+use Rattle.hprof_rows.specs.Order.{order_of, root_cmp, IsBefore, IsCanonicalOrder}
 use Rattle.hprof_rows.specs.RootSet.{IsUnionOfRoots, LacksRoot}
 use Rattle.hprof_rows.proofs.FactSets.{Has-parts, Has-front, Has-back}
 use Rattle.hprof_rows.proofs.Roots.{root_place, root_same, same_root, has_root}
@@ -25,7 +25,7 @@ IsIn set root = list_any (is_at (root_cmp root)) set
 
 -- each root is at its own place
 at_itself : (root : Root) → is_eq (root_cmp root root) ≡ true
-at_itself root = sym (root_same root root) ∙ (bytes_eq-Decides (place_of (Rooted root)) (place_of (Rooted root))).1 refl
+at_itself root = sym (root_same root root) ∙ (bytes_eq-Decides (order_of (Rooted root)) (order_of (Rooted root))).1 refl
 
 -- ---- roots that are not there
 

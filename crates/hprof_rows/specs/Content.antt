@@ -3,12 +3,12 @@ use Rattle.std.specs.Prelude.{◌≡◌, ◌==◌, ℕ, ℤ, pos, negsuc, List, 
 use Rattle.std.specs.List.{AllByRecursion}
 use Rattle.hprof_values.specs.declared.ids.IdSize.{IdSize}
 use Rattle.hprof_values.specs.declared.stop.Stop.{Stop}
-use Rattle.hprof_values.specs.Fields.{exactly, field_bytes}
+use Rattle.hprof_values.specs.FieldGroups.{exactly, field_bytes}
 use Rattle.hprof_lists.specs.Lists.{id_widths, ids_in}
 use Rattle.hprof_items.specs.FactValue.{FactValue, Name, Load, Unload, Frame, Trace, Start, End}
 use Rattle.hprof_items.specs.SubRecord.{dump_bytes, sub_at}
 use Rattle.hprof_rows.specs.NumberRows.{line_numbers}
-use Rattle.hprof_rows.specs.Order.{place_of}
+use Rattle.hprof_rows.specs.Order.{order_of}
 
 -- the content of a fact, without its key; a sub-record is its own spelling
 abbrev pub content_of : IdSize → FactValue → List ℕ
@@ -65,7 +65,7 @@ facts_of_rows fact content rows = map (λ row. fact row.0 (content row.1)) rows
 
 -- the fact of this key and this content stands in the table under the key, and has the content
 abbrev pub IsRight : IdSize → ℕ → (ℕ → List ℕ → FactValue) → ℕ → List ℕ → Type 0
-IsRight ids table fact key content = (place_of (fact key content) ≡ table ∷ key ∷ []) × (content_of ids (fact key content) ≡ content)
+IsRight ids table fact key content = (order_of (fact key content) ≡ table ∷ key ∷ []) × (content_of ids (fact key content) ≡ content)
 
 -- the same of each row
 abbrev pub AreRight : {V : Type 0} → IdSize → ℕ → (ℕ → List ℕ → FactValue) → (V → List ℕ) → List (ℕ × V) → Type 0

@@ -7,7 +7,7 @@ use Rattle.hprof_lists.specs.declared.entry.Entry.{Entry}
 use Rattle.hprof_lists.specs.declared.entry.EntryKind.{EntryKind}
 use Rattle.hprof_values.specs.declared.record_tag.RecordTag.{RecordTag}
 use Rattle.hprof_lists.specs.Entries.{EntriesFit, ListFits, entry_widths, entry_numbers}
-use Rattle.hprof_values.specs.Fields.{FitFields}
+use Rattle.hprof_values.specs.FieldGroups.{FitFields}
 use Rattle.hprof_values.specs.Ids.{IsBytes}
 use Rattle.hprof_lists.specs.Lists.{id_widths}
 use Rattle.hprof_values.specs.Root.{root_widths, root_numbers}

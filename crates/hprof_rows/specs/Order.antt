@@ -13,23 +13,23 @@ use Rattle.hprof_items.specs.FactValue.{FactValue, Name, Load, Unload, Frame, Tr
 use Rattle.hprof_items.specs.FactValue.{PrimArray}
 
 -- where a fact stands in a dump: the place of its table among the tables, and then its place there
-abbrev pub place_of : FactValue → List ℕ
-place_of (Name id text) = 0 ∷ id ∷ []
-place_of (Load serial class trace name) = 1 ∷ serial ∷ []
-place_of (Unload serial) = 2 ∷ serial ∷ []
-place_of (Frame id method signature source class_serial line) = 3 ∷ id ∷ []
-place_of (Trace serial thread frames) = 4 ∷ serial ∷ []
-place_of (Start thread object trace name group parent_group) = 5 ∷ thread ∷ []
-place_of (End thread) = 6 ∷ thread ∷ []
-place_of (Rooted root) = 7 ∷ code_of_tag (tag_of_root root) ∷ root_numbers root
-place_of (Class id trace parent loader signers domain reserved1 reserved2 size constants statics fields) = 8 ∷ id ∷ []
-place_of (Instance id trace class bytes) = 9 ∷ id ∷ []
-place_of (ObjArray id trace class elements) = 9 ∷ id ∷ []
-place_of (PrimArray id trace elem bytes) = 9 ∷ id ∷ []
+abbrev pub order_of : FactValue → List ℕ
+order_of (Name id text) = 0 ∷ id ∷ []
+order_of (Load serial class trace name) = 1 ∷ serial ∷ []
+order_of (Unload serial) = 2 ∷ serial ∷ []
+order_of (Frame id method signature source class_serial line) = 3 ∷ id ∷ []
+order_of (Trace serial thread frames) = 4 ∷ serial ∷ []
+order_of (Start thread object trace name group parent_group) = 5 ∷ thread ∷ []
+order_of (End thread) = 6 ∷ thread ∷ []
+order_of (Rooted root) = 7 ∷ code_of_tag (tag_of_root root) ∷ root_numbers root
+order_of (Class id trace parent loader signers domain reserved1 reserved2 size constants statics fields) = 8 ∷ id ∷ []
+order_of (Instance id trace class bytes) = 9 ∷ id ∷ []
+order_of (ObjArray id trace class elements) = 9 ∷ id ∷ []
+order_of (PrimArray id trace elem bytes) = 9 ∷ id ∷ []
 
 -- the first fact stands before the second
 abbrev pub IsBefore : FactValue → FactValue → Type 0
-IsBefore fact other = slice_cmp nat_cmp (place_of fact) (place_of other) ≡ Less
+IsBefore fact other = slice_cmp nat_cmp (order_of fact) (order_of other) ≡ Less
 
 -- each fact stands before all that follow it, so that no key comes twice
 abbrev pub IsCanonicalOrder : List FactValue → Type 0

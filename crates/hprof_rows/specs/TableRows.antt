@@ -10,7 +10,7 @@ use Rattle.hprof_rows.specs.declared.table_rows.TableRows.{TableRows}
 use Rattle.hprof_rows.specs.declared.table_rows.TableRows.TheVariants as tables
 use Rattle.hprof_rows.specs.declared.trace_row.TraceRow.{TraceRow}
 use Rattle.hprof_rows.specs.Content.{spelled_fact}
-use Rattle.hprof_tables.specs.Places.{the_bytes}
+use Rattle.hprof_tables.specs.Spans.{the_bytes}
 use Rattle.hprof_rows.specs.Fitting.{DumpFits-prop}
 use Rattle.hprof_rows.specs.HeapRows.{name_facts, load_facts, unload_facts, frame_facts, trace_facts, start_facts, end_facts, root_facts}
 use Rattle.hprof_rows.specs.HeapRows.{spelled_facts}

@@ -4,7 +4,7 @@ use Rattle.std.specs.List.{filter}
 use Rattle.hprof_items.specs.FactValue.{FactValue}
 use Rattle.hprof_rows.specs.declared.table.Table.{Table}
 use Rattle.hprof_rows.specs.declared.table.Table.TheVariants as tables
-use Rattle.hprof_rows.specs.Order.{place_of}
+use Rattle.hprof_rows.specs.Order.{order_of}
 
 -- the facts of all tables, in order
 abbrev pub joined : List (List FactValue) → List FactValue
@@ -26,7 +26,7 @@ number_of_table tables.Objects = 9
 
 -- whether the fact stands in the table of that number
 abbrev pub stands_in : ℕ → FactValue → Bool
-stands_in table fact = slice_index (place_of fact) 0 == table
+stands_in table fact = slice_index (order_of fact) 0 == table
 
 -- the facts of a table, in canonical order: those whose place begins with the table's number
 abbrev pub facts_of_table : Table → List FactValue → List FactValue

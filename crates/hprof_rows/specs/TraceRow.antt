@@ -1,6 +1,6 @@
 -- What rows of stack traces say beside their keys.
 use Rattle.std.specs.Prelude.{ℕ, List, ◌∷◌, length}
-use Rattle.hprof_values.specs.Fields.{field_bytes}
+use Rattle.hprof_values.specs.FieldGroups.{field_bytes}
 use Rattle.hprof_lists.specs.Lists.{id_widths, identifiers_of, identifiers_size}
 use Rattle.hprof_rows.specs.declared.trace_row.TraceRow.{TraceRow}
 use Rattle.hprof_rows.specs.declared.trace_row.TraceFrames.{TraceFrames}

@@ -5,7 +5,7 @@ use Rattle.std.proofs.Common.{append_assoc, append-nil, take-append-drop, arith}
 use Rattle.std.proofs.lemmas.Bool.{eqb-true}
 use Rattle.std.proofs.lemmas.List.{length-append, nil_from_length}
 use Rattle.hprof_values.specs.Ids.{IsBytes}
-use Rattle.hprof_values.specs.Fields.{Bounds, with_more}
+use Rattle.hprof_values.specs.FieldGroups.{Bounds, with_more}
 use Rattle.hprof_values.specs.declared.ids.IdSize.{IdSize}
 use Rattle.hprof_values.specs.declared.stop.Stop.{Stop}
 use Rattle.hprof_values.specs.declared.stop.Stop.TheVariants as stops
@@ -21,7 +21,7 @@ use Rattle.hprof_items.specs.Reading.{head_at}
 use Rattle.hprof_items.specs.SubReading.{bounds_within}
 use Rattle.hprof_items.specs.SubRecord.{sub_at}
 use Rattle.hprof_items.specs.Walk.{walked, end_of_read, IsPlaced}
-use Rattle.hprof_values.specs.declared.item.Item as values
+use Rattle.hprof_values.specs.declared.bounded_bytes.BoundedBytes.{BoundedBytes}
 use Rattle.std.specs.Prelude.{Result, ◌==◌}
 use Rattle.hprof_stream.specs.declared.rest.Passing.{Passing}
 use Rattle.hprof_stream.specs.declared.rest.Rest.{Rest}
@@ -86,7 +86,7 @@ module _ (longest : ℕ) (header : Header) (room : ℕ) (bytes : List ℕ) (from
       ap (found_sub header room) (no_end (sub_at header.ids (bounds_within room longest bytes) bytes) stops.Short whole)
 
 -- it was walked no further than its bytes
-pub placed_at : (item : values.Item) (walk : Walk) → IsPlaced item walk → walk_at walk ≤ length item.bytes.now
+pub placed_at : (item : BoundedBytes) (walk : Walk) → IsPlaced item walk → walk_at walk ≤ length item.bytes.now
 placed_at item Front placed = omega arith
 placed_at item (Entries kind left at) placed = placed
 

@@ -7,7 +7,7 @@ use Rattle.std.proofs.lemmas.List.{take_at, length-append}
 use Rattle.hprof_values.specs.declared.ids.IdSize.{IdSize}
 use Rattle.hprof_values.specs.declared.record_tag.RecordTag.{RecordTag}
 use Rattle.hprof_values.specs.declared.reason.Reason.{Reason}
-use Rattle.hprof_values.specs.Fields.{IsWithin}
+use Rattle.hprof_values.specs.FieldGroups.{IsWithin}
 use Rattle.hprof_values.specs.Ids.{IsBytes}
 use Rattle.hprof_values.specs.RecordTag.{code_of_record}
 use Rattle.hprof_items.specs.declared.header.Header.{Header}

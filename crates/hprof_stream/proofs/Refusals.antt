@@ -10,7 +10,7 @@ use Rattle.hprof_values.specs.declared.record_tag.RecordTag.{RecordTag}
 use Rattle.hprof_values.specs.declared.record_tag.RecordTag.TheVariants as tags
 use Rattle.hprof_values.specs.declared.stop.Stop.{Stop}
 use Rattle.hprof_values.specs.declared.stop.Stop.TheVariants as stops
-use Rattle.hprof_values.specs.Fields.{Bounds}
+use Rattle.hprof_values.specs.FieldGroups.{Bounds}
 use Rattle.hprof_values.specs.RecordTag.{record_of_code}
 use Rattle.hprof_items.specs.declared.header.Header.{Header}
 use Rattle.hprof_items.specs.declared.header.Version.{Version}

@@ -15,7 +15,7 @@ use Rattle.hprof_items.specs.FactValue.{FactValue}
 use Rattle.hprof_items.specs.Head.{kind_of}
 use Rattle.hprof_items.specs.SubReading.{bounds_within}
 use Rattle.hprof_items.specs.SubRecord.{dump_bytes, sub_at}
-use Rattle.hprof_values.specs.Fields.{Bounds}
+use Rattle.hprof_values.specs.FieldGroups.{Bounds}
 use Rattle.hprof_items.specs.Reading.{head_at, is_too_long, body_at}
 use Rattle.hprof_items.proofs.Limits.{head_same_or_long, head_taken}
 use Rattle.hprof_items.proofs.Steps.{long_enough, whole_parts, short_is_not_whole, too_long_is_not_whole, fault_is_not_whole}

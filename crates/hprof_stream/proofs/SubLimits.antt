@@ -14,7 +14,7 @@ use Rattle.hprof_values.specs.declared.sub_tag.SubTag.{SubTag}
 use Rattle.hprof_values.specs.declared.sub_tag.SubTag.TheVariants as tags
 use Rattle.hprof_values.specs.Basic.{basic_of_code, width_of_basic}
 use Rattle.hprof_lists.specs.Entries.{lead_width, bits_width, judged_type, entry_end, entries_end, list_in, list_end}
-use Rattle.hprof_values.specs.Fields.{Bounds, ◌>>=◌, field_end, fields_in, reached}
+use Rattle.hprof_values.specs.FieldGroups.{Bounds, ◌>>=◌, field_end, fields_in, reached}
 use Rattle.hprof_values.specs.Ids.{width_of}
 use Rattle.hprof_lists.specs.Lists.{ids_in}
 use Rattle.hprof_values.specs.Root.{root_fields}

@@ -20,7 +20,7 @@ use Rattle.hprof_stream.specs.Part.{Stated, all_bytes, all_facts, is_end, IsPart
 use Rattle.hprof_stream.specs.Item.{Place, Start, header_before, IsItem, AreItems, records_begun, held_of, item_at}
 use Rattle.hprof_stream.specs.Fault.{Splits, HasNoFault, IsFirstFault, HasNoSettledFault, StatesSoFar, is_settled}
 use Rattle.hprof_stream.specs.Progress.{place_of}
-use Rattle.hprof_stream.specs.Rest.{IsRest, NeedsGrowth}
+use Rattle.hprof_stream.specs.Rest.{IsRest}
 use Rattle.hprof_stream.specs.Run.{Run, became}
 use Rattle.hprof_stream.specs.Walking.{IsBegun, Refuses}
 
@@ -41,10 +41,6 @@ IsReady reader begun = has_failed reader ≡ false → IsBegun (header_of reader
 -- it has room for no bytes
 abbrev pub HasNoRoom : PartReader → Type 0
 HasNoRoom reader = vec_capacity reader.rest.held ≡ 0
-
--- it has no room to hold so many bytes more
-abbrev pub LacksRoom : PartReader → ℕ → Type 0
-LacksRoom reader more = NeedsGrowth reader.rest more
 
 -- this is a reader that was fed these bytes with no fault; the whole items among them state these facts
 --   unfinished: the bytes behind them

@@ -18,7 +18,7 @@ use crate::progress::Progress;
 use crate::rest::{Passing, Rest, pass_over};
 use crate::sink::Sink;
 use hprof_items::{HEAD_LEN, HEADER_LEN, HeadKind, Step, Stop, go_on, read_head};
-use hprof_values::Item;
+use hprof_values::BoundedBytes;
 
 /// Adds bytes to those that are held.
 fn hold(held: &mut Vec<u8>, bytes: &[u8]) -> Result<(), PartFault>
@@ -85,7 +85,7 @@ fn walks_short(progress: &Progress, rest: &mut Rest) -> bool
     if progress.room == 0 {
         return false;
     }
-    let item = Item {
+    let item = BoundedBytes {
         bytes: &rest.held,
         room: progress.room as usize,
         longest: progress.limits.max_item as usize,

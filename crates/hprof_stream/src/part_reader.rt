@@ -29,8 +29,9 @@ pub struct PartReader {
 }
 
 impl PartReader {
-    ghost use Rattle.hprof_stream.specs.Reader.{HasRead, HasNoRoom, LacksRoom, header_of, has_failed, IsReady, IsUnfinished, longest_held};
+    ghost use Rattle.hprof_stream.specs.Reader.{HasRead, HasNoRoom, header_of, has_failed, IsReady, IsUnfinished, longest_held};
     ghost use Rattle.hprof_stream.specs.Reader.{Feeds, Finishes};
+    ghost use Rattle.hprof_stream.specs.Rest.{NeedsGrowth};
     ghost use Rattle.hprof_stream.specs.declared.limits.Limits.{Limits};
 
     /// A reader that was fed nothing. It takes no memory yet.
@@ -60,7 +61,7 @@ impl PartReader {
             → (result ≡ Err PartFault.Failed) × (sink.old ≡ sink.new) × (header_of self.new ≡ header_of self.old) }
         ensures err { OnErr result (has_failed self.new ≡ true) }
         // Want of memory comes only where what is held has no room for the piece.
-        ensures full { result ≡ Err PartFault.OutOfMemory → LacksRoom self.old (length piece.now) }
+        ensures full { result ≡ Err PartFault.OutOfMemory → NeedsGrowth self.old.rest (length piece.now) }
         ensures kept { (header : Header) → header_of self.old ≡ Some header → header_of self.new ≡ Some header }
         ensures ready { IsReady self.new (S.begun sink.new) }
     {

@@ -1,6 +1,6 @@
 pub mod SortedRows
 pub mod SortedTable
-pub mod Places
+pub mod Spans
 pub mod SideBySide
 pub mod Merged
 pub mod Unions

@@ -4,7 +4,7 @@ use Rattle.hprof_tables.specs.declared.relation.Stated.{Stated}
 use Rattle.hprof_tables.specs.declared.relation.Stated.TheVariants.{New, Same, Differs}
 use Rattle.hprof_tables.specs.declared.bytes_table.BytesTable.{BytesTable}
 use Rattle.hprof_tables.specs.declared.bytes_table.BytesRows.{BytesRows}
-use Rattle.hprof_tables.specs.Places.{all_bytes, rows_lying}
+use Rattle.hprof_tables.specs.Spans.{row_bytes, rows_lying}
 use Rattle.hprof_tables.specs.SideBySide.{AreMissing}
 use Rattle.hprof_tables.specs.SortedTable.{entries_of, entries_left}
 
@@ -30,4 +30,4 @@ PutsNew Differs bytes old new = ⊤
 
 -- behind the bytes that were there come those of the rows of others whose keys the rows lack, each once, and no more
 abbrev pub PutsMissing : List (ℕ × List ℕ) → List (ℕ × List ℕ) → List ℕ → List ℕ → Type 0
-PutsMissing rows others old new = (missing : List (ℕ × List ℕ)) × AreMissing rows others missing × (new ≡ old ++ all_bytes missing)
+PutsMissing rows others old new = (missing : List (ℕ × List ℕ)) × AreMissing rows others missing × (new ≡ old ++ row_bytes missing)

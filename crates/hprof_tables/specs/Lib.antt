@@ -2,7 +2,7 @@ pub mod SortedRows
 pub mod Union
 pub mod SortedTable
 pub mod Relation
-pub mod Places
+pub mod Spans
 pub mod BytesTable
 pub mod SideBySide
 pub mod Rows

@@ -6,8 +6,8 @@ ghost use Rattle.std.specs.Option.{option_copied};
 ghost use Rattle.std.specs.Ordering.{nat_cmp};
 ghost use Rattle.std.specs.BTreeMap.{is_at};
 ghost use Rattle.std.specs.Map.{lookup};
-ghost use Rattle.hprof_tables.specs.Places.{IsWithin, AreWithin, AreWithin-prop, IsBehind, all_bytes, lying, rows_lying, spare_behind};
-ghost use Rattle.hprof_tables.specs.Places.{the_bytes};
+ghost use Rattle.hprof_tables.specs.Spans.{IsSpanOf, AreSpansOf, AreSpansOf-prop, IsBehind, row_bytes, lying, rows_lying, spare_behind};
+ghost use Rattle.hprof_tables.specs.Spans.{the_bytes};
 ghost use Rattle.hprof_tables.specs.Relation.{contents_of};
 ghost use Rattle.hprof_tables.specs.SortedTable.{entries_of, entries_left};
 
@@ -18,7 +18,7 @@ use std::alloc::{AllocError, Global};
 
 /// Where the bytes of a row lie: at `start` and behind it, before `end`.
 #[derive(Clone, Copy)]
-pub(crate) struct Place {
+pub(crate) struct Span {
     start: usize,
     end: usize,
 }
@@ -50,7 +50,7 @@ struct StatedBytes<'a> {
     bytes: &'a [u8],
 }
 
-impl Visit<Place> for StatedBytes<'_> {
+impl Visit<Span> for StatedBytes<'_> {
     type Answer = bool;
 
     // The bytes of all rows.
@@ -58,27 +58,27 @@ impl Visit<Place> for StatedBytes<'_> {
 
     ghost held = { λ room. room.items };
 
-    ghost answers = { λ stated held place same. IsWithin held place → (IsTrue same ↔ (lying held place ≡ stated.bytes.now)) };
+    ghost answers = { λ stated held span same. IsSpanOf held span → (IsTrue same ↔ (lying held span ≡ stated.bytes.now)) };
 
-    ghost makes = { λ stated old place new. (new ≡ old ++ stated.bytes.now) × (place.start ≡ length old) × (place.end ≡ length new) };
+    ghost makes = { λ stated old span new. (new ≡ old ++ stated.bytes.now) × (span.start ≡ length old) × (span.end ≡ length new) };
 
     ghost refuses = { λ stated room. vec_capacity room < vec_len room + length stated.bytes.now };
 
     // None is given back.
     ghost grows = { λ old new. vec_capacity old ≤ vec_capacity new };
 
-    fn ask(self, place: &Place, room: &Vec<u8>) -> bool {
-        match room.get(place.start..place.end) {
+    fn ask(self, span: &Span, room: &Vec<u8>) -> bool {
+        match room.get(span.start..span.end) {
             Some(bytes) => bytes == self.bytes,
             None => false,
         }
     }
 
-    fn make(self, room: &mut Vec<u8>) -> Result<Place, AllocError> {
+    fn make(self, room: &mut Vec<u8>) -> Result<Span, AllocError> {
         let start = room.len();
         append(room, self.bytes)?;
         let end = room.len();
-        Ok(Place { start, end })
+        Ok(Span { start, end })
     }
 }
 
@@ -88,32 +88,32 @@ fn append_rows(
     alloc: Global,
     bytes: &mut Vec<u8>,
     lent: Vec<(u64, LentBytes<'_>)>,
-) -> Result<Vec<(u64, Place)>, AllocError>
+) -> Result<Vec<(u64, Span)>, AllocError>
     ensures behind { IsBehind bytes.old.items bytes.new.items }
-    ensures put { IfOk result (λ _. bytes.new.items ≡ bytes.old.items ++ all_bytes (contents_of (λ row. row.0.now) lent.entry.items)) }
-    ensures within { IfOk result (λ places. AreWithin bytes.new.items places.items) }
-    ensures lying { IfOk result (λ places. rows_lying bytes.new.items places.items ≡ contents_of (λ row. row.0.now) lent.entry.items) }
+    ensures put { IfOk result (λ _. bytes.new.items ≡ bytes.old.items ++ row_bytes (contents_of (λ row. row.0.now) lent.entry.items)) }
+    ensures within { IfOk result (λ spans. AreSpansOf bytes.new.items spans.items) }
+    ensures lying { IfOk result (λ spans. rows_lying bytes.new.items spans.items ≡ contents_of (λ row. row.0.now) lent.entry.items) }
     ensures some { OnErr result (0 < length lent.entry.items) }
     ensures unchanged { IfOk result (λ _. length lent.entry.items ≡ 0 → bytes.new ≡ bytes.old) }
     ensures room { vec_capacity bytes.old ≤ vec_capacity bytes.new }
 {
-    let mut places = Vec::new(alloc);
-    places.reserve_exact(lent.len())?;
+    let mut spans = Vec::new(alloc);
+    spans.reserve_exact(lent.len())?;
     for (key, row) in lent {
-        let place = StatedBytes { bytes: row.0 }.make(bytes)?;
-        places.push((key, place))?;
+        let span = StatedBytes { bytes: row.0 }.make(bytes)?;
+        spans.push((key, span))?;
     }
-    Ok(places)
+    Ok(spans)
 }
 
 /// Rows of bytes by key, in order of key. All bytes lie in one vector, as they came, so that a row takes no memory of its
 /// own.
 #[derive(Drop)]
 pub struct BytesTable {
-    rows: SortedTable<Place>,
+    rows: SortedTable<Span>,
     bytes: Vec<u8>,
     alloc: Global,
-    ghost sound: { AreWithin bytes.items (entries_of rows) } by { AreWithin-prop bytes.items (entries_of rows) },
+    ghost sound: { AreSpansOf bytes.items (entries_of rows) } by { AreSpansOf-prop bytes.items (entries_of rows) },
 }
 
 impl BytesTable {
@@ -161,8 +161,8 @@ impl BytesTable {
     pub fn get(&self, key: u64) -> Option<&[u8]>
         ensures { option_copied result ≡ lookup (is_at (nat_cmp key)) (byte_rows self.now) }
     {
-        let place = self.rows.get(key)?;
-        Some(&self.bytes[place.start..place.end])
+        let span = self.rows.get(key)?;
+        Some(&self.bytes[span.start..span.end])
     }
 
     /// The number of rows.
@@ -195,7 +195,7 @@ impl BytesTable {
             (byte_rows self.new)) }
         ensures err { OnErr result (entries_of self.new.rows ≡ entries_of self.old.rows) }
         ensures behind { IsBehind self.old.bytes.items self.new.bytes.items }
-        ensures put { IfOk result (λ _. self.new.bytes.items ≡ self.old.bytes.items ++ all_bytes
+        ensures put { IfOk result (λ _. self.new.bytes.items ≡ self.old.bytes.items ++ row_bytes
             (contents_of (λ row. row.0.now) lent.entry.items)) }
         ensures some { OnErr result (0 < length lent.entry.items) }
         ensures unchanged { IfOk result (λ _. length lent.entry.items ≡ 0 → self.new ≡ self.old) }
@@ -240,9 +240,9 @@ impl BytesTable {
 /// The rows of a table with their keys, in order of key.
 #[derive(Drop)]
 pub struct BytesRows<'a> {
-    entries: Entries<'a, Place>,
+    entries: Entries<'a, Span>,
     bytes: &'a [u8],
-    ghost sound: { AreWithin bytes.now (entries_left entries) } by { AreWithin-prop bytes.now (entries_left entries) },
+    ghost sound: { AreSpansOf bytes.now (entries_left entries) } by { AreSpansOf-prop bytes.now (entries_left entries) },
 }
 
 impl<'a> Iterator for BytesRows<'a> {
@@ -257,7 +257,7 @@ impl<'a> Iterator for BytesRows<'a> {
 
     #[inline(always)]
     fn next(&mut self) -> Option<(u64, &'a [u8])> {
-        let (key, place) = self.entries.next()?;
-        Some((key, &self.bytes[place.start..place.end]))
+        let (key, span) = self.entries.next()?;
+        Some((key, &self.bytes[span.start..span.end]))
     }
 }

@@ -5,7 +5,7 @@ ghost use Rattle.hprof_tables.specs.SideBySide.{AreMissing, IsFirstDifference, L
 ghost use Rattle.hprof_tables.specs.SortedRows.{IsAscending};
 ghost use Rattle.std.specs.Iterator.{YieldsFirstBy};
 ghost use Rattle.hprof_tables.specs.BytesTable.{byte_rows_left};
-ghost use Rattle.hprof_tables.specs.Places.{the_bytes};
+ghost use Rattle.hprof_tables.specs.Spans.{the_bytes};
 ghost use Rattle.hprof_tables.specs.Relation.{contents_of};
 ghost use Rattle.hprof_tables.specs.Rows.{rows_left};
 

@@ -12,7 +12,7 @@ use Rattle.hprof_values.specs.declared.reason.Reason.TheVariants.{PastEnd}
 use Rattle.hprof_values.specs.declared.stop.Stop.{Stop}
 use Rattle.hprof_values.specs.declared.stop.Stop.TheVariants.{Short, TooLong, Fault}
 use Rattle.hprof_values.specs.Ids.{IsBytes}
-use Rattle.hprof_values.specs.Fields.{field_bytes, fields_in, FitFields, Bounds, ◌>>=◌, field_end, reached, IsWithin, with_more}
+use Rattle.hprof_values.specs.FieldGroups.{field_bytes, fields_in, FitFields, Bounds, ◌>>=◌, field_end, reached, IsWithin, with_more}
 use Rattle.hprof_values.proofs.Numbers.{IsBytes-drop, number_parts}
 
 -- the widths of a field and of the others

@@ -11,7 +11,7 @@ use Rattle.hprof_values.specs.declared.ids.IdSize.{IdSize}
 use Rattle.hprof_values.specs.declared.ids.IdSize.TheVariants.{Four, Eight}
 use Rattle.hprof_values.specs.declared.number_writing.Number.{Number}
 use Rattle.hprof_values.specs.declared.number_writing.Number.TheVariants as numbers
-use Rattle.hprof_values.specs.Fields.{field_bytes, FitFields}
+use Rattle.hprof_values.specs.FieldGroups.{field_bytes, FitFields}
 use Rattle.hprof_values.specs.Numbers.{width_of_number, number_value, number_widths, number_values}
 use Rattle.hprof_values.proofs.Numbers.{to_the_end}
 use Rattle.hprof_values.proofs.FieldGroups.{sum_widths}

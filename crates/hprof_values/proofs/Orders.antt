@@ -10,7 +10,7 @@ use Rattle.std.specs.declared.cmp.Ordering.{Ordering}
 use Rattle.std.specs.declared.cmp.Ordering.TheVariants.{Less, Equal, Greater}
 use Rattle.std.specs.Int.{byte_at, bytes_high_first}
 use Rattle.byteorder.specs.Endian.{big_bytes}
-use Rattle.hprof_values.specs.Fields.{field_bytes, FitFields}
+use Rattle.hprof_values.specs.FieldGroups.{field_bytes, FitFields}
 use Rattle.hprof_values.proofs.Numbers.{byte_at-pow, bytes_high_first-above, pow256_pos}
 
 -- three orders, one behind the other

@@ -1,7 +1,7 @@
 pub mod Ids
 pub mod Basic
-pub mod Fields
-pub mod Item
+pub mod FieldGroups
+pub mod BoundedBytes
 pub mod Numbers
 pub mod SubTag
 pub mod Root

@@ -9,7 +9,7 @@ ghost use Rattle.hprof_values.specs.Basic.{code_of_basic};
 ghost use Rattle.hprof_values.specs.declared.root.Root.{Root};
 ghost use Rattle.hprof_values.specs.declared.stop.Stop.TheVariants as stops;
 ghost use Rattle.hprof_values.specs.Ids.{IsBytes};
-ghost use Rattle.hprof_values.specs.Fields.{field_bytes, fields_in, FitFields, Bounds, reached, IsWithin, with_more};
+ghost use Rattle.hprof_values.specs.FieldGroups.{field_bytes, fields_in, FitFields, Bounds, reached, IsWithin, with_more};
 ghost use Rattle.hprof_values.specs.Root.{root_bytes, RootFits};
 
 use crate::basic::Basic;

@@ -4,8 +4,8 @@
 #![tactic(auto)]
 
 mod basic;
+mod bounded_bytes;
 mod ids;
-mod item;
 pub mod laws;
 pub mod number;
 mod number_writing;
@@ -16,8 +16,8 @@ mod stop;
 mod sub_tag;
 
 pub use basic::Basic;
+pub use bounded_bytes::BoundedBytes;
 pub use ids::IdSize;
-pub use item::Item;
 pub use number_writing::{Number, numbers_fit, numbers_len, put_numbers};
 pub use reason::Reason;
 pub use record_tag::RecordTag;

@@ -3,7 +3,7 @@
 ghost use Rattle.std.specs.Prelude.{◌≡◌, ◌↔◌, IsTrue, ◌<◌, ◌≤◌, ◌^◌, ◌++◌, length, drop, sum};
 ghost use Rattle.byteorder.specs.Endian.{big_bytes};
 ghost use Rattle.hprof_values.specs.Ids.{width_of, IsId};
-ghost use Rattle.hprof_values.specs.Fields.{field_bytes, FitFields};
+ghost use Rattle.hprof_values.specs.FieldGroups.{field_bytes, FitFields};
 ghost use Rattle.hprof_values.specs.Numbers.{width_of_number, number_value, number_widths, number_values};
 
 use crate::ids::IdSize;

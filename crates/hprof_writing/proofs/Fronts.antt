@@ -3,7 +3,7 @@ use Rattle.std.proofs.Common.{◌≡◌, ℕ, ◌+◌, ◌%◌, ◌<◌, List, [
 use Rattle.std.proofs.Common.{arith}
 use Rattle.std.proofs.lemmas.List.{take_at, length-append}
 use borrow.Rule.Slice.PartMut.{put_mid, post_of}
-use Rattle.hprof_values.specs.Fields.{field_bytes}
+use Rattle.hprof_values.specs.FieldGroups.{field_bytes}
 use Rattle.byteorder.specs.Endian.{big_bytes}
 use Rattle.hprof_values.specs.declared.sub_tag.SubTag.{SubTag}
 use Rattle.hprof_lists.specs.declared.lists.ids.IdList.{IdList}

@@ -10,7 +10,7 @@ use Rattle.hprof_values.specs.declared.sub_tag.SubTag.{SubTag}
 use Rattle.hprof_values.specs.declared.sub_tag.SubTag.TheVariants as tags
 use Rattle.hprof_values.specs.Ids.{width_of}
 use Rattle.hprof_lists.specs.Entries.{entries_bytes, list_bytes, ListFits}
-use Rattle.hprof_values.specs.Fields.{field_bytes, FitFields}
+use Rattle.hprof_values.specs.FieldGroups.{field_bytes, FitFields}
 use Rattle.hprof_lists.proofs.EntryLists.{entries_most}
 use Rattle.hprof_values.proofs.FieldGroups.{length-fields}
 use Rattle.hprof_items.specs.ClassDump.{class_widths, class_lists}

@@ -5,7 +5,7 @@ ghost use Rattle.byteorder.specs.Endian.{big_bytes};
 ghost use Rattle.hprof_devices.specs.declared.health.Health.TheVariants.{Well};
 ghost use Rattle.hprof_values.specs.declared.sub_tag.SubTag.TheVariants as tags;
 ghost use Rattle.hprof_lists.specs.Entries.{most_entries};
-ghost use Rattle.hprof_values.specs.Fields.{field_bytes, FitFields};
+ghost use Rattle.hprof_values.specs.FieldGroups.{field_bytes, FitFields};
 ghost use Rattle.hprof_values.specs.Numbers.{number_widths, number_values};
 ghost use Rattle.hprof_items.specs.Spelling.{spelling, Fits};
 ghost use Rattle.hprof_items.specs.ObjectTag.{object_of};

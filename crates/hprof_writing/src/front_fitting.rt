@@ -1,7 +1,7 @@
 //! Whether fields, and the bytes behind them, can be spelled.
 
 ghost use Rattle.std.specs.Prelude.{◌↔◌, IsTrue, ◌+◌, ◌≤◌, length, sum};
-ghost use Rattle.hprof_values.specs.Fields.{FitFields};
+ghost use Rattle.hprof_values.specs.FieldGroups.{FitFields};
 ghost use Rattle.hprof_values.specs.Numbers.{number_widths, number_values};
 ghost use Rattle.hprof_items.specs.Spelling.{longest_body};
 

@@ -2,7 +2,7 @@
 
 ghost use Rattle.std.specs.Prelude.{◌≡◌, ◌+◌, ◌≤◌, ◌++◌, sum};
 ghost use Rattle.hprof_devices.specs.declared.health.Health.TheVariants.{Well};
-ghost use Rattle.hprof_values.specs.Fields.{field_bytes, FitFields};
+ghost use Rattle.hprof_values.specs.FieldGroups.{field_bytes, FitFields};
 ghost use Rattle.hprof_values.specs.Numbers.{number_widths, number_values};
 ghost use Rattle.hprof_devices.specs.Device.{Writes, LeavesHealth};
 

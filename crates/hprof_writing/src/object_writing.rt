@@ -3,7 +3,7 @@
 ghost use Rattle.std.specs.Prelude.{◌≡◌, ◌≤◌, length, Some};
 ghost use Rattle.hprof_devices.specs.declared.health.Health.TheVariants.{Well};
 ghost use Rattle.hprof_values.specs.declared.sub_tag.SubTag.TheVariants as tags;
-ghost use Rattle.hprof_values.specs.Fields.{FitFields};
+ghost use Rattle.hprof_values.specs.FieldGroups.{FitFields};
 ghost use Rattle.hprof_values.specs.Numbers.{number_widths, number_values};
 ghost use Rattle.hprof_values.specs.Root.{root_bytes, RootFits};
 ghost use Rattle.hprof_items.specs.Spelling.{spelling, Fits};

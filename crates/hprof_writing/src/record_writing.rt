@@ -3,7 +3,7 @@
 ghost use Rattle.std.specs.Prelude.{◌≡◌, ◌≤◌, ◌++◌, length, Some};
 ghost use Rattle.hprof_devices.specs.declared.health.Health.TheVariants.{Well};
 ghost use Rattle.hprof_values.specs.declared.record_tag.RecordTag.TheVariants as tags;
-ghost use Rattle.hprof_values.specs.Fields.{field_bytes, FitFields};
+ghost use Rattle.hprof_values.specs.FieldGroups.{field_bytes, FitFields};
 ghost use Rattle.hprof_values.specs.Numbers.{number_widths, number_values};
 ghost use Rattle.hprof_values.specs.RecordTag.{code_of_record};
 ghost use Rattle.hprof_items.specs.Head.{record_bytes};

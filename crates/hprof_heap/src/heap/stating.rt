@@ -5,7 +5,7 @@ ghost use Rattle.hprof_lists.specs.Lists.{identifiers_of, identifiers_size};
 ghost use Rattle.hprof_items.specs.FactValue.{Name, Load, Unload, Frame, Trace, Start, End, Rooted, ListsHave, value_of};
 ghost use Rattle.hprof_items.specs.Spelling.{Fits};
 ghost use Rattle.hprof_items.specs.SubRecord.{dump_bytes};
-ghost use Rattle.hprof_rows.specs.Order.{place_of};
+ghost use Rattle.hprof_rows.specs.Order.{order_of};
 ghost use Rattle.hprof_rows.specs.Stating.{StatesInto, IsNewAmong};
 ghost use Rattle.hprof_heap.specs.Heap.{heap_of};
 
@@ -113,7 +113,7 @@ impl Heap {
 
     /// States a class, which is spelled by these bytes.
     fn state_class(&mut self, id: u64, fact: &Fact<'_>, bytes: &[u8]) -> Result<Stated, AllocError>
-        requires place { place_of (value_of fact.now) ≡ 8 ∷ id ∷ [] }
+        requires order { order_of (value_of fact.now) ≡ 8 ∷ id ∷ [] }
         requires fits { Fits (heap_of self.old).ids (value_of fact.now) }
         requires spelled { bytes.now ≡ dump_bytes (heap_of self.old).ids (value_of fact.now) }
         ensures ok { IfOk result (λ stated. StatesInto (heap_of self.old) (value_of fact.now) stated (heap_of self.new)) }
@@ -125,7 +125,7 @@ impl Heap {
 
     /// States an instance or an array, which is spelled by these bytes.
     fn state_object(&mut self, id: u64, fact: &Fact<'_>, bytes: &[u8]) -> Result<Stated, AllocError>
-        requires place { place_of (value_of fact.now) ≡ 9 ∷ id ∷ [] }
+        requires order { order_of (value_of fact.now) ≡ 9 ∷ id ∷ [] }
         requires fits { Fits (heap_of self.old).ids (value_of fact.now) }
         requires spelled { bytes.now ≡ dump_bytes (heap_of self.old).ids (value_of fact.now) }
         ensures ok { IfOk result (λ stated. StatesInto (heap_of self.old) (value_of fact.now) stated (heap_of self.new)) }

@@ -106,10 +106,10 @@ impl<'a> FieldList<'a> {
     }
 
     /// The fields that the instances have in their order, in one walk over the bytes.
-    pub fn iter(&self) -> Fields<'a>
+    pub fn iter(&self) -> OwnFields<'a>
         ensures { fields_left result ≡ fields_of self.now }
     {
-        Fields {
+        OwnFields {
             rest: self.bytes,
             ids: self.ids,
             left: self.len as usize,
@@ -119,14 +119,14 @@ impl<'a> FieldList<'a> {
 
 /// The fields that the instances have of a class, one after the other.
 #[derive(Drop)]
-pub struct Fields<'a> {
+pub struct OwnFields<'a> {
     rest: &'a [u8],
     ids: IdSize,
     left: usize,
     ghost spelled: { rest.now ≡ entries_bytes ids kinds.Field (entries_in ids kinds.Field left rest.now) },
 }
 
-impl<'a> Iterator for Fields<'a> {
+impl<'a> Iterator for OwnFields<'a> {
     ghost use Rattle.std.specs.Prelude.{map};
     ghost use Rattle.std.specs.Iterator.{YieldsFirst, item_count};
     ghost use Rattle.hprof_lists.specs.Value.{field_of};

@@ -1,6 +1,6 @@
 use Rattle.std.proofs.Common.{Err, ap, sym, ◌∙◌}
 use Rattle.std.proofs.lemmas.Result.{err_from_is_err_and}
-use Rattle.hprof_values.specs.Item.{bounds_of}
+use Rattle.hprof_values.specs.BoundedBytes.{bounds_of}
 use Rattle.hprof_items.proofs.Dumps.{sub_stops}
 use Rattle.hprof_items.proofs.sub_reading.read_item.Goals as goal
 

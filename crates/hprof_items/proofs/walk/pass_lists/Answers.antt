@@ -1,5 +1,5 @@
 use Rattle.std.proofs.Common.{◌≡◌, Some, None, Ok, Err, refl, sym, ◌∙◌}
-use Rattle.hprof_values.specs.Item.{bounds_of}
+use Rattle.hprof_values.specs.BoundedBytes.{bounds_of}
 use Rattle.hprof_items.specs.declared.walk.Walk.TheVariants.{Entries}
 use Rattle.hprof_items.specs.Walk.{next_kind}
 use Rattle.hprof_items.proofs.Walks.{list_there, list_stopped, lists_done, answer_by, list_after}

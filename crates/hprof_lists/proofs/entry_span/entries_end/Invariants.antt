@@ -1,6 +1,6 @@
 use Rattle.std.proofs.Common.{◌≡◌, ◌≤◌, length}
 use Rattle.hprof_lists.specs.Entries.{entries_end}
-use Rattle.hprof_values.specs.Item.{bounds_of}
+use Rattle.hprof_values.specs.BoundedBytes.{bounds_of}
 use Rattle.hprof_lists.proofs.entry_span.entries_end.Given as goal
 
 abbrev pub invariant-loop-left : goal.invariant-loop-left

@@ -6,7 +6,7 @@ use Rattle.hprof_values.specs.declared.ids.IdSize.{IdSize}
 use Rattle.hprof_values.specs.declared.root.Root.{Root}
 use Rattle.hprof_values.specs.declared.root.Root.TheVariants as roots
 use Rattle.hprof_values.specs.contracts.root.RootOrd.TheImpl as root_ord
-use Rattle.hprof_values.specs.Fields.{field_bytes, FitFields}
+use Rattle.hprof_values.specs.FieldGroups.{field_bytes, FitFields}
 use Rattle.hprof_values.specs.Ids.{width_of}
 use Rattle.hprof_values.specs.Root.{root_bytes, RootFits}
 use Rattle.hprof_values.proofs.Orders.{fields_in_order, then-Equal}

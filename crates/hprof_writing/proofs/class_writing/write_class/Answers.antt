@@ -8,7 +8,7 @@ use Rattle.hprof_lists.specs.declared.entry.EntryKind.{EntryKind}
 use Rattle.hprof_lists.specs.declared.entry.EntryKind.TheVariants as kinds
 use Rattle.hprof_values.specs.declared.sub_tag.SubTag.TheVariants as tags
 use Rattle.hprof_lists.specs.Entries.{IsEntryList, entries_bytes, list_bytes}
-use Rattle.hprof_values.specs.Fields.{field_bytes}
+use Rattle.hprof_values.specs.FieldGroups.{field_bytes}
 use Rattle.hprof_lists.specs.Lists.{constants_of, constants_size, statics_of, statics_size, fields_of, fields_size}
 use Rattle.hprof_values.specs.SubTag.{code_of_tag}
 use Rattle.hprof_items.specs.ClassDump.{class_widths}

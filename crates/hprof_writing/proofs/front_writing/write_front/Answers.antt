@@ -5,7 +5,7 @@ use borrow.Rule.Slice.PartMut.{put_mid}
 use Rattle.std.specs.Io.KnownBytes.{Appends}
 use Rattle.hprof_values.specs.declared.ids.IdSize.{IdSize}
 use Rattle.hprof_values.specs.declared.number_writing.Number.{Number}
-use Rattle.hprof_values.specs.Fields.{field_bytes, FitFields}
+use Rattle.hprof_values.specs.FieldGroups.{field_bytes, FitFields}
 use Rattle.hprof_values.specs.Numbers.{number_widths, number_values}
 use Rattle.hprof_values.proofs.FieldGroups.{length-fields}
 use Rattle.hprof_writing.proofs.Fronts.{front_parts}

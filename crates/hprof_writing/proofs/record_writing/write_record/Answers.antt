@@ -1,6 +1,6 @@
 use Rattle.std.proofs.Common.{ℕ, List, subst, arith, rules}
 use Rattle.std.proofs.lemmas.List.{length-append}
-use Rattle.hprof_values.specs.Fields.{field_bytes}
+use Rattle.hprof_values.specs.FieldGroups.{field_bytes}
 use Rattle.hprof_values.specs.Numbers.{number_widths, number_values}
 use Rattle.hprof_values.proofs.FieldGroups.{length-fields}
 use Rattle.hprof_values.proofs.NumberWriting.{widths_most}

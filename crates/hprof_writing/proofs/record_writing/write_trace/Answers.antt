@@ -2,7 +2,7 @@ use Rattle.std.proofs.Common.{◌≡◌, ℕ, [], ◌∷◌, ◌++◌, List, Opt
 use Rattle.hprof_values.specs.declared.ids.IdSize.{IdSize}
 use Rattle.hprof_lists.specs.declared.lists.ids.IdList.{IdList}
 use Rattle.hprof_values.specs.declared.record_tag.RecordTag.TheVariants as tags
-use Rattle.hprof_values.specs.Fields.{field_bytes}
+use Rattle.hprof_values.specs.FieldGroups.{field_bytes}
 use Rattle.hprof_lists.specs.Lists.{id_widths, identifiers_of, identifiers_size, IsIdList}
 use Rattle.hprof_values.specs.RecordTag.{record_fields}
 use Rattle.hprof_devices.specs.declared.health.WriteFault.{WriteFault}

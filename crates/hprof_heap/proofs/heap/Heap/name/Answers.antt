@@ -2,7 +2,7 @@ use Rattle.std.proofs.Common.{[], ap, refl, sym, ◌∙◌}
 use Rattle.std.specs.Option.{option_map}
 use Rattle.hprof_items.specs.FactValue.{value_of, Name}
 use Rattle.hprof_rows.specs.declared.key.Key.TheVariants as keys
-use Rattle.hprof_tables.specs.Places.{the_bytes}
+use Rattle.hprof_tables.specs.Spans.{the_bytes}
 use Rattle.hprof_heap.specs.Heap.{rows_in}
 use Rattle.hprof_tables.specs.BytesTable.{byte_rows}
 use Rattle.hprof_rows.proofs.HeapRows.{look_up_row, names_right}

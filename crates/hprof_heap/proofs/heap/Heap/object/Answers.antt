@@ -3,7 +3,7 @@ use Rattle.std.specs.Option.{option_map}
 use Rattle.hprof_items.specs.FactValue.{FactValue, value_of, Instance}
 use Rattle.hprof_rows.specs.declared.key.Key.TheVariants as keys
 use Rattle.hprof_rows.specs.Content.{spelled_fact}
-use Rattle.hprof_tables.specs.Places.{the_bytes}
+use Rattle.hprof_tables.specs.Spans.{the_bytes}
 use Rattle.hprof_heap.specs.Heap.{rows_in}
 use Rattle.hprof_rows.specs.Key.{has_key}
 use Rattle.hprof_tables.specs.BytesTable.{byte_rows}

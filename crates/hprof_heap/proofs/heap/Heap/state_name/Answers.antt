@@ -1,6 +1,6 @@
 use Rattle.std.proofs.Common.{[], ◌∷◌, refl, arith}
 use Rattle.hprof_items.specs.FactValue.{Name}
-use Rattle.hprof_tables.specs.Places.{the_bytes}
+use Rattle.hprof_tables.specs.Spans.{the_bytes}
 use Rattle.hprof_heap.specs.Heap.{rows_in}
 use Rattle.hprof_rows.specs.HeapRows.{name_facts}
 use Rattle.hprof_tables.specs.BytesTable.{byte_rows}

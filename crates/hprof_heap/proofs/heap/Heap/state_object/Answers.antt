@@ -1,7 +1,7 @@
 use Rattle.std.proofs.Common.{refl, arith, rules}
 use Rattle.hprof_items.specs.FactValue.{value_of}
 use Rattle.hprof_rows.specs.Content.{spelled_fact}
-use Rattle.hprof_tables.specs.Places.{the_bytes}
+use Rattle.hprof_tables.specs.Spans.{the_bytes}
 use Rattle.hprof_heap.specs.Heap.{rows_in}
 use Rattle.hprof_rows.specs.HeapRows.{spelled_facts}
 use Rattle.hprof_tables.specs.BytesTable.{byte_rows}
@@ -16,18 +16,18 @@ invariant_of-self c =
     let old = byte_rows heap.objects in
     let new = byte_rows c.state.new.self in
     let r = c.state.result in
-    let sub = sub_at_place fact 9 c.args.id c.requires.place (omega arith) in
+    let sub = sub_at_place fact 9 c.args.id c.requires.order (omega arith) in
     let ok = spelled_stated r heap.ids c.args.id fact c.args.bytes.now old new sub c.requires.spelled c.state.ensures.ok in
     record {
       sound = record {
         heap = into_heap-sound r (rows_in heap) heap.sound 9 (spelled_facts heap.ids new) fact
-            (of_key 9 c.args.id fact c.requires.place) (omega arith) c.requires.fits
+            (of_key 9 c.args.id fact c.requires.order) (omega arith) c.requires.fits
             (rows_tried heap.ids 9 (spelled_fact heap.ids) the_bytes r old new c.args.id fact
-            (record { stands = c.requires.place; again = spelled_again heap.ids c.args.id fact sub c.requires.fits }) heap.sound.objects ok)
+            (record { stands = c.requires.order; again = spelled_again heap.ids c.args.id fact sub c.requires.fits }) heap.sound.objects ok)
             (rows_kept heap.ids 9 (spelled_fact heap.ids) the_bytes r old new c.state.ensures.err);
         traces = heap.sound.traces;
         objects = tried_right heap.ids 9 (spelled_fact heap.ids) the_bytes r old new c.args.id fact
-            (record { stands = c.requires.place; again = spelled_again heap.ids c.args.id fact sub c.requires.fits }) heap.sound.objects
+            (record { stands = c.requires.order; again = spelled_again heap.ids c.args.id fact sub c.requires.fits }) heap.sound.objects
             ok c.state.ensures.err;
         classes = heap.sound.classes;
       };
@@ -40,19 +40,19 @@ returns-clause-ok c =
     let old = byte_rows heap.objects in
     let new = byte_rows c.state.new.self in
     let r = c.state.result in
-    let sub = sub_at_place fact 9 c.args.id c.requires.place (omega arith) in
+    let sub = sub_at_place fact 9 c.args.id c.requires.order (omega arith) in
     let ok = spelled_stated r heap.ids c.args.id fact c.args.bytes.now old new sub c.requires.spelled c.state.ensures.ok in
-    into_heap r (rows_in heap) heap.sound 9 (spelled_facts heap.ids new) fact (of_key 9 c.args.id fact c.requires.place) (omega arith)
+    into_heap r (rows_in heap) heap.sound 9 (spelled_facts heap.ids new) fact (of_key 9 c.args.id fact c.requires.order) (omega arith)
     c.requires.fits
     (rows_tried heap.ids 9 (spelled_fact heap.ids) the_bytes r old new c.args.id fact
-    (record { stands = c.requires.place; again = spelled_again heap.ids c.args.id fact sub c.requires.fits }) heap.sound.objects ok)
+    (record { stands = c.requires.order; again = spelled_again heap.ids c.args.id fact sub c.requires.fits }) heap.sound.objects ok)
 
 pub returns-clause-absent : goal.returns-clause-absent
 returns-clause-absent c =
     let heap = c.args.self.now in
     let fact = value_of c.args.fact.now in
     unseen_row c.state.result (rows_in heap) 9 c.args.id (spelled_fact heap.ids) the_bytes (byte_rows heap.objects) fact heap.sound
-    c.requires.place heap.sound.objects refl c.state.ensures.absent
+    c.requires.order heap.sound.objects refl c.state.ensures.absent
 
 pub returns-clause-err : goal.returns-clause-err
 returns-clause-err c = search rules

@@ -1,7 +1,7 @@
 use Rattle.std.proofs.Common.{◌≡◌, ℕ, List, [], ◌∷◌, length, Result, refl, subst, arith}
 use Rattle.std.specs.Prelude.{IfOk}
 use Rattle.hprof_values.specs.declared.ids.IdSize.{IdSize}
-use Rattle.hprof_values.specs.Fields.{field_bytes}
+use Rattle.hprof_values.specs.FieldGroups.{field_bytes}
 use Rattle.hprof_lists.specs.Lists.{id_widths, identifiers_of}
 use Rattle.hprof_items.specs.FactValue.{Trace}
 use Rattle.hprof_rows.specs.declared.trace_row.TraceRow.{TraceRow}

@@ -1,6 +1,6 @@
 use Rattle.std.proofs.Common.{rules}
 use Rattle.hprof_tables.specs.SortedTable.{entries_left}
-use Rattle.hprof_tables.proofs.Places.{ascending_lying}
+use Rattle.hprof_tables.proofs.Spans.{ascending_lying}
 use Rattle.hprof_tables.proofs.bytes_table.BytesTable.rows.Goals as goal
 
 pub returns-clause-ascending : goal.returns-clause-ascending

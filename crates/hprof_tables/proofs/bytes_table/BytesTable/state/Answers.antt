@@ -1,9 +1,9 @@
 use Rattle.std.proofs.Common.{Option, Bool, Some, ap, subst, ◌∙◌, rules}
 use Rattle.std.specs.Option.{option_map}
-use Rattle.hprof_tables.specs.Places.{lying, rows_lying, the_bytes}
+use Rattle.hprof_tables.specs.Spans.{lying, rows_lying, the_bytes}
 use Rattle.hprof_tables.specs.Relation.{States}
 use Rattle.hprof_tables.specs.SortedTable.{entries_of}
-use Rattle.hprof_tables.proofs.Places.{row_lying, stated_by, visited, visited-within}
+use Rattle.hprof_tables.proofs.Spans.{row_lying, stated_by, visited, visited-within}
 use Rattle.hprof_tables.proofs.SortedTable.{at_err}
 use Rattle.hprof_tables.proofs.bytes_table.BytesTable.state.Goals as goal
 

@@ -1,15 +1,15 @@
 //! The fields of an item, and the bounds within which they may lie.
 
 ghost use Rattle.std.specs.Prelude.{◌≡◌, ◌+◌, ◌<◌, ◌^◌, sum};
-ghost use Rattle.hprof_values.specs.Fields.{field_end, reached};
-ghost use Rattle.hprof_values.specs.Item.{bounds_of};
+ghost use Rattle.hprof_values.specs.FieldGroups.{field_end, reached};
+ghost use Rattle.hprof_values.specs.BoundedBytes.{bounds_of};
 
 use crate::reason::Reason;
 use crate::stop::Stop;
 
 /// The bytes from an item's first on, with the bounds within which it may lie, counted from there.
 #[derive(Clone, Copy, Debug)]
-pub struct Item<'a> {
+pub struct BoundedBytes<'a> {
     /// The bytes that are there.
     pub bytes: &'a [u8],
     /// The number of bytes that the record has left.
@@ -26,7 +26,7 @@ fn total(widths: &[usize]) -> usize
     widths.iter().sum()
 }
 
-impl Item<'_> {
+impl BoundedBytes<'_> {
     /// Tests a field by where it ends: within the record, within the longest item, and then it is there.
     fn field_end(&self, end: usize) -> Result<usize, Stop>
         ensures { result ≡ field_end (bounds_of self.now) end }

@@ -1,5 +1,5 @@
 use Rattle.std.proofs.Common.{rules}
-use Rattle.hprof_tables.proofs.bytes_table.StatedBytesVisitPlace.ask.Goals as goal
+use Rattle.hprof_tables.proofs.bytes_table.StatedBytesVisitSpan.ask.Goals as goal
 
 pub returns-in-Some : goal.returns-in-Some
 returns-in-Some c = search rules

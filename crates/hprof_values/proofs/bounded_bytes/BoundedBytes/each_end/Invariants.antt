@@ -1,7 +1,7 @@
 use Rattle.std.proofs.Common.{◌≡◌, ◌+◌, ◌<◌, ◌^◌, sum, length}
-use Rattle.hprof_values.specs.Fields.{reached}
-use Rattle.hprof_values.specs.Item.{bounds_of}
-use Rattle.hprof_values.proofs.item.Item.each_end.Given as goal
+use Rattle.hprof_values.specs.FieldGroups.{reached}
+use Rattle.hprof_values.specs.BoundedBytes.{bounds_of}
+use Rattle.hprof_values.proofs.bounded_bytes.BoundedBytes.each_end.Given as goal
 
 abbrev pub invariant-loop-rest : goal.invariant-loop-rest
 invariant-loop-rest l = record {

@@ -1,5 +1,5 @@
 use Rattle.std.proofs.Common.{rules}
-use Rattle.hprof_lists.proofs.lists.fields.FieldsIterator.next.Goals as goal
+use Rattle.hprof_lists.proofs.lists.fields.OwnFieldsIterator.next.Goals as goal
 
 pub returns-clause-goes : goal.returns-clause-goes
 returns-clause-goes c = search rules
