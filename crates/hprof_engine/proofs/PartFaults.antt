@@ -54,8 +54,8 @@ shown_begins old header new = Begins (gathered old) header (gathered new)
 abbrev pub shown_steps : Gatherer → FactValue → Gatherer → Type 0
 shown_steps old fact new = Takes (gathered old) fact (gathered new)
 
-abbrev pub shown_refuses : Gatherer → List FactValue → SinkFault → Type 0
-shown_refuses gatherer given fault = (gathered gatherer).failed ≡ false → (fault ≡ sinks.OutOfMemory) × LacksRow (gathered gatherer) given
+abbrev pub shown_refuses : Gatherer → List FactValue → SinkFault → Gatherer → Type 0
+shown_refuses gatherer given fault _ = (gathered gatherer).failed ≡ false → (fault ≡ sinks.OutOfMemory) × LacksRow (gathered gatherer) given
 
 abbrev pub shown_failed : Gatherer → Bool
 shown_failed gatherer = (gathered gatherer).failed
@@ -63,7 +63,7 @@ shown_failed gatherer = (gathered gatherer).failed
 -- a gatherer that had not failed refuses nothing but for want of memory
 no_failure : (limits : Limits) (bytes : List ℕ) (told : Option Header) (old mid : Gatherer) (given : List FactValue)
     → (gathered old).failed ≡ false
-    → RanUpTo shown_begins shown_steps limits.max_item bytes [] None told old mid → shown_refuses mid given sinks.Failed → ⊥
+    → RanUpTo shown_begins shown_steps limits.max_item bytes [] None told old mid → shown_refuses mid given sinks.Failed mid → ⊥
 no_failure limits bytes told old mid given sound ran refuses =
     let still = Run-sound (gathered old) (gathered mid) (header_before ran.whole.before) ran.handed
     (Run-shown old mid (header_before ran.whole.before) ran.handed ran.ran) sound in

@@ -147,7 +147,7 @@ impl Sink for Gatherer {
     ghost failed = { λ gatherer. (gathered gatherer).failed };
 
     // A gatherer that has not failed answers no fault but want of memory, and that only for a fact that is new to its heap.
-    ghost refuses = { λ gatherer given fault. (gathered gatherer).failed ≡ false → (fault ≡ OutOfMemory)
+    ghost refuses = { λ gatherer given fault _. (gathered gatherer).failed ≡ false → (fault ≡ OutOfMemory)
         × LacksRow (gathered gatherer) given };
 
     fn begin_part(&mut self, header: Header) -> Result<(), SinkFault> {

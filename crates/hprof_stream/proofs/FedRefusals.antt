@@ -29,7 +29,7 @@ use Rattle.hprof_stream.proofs.Feeding.{IsWithinItem-read, IsWithinItem-walked, 
 -- ---- what was refused
 
 module _ {S : Type 0} (begins : S → Header → S → Type 0) (steps : S → FactValue → S → Type 0) (refuses : S → List FactValue → SinkFault
-    → Type 0)
+    → S → Type 0)
     (failed : S → Bool) where
   -- what was refused stays so, whatever follows
   Stops-more : (progress : Progress) (bytes more : List ℕ) (old new : S) (fault : PartFault) (told : Option Header)
@@ -193,7 +193,7 @@ CannotHold progress left result =
     → 0 < length (held_of progress.limits.max_item (place_of progress) (still ++ left)))
 
 module _ {S : Type 0} (begins : S → Header → S → Type 0) (steps : S → FactValue → S → Type 0) (refuses : S → List FactValue → SinkFault
-    → Type 0)
+    → S → Type 0)
     (failed : S → Bool) (limits : Limits) (bytes piece taken left : List ℕ) (facts : List FactValue) (from to : PartReader) (at : Progress)
     (rest : Rest) (old new : S) (read : HasRead limits bytes facts from) (within : length (bytes ++ piece) ≤ limits.max_bytes)
     (all : taken ≡ piece) (reads : ReadsOn begins steps refuses failed from.progress read.unfinished taken old (Ok left) at rest new) where

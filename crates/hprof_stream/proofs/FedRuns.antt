@@ -104,7 +104,7 @@ module _ {S : Type 0} (begins : S → Header → S → Type 0) (steps : S → Fa
   }
 
 module _ {S : Type 0} (begins : S → Header → S → Type 0) (steps : S → FactValue → S → Type 0) (refuses : S → List FactValue → SinkFault
-    → Type 0)
+    → S → Type 0)
     (failed : S → Bool) where
   -- a fault of feeding, from where reading began
   pub IsFeedFault-from : (limits : Limits) (bytes : List ℕ) (facts : List FactValue) (before after : Option Header) (old mid new : S)

@@ -68,7 +68,7 @@ behind_item front more behind n long there =
     ap (λ (b : List ℕ). b ++ behind) split ∙ sym (drop-append-le k more behind (omega (arith, long, there, length-append front more)))
 
 module _ {S : Type 0} (begins : S → Header → S → Type 0) (steps : S → FactValue → S → Type 0) (refuses : S → List FactValue → SinkFault
-    → Type 0) (failed : S → Bool) where
+    → S → Type 0) (failed : S → Bool) where
   -- it was handed on, and nothing is kept
   pub GoesOn-whole : (from to : Progress) (front more behind : List ℕ) (n : ℕ) (old new : S) (rest : Rest)
       → Walks begins steps from.limits.max_item from (front ++ more) old to (drop n (front ++ more)) new

@@ -32,7 +32,7 @@ is_judgement faults.BytesExceeded = true
 is_judgement other = false
 
 module _ {R : Type 0} (left : R → Option (List ℕ)) (health : R → Health) (pulls : R → ℕ)
-    {S : Type 0} (begins : S → Header → S → Type 0) (steps : S → FactValue → S → Type 0) (refuses : S → List FactValue → SinkFault → Type 0)
+    {S : Type 0} (begins : S → Header → S → Type 0) (steps : S → FactValue → S → Type 0) (refuses : S → List FactValue → SinkFault → S → Type 0)
     (failed : S → Bool) where
   -- so many pulls gave the bytes that a reader was fed since it was new, with no fault
   pub record HasFed (limits : Limits) (turns : ℕ) (was is : R) (reader : PartReader) (old new : S) : Type 0 where

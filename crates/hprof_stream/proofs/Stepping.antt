@@ -13,7 +13,7 @@ use Rattle.hprof_stream.proofs.Walks.{Walks-none, Walks-then, Walks-at, same_ite
 use Rattle.std.specs.Prelude.{Bool}
 
 module _ {S : Type 0} (begins : S → Header → S → Type 0) (steps : S → FactValue → S → Type 0) (refuses : S → List FactValue → SinkFault
-    → Type 0) (failed : S → Bool) where
+    → S → Type 0) (failed : S → Bool) where
   -- one step that was refused
   pub Halts-step : (from to : Progress) (shown rest : List ℕ) (old new : S) (fault : PartFault)
       → StepsOver begins steps refuses failed from shown old (Err fault) to new

@@ -326,7 +326,7 @@ given_none (Some h) room items.Skipped stands some nothing = absurd some
 given_none (Some h) room (items.Sub fact) stands some nothing = absurd cc
 
 -- a whole item that the sink refuses
-pub Stops-refused : {S : Type 0} (refuses : S → List FactValue → SinkFault → Type 0) (failed : S → Bool) (from : Progress)
+pub Stops-refused : {S : Type 0} (refuses : S → List FactValue → SinkFault → S → Type 0) (failed : S → Bool) (from : Progress)
     (bytes : List ℕ) (item : ItemValue) (n : ℕ) (old new : S) (fault : SinkFault)
     → IsBytes bytes → from.room ≤ longest_body → IsReadAt from.limits.max_item from bytes item n → IsOfPlace (place_of from) bytes item
     → GivesSome item → Refuses refuses failed old (facts_of item) fault new

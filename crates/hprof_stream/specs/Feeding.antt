@@ -14,7 +14,7 @@ use Rattle.hprof_stream.specs.Run.{Run}
 
 module _ {R : Type 0} (left : R → Option (List ℕ)) (health : R → Health) (pulls : R → ℕ)
     {S : Type 0} (begins : S → Header → S → Type 0) (steps : S → FactValue → S → Type 0) (refuses : S → List FactValue → SinkFault
-    → Type 0) (failed : S → Bool) where
+    → S → Type 0) (failed : S → Bool) where
   -- feeding a new reader all pieces of a source
   abbrev pub FeedsAll : Limits → R → List ℕ → R → S → Result (Unit {0}) PartFault → PartReader → S → Type 0
   FeedsAll limits was came is old (Ok _) to new =

@@ -112,7 +112,7 @@ module _ {S : Type 0} (begins : S → Header → S → Type 0) (steps : S → Fa
     pub ran : Run begins steps old (became from (header_before whole.before)) handed new
 
 module _ {S : Type 0} (begins : S → Header → S → Type 0) (steps : S → FactValue → S → Type 0) (refuses : S → List FactValue → SinkFault
-    → Type 0) (failed : S → Bool) where
+    → S → Type 0) (failed : S → Bool) where
   -- a fault of an item, which no further byte changes: the first fault of the bytes that are taken
   abbrev pub IsItemFault : Limits → List ℕ → List FactValue → Option Header → Option Header → S → PartFault → S → Type 0
   IsItemFault limits bytes facts before after old fault new =
@@ -214,7 +214,7 @@ module _ {R : Type 0} (left : R → Option (List ℕ)) (pulls : R → ℕ) where
     pub unsettled : HasNoSettledFault limits.max_item front
 
 module _ {S : Type 0} (begins : S → Header → S → Type 0) (steps : S → FactValue → S → Type 0) (refuses : S → List FactValue → SinkFault
-    → Type 0) (failed : S → Bool) where
+    → S → Type 0) (failed : S → Bool) where
   -- nothing is wrong in the bytes, which are no more than may come, and the sink has run over all that is whole
   abbrev pub IsJudged : Limits → List ℕ → S → S → Type 0
   IsJudged limits came old new =
@@ -239,7 +239,7 @@ module _ {S : Type 0} (begins : S → Header → S → Type 0) (steps : S → Fa
 
 module _ {R : Type 0} (left : R → Option (List ℕ)) (health : R → Health) (pulls : R → ℕ)
     {S : Type 0} (begins : S → Header → S → Type 0) (steps : S → FactValue → S → Type 0) (refuses : S → List FactValue → SinkFault
-    → Type 0) (failed : S → Bool) where
+    → S → Type 0) (failed : S → Bool) where
   -- what reading a part to its end comes to, where these bytes came from a source
   --   was, is: the source, before and afterwards
   abbrev pub ReadsPart : Limits → R → List ℕ → R → S → Result PartSummary PartFault → S → Type 0

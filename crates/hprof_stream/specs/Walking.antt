@@ -41,9 +41,9 @@ module _ {S : Type 0} (begins : S → Header → S → Type 0) (steps : S → Fa
     pub ran : Run begins steps old (became from.header to.header) (all_facts items) new
 
 -- a call on the sink with an item that states these facts answered the fault, and the sink has failed
-module _ {S : Type 0} (refuses : S → List FactValue → SinkFault → Type 0) (failed : S → Bool) where
+module _ {S : Type 0} (refuses : S → List FactValue → SinkFault → S → Type 0) (failed : S → Bool) where
   abbrev pub Refuses : S → List FactValue → SinkFault → S → Type 0
-  Refuses old given fault new = refuses old given fault × (failed new ≡ true)
+  Refuses old given fault new = refuses old given fault new × (failed new ≡ true)
 
   -- why no step was taken at the front of the bytes: the item is refused, or it is whole and the sink refuses it
   --   told: the header that was read by then
@@ -65,7 +65,7 @@ module _ {S : Type 0} (refuses : S → List FactValue → SinkFault → Type 0) 
 
 -- whether and how one item at the front of the bytes was stepped over: by so many bytes, not yet, or never
 module _ {S : Type 0} (begins : S → Header → S → Type 0) (steps : S → FactValue → S → Type 0) (refuses : S → List FactValue → SinkFault
-    → Type 0) (failed : S → Bool) where
+    → S → Type 0) (failed : S → Bool) where
   abbrev pub StepsOver : Progress → List ℕ → S → Result (Option ℕ) PartFault → Progress → S → Type 0
   StepsOver from bytes old (Ok None) to new =
       (item_at from.limits.max_item (place_of from) bytes ≡ Short) × (from ≡ to) × (old ≡ new)

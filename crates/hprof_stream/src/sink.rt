@@ -37,15 +37,16 @@ pub trait Sink {
     // A call answered a fault.
     ghost failed: { Self → Bool };
 
-    // What a fault tells of the sink as it stood before the call, and of the fact that was given, if one was.
-    ghost refuses: { Self → List FactValue → SinkFault → Type 0 };
+    // What a fault tells of the sink as it stood before the call, of the fact that was given, if one was, and of the sink as
+    // the call left it: nothing is called behind a fault.
+    ghost refuses: { Self → List FactValue → SinkFault → Self → Type 0 };
 
     /// Begins a part. The one fault is `Failed`.
     fn begin_part(&mut self, header: Header) -> Result<(), SinkFault>
         ensures begins { OnOk result (begins self.old header self.new) }
         ensures begun { OnOk result (begun self.new ≡ Some header.ids) }
         ensures well { OnOk result ((failed self.old ≡ false) × (failed self.new ≡ false)) }
-        ensures err { IfErr result (λ fault. refuses self.old [] fault × (failed self.new ≡ true) × (fault ≡ SinkFault.Failed)) };
+        ensures err { IfErr result (λ fault. refuses self.old [] fault self.new × (failed self.new ≡ true) × (fault ≡ SinkFault.Failed)) };
 
     /// Takes a fact of the part that was begun last, which fits its size, and whose lists have identifiers of that size.
     /// With it come the bytes of the sub-record that states it, so that they need not be spelled again; none come with a
@@ -57,6 +58,6 @@ pub trait Sink {
         ensures steps { OnOk result (steps self.old (value_of fact.now) self.new) }
         ensures begun { OnOk result (begun self.new ≡ begun self.old) }
         ensures well { OnOk result ((failed self.old ≡ false) × (failed self.new ≡ false)) }
-        ensures err { IfErr result (λ fault. refuses self.old (value_of fact.now ∷ []) fault × (failed self.new ≡ true)) }
+        ensures err { IfErr result (λ fault. refuses self.old (value_of fact.now ∷ []) fault self.new × (failed self.new ≡ true)) }
         ensures failed { failed self.old ≡ true → result ≡ Err SinkFault.Failed };
 }

@@ -75,7 +75,7 @@ impl Sink for Tally {
 
     ghost failed = { λ _. false };
 
-    ghost refuses = { λ _ _ _. ⊥ };
+    ghost refuses = { λ _ _ _ _. ⊥ };
 
     fn begin_part(&mut self, header: Header) -> Result<(), SinkFault> {
         self.begun = Some(header.ids);

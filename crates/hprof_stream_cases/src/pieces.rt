@@ -89,7 +89,7 @@ impl Sink for Closed {
 
     ghost failed = { λ s. s.failed };
 
-    ghost refuses = { λ _ _ _. Unit {0} };
+    ghost refuses = { λ _ _ _ _. Unit {0} };
 
     fn begin_part(&mut self, _header: Header) -> Result<(), SinkFault> {
         self.failed = true;

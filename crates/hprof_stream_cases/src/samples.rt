@@ -77,7 +77,7 @@ impl Sink for Seen {
 
     ghost failed = { λ s. s.failed };
 
-    ghost refuses = { λ _ _ _. Unit {0} };
+    ghost refuses = { λ _ _ _ _. Unit {0} };
 
     fn begin_part(&mut self, header: Header) -> Result<(), SinkFault> {
         if self.failed {
