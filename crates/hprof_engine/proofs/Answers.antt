@@ -1,7 +1,7 @@
 -- What the answers of a join say of the parts.
 use Rattle.std.proofs.Common.{◌≡◌, inl, inr, ℕ, suc, ◌≤◌, true, List, [], ◌∷◌, ◌++◌, length, take, map, Option, Some, Result, Ok, Err, refl}
 use Rattle.std.proofs.Common.{sym, ap, subst, ◌∙◌}
-use Rattle.std.specs.Prelude.{slice_get, IsErrAnd}
+use Rattle.std.specs.Prelude.{slice_get, ◌↔◌, None}
 use Rattle.std.specs.List.{All, AllByRecursion}
 use Rattle.std.specs.Io.KnownBytes.{Appends}
 use Rattle.std.proofs.Math.Seq.{take-length}
@@ -32,12 +32,12 @@ use Rattle.hprof_rows.specs.HeapValue.{HeapValue}
 use Rattle.hprof_heap.specs.State.{PartState, StatesIt, IsLeastOf, IsState, HaveTwoSizes}
 use Rattle.hprof_heap.proofs.Least.{no_least}
 use Rattle.hprof_rows.proofs.Order.{order_agrees}
-use Rattle.hprof_engine.specs.declared.joined.Joined.{Joined}
 use Rattle.hprof_engine.specs.declared.tool_fault.ToolFault.{ToolFault}
 use Rattle.hprof_engine.specs.declared.tool_fault.ToolFault.TheVariants as tool
-use Rattle.hprof_engine.specs.Summaries.{AreSummaries, KeepsSummaries, AreSummarised, KeepsFirst}
-use Rattle.hprof_engine.specs.Joining.{Tell, Agree, Joins, Disagree, IsPartFault, IsOfPart, IsAccepted, RefusesPart, AreGiven}
-use Rattle.hprof_engine.specs.Joining.{RefusesReader, AreReadOut, read_count, ReadsAll, is_want, IsHindered, IsOkOrConflict}
+use Rattle.hprof_engine.specs.Summaries.{AreSummaries, AreSummarised, HoldsFirst}
+use Rattle.hprof_engine.specs.Joining.{Tell, Agree, Disagree, fault_of, IsPartFault, IsOfPart, IsAccepted, RefusesPart, AreGiven}
+use Rattle.hprof_engine.specs.Joining.{RefusesReader, AreReadOut, GathersFirst, read_count, ReadsAll, is_want, IsHindered, IsOkOrConflict, IsOfReading}
+use Rattle.hprof_engine.specs.Makes.{Reads}
 use Rattle.hprof_engine.proofs.PartFaults.{of_part}
 use Rattle.hprof_stream.proofs.Parts.{part_sound}
 use Rattle.hprof_stream.proofs.Smaller.{smaller_sound}
@@ -55,7 +55,7 @@ map_length f [] = refl
 map_length f (x ∷ xs) = ap suc (map_length f xs)
 
 -- there are as many parts as readers
-told_length : {R : Type 0} (left : R → Option (List ℕ)) (old : List R) (parts : List (List ℕ)) → Tell left old parts
+pub told_length : {R : Type 0} (left : R → Option (List ℕ)) (old : List R) (parts : List (List ℕ)) → Tell left old parts
     → length old ≡ length parts
 told_length left old parts told = sym (map_length left old) ∙ ap length told ∙ map_length Some parts
 
@@ -190,21 +190,6 @@ module _ {R : Type 0} (left : R → Option (List ℕ)) (limits : Limits) (old : 
     pub two_sizes : Tells given (Err refusals.IdSizes) → HaveTwoSizes parts
     two_sizes tells = given_sizes limits parts given given_by_parts tells
 
--- what the parts state was written
-pub joins : {R : Type 0} (left : R → Option (List ℕ)) (old : List R) (parts : List (List ℕ)) (heap : HeapValue) (joined : Joined)
-    (before after : Option (List ℕ)) → Tell left old parts
-    → Agree parts heap.ids heap.millis heap.facts → Appends before after (canonical_dump heap.ids heap.millis heap.facts)
-    → joined.parts ≡ length old → joined.facts ≡ length heap.facts → Joins parts before after joined
-joins left old parts heap joined before after told agree written parts_count facts_count = record {
-  ids = heap.ids;
-  millis = heap.millis;
-  rows = heap.facts;
-  agree = agree;
-  written = written;
-  parts_count = parts_count ∙ told_length left old parts told;
-  facts_count = facts_count;
-}
-
 -- ---- the summaries of all parts
 
 -- the summaries of what readers told are those of the parts that they told
@@ -215,14 +200,14 @@ summaries_of_parts [] (summary ∷ summaries) are = absurd are
 summaries_of_parts (bytes ∷ parts) [] are = absurd are
 summaries_of_parts (bytes ∷ parts) (summary ∷ summaries) are = (are.0, summaries_of_parts parts summaries are.1)
 
--- where all readers were read to their ends, the summaries of their parts were told
-pub keeps_summaries : {R S : Type 0} (left : R → Option (List ℕ)) (keeps : S → PartSummary → S → Type 0) (old : List R) (from to : S)
-    → KeepsFirst left keeps old (length old) from to
-    → (parts : List (List ℕ)) → Tell left old parts → KeepsSummaries keeps parts from to
-keeps_summaries {R} left keeps old from to first parts told =
+-- where all readers were read to their ends, the summaries that are held are those of their parts
+pub summaries_held : {R S : Type 0} (left : R → Option (List ℕ)) (holds : S → List PartSummary → Type 0) (old : List R) (kept : S)
+    → (first : HoldsFirst left holds old (length old) kept)
+    → (parts : List (List ℕ)) → Tell left old parts → AreSummaries parts first.summaries
+summaries_held {R} left holds old kept first parts told =
     let of_all = subst (λ (rs : List R). AreSummarised (map left rs) first.summaries) (take-length old) first.of_readers in
     let of_told = subst (λ (ls : List (Option (List ℕ))). AreSummarised ls first.summaries) told of_all in
-    (first.summaries, summaries_of_parts parts first.summaries of_told, first.kept)
+    summaries_of_parts parts first.summaries of_told
 
 -- ---- a part was refused
 
@@ -266,39 +251,40 @@ module _ {R : Type 0} (left : R → Option (List ℕ)) (health : R → Health) (
       is.of_part is.at.refused
       (well_at new index is.at.is well is.at.is_there) unhindered
 
-  -- the fault of an answer is that with which reading ended
-  pub part_refused : {A : Type 0} (limits : Limits) (old new : List R) (index : ℕ) (fault : PartFault) (answer : ToolFault)
-      (from to : Gathered) → ◌≡◌ {A = Result A ToolFault} (Err answer) (Err (tool.Part index fault))
-      → ReadsAll left health pulls limits old from (Err answer) new to → RefusesReader left health pulls limits old new index fault from
-  part_refused limits old new index fault answer from to e reads =
-      let same : answer ≡ tool.Part index fault = cc in
-      subst (λ (f : ToolFault). ReadsAll left health pulls limits old from (Err f) new to) same reads
+  -- there are some readers
+  some_reader : (old : List R) (index : ℕ) (was : R) → slice_get old index ≡ Some was → old ≡ [] → ⊥
+  some_reader [] index was there none = absurd cc
+  some_reader (reader ∷ old) index was there none = cc
 
-  -- where reading ended with a fault, the readers before the one that was refused were read to their ends
-  pub stopped_read_out : (A : Type 0) (limits : Limits) (old new : List R) (answer : ToolFault) (from to : Gathered)
-      → ReadsAll left health pulls limits old from (Err answer) new to
-      → AreReadOut left health pulls limits old new (read_count {A = A} (Err answer) (length old))
-  stopped_read_out A limits old new (tool.Part index fault) from to reads = reads.out
-  stopped_read_out A limits old new tool.NoParts from to reads = absurd reads
-  stopped_read_out A limits old new tool.IdSizes from to reads = absurd reads
-  stopped_read_out A limits old new (tool.Conflict key) from to reads = absurd reads
-  stopped_read_out A limits old new (tool.Write fault) from to reads = absurd reads
-  stopped_read_out A limits old new tool.OutOfMemory from to reads = absurd reads
-
-  -- reading ends with a fault only where something hinders it
-  pub reading_hindered : (A : Type 0) (limits : Limits) (parts : List (List ℕ)) (ids : IdSize) (millis : ℕ) (facts : List FactValue)
-      (old new : List R) (answer : ToolFault) (from to : Gathered) → limits.max_item ≤ longest_body
-      → Tell left old parts → IsState parts ids millis facts → All (λ reader. health reader ≡ healths.Well) new
-      → ReadsAll left health pulls limits old from (Err answer) new to
-      → (IsHindered {A = A} (Err answer) → ⊥) → IsOkOrConflict {A = A} (Err answer)
-  reading_hindered A limits parts ids millis facts old new (tool.Part index fault) from to le told state well reads unhindered =
-      absurd (never_refused limits parts ids millis facts old new index fault le state
-      (refuses_part limits parts old new index fault from told reads) well unhindered)
-  reading_hindered A limits parts ids millis facts old new tool.NoParts from to le told state well reads unhindered = absurd reads
-  reading_hindered A limits parts ids millis facts old new tool.IdSizes from to le told state well reads unhindered = absurd reads
-  reading_hindered A limits parts ids millis facts old new (tool.Conflict key) from to le told state well reads unhindered = absurd reads
-  reading_hindered A limits parts ids millis facts old new (tool.Write fault) from to le told state well reads unhindered = absurd reads
-  reading_hindered A limits parts ids millis facts old new tool.OutOfMemory from to le told state well reads unhindered = absurd reads
+  -- what reading answers where it ended with a fault
+  pub stopped : (limits : Limits) (old new : List R) (fault : ToolFault) (from to : Gathered)
+      → ReadsAll left health pulls limits old from (Err fault) new to → IsOfReading (Some fault)
+      × Reads left health pulls limits old new (Some fault)
+      × (limits.max_item ≤ longest_body → (parts : List (List ℕ)) (ids : IdSize) (millis : ℕ) (facts : List FactValue) → Tell left old parts
+      → IsState parts ids millis facts → All (λ reader. health reader ≡ healths.Well) new → (IsHindered (Some fault) → ⊥)
+      → IsOkOrConflict (Some fault))
+  stopped limits old new (tool.Part index fault) from to reads = (
+    tt,
+    record {
+      no_parts = λ had. (λ e. absurd cc, λ none. absurd (some_reader old index reads.at.was reads.at.was_there none));
+      id_sizes = λ e. absurd cc;
+      conflict = λ key e. absurd cc;
+      part = λ other why e parts told.
+          let one : tool.Part index fault ≡ tool.Part other why = cc in
+          refuses_part limits parts old new other why from told
+          (subst (λ (f : ToolFault). ReadsAll left health pulls limits old from (Err f) new to) one reads);
+      accepted = λ all. absurd all;
+      read_out = reads.out;
+    },
+    λ le parts ids millis facts told state well unhindered. absurd (never_refused limits parts ids millis facts old new index fault le state
+        (refuses_part limits parts old new index fault from told reads) well unhindered),
+  )
+  stopped limits old new tool.NoParts from to reads = absurd reads
+  stopped limits old new tool.IdSizes from to reads = absurd reads
+  stopped limits old new (tool.Conflict key) from to reads = absurd reads
+  stopped limits old new tool.DumpTooLong from to reads = absurd reads
+  stopped limits old new (tool.Write fault) from to reads = absurd reads
+  stopped limits old new tool.OutOfMemory from to reads = absurd reads
 
 -- parts that state something together are some
 pub some_parts : {R : Type 0} (left : R → Option (List ℕ)) (old : List R) (parts : List (List ℕ)) (ids : IdSize) (millis : ℕ)
@@ -316,40 +302,78 @@ from_nothing from to given e gathers = subst (λ (g : Gathered). Gathers g given
 pub told_of : (given : List Given) (refusal known : Refusal) → refusal ≡ known → Tells given (Err refusal) → Tells given (Err known)
 told_of given refusal known e tells = subst (λ (r : Refusal). Tells given (Err r)) e tells
 
--- a conflict is told at its key
-pub told_conflict : {A : Type 0} (given : List Given) (refusal : Refusal) (key named : Key) → refusal ≡ refusals.Conflict key
-    → ◌≡◌ {A = Result A ToolFault} (Err (tool.Conflict key)) (Err (tool.Conflict named)) → Tells given (Err refusal)
-    → Tells given (Err (refusals.Conflict named))
-told_conflict given refusal key named e same tells =
-    let one : key ≡ named = cc in
-    told_of given refusal (refusals.Conflict named) (e ∙ ap refusals.Conflict one) tells
+-- ---- all parts were read, and the gatherer answered
 
--- the fault of an answer is that of the writer
-pub write_fault : {A : Type 0} (fault other : WriteFault) → ◌≡◌ {A = Result A ToolFault} (Err (tool.Write fault))
-    (Err (tool.Write other)) → fault ≡ other
-write_fault fault other e = cc
+-- the fault that a refusal of the gatherer is
+abbrev pub fault_of_refusal : Refusal → Option ToolFault
+fault_of_refusal refusals.NoParts = Some tool.NoParts
+fault_of_refusal refusals.IdSizes = Some tool.IdSizes
+fault_of_refusal (refusals.Conflict key) = Some (tool.Conflict key)
+fault_of_refusal refusals.Failed = None
 
--- a result that is an error, and the only one that it can be
-pub the_fault : {A : Type 0} (result : Result A ToolFault) (fault : ToolFault) → IsErrAnd result (λ e. e ≡ fault) → result ≡ Err fault
-the_fault result fault is =
-    let p = err_from_is_err_and result is in
-    p.1 ∙ ap Err p.2
+abbrev pub fault_of_answer : Result HeapValue Refusal → Option ToolFault
+fault_of_answer (Ok heap) = None
+fault_of_answer (Err refusal) = fault_of_refusal refusal
 
--- what hinders an answer hinders one of another kind with the same fault
-pub as_hindered : (A B : Type 0) (fault : ToolFault) → ((IsHindered {A = A} (Err fault) → ⊥) → IsOkOrConflict {A = A} (Err fault))
-    → (IsHindered {A = B} (Err fault) → ⊥) → IsOkOrConflict {A = B} (Err fault)
-as_hindered A B (tool.Part index fault) is = is
-as_hindered A B tool.NoParts is = is
-as_hindered A B tool.IdSizes is = is
-as_hindered A B (tool.Conflict key) is = is
-as_hindered A B (tool.Write fault) is = is
-as_hindered A B tool.OutOfMemory is = is
+module _ {R : Type 0} (left : R → Option (List ℕ)) (health : R → Health) (pulls : R → ℕ) (limits : Limits) (old new : List R)
+    (from to : Gathered) (nothing : from ≡ nothing_gathered) (first : GathersFirst left limits old (length old) from to)
+    (out : AreReadOut left health pulls limits old new (length old)) where
+  gathers : Gathers nothing_gathered first.given to
+  gathers = from_nothing from to first.given nothing first.gathers
 
--- how many readers were read to their ends is told by the fault
-pub same_count : (A B : Type 0) (fault : ToolFault) (all : ℕ) → read_count {A = A} (Err fault) all ≡ read_count {A = B} (Err fault) all
-same_count A B (tool.Part index fault) all = refl
-same_count A B tool.NoParts all = refl
-same_count A B tool.IdSizes all = refl
-same_count A B (tool.Conflict key) all = refl
-same_count A B (tool.Write fault) all = refl
-same_count A B tool.OutOfMemory all = refl
+  -- what reading answers where all parts were read
+  reads_as : (ended : Option ToolFault) → ((ended ≡ Some tool.NoParts) ↔ (old ≡ []))
+      → (ended ≡ Some tool.IdSizes → (parts : List (List ℕ)) → Tell left old parts → HaveTwoSizes parts)
+      → ((key : Key) → ended ≡ Some (tool.Conflict key) → (parts : List (List ℕ)) → Tell left old parts → Disagree parts key)
+      → ((index : ℕ) (fault : PartFault) → ended ≡ Some (tool.Part index fault) → ⊥) → read_count ended (length old) ≡ length old
+      → Reads left health pulls limits old new ended
+  reads_as ended none sizes conflicts part all = record {
+    no_parts = λ had. none;
+    id_sizes = sizes;
+    conflict = conflicts;
+    part = λ index fault e parts told. absurd (part index fault e);
+    accepted = λ _ parts told. all_accepted left limits old first.given first.of_readers parts told;
+    read_out = subst (λ (count : ℕ). AreReadOut left health pulls limits old new count) (sym all) out;
+  }
+
+  pub answered : (answer : Result HeapValue Refusal) → Tells first.given answer
+      → Reads left health pulls limits old new (fault_of_answer answer)
+      × ((parts : List (List ℕ)) (ids : IdSize) (millis : ℕ) (facts : List FactValue) → Tell left old parts
+      → IsState parts ids millis facts → IsOkOrConflict (fault_of_answer answer))
+  answered (Ok heap) tells = (
+    reads_as None (
+      λ e. absurd cc,
+      λ none. absurd (let no : ◌≡◌ {A = Result HeapValue Refusal} (Ok heap) (Err refusals.NoParts) =
+          no_parts left limits old first.given first.of_readers none (Ok heap) tells in cc),
+    ) (λ e. absurd cc) (λ key e. absurd cc)
+        (λ index fault e. cc) refl,
+    λ parts ids millis facts told state. tt,
+  )
+  answered (Err refusals.NoParts) tells =
+      let none = no_readers left limits old first.given first.of_readers tells in (
+        reads_as (Some tool.NoParts) (λ e. none, λ e. refl) (λ e. absurd cc) (λ key e. absurd cc) (λ index fault e. cc) refl,
+        λ parts ids millis facts told state. absurd (some_parts left old parts ids millis facts told state none),
+      )
+  answered (Err refusals.IdSizes) tells = (
+    reads_as (Some tool.IdSizes) (
+      λ e. absurd cc,
+      λ none. absurd (let no : ◌≡◌ {A = Result HeapValue Refusal} (Err refusals.IdSizes)
+          (Err refusals.NoParts) = no_parts left limits old first.given first.of_readers none (Err refusals.IdSizes) tells in cc),
+    )
+        (λ e parts told. two_sizes left limits old first.given first.of_readers parts told tells) (λ key e. absurd cc)
+        (λ index fault e. cc) refl,
+    λ parts ids millis facts told state. absurd (not_two_sizes parts ids millis facts state
+        (two_sizes left limits old first.given first.of_readers parts told tells)),
+  )
+  answered (Err (refusals.Conflict key)) tells = (
+    reads_as (Some (tool.Conflict key)) (
+      λ e. absurd cc,
+      λ none. absurd (let no : ◌≡◌ {A = Result HeapValue Refusal}
+          (Err (refusals.Conflict key)) (Err refusals.NoParts) =
+          no_parts left limits old first.given first.of_readers none (Err (refusals.Conflict key)) tells in cc),
+    ) (λ e. absurd cc)
+        (λ named e parts told. let one : key ≡ named = cc in subst (Disagree parts) one
+        (disagree left limits old first.given first.of_readers parts told key tells)) (λ index fault e. cc) refl,
+    λ parts ids millis facts told state. tt,
+  )
+  answered (Err refusals.Failed) tells = absurd tells

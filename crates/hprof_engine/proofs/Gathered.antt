@@ -3,22 +3,37 @@ use Rattle.std.proofs.Common.{◌≡◌, false, List, [], ◌∷◌, ◌++◌, O
 use Rattle.hprof_items.specs.declared.header.Header.{Header}
 use Rattle.hprof_items.specs.FactValue.{FactValue}
 use Rattle.hprof_stream.specs.Run.{Steps, Run}
-use Rattle.hprof_heap.specs.declared.gatherer.Gatherer.{Gatherer}
-use Rattle.hprof_heap.specs.Gathering.{Gathered, Given, gathered, Begins, Takes, Gathers}
+use Rattle.hprof_heap.specs.Gathering.{Gathered, Given, Begins, Takes, Gathers}
 
--- facts that step a gatherer on step on what it shows
-Steps-shown : (old new : Gatherer) (facts : List FactValue) → Steps (λ a header b. Begins (gathered a) header (gathered b)) (λ a fact b.
-    Takes (gathered a) fact (gathered b)) old facts new
-    → Steps Begins Takes (gathered old) facts (gathered new)
-Steps-shown old new [] run = ap gathered run
-Steps-shown old new (fact ∷ facts) run = (gathered run.0, run.1, Steps-shown run.0 new facts run.2)
+-- what gathers parts, by what it has gathered
+module _ {G : Type 0} (gathered : G → Gathered) (begins : G → Header → G → Type 0) (steps : G → FactValue → G → Type 0)
+    (begins_parts : (old : G) (header : Header) (new : G) → begins old header new → Begins (gathered old) header (gathered new))
+    (takes_facts : (old : G) (fact : FactValue) (new : G) → steps old fact new → Takes (gathered old) fact (gathered new)) where
+  -- facts that step it on step on what it has gathered
+  Steps-shown : (old new : G) (facts : List FactValue) → Steps begins steps old facts new → Steps Begins Takes (gathered old) facts (gathered new)
+  Steps-shown old new [] run = ap gathered run
+  Steps-shown old new (fact ∷ facts) run =
+      (gathered run.0, takes_facts old fact run.0 run.1, Steps-shown run.0 new facts run.2)
 
--- a run of a gatherer is one of what it shows
-pub Run-shown : (old new : Gatherer) (header : Option Header) (facts : List FactValue)
-    → Run (λ a header b. Begins (gathered a) header (gathered b)) (λ a fact b. Takes (gathered a) fact (gathered b)) old header facts new
-    → Run Begins Takes (gathered old) header facts (gathered new)
-Run-shown old new None facts run = Steps-shown old new facts run
-Run-shown old new (Some header) facts run = (gathered run.0, run.1, Steps-shown run.0 new facts run.2)
+  -- a run of it is one of what it has gathered
+  pub Run-shown : (old new : G) (header : Option Header) (facts : List FactValue) → Run begins steps old header facts new
+      → Run Begins Takes (gathered old) header facts (gathered new)
+  Run-shown old new None facts run = Steps-shown old new facts run
+  Run-shown old new (Some header) facts run =
+      (gathered run.0, begins_parts old header run.0 run.1, Steps-shown run.0 new facts run.2)
+
+-- what a run keeps
+module _ {G : Type 0} (begins : G → Header → G → Type 0) (steps : G → FactValue → G → Type 0) (Keeps : G → Type 0)
+    (on : (old : G) (header : Header) (new : G) → begins old header new → Keeps old → Keeps new)
+    (still : (old : G) (fact : FactValue) (new : G) → steps old fact new → Keeps old → Keeps new) where
+  Steps-kept : (old new : G) (facts : List FactValue) → Steps begins steps old facts new → Keeps old → Keeps new
+  Steps-kept old new [] run keeps = subst Keeps run keeps
+  Steps-kept old new (fact ∷ facts) run keeps = Steps-kept run.0 new facts run.2 (still old fact run.0 run.1 keeps)
+
+  pub Run-kept : (old new : G) (header : Option Header) (facts : List FactValue) → Run begins steps old header facts new
+      → Keeps old → Keeps new
+  Run-kept old new None facts run keeps = Steps-kept old new facts run keeps
+  Run-kept old new (Some header) facts run keeps = Steps-kept run.0 new facts run.2 (on old header run.0 run.1 keeps)
 
 -- facts leave it as sound as it was
 Steps-sound : (old new : Gathered) (facts : List FactValue) → Steps Begins Takes old facts new → old.failed ≡ false → new.failed ≡ false

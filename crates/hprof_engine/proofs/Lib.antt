@@ -1,7 +1,12 @@
+pub mod Making
 pub mod Dumps
 pub mod Gathered
 pub mod PartByPart
-pub mod JoinedDumps
+pub mod Together
+pub mod Outcomes
+pub mod Groups
+pub mod OneSummary
+pub mod MadeOnce
 pub mod PartFaults
 pub mod Reading
 pub mod Stated

@@ -13,11 +13,12 @@ use Rattle.hprof_stream.specs.declared.part_fault.PartFault.{PartFault}
 use Rattle.hprof_stream.specs.declared.part_fault.PartFault.TheVariants as faults
 use Rattle.hprof_stream.specs.declared.sink.SinkFault.{SinkFault}
 use Rattle.hprof_stream.specs.declared.sink.SinkFault.TheVariants as sinks
+use Rattle.hprof_stream.specs.Part.{all_facts}
 use Rattle.hprof_stream.specs.Item.{header_before}
+use Rattle.hprof_stream.specs.Run.{Run}
 use Rattle.hprof_stream.specs.Fault.{IsFirstFault, is_lasting, is_settled}
 use Rattle.hprof_stream.specs.Reader.{Pulled, none, once_more, RanUpTo, IsUnheld, LacksAtLast, ReadsPart}
-use Rattle.hprof_heap.specs.declared.gatherer.Gatherer.{Gatherer}
-use Rattle.hprof_heap.specs.Gathering.{Given, gathered, nothing_gathered, Begins, Takes, Gathers, LacksRow, IsNewBehind}
+use Rattle.hprof_heap.specs.Gathering.{Gathered, Given, nothing_gathered, Begins, Takes, Gathers, LacksRow, IsNewBehind}
 use Rattle.hprof_heap.proofs.Told.{new_behind}
 use Rattle.hprof_engine.specs.Joining.{IsPartFault, IsOfPart}
 use Rattle.hprof_engine.proofs.Gathered.{Run-shown, Run-sound}
@@ -47,95 +48,99 @@ each_gave left pulls was came count is none = omega arith
 each_gave left pulls was came count is (once_more {came = front} {piece = piece} {count = before} {mid = mid} first pull some) =
     omega (arith, each_gave left pulls was front before mid first, some, length-append front piece)
 
--- what a run of a gatherer means, step by step
-abbrev pub shown_begins : Gatherer → Header → Gatherer → Type 0
-shown_begins old header new = Begins (gathered old) header (gathered new)
-
-abbrev pub shown_steps : Gatherer → FactValue → Gatherer → Type 0
-shown_steps old fact new = Takes (gathered old) fact (gathered new)
-
-abbrev pub shown_refuses : Gatherer → List FactValue → SinkFault → Gatherer → Type 0
-shown_refuses gatherer given fault _ = (gathered gatherer).failed ≡ false → (fault ≡ sinks.OutOfMemory) × LacksRow (gathered gatherer) given
-
-abbrev pub shown_failed : Gatherer → Bool
-shown_failed gatherer = (gathered gatherer).failed
-
--- a gatherer that had not failed refuses nothing but for want of memory
-no_failure : (limits : Limits) (bytes : List ℕ) (told : Option Header) (old mid : Gatherer) (given : List FactValue)
-    → (gathered old).failed ≡ false
-    → RanUpTo shown_begins shown_steps limits.max_item bytes [] None told old mid → shown_refuses mid given sinks.Failed mid → ⊥
-no_failure limits bytes told old mid given sound ran refuses =
-    let still = Run-sound (gathered old) (gathered mid) (header_before ran.whole.before) ran.handed
-    (Run-shown old mid (header_before ran.whole.before) ran.handed ran.ran) sound in
-    let other : sinks.Failed ≡ sinks.OutOfMemory = (refuses still).0 in
-    cc
-
 -- what could not be held
-unheld : (limits : Limits) (front piece : List ℕ) (old new : Gatherer) → LacksAtLast shown_begins shown_steps shown_refuses shown_failed
-    limits front piece old new → IsUnheld limits front piece
-unheld limits front piece old new lacks = elim lacks.lacks [ inl all ↦ inl (all.0, all.1, all.2) | inr held ↦ inr (held.0, held.1) ]
+unheld : {G : Type 0} (begins : G → Header → G → Type 0) (steps : G → FactValue → G → Type 0)
+    (refuses : G → List FactValue → SinkFault → G → Type 0) (failed : G → Bool) (limits : Limits) (front piece : List ℕ) (old new : G)
+    → LacksAtLast begins steps refuses failed limits front piece old new → IsUnheld limits front piece
+unheld begins steps refuses failed limits front piece old new lacks =
+    elim lacks.lacks [ inl all ↦ inl (all.0, all.1, all.2) | inr held ↦ inr (held.0, held.1) ]
+
+-- what gathers parts, by what it has gathered
+module _ {G : Type 0} (gathered : G → Gathered) (begins : G → Header → G → Type 0) (steps : G → FactValue → G → Type 0)
+    (refuses : G → List FactValue → SinkFault → G → Type 0) (failed : G → Bool)
+    (begins_parts : (old : G) (header : Header) (new : G) → begins old header new → Begins (gathered old) header (gathered new))
+    (takes_facts : (old : G) (fact : FactValue) (new : G) → steps old fact new → Takes (gathered old) fact (gathered new))
+    (refuses_facts : (old : G) (given : List FactValue) (fault : SinkFault) (new : G) → refuses old given fault new
+    → (gathered old).failed ≡ false → (fault ≡ sinks.OutOfMemory) × LacksRow (gathered old) given) where
+  -- up to an item, it ran over what was handed on, and stands as it stood
+  module _ (limits : Limits) (bytes : List ℕ) (told : Option Header) (old mid : G) (sound : (gathered old).failed ≡ false)
+      (ran : RanUpTo begins steps limits.max_item bytes [] None told old mid) where
+    shown : Run Begins Takes (gathered old) (header_before ran.whole.before) ran.handed (gathered mid)
+    shown = Run-shown gathered begins steps begins_parts takes_facts old mid (header_before ran.whole.before) ran.handed ran.ran
+
+    still : (gathered mid).failed ≡ false
+    still = Run-sound (gathered old) (gathered mid) (header_before ran.whole.before) ran.handed shown sound
+
+    -- it refuses nothing but for want of memory
+    no_failure : (given : List FactValue) (new : G) → refuses mid given sinks.Failed new → ⊥
+    no_failure given new refused = let other : sinks.Failed ≡ sinks.OutOfMemory = (refuses_facts mid given sinks.Failed new refused still).0 in cc
+
+    -- and that for a fact that is new behind those before it
+    new_then : (earlier : List Given) (new : G) → Gathers nothing_gathered earlier (gathered old)
+        → refuses mid ran.whole.last.facts sinks.OutOfMemory new
+        → IsNewBehind earlier (header_before ran.whole.before) (all_facts ran.whole.items) ran.whole.last.facts
+    new_then earlier new gathers refused =
+        let fresh = new_behind earlier (header_before ran.whole.before) ran.handed ran.whole.last.facts (gathered old) (gathered mid)
+        gathers shown (refuses_facts mid ran.whole.last.facts sinks.OutOfMemory new refused still).1 in
+        subst (λ (facts : List FactValue). IsNewBehind earlier (header_before ran.whole.before) facts ran.whole.last.facts)
+        (sym ran.has_facts) fresh
+
+  module _ {R : Type 0} (left : R → Option (List ℕ)) (health : R → Health) (pulls : R → ℕ) where
+    -- with which fault a part is refused of which these bytes came
+    pub fault_of_came : (limits : Limits) (earlier : List Given) (was : R) (came : List ℕ) (is : R) (old new : G)
+        (fault : PartFault) → (gathered old).failed ≡ false → Gathers nothing_gathered earlier (gathered old)
+        → ReadsPart left health pulls begins steps refuses failed limits was came is old (Err fault) new
+        → IsPartFault left health pulls limits earlier was came is fault
+    fault_of_came limits earlier was came is old new (faults.Malformed at Truncated) sound gathers reads = (
+      reads.2,
+      subst (λ (b : List ℕ). IsFirstFault limits.max_item b (faults.Malformed at Truncated))
+          (sym (take_all limits.max_bytes came reads.3)) reads.4,
+      λ e. absurd cc,
+      λ _. (reads.0, reads.1, reads.3),
+    )
+    fault_of_came limits earlier was came is old new (faults.Malformed at BadMagic) sound gathers reads =
+        (reads.1, reads.2.1.0, λ _. reads.0, λ e. absurd cc)
+    fault_of_came limits earlier was came is old new (faults.Malformed at BadIdSize) sound gathers reads =
+        (reads.1, reads.2.1.0, λ _. reads.0, λ e. absurd cc)
+    fault_of_came limits earlier was came is old new (faults.Malformed at BadLength) sound gathers reads =
+        (reads.1, reads.2.1.0, λ _. reads.0, λ e. absurd cc)
+    fault_of_came limits earlier was came is old new (faults.Malformed at BadSubTag) sound gathers reads =
+        (reads.1, reads.2.1.0, λ _. reads.0, λ e. absurd cc)
+    fault_of_came limits earlier was came is old new (faults.Malformed at PastEnd) sound gathers reads =
+        (reads.1, reads.2.1.0, λ _. reads.0, λ e. absurd cc)
+    fault_of_came limits earlier was came is old new (faults.Malformed at BadType) sound gathers reads =
+        (reads.1, reads.2.1.0, λ _. reads.0, λ e. absurd cc)
+    fault_of_came limits earlier was came is old new (faults.ItemTooLong at) sound gathers reads = (reads.1, reads.2.1.0, reads.0)
+    fault_of_came limits earlier was came is old new faults.OutOfMemory sound gathers reads = (
+      reads.0,
+      elim reads.1 [
+        | inl nothing ↦ inl (nothing.0, nothing.1)
+        | inr last ↦ inr (last.0, unheld begins steps refuses failed limits last.0.front last.0.piece old new last.1)
+      ],
+    )
+    fault_of_came limits earlier was came is old new (faults.Sink sinks.OutOfMemory) sound gathers reads =
+        let stops = reads.1.1 in (
+          reads.0,
+          (
+            reads.1.0,
+            (
+              stops.header,
+              stops.ran.whole,
+              stops.behind,
+              new_then limits (take limits.max_bytes came) stops.header old stops.mid sound stops.ran earlier new gathers stops.refused.0,
+            ),
+          ),
+        )
+    fault_of_came limits earlier was came is old new (faults.Sink sinks.Failed) sound gathers reads =
+        let stops = reads.1.1 in
+        absurd (no_failure limits (take limits.max_bytes came) stops.header old stops.mid sound stops.ran stops.ran.whole.last.facts new
+        stops.refused.0)
+    fault_of_came limits earlier was came is old new faults.Failed sound gathers reads = absurd reads.2.1
+    fault_of_came limits earlier was came is old new faults.Read sound gathers reads = (reads.1, reads.2.0, reads.2.1, reads.0)
+    fault_of_came limits earlier was came is old new faults.ReadsExceeded sound gathers reads = (reads.1, reads.0, reads.2.0, reads.2.1)
+    fault_of_came limits earlier was came is old new faults.BytesExceeded sound gathers reads = (reads.1, reads.2.1.0, reads.2.1.1, reads.0)
 
 module _ {R : Type 0} (left : R → Option (List ℕ)) (health : R → Health) (pulls : R → ℕ) where
-  -- with which fault a part is refused of which these bytes came
-  pub fault_of_came : (limits : Limits) (earlier : List Given) (was : R) (came : List ℕ) (is : R) (old new : Gatherer)
-      (fault : PartFault) → (gathered old).failed ≡ false → Gathers nothing_gathered earlier (gathered old)
-      → ReadsPart left health pulls shown_begins shown_steps shown_refuses shown_failed limits was came is old (Err fault) new
-      → IsPartFault left health pulls limits earlier was came is fault
-  fault_of_came limits earlier was came is old new (faults.Malformed at Truncated) sound gathers reads = (
-    reads.2,
-    subst (λ (b : List ℕ). IsFirstFault limits.max_item b (faults.Malformed at Truncated))
-        (sym (take_all limits.max_bytes came reads.3)) reads.4,
-    λ e. absurd cc,
-    λ _. (reads.0, reads.1, reads.3),
-  )
-  fault_of_came limits earlier was came is old new (faults.Malformed at BadMagic) sound gathers reads =
-      (reads.1, reads.2.1.0, λ _. reads.0, λ e. absurd cc)
-  fault_of_came limits earlier was came is old new (faults.Malformed at BadIdSize) sound gathers reads =
-      (reads.1, reads.2.1.0, λ _. reads.0, λ e. absurd cc)
-  fault_of_came limits earlier was came is old new (faults.Malformed at BadLength) sound gathers reads =
-      (reads.1, reads.2.1.0, λ _. reads.0, λ e. absurd cc)
-  fault_of_came limits earlier was came is old new (faults.Malformed at BadSubTag) sound gathers reads =
-      (reads.1, reads.2.1.0, λ _. reads.0, λ e. absurd cc)
-  fault_of_came limits earlier was came is old new (faults.Malformed at PastEnd) sound gathers reads =
-      (reads.1, reads.2.1.0, λ _. reads.0, λ e. absurd cc)
-  fault_of_came limits earlier was came is old new (faults.Malformed at BadType) sound gathers reads =
-      (reads.1, reads.2.1.0, λ _. reads.0, λ e. absurd cc)
-  fault_of_came limits earlier was came is old new (faults.ItemTooLong at) sound gathers reads = (reads.1, reads.2.1.0, reads.0)
-  fault_of_came limits earlier was came is old new faults.OutOfMemory sound gathers reads = (
-    reads.0,
-    elim reads.1 [
-      | inl nothing ↦ inl (nothing.0, nothing.1)
-      | inr last ↦ inr
-          (last.0, unheld limits last.0.front last.0.piece old new last.1)
-    ],
-  )
-  fault_of_came limits earlier was came is old new (faults.Sink sinks.OutOfMemory) sound gathers reads =
-      let stops = reads.1.1 in
-      let ran = stops.ran in
-      let shown = Run-shown old stops.mid (header_before ran.whole.before) ran.handed ran.ran in
-      let still = Run-sound (gathered old) (gathered stops.mid) (header_before ran.whole.before) ran.handed shown sound in
-      let fresh = new_behind earlier (header_before ran.whole.before) ran.handed ran.whole.last.facts (gathered old)
-      (gathered stops.mid) gathers shown (stops.refused.0 still).1 in (
-        reads.0,
-        (
-          reads.1.0,
-          (
-            stops.header,
-            ran.whole,
-            stops.behind,
-            subst (λ (facts : List FactValue). IsNewBehind earlier (header_before ran.whole.before) facts ran.whole.last.facts)
-                (sym ran.has_facts) fresh,
-          ),
-        ),
-      )
-  fault_of_came limits earlier was came is old new (faults.Sink sinks.Failed) sound gathers reads =
-      no_failure limits (take limits.max_bytes came) reads.1.1.header old reads.1.1.mid reads.1.1.ran.whole.last.facts sound
-      reads.1.1.ran reads.1.1.refused.0
-  fault_of_came limits earlier was came is old new faults.Failed sound gathers reads = absurd reads.2.1
-  fault_of_came limits earlier was came is old new faults.Read sound gathers reads = (reads.1, reads.2.0, reads.2.1, reads.0)
-  fault_of_came limits earlier was came is old new faults.ReadsExceeded sound gathers reads = (reads.1, reads.0, reads.2.0, reads.2.1)
-  fault_of_came limits earlier was came is old new faults.BytesExceeded sound gathers reads = (reads.1, reads.2.1.0, reads.2.1.1, reads.0)
-
   -- a fault of an item that came is the first of the whole part
   of_rest : (limits : Limits) (earlier : List Given) (was : R) (came rest : List ℕ) (is : R) (fault : PartFault) → left is ≡ Some rest
       → IsPartFault left health pulls limits earlier was came is fault → IsOfPart limits (came ++ rest) fault

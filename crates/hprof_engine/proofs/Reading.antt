@@ -14,7 +14,7 @@ use Rattle.hprof_stream.specs.Part.{IsPart, IsSummary}
 use Rattle.hprof_stream.specs.Run.{Run}
 use Rattle.hprof_heap.specs.Gathering.{Gathered, Given, Begins, Takes}
 use Rattle.hprof_engine.specs.Joining.{IsAccepted, IsGiven, AreGiven, GathersFirst, IsReadOut, AreReadOut}
-use Rattle.hprof_engine.specs.Summaries.{KeepsAll, IsSummarised, AreSummarised, KeepsFirst}
+use Rattle.hprof_engine.specs.Summaries.{IsSummarised, AreSummarised, HoldsFirst}
 use Rattle.hprof_engine.proofs.Gathered.{Gathers-more}
 
 -- the front with one more
@@ -45,14 +45,6 @@ AreSummarised-more [] left [] summary are is = (is, tt)
 AreSummarised-more (first ∷ lefts) left (one ∷ summaries) summary are is = (are.0, AreSummarised-more lefts left summaries summary are.1 is)
 AreSummarised-more [] left (one ∷ summaries) summary are is = absurd are
 AreSummarised-more (first ∷ lefts) left [] summary are is = absurd are
-
--- one more summary was told
-KeepsAll-more : {S : Type 0} (keeps : S → PartSummary → S → Type 0) (summaries : List PartSummary) (summary : PartSummary)
-    (old mid new : S) → KeepsAll keeps summaries old mid → keeps mid summary new
-    → KeepsAll keeps (summaries ++ summary ∷ []) old new
-KeepsAll-more {S} keeps [] summary old mid new kept is = (new, subst (λ (s : S). keeps s summary new) (sym kept) is, refl)
-KeepsAll-more keeps (one ∷ summaries) summary old mid new kept is =
-    (kept.0, kept.1, KeepsAll-more keeps summaries summary kept.0 mid new kept.2 is)
 
 -- the element at a place, found by what stands there
 pub element_at : {R : Type 0} (old cur : List R) (index : ℕ) (was : R) → index < length old
@@ -128,21 +120,22 @@ module _ {R : Type 0} (left : R → Option (List ℕ)) where
         gathers = Gathers-more from mid new first.given header facts first.gathers run;
       }
 
-  module _ {S : Type 0} (keeps : S → PartSummary → S → Type 0) where
+  module _ {S : Type 0} (holds : S → List PartSummary → Type 0) where
     -- nothing was told
-    pub KeepsFirst-none : (old : List R) (from : S) → KeepsFirst left keeps old 0 from from
-    KeepsFirst-none old from = record { summaries = []; of_readers = tt; kept = refl }
+    pub HoldsFirst-none : (old : List R) (kept : S) → holds kept [] → HoldsFirst left holds old 0 kept
+    HoldsFirst-none old kept none = record { summaries = []; of_readers = tt; held = none }
 
     -- one more summary was
-    pub KeepsFirst-more : (old : List R) (i : ℕ) (was : R) (from mid new : S) (summary : PartSummary) → slice_get old i ≡ Some was
-        → KeepsFirst left keeps old i from mid → keeps mid summary new → IsSummarised (left was) summary
-        → KeepsFirst left keeps old (i + 1) from new
-    KeepsFirst-more old i was from mid new summary there first kept is = record {
+    pub HoldsFirst-more : (old : List R) (i : ℕ) (was : R) (mid new : S) (summary : PartSummary) → slice_get old i ≡ Some was
+        → HoldsFirst left holds old i mid
+        → ((before : List PartSummary) → holds mid before → holds new (before ++ summary ∷ [])) → IsSummarised (left was) summary
+        → HoldsFirst left holds old (i + 1) new
+    HoldsFirst-more old i was mid new summary there first held is = record {
       summaries = first.summaries ++ summary ∷ [];
       of_readers = subst (λ (l : List (Option (List ℕ))). AreSummarised l (first.summaries ++ summary ∷ []))
           (sym (lefts_more old i was there)) (AreSummarised-more (map left (take i old)) (left was) first.summaries summary
           first.of_readers is);
-      kept = KeepsAll-more keeps first.summaries summary from mid new first.kept kept;
+      held = held first.summaries first.held;
     }
 
 -- what was written to another place changes nothing here

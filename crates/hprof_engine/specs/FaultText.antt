@@ -26,5 +26,6 @@ IsFaultText (tool.Part index fault) text = IsPartText index text
 IsFaultText tool.NoParts text = text ≡ codes "no parts"
 IsFaultText tool.IdSizes text = text ≡ codes "identifier sizes differ"
 IsFaultText (tool.Conflict key) text = text ≡ conflict_text key
+IsFaultText tool.DumpTooLong text = text ≡ codes "dump too long"
 IsFaultText (tool.Write fault) text = text ≡ codes "write failed"
 IsFaultText tool.OutOfMemory text = text ≡ codes "out of memory"

@@ -2,7 +2,7 @@
 use Rattle.std.specs.Prelude.{◌≡◌, ◌⊎◌, ℕ, ◌+◌, ◌<◌, ◌≤◌, Bool, true, false, List, [], ◌∷◌, ◌++◌, length, take, map, Option, Some, None}
 use Rattle.std.specs.Prelude.{Result, Ok, Err, ⊤, slice_get}
 use Rattle.std.specs.List.{AllByRecursion}
-use Rattle.std.specs.Io.KnownBytes.{Appends, Consumes, IsAtEnd}
+use Rattle.std.specs.Io.KnownBytes.{Consumes, IsAtEnd}
 use Rattle.hprof_items.specs.declared.header.Header.{Header}
 use Rattle.hprof_devices.specs.declared.health.Health.{Health}
 use Rattle.hprof_devices.specs.declared.health.Health.TheVariants as healths
@@ -18,14 +18,12 @@ use Rattle.hprof_stream.specs.Reader.{BeginsWhole, whole_len, IsUnheld, Pulled, 
 use Rattle.hprof_stream.specs.Fault.{HasNoFault, IsFirstFault, HasNoSettledFault, is_lasting}
 use Rattle.hprof_rows.specs.declared.key.Key.{Key}
 use Rattle.hprof_rows.specs.Conflict.{IsConsistent, IsLeastConflict}
-use Rattle.hprof_dump.specs.Dump.{canonical_dump}
 use Rattle.hprof_rows.specs.Order.{IsCanonicalOrder}
 use Rattle.hprof_heap.specs.Gathering.{Gathered, Given, Gathers, IsNewBehind}
 use Rattle.hprof_heap.specs.State.{IsState}
 use Rattle.hprof_engine.specs.declared.tool_fault.ToolFault.{ToolFault}
 use Rattle.hprof_engine.specs.declared.tool_fault.ToolFault.TheVariants as tool
 use Rattle.hprof_engine.specs.declared.joined.Joined.{Joined}
-use Rattle.hprof_engine.specs.declared.joined.Kept.{Kept}
 
 -- the readers tell these parts, and no more
 abbrev pub Tell : {R : Type 0} → (R → Option (List ℕ)) → List R → List (List ℕ) → Type 0
@@ -37,24 +35,14 @@ pub record Agree (parts : List (List ℕ)) (ids : IdSize) (millis : ℕ) (rows :
   pub consistent : IsConsistent rows
   pub ordered : IsCanonicalOrder rows
 
--- the parts were joined: what they state was written, and how many parts and facts there are
-pub record Joins (parts : List (List ℕ)) (old new : Option (List ℕ)) (joined : Joined) : Type 0 where
+-- so many parts were joined, and so many facts do they state
+pub record AreJoined (parts : List (List ℕ)) (joined : Joined) : Type 0 where
   pub ids : IdSize
   pub millis : ℕ
   pub rows : List FactValue
   pub agree : Agree parts ids millis rows
-  pub written : Appends old new (canonical_dump ids millis rows)
   pub parts_count : joined.parts ≡ length parts
   pub facts_count : joined.facts ≡ length rows
-
--- writing stopped: the parts agree, and a front of their dump was written
-pub record StopsWriting (parts : List (List ℕ)) (old new : Option (List ℕ)) : Type 0 where
-  pub ids : IdSize
-  pub millis : ℕ
-  pub rows : List FactValue
-  pub agree : Agree parts ids millis rows
-  pub count : ℕ
-  pub written : Appends old new (take count (canonical_dump ids millis rows))
 
 -- the parts do not agree, and this is the least key with two contents
 pub record Disagree (parts : List (List ℕ)) (key : Key) : Type 0 where
@@ -190,25 +178,25 @@ module _ {R : Type 0} (left : R → Option (List ℕ)) (health : R → Health) (
   ReadsAll limits old from (Err (tool.Part index fault)) new to = RefusesReader limits old new index fault from
   ReadsAll limits old from (Err other) new to = ⊥
 
--- what was joined, without the heap
-abbrev pub joined_of : Result Kept ToolFault → Result Joined ToolFault
-joined_of (Ok kept) = Ok kept.joined
-joined_of (Err fault) = Err fault
+-- ---- how a call ended
 
--- how many of the readers were read to their ends, by the answer: all, or those before the one that was refused; memory that
--- is not a part's own is wanted before any is read
-abbrev pub read_count : {A : Type 0} → Result A ToolFault → ℕ → ℕ
-read_count (Err (tool.Part index fault)) all = index
-read_count (Err tool.OutOfMemory) all = 0
+-- the fault that a call ended with, if any
+abbrev pub fault_of : {A : Type 0} → Result A ToolFault → Option ToolFault
+fault_of (Ok done) = None
+fault_of (Err fault) = Some fault
+
+-- how many of the readers were read to their ends: all, or those before the one that was refused; of want of memory that is
+-- not a part's own this says nothing
+abbrev pub read_count : Option ToolFault → ℕ → ℕ
+read_count (Some (tool.Part index fault)) all = index
+read_count (Some tool.OutOfMemory) all = 0
 read_count other all = all
 
 -- all parts were read
-abbrev pub AreRead : {A : Type 0} → Result A ToolFault → Type 0
-AreRead (Err (tool.Part index fault)) = ⊥
-AreRead (Err tool.OutOfMemory) = ⊥
+abbrev pub AreRead : Option ToolFault → Type 0
+AreRead (Some (tool.Part index fault)) = ⊥
+AreRead (Some tool.OutOfMemory) = ⊥
 AreRead other = ⊤
-
--- ---- no other answer
 
 -- want of memory was answered, or a limit was met
 abbrev pub is_want : PartFault → Bool
@@ -222,18 +210,27 @@ is_want (faults.Malformed at reason) = false
 is_want faults.Failed = false
 is_want faults.Read = false
 
-abbrev pub IsHindered : {A : Type 0} → Result A ToolFault → Type 0
-IsHindered (Err (tool.Part index fault)) = is_want fault ≡ true
-IsHindered (Err tool.OutOfMemory) = ⊤
+abbrev pub IsHindered : Option ToolFault → Type 0
+IsHindered (Some (tool.Part index fault)) = is_want fault ≡ true
+IsHindered (Some tool.OutOfMemory) = ⊤
+IsHindered (Some tool.DumpTooLong) = ⊤
 IsHindered other = ⊥
 
-abbrev pub IsOkOrConflict : {A : Type 0} → Result A ToolFault → Type 0
-IsOkOrConflict (Ok done) = ⊤
-IsOkOrConflict (Err (tool.Conflict key)) = ⊤
+abbrev pub IsOkOrConflict : Option ToolFault → Type 0
+IsOkOrConflict None = ⊤
+IsOkOrConflict (Some (tool.Conflict key)) = ⊤
 IsOkOrConflict other = ⊥
 
 -- what is refused before anything is written
-abbrev pub IsBeforeWriting : {A : Type 0} → Result A ToolFault → Type 0
-IsBeforeWriting (Ok done) = ⊥
-IsBeforeWriting (Err (tool.Write fault)) = ⊥
-IsBeforeWriting (Err other) = ⊤
+abbrev pub IsBeforeWriting : Option ToolFault → Type 0
+IsBeforeWriting None = ⊥
+IsBeforeWriting (Some (tool.Write fault)) = ⊥
+IsBeforeWriting (Some tool.OutOfMemory) = ⊥
+IsBeforeWriting (Some other) = ⊤
+
+-- what reading alone answers
+abbrev pub IsOfReading : Option ToolFault → Type 0
+IsOfReading (Some (tool.Write fault)) = ⊥
+IsOfReading (Some tool.OutOfMemory) = ⊥
+IsOfReading (Some tool.DumpTooLong) = ⊥
+IsOfReading other = ⊤

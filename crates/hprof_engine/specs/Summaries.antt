@@ -10,15 +10,6 @@ AreSummaries (bytes ∷ parts) (summary ∷ summaries) = IsSummary bytes summary
 AreSummaries [] (summary ∷ summaries) = ⊥
 AreSummaries (bytes ∷ parts) [] = ⊥
 
--- the summaries were told, one after the other
-abbrev pub KeepsAll : {S : Type 0} → (S → PartSummary → S → Type 0) → List PartSummary → S → S → Type 0
-KeepsAll keeps [] old new = old ≡ new
-KeepsAll {S} keeps (summary ∷ summaries) old new = (mid : S) × keeps old summary mid × KeepsAll keeps summaries mid new
-
--- the summaries of the parts were told
-abbrev pub KeepsSummaries : {S : Type 0} → (S → PartSummary → S → Type 0) → List (List ℕ) → S → S → Type 0
-KeepsSummaries keeps parts old new = (summaries : List PartSummary) × AreSummaries parts summaries × KeepsAll keeps summaries old new
-
 -- what a reader had to tell, if it told, has this summary
 abbrev pub IsSummarised : Option (List ℕ) → PartSummary → Type 0
 IsSummarised None summary = ⊤
@@ -30,9 +21,9 @@ AreSummarised (left ∷ lefts) (summary ∷ summaries) = IsSummarised left summa
 AreSummarised [] (summary ∷ summaries) = ⊥
 AreSummarised (left ∷ lefts) [] = ⊥
 
--- so many readers were read to their ends, and what they told was told on
-pub record KeepsFirst {R S : Type 0} (left : R → Option (List ℕ)) (keeps : S → PartSummary → S → Type 0) (readers : List R) (count : ℕ)
-    (old new : S) : Type 0 where
+-- so many readers were read to their ends, and the summaries of what they told are those that are held
+pub record HoldsFirst {R S : Type 0} (left : R → Option (List ℕ)) (holds : S → List PartSummary → Type 0) (readers : List R) (count : ℕ)
+    (kept : S) : Type 0 where
   pub summaries : List PartSummary
   pub of_readers : AreSummarised (map left (take count readers)) summaries
-  pub kept : KeepsAll keeps summaries old new
+  pub held : holds kept summaries

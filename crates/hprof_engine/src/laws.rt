@@ -1,29 +1,28 @@
 //! Laws of the definitions. None of these functions does anything.
 
-ghost use Rattle.std.specs.Prelude.{◌≡◌, ◌↔◌, ℕ, List, [], ◌∷◌};
+ghost use Rattle.std.specs.Prelude.{◌≡◌, ◌↔◌, ℕ, List, []};
+ghost use Rattle.std.specs.List.{AllByRecursion, Contains};
 ghost use Rattle.hprof_values.specs.declared.ids.IdSize.{IdSize};
 ghost use Rattle.hprof_items.specs.FactValue.{FactValue};
 ghost use Rattle.hprof_stream.specs.Part.{IsPart};
+ghost use Rattle.hprof_stream.specs.declared.summary.PartSummary.{PartSummary};
 ghost use Rattle.hprof_rows.specs.declared.key.Key.{Key};
-ghost use Rattle.hprof_rows.specs.Conflict.{IsConsistent, IsLeastConflict};
 ghost use Rattle.hprof_dump.specs.Dump.{canonical_dump};
 ghost use Rattle.hprof_rows.specs.Facts.{SameFacts};
-ghost use Rattle.hprof_rows.specs.HeapValue.{IsHeap};
+ghost use Rattle.hprof_rows.specs.HeapValue.{HeapValue, IsHeap};
 ghost use Rattle.hprof_heap.specs.State.{IsState};
-ghost use Rattle.hprof_engine.specs.Dividing.{AreDivided};
+ghost use Rattle.hprof_engine.specs.Dividing.{SameParts, AreDivided, AreDumps};
 ghost use Rattle.hprof_engine.specs.Joining.{Agree, Disagree};
+ghost use Rattle.hprof_engine.specs.Makes.{IsMadeOf};
+ghost use Rattle.hprof_engine.specs.Outcome.{Outcome, ComesTo, IsSomePart};
+
+use crate::product::Product;
 
 /// A part states one thing: one size of identifiers, one time, one list of facts.
 pub fn a_part_states_one_thing()
     ensures { (bytes : List ℕ) (ids other_ids : IdSize) (millis other_millis : ℕ) (facts other_facts : List FactValue)
         → IsPart bytes ids millis facts → IsPart bytes other_ids other_millis other_facts
         → (ids ≡ other_ids) × (millis ≡ other_millis) × (facts ≡ other_facts) }
-{}
-
-/// The canonical dump of a heap is a part, and states the heap's size, time and facts, each fact once.
-pub fn the_dump_reads_back()
-    ensures { (ids : IdSize) (millis : ℕ) (rows : List FactValue) → IsHeap (record { ids = ids; millis = millis; facts = rows })
-        → IsPart (canonical_dump ids millis rows) ids millis rows }
 {}
 
 /// Equal dumps are of heaps with equal sizes, times and facts.
@@ -35,28 +34,46 @@ pub fn equal_dumps_equal_facts()
         → (ids ≡ other_ids) × (millis ≡ other_millis) × (rows ≡ others) }
 {}
 
-/// Parts of one size and earliest time that state the same facts, in any order, with any repetition, divided among
-/// parts in any way, state the same together. Whether the facts agree is the same, and so are the least conflict and
-/// the dump.
-pub fn order_repetition_and_cutting_do_not_matter()
-    ensures state { (others : List (List ℕ)) (ids : IdSize) (millis : ℕ) (facts more : List FactValue)
-        → IsState others ids millis more → SameFacts facts more → IsState others ids millis facts }
-    ensures consistent { (facts more : List FactValue) → SameFacts facts more → IsConsistent facts → IsConsistent more }
-    ensures least { (facts more : List FactValue) (key : Key) → SameFacts facts more
-        → IsLeastConflict facts key → IsLeastConflict more key }
-    ensures dump { (parts others : List (List ℕ)) (ids : IdSize) (millis : ℕ) (rows more : List FactValue)
-        → Agree parts ids millis rows → Agree others ids millis more → SameFacts rows more
-        → canonical_dump ids millis rows ≡ canonical_dump ids millis more }
+/// A list of parts comes to one thing: one heap, the least key that has two contents, or two sizes.
+pub fn parts_come_to_one_thing()
+    ensures some { (parts : List (List ℕ)) → (parts ≡ [] → ⊥) → AllByRecursion IsSomePart parts
+        → (outcome : Outcome) × ComesTo parts outcome }
+    ensures one { (parts : List (List ℕ)) (one other : Outcome) → ComesTo parts one → ComesTo parts other → one ≡ other }
 {}
 
-/// Joined dumps join: where parts are divided among two lists in any way, the dump of all is that of the dumps of the two
-/// lists. Where the parts of one list do not agree, all do not.
+/// The same parts come to the same, heap or refusal, in whatever order and however often they are listed; and so do other
+/// parts of the same size and earliest time, among which the facts are divided in any way. So where one key has two
+/// contents, every order is refused at the least such key.
+pub fn order_repetition_and_cutting_do_not_matter()
+    ensures order { (parts others : List (List ℕ)) (outcome : Outcome) → SameParts parts others
+        → ComesTo parts outcome → ComesTo others outcome }
+    ensures cutting { (parts others : List (List ℕ)) (ids : IdSize) (millis : ℕ) (facts : List FactValue) (outcome : Outcome)
+        → IsState parts ids millis facts → IsState others ids millis facts → ComesTo parts outcome → ComesTo others outcome }
+    ensures state { (parts : List (List ℕ)) (ids : IdSize) (millis : ℕ) (facts more : List FactValue)
+        → IsState parts ids millis more → SameFacts facts more → IsState parts ids millis facts }
+{}
+
+/// Joined dumps join: where parts are divided among groups in any way, and each group is joined, the dumps come to what all
+/// the parts come to, heap or refusal. Where the parts of one group do not agree, all do not.
 pub fn joined_dumps_join()
-    ensures dumps { (parts ones others : List (List ℕ)) (ids : IdSize) (millis one_millis other_millis : ℕ)
-        (rows one_rows other_rows : List FactValue)
-        → AreDivided parts ones others → Agree ones ids one_millis one_rows → Agree others ids other_millis other_rows
-        → Agree parts ids millis rows
-        ↔ Agree (canonical_dump ids one_millis one_rows ∷ canonical_dump ids other_millis other_rows ∷ []) ids millis rows }
-    ensures disagree { (parts ones others : List (List ℕ)) (ids : IdSize) (millis : ℕ) (rows : List FactValue) (key : Key)
-        → AreDivided parts ones others → Disagree ones key → Agree parts ids millis rows → ⊥ }
+    ensures dumps { (parts : List (List ℕ)) (groups : List (List (List ℕ))) (dumps : List (List ℕ)) (outcome : Outcome)
+        → AreDivided parts groups → AreDumps groups dumps → ComesTo parts outcome ↔ ComesTo dumps outcome }
+    ensures disagree { (parts : List (List ℕ)) (groups : List (List (List ℕ))) (group : List (List ℕ)) (ids : IdSize) (millis : ℕ)
+        (rows : List FactValue) (key : Key) → AreDivided parts groups → Contains groups group → Disagree group key
+        → Agree parts ids millis rows → ⊥ }
+{}
+
+/// What a product makes of parts is one text.
+pub fn one_text_is_made_of_parts<P: Product>(product: &P)
+    ensures { (parts : List (List ℕ)) (one other : List ℕ) → IsMadeOf (P.is_text product.now) parts one
+        → IsMadeOf (P.is_text product.now) parts other → one ≡ other }
+{}
+
+/// Lists of parts that come to the same are made into the same, where the product is made of the heap alone.
+pub fn what_comes_to_the_same_is_made_into_the_same<P: Product>(product: &P)
+    requires { (summaries others : List PartSummary) (heap : HeapValue) (text : List ℕ)
+        → P.is_text product.now summaries heap text → P.is_text product.now others heap text }
+    ensures { (parts others : List (List ℕ)) (text : List ℕ)
+        → ((outcome : Outcome) → ComesTo parts outcome → ComesTo others outcome)
+        → IsMadeOf (P.is_text product.now) parts text → IsMadeOf (P.is_text product.now) others text }
 {}

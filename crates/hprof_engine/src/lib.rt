@@ -4,13 +4,17 @@
 mod join;
 mod joined;
 pub mod laws;
+mod make;
 mod parts;
+mod product;
 mod read;
 mod summaries;
 mod tool_fault;
 
-pub use join::{join_kept, join_to};
+pub use join::{Dump, join_kept, join_to};
 pub use joined::{Joined, Kept};
+pub use make::make_to;
+pub use product::{Product, Stop};
 pub use read::read_heap;
 pub use summaries::Summaries;
 pub use tool_fault::ToolFault;

@@ -1,31 +1,47 @@
 //! What is told what was read of each part.
 
-ghost use Rattle.std.specs.Prelude.{◌≡◌, ◌++◌, ◌∷◌, [], ◌+◌, ◌≤◌, ℕ, ⊤, vec_len, vec_capacity};
+ghost use Rattle.std.specs.Prelude.{◌≡◌, ◌++◌, ◌∷◌, [], ◌+◌, ◌≤◌, ℕ, List, ⊤, IfOk, OnErr, vec_len, vec_capacity};
 
 use hprof_stream::PartSummary;
+use std::alloc::{AllocError, Global};
 
 /// What is told the summary of each part, in order, once the part was read to its end.
-pub trait Summaries {
+pub trait Summaries: Drop {
     ghost use Rattle.hprof_stream.specs.declared.summary.PartSummary.{PartSummary};
 
-    // There is room for so many more.
+    // There is room for so many more, and for no other number.
     ghost has_room: { Self → ℕ → Type 0 };
 
-    // What it means that a summary was told.
-    ghost keeps: { Self → PartSummary → Self → Type 0 };
+    // It holds these summaries, in order, so far as it holds any.
+    ghost holds: { Self → List PartSummary → Type 0 };
+
+    // Room for them takes memory.
+    ghost takes_room: { Type 0 };
+
+    /// One that holds no summary yet, and has room for those of so many parts.
+    fn with_room(alloc: Global, parts: usize) -> Result<Self, AllocError>
+        ensures empty { IfOk result (λ kept. holds kept []) }
+        ensures room { IfOk result (λ kept. (more : ℕ) × has_room kept (parts + more)) }
+        ensures full { OnErr result takes_room };
 
     /// Takes the summary of the part behind those before it.
     fn keep(&mut self, summary: PartSummary)
         requires { (more : ℕ) × has_room self.old (more + 1) }
-        ensures keeps { keeps self.old summary self.new }
+        ensures holds { (before : List PartSummary) → holds self.old before → holds self.new (before ++ summary ∷ []) }
         ensures room { (more : ℕ) → has_room self.old (more + 1) → has_room self.new more };
 }
 
 /// All summaries are kept, in memory that was had before.
 impl Summaries for Vec<PartSummary> {
-    ghost has_room = { λ kept more. vec_len kept + more ≤ vec_capacity kept };
+    ghost has_room = { λ kept more. vec_len kept + more ≡ vec_capacity kept };
 
-    ghost keeps = { λ old summary new. (new.items ≡ old.items ++ summary ∷ []) × (vec_capacity new ≡ vec_capacity old) };
+    ghost holds = { λ kept summaries. kept.items ≡ summaries };
+
+    ghost takes_room = { ⊤ };
+
+    fn with_room(alloc: Global, parts: usize) -> Result<Vec<PartSummary>, AllocError> {
+        Vec::with_capacity(alloc, parts)
+    }
 
     fn keep(&mut self, summary: PartSummary) {
         self.push_reserved(summary);
@@ -36,7 +52,13 @@ impl Summaries for Vec<PartSummary> {
 impl Summaries for () {
     ghost has_room = { λ kept more. ⊤ };
 
-    ghost keeps = { λ old summary new. ⊤ };
+    ghost holds = { λ kept summaries. ⊤ };
+
+    ghost takes_room = { ⊥ };
+
+    fn with_room(_alloc: Global, _parts: usize) -> Result<(), AllocError> {
+        Ok(())
+    }
 
     fn keep(&mut self, _summary: PartSummary) {}
 }

@@ -27,6 +27,8 @@ pub enum ToolFault {
     IdSizes,
     /// Two facts have one key and different contents. It is the least such key.
     Conflict(Key),
+    /// What is made of the parts is longer than it may be.
+    DumpTooLong,
     /// The writer failed or stuck.
     Write(WriteFault),
     /// Memory was refused, but to the reading of a part.
@@ -43,6 +45,7 @@ impl ToolFault {
             ToolFault::NoParts => String::from_str(alloc, "no parts"),
             ToolFault::IdSizes => String::from_str(alloc, "identifier sizes differ"),
             ToolFault::Conflict(key) => text_of_conflict(alloc, key),
+            ToolFault::DumpTooLong => String::from_str(alloc, "dump too long"),
             ToolFault::Write(_) => String::from_str(alloc, "write failed"),
             ToolFault::OutOfMemory => String::from_str(alloc, "out of memory"),
         }

@@ -116,10 +116,14 @@ pub record Takes (old : Gathered) (fact : FactValue) (new : Gathered) : Type 0 w
 
 -- ---- the answers
 
+-- the heap in what was answered, as a value
+abbrev pub seen_in : {F : Type 0} → (F → HeapValue) → Result F Refusal → Result HeapValue Refusal
+seen_in heap_in (Ok found) = Ok (heap_in found)
+seen_in heap_in (Err refusal) = Err refusal
+
 -- the heap that was answered, as a value
 abbrev pub seen_heap : Result Heap Refusal → Result HeapValue Refusal
-seen_heap (Ok heap) = Ok (heap_of heap)
-seen_heap (Err refusal) = Err refusal
+seen_heap = seen_in heap_of
 
 abbrev pub unconflicted : Option HeapValue → Option Key → Bool → Result HeapValue Refusal
 unconflicted None mark two_sizes = Err refusals.NoParts

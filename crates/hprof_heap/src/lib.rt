@@ -2,6 +2,7 @@
 #![tactic(auto)]
 
 mod comparing;
+mod gather;
 mod gatherer;
 mod heap;
 mod join_refusal;
@@ -9,8 +10,10 @@ pub mod laws;
 mod standing;
 
 pub use comparing::same;
+pub use gather::Gather;
 pub use gatherer::Gatherer;
 pub use heap::Heap;
 pub use hprof_rows::{Facts, FrameRow, Key, KeyRow, LoadRow, StartRow, Table, TraceRow};
+pub use hprof_tables::{BytesTable, Content, Relation, Rows, Stated, Statement};
 pub use join_refusal::JoinRefusal;
 pub use standing::{Refusal, Standing};

@@ -1,5 +1,4 @@
 pub mod Counts
 pub mod Slices
 pub mod Lines
-pub mod Checked
 pub mod OneReport

@@ -1,27 +1,18 @@
--- What checking parts answers, and what it writes.
-use Rattle.std.specs.Prelude.{ℕ, List, take, Option}
-use Rattle.std.specs.Io.KnownBytes.{Appends}
-use Rattle.hprof_values.specs.declared.ids.IdSize.{IdSize}
-use Rattle.hprof_items.specs.FactValue.{FactValue}
+-- What checking parts makes of them.
+use Rattle.std.specs.Prelude.{ℕ, List, ⊤}
 use Rattle.hprof_stream.specs.declared.summary.PartSummary.{PartSummary}
-use Rattle.hprof_engine.specs.Joining.{Agree}
-use Rattle.hprof_engine.specs.Summaries.{AreSummaries}
+use Rattle.hprof_rows.specs.HeapValue.{HeapValue}
+use Rattle.hprof_engine.specs.Makes.{Making, IsMadeOf, making_of}
 use Rattle.hprof_reports.specs.Check.{IsCheck}
 
--- the parts agree, and the text is the report of what was read of each and of the facts that they state
-pub record IsCheckOfParts (parts : List (List ℕ)) (text : List ℕ) : Type 0 where
-  pub ids : IdSize
-  pub millis : ℕ
-  pub rows : List FactValue
-  pub agree : Agree parts ids millis rows
-  pub summaries : List PartSummary
-  pub read : AreSummaries parts summaries
-  pub is : IsCheck summaries rows text
+-- the text is the report of what was read of each part and of the heap that they state
+abbrev pub IsCheckText : List PartSummary → HeapValue → List ℕ → Type 0
+IsCheckText summaries heap text = IsCheck summaries heap.facts text
 
--- the report of the parts was written
-abbrev pub Checks : List (List ℕ) → Option (List ℕ) → Option (List ℕ) → Type 0
-Checks parts old new = (text : List ℕ) × IsCheckOfParts parts text × Appends old new text
+-- the parts agree, and the text is their report
+abbrev pub IsCheckOfParts : List (List ℕ) → List ℕ → Type 0
+IsCheckOfParts = IsMadeOf IsCheckText
 
--- writing stopped: a front of the report of the parts was written
-abbrev pub StopsChecking : List (List ℕ) → Option (List ℕ) → Option (List ℕ) → Type 0
-StopsChecking parts old new = (text : List ℕ) × (count : ℕ) × IsCheckOfParts parts text × Appends old new (take count text)
+-- the report `check`, which takes memory only before any part is read, for what is read of each
+abbrev pub check_making : Making
+check_making = making_of IsCheckText (λ heap. ⊥) ⊤ ⊥

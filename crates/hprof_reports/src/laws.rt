@@ -4,15 +4,9 @@ ghost use Rattle.std.specs.Prelude.{◌≡◌, ℕ, List};
 ghost use Rattle.hprof_items.specs.FactValue.{FactValue};
 ghost use Rattle.hprof_stream.specs.declared.summary.PartSummary.{PartSummary};
 ghost use Rattle.hprof_reports.specs.Check.{IsCheck};
-ghost use Rattle.hprof_reports.specs.Checking.{IsCheckOfParts};
 
 /// The report `check` of given parts and facts is one text.
 pub fn one_check()
     ensures { (parts : List PartSummary) (facts : List FactValue) (one other : List ℕ) → IsCheck parts facts one
         → IsCheck parts facts other → one ≡ other }
-{}
-
-/// The report `check` of parts is one text.
-pub fn one_check_of_parts()
-    ensures { (parts : List (List ℕ)) (one other : List ℕ) → IsCheckOfParts parts one → IsCheckOfParts parts other → one ≡ other }
 {}

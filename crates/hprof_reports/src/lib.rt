@@ -7,4 +7,4 @@ pub mod laws;
 mod line;
 
 pub use check::write_check;
-pub use check_parts::check_to;
+pub use check_parts::{Check, check_to};

@@ -1,31 +1,27 @@
 -- What making something of parts tells.
-use Rattle.std.proofs.Common.{◌≡◌, ℕ, List, [], ◌∷◌, length, take, Option, Some, None, append-nil, Result, Ok, Err, refl, sym, ap, subst}
-use Rattle.std.proofs.Common.{◌∙◌, arith}
-use Rattle.std.specs.Prelude.{IfErr, IsErrAnd, OnOk, OnErr, IsOk}
+use Rattle.std.proofs.Common.{◌≡◌, inl, inr, ℕ, List, [], ◌∷◌, length, take, Option, Some, None, append-nil, Result, Ok, Err, refl, sym, ap}
+use Rattle.std.proofs.Common.{subst, ◌∙◌, arith}
+use Rattle.std.specs.Prelude.{IfErr, OnOk, OnErr, IsOk, ⊤}
 use Rattle.std.specs.Io.KnownBytes.{Appends, Keeps, append_known}
 use Rattle.std.proofs.KnownBytes.{Appends-kept}
 use Rattle.std.proofs.Math.Seq.{take-length}
 use Rattle.hprof_devices.specs.declared.health.Health.{Health}
+use Rattle.hprof_devices.specs.declared.health.Health.TheVariants as healths
 use Rattle.hprof_devices.specs.declared.health.WriteFault.{WriteFault}
-use Rattle.hprof_devices.specs.declared.health.WriteFault.TheVariants as faults
+use Rattle.hprof_devices.specs.declared.health.WriteFault.TheVariants as write_faults
+use Rattle.hprof_devices.specs.Device.{health_after}
 use Rattle.hprof_stream.specs.declared.limits.Limits.{Limits}
 use Rattle.hprof_stream.specs.declared.part_fault.PartFault.{PartFault}
 use Rattle.hprof_stream.specs.declared.part_fault.PartFault.TheVariants as part_faults
 use Rattle.hprof_stream.specs.declared.sink.SinkFault.TheVariants as sinks
-use Rattle.hprof_rows.specs.declared.key.Key.{Key}
-use Rattle.hprof_dump.specs.Dump.{canonical_dump}
+use Rattle.hprof_stream.specs.declared.summary.PartSummary.{PartSummary}
+use Rattle.hprof_rows.specs.HeapValue.{HeapValue}
 use Rattle.hprof_heap.specs.Gathering.{Given}
-use Rattle.hprof_heap.specs.State.{HaveTwoSizes}
 use Rattle.hprof_engine.specs.declared.tool_fault.ToolFault.{ToolFault}
 use Rattle.hprof_engine.specs.declared.tool_fault.ToolFault.TheVariants as tool
-use Rattle.hprof_engine.specs.declared.joined.Joined.{Joined}
-use Rattle.hprof_engine.specs.Joining.{Tell, Joins, StopsWriting, Disagree, IsPartFault, RefusesPart, AreReadOut, read_count}
-use Rattle.hprof_tool.specs.declared.program.product.Product.{Product}
-use Rattle.hprof_tool.specs.declared.program.product.Product.TheVariants as products
-use Rattle.hprof_tool.specs.declared.program.refused.Refused.{Refused}
-use Rattle.hprof_tool.specs.declared.program.refused.Refused.TheVariants as refusals
-use Rattle.hprof_tool.specs.Program.{usual_limits, refused_of, count_read, IsProduct, IsMade, IsStopped, HaveOneState, IsFirstAnswer}
-use Rattle.hprof_tool.specs.Program.{IsPartRefusal, IsRefusal, IsOfMaking}
+use Rattle.hprof_engine.specs.Joining.{Tell, IsPartFault, RefusesPart, fault_of}
+use Rattle.hprof_engine.specs.Makes.{Reads, Making, Makes, IsMadeOf, IsTooLongOf, WritesFront, making_of}
+use Rattle.hprof_tool.specs.Program.{IsPartRefusal, IsFirstAnswer, IsRefusal, MakesStream, usual_limits, refused_of, with_buffer}
 
 -- no reader tells no part
 no_parts_told : {R : Type 0} (left : R → Option (List ℕ)) (readers : List R) (parts : List (List ℕ)) → readers ≡ []
@@ -75,217 +71,163 @@ part_refusal left health pulls parts old new index fault is = record {
   is_first = first_answer left health pulls usual_limits is.given is.at.was is.at.came is.at.is fault is.at.refused;
 }
 
--- one answer is one refusal
-same_refusal : {A : Type 0} (outcome : Result A Refused) (one other : Refused) → outcome ≡ Err one → outcome ≡ Err other → one ≡ other
-same_refusal outcome one other is same = cc
-
--- a refusal of the engine is the program's of one fault alone
-pub engine_fault : (known fault : ToolFault) → refused_of known ≡ refusals.Engine fault → known ≡ fault
-engine_fault (tool.Part index why) fault same = cc
-engine_fault tool.NoParts fault same = cc
-engine_fault tool.IdSizes fault same = cc
-engine_fault (tool.Conflict key) fault same = cc
-engine_fault (tool.Write why) fault same = cc
-engine_fault tool.OutOfMemory fault same = absurd cc
-
--- and so is want of memory
-pub wanted_memory : (known : ToolFault) → refused_of known ≡ refusals.OutOfMemory → known ≡ tool.OutOfMemory
-wanted_memory (tool.Part index why) same = absurd cc
-wanted_memory tool.NoParts same = absurd cc
-wanted_memory tool.IdSizes same = absurd cc
-wanted_memory (tool.Conflict key) same = absurd cc
-wanted_memory (tool.Write why) same = absurd cc
-wanted_memory tool.OutOfMemory same = refl
-
--- what is made of parts is made of parts that agree
-state_of : (product : Product) (parts : List (List ℕ)) (bytes : List ℕ) → IsProduct product parts bytes → HaveOneState parts
-state_of products.Dump parts bytes is = (is.ids, is.millis, is.rows, is.agree)
-state_of products.Check parts bytes is = (is.ids, is.millis, is.rows, is.agree)
-
--- what was joined was made into a dump
-pub made_dump : (parts : List (List ℕ)) (old new : Option (List ℕ)) (joined : Joined) → Joins parts old new joined
-    → IsMade products.Dump parts old new
-made_dump parts old new joined is = (
-  canonical_dump is.ids is.millis is.rows,
-  record { ids = is.ids; millis = is.millis; rows = is.rows; agree = is.agree; is = refl },
-  is.written,
-)
-
--- and so far as it was written
-pub stopped_dump : (parts : List (List ℕ)) (old new : Option (List ℕ)) → StopsWriting parts old new → IsStopped products.Dump parts old new
-stopped_dump parts old new is = (
-  canonical_dump is.ids is.millis is.rows,
-  is.count,
-  record {
-    ids = is.ids;
-    millis = is.millis;
-    rows = is.rows;
-    agree =
-        is.agree;
-    is = refl;
-  },
-  is.written,
-)
-
--- what the engine's answer tells of the parts and of the bytes that it wrote
-pub record EngineTells {R : Type 0} (left : R → Option (List ℕ)) (product : Product) (readers : List R) (old new : Option (List ℕ))
-    (made : Result (Unit {0}) ToolFault) : Type 0 where
-  pub ok : OnOk made ((parts : List (List ℕ)) → Tell left readers parts → IsMade product parts old new)
-  pub part : (index : ℕ) (fault : PartFault) → made ≡ Err (tool.Part index fault) → (parts : List (List ℕ)) → Tell left readers parts
-      → IsPartRefusal parts index fault
-  pub conflict : (key : Key) → made ≡ Err (tool.Conflict key) → (parts : List (List ℕ)) → Tell left readers parts → Disagree parts key
-  pub no_parts : made ≡ Err tool.NoParts → readers ≡ []
-  pub id_sizes : made ≡ Err tool.IdSizes → (parts : List (List ℕ)) → Tell left readers parts → HaveTwoSizes parts
-  pub write : (fault : WriteFault) → made ≡ Err (tool.Write fault) → (parts : List (List ℕ)) → Tell left readers parts
-      → IsStopped product parts old new
-
-module _ {R : Type 0} (left : R → Option (List ℕ)) (product : Product) (readers : List R) (old new : Option (List ℕ)) where
-  of_fault : (made : Result (Unit {0}) ToolFault) (fault : ToolFault) → EngineTells left product readers old new made → made ≡ Err fault
-      → (parts : List (List ℕ)) → Tell left readers parts → IsRefusal (refused_of fault) parts
-  of_fault made (tool.Part index fault) t same parts told = t.part index fault same parts told
-  of_fault made tool.NoParts t same parts told = no_parts_told left readers parts (t.no_parts same) told
-  of_fault made tool.IdSizes t same parts told = t.id_sizes same parts told
-  of_fault made (tool.Conflict key) t same parts told = t.conflict key same parts told
-  of_fault made (tool.Write fault) t same parts told =
-      let stops = t.write fault same parts told in state_of product parts stops.0 stops.2
-  of_fault made tool.OutOfMemory t same parts told = tt
-
-  -- a refusal says what the engine's fault says, and of a flush that failed that the parts agree
-  pub refusal : (made : Result (Unit {0}) ToolFault) (outcome : Result (Unit {0}) Refused) → EngineTells left product readers old new made
-      → OnOk made (OnErr outcome (outcome ≡ Err (refusals.Engine (tool.Write faults.Failed))))
-      → IfErr made (λ fault. outcome ≡ Err (refused_of fault))
-      → IfErr outcome (λ refused. (parts : List (List ℕ)) → Tell left readers parts → IsRefusal refused parts)
-  refusal made (Ok done) t failed same = tt
-  refusal (Ok u) (Err refused) t failed same = λ parts told.
-      let is : refused ≡ refusals.Engine (tool.Write faults.Failed) = cc in
-      let written = t.ok parts told in
-      subst (λ (r : Refused). IsRefusal r parts) (sym is) (state_of product parts written.0 written.1)
-  refusal (Err fault) (Err refused) t failed same = λ parts told.
-      let is : refused ≡ refused_of fault = cc in
-      subst (λ (r : Refused). IsRefusal r parts) (sym is) (of_fault (Err fault) fault t refl parts told)
-
-  -- what was written stands in the writer and then in the buffer
-  pub stops : (made : Result (Unit {0}) ToolFault) (outcome : Result (Unit {0}) Refused) (end : Option (List ℕ))
-      → EngineTells left product readers old new made → Keeps new end
-      → IfErr made (λ fault. outcome ≡ Err (refused_of fault))
-      → (fault : WriteFault) → outcome ≡ Err (refusals.Engine (tool.Write fault)) → (parts : List (List ℕ)) → Tell left readers parts
-      → IsStopped product parts old end
-  stops (Ok u) outcome end t kept same fault is parts told =
-      let written = t.ok parts told in (
-        written.0,
-        length written.0,
-        written.1,
-        subst (Appends old end) (sym (take-length written.0))
-            (Appends-kept old new end written.0 written.2 kept),
-      )
-  stops (Err known) outcome end t kept same fault is parts told =
-      let written = t.write fault (ap Err
-      (engine_fault known (tool.Write fault) (same_refusal outcome (refused_of known) (refusals.Engine (tool.Write fault)) same is)))
-      parts told in
-      (written.0, written.1, written.2, Appends-kept old new end (take written.1 written.0) written.3 kept)
-
-  -- what the engine wrote was flushed
-  pub written_out : (made : Result (Unit {0}) ToolFault) (outcome : Result (Unit {0}) Refused) (end last : Option (List ℕ))
-      → OnOk made ((parts : List (List ℕ)) → Tell left readers parts → IsMade product parts old new)
-      → OnOk outcome (IsOk made) → Keeps new end → OnOk outcome (end ≡ last)
-      → OnOk outcome ((parts : List (List ℕ)) → Tell left readers parts → IsMade product parts old last)
-  written_out made (Err refused) end last ok done kept same = tt
-  written_out (Err fault) (Ok u) end last ok done kept same = absurd cc
-  written_out (Ok j) (Ok u) end last ok done kept same = λ parts told.
-      let written = ok parts told in (
-        written.0,
-        written.1,
-        subst (λ (b : Option (List ℕ)). Appends old b written.0) same
-            (Appends-kept old new end written.0 written.2 kept),
-      )
-
 -- a buffer that is empty adds nothing
-none_added : (known : Option (List ℕ)) → append_known known [] ≡ known
+pub none_added : (known : Option (List ℕ)) → append_known known [] ≡ known
 none_added None = refl
 none_added (Some bytes) = ap Some (append-nil bytes)
 
-pub emptied : (outcome : Result (Unit {0}) Refused) (inner : Option (List ℕ)) (buffer : List ℕ) → OnOk outcome (buffer ≡ [])
-    → OnOk outcome (append_known inner buffer ≡ inner)
-emptied (Ok u) inner buffer none = ap (append_known inner) none ∙ none_added inner
-emptied (Err refused) inner buffer none = tt
+module _ {R : Type 0} (left : R → Option (List ℕ)) (health : R → Health) (pulls : R → ℕ) (old new : List R) where
+  -- ---- what a refusal says
 
--- the engine's answers are refusals of the engine, or want of memory
-engine_of : (fault : ToolFault) → IsOfMaking (refused_of fault)
-engine_of (tool.Part index fault) = tt
-engine_of tool.NoParts = tt
-engine_of tool.IdSizes = tt
-engine_of (tool.Conflict key) = tt
-engine_of (tool.Write fault) = tt
-engine_of tool.OutOfMemory = tt
+  module _ {W : Type 0} (written : W → Option (List ℕ)) (well : W → Health) (IsText : List PartSummary → HeapValue → List ℕ → Type 0)
+      (TooLong : HeapValue → Type 0) (TakesRoom TakesMemory : Type 0) (before after : W) where
+    pub refusal : (fault : ToolFault)
+        → Makes left health pulls written well usual_limits (with_buffer (making_of IsText TooLong TakesRoom TakesMemory)) old new before after
+        (Some fault) → (parts : List (List ℕ)) → Tell left old parts → IsRefusal (making_of IsText TooLong TakesRoom TakesMemory) (refused_of fault) parts
+    refusal (tool.Part index fault) m parts told = part_refusal left health pulls parts old new index fault
+        (m.reads.part index fault refl parts told)
+    refusal tool.NoParts m parts told = no_parts_told left old parts ((m.reads.no_parts (λ e. cc)).0 refl) told
+    refusal tool.IdSizes m parts told = m.reads.id_sizes refl parts told
+    refusal (tool.Conflict key) m parts told = m.reads.conflict key refl parts told
+    refusal (tool.Write fault) m parts told =
+        let is = (m.write fault refl).1 parts told in (is.0, is.2)
+    refusal tool.DumpTooLong m parts told = m.too_long refl parts told
+    refusal tool.OutOfMemory m parts told = tt
 
-pub of_making : (made : Result (Unit {0}) ToolFault) (outcome : Result (Unit {0}) Refused)
-    → OnOk made (OnErr outcome (outcome ≡ Err (refusals.Engine (tool.Write faults.Failed))))
-    → IfErr made (λ fault. outcome ≡ Err (refused_of fault)) → IfErr outcome IsOfMaking
-of_making made (Ok done) failed same = tt
-of_making (Ok j) (Err refused) failed same =
-    let is : refused ≡ refusals.Engine (tool.Write faults.Failed) = cc in
-    subst IsOfMaking (sym is) tt
-of_making (Err fault) (Err refused) failed same =
-    let is : refused ≡ refused_of fault = cc in
-    subst IsOfMaking (sym is) (engine_of fault)
+  -- ---- a device that is taken apart
 
--- a refusal of the engine, but for a writer that failed, is what the engine answered
-pub engine_answered : (made : Result (Unit {0}) ToolFault) (outcome : Result (Unit {0}) Refused) (fault : ToolFault)
-    → (fault ≡ tool.Write faults.Failed → ⊥)
-    → OnOk made (OnErr outcome (outcome ≡ Err (refusals.Engine (tool.Write faults.Failed))))
-    → IfErr made (λ known. outcome ≡ Err (refused_of known))
-    → outcome ≡ Err (refusals.Engine fault) → made ≡ Err fault
-engine_answered (Ok u) (Ok done) fault other failed same is = absurd cc
-engine_answered (Ok u) (Err refused) fault other failed same is = absurd (let wrong : fault ≡ tool.Write faults.Failed = cc in other wrong)
-engine_answered (Err known) outcome fault other failed same is =
-    ap Err (engine_fault known fault (same_refusal outcome (refused_of known) (refusals.Engine fault) same is))
+  module _ {W : Type 0} (written : W → Option (List ℕ)) (well : W → Health) (making : Making) (before after : W) where
+    -- what it holds, and its health
+    pub shown : (ended : Option ToolFault) → Makes left health pulls written well usual_limits making old new before after ended
+        → Makes {W = Option (List ℕ) × Health} left health pulls (λ stream. stream.0) (λ stream. stream.1) usual_limits making old new
+        (written before, well before) (written after, well after) ended
+    shown ended m = record {
+      reads = m.reads;
+      ok = m.ok;
+      unwritten = λ none. let same = m.unwritten none in ap (λ (w : W). (written w, well w)) same;
+      too_long = m.too_long;
+      write = m.write;
+      memory = λ e. elim (m.memory e) [
+        | inl none ↦ inl (none.0, none.1, ap (λ (w : W). (written w, well w)) none.2)
+        | inr all ↦ inr all
+      ];
+      no_other = m.no_other;
+    }
 
--- want of memory is what the engine answered
-pub memory_answered : (made : Result (Unit {0}) ToolFault) (outcome : Result (Unit {0}) Refused)
-    → OnOk made (OnErr outcome (outcome ≡ Err (refusals.Engine (tool.Write faults.Failed))))
-    → IfErr made (λ known. outcome ≡ Err (refused_of known))
-    → outcome ≡ Err refusals.OutOfMemory → made ≡ Err tool.OutOfMemory
-memory_answered (Ok u) (Ok done) failed same is = absurd cc
-memory_answered (Ok u) (Err refused) failed same is = absurd cc
-memory_answered (Err known) outcome failed same is =
-    ap Err (wanted_memory known (same_refusal outcome (refused_of known) refusals.OutOfMemory same is))
+  module _ (making : Making) (held holds end : Option (List ℕ)) (was is : Health) where
+    -- all was written, and what is held stays
+    kept : Keeps holds end → Makes {W = Option (List ℕ) × Health} left health pulls (λ s. s.0) (λ s. s.1) usual_limits making old new
+        (held, was) (holds, is) None
+        → Makes {W = Option (List ℕ) × Health} left health pulls (λ s. s.0) (λ s. s.1) usual_limits making old new (held, was)
+        (end, healths.Well) None
+    kept keeps m = record {
+      reads = m.reads;
+      ok = λ e. (refl, λ parts told. let all = (m.ok e).1 parts told in (all.0, all.1, Appends-kept held holds end all.0 all.2 keeps));
+      unwritten = λ none. absurd none;
+      too_long = λ e. absurd cc;
+      write = λ fault e. absurd cc;
+      memory = λ e. absurd cc;
+      no_other = λ parts ids millis facts told state are_well is_well unhindered. tt;
+    }
 
--- how many readers were read to their ends is told by the refusal
-pub same_count_read : (A B : Type 0) (refused : Refused) (all : ℕ) → count_read {A = A} (Err refused) all ≡ count_read {A =
-    B} (Err refused) all
-same_count_read A B (refusals.Engine fault) all = refl
-same_count_read A B (refusals.Open index) all = refl
-same_count_read A B refusals.Create all = refl
-same_count_read A B refusals.OutOfMemory all = refl
+    -- all was written, and then the writer failed
+    failed_after : Keeps holds end → Makes {W = Option (List ℕ) × Health} left health pulls (λ s. s.0) (λ s. s.1) usual_limits making
+        old new (held, was) (holds, is) None
+        → Makes {W = Option (List ℕ) × Health} left health pulls (λ s. s.0) (λ s. s.1) usual_limits making old new (held, was)
+        (end, healths.Failed) (Some (tool.Write write_faults.Failed))
+    failed_after keeps m = record {
+      reads = record {
+        no_parts = λ had. (λ e. absurd cc, λ none. let no = (m.reads.no_parts (λ e. absurd cc)).1 none in absurd cc);
+        id_sizes = λ e. absurd cc;
+        conflict = λ key e. absurd cc;
+        part = λ index why e. absurd cc;
+        accepted = m.reads.accepted;
+        read_out = m.reads.read_out;
+      };
+      ok = λ e. absurd cc;
+      unwritten = λ none. absurd none;
+      too_long = λ e. absurd cc;
+      write = λ fault e.
+          let one : write_faults.Failed ≡ fault = cc in (
+            subst (λ (f : WriteFault). healths.Failed ≡ health_after f) one refl,
+            λ parts told.
+                let all = (m.ok refl).1 parts told in (
+                  all.0,
+                  length all.0,
+                  all.1,
+                  subst (Appends held end) (sym (take-length all.0)) (Appends-kept held holds end all.0 all.2 keeps),
+                ),
+          );
+      memory = λ e. absurd cc;
+      no_other = λ parts ids millis facts told state are_well is_well unhindered. absurd cc;
+    }
 
--- and is what the engine says
-count_of_fault : (fault : ToolFault) (all : ℕ) → read_count {A = Unit {0}} (Err fault) all ≡ count_read {A =
-    Unit {0}} (Err (refused_of fault)) all
-count_of_fault (tool.Part index fault) all = refl
-count_of_fault tool.NoParts all = refl
-count_of_fault tool.IdSizes all = refl
-count_of_fault (tool.Conflict key) all = refl
-count_of_fault (tool.Write fault) all = refl
-count_of_fault tool.OutOfMemory all = refl
+    -- what was made, and then flushed
+    pub flushed : (made outcome : Result (Unit {0}) ToolFault)
+        → Makes {W = Option (List ℕ) × Health} left health pulls (λ s. s.0) (λ s. s.1) usual_limits making old new (held, was)
+        (holds, is) (fault_of made)
+        → OnOk made (OnErr outcome (outcome ≡ Err (tool.Write write_faults.Failed))) → IfErr made (λ fault. outcome ≡ Err fault)
+        → Keeps holds end → OnErr made (end ≡ holds)
+        → (last : Health) × Makes {W = Option (List ℕ) × Health} left health pulls (λ s. s.0) (λ s. s.1) usual_limits making old new
+        (held, was) (end, last) (fault_of outcome)
+    flushed (Ok u) (Ok done) m failed refused keeps same = (healths.Well, kept keeps m)
+    flushed (Ok u) (Err fault) m failed refused keeps same =
+        let one : tool.Write write_faults.Failed ≡ fault = cc in (
+          healths.Failed,
+          subst (λ (f : ToolFault). Makes {W = Option (List ℕ) × Health} left health pulls (λ s. s.0) (λ s. s.1) usual_limits making old new
+              (held, was) (end, healths.Failed) (Some f)) one (failed_after keeps m),
+        )
+    flushed (Err fault) outcome m failed refused keeps same = (
+      is,
+      subst (λ (o : Result (Unit {0}) ToolFault). Makes {W = Option (List ℕ) × Health} left health pulls (λ s. s.0) (λ s. s.1)
+          usual_limits making old new (held, was) (end, is) (fault_of o)) (sym refused)
+          (subst (λ (h : Option (List ℕ)). Makes {W = Option (List ℕ) × Health} left health pulls (λ s. s.0) (λ s. s.1) usual_limits making
+          old new (held, was) (h, is) (Some fault)) (sym same) m),
+    )
 
-pub count_of_made : (made : Result (Unit {0}) ToolFault) (outcome : Result (Unit {0}) Refused) (all : ℕ)
-    → OnOk made (OnErr outcome (outcome ≡ Err (refusals.Engine (tool.Write faults.Failed))))
-    → IfErr made (λ known. outcome ≡ Err (refused_of known))
-    → read_count made all ≡ count_read outcome all
-count_of_made (Ok u) (Ok done) all failed same = refl
-count_of_made (Ok u) (Err refused) all failed same =
-    let is : refused ≡ refusals.Engine (tool.Write faults.Failed) = cc in
-    subst (λ (r : Refused). all ≡ count_read {A = Unit {0}} (Err r) all) (sym is) refl
-count_of_made (Err known) outcome all failed same =
-    subst (λ (r : Result (Unit {0}) Refused). read_count {A = Unit {0}} (Err known) all ≡ count_read r all) (sym same)
-    (count_of_fault known all)
+  -- ---- room for the buffer
 
--- a result that is an error, and the only one that it can be
-pub the_refusal : {A : Type 0} (result : Result A Refused) (refused : Refused) → IsErrAnd result (λ e. e ≡ refused) → result ≡ Err refused
-the_refusal (Ok x) refused is = absurd is
-the_refusal (Err e) refused is = ap Err is
+  module _ (making : Making) (held holds : Option (List ℕ)) where
+    pub buffered : (ended : Option ToolFault) → MakesStream left health pulls making old new held holds ended
+        → MakesStream left health pulls (with_buffer making) old new held holds ended
+    buffered ended m = (
+      m.0,
+      record {
+        reads = m.1.reads;
+        ok = m.1.ok;
+        unwritten = m.1.unwritten;
+        too_long = m.1.too_long;
+        write = m.1.write;
+        memory = λ e. elim (m.1.memory e) [ inl none ↦ inl (tt, none.1, none.2) | inr all ↦ inr all ];
+        no_other = m.1.no_other;
+      },
+    )
 
--- where nothing is wanted to have been read to its end, nothing need have been
-pub none_read : {R : Type 0} (left : R → Option (List ℕ)) (health : R → Health) (pulls : R → ℕ) (old new : List R)
-    → AreReadOut left health pulls usual_limits old new 0
-none_read left health pulls old new k below = absurd (omega (arith, below))
+-- there was no room for the buffer
+pub no_room : {R : Type 0} (left : R → Option (List ℕ)) (health : R → Health) (pulls : R → ℕ) (making : Making) (readers : List R)
+    (held : Option (List ℕ)) → MakesStream left health pulls (with_buffer making) readers readers held held (Some tool.OutOfMemory)
+no_room left health pulls making readers held = (
+  healths.Well,
+  record {
+    reads = record {
+      no_parts = λ had. absurd (had refl);
+      id_sizes = λ e. absurd cc;
+      conflict = λ key e. absurd cc;
+      part = λ index why e. absurd cc;
+      accepted = λ all. absurd all;
+      read_out = λ k below. absurd (omega (arith, below));
+    };
+    ok = λ e. absurd cc;
+    unwritten = λ none. absurd none;
+    too_long = λ e. absurd cc;
+    write = λ fault e. absurd cc;
+    memory = λ e. inl (tt, refl, refl);
+    no_other = λ parts ids millis facts told state are_well is_well unhindered. absurd (unhindered tt);
+  },
+)
+
+-- after a refusal the buffered writer holds what it held
+pub unchanged : {W : Type 0} (contents : W → Option (List ℕ)) (made : Result (Unit {0}) ToolFault) (now was : W) → OnErr made (now ≡ was)
+    → OnErr made (contents now ≡ contents was)
+unchanged contents (Ok done) now was same = tt
+unchanged contents (Err fault) now was same = ap contents same

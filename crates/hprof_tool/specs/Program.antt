@@ -1,7 +1,6 @@
 -- What the program's calls come to.
-use Rattle.std.specs.Prelude.{◌≡◌, ◌≢◌, ℕ, ◌<◌, List, [], ◌∷◌, ◌++◌, length, take, Option, Some, Result, Ok, Err, ⊤, codes, decimal}
+use Rattle.std.specs.Prelude.{◌≡◌, ◌≢◌, ℕ, ◌<◌, List, [], ◌∷◌, ◌++◌, length, Option, Some, ⊤, codes, decimal}
 use Rattle.std.specs.List.{AllByRecursion}
-use Rattle.std.specs.Io.KnownBytes.{Appends}
 use Rattle.clap.specs.declared.error.ErrorKind.{ErrorKind}
 use Rattle.clap.specs.declared.error.ErrorKind.TheVariants as kinds
 use Rattle.hprof_devices.specs.declared.device.Device.{Device}
@@ -12,7 +11,6 @@ use Rattle.hprof_stream.specs.declared.limits.Limits.{Limits}
 use Rattle.hprof_stream.specs.declared.part_fault.PartFault.{PartFault}
 use Rattle.hprof_stream.specs.declared.part_fault.PartFault.TheVariants as faults
 use Rattle.hprof_stream.specs.declared.sink.SinkFault.TheVariants as sinks
-use Rattle.hprof_dump.specs.Dump.{canonical_dump}
 use Rattle.hprof_heap.specs.State.{HaveTwoSizes}
 use Rattle.hprof_engine.specs.declared.tool_fault.ToolFault.{ToolFault}
 use Rattle.hprof_engine.specs.declared.tool_fault.ToolFault.TheVariants as tool
@@ -20,36 +18,11 @@ use Rattle.hprof_tool.specs.declared.program.refused.Refused.{Refused}
 use Rattle.hprof_tool.specs.declared.program.refused.Refused.TheVariants as refusals
 use Rattle.hprof_tool.specs.declared.status.Status.{Status}
 use Rattle.hprof_tool.specs.declared.status.Status.TheVariants as statuses
-use Rattle.hprof_tool.specs.declared.program.product.Product.{Product}
-use Rattle.hprof_tool.specs.declared.program.product.Product.TheVariants as products
-use Rattle.hprof_engine.specs.Joining.{Tell, Agree, Disagree, IsAccepted, IsOfPart, IsBeforeWriting, read_count}
+use Rattle.hprof_engine.specs.Joining.{Tell, Agree, Disagree, IsAccepted, IsOfPart}
+use Rattle.hprof_engine.specs.Makes.{Making, Makes, WritesAll}
+use Rattle.hprof_devices.specs.declared.health.Health.{Health}
+use Rattle.hprof_devices.specs.declared.health.Health.TheVariants as healths
 use Rattle.hprof_engine.specs.FaultText.{IsFaultText}
-use Rattle.hprof_reports.specs.Checking.{IsCheckOfParts}
-
--- the parts agree, and these bytes are the canonical dump of what they state
-pub record IsDump (parts : List (List ℕ)) (dump : List ℕ) : Type 0 where
-  pub ids : IdSize
-  pub millis : ℕ
-  pub rows : List FactValue
-  pub agree : Agree parts ids millis rows
-  pub is : dump ≡ canonical_dump ids millis rows
-
--- the parts agree, and these bytes are made of them
-abbrev pub IsProduct : Product → List (List ℕ) → List ℕ → Type 0
-IsProduct products.Dump parts bytes = IsDump parts bytes
-IsProduct products.Check parts bytes = IsCheckOfParts parts bytes
-
--- it was made of the parts, and written
-abbrev pub IsMade : Product → List (List ℕ) → Option (List ℕ) → Option (List ℕ) → Type 0
-IsMade product parts old new = (bytes : List ℕ) × IsProduct product parts bytes × Appends old new bytes
-
--- writing stopped: it was made of the parts, and a front of it was written
-abbrev pub IsStopped : Product → List (List ℕ) → Option (List ℕ) → Option (List ℕ) → Type 0
-IsStopped product parts old new = (bytes : List ℕ) × (count : ℕ) × IsProduct product parts bytes × Appends old new (take count bytes)
-
--- the parts agree
-abbrev pub HaveOneState : List (List ℕ) → Type 0
-HaveOneState parts = (ids : IdSize) × (millis : ℕ) × (rows : List FactValue) × Agree parts ids millis rows
 
 -- the limits with which the program reads: every length that a record can say, 2^40 reads, 2^64 - 1 bytes
 abbrev pub usual_limits : Limits
@@ -73,17 +46,18 @@ pub record IsPartRefusal (parts : List (List ℕ)) (index : ℕ) (fault : PartFa
   pub of_part : IsOfPart usual_limits bytes fault
   pub is_first : IsFirstAnswer fault
 
--- what a refusal says of the parts
-abbrev pub IsRefusal : Refused → List (List ℕ) → Type 0
-IsRefusal (refusals.Engine (tool.Part index fault)) parts = IsPartRefusal parts index fault
-IsRefusal (refusals.Engine tool.NoParts) parts = parts ≡ []
-IsRefusal (refusals.Engine tool.IdSizes) parts = HaveTwoSizes parts
-IsRefusal (refusals.Engine (tool.Conflict key)) parts = Disagree parts key
-IsRefusal (refusals.Engine (tool.Write fault)) parts = HaveOneState parts
-IsRefusal (refusals.Engine tool.OutOfMemory) parts = ⊥
-IsRefusal (refusals.Open index) parts = ⊥
-IsRefusal refusals.Create parts = ⊥
-IsRefusal refusals.OutOfMemory parts = ⊤
+-- what a refusal to make something of parts says of them
+abbrev pub IsRefusal : Making → Refused → List (List ℕ) → Type 0
+IsRefusal making (refusals.Engine (tool.Part index fault)) parts = IsPartRefusal parts index fault
+IsRefusal making (refusals.Engine tool.NoParts) parts = parts ≡ []
+IsRefusal making (refusals.Engine tool.IdSizes) parts = HaveTwoSizes parts
+IsRefusal making (refusals.Engine (tool.Conflict key)) parts = Disagree parts key
+IsRefusal making (refusals.Engine (tool.Write fault)) parts = (text : List ℕ) × making.IsMade parts text
+IsRefusal making (refusals.Engine tool.DumpTooLong) parts = making.IsTooLong parts
+IsRefusal making (refusals.Engine tool.OutOfMemory) parts = ⊥
+IsRefusal making (refusals.Open index) parts = ⊥
+IsRefusal making refusals.Create parts = ⊥
+IsRefusal making refusals.OutOfMemory parts = ⊤
 
 -- as many files were opened as parts, and this holds of what they tell
 --   remaining: what a file has left to tell
@@ -93,33 +67,36 @@ pub record OfParts {F : Type 0} (remaining : F → Option (List ℕ)) (count : �
   pub holds : (told : List (List ℕ)) → Tell (λ part. remaining (inner_of part)) parts told → Holds told
 
 -- what is made of the part that a stream gave, where it told one, was written to another
+--   IsMade: the text is made of the parts
 --   remaining, contents: what a stream has left to tell, and what one tells that it holds
-abbrev pub IsMadeOfStream : {I O : Type 0} → Product → (I → Option (List ℕ)) → (O → Option (List ℕ)) → I → O → O → Type 0
-IsMadeOfStream product remaining contents input old new =
-    (part : List ℕ) → remaining input ≡ Some part → IsMade product (part ∷ []) (contents old) (contents new)
+abbrev pub IsMadeOfStream : {I O : Type 0} → (IsMade : List (List ℕ) → List ℕ → Type 0) → (I → Option (List ℕ)) → (O → Option (List ℕ))
+    → I → O → O → Type 0
+IsMadeOfStream IsMade remaining contents input old new =
+    (part : List ℕ) → remaining input ≡ Some part → WritesAll IsMade (part ∷ []) (contents old) (contents new)
 
--- so many files were joined into one that had been created, and this it is now
-abbrev pub IsJoinOfFiles : {F : Type 0} → (F → Option (List ℕ)) → (F → Option (List ℕ)) → ℕ → F → Type 0
-IsJoinOfFiles {F} remaining contents count new =
-    (old : F) × OfParts remaining count (λ parts. IsMade products.Dump parts (contents old) (contents new))
+-- what is made of so many files was written to a stream
+abbrev pub IsMadeOfFiles : {F O : Type 0} → (IsMade : List (List ℕ) → List ℕ → Type 0) → (F → Option (List ℕ)) → (O → Option (List ℕ)) → ℕ
+    → O → O → Type 0
+IsMadeOfFiles IsMade remaining contents count old new =
+    OfParts remaining count (λ parts. WritesAll IsMade parts (contents old) (contents new))
 
--- a report on so many files was written to a stream
-abbrev pub IsReportOfFiles : {F O : Type 0} → Product → (F → Option (List ℕ)) → (O → Option (List ℕ)) → ℕ → O → O → Type 0
-IsReportOfFiles report remaining contents count old new =
-    OfParts remaining count (λ parts. IsMade report parts (contents old) (contents new))
+-- what is made of so many files was written to one that had been created, and this it is now
+abbrev pub IsMadeInFile : {F : Type 0} → (IsMade : List (List ℕ) → List ℕ → Type 0) → (F → Option (List ℕ)) → (F → Option (List ℕ)) → ℕ
+    → F → Type 0
+IsMadeInFile {F} IsMade remaining contents count new = (old : F) × IsMadeOfFiles IsMade remaining contents count old new
 
--- what a refusal to join so many files says
-abbrev pub IsFilesRefusal : {F : Type 0} → (F → Option (List ℕ)) → ℕ → Refused → Type 0
-IsFilesRefusal remaining count (refusals.Engine tool.OutOfMemory) = ⊥
-IsFilesRefusal remaining count (refusals.Engine fault) = OfParts remaining count (IsRefusal (refusals.Engine fault))
-IsFilesRefusal remaining count (refusals.Open index) = index < count
-IsFilesRefusal remaining count refusals.Create = ⊤
-IsFilesRefusal remaining count refusals.OutOfMemory = ⊤
+-- what a refusal to make something of so many files, in a new one, says
+abbrev pub IsFilesRefusal : {F : Type 0} → Making → (F → Option (List ℕ)) → ℕ → Refused → Type 0
+IsFilesRefusal making remaining count (refusals.Engine tool.OutOfMemory) = ⊥
+IsFilesRefusal making remaining count (refusals.Engine fault) = OfParts remaining count (IsRefusal making (refusals.Engine fault))
+IsFilesRefusal making remaining count (refusals.Open index) = index < count
+IsFilesRefusal making remaining count refusals.Create = ⊤
+IsFilesRefusal making remaining count refusals.OutOfMemory = ⊤
 
 -- what a refusal to report on so many files says
-abbrev pub IsReportRefusal : {F : Type 0} → (F → Option (List ℕ)) → ℕ → Refused → Type 0
-IsReportRefusal remaining count refusals.Create = ⊥
-IsReportRefusal remaining count other = IsFilesRefusal remaining count other
+abbrev pub IsReportRefusal : {F : Type 0} → Making → (F → Option (List ℕ)) → ℕ → Refused → Type 0
+IsReportRefusal making remaining count refusals.Create = ⊥
+IsReportRefusal making remaining count other = IsFilesRefusal making remaining count other
 
 -- how the program refuses what the engine refuses: want of memory is the program's own
 abbrev pub refused_of : ToolFault → Refused
@@ -146,19 +123,17 @@ IsOfOpening count (refusals.Open index) = index < count
 IsOfOpening count refusals.OutOfMemory = ⊤
 IsOfOpening count other = ⊥
 
--- how many of the parts were read to their ends, by what the program answers
-abbrev pub count_read : {A : Type 0} → Result A Refused → ℕ → ℕ
-count_read (Ok done) all = all
-count_read (Err (refusals.Engine fault)) all = let made : Result (Unit {0}) ToolFault = Err fault in read_count made all
-count_read (Err (refusals.Open index)) all = 0
-count_read (Err refusals.Create) all = 0
-count_read (Err refusals.OutOfMemory) all = 0
+-- as `Makes` with the usual limits, for a stream whose health nothing tells
+--   held, holds: what the stream and the buffer before it hold, before and afterwards, where the stream tells
+abbrev pub MakesStream : {R : Type 0} → (R → Option (List ℕ)) → (R → Health) → (R → ℕ) → Making → (old new : List R)
+    → (held holds : Option (List ℕ)) → Option ToolFault → Type 0
+MakesStream left health pulls making old new held holds ended = (end : Health)
+    × Makes {W = Option (List ℕ) × Health} left health pulls (λ stream. stream.0) (λ stream. stream.1) usual_limits making old new
+    (held, healths.Well) (holds, end) ended
 
--- the engine refused before anything was written
-abbrev pub IsUnwritten : Result (Unit {0}) Refused → Type 0
-IsUnwritten (Err (refusals.Engine fault)) = let made : Result (Unit {0}) ToolFault = Err fault in IsBeforeWriting made
-IsUnwritten (Err refusals.OutOfMemory) = ⊤
-IsUnwritten other = ⊥
+-- a making whose call takes room for a buffer first
+abbrev pub with_buffer : Making → Making
+with_buffer making = record making { TakesRoom = ⊤ }
 
 -- the status of words that ask for help, or are not understood, by the kind that clap tells
 abbrev pub IsStatusOfWords : ErrorKind → Status → Type 0

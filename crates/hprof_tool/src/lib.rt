@@ -1,9 +1,13 @@
-//! The program round the engine: its words, its files, and what it answers.
+//! The program round the engine: its words, its files, and what it answers. Here is also where another program finds the
+//! calls that read parts and write something, and the laws of what they write.
 #![tactic(auto)]
 
 mod command;
+pub mod laws;
 mod program;
 mod status;
 
+pub use hprof_engine::{Joined, Kept, ToolFault, join_kept, join_to};
+pub use hprof_reports::check_to;
 pub use program::run;
 pub use status::Status;

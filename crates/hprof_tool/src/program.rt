@@ -1,14 +1,15 @@
 //! The program: what its words ask for, over files and standard streams that the caller passes.
 
 ghost use Rattle.std.specs.Prelude.{◌≡◌, ◌≢◌, length};
-ghost use Rattle.hprof_tool.specs.declared.program.product.Product.TheVariants.{Dump};
-ghost use Rattle.hprof_tool.specs.Program.{IsMadeOfStream, IsJoinOfFiles, IsReportOfFiles};
+ghost use Rattle.hprof_engine.specs.Makes.{IsDump, IsMadeOf};
+ghost use Rattle.hprof_tool.specs.Program.{IsMadeOfStream, IsMadeInFile, IsMadeOfFiles};
 
 use crate::command::{Task, task_of};
 use crate::status::Status;
 use answers::{answer_no_words, answer_outcome, answer_words};
+use hprof_engine::Product;
+use hprof_reports::Check;
 use joining::{join_files, join_stream, report_files};
-use product::Product;
 use std::alloc::Global;
 use std::env::Args;
 use std::io;
@@ -18,7 +19,6 @@ use std::rt::Files;
 mod answers;
 mod joining;
 mod making;
-pub(crate) mod product;
 mod refused;
 
 /// Joins the part on `input` to `output`.
@@ -28,7 +28,7 @@ fn pass<I: Read + Drop, O: Write + Drop, E: Write>(
     output: O,
     errors: &mut E,
 ) -> Status
-    ensures done { result ≡ Status.Done → (written : O) × IsMadeOfStream Dump I.remaining O.contents input output written }
+    ensures done { result ≡ Status.Done → (written : O) × IsMadeOfStream IsDump I.remaining O.contents input output written }
     ensures understood { result ≢ Status.NotUnderstood }
 {
     answer_outcome(alloc, join_stream(alloc, input, output), errors)
@@ -43,23 +43,23 @@ fn join<F: Files, E: Write>(
     errors: &mut E,
 ) -> Status
     ensures done { result ≡ Status.Done → (written : F.File)
-        × IsJoinOfFiles F.File.remaining F.File.contents (length names.now) written }
+        × IsMadeInFile IsDump F.File.remaining F.File.contents (length names.now) written }
     ensures understood { result ≢ Status.NotUnderstood }
 {
     answer_outcome(alloc, join_files(alloc, files, out, names), errors)
 }
 
 /// Writes a report on parts in files to `output`.
-fn report<F: Files, O: Write + Drop, E: Write>(
+fn report<P: Product, F: Files, O: Write + Drop, E: Write>(
     alloc: Global,
     files: &F,
-    report: Product,
+    report: &P,
     names: &[&str],
     output: O,
     errors: &mut E,
 ) -> Status
     ensures done { result ≡ Status.Done → (written : O)
-        × IsReportOfFiles report F.File.remaining O.contents (length names.now) output written }
+        × IsMadeOfFiles (IsMadeOf (P.is_text report.now)) F.File.remaining O.contents (length names.now) output written }
     ensures understood { result ≢ Status.NotUnderstood }
 {
     answer_outcome(
@@ -92,7 +92,7 @@ pub fn run<F: Files, I: Read + Drop, O: Write + Drop, E: Write>(
     match task_of(alloc, &words) {
         Ok(Task::Pass) => pass(alloc, input, output, errors),
         Ok(Task::Join { out, parts }) => join(alloc, files, out, &parts, errors),
-        Ok(Task::Check { parts }) => report(alloc, files, Product::Check, &parts, output, errors),
+        Ok(Task::Check { parts }) => report(alloc, files, &Check, &parts, output, errors),
         Err(error) => answer_words(alloc, &error, &mut output, errors),
     }
 }

@@ -3,15 +3,14 @@
 ghost use Rattle.std.specs.Prelude.{◌≡◌, ℕ, List, [], ◌∷◌, length, All, Some, Err, IfOk, IfErr};
 ghost use Rattle.hprof_devices.specs.declared.health.Health.TheVariants.{Well};
 ghost use Rattle.hprof_devices.specs.Device.{health_of};
-ghost use Rattle.hprof_tool.specs.declared.program.product.Product.TheVariants.{Dump};
-ghost use Rattle.hprof_tool.specs.Program.{IsRefusal, IsMadeOfStream, IsJoinOfFiles, IsReportOfFiles, IsFilesRefusal, IsReportRefusal};
+ghost use Rattle.hprof_engine.specs.Makes.{IsDump, IsMadeOf, dump_making, making_of};
+ghost use Rattle.hprof_tool.specs.Program.{IsRefusal, IsMadeOfStream, IsMadeInFile, IsMadeOfFiles, IsFilesRefusal, IsReportRefusal};
 ghost use Rattle.hprof_tool.specs.Program.{IsOfMaking, IsOfOpening};
 
 use crate::program::making::make_buffered;
-use crate::program::product::Product;
 use crate::program::refused::Refused;
 use hprof_devices::Device;
-use hprof_engine::ToolFault;
+use hprof_engine::{Dump, Product, ToolFault};
 use std::alloc::Global;
 use std::fs;
 use std::fs::File;
@@ -24,14 +23,17 @@ pub(crate) fn join_stream<I: Read + Drop, O: Write + Drop>(
     input: I,
     output: O,
 ) -> Result<O, Refused>
-    ensures ok { IfOk result (IsMadeOfStream Dump I.remaining O.contents input output) }
+    ensures ok { IfOk result (IsMadeOfStream IsDump I.remaining O.contents input output) }
     ensures kind { IfErr result IsOfMaking }
     ensures refused { IfErr result (λ refused. (part : List ℕ) → I.remaining input ≡ Some part
-        → IsRefusal refused (part ∷ [])) }
+        → IsRefusal dump_making refused (part ∷ [])) }
 {
     let mut part = Vec::new(alloc);
     part.push(Device::new(input))?;
-    make_buffered(alloc, Product::Dump, &mut part, output)
+    match make_buffered(alloc, &Dump, &mut part, output) {
+        Ok(output) => Ok(output),
+        Err(fault) => Err(Refused::from(fault)),
+    }
 }
 
 /// Opens the parts in order.
@@ -61,34 +63,41 @@ pub(crate) fn join_files<F: Files>(
     out: &str,
     names: &[&str],
 ) -> Result<F::File, Refused>
-    ensures ok { IfOk result (IsJoinOfFiles F.File.remaining F.File.contents (length names.now)) }
+    ensures ok { IfOk result (IsMadeInFile IsDump F.File.remaining F.File.contents (length names.now)) }
     ensures no_parts { result ≡ Err (Refused.Engine ToolFault.NoParts) → length names.now ≡ 0 }
-    ensures refused { IfErr result (IsFilesRefusal F.File.remaining (length names.now)) }
+    ensures refused { IfErr result (IsFilesRefusal dump_making F.File.remaining (length names.now)) }
 {
     let mut parts = open_parts(alloc, files, names)?;
     let Ok(file) = File::create_new(files, out) else {
         return Err(Refused::Create);
     };
-    let outcome = make_buffered(alloc, Product::Dump, &mut parts, file);
-    if outcome.is_err() {
-        // Where it cannot be removed, it stays.
-        let _ = fs::remove_file(files, out);
+    match make_buffered(alloc, &Dump, &mut parts, file) {
+        Ok(file) => Ok(file),
+        Err(fault) => {
+            // Where it cannot be removed, it stays.
+            let _ = fs::remove_file(files, out);
+            Err(Refused::from(fault))
+        }
     }
-    outcome
 }
 
 /// Writes a report on parts in files to a stream, which it gives back.
-pub(crate) fn report_files<F: Files, O: Write + Drop>(
+pub(crate) fn report_files<P: Product, F: Files, O: Write + Drop>(
     alloc: Global,
     files: &F,
-    report: Product,
+    report: &P,
     names: &[&str],
     output: O,
 ) -> Result<O, Refused>
-    ensures ok { IfOk result (IsReportOfFiles report F.File.remaining O.contents (length names.now) output) }
+    ensures ok { IfOk result (IsMadeOfFiles (IsMadeOf (P.is_text report.now)) F.File.remaining O.contents (length names.now) output) }
     ensures no_parts { result ≡ Err (Refused.Engine ToolFault.NoParts) → length names.now ≡ 0 }
-    ensures refused { IfErr result (IsReportRefusal F.File.remaining (length names.now)) }
+    ensures refused { IfErr result (IsReportRefusal
+        (making_of (P.is_text report.now) (P.is_too_long report.now) P.Kept.takes_room (P.takes_memory report.now))
+        F.File.remaining (length names.now)) }
 {
     let mut parts = open_parts(alloc, files, names)?;
-    make_buffered(alloc, report, &mut parts, output)
+    match make_buffered(alloc, report, &mut parts, output) {
+        Ok(output) => Ok(output),
+        Err(fault) => Err(Refused::from(fault)),
+    }
 }

@@ -1,0 +1,144 @@
+-- Making something of parts.
+use Rattle.std.proofs.Common.{◌≡◌, inl, inr, ℕ, List, [], length, Option, Some, None, Result, Ok, Err, refl, sym, subst, arith}
+use Rattle.std.specs.Prelude.{All}
+use Rattle.hprof_devices.specs.declared.health.Health.{Health}
+use Rattle.hprof_devices.specs.declared.health.Health.TheVariants as healths
+use Rattle.hprof_devices.specs.declared.health.WriteFault.{WriteFault}
+use Rattle.hprof_devices.specs.declared.health.WriteFault.TheVariants as faults
+use Rattle.hprof_devices.specs.Device.{health_after}
+use Rattle.hprof_values.specs.declared.ids.IdSize.{IdSize}
+use Rattle.hprof_items.specs.FactValue.{FactValue}
+use Rattle.hprof_stream.specs.declared.limits.Limits.{Limits}
+use Rattle.hprof_stream.specs.declared.summary.PartSummary.{PartSummary}
+use Rattle.hprof_rows.specs.HeapValue.{HeapValue}
+use Rattle.hprof_heap.specs.State.{IsState}
+use Rattle.hprof_engine.specs.declared.tool_fault.ToolFault.{ToolFault}
+use Rattle.hprof_engine.specs.declared.tool_fault.ToolFault.TheVariants as tool
+use Rattle.hprof_engine.specs.declared.product.Stop.{Stop}
+use Rattle.hprof_engine.specs.declared.product.Stop.TheVariants as stops
+use Rattle.hprof_engine.specs.Summaries.{AreSummaries}
+use Rattle.hprof_engine.specs.Joining.{Tell, Agree, AreReadOut, IsOfReading, IsHindered, IsOkOrConflict}
+use Rattle.hprof_engine.specs.Makes.{Reads, Making, Makes, EndsWriting, IsMadeOf, making_of, fault_of_stop}
+
+-- ---- reading was refused
+
+module _ {R W : Type 0} (left : R → Option (List ℕ)) (health : R → Health) (pulls : R → ℕ) (written : W → Option (List ℕ))
+    (well : W → Health) (limits : Limits) (making : Making) (old new : List R) (target : W) where
+  pub refused : (fault : ToolFault) → IsOfReading (Some fault) → Reads left health pulls limits old new (Some fault)
+      → ((parts : List (List ℕ)) (ids : IdSize) (millis : ℕ) (facts : List FactValue) → Tell left old parts
+      → IsState parts ids millis facts → All (λ reader. health reader ≡ healths.Well) new → (IsHindered (Some fault) → ⊥)
+      → IsOkOrConflict (Some fault))
+      → Makes left health pulls written well limits making old new target target (Some fault)
+  refused fault kind reads no_other = record {
+    reads = reads;
+    ok = λ e. absurd cc;
+    unwritten = λ _. refl;
+    too_long = λ e. absurd (subst IsOfReading e kind);
+    write = λ why e. absurd (subst IsOfReading e kind);
+    memory = λ e. absurd (subst IsOfReading e kind);
+    no_other = λ parts ids millis facts told state are_well _ unhindered. no_other parts ids millis facts told state are_well unhindered;
+  }
+
+-- ---- all parts were read, and the writing ended
+
+-- the fault with which the call ends, if any
+abbrev pub fault_of_end : Result (Unit {0}) Stop → Option ToolFault
+fault_of_end (Ok done) = None
+fault_of_end (Err stop) = Some (fault_of_stop stop)
+
+-- after a fault of the writer it is not well
+ill : (health : Health) (fault : WriteFault) → health ≡ health_after fault → health ≡ healths.Well → ⊥
+ill health faults.Failed is was = cc
+ill health faults.Stuck is was = cc
+
+module _ {R : Type 0} (left : R → Option (List ℕ)) (health : R → Health) (pulls : R → ℕ) (limits : Limits) (old new : List R) where
+  -- where all parts were read, a stop says nothing else of them
+  stopped : (stop : Stop) → Reads left health pulls limits old new None → Reads left health pulls limits old new (Some (fault_of_stop stop))
+  stopped (stops.Write fault) reads = record {
+    no_parts = λ had. (λ e. absurd cc, λ none. let no = (reads.no_parts (λ e. absurd cc)).1 none in absurd cc);
+    id_sizes = λ e. absurd cc;
+    conflict = λ key e. absurd cc;
+    part = λ index why e. absurd cc;
+    accepted = reads.accepted;
+    read_out = reads.read_out;
+  }
+  stopped stops.TooLong reads = record {
+    no_parts = λ had. (λ e. absurd cc, λ none. let no = (reads.no_parts (λ e. absurd cc)).1 none in absurd cc);
+    id_sizes = λ e. absurd cc;
+    conflict = λ key e. absurd cc;
+    part = λ index why e. absurd cc;
+    accepted = reads.accepted;
+    read_out = reads.read_out;
+  }
+  stopped stops.OutOfMemory reads = record {
+    no_parts = λ had. (λ e. absurd cc, λ none. let no = (reads.no_parts (λ e. absurd cc)).1 none in absurd cc);
+    id_sizes = λ e. absurd cc;
+    conflict = λ key e. absurd cc;
+    part = λ index why e. absurd cc;
+    accepted = λ none. absurd none;
+    read_out = λ k below. absurd (omega (arith, below));
+  }
+
+  module _ {W : Type 0} (written : W → Option (List ℕ)) (well : W → Health)
+      (IsText : List PartSummary → HeapValue → List ℕ → Type 0) (TooLong : HeapValue → Type 0) (TakesRoom TakesMemory : Type 0)
+      (before after : W) (heap : HeapValue) (summaries : List PartSummary)
+      (agree : (parts : List (List ℕ)) → Tell left old parts → Agree parts heap.ids heap.millis heap.facts)
+      (of_parts : (parts : List (List ℕ)) → Tell left old parts → AreSummaries parts summaries) where
+    made : (parts : List (List ℕ)) → Tell left old parts → (text : List ℕ) → IsText summaries heap text → IsMadeOf IsText parts text
+    made parts told text is = record {
+      heap = heap;
+      agree = agree parts told;
+      summaries = summaries;
+      of_parts = of_parts parts told;
+      is = is;
+    }
+
+    pub ended : Reads left health pulls limits old new None → (result : Result (Unit {0}) Stop)
+        → EndsWriting written well (IsText summaries heap) (TooLong heap) TakesMemory before after result
+        → Makes left health pulls written well limits (making_of IsText TooLong TakesRoom TakesMemory) old new before after
+        (fault_of_end result)
+    ended reads (Ok done) ends = record {
+      reads = reads;
+      ok = λ e. (ends.0, λ parts told. (ends.1.0, made parts told ends.1.0 ends.1.1, ends.1.2));
+      unwritten = λ none. absurd none;
+      too_long = λ e. absurd cc;
+      write = λ fault e. absurd cc;
+      memory = λ e. absurd cc;
+      no_other = λ parts ids millis facts told state are_well is_well unhindered. tt;
+    }
+    ended reads (Err (stops.Write fault)) ends = record {
+      reads = stopped (stops.Write fault) reads;
+      ok = λ e. absurd cc;
+      unwritten = λ none. absurd none;
+      too_long = λ e. absurd cc;
+      write = λ why e.
+          let one : fault ≡ why = cc in (
+            subst (λ (f : WriteFault). well after ≡ health_after f) one ends.0,
+            λ parts told. (ends.1.0, ends.1.1, made parts told ends.1.0 ends.1.2, ends.1.3),
+          );
+      memory = λ e. absurd cc;
+      no_other = λ parts ids millis facts told state are_well is_well unhindered. absurd (ill (well after) fault ends.0 is_well);
+    }
+    ended reads (Err stops.OutOfMemory) ends = record {
+      reads = stopped stops.OutOfMemory reads;
+      ok = λ e. absurd cc;
+      unwritten = λ none. absurd none;
+      too_long = λ e. absurd cc;
+      write = λ fault e. absurd cc;
+      memory = λ e. inr (
+        ends.0,
+        reads.read_out,
+        ends.1,
+        λ parts told. (ends.2.0, ends.2.1, made parts told ends.2.0 ends.2.2, ends.2.3),
+      );
+      no_other = λ parts ids millis facts told state are_well is_well unhindered. absurd (unhindered tt);
+    }
+    ended reads (Err stops.TooLong) ends = record {
+      reads = stopped stops.TooLong reads;
+      ok = λ e. absurd cc;
+      unwritten = λ _. ends.1;
+      too_long = λ e parts told. record { heap = heap; agree = agree parts told; is = ends.0 };
+      write = λ fault e. absurd cc;
+      memory = λ e. absurd cc;
+      no_other = λ parts ids millis facts told state are_well is_well unhindered. absurd (unhindered tt);
+    }

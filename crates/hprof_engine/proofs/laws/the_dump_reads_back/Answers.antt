@@ -1,5 +1,0 @@
-use Rattle.hprof_dump.proofs.Dump.{dump_is_part}
-use Rattle.hprof_engine.proofs.laws.the_dump_reads_back.Goals as goal
-
-pub returns : goal.returns
-returns c = dump_is_part

@@ -1,0 +1,142 @@
+-- What a call answers that reads parts, and writes something that is made of them.
+use Rattle.std.specs.Prelude.{◌≡◌, ◌⊎◌, ◌↔◌, ℕ, List, [], length, take, All, Option, Some, None, Result, Ok, Err}
+use Rattle.std.specs.List.{AllByRecursion}
+use Rattle.std.specs.Io.KnownBytes.{Appends}
+use Rattle.hprof_devices.specs.declared.health.Health.{Health}
+use Rattle.hprof_devices.specs.declared.health.Health.TheVariants as healths
+use Rattle.hprof_devices.specs.declared.health.WriteFault.{WriteFault}
+use Rattle.hprof_devices.specs.Device.{health_after}
+use Rattle.hprof_values.specs.declared.ids.IdSize.{IdSize}
+use Rattle.hprof_items.specs.FactValue.{FactValue}
+use Rattle.hprof_stream.specs.declared.limits.Limits.{Limits}
+use Rattle.hprof_stream.specs.declared.part_fault.PartFault.{PartFault}
+use Rattle.hprof_stream.specs.declared.summary.PartSummary.{PartSummary}
+use Rattle.hprof_rows.specs.declared.key.Key.{Key}
+use Rattle.hprof_dump.specs.Dump.{canonical_dump}
+use Rattle.hprof_rows.specs.HeapValue.{HeapValue}
+use Rattle.hprof_heap.specs.State.{IsState, HaveTwoSizes}
+use Rattle.hprof_engine.specs.declared.tool_fault.ToolFault.{ToolFault}
+use Rattle.hprof_engine.specs.declared.tool_fault.ToolFault.TheVariants as tool
+use Rattle.hprof_engine.specs.declared.product.Stop.{Stop}
+use Rattle.hprof_engine.specs.declared.product.Stop.TheVariants as stops
+use Rattle.hprof_engine.specs.Joining.{Tell, Agree, Disagree, IsAccepted, RefusesPart, AreReadOut, read_count, AreRead, IsHindered}
+use Rattle.hprof_engine.specs.Joining.{IsOkOrConflict, IsBeforeWriting}
+use Rattle.hprof_engine.specs.Summaries.{AreSummaries}
+
+-- what a call answers of the parts that it reads
+--   left, health, pulls: what a reader has left to tell, how it is doing, how often it was pulled
+--   old, new: the readers, before and afterwards;  ended: the fault that the call ended with, if any
+pub record Reads {R : Type 0} (left : R → Option (List ℕ)) (health : R → Health) (pulls : R → ℕ) (limits : Limits) (old new : List R)
+    (ended : Option ToolFault) : Type 0 where
+  -- there are no parts, of which nothing is told only where memory was wanted before any is read
+  pub no_parts : (ended ≡ Some tool.OutOfMemory → ⊥) → (ended ≡ Some tool.NoParts) ↔ (old ≡ [])
+  -- two parts have different sizes
+  pub id_sizes : ended ≡ Some tool.IdSizes → (parts : List (List ℕ)) → Tell left old parts → HaveTwoSizes parts
+  -- the parts have one size, and this is the least key with two contents
+  pub conflict : (key : Key) → ended ≡ Some (tool.Conflict key) → (parts : List (List ℕ)) → Tell left old parts → Disagree parts key
+  -- that part was refused with that fault
+  pub part : (index : ℕ) (fault : PartFault) → ended ≡ Some (tool.Part index fault) → (parts : List (List ℕ)) → Tell left old parts
+      → RefusesPart left health pulls limits parts old new index fault
+  -- where all were read, all were accepted
+  pub accepted : AreRead ended → (parts : List (List ℕ)) → Tell left old parts → AllByRecursion (IsAccepted limits) parts
+  -- of each that was read to its end, which are all, or those before the one that was refused, nothing was read behind the end
+  pub read_out : AreReadOut left health pulls limits old new (read_count ended (length old))
+
+-- what was made of the parts was written
+abbrev pub WritesAll : (IsMade : List (List ℕ) → List ℕ → Type 0) (parts : List (List ℕ)) (old new : Option (List ℕ)) → Type 0
+WritesAll IsMade parts old new = (text : List ℕ) × IsMade parts text × Appends old new text
+
+-- a front of what was made of the parts was written
+abbrev pub WritesFront : (IsMade : List (List ℕ) → List ℕ → Type 0) (parts : List (List ℕ)) (old new : Option (List ℕ)) → Type 0
+WritesFront IsMade parts old new = (text : List ℕ) × (count : ℕ) × IsMade parts text × Appends old new (take count text)
+
+-- what is made of parts
+pub record Making : Type 1 where
+  -- the text is made of the parts
+  pub IsMade : List (List ℕ) → List ℕ → Type 0
+  -- what would be made of the parts is refused before the first byte
+  pub IsTooLong : List (List ℕ) → Type 0
+  -- memory is taken before any part is read, beside that for reading
+  pub TakesRoom : Type 0
+  -- memory is taken while it is written
+  pub TakesMemory : Type 0
+
+-- what a call answers that reads all parts, and then writes something that is made of them
+--   written, well: what a writer holds, where it tells, and how it is doing
+--   before, after: the writer, before and afterwards
+pub record Makes {R W : Type 0} (left : R → Option (List ℕ)) (health : R → Health) (pulls : R → ℕ) (written : W → Option (List ℕ))
+    (well : W → Health) (limits : Limits) (making : Making) (old new : List R) (before after : W) (ended : Option ToolFault) : Type 0 where
+  pub reads : Reads left health pulls limits old new ended
+  -- Ok: all of it was written, and the writer is well
+  pub ok : ended ≡ None → (well after ≡ healths.Well)
+      × ((parts : List (List ℕ)) → Tell left old parts → WritesAll making.IsMade parts (written before) (written after))
+  -- a refusal before writing leaves the writer as it was
+  pub unwritten : IsBeforeWriting ended → after ≡ before
+  pub too_long : ended ≡ Some tool.DumpTooLong → (parts : List (List ℕ)) → Tell left old parts → making.IsTooLong parts
+  -- the writer failed or stuck, and a front was written
+  pub write : (fault : WriteFault) → ended ≡ Some (tool.Write fault) → (well after ≡ health_after fault)
+      × ((parts : List (List ℕ)) → Tell left old parts → WritesFront making.IsMade parts (written before) (written after))
+  -- memory was wanted before anything was read or written, or when all was read, and a front was written
+  pub memory : ended ≡ Some tool.OutOfMemory → (making.TakesRoom × (new ≡ old) × (after ≡ before))
+      ⊎ (making.TakesMemory × AreReadOut left health pulls limits old new (length old) × (well after ≡ healths.Well)
+      × ((parts : List (List ℕ)) → Tell left old parts → WritesFront making.IsMade parts (written before) (written after)))
+  -- no other answer where the parts state something together, readers and writer stay well, and nothing hindered it
+  pub no_other : (parts : List (List ℕ)) (ids : IdSize) (millis : ℕ) (facts : List FactValue) → Tell left old parts
+      → IsState parts ids millis facts → All (λ reader. health reader ≡ healths.Well) new → well after ≡ healths.Well
+      → (IsHindered ended → ⊥) → IsOkOrConflict ended
+
+-- ---- products
+
+-- how the writing of a product of one heap ends
+--   IsText: this is its text;  TooLong: it is refused before the first byte;  TakesMemory: writing it takes memory
+abbrev pub EndsWriting : {W : Type 0} → (W → Option (List ℕ)) → (W → Health) → (IsText : List ℕ → Type 0) → (TooLong TakesMemory : Type 0)
+    → (before after : W) → Result (Unit {0}) Stop → Type 0
+EndsWriting written well IsText TooLong TakesMemory before after (Ok done) =
+    (well after ≡ healths.Well) × ((text : List ℕ) × IsText text × Appends (written before) (written after) text)
+EndsWriting written well IsText TooLong TakesMemory before after (Err (stops.Write fault)) =
+    (well after ≡ health_after fault) × ((text : List ℕ) × (count : ℕ) × IsText text × Appends (written before) (written after) (take count text))
+EndsWriting written well IsText TooLong TakesMemory before after (Err stops.OutOfMemory) = TakesMemory
+    × (well after ≡ healths.Well) × ((text : List ℕ) × (count : ℕ) × IsText text × Appends (written before) (written after) (take count text))
+EndsWriting written well IsText TooLong TakesMemory before after (Err stops.TooLong) = TooLong × (after ≡ before)
+
+-- the parts agree, and this is made of their summaries and of the heap that they state
+pub record IsMadeOf (IsText : List PartSummary → HeapValue → List ℕ → Type 0) (parts : List (List ℕ)) (text : List ℕ) : Type 0 where
+  pub heap : HeapValue
+  pub agree : Agree parts heap.ids heap.millis heap.facts
+  pub summaries : List PartSummary
+  pub of_parts : AreSummaries parts summaries
+  pub is : IsText summaries heap text
+
+-- the parts agree, and what is made of the heap that they state is refused
+pub record IsTooLongOf (TooLong : HeapValue → Type 0) (parts : List (List ℕ)) : Type 0 where
+  pub heap : HeapValue
+  pub agree : Agree parts heap.ids heap.millis heap.facts
+  pub is : TooLong heap
+
+-- what is made of parts, by what a product says of one heap
+abbrev pub making_of : (IsText : List PartSummary → HeapValue → List ℕ → Type 0) (TooLong : HeapValue → Type 0)
+    (TakesRoom TakesMemory : Type 0) → Making
+making_of IsText TooLong TakesRoom TakesMemory = record {
+  IsMade = IsMadeOf IsText;
+  IsTooLong = IsTooLongOf TooLong;
+  TakesRoom = TakesRoom;
+  TakesMemory = TakesMemory;
+}
+
+-- the fault that a product's stop is
+abbrev pub fault_of_stop : Stop → ToolFault
+fault_of_stop (stops.Write fault) = tool.Write fault
+fault_of_stop stops.OutOfMemory = tool.OutOfMemory
+fault_of_stop stops.TooLong = tool.DumpTooLong
+
+-- the canonical dump of a heap
+abbrev pub IsDumpText : List PartSummary → HeapValue → List ℕ → Type 0
+IsDumpText summaries heap text = text ≡ canonical_dump heap.ids heap.millis heap.facts
+
+-- the parts agree, and these bytes are the canonical dump of the heap that they state
+abbrev pub IsDump : List (List ℕ) → List ℕ → Type 0
+IsDump = IsMadeOf IsDumpText
+
+-- the canonical dump, which is never too long, and takes no memory beside that for reading
+abbrev pub dump_making : Making
+dump_making = making_of IsDumpText (λ heap. ⊥) ⊥ ⊥
