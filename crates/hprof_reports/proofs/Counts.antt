@@ -1,14 +1,6 @@
--- How many have a property is one number, and can be counted from the front.
+-- How many have a property can be counted from the front.
 use Rattle.std.proofs.Common.{◌≡◌, ℕ, ◌+◌, ◌≤◌, length, List, [], ◌∷◌, refl, sym, ap, subst, ◌∙◌, inl, inr, arith}
 use Rattle.hprof_reports.specs.Counts.{IsCountOf}
-
--- there is one number of those that have the property
-pub one_count : {A : Type 0} (P : A → Type 0) (xs : List A) (one other : ℕ) → IsCountOf P xs one → IsCountOf P xs other → one ≡ other
-one_count P [] one other e f = e ∙ sym f
-one_count P (x ∷ xs) one other (inl e) (inl f) = e.2 ∙ ap (λ (n : ℕ). n + 1) (one_count P xs e.1 f.1 e.3 f.3) ∙ sym f.2
-one_count P (x ∷ xs) one other (inl e) (inr f) = absurd (f.0 e.0)
-one_count P (x ∷ xs) one other (inr e) (inl f) = absurd (e.0 f.0)
-one_count P (x ∷ xs) one other (inr e) (inr f) = one_count P xs one other e.1 f.1
 
 -- so many of all have the property, if that many of the rest have it
 abbrev pub IsCountedTo : {A : Type 0} → (A → Type 0) → List A → ℕ → List A → Type 0

@@ -1,4 +1,3 @@
 pub mod Counts
 pub mod Slices
 pub mod Lines
-pub mod OneReport

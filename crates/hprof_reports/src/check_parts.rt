@@ -19,7 +19,7 @@ pub struct Check;
 
 impl Product for Check {
     ghost use Rattle.hprof_reports.specs.Checking.{IsCheckText};
-    ghost use Rattle.hprof_reports.proofs.OneReport.{one_text};
+    ghost use Rattle.hprof_reports.specs.OneCheck.{one_check};
 
     ghost is_text = { λ check. IsCheckText };
 
@@ -49,7 +49,7 @@ impl Product for Check {
         }
     }
 
-    ghost one_text = { λ check summaries heap. one_text summaries heap.facts };
+    ghost one_text = { λ check summaries heap. one_check summaries heap.facts };
 }
 
 /// Reads all parts, and writes the report `check`: a line for each part in order, which says what was read of it, a line
