@@ -1,5 +1,5 @@
 -- What is made of files.
-use Rattle.std.proofs.Common.{◌≡◌, ℕ, List, length, Option, Result, Ok, Err, sym, subst}
+use Rattle.std.proofs.Common.{◌≡◌, ℕ, List, [], ◌∷◌, length, Option, Some, Result, Ok, Err, sym, ap, subst, ◌∙◌}
 use Rattle.std.specs.Prelude.{IfOk, IfErr, IsErrAnd}
 use Rattle.hprof_devices.specs.declared.device.Device.{Device}
 use Rattle.hprof_devices.specs.Device.{inner_of}
@@ -8,9 +8,9 @@ use Rattle.hprof_tool.specs.declared.program.refused.Refused.TheVariants as refu
 use Rattle.hprof_engine.specs.declared.tool_fault.ToolFault.{ToolFault}
 use Rattle.hprof_engine.specs.declared.tool_fault.ToolFault.TheVariants as tool
 use Rattle.hprof_engine.specs.Joining.{Tell}
-use Rattle.hprof_engine.specs.Makes.{Making, WritesAll}
-use Rattle.hprof_tool.specs.Program.{OfParts, IsRefusal, IsFilesRefusal, IsMadeOfFiles, IsMadeInFile}
-use Rattle.hprof_tool.specs.Program.{IsReportRefusal, IsOfMaking, IsOfOpening}
+use Rattle.hprof_engine.specs.Makes.{Making}
+use Rattle.hprof_tool.specs.Program.{OfParts, IsRefusal, IsFilesRefusal}
+use Rattle.hprof_tool.specs.Program.{IsReportRefusal, IsOfOpening, refused_of}
 
 -- opening answers no refusal of the engine
 pub not_of_engine : (count : ℕ) (refused : Refused) (fault : ToolFault) → IsOfOpening count refused → refused ≡ refusals.Engine fault → ⊥
@@ -27,57 +27,37 @@ module _ {F : Type 0} (making : Making) (remaining : F → Option (List ℕ)) (c
   of_opening refusals.Create is = tt
   of_opening refusals.OutOfMemory is = tt
 
-  -- a refusal of the engine is one of these refusals, but for want of memory of its own
-  of_engine : (fault : ToolFault) → IsOfMaking (refusals.Engine fault) → OfParts remaining count (IsRefusal making (refusals.Engine fault))
-      → IsFilesRefusal making remaining count (refusals.Engine fault)
-  of_engine (tool.Part index fault) kind says = says
-  of_engine tool.NoParts kind says = says
-  of_engine tool.IdSizes kind says = says
-  of_engine (tool.Conflict key) kind says = says
-  of_engine (tool.Write fault) kind says = says
-  of_engine tool.DumpTooLong kind says = says
-  of_engine tool.OutOfMemory kind says = kind
+  -- a refusal to make something of the files that were opened is one of these refusals
+  module _ (parts : List (Device F)) (opened : length parts ≡ count) where
+    abbrev Says : ToolFault → Type 0
+    Says fault = (told : List (List ℕ)) → Tell (λ part. remaining (inner_of part)) parts told → IsRefusal making (refused_of fault) told
 
-  -- a refusal to join the files that were opened is one of these refusals
-  pub of_joining : {A : Type 0} (parts : List (Device F)) → length parts ≡ count → (outcome : Result A Refused) → IfErr outcome IsOfMaking
-      → IfErr outcome (λ refused. (told : List (List ℕ)) → Tell (λ part. remaining (inner_of part)) parts told → IsRefusal making refused told)
-      → IfErr outcome (IsFilesRefusal making remaining count)
-  of_joining parts opened (Ok x) kind says = tt
-  of_joining parts opened (Err (refusals.Engine fault)) kind says =
-      of_engine fault kind (record { parts = parts; opened = opened; holds = says })
-  of_joining parts opened (Err (refusals.Open index)) kind says = absurd kind
-  of_joining parts opened (Err refusals.Create) kind says = absurd kind
-  of_joining parts opened (Err refusals.OutOfMemory) kind says = tt
+    pub of_making : (fault : ToolFault) → Says fault → IsFilesRefusal making remaining count (refused_of fault)
+    of_making (tool.Part index fault) says = record { parts = parts; opened = opened; holds = says }
+    of_making tool.NoParts says = record { parts = parts; opened = opened; holds = says }
+    of_making tool.IdSizes says = record { parts = parts; opened = opened; holds = says }
+    of_making (tool.Conflict key) says = record { parts = parts; opened = opened; holds = says }
+    of_making tool.DumpTooLong says = record { parts = parts; opened = opened; holds = says }
+    of_making (tool.Write fault) says = record { parts = parts; opened = opened; holds = says }
+    of_making tool.OutOfMemory says = tt
 
-  -- and a refusal to report on them
-  pub of_reporting : {A : Type 0} (parts : List (Device F)) → length parts ≡ count → (outcome : Result A Refused) → IfErr outcome IsOfMaking
-      → IfErr outcome (λ refused. (told : List (List ℕ)) → Tell (λ part. remaining (inner_of part)) parts told → IsRefusal making refused told)
-      → IfErr outcome (IsReportRefusal making remaining count)
-  of_reporting parts opened (Ok x) kind says = tt
-  of_reporting parts opened (Err (refusals.Engine fault)) kind says =
-      of_engine fault kind (record { parts = parts; opened = opened; holds = says })
-  of_reporting parts opened (Err (refusals.Open index)) kind says = absurd kind
-  of_reporting parts opened (Err refusals.Create) kind says = absurd kind
-  of_reporting parts opened (Err refusals.OutOfMemory) kind says = tt
+    -- and to report on them
+    pub of_reporting : (fault : ToolFault) → Says fault → IsReportRefusal making remaining count (refused_of fault)
+    of_reporting (tool.Part index fault) says = record { parts = parts; opened = opened; holds = says }
+    of_reporting tool.NoParts says = record { parts = parts; opened = opened; holds = says }
+    of_reporting tool.IdSizes says = record { parts = parts; opened = opened; holds = says }
+    of_reporting (tool.Conflict key) says = record { parts = parts; opened = opened; holds = says }
+    of_reporting tool.DumpTooLong says = record { parts = parts; opened = opened; holds = says }
+    of_reporting (tool.Write fault) says = record { parts = parts; opened = opened; holds = says }
+    of_reporting tool.OutOfMemory says = tt
 
--- what is made of files
-
-module _ {F O : Type 0} (IsMade : List (List ℕ) → List ℕ → Type 0) (remaining : F → Option (List ℕ)) (contents : O → Option (List ℕ))
-    (count : ℕ) where
-  -- what was made of the files that were opened was written
-  pub made_of_files : (parts : List (Device F)) → length parts ≡ count → (old : O) (outcome : Result O Refused)
-      → IfOk outcome (λ new. (told : List (List ℕ)) → Tell (λ part. remaining (inner_of part)) parts told
-      → WritesAll IsMade told (contents old) (contents new))
-      → IfOk outcome (IsMadeOfFiles IsMade remaining contents count old)
-  made_of_files parts opened old (Ok new) made = record { parts = parts; opened = opened; holds = made }
-  made_of_files parts opened old (Err refused) made = tt
-
--- and into one of them, which was created
-pub made_in_file : {F : Type 0} (IsMade : List (List ℕ) → List ℕ → Type 0) (remaining contents : F → Option (List ℕ)) (count : ℕ)
-    (old : F) (outcome : Result F Refused) → IfOk outcome (IsMadeOfFiles IsMade remaining contents count old)
-    → IfOk outcome (IsMadeInFile IsMade remaining contents count)
-made_in_file IsMade remaining contents count old (Ok new) made = (old, made)
-made_in_file IsMade remaining contents count old (Err refused) made = tt
+-- a stream that is the only part tells it
+pub one_told : {F : Type 0} (remaining : F → Option (List ℕ)) (parts : List (Device F)) (device : Device F) (input : F) (part : List ℕ)
+    → parts ≡ device ∷ [] → inner_of device ≡ input → remaining input ≡ Some part
+    → Tell (λ it. remaining (inner_of it)) parts (part ∷ [])
+one_told {F} remaining parts device input part one of told =
+    subst (λ (ps : List (Device F)). Tell (λ it. remaining (inner_of it)) ps (part ∷ [])) (sym one)
+    (ap (λ (l : Option (List ℕ)). l ∷ []) (ap remaining of ∙ told))
 
 -- what holds of the only error holds of each
 pub if_the_error : {A : Type 0} (P : Refused → Type 0) (outcome : Result A Refused) (refused : Refused) → P refused

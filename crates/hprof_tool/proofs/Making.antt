@@ -94,6 +94,16 @@ module _ {R : Type 0} (left : R → Option (List ℕ)) (health : R → Health) (
     refusal tool.DumpTooLong m parts told = m.too_long refl parts told
     refusal tool.OutOfMemory m parts told = tt
 
+  -- the same of what a stream tells
+  pub refused_by : (IsText : List PartSummary → HeapValue → List ℕ → Type 0) (TooLong : HeapValue → Type 0) (TakesRoom TakesMemory : Type 0)
+      (held holds : Option (List ℕ)) (end : Health) (fault : ToolFault)
+      → Makes {W = Option (List ℕ) × Health} left health pulls (λ s. s.0) (λ s. s.1) usual_limits
+      (with_buffer (making_of IsText TooLong TakesRoom TakesMemory)) old new (held, healths.Well) (holds, end) (Some fault)
+      → (parts : List (List ℕ)) → Tell left old parts → IsRefusal (making_of IsText TooLong TakesRoom TakesMemory) (refused_of fault) parts
+  refused_by IsText TooLong TakesRoom TakesMemory held holds end fault m parts told =
+      refusal {W = Option (List ℕ) × Health} (λ s. s.0) (λ s. s.1) IsText TooLong TakesRoom TakesMemory (held, healths.Well) (holds, end)
+      fault m parts told
+
   -- ---- a device that is taken apart
 
   module _ {W : Type 0} (written : W → Option (List ℕ)) (well : W → Health) (making : Making) (before after : W) where
@@ -184,6 +194,24 @@ module _ {R : Type 0} (left : R → Option (List ℕ)) (health : R → Health) (
           (subst (λ (h : Option (List ℕ)). Makes {W = Option (List ℕ) × Health} left health pulls (λ s. s.0) (λ s. s.1) usual_limits making
           old new (held, was) (h, is) (Some fault)) (sym same) m),
     )
+
+    -- the same of the stream that was there at first, and is at last
+    pub streamed : (first last : Option (List ℕ)) (made outcome : Result (Unit {0}) ToolFault) → held ≡ first → was ≡ healths.Well
+        → end ≡ last
+        → Makes {W = Option (List ℕ) × Health} left health pulls (λ s. s.0) (λ s. s.1) usual_limits making old new (held, was)
+        (holds, is) (fault_of made)
+        → OnOk made (OnErr outcome (outcome ≡ Err (tool.Write write_faults.Failed))) → IfErr made (λ fault. outcome ≡ Err fault)
+        → Keeps holds end → OnErr made (end ≡ holds) → MakesStream left health pulls making old new first last (fault_of outcome)
+    streamed first last made outcome at_first well at_last m failed refused keeps same =
+        let it = flushed made outcome m failed refused keeps same in (
+          it.0,
+          subst (λ (h : Option (List ℕ)). Makes {W = Option (List ℕ) × Health} left health pulls (λ s. s.0) (λ s. s.1) usual_limits making
+              old new (h, healths.Well) (last, it.0) (fault_of outcome)) at_first
+              (subst (λ (w : Health). Makes {W = Option (List ℕ) × Health} left health pulls (λ s. s.0) (λ s. s.1) usual_limits making
+              old new (held, w) (last, it.0) (fault_of outcome)) well
+              (subst (λ (h : Option (List ℕ)). Makes {W = Option (List ℕ) × Health} left health pulls (λ s. s.0) (λ s. s.1) usual_limits
+              making old new (held, was) (h, it.0) (fault_of outcome)) at_last it.1)),
+        )
 
   -- ---- room for the buffer
 

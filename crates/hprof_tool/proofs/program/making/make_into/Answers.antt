@@ -1,3 +1,29 @@
-use Rattle.std.proofs.Common.{◌≡◌, length, subst, rules}
-use Rattle.hprof_tool.proofs.Making.{shown, flushed, unchanged}
+use Rattle.std.proofs.Common.{◌≡◌, Option, List, ℕ, ap, sym, subst, ◌∙◌}
+use Rattle.std.specs.Prelude.{OnErr}
+use Rattle.std.specs.Io.KnownBytes.{append_known}
+use Rattle.std.specs.Io.Buffered.{writer_contents, writer_inner, writer_buffer}
+use Rattle.hprof_devices.specs.Device.{inner_of, health_of}
+use Rattle.hprof_engine.specs.Joining.{fault_of}
+use Rattle.hprof_engine.specs.Makes.{making_of}
+use Rattle.hprof_tool.proofs.Making.{shown, streamed, unchanged}
 use Rattle.hprof_tool.proofs.program.making.make_into.Goals as goal
+
+pub returns-clause-makes : goal.returns-clause-makes
+returns-clause-makes g c =
+    let contents = writer_contents g.W.Write.contents in
+    let making = making_of (g.P.Product.is_text c.args.product.now) (g.P.Product.is_too_long c.args.product.now)
+    g.P.Kept.Summaries.takes_room (g.P.Product.takes_memory c.args.product.now) in
+    let before = c.new-target.result in
+    let after = c.make-made.new.target in
+    let end = c.end_of_writing-outcome in
+    let made = c.make-made.result in
+    let m = shown g.R.Source.left g.R.Source.health g.R.Source.pulls c.args.readers.now c.make-made.new.readers
+    (λ device. contents (inner_of device)) health_of making before after (fault_of made) c.make-made.ensures in
+    let kept = rw c.into_inner-buffered.ensures at end.ensures.bytes in
+    let same = rw c.into_inner-buffered.ensures at (unchanged contents made end.new.buffered c.into_inner-buffered.result
+    end.ensures.unchanged) in
+    streamed g.R.Source.left g.R.Source.health g.R.Source.pulls c.args.readers.now c.make-made.new.readers making
+    (contents (inner_of before)) (contents (inner_of after)) (contents end.new.buffered) (health_of before) (health_of after)
+    (contents c.args.buffered) (append_known (g.W.Write.contents c.into_parts-writer.result.0) c.into_parts-writer.result.1.items)
+    made end.result (ap contents c.new-target.ensures.inner) c.new-target.ensures.health
+    (rw (c.into_parts-writer.ensures.inner, c.into_parts-writer.ensures.buffer)) m end.ensures.failed end.ensures.refused kept same

@@ -1,0 +1,16 @@
+use Rattle.std.proofs.Common.{Some, subst}
+use Rattle.std.specs.Io.Buffered.{writer_contents}
+use Rattle.hprof_devices.specs.Device.{inner_of, health_of}
+use Rattle.hprof_stream.specs.declared.limits.Limits.{Limits}
+use Rattle.hprof_engine.specs.Makes.{Makes, making_of}
+use Rattle.hprof_tool.proofs.Making.{are_usual}
+use Rattle.hprof_tool.proofs.program.making.make.Goals as goal
+
+pub returns-in-Err : goal.returns-in-Err
+returns-in-Err g c =
+    let usual = c.usual.ensures in
+    subst (λ (limits : Limits). Makes g.R.Source.left g.R.Source.health g.R.Source.pulls
+    (λ device. writer_contents g.W.Write.contents (inner_of device)) health_of limits
+    (making_of (g.P.Product.is_text c.args.product.now) (g.P.Product.is_too_long c.args.product.now) g.P.Kept.Summaries.takes_room
+    (g.P.Product.takes_memory c.args.product.now)) c.args.readers.now c.make_to.new.readers c.args.target.now c.make_to.new.target
+    (Some c.in-Err.fault)) (are_usual c.usual.result usual.item usual.reads usual.bytes) c.in-Err.ensures.makes
