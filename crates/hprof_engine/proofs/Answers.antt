@@ -3,13 +3,10 @@ use Rattle.std.proofs.Common.{◌≡◌, inl, inr, ℕ, suc, ◌≤◌, true, Li
 use Rattle.std.proofs.Common.{sym, ap, subst, ◌∙◌}
 use Rattle.std.specs.Prelude.{slice_get, ◌↔◌, None}
 use Rattle.std.specs.List.{All, AllByRecursion}
-use Rattle.std.specs.Io.KnownBytes.{Appends}
 use Rattle.std.proofs.Math.Seq.{take-length}
-use Rattle.std.proofs.lemmas.Result.{err_from_is_err_and}
 use Rattle.std.proofs.lemmas.Option.{get_or_from_slice_get, slice_get_within}
 use Rattle.hprof_devices.specs.declared.health.Health.{Health}
 use Rattle.hprof_devices.specs.declared.health.Health.TheVariants as healths
-use Rattle.hprof_devices.specs.declared.health.WriteFault.{WriteFault}
 use Rattle.hprof_values.specs.declared.ids.IdSize.{IdSize}
 use Rattle.hprof_values.specs.declared.ids.IdSize.TheVariants.{Four}
 use Rattle.hprof_values.specs.declared.reason.Reason.{Reason}
@@ -26,7 +23,6 @@ use Rattle.hprof_stream.proofs.Faults.{first_fault_once, no_fault_no_first}
 use Rattle.hprof_rows.specs.declared.key.Key.{Key}
 use Rattle.hprof_heap.specs.declared.standing.Refusal.{Refusal}
 use Rattle.hprof_heap.specs.declared.standing.Refusal.TheVariants as refusals
-use Rattle.hprof_dump.specs.Dump.{canonical_dump}
 use Rattle.hprof_heap.specs.Gathering.{Gathered, Given, nothing_gathered, all_given, Gathers, Tells}
 use Rattle.hprof_rows.specs.HeapValue.{HeapValue}
 use Rattle.hprof_heap.specs.State.{PartState, StatesIt, IsLeastOf, IsState, HaveTwoSizes}
@@ -35,7 +31,7 @@ use Rattle.hprof_rows.proofs.Order.{order_agrees}
 use Rattle.hprof_engine.specs.declared.tool_fault.ToolFault.{ToolFault}
 use Rattle.hprof_engine.specs.declared.tool_fault.ToolFault.TheVariants as tool
 use Rattle.hprof_engine.specs.Summaries.{AreSummaries, AreSummarised, HoldsFirst}
-use Rattle.hprof_engine.specs.Joining.{Tell, Agree, Disagree, fault_of, IsPartFault, IsOfPart, IsAccepted, RefusesPart, AreGiven}
+use Rattle.hprof_engine.specs.Joining.{Tell, Agree, Disagree, IsPartFault, IsOfPart, IsAccepted, RefusesPart, AreGiven}
 use Rattle.hprof_engine.specs.Joining.{RefusesReader, AreReadOut, GathersFirst, read_count, ReadsAll, is_want, IsHindered, IsOkOrConflict, IsOfReading}
 use Rattle.hprof_engine.specs.Makes.{Reads}
 use Rattle.hprof_engine.proofs.PartFaults.{of_part}

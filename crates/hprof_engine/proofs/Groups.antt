@@ -1,10 +1,9 @@
 -- The dumps of groups of parts, joined.
-use Rattle.std.proofs.Common.{◌≡◌, ◌≤◌, ℕ, List, [], ◌∷◌, refl, sym, subst, ◌∙◌, inl, inr, arith}
+use Rattle.std.proofs.Common.{ℕ, List, [], ◌∷◌, refl, sym, subst, ◌∙◌, inl, inr, arith}
 use Rattle.std.specs.List.{Contains}
 use Rattle.hprof_values.specs.declared.ids.IdSize.{IdSize}
 use Rattle.hprof_items.specs.FactValue.{FactValue}
 use Rattle.hprof_stream.specs.Part.{IsPart}
-use Rattle.hprof_dump.specs.Dump.{canonical_dump}
 use Rattle.hprof_dump.proofs.Dump.{dump_is_part}
 use Rattle.hprof_rows.specs.declared.key.Key.{Key}
 use Rattle.hprof_rows.specs.Facts.{Has}
@@ -12,9 +11,9 @@ use Rattle.hprof_stream.proofs.Parts.{states_one}
 use Rattle.hprof_engine.specs.Joining.{Agree, Disagree}
 use Rattle.hprof_engine.specs.Makes.{IsDump}
 use Rattle.hprof_engine.specs.Dividing.{AreDivided, AreDumps}
-use Rattle.hprof_engine.specs.Outcome.{Outcome, ComesTo, IsSomePart}
+use Rattle.hprof_engine.specs.Outcome.{Outcome, ComesTo}
 use Rattle.hprof_engine.proofs.Together.{agree_heap, some_disagree}
-use Rattle.hprof_engine.proofs.Outcomes.{SayTwoSizes, SaysOn, comes_on}
+use Rattle.hprof_engine.proofs.Outcomes.{SaysOn, comes_on}
 use Rattle.hprof_engine.proofs.PartByPart.{Says, OneOf, SayTogether, says_once, say_together, contains_first, contains_later, contains_cases}
 use Rattle.hprof_engine.proofs.PartByPart.{contains_none}
 

@@ -1,5 +1,5 @@
 -- Making something of parts.
-use Rattle.std.proofs.Common.{◌≡◌, inl, inr, ℕ, List, [], length, Option, Some, None, Result, Ok, Err, refl, sym, subst, arith}
+use Rattle.std.proofs.Common.{◌≡◌, inr, ℕ, List, Option, Some, None, Result, Ok, Err, refl, subst, arith}
 use Rattle.std.specs.Prelude.{All}
 use Rattle.hprof_devices.specs.declared.health.Health.{Health}
 use Rattle.hprof_devices.specs.declared.health.Health.TheVariants as healths
@@ -13,11 +13,10 @@ use Rattle.hprof_stream.specs.declared.summary.PartSummary.{PartSummary}
 use Rattle.hprof_rows.specs.HeapValue.{HeapValue}
 use Rattle.hprof_heap.specs.State.{IsState}
 use Rattle.hprof_engine.specs.declared.tool_fault.ToolFault.{ToolFault}
-use Rattle.hprof_engine.specs.declared.tool_fault.ToolFault.TheVariants as tool
 use Rattle.hprof_engine.specs.declared.product.Stop.{Stop}
 use Rattle.hprof_engine.specs.declared.product.Stop.TheVariants as stops
 use Rattle.hprof_engine.specs.Summaries.{AreSummaries}
-use Rattle.hprof_engine.specs.Joining.{Tell, Agree, AreReadOut, IsOfReading, IsHindered, IsOkOrConflict}
+use Rattle.hprof_engine.specs.Joining.{Tell, Agree, IsOfReading, IsHindered, IsOkOrConflict}
 use Rattle.hprof_engine.specs.Makes.{Reads, Making, Makes, EndsWriting, IsMadeOf, making_of, fault_of_stop}
 
 -- ---- reading was refused

@@ -1,5 +1,5 @@
 -- What lists of parts come to: one thing, and the same of the same parts.
-use Rattle.std.proofs.Common.{◌≡◌, ◌≤◌, ℕ, List, [], ◌∷◌, map, Option, Some, None, refl, sym, ap, subst, ◌∙◌, ◌⊎◌, inl, inr, arith}
+use Rattle.std.proofs.Common.{◌≡◌, ℕ, List, [], ◌∷◌, map, Option, Some, None, refl, sym, ap, subst, ◌⊎◌, inl, inr}
 use Rattle.std.specs.List.{AllByRecursion, Contains, flat_map}
 use Rattle.hprof_values.specs.declared.ids.IdSize.{IdSize}
 use Rattle.hprof_values.specs.declared.ids.IdSize.TheVariants.{Four, Eight}
@@ -9,14 +9,13 @@ use Rattle.hprof_stream.specs.Part.{IsPart}
 use Rattle.hprof_rows.specs.declared.key.Key.{Key}
 use Rattle.hprof_rows.specs.Facts.{Has, SameFacts}
 use Rattle.hprof_rows.specs.HeapValue.{HeapValue, IsHeap}
-use Rattle.hprof_rows.specs.Conflict.{IsLeastConflict}
-use Rattle.hprof_heap.specs.State.{PartState, StatesIt, IsLeastOf, IsState, HaveTwoSizes}
-use Rattle.hprof_rows.proofs.FactSets.{Has-parts, SameFacts-refl, SameFacts-trans}
+use Rattle.hprof_heap.specs.State.{PartState, StatesIt, IsState, HaveTwoSizes}
+use Rattle.hprof_rows.proofs.FactSets.{Has-parts, SameFacts-refl}
 use Rattle.hprof_rows.proofs.Conflicts.{IsConsistent-same, IsLeastConflict-same, one_least, no_conflict}
 use Rattle.hprof_rows.proofs.Order.{one_order, order_agrees}
 use Rattle.hprof_heap.proofs.Marks.{Holds}
 use Rattle.hprof_heap.proofs.Told.{holds_all, holds_least}
-use Rattle.hprof_heap.proofs.Joins.{Leaves, state_all}
+use Rattle.hprof_heap.proofs.Joins.{state_all}
 use Rattle.hprof_stream.proofs.Parts.{states_one}
 use Rattle.hprof_engine.specs.Joining.{Agree, Disagree}
 use Rattle.hprof_engine.specs.Outcome.{Outcome, OneHeap, Conflict, TwoSizes, ComesTo, IsSomePart}
@@ -25,7 +24,7 @@ use Rattle.hprof_engine.proofs.Answers.{not_two_sizes}
 use Rattle.hprof_engine.proofs.Dumps.{state_of_set}
 use Rattle.hprof_engine.proofs.Stated.{least_of}
 use Rattle.hprof_engine.proofs.Together.{together_once, part_fits, part_millis}
-use Rattle.hprof_engine.proofs.PartByPart.{Says, OneOf, SayTogether, says_once, say_together, said_together, each_listed}
+use Rattle.hprof_engine.proofs.PartByPart.{Says, OneOf, SayTogether, say_together, said_together, each_listed}
 use Rattle.hprof_engine.proofs.PartByPart.{contains_first, contains_later, contains_image, image_of, holds_of, holds_of_all}
 
 -- ---- two sizes, part by part

@@ -1,5 +1,5 @@
 -- What some of the parts say among all, and what parts that agree state: a heap.
-use Rattle.std.proofs.Common.{◌≡◌, ◌≤◌, ℕ, min, List, [], ◌∷◌, ◌++◌, refl, sym, subst, ◌∙◌, ◌↔◌, inl, inr, arith}
+use Rattle.std.proofs.Common.{◌≡◌, ◌≤◌, ℕ, List, [], ◌∷◌, refl, sym, subst, ◌∙◌, inl, inr, arith}
 use Rattle.std.specs.List.{AllByRecursion, Contains}
 use Rattle.hprof_values.specs.declared.ids.IdSize.{IdSize}
 use Rattle.hprof_items.specs.FactValue.{FactValue}
@@ -10,11 +10,10 @@ use Rattle.hprof_stream.specs.Record.{IsRecord, IsSubFact, states, ends, dumps, 
 use Rattle.hprof_rows.specs.declared.key.Key.{Key}
 use Rattle.hprof_rows.specs.Facts.{Has, SameFacts}
 use Rattle.hprof_rows.specs.HeapValue.{IsHeap}
-use Rattle.hprof_heap.specs.State.{IsState}
 use Rattle.hprof_rows.proofs.Conflicts.{HasConflict-more, no_conflict}
-use Rattle.hprof_rows.proofs.FactSets.{Has-parts, Has-front, Has-back, All-has, SameFacts-refl}
+use Rattle.hprof_rows.proofs.FactSets.{Has-parts, All-has}
 use Rattle.hprof_engine.specs.Joining.{Agree, Disagree}
-use Rattle.hprof_engine.proofs.PartByPart.{Says, OneOf, SayTogether, says_once, say_together, said_together}
+use Rattle.hprof_engine.proofs.PartByPart.{OneOf, SayTogether, says_once, say_together}
 
 -- ---- some of the parts
 

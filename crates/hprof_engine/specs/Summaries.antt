@@ -1,5 +1,5 @@
 -- The summaries of parts.
-use Rattle.std.specs.Prelude.{◌≡◌, ℕ, List, [], ◌∷◌, take, map, Option, Some, None, ⊤}
+use Rattle.std.specs.Prelude.{ℕ, List, [], ◌∷◌, take, map, Option, Some, None, ⊤}
 use Rattle.hprof_stream.specs.declared.summary.PartSummary.{PartSummary}
 use Rattle.hprof_stream.specs.Part.{IsSummary}
 

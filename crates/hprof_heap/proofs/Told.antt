@@ -18,7 +18,7 @@ use Rattle.hprof_heap.specs.State.{IsLeastOf}
 use Rattle.hprof_rows.specs.HeapValue.{HeapValue, IsHeap}
 use Rattle.hprof_heap.specs.Gathering.{Gathered, Given, gathered, lent_heap, nothing_gathered}
 use Rattle.hprof_rows.specs.Stating.{HasOther, IsNewAmong}
-use Rattle.hprof_heap.specs.Gathering.{Begins, marked, LacksRow, HaveOneSize, IsNewBehind}
+use Rattle.hprof_heap.specs.Gathering.{Begins, LacksRow, HaveOneSize, IsNewBehind}
 use Rattle.hprof_heap.specs.Gathering.{Takes, Gathers, all_given, unconflicted, answer_of, Tells}
 use Rattle.hprof_heap.proofs.Least.{no_least}
 use Rattle.hprof_rows.proofs.Keys.{HaveOneKey-trans}

@@ -1,5 +1,5 @@
 -- How many have a property can be counted from the front.
-use Rattle.std.proofs.Common.{◌≡◌, ℕ, ◌+◌, ◌≤◌, length, List, [], ◌∷◌, refl, sym, ap, subst, ◌∙◌, inl, inr, arith}
+use Rattle.std.proofs.Common.{◌≡◌, ℕ, ◌+◌, ◌≤◌, length, List, [], ◌∷◌, refl, ap, subst, inl, inr, arith}
 use Rattle.hprof_reports.specs.Counts.{IsCountOf}
 
 -- so many of all have the property, if that many of the rest have it

@@ -1,6 +1,6 @@
 -- What is made of files.
 use Rattle.std.proofs.Common.{◌≡◌, ℕ, List, [], ◌∷◌, length, Option, Some, Result, Ok, Err, sym, ap, subst, ◌∙◌}
-use Rattle.std.specs.Prelude.{IfOk, IfErr, IsErrAnd}
+use Rattle.std.specs.Prelude.{IfErr, IsErrAnd}
 use Rattle.hprof_devices.specs.declared.device.Device.{Device}
 use Rattle.hprof_devices.specs.Device.{inner_of}
 use Rattle.hprof_tool.specs.declared.program.refused.Refused.{Refused}
@@ -9,7 +9,7 @@ use Rattle.hprof_engine.specs.declared.tool_fault.ToolFault.{ToolFault}
 use Rattle.hprof_engine.specs.declared.tool_fault.ToolFault.TheVariants as tool
 use Rattle.hprof_engine.specs.Joining.{Tell}
 use Rattle.hprof_engine.specs.Makes.{Making}
-use Rattle.hprof_tool.specs.Program.{OfParts, IsRefusal, IsFilesRefusal}
+use Rattle.hprof_tool.specs.Program.{IsRefusal, IsFilesRefusal}
 use Rattle.hprof_tool.specs.Program.{IsReportRefusal, IsOfOpening, refused_of}
 
 -- opening answers no refusal of the engine

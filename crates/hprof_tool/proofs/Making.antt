@@ -1,7 +1,7 @@
 -- What making something of parts tells.
-use Rattle.std.proofs.Common.{◌≡◌, inl, inr, ℕ, List, [], ◌∷◌, length, take, Option, Some, None, append-nil, Result, Ok, Err, refl, sym, ap}
+use Rattle.std.proofs.Common.{◌≡◌, inl, inr, ℕ, List, [], ◌∷◌, length, Option, Some, None, append-nil, Result, Ok, Err, refl, sym, ap}
 use Rattle.std.proofs.Common.{subst, ◌∙◌, arith}
-use Rattle.std.specs.Prelude.{IfErr, OnOk, OnErr, IsOk, ⊤}
+use Rattle.std.specs.Prelude.{IfErr, OnOk, OnErr}
 use Rattle.std.specs.Io.KnownBytes.{Appends, Keeps, append_known}
 use Rattle.std.proofs.KnownBytes.{Appends-kept}
 use Rattle.std.proofs.Math.Seq.{take-length}
@@ -20,7 +20,7 @@ use Rattle.hprof_heap.specs.Gathering.{Given}
 use Rattle.hprof_engine.specs.declared.tool_fault.ToolFault.{ToolFault}
 use Rattle.hprof_engine.specs.declared.tool_fault.ToolFault.TheVariants as tool
 use Rattle.hprof_engine.specs.Joining.{Tell, IsPartFault, RefusesPart, fault_of}
-use Rattle.hprof_engine.specs.Makes.{Reads, Making, Makes, IsMadeOf, IsTooLongOf, WritesFront, making_of}
+use Rattle.hprof_engine.specs.Makes.{Making, Makes, making_of}
 use Rattle.hprof_tool.specs.Program.{IsPartRefusal, IsFirstAnswer, IsRefusal, MakesStream, usual_limits, refused_of, with_buffer}
 
 -- no reader tells no part

@@ -1,7 +1,7 @@
 use Rattle.std.proofs.Common.{◌≤◌, arith}
 use Rattle.hprof_items.specs.Spelling.{longest_body}
 use Rattle.hprof_heap.specs.declared.standing.Refusal.TheVariants as refusals
-use Rattle.std.proofs.Common.{Ok, Err, ◌∙◌, ap}
+use Rattle.std.proofs.Common.{Ok, Err}
 use Rattle.hprof_engine.proofs.Answers.{agree, from_nothing, stopped, answered, told_of}
 use Rattle.hprof_engine.proofs.read.read_heap.Goals as goal
 

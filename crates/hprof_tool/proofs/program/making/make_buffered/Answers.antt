@@ -1,9 +1,8 @@
-use Rattle.std.proofs.Common.{Some, ap, sym, subst, ◌∙◌, ◌≡◌, List, ℕ, Option}
+use Rattle.std.proofs.Common.{Some}
 use Rattle.std.specs.Io.KnownBytes.{append_known}
 use Rattle.std.specs.Io.Buffered.{writer_contents}
 use Rattle.hprof_engine.specs.Makes.{making_of}
 use Rattle.hprof_tool.proofs.Making.{no_room, buffered, none_added}
-use Rattle.hprof_tool.specs.Program.{MakesStream, with_buffer}
 use Rattle.hprof_tool.proofs.program.making.make_buffered.Goals as goal
 
 pub returns-in_default : goal.returns-in_default

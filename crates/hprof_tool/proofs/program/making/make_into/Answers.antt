@@ -1,7 +1,6 @@
-use Rattle.std.proofs.Common.{◌≡◌, Option, List, ℕ, ap, sym, subst, ◌∙◌}
-use Rattle.std.specs.Prelude.{OnErr}
+use Rattle.std.proofs.Common.{ap}
 use Rattle.std.specs.Io.KnownBytes.{append_known}
-use Rattle.std.specs.Io.Buffered.{writer_contents, writer_inner, writer_buffer}
+use Rattle.std.specs.Io.Buffered.{writer_contents}
 use Rattle.hprof_devices.specs.Device.{inner_of, health_of}
 use Rattle.hprof_engine.specs.Joining.{fault_of}
 use Rattle.hprof_engine.specs.Makes.{making_of}
