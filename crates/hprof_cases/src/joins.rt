@@ -5,7 +5,8 @@ use crate::samples::{
     ARRAY_16, END, HEADER, NAME_1_A, NAME_2_B, OLD_HEADER, STICKY_16, WIDE_HEADER, bytes_of,
     expect_joined, joined, joined_and_kept, plain_dump, plain_part, record,
 };
-use hprof_engine::{Joined, ToolFault, laws};
+use hprof_engine::{Dump, Joined, ToolFault};
+use hprof_tool::laws;
 use std::test::Fail;
 
 #[test]
@@ -43,11 +44,14 @@ fn two_names_in_any_order_and_twice(rt: HostRuntime) -> Result<(), Fail> {
     expect_joined(&rt, rt.alloc(), &[&both], &expected, 2)?;
     expect_joined(&rt, rt.alloc(), &[&one, &both, &one], &expected, 2)?;
     laws::order_repetition_and_cutting_do_not_matter();
+    laws::parts_come_to_one_thing();
+    laws::what_comes_to_the_same_is_made_into_the_same(&Dump);
+    laws::one_text_is_made_of_parts(&Dump);
     laws::a_part_states_one_thing();
     laws::equal_dumps_equal_facts();
     // The dump reads back.
     let dump = bytes_of(rt.alloc(), &expected)?;
-    laws::the_dump_reads_back();
+    laws::dump_reads_back();
     expect_joined(&rt, rt.alloc(), &[&dump], &expected, 2)
 }
 

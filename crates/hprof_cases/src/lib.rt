@@ -28,6 +28,8 @@ mod pieces;
 #[cfg(test)]
 mod prefixes;
 #[cfg(test)]
+mod products;
+#[cfg(test)]
 mod program;
 #[cfg(test)]
 mod records;

@@ -5,8 +5,9 @@ use crate::samples::readers_of;
 use hprof_devices::Device;
 use hprof_engine::ToolFault;
 use hprof_heap::{Gatherer, Heap};
-use hprof_reports::{check_to, laws, write_check};
+use hprof_reports::{Check, check_to, write_check};
 use hprof_stream::{Limits, PartSummary, read_part};
+use hprof_tool::laws;
 use std::alloc::Global;
 use std::process::Abort;
 use std::test::Fail;
@@ -88,7 +89,7 @@ fn parts_and_bad_names(rt: HostRuntime) -> Result<(), Fail> {
 #[test]
 fn checks_one_part(rt: HostRuntime) -> Result<(), Fail> {
     checks(&rt, rt.alloc(), &[PLAIN], Ok(()), PLAIN_TEXT)?;
-    laws::one_check_of_parts();
+    laws::one_text_is_made_of_parts(&Check);
     Ok(())
 }
 
