@@ -14,7 +14,11 @@ mod passed_over;
 #[cfg(test)]
 mod pieces;
 #[cfg(test)]
+mod refusals;
+#[cfg(test)]
 mod samples;
+#[cfg(test)]
+mod sizes;
 #[cfg(test)]
 mod sources;
 #[cfg(test)]
