@@ -53,7 +53,12 @@ impl Product for Stopped {
 }
 
 // What the engine answers where the product stops so, and how many bytes were written.
-fn stopped(rt: &impl Abort, alloc: Global, stop: Stop, expected: ToolFault) -> Result<(), Fail> {
+fn check_stopped(
+    rt: &impl Abort,
+    alloc: Global,
+    stop: Stop,
+    expected: ToolFault,
+) -> Result<(), Fail> {
     let part = bytes_of(alloc, &[HEADER, NAME_1_A])?;
     let mut readers = readers_of(alloc, &[&part])?;
     let mut target = Device::new(Vec::new(alloc));
@@ -71,7 +76,7 @@ fn stopped(rt: &impl Abort, alloc: Global, stop: Stop, expected: ToolFault) -> R
 
 #[test]
 fn a_product_that_is_too_long(rt: HostRuntime) -> Result<(), Fail> {
-    stopped(&rt, rt.alloc(), Stop::TooLong, ToolFault::DumpTooLong)?;
+    check_stopped(&rt, rt.alloc(), Stop::TooLong, ToolFault::DumpTooLong)?;
     let text = ToolFault::DumpTooLong.text(rt.alloc())?;
     equal(&rt, text.as_str(), "dump too long");
     Ok(())
@@ -79,5 +84,5 @@ fn a_product_that_is_too_long(rt: HostRuntime) -> Result<(), Fail> {
 
 #[test]
 fn a_product_that_wants_memory(rt: HostRuntime) -> Result<(), Fail> {
-    stopped(&rt, rt.alloc(), Stop::OutOfMemory, ToolFault::OutOfMemory)
+    check_stopped(&rt, rt.alloc(), Stop::OutOfMemory, ToolFault::OutOfMemory)
 }
