@@ -1,0 +1,5 @@
+pub mod Chains
+pub mod Rings
+pub mod Walks
+pub mod Layouts
+pub mod MoreFacts
