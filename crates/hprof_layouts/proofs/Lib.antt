@@ -3,3 +3,5 @@ pub mod Rings
 pub mod Walks
 pub mod Layouts
 pub mod MoreFacts
+pub mod SlotValues
+pub mod FieldAnswers
