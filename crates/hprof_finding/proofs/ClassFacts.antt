@@ -6,7 +6,8 @@ use Rattle.hprof_lists.specs.declared.lists.statics.StaticList.{StaticList}
 use Rattle.hprof_lists.specs.declared.lists.fields.FieldList.{FieldList}
 use Rattle.hprof_items.specs.declared.fact.Fact.{Fact}
 use Rattle.hprof_items.specs.declared.fact.Fact.TheVariants as facts
-use Rattle.hprof_items.specs.FactValue.{FactValue, value_of, Name, Load, Unload, Frame, Trace, Start, End, Rooted, Class, Instance, ObjArray, PrimArray}
+use Rattle.hprof_items.specs.FactValue.{FactValue, value_of, Name, Load, Unload, Frame, Trace, Start, End, Rooted, Class, Instance}
+use Rattle.hprof_items.specs.FactValue.{ObjArray, PrimArray}
 use Rattle.hprof_rows.specs.declared.key.Key.TheVariants as keys
 use Rattle.hprof_rows.specs.Facts.{Has}
 use Rattle.hprof_rows.specs.Key.{has_key, key_of}
@@ -64,7 +65,9 @@ dump_key class dump e = true-is_key (keys.Class class) (Some (keys.Class dump.id
 
 -- a dump with its key is one of the class
 pub key_dump : (class : ℕ) (dump : ClassDump) → has_key (keys.Class class) (fact_of_dump dump) ≡ true → dump.id ≡ class
-key_dump class dump e = let same : Some (keys.Class dump.id) ≡ Some (keys.Class class) = is_key-true (keys.Class class) (Some (keys.Class dump.id)) e in cc
+key_dump class dump e =
+    let same : Some (keys.Class dump.id) ≡ Some (keys.Class class) = is_key-true (keys.Class class) (Some (keys.Class dump.id)) e in
+    cc
 
 pub none_found : (facts : List FactValue) (class : ℕ) → find (has_key (keys.Class class)) facts ≡ None → HasNoDump facts class
 none_found facts class e dump has is =

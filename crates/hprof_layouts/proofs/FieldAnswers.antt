@@ -5,7 +5,8 @@ use Rattle.std.proofs.Common.{inl, inr, arith}
 use Rattle.std.proofs.lemmas.Bool.{eqb-true, eq-eqb, cases_order, false_from_ne_true}
 use Rattle.hprof_values.specs.declared.ids.IdSize.{IdSize}
 use Rattle.hprof_values.specs.declared.basic.Basic.{Basic}
-use Rattle.hprof_items.specs.FactValue.{FactValue, Name, Load, Unload, Frame, Trace, Start, End, Rooted, Class, Instance, ObjArray, PrimArray}
+use Rattle.hprof_items.specs.FactValue.{FactValue, Name, Load, Unload, Frame, Trace, Start, End, Rooted, Class, Instance, ObjArray}
+use Rattle.hprof_items.specs.FactValue.{PrimArray}
 use Rattle.hprof_rows.specs.declared.key.Key.TheVariants as keys
 use Rattle.hprof_rows.specs.Conflict.{IsConsistent}
 use Rattle.hprof_rows.specs.Facts.{Has}
@@ -17,7 +18,8 @@ use Rattle.hprof_layouts.specs.declared.field_value.Fields.{Fields}
 use Rattle.hprof_layouts.specs.Layout.{LayoutValue, Known, IsLayout}
 use Rattle.hprof_layouts.specs.Layout.{Missing as MissingLayout, Cyclic as CyclicLayout}
 use Rattle.hprof_layouts.specs.Fields.{FieldsValue, Values, Missing, Cyclic, WidthDiffers, NotAnInstance, NoObject}
-use Rattle.hprof_layouts.specs.Fields.{AreFields, AreInstanceFields, OfInstance, HasArray, OfObjects, OfNumbers, fields_value, values_in, width_of_slots}
+use Rattle.hprof_layouts.specs.Fields.{AreFields, AreInstanceFields, OfInstance, HasArray, OfObjects, OfNumbers, fields_value, values_in}
+use Rattle.hprof_layouts.specs.Fields.{width_of_slots}
 use Rattle.hprof_layouts.proofs.Layouts.{at_most_one, at_least_one}
 
 -- ---- the fields of an instance
@@ -64,8 +66,8 @@ module _ (ids : IdSize) (facts : List FactValue) (class : ℕ) (bytes : List ℕ
   instance_once each one other are too =
       let a = by_layout one are in
       let b = by_layout other too in
-      a.fields_are ∙ ap (λ (l : LayoutValue). fields_by ids l bytes) (at_most_one facts class a.layout b.layout each a.layout_is b.layout_is)
-      ∙ sym b.fields_are
+      let same = at_most_one facts class a.layout b.layout each a.layout_is b.layout_is in
+      a.fields_are ∙ ap (λ (l : LayoutValue). fields_by ids l bytes) same ∙ sym b.fields_are
 
   -- what a layout leaves to say
   filled : (layout : LayoutValue) → IsLayout facts class layout
@@ -130,8 +132,8 @@ no_array facts object none (OfNumbers elem bytes is) = none (PrimArray object is
 not_both : (facts : List FactValue) (object class : ℕ) (bytes : List ℕ) → IsConsistent facts → HasInstance facts object class bytes
     → HasArray facts object → ⊥
 not_both facts object class bytes agree is (OfObjects other elements array) =
-    let same = agree (keys.Object object) (Instance object is.trace class bytes) (ObjArray object array.trace other elements) is.has array.has
-    refl refl in
+    let same = agree (keys.Object object) (Instance object is.trace class bytes) (ObjArray object array.trace other elements) is.has
+    array.has refl refl in
     absurd cc
 not_both facts object class bytes agree is (OfNumbers elem others array) =
     let same = agree (keys.Object object) (Instance object is.trace class bytes) (PrimArray object array.trace elem others) is.has array.has
@@ -175,15 +177,15 @@ dump_of_instance facts object id trace class bytes has is =
     let e : id ≡ object = cc in
     record { trace = trace; has = subst (λ (n : ℕ). Has facts (Instance n trace class bytes)) e has }
 
-pub dump_of_objects : (facts : List FactValue) (object id trace class : ℕ) (elements : List ℕ) → Has facts (ObjArray id trace class elements)
-    → IsObject object (ObjArray id trace class elements) → HasArray facts object
+pub dump_of_objects : (facts : List FactValue) (object id trace class : ℕ) (elements : List ℕ)
+    → Has facts (ObjArray id trace class elements) → IsObject object (ObjArray id trace class elements) → HasArray facts object
 dump_of_objects facts object id trace class elements has is =
     let same : keys.Object id ≡ keys.Object object = cc in
     let e : id ≡ object = cc in
     OfObjects class elements (record { trace = trace; has = subst (λ (n : ℕ). Has facts (ObjArray n trace class elements)) e has })
 
-pub dump_of_numbers : (facts : List FactValue) (object id trace : ℕ) (elem : Basic) (bytes : List ℕ) → Has facts (PrimArray id trace elem bytes)
-    → IsObject object (PrimArray id trace elem bytes) → HasArray facts object
+pub dump_of_numbers : (facts : List FactValue) (object id trace : ℕ) (elem : Basic) (bytes : List ℕ)
+    → Has facts (PrimArray id trace elem bytes) → IsObject object (PrimArray id trace elem bytes) → HasArray facts object
 dump_of_numbers facts object id trace elem bytes has is =
     let same : keys.Object id ≡ keys.Object object = cc in
     let e : id ≡ object = cc in

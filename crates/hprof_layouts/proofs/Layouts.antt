@@ -25,10 +25,16 @@ module _ (facts : List FactValue) where
   one_chain one class end last dumps others stops stops_too chain too = elim (beside facts one class dumps others end last chain too) [
     | First rest e left ↦
         let none = stopped_list facts end last rest stops left in
-        record { lists = sym (append-nil dumps) ∙ ap (λ (l : List ClassDump). dumps ++ l) (sym none) ∙ sym e; ends = stopped_end facts end last rest stops left }
+        record {
+          lists = sym (append-nil dumps) ∙ ap (λ (l : List ClassDump). dumps ++ l) (sym none) ∙ sym e;
+          ends = stopped_end facts end last rest stops left;
+        }
     | Second rest e left ↦
         let none = stopped_list facts last end rest stops_too left in
-        record { lists = e ∙ ap (λ (l : List ClassDump). others ++ l) none ∙ append-nil others; ends = sym (stopped_end facts last end rest stops_too left) }
+        record {
+          lists = e ∙ ap (λ (l : List ClassDump). others ++ l) none ∙ append-nil others;
+          ends = sym (stopped_end facts last end rest stops_too left);
+        }
   ]
 
   -- a chain from a ring does not end for good
@@ -56,7 +62,8 @@ module _ (facts : List FactValue) where
   no_end : OneDumpEach facts → (class end : ℕ) (dumps : List ClassDump) → IsCyclic facts class → Stops facts end
       → IsChain facts class dumps end → ⊥
   no_end one class end dumps cyclic stops chain = elim (beside facts one class cyclic.dumps dumps cyclic.again end cyclic.chain chain) [
-    | First rest e left ↦ turns_on one cyclic.again end cyclic.ring cyclic.not_empty cyclic.turns stops (suc (length rest)) rest (omega arith) left
+    | First rest e left ↦
+        turns_on one cyclic.again end cyclic.ring cyclic.not_empty cyclic.turns stops (suc (length rest)) rest (omega arith) left
     | Second rest e left ↦
         let same : end ≡ cyclic.again = stopped_end facts end cyclic.again rest stops left in
         let turns = subst (λ (c : ℕ). IsChain facts c cyclic.ring c) (sym same) cyclic.turns in

@@ -28,8 +28,8 @@ pub record ChainTo (facts : List FactValue) (class end : ℕ) : Type 0 where
 
 module _ (facts : List FactValue) where
   -- a chain comes to each class that it has a dump of
-  pub chain_to : (class end id : ℕ) (dumps : List ClassDump) → IsChain facts class dumps end → list_any (λ other. id == other) (ids_of dumps) ≡ true
-      → ChainTo facts class id
+  pub chain_to : (class end id : ℕ) (dumps : List ClassDump) → IsChain facts class dumps end
+      → list_any (λ other. id == other) (ids_of dumps) ≡ true → ChainTo facts class id
   chain_to class end id [] chain e = absurd cc
   chain_to class end id (dump ∷ dumps) chain e = elim (or_cases (id == dump.id) (list_any (λ other. id == other) (ids_of dumps)) e) [
     | inl here ↦ record { dumps = []; chain = sym chain.1 ∙ sym (eqb-true id dump.id here) }
@@ -40,10 +40,11 @@ module _ (facts : List FactValue) where
 
   fresh : (id : ℕ) (ids : List ℕ) → list_any (λ other. id == other) ids ≡ false → AllByRecursion (λ other. (id == other) ≡ false) ids
   fresh id [] e = tt
-  fresh id (other ∷ ids) e = elim (id == other) as (λ v. (v || list_any (λ other. id == other) ids) ≡ false → (v ≡ false) × AllByRecursion (λ other. (id == other) ≡ false) ids) [
-    | true ↦ λ h. absurd cc
-    | false ↦ λ h. (refl, fresh id ids h)
-  ] e
+  fresh id (other ∷ ids) e = elim (id == other) as (λ v. (v || list_any (λ other. id == other) ids) ≡ false
+      → (v ≡ false) × AllByRecursion (λ other. (id == other) ≡ false) ids) [
+        | true ↦ λ h. absurd cc
+        | false ↦ λ h. (refl, fresh id ids h)
+      ] e
 
   -- either no class comes twice, or the chain turns
   pub repeats : (class end : ℕ) (dumps : List ClassDump) → IsChain facts class dumps end
@@ -100,7 +101,8 @@ module _ (facts : List FactValue) where
   longer_turns classes are class end dumps chain long = elim (repeats class end dumps chain) [
     | inr cyclic ↦ cyclic
     | inl distinct ↦
-        let few = length-le_from_is_member nat_eq_equiv (ids_of dumps) (map class_id classes) distinct (all_among classes are class end dumps chain) in
+        let few = length-le_from_is_member nat_eq_equiv (ids_of dumps) (map class_id classes) distinct
+        (all_among classes are class end dumps chain) in
         let counted = length-map dumps (λ (dump : ClassDump). dump.id) in
         let counted_too = length-map classes class_id in
         absurd (omega (arith, few, counted, counted_too))

@@ -27,6 +27,19 @@ width_small ids basics.Short = omega arith
 width_small ids basics.Int = omega arith
 width_small ids basics.Long = omega arith
 
+-- ---- the slot at a place
+
+module _ (ids : IdSize) (slots : List Slot) (place : ℕ) (slot : Slot) (within : place < length slots) (is : slot ≡ get_or slots place slot) where
+  next_slot : drop place slots ≡ slot ∷ drop (place + 1) slots
+  next_slot = drop_from slots place slot within ∙ ap (λ (s : Slot). s ∷ drop (place + 1) slots) (sym is)
+
+  next_width : width_of_slots ids (drop place slots) ≡ width_of_basic ids slot.basic + width_of_slots ids (drop (place + 1) slots)
+  next_width =
+      ap (λ (l : List Slot). width_of_slots ids l) next_slot
+      ∙ sum_by-cons (λ (s : Slot). width_of_basic ids s.basic) slot (drop (place + 1) slots)
+
+-- ---- counting
+
 -- so much was counted of the widths of the slots before that place
 pub record Counted (ids : IdSize) (slots : List Slot) (place width : ℕ) : Type 0 where
   pub all : width + width_of_slots ids (drop place slots) ≡ width_of_slots ids slots
@@ -35,14 +48,13 @@ pub record Counted (ids : IdSize) (slots : List Slot) (place width : ℕ) : Type
 pub counted_more : (ids : IdSize) (slots : List Slot) (place width : ℕ) (slot : Slot) → Counted ids slots place width → place < length slots
     → slot ≡ get_or slots place slot → Counted ids slots (place + 1) (width + width_of_basic ids slot.basic)
 counted_more ids slots place width slot counted within is =
-    let cut : drop place slots ≡ slot ∷ drop (place + 1) slots =
-    drop_from slots place slot within ∙ ap (λ (s : Slot). s ∷ drop (place + 1) slots) (sym is) in
-    let split : width_of_slots ids (drop place slots) ≡ width_of_basic ids slot.basic + width_of_slots ids (drop (place + 1) slots) =
-    ap (λ (l : List Slot). width_of_slots ids l) cut ∙ sum_by-cons (λ (s : Slot). width_of_basic ids s.basic) slot (drop (place + 1) slots) in
+    let split = next_width ids slots place slot within is in
     let few = width_small ids slot.basic in
     let a = counted.all in
     let s = counted.small in
     record { all = omega arith; small = omega arith }
+
+-- ---- cutting
 
 -- the values before that place were cut, and those behind fill the rest
 pub record Cut (ids : IdSize) (slots : List Slot) (bytes : List ℕ) (place : ℕ) (values : List FieldValue) (rest : List ℕ) : Type 0 where
@@ -51,27 +63,21 @@ pub record Cut (ids : IdSize) (slots : List Slot) (bytes : List ℕ) (place : �
 
 module _ (ids : IdSize) (slots : List Slot) (bytes : List ℕ) (place : ℕ) (values : List FieldValue) (rest : List ℕ) (slot : Slot)
     (done : Cut ids slots bytes place values rest) (within : place < length slots) (is : slot ≡ get_or slots place slot) where
-  next_slot : drop place slots ≡ slot ∷ drop (place + 1) slots
-  next_slot = drop_from slots place slot within ∙ ap (λ (s : Slot). s ∷ drop (place + 1) slots) (sym is)
-
   -- the next value lies in the rest
   pub cut_fits : width_of_basic ids slot.basic ≤ length rest
   cut_fits =
-      let split : width_of_slots ids (drop place slots) ≡ width_of_basic ids slot.basic + width_of_slots ids (drop (place + 1) slots) =
-      ap (λ (l : List Slot). width_of_slots ids l) next_slot
-      ∙ sum_by-cons (λ (s : Slot). width_of_basic ids s.basic) slot (drop (place + 1) slots) in
+      let split = next_width ids slots place slot within is in
       let f = done.fills in
       omega arith
 
   pub cut_more : Cut ids slots bytes (place + 1) (values ++ value_at ids slot rest ∷ []) (drop (width_of_basic ids slot.basic) rest)
   cut_more =
-      let split : width_of_slots ids (drop place slots) ≡ width_of_basic ids slot.basic + width_of_slots ids (drop (place + 1) slots) =
-      ap (λ (l : List Slot). width_of_slots ids l) next_slot
-      ∙ sum_by-cons (λ (s : Slot). width_of_basic ids s.basic) slot (drop (place + 1) slots) in
+      let split = next_width ids slots place slot within is in
       let left = length-drop (width_of_basic ids slot.basic) rest in
       let f = done.fills in
+      let others = drop (width_of_basic ids slot.basic) rest in
       record {
-        all = append_assoc values (value_at ids slot rest ∷ []) (values_in ids (drop (place + 1) slots) (drop (width_of_basic ids slot.basic) rest))
-            ∙ sym (ap (λ (l : List Slot). values ++ values_in ids l rest) next_slot) ∙ done.all;
+        all = append_assoc values (value_at ids slot rest ∷ []) (values_in ids (drop (place + 1) slots) others)
+            ∙ sym (ap (λ (l : List Slot). values ++ values_in ids l rest) (next_slot ids slots place slot within is)) ∙ done.all;
         fills = omega arith;
       }

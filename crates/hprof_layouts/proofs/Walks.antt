@@ -16,7 +16,8 @@ use Rattle.hprof_layouts.proofs.Chains.{chain_more}
 use Rattle.hprof_layouts.proofs.Rings.{longer_turns}
 
 -- a class dump is among the facts of its table
-pub dump_in_table : (facts : List FactValue) (dump : ClassDump) → HasDump facts dump → Has (facts_of_table tables.Classes facts) (fact_of_dump dump)
+pub dump_in_table : (facts : List FactValue) (dump : ClassDump) → HasDump facts dump
+    → Has (facts_of_table tables.Classes facts) (fact_of_dump dump)
 dump_in_table facts dump has =
     picked (stands_in (number_of_table tables.Classes)) facts (fact_of_dump dump) (record { has = has; passes = refl })
 
@@ -56,7 +57,11 @@ module _ (facts : List FactValue) (class at passed classes : ℕ) (walking : Wal
   walked_out not_zero none = record { dumps = walking.dumps; chain = walking.chain; not_zero = not_zero; no_dump = none }
 
   pub walked_all : at ≡ 0 → HasChain facts class passed
-  walked_all e = record { dumps = walking.dumps; chain = subst (IsChain facts class walking.dumps) e walking.chain; counted = walking.counted }
+  walked_all e = record {
+    dumps = walking.dumps;
+    chain = subst (IsChain facts class walking.dumps) e walking.chain;
+    counted = walking.counted;
+  }
 
 -- ---- along a chain that comes to 0
 
@@ -78,13 +83,14 @@ gathered_none facts class count has = record {
 -- there is a class more
 pub gathering_some : (facts : List FactValue) (class at left : ℕ) (slots : List Slot) → Gathering facts class at left slots → 0 < left
     → HasNoDump facts at → ⊥
-gathering_some facts class at left slots gathering lt none = go gathering.rest gathering.chain (let c = gathering.counted in omega arith) where
-  go : (rest : List ClassDump) → IsChain facts at rest 0 → 0 < length rest → ⊥
-  go [] chain lt = omega arith
-  go (dump ∷ rest) chain lt = none dump chain.2 chain.1
+gathering_some facts class at left slots gathering lt none =
+    go gathering.rest gathering.chain (let c = gathering.counted in omega arith) where
+      go : (rest : List ClassDump) → IsChain facts at rest 0 → 0 < length rest → ⊥
+      go [] chain lt = omega arith
+      go (dump ∷ rest) chain lt = none dump chain.2 chain.1
 
-pub gathered_more : (facts : List FactValue) (class at left : ℕ) (slots : List Slot) (dump : ClassDump) → Gathering facts class at left slots
-    → 0 < left → ((other : ClassDump) → HasDump facts other → other.id ≡ at → dump ≡ other)
+pub gathered_more : (facts : List FactValue) (class at left : ℕ) (slots : List Slot) (dump : ClassDump)
+    → Gathering facts class at left slots → 0 < left → ((other : ClassDump) → HasDump facts other → other.id ≡ at → dump ≡ other)
     → Gathering facts class dump.parent (left - 1) (slots ++ own_slots dump)
 gathered_more facts class at left slots dump gathering lt only =
     go gathering.rest gathering.chain gathering.counted gathering.known where
@@ -98,7 +104,8 @@ gathered_more facts class at left slots dump gathering lt only =
             chain = subst (λ (d : ClassDump). IsChain facts d.parent rest 0) (sym same) chain.3;
             counted = omega arith;
             known = subst (λ (l : List Slot). IsKnown facts class l)
-                (ap (λ (d : ClassDump). slots ++ (own_slots d ++ slots_of rest)) (sym same) ∙ sym (append_assoc slots (own_slots dump) (slots_of rest)))
+                (ap (λ (d : ClassDump). slots ++ (own_slots d ++ slots_of rest)) (sym same)
+                ∙ sym (append_assoc slots (own_slots dump) (slots_of rest)))
                 known;
           }
 

@@ -15,7 +15,8 @@ returns-in_err-id-clause-none c =
 
 pub unreachable-requires : goal.unreachable-requires
 unreachable-requires c =
-    let is = found (has_key (keys.Class c.args.class)) (facts_of c.args.heap.now) (value_of c.in_ok-id.field-0) (sym c.in_ok-id.ensures.value) in
+    let is = found (has_key (keys.Class c.args.class)) (facts_of c.args.heap.now) (value_of c.in_ok-id.field-0)
+    (sym c.in_ok-id.ensures.value) in
     is_class_fact c.args.class c.in_ok-id.field-0 is.passes c.in_default.not-Class
 
 -- the dump that was found

@@ -9,7 +9,8 @@ returns-in-Some-Instance c =
     let found = rw a.field-0-is at a.ensures.found in
     let id = rw a.field-0-is at a.ensures.id in
     fields_of_instance (size_of c.args.heap.now) (facts_of c.args.heap.now) c.args.object a.class a.bytes.now c.instance_fields.result
-    (dump_of_instance (facts_of c.args.heap.now) c.args.object a.field-0-0 a.field-0-1 a.class a.bytes.now found id) c.instance_fields.ensures
+    (dump_of_instance (facts_of c.args.heap.now) c.args.object a.field-0-0 a.field-0-1 a.class a.bytes.now found id)
+    c.instance_fields.ensures
 
 pub returns-in-Some-ObjArray : goal.returns-in-Some-ObjArray
 returns-in-Some-ObjArray c =
