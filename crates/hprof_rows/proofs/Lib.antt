@@ -18,3 +18,4 @@ pub mod DumpOrder
 pub mod DumpTables
 pub mod UnionRows
 pub mod UnionRoots
+pub mod Picking

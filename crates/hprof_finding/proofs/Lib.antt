@@ -1,0 +1,2 @@
+pub mod ClassFacts
+pub mod ObjectFacts

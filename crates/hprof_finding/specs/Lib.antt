@@ -1,0 +1,5 @@
+pub mod HeapFacts
+pub mod Classes
+pub mod ClassRow
+pub mod Objects
+pub mod ObjectRow

@@ -1,0 +1,68 @@
+//! Class dumps, found in a heap.
+
+ghost use Rattle.std.specs.Prelude.{◌≡◌, IfNone, IfSome, find};
+ghost use Rattle.std.specs.Option.{option_map};
+ghost use Rattle.hprof_items.specs.FactValue.{ListsHave, value_of};
+ghost use Rattle.hprof_rows.specs.declared.key.Key.TheVariants as keys;
+ghost use Rattle.hprof_rows.specs.Key.{has_key};
+ghost use Rattle.hprof_finding.specs.HeapFacts.{facts_of, size_of};
+ghost use Rattle.hprof_finding.specs.Classes.{ClassDump, HasDump, HasNoDump};
+ghost use Rattle.hprof_finding.specs.ClassRow.{ClassListsHave, dump_of};
+
+use crate::class_row::ClassRow;
+use crate::heap_facts::id_size;
+use hprof_heap::Heap;
+use hprof_items::Fact;
+
+/// The fact with the key of a class.
+fn class_fact(heap: &Heap, class: u64) -> Option<Fact<'_>>
+    ensures value { option_map value_of result ≡ find (has_key (keys.Class class)) (facts_of heap.now) }
+    ensures lists { IfSome result (ListsHave (size_of heap.now)) }
+{
+    heap.class(class)
+}
+
+/// The dump of a class.
+pub fn find_class(heap: &Heap, class: u64) -> Option<ClassRow<'_>>
+    ensures found { IfSome result (λ row. HasDump (facts_of heap.now) (dump_of row)) }
+    ensures id { IfSome result (λ row. row.id ≡ class) }
+    ensures lists { IfSome result (ClassListsHave (size_of heap.now)) }
+    // It is the only one.
+    ensures only { IfSome result (λ row. (dump : ClassDump) → HasDump (facts_of heap.now) dump → dump.id ≡ class
+        → dump_of row ≡ dump) }
+    ensures none { IfNone result (HasNoDump (facts_of heap.now) class) }
+{
+    // Facts of a heap agree: that is told with the size.
+    let _ids = id_size(heap);
+    match class_fact(heap, class)? {
+        Fact::Class {
+            id,
+            trace,
+            parent,
+            loader,
+            signers,
+            domain,
+            reserved1,
+            reserved2,
+            size,
+            constants,
+            statics,
+            fields,
+        } => Some(ClassRow {
+            id,
+            trace,
+            parent,
+            loader,
+            signers,
+            domain,
+            reserved1,
+            reserved2,
+            size,
+            constants,
+            statics,
+            fields,
+        }),
+        // A fact with the key of a class is its dump.
+        _ => unreachable!(),
+    }
+}

@@ -1,0 +1,14 @@
+//! Class dumps, object dumps and the facts of a table, found in a heap. What each call answers is told by the heap's facts.
+#![tactic(auto)]
+
+mod class_row;
+mod classes;
+mod heap_facts;
+mod object_row;
+mod objects;
+
+pub use class_row::ClassRow;
+pub use classes::find_class;
+pub use heap_facts::{class_name, id_size, table_facts, table_len};
+pub use object_row::ObjectRow;
+pub use objects::find_object;

@@ -1,0 +1,75 @@
+//! Object dumps, found in a heap.
+
+ghost use Rattle.std.specs.Prelude.{◌≡◌, IfNone, IfSome, find};
+ghost use Rattle.std.specs.Option.{option_map};
+ghost use Rattle.hprof_items.specs.FactValue.{FactValue, ListsHave, value_of};
+ghost use Rattle.hprof_rows.specs.declared.key.Key.TheVariants as keys;
+ghost use Rattle.hprof_rows.specs.Facts.{Has};
+ghost use Rattle.hprof_rows.specs.Key.{has_key};
+ghost use Rattle.hprof_finding.specs.HeapFacts.{facts_of, size_of};
+ghost use Rattle.hprof_finding.specs.Objects.{IsObject, HasNoObject};
+ghost use Rattle.hprof_finding.specs.ObjectRow.{ElementsHave, fact_of_object};
+
+use crate::heap_facts::id_size;
+use crate::object_row::ObjectRow;
+use hprof_heap::Heap;
+use hprof_items::Fact;
+
+/// The fact with the key of an object.
+fn object_fact(heap: &Heap, object: u64) -> Option<Fact<'_>>
+    ensures value { option_map value_of result ≡ find (has_key (keys.Object object)) (facts_of heap.now) }
+    ensures lists { IfSome result (ListsHave (size_of heap.now)) }
+{
+    heap.object(object)
+}
+
+/// The dump of an object.
+pub fn find_object(heap: &Heap, object: u64) -> Option<ObjectRow<'_>>
+    ensures found { IfSome result (λ row. Has (facts_of heap.now) (fact_of_object row)) }
+    ensures id { IfSome result (λ row. IsObject object (fact_of_object row)) }
+    ensures lists { IfSome result (ElementsHave (size_of heap.now)) }
+    // It is the only one.
+    ensures only { IfSome result (λ row. (fact : FactValue) → Has (facts_of heap.now) fact → IsObject object fact
+        → fact_of_object row ≡ fact) }
+    ensures none { IfNone result (HasNoObject (facts_of heap.now) object) }
+{
+    // Facts of a heap agree: that is told with the size.
+    let _ids = id_size(heap);
+    match object_fact(heap, object)? {
+        Fact::Instance {
+            id,
+            trace,
+            class,
+            bytes,
+        } => Some(ObjectRow::Instance {
+            id,
+            trace,
+            class,
+            bytes,
+        }),
+        Fact::ObjArray {
+            id,
+            trace,
+            class,
+            elements,
+        } => Some(ObjectRow::ObjArray {
+            id,
+            trace,
+            class,
+            elements,
+        }),
+        Fact::PrimArray {
+            id,
+            trace,
+            elem,
+            bytes,
+        } => Some(ObjectRow::PrimArray {
+            id,
+            trace,
+            elem,
+            bytes,
+        }),
+        // A fact with the key of an object is its dump.
+        _ => unreachable!(),
+    }
+}

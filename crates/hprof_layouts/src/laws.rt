@@ -1,0 +1,32 @@
+//! Laws of the definitions. None of these functions does anything.
+
+ghost use Rattle.std.specs.Prelude.{◌≡◌, List, ℕ};
+ghost use Rattle.hprof_values.specs.declared.ids.IdSize.{IdSize};
+ghost use Rattle.hprof_items.specs.FactValue.{FactValue};
+ghost use Rattle.hprof_rows.specs.Conflict.{IsConsistent};
+ghost use Rattle.hprof_rows.specs.Facts.{Has};
+ghost use Rattle.hprof_layouts.specs.declared.slot.Slot.{Slot};
+ghost use Rattle.hprof_layouts.specs.Fields.{AreFields, FieldsValue};
+ghost use Rattle.hprof_layouts.specs.Layout.{LayoutValue, IsCyclic, IsKnown, IsLayout};
+
+/// A class has exactly one layout.
+pub fn one_layout()
+    ensures exists { (facts : List FactValue) (class : ℕ) → (layout : LayoutValue) × IsLayout facts class layout }
+    ensures once { (facts : List FactValue) (class : ℕ) (one other : LayoutValue) → IsConsistent facts
+        → IsLayout facts class one → IsLayout facts class other → one ≡ other }
+{}
+
+/// With more facts a layout that is known stays, and so does one that is cyclic.
+pub fn more_facts_keep_layouts()
+    ensures known { (facts more : List FactValue) (class : ℕ) (slots : List Slot)
+        → ((fact : FactValue) → Has facts fact → Has more fact) → IsKnown facts class slots → IsKnown more class slots }
+    ensures cyclic { (facts more : List FactValue) (class : ℕ)
+        → ((fact : FactValue) → Has facts fact → Has more fact) → IsCyclic facts class → IsCyclic more class }
+{}
+
+/// An object has exactly one answer of `fields`.
+pub fn one_answer_of_fields()
+    ensures exists { (ids : IdSize) (facts : List FactValue) (object : ℕ) → (fields : FieldsValue) × AreFields ids facts object fields }
+    ensures once { (ids : IdSize) (facts : List FactValue) (object : ℕ) (one other : FieldsValue) → IsConsistent facts
+        → AreFields ids facts object one → AreFields ids facts object other → one ≡ other }
+{}

@@ -1,0 +1,51 @@
+//! The fields of an object.
+
+ghost use Rattle.std.specs.Prelude.{IfOk};
+ghost use Rattle.hprof_finding.specs.HeapFacts.{facts_of, size_of};
+ghost use Rattle.hprof_layouts.specs.Fields.{AreFields, AreInstanceFields, fields_value};
+
+use crate::cutting::{cut, width_of_slots};
+use crate::field_value::Fields;
+use crate::laying::layout;
+use crate::slot::Layout;
+use hprof_finding::{ObjectRow, find_object, id_size};
+use hprof_heap::Heap;
+use std::alloc::{AllocError, Global};
+
+/// The fields of an instance of a class that has these bytes.
+fn instance_fields(
+    alloc: Global,
+    heap: &Heap,
+    class: u64,
+    bytes: &[u8],
+) -> Result<Fields, AllocError>
+    ensures { IfOk result (λ fields. AreInstanceFields (size_of heap.now) (facts_of heap.now) class bytes.now
+        (fields_value fields)) }
+{
+    match layout(alloc, heap, class)? {
+        Layout::Missing(missing) => Ok(Fields::Missing(missing)),
+        Layout::Cyclic => Ok(Fields::Cyclic),
+        Layout::Known(slots) => {
+            let ids = id_size(heap);
+            let width = width_of_slots(&slots, ids);
+            if width != bytes.len() as u128 {
+                return Ok(Fields::WidthDiffers(width));
+            }
+            Ok(Fields::Values(cut(alloc, &slots, bytes, ids)?))
+        }
+    }
+}
+
+/// The fields of an object.
+pub fn fields(alloc: Global, heap: &Heap, object: u64) -> Result<Fields, AllocError>
+    ensures { IfOk result (λ fields. AreFields (size_of heap.now) (facts_of heap.now) object (fields_value fields)) }
+{
+    match find_object(heap, object) {
+        None => Ok(Fields::NoObject),
+        Some(ObjectRow::Instance { class, bytes, .. }) => {
+            instance_fields(alloc, heap, class, bytes)
+        }
+        Some(ObjectRow::ObjArray { .. }) => Ok(Fields::NotAnInstance),
+        Some(ObjectRow::PrimArray { .. }) => Ok(Fields::NotAnInstance),
+    }
+}
