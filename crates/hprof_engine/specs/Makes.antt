@@ -56,8 +56,8 @@ pub record Making : Type 1 where
   pub IsMade : List (List ℕ) → List ℕ → Type 0
   -- what would be made of the parts is refused before the first byte
   pub IsTooLong : List (List ℕ) → Type 0
-  -- memory is taken before any part is read, beside that for reading
-  pub TakesRoom : Type 0
+  -- memory is taken before any of so many parts is read, beside that for reading
+  pub TakesRoom : ℕ → Type 0
   -- memory is taken while it is written
   pub TakesMemory : Type 0
 
@@ -77,7 +77,7 @@ pub record Makes {R W : Type 0} (left : R → Option (List ℕ)) (health : R →
   pub write : (fault : WriteFault) → ended ≡ Some (tool.Write fault) → (well after ≡ health_after fault)
       × ((parts : List (List ℕ)) → Tell left old parts → WritesFront making.IsMade parts (written before) (written after))
   -- memory was wanted before anything was read or written, or when all was read, and a front was written
-  pub memory : ended ≡ Some tool.OutOfMemory → (making.TakesRoom × (new ≡ old) × (after ≡ before))
+  pub memory : ended ≡ Some tool.OutOfMemory → (making.TakesRoom (length old) × (new ≡ old) × (after ≡ before))
       ⊎ (making.TakesMemory × AreReadOut left health pulls limits old new (length old) × (well after ≡ healths.Well)
       × ((parts : List (List ℕ)) → Tell left old parts → WritesFront making.IsMade parts (written before) (written after)))
   -- no other answer where the parts state something together, readers and writer stay well, and nothing hindered it
@@ -115,7 +115,7 @@ pub record IsTooLongOf (TooLong : HeapValue → Type 0) (parts : List (List ℕ)
 
 -- what is made of parts, by what a product says of one heap
 abbrev pub making_of : (IsText : List PartSummary → HeapValue → List ℕ → Type 0) (TooLong : HeapValue → Type 0)
-    (TakesRoom TakesMemory : Type 0) → Making
+    (TakesRoom : ℕ → Type 0) (TakesMemory : Type 0) → Making
 making_of IsText TooLong TakesRoom TakesMemory = record {
   IsMade = IsMadeOf IsText;
   IsTooLong = IsTooLongOf TooLong;
@@ -139,4 +139,4 @@ IsDump = IsMadeOf IsDumpText
 
 -- the canonical dump, which is never too long, and takes no memory beside that for reading
 abbrev pub dump_making : Making
-dump_making = making_of IsDumpText (λ heap. ⊥) ⊥ ⊥
+dump_making = making_of IsDumpText (λ heap. ⊥) (λ parts. ⊥) ⊥

@@ -1,6 +1,6 @@
 //! Reading all parts into what gathers them.
 
-ghost use Rattle.std.specs.Prelude.{◌≡◌, ◌+◌, ℕ, [], length, All, OnOk};
+ghost use Rattle.std.specs.Prelude.{◌≡◌, ℕ, [], length, All, OnOk};
 ghost use Rattle.hprof_devices.specs.declared.health.Health.TheVariants.{Well};
 ghost use Rattle.hprof_heap.specs.Gathering.{nothing_gathered};
 ghost use Rattle.hprof_engine.specs.Joining.{ReadsAll, read_count, fault_of};
@@ -25,7 +25,7 @@ pub(crate) fn read_parts<R: Source, G: Gather, S: Summaries>(
     requires well { All (λ reader. R.health reader ≡ Well) readers.old }
     requires nothing { G.gathered gatherer.old ≡ nothing_gathered }
     requires none { S.holds summaries.old [] }
-    requires room { (more : ℕ) × S.has_room summaries.old (length readers.old + more) }
+    requires room { S.has_room summaries.old (length readers.old) }
     ensures read { ReadsAll R.left R.health R.pulls limits readers.old (G.gathered gatherer.old) result readers.new (G.gathered gatherer.new) }
     ensures watches { (id : ℕ) → G.watches gatherer.old id → OnOk result (G.watches gatherer.new id) }
     ensures summaries { HoldsFirst R.left S.holds readers.old (read_count (fault_of result) (length readers.old)) summaries.new }

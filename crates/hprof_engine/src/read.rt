@@ -1,6 +1,6 @@
 //! Reading all parts into one heap.
 
-ghost use Rattle.std.specs.Prelude.{◌≡◌, ◌+◌, ℕ, List, [], length, All, IfOk};
+ghost use Rattle.std.specs.Prelude.{◌≡◌, ℕ, List, [], length, All, IfOk};
 ghost use Rattle.hprof_devices.specs.declared.health.Health.TheVariants.{Well};
 ghost use Rattle.hprof_values.specs.declared.ids.IdSize.{IdSize};
 ghost use Rattle.hprof_items.specs.FactValue.{FactValue};
@@ -30,7 +30,7 @@ pub fn read_heap<R: Source, G: Gather + Drop, S: Summaries>(
     requires readers { All (λ reader. R.health reader ≡ Well) readers.old }
     requires nothing { G.gathered gatherer ≡ nothing_gathered }
     requires none { S.holds summaries.old [] }
-    requires room { (more : ℕ) × S.has_room summaries.old (length readers.old + more) }
+    requires room { S.has_room summaries.old (length readers.old) }
 
     // What Ok means: the parts agree, the heap is of what they state, and what was watched is listed.
     ensures ok { IfOk result (λ found. (parts : List (List ℕ)) → Tell R.left readers.old parts

@@ -1,6 +1,6 @@
 //! What is told what was read of each part.
 
-ghost use Rattle.std.specs.Prelude.{◌≡◌, ◌++◌, ◌∷◌, [], ◌+◌, ◌≤◌, ℕ, List, ⊤, IfOk, OnErr, vec_len, vec_capacity};
+ghost use Rattle.std.specs.Prelude.{◌≡◌, ◌++◌, ◌∷◌, [], ◌+◌, ◌<◌, ℕ, List, ⊤, IfOk, OnErr, vec_len, vec_capacity};
 
 use hprof_stream::PartSummary;
 use std::alloc::{AllocError, Global};
@@ -15,14 +15,14 @@ pub trait Summaries: Drop {
     // It holds these summaries, in order, so far as it holds any.
     ghost holds: { Self → List PartSummary → Type 0 };
 
-    // Room for them takes memory.
-    ghost takes_room: { Type 0 };
+    // Room for those of so many parts takes memory.
+    ghost takes_room: { ℕ → Type 0 };
 
     /// One that holds no summary yet, and has room for those of so many parts.
     fn with_room(alloc: Global, parts: usize) -> Result<Self, AllocError>
         ensures empty { IfOk result (λ kept. holds kept []) }
-        ensures room { IfOk result (λ kept. (more : ℕ) × has_room kept (parts + more)) }
-        ensures full { OnErr result takes_room };
+        ensures room { IfOk result (λ kept. has_room kept parts) }
+        ensures full { OnErr result (takes_room parts) };
 
     /// Takes the summary of the part behind those before it.
     fn keep(&mut self, summary: PartSummary)
@@ -37,7 +37,7 @@ impl Summaries for Vec<PartSummary> {
 
     ghost holds = { λ kept summaries. kept.items ≡ summaries };
 
-    ghost takes_room = { ⊤ };
+    ghost takes_room = { λ parts. 0 < parts };
 
     fn with_room(alloc: Global, parts: usize) -> Result<Vec<PartSummary>, AllocError> {
         Vec::with_capacity(alloc, parts)
@@ -54,7 +54,7 @@ impl Summaries for () {
 
     ghost holds = { λ kept summaries. ⊤ };
 
-    ghost takes_room = { ⊥ };
+    ghost takes_room = { λ parts. ⊥ };
 
     fn with_room(_alloc: Global, _parts: usize) -> Result<(), AllocError> {
         Ok(())

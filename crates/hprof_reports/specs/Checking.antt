@@ -1,5 +1,5 @@
 -- What checking parts makes of them.
-use Rattle.std.specs.Prelude.{ℕ, List, ⊤}
+use Rattle.std.specs.Prelude.{ℕ, ◌<◌, List}
 use Rattle.hprof_stream.specs.declared.summary.PartSummary.{PartSummary}
 use Rattle.hprof_rows.specs.HeapValue.{HeapValue}
 use Rattle.hprof_engine.specs.Makes.{Making, IsMadeOf, making_of}
@@ -15,4 +15,4 @@ IsCheckOfParts = IsMadeOf IsCheckText
 
 -- the report `check`, which takes memory only before any part is read, for what is read of each
 abbrev pub check_making : Making
-check_making = making_of IsCheckText (λ heap. ⊥) ⊤ ⊥
+check_making = making_of IsCheckText (λ heap. ⊥) (λ parts. 0 < parts) ⊥

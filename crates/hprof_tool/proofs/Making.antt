@@ -80,7 +80,7 @@ module _ {R : Type 0} (left : R → Option (List ℕ)) (health : R → Health) (
   -- ---- what a refusal says
 
   module _ {W : Type 0} (written : W → Option (List ℕ)) (well : W → Health) (IsText : List PartSummary → HeapValue → List ℕ → Type 0)
-      (TooLong : HeapValue → Type 0) (TakesRoom TakesMemory : Type 0) (before after : W) where
+      (TooLong : HeapValue → Type 0) (TakesRoom : ℕ → Type 0) (TakesMemory : Type 0) (before after : W) where
     pub refusal : (fault : ToolFault)
         → Makes left health pulls written well usual_limits (with_buffer (making_of IsText TooLong TakesRoom TakesMemory)) old new before after
         (Some fault) → (parts : List (List ℕ)) → Tell left old parts → IsRefusal (making_of IsText TooLong TakesRoom TakesMemory) (refused_of fault) parts
@@ -95,7 +95,7 @@ module _ {R : Type 0} (left : R → Option (List ℕ)) (health : R → Health) (
     refusal tool.OutOfMemory m parts told = tt
 
   -- the same of what a stream tells
-  pub refused_by : (IsText : List PartSummary → HeapValue → List ℕ → Type 0) (TooLong : HeapValue → Type 0) (TakesRoom TakesMemory : Type 0)
+  pub refused_by : (IsText : List PartSummary → HeapValue → List ℕ → Type 0) (TooLong : HeapValue → Type 0) (TakesRoom : ℕ → Type 0) (TakesMemory : Type 0)
       (held holds : Option (List ℕ)) (end : Health) (fault : ToolFault)
       → Makes {W = Option (List ℕ) × Health} left health pulls (λ s. s.0) (λ s. s.1) usual_limits
       (with_buffer (making_of IsText TooLong TakesRoom TakesMemory)) old new (held, healths.Well) (holds, end) (Some fault)

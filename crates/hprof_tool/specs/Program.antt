@@ -131,7 +131,7 @@ MakesStream left health pulls making old new held holds ended = (end : Health)
 
 -- a making whose call takes room for a buffer first
 abbrev pub with_buffer : Making → Making
-with_buffer making = record making { TakesRoom = ⊤ }
+with_buffer making = record making { TakesRoom = λ parts. ⊤ }
 
 -- the status of words that ask for help, or are not understood, by the kind that clap tells
 abbrev pub IsStatusOfWords : ErrorKind → Status → Type 0

@@ -10,10 +10,10 @@ use Rattle.hprof_engine.specs.Summaries.{HoldsFirst}
 use Rattle.hprof_engine.proofs.parts.read_parts.Goals as goal
 
 -- room for all that are to come is room for the next one and for those behind it
-room_behind : {S : Type 0} (has_room : S → ℕ → Type 0) (count index more : ℕ) (summaries : S) → index < count
-    → has_room summaries (count - index + more) → has_room summaries (count - (index + 1) + more + 1)
-room_behind has_room count index more summaries within room =
-    let same : count - index + more ≡ count - (index + 1) + more + 1 = omega (arith, within) in
+room_behind : {S : Type 0} (has_room : S → ℕ → Type 0) (count index : ℕ) (summaries : S) → index < count
+    → has_room summaries (count - index) → has_room summaries (count - (index + 1) + 1)
+room_behind has_room count index summaries within room =
+    let same : count - index ≡ count - (index + 1) + 1 = omega (arith, within) in
     subst (λ (n : ℕ). has_room summaries n) same room
 
 pub returns-in-Err : goal.returns-in-Err
@@ -93,12 +93,8 @@ loop-index-preserved g c =
           c.loop-index.summaries c.keep.new.self c.in-Ok.summary there c.loop-index.invariant.kept c.keep.ensures.holds
           (summarised_if_told (g.R.Source.left was) (g.R.Source.left c.read_part.new.source) read.0 c.in-Ok.summary read.1 read.2.1
           read.2.5);
-      room =
-          let room = c.loop-index.invariant.room in (
-            room.0,
-            c.keep.ensures.room (length c.args.readers.now - (index + 1) + room.0)
-                (room_behind g.S.Summaries.has_room (length c.args.readers.now) index room.0 c.loop-index.summaries within room.1),
-          );
+      room = c.keep.ensures.room (length c.args.readers.now - (index + 1))
+          (room_behind g.S.Summaries.has_room (length c.args.readers.now) index c.loop-index.summaries within c.loop-index.invariant.room);
       watches = λ id watched. Run-kept g.G.Sink.begins g.G.Sink.steps (λ it. g.G.Gather.watches it id)
           (λ old header new begins. g.met.G.Gather.watches_on old header new begins id)
           (λ old fact new steps. g.met.G.Gather.watches_still old fact new steps id)
@@ -110,10 +106,9 @@ loop-index-preserved g c =
 pub keep-requires : goal.keep-requires
 keep-requires g c =
     let index = c.loop-index.index in
-    let within : index < length c.args.readers.now = omega arith in
-    let room = c.loop-index.invariant.room in (
-      length c.args.readers.now - (index + 1) + room.0,
-      room_behind g.S.Summaries.has_room (length c.args.readers.now) index room.0 c.loop-index.summaries within room.1,
+    let within : index < length c.args.readers.now = omega arith in (
+      length c.args.readers.now - (index + 1),
+      room_behind g.S.Summaries.has_room (length c.args.readers.now) index c.loop-index.summaries within c.loop-index.invariant.room,
     )
 
 pub returns-clause-summaries : goal.returns-clause-summaries

@@ -11,7 +11,7 @@ invariant-loop-index g l = record {
   first : GathersFirst g.R.Source.left l.fn.limits l.fn.readers l.index (g.G.Gather.gathered l.fn.gatherer) (g.G.Gather.gathered l.gatherer);
   out : AreReadOut g.R.Source.left g.R.Source.health g.R.Source.pulls l.fn.limits l.fn.readers l.readers l.index;
   kept : HoldsFirst g.R.Source.left g.S.Summaries.holds l.fn.readers l.index l.summaries;
-  room : (more : ℕ) × g.S.Summaries.has_room l.summaries (length l.fn.readers - l.index + more);
+  room : g.S.Summaries.has_room l.summaries (length l.fn.readers - l.index);
   sound : (g.G.Gather.gathered l.gatherer).failed ≡ false;
   watches : (id : ℕ) → g.G.Gather.watches l.fn.gatherer id → g.G.Gather.watches l.gatherer id;
 }

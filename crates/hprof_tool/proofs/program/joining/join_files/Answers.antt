@@ -37,5 +37,5 @@ returns-clause-refused g c =
     let opened = ap length c.deref_mut.ensures.value ∙ c.in_ok-parts.ensures.count in
     subst (λ (r : Refused). IsFilesRefusal dump_making g.F.File.Read.remaining (length c.args.names.now) r) (sym c.from.ensures)
     (of_making dump_making g.F.File.Read.remaining (length c.args.names.now) c.deref_mut.result.now opened
-    c.in-Err.fault (λ told tell. refused_by _ _ _ c.deref_mut.result.now _ IsDumpText (λ heap. ⊥) ⊥ ⊥ _ _ e.1.0 c.in-Err.fault e.1.1
+    c.in-Err.fault (λ told tell. refused_by _ _ _ c.deref_mut.result.now _ IsDumpText (λ heap. ⊥) (λ parts. ⊥) ⊥ _ _ e.1.0 c.in-Err.fault e.1.1
     told tell))

@@ -24,4 +24,4 @@ returns-clause-refused g c = λ part told.
     ∙ ap (λ (ds : List (Device g.row.I.Denot)). ds ++ c.new.result ∷ []) c.new-part.ensures.items in
     let told_by = one_told g.I.Read.remaining c.deref_mut.result.now c.new.result c.args.input part one c.new.ensures.inner told in
     subst (λ (r : Refused). IsRefusal dump_making r (part ∷ [])) (sym c.from.ensures)
-    (refused_by _ _ _ c.deref_mut.result.now _ IsDumpText (λ heap. ⊥) ⊥ ⊥ _ _ e.1.0 c.in-Err.fault e.1.1 (part ∷ []) told_by)
+    (refused_by _ _ _ c.deref_mut.result.now _ IsDumpText (λ heap. ⊥) (λ parts. ⊥) ⊥ _ _ e.1.0 c.in-Err.fault e.1.1 (part ∷ []) told_by)
