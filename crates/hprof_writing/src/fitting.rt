@@ -10,9 +10,7 @@ ghost use Rattle.hprof_items.specs.FactValue.{value_of, ListsHave};
 use crate::object_fitting::{
     class_fits, instance_fits, obj_array_fits, prim_array_fits, root_fits,
 };
-use crate::record_fitting::{
-    end_fits, frame_fits, load_fits, name_fits, start_fits, trace_fits, unload_fits,
-};
+use crate::record_fitting::record_fits;
 use hprof_items::{Fact, HEAD_LEN};
 use hprof_lists::{ConstantList, FieldList, StaticList};
 use hprof_values::{IdSize, Root};
@@ -23,13 +21,13 @@ pub fn fits(fact: &Fact<'_>, ids: IdSize) -> bool
     ensures { IsTrue result ↔ (Fits ids (value_of fact.now) × ListsHave ids fact.now) }
 {
     match *fact {
-        Fact::Name { id, text } => name_fits(id, text, ids),
-        Fact::Load { .. } => load_fits(fact, ids),
-        Fact::Unload { .. } => unload_fits(fact, ids),
-        Fact::Frame { .. } => frame_fits(fact, ids),
-        Fact::Trace { .. } => trace_fits(fact, ids),
-        Fact::Start { .. } => start_fits(fact, ids),
-        Fact::End { .. } => end_fits(fact, ids),
+        Fact::Name { .. }
+        | Fact::Load { .. }
+        | Fact::Unload { .. }
+        | Fact::Frame { .. }
+        | Fact::Trace { .. }
+        | Fact::Start { .. }
+        | Fact::End { .. } => record_fits(fact, ids),
         Fact::Root(root) => root_fits(root, ids),
         Fact::Class { .. } => class_fits(fact, ids),
         Fact::Instance {

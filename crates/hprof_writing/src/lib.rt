@@ -10,6 +10,7 @@ mod front_writing;
 mod object_fitting;
 mod object_writing;
 mod record_fitting;
+mod record_front;
 mod record_writing;
 mod writing;
 
