@@ -1,2 +1,3 @@
 pub mod Fronts
 pub mod Lengths
+pub mod SubFitting

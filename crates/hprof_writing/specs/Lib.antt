@@ -1,1 +1,2 @@
 pub mod RecordFronts
+pub mod SubFronts

@@ -7,7 +7,7 @@ ghost use Rattle.hprof_items.specs.FactValue.{value_of, ListsHave};
 ghost use Rattle.hprof_devices.specs.Device.{Writes, LeavesHealth};
 
 use crate::class_writing::write_class;
-use crate::object_writing::{write_instance, write_obj_array, write_prim_array, write_root};
+use crate::object_writing::write_sub;
 use crate::record_writing::write_stated;
 use hprof_devices::{Target, WriteFault};
 use hprof_items::Fact;
@@ -29,10 +29,10 @@ pub fn write_fact<W: Target>(fact: &Fact<'_>, ids: IdSize, target: &mut W) -> Re
         | Fact::Trace { .. }
         | Fact::Start { .. }
         | Fact::End { .. } => write_stated(fact, ids, target),
-        Fact::Root(root) => write_root(root, ids, target),
+        Fact::Root(_)
+        | Fact::Instance { .. }
+        | Fact::ObjArray { .. }
+        | Fact::PrimArray { .. } => write_sub(fact, ids, target),
         Fact::Class { .. } => write_class(fact, ids, target),
-        Fact::Instance { .. } => write_instance(fact, ids, target),
-        Fact::ObjArray { .. } => write_obj_array(fact, ids, target),
-        Fact::PrimArray { .. } => write_prim_array(fact, ids, target),
     }
 }

@@ -7,9 +7,7 @@ ghost use Rattle.hprof_items.specs.ClassDump.{class_widths, class_lists};
 ghost use Rattle.hprof_items.specs.Spelling.{longest_body, spelling, Fits};
 ghost use Rattle.hprof_items.specs.FactValue.{value_of, ListsHave};
 
-use crate::object_fitting::{
-    class_fits, instance_fits, obj_array_fits, prim_array_fits, root_fits,
-};
+use crate::object_fitting::{class_fits, sub_fits};
 use crate::record_fitting::record_fits;
 use hprof_items::{Fact, HEAD_LEN};
 use hprof_lists::{ConstantList, FieldList, StaticList};
@@ -28,21 +26,11 @@ pub fn fits(fact: &Fact<'_>, ids: IdSize) -> bool
         | Fact::Trace { .. }
         | Fact::Start { .. }
         | Fact::End { .. } => record_fits(fact, ids),
-        Fact::Root(root) => root_fits(root, ids),
+        Fact::Root(_)
+        | Fact::Instance { .. }
+        | Fact::ObjArray { .. }
+        | Fact::PrimArray { .. } => sub_fits(fact, ids),
         Fact::Class { .. } => class_fits(fact, ids),
-        Fact::Instance {
-            id,
-            trace,
-            class,
-            bytes,
-        } => instance_fits(id, trace, class, bytes, ids),
-        Fact::ObjArray { .. } => obj_array_fits(fact, ids),
-        Fact::PrimArray {
-            id,
-            trace,
-            elem,
-            bytes,
-        } => prim_array_fits(id, trace, elem, bytes, ids),
     }
 }
 

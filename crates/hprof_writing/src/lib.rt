@@ -6,12 +6,14 @@ mod class_writing;
 mod fact_writing;
 mod fitting;
 mod front_fitting;
+mod front_parts;
 mod front_writing;
 mod object_fitting;
 mod object_writing;
 mod record_fitting;
 mod record_front;
 mod record_writing;
+mod sub_front;
 mod writing;
 
 pub use fact_writing::write_fact;

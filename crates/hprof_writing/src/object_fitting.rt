@@ -5,108 +5,26 @@ ghost use Rattle.hprof_values.specs.declared.sub_tag.SubTag.TheVariants as tags;
 ghost use Rattle.hprof_lists.specs.declared.entry.EntryKind.TheVariants as kinds;
 ghost use Rattle.hprof_lists.specs.Entries.{ListFits};
 ghost use Rattle.hprof_lists.specs.Lists.{constants_of, constants_size, statics_of, statics_size, fields_of, fields_size};
-ghost use Rattle.hprof_items.specs.FactValue.{Rooted, Instance, PrimArray, value_of, ListsHave};
+ghost use Rattle.hprof_items.specs.FactValue.{value_of, ListsHave};
 ghost use Rattle.hprof_items.specs.Spelling.{Fits};
 ghost use Rattle.hprof_items.specs.ObjectTag.{object_of};
+ghost use Rattle.hprof_writing.specs.SubFronts.{HasSubFront};
 
 use crate::front_fitting::front_fits;
+use crate::sub_front::sub_front;
 use hprof_items::Fact;
 use hprof_lists::{ConstantList, FieldList, StaticList};
-use hprof_values::{Basic, IdSize, Number, Root, numbers_fit};
+use hprof_values::{IdSize, Number, numbers_fit};
 
-/// Whether a root has a spelling.
-pub(crate) fn root_fits(root: Root, ids: IdSize) -> bool
-    ensures { IsTrue result ↔ Fits ids (Rooted root) }
-{
-    use hprof_values::Number::{Four, Id};
-    match root {
-        Root::JniGlobal { id, reference } => numbers_fit(&[Id(id), Id(reference)], ids),
-        Root::JniLocal { id, thread, frame } => numbers_fit(
-            &[Id(id), Four(thread), Four(frame)],
-            ids,
-        ),
-        Root::JavaFrame { id, thread, frame } => numbers_fit(
-            &[Id(id), Four(thread), Four(frame)],
-            ids,
-        ),
-        Root::NativeStack { id, thread } => numbers_fit(&[Id(id), Four(thread)], ids),
-        Root::Sticky { id } => numbers_fit(&[Id(id)], ids),
-        Root::Block { id, thread } => numbers_fit(&[Id(id), Four(thread)], ids),
-        Root::Monitor { id } => numbers_fit(&[Id(id)], ids),
-        Root::ThreadObject { id, thread, trace } => numbers_fit(
-            &[Id(id), Four(thread), Four(trace)],
-            ids,
-        ),
-        Root::Unknown { id } => numbers_fit(&[Id(id)], ids),
-    }
-}
-
-/// Whether an instance has a spelling.
-pub(crate) fn instance_fits(id: u64, trace: u32, class: u64, bytes: &[u8], ids: IdSize) -> bool
-    ensures { IsTrue result ↔ Fits ids (Instance id trace class bytes.now) }
-{
-    let Ok(len) = u32::try_from(bytes.len()) else {
-        return false;
-    };
-    let fields = [
-        Number::Id(id),
-        Number::Four(trace),
-        Number::Id(class),
-        Number::Four(len),
-    ];
-    front_fits(&fields, bytes.len() + 1, ids)
-}
-
-/// Whether an array of objects has a spelling.
-pub(crate) fn obj_array_fits(fact: &Fact<'_>, ids: IdSize) -> bool
-    requires { object_of (value_of fact.now) ≡ Some tags.ObjArrayDump }
+/// Whether a root, an instance or an array has a spelling.
+pub(crate) fn sub_fits(fact: &Fact<'_>, ids: IdSize) -> bool
+    requires { HasSubFront (value_of fact.now) }
     ensures { IsTrue result ↔ (Fits ids (value_of fact.now) × ListsHave ids fact.now) }
 {
-    let Fact::ObjArray {
-        id,
-        trace,
-        class,
-        elements,
-    } = *fact
-    else {
-        unreachable!()
-    };
-    if elements.id_size() != ids {
-        return false;
-    }
-    let Ok(count) = u32::try_from(elements.len()) else {
+    let Some(front) = sub_front(fact, ids) else {
         return false;
     };
-    let fields = [
-        Number::Id(id),
-        Number::Four(trace),
-        Number::Four(count),
-        Number::Id(class),
-    ];
-    front_fits(&fields, elements.bytes().len() + 1, ids)
-}
-
-/// Whether an array of numbers or truth values has a spelling: no element is cut.
-pub(crate) fn prim_array_fits(id: u64, trace: u32, elem: Basic, bytes: &[u8], ids: IdSize) -> bool
-    ensures { IsTrue result ↔ Fits ids (PrimArray id trace elem bytes.now) }
-{
-    if elem == Basic::Array || elem == Basic::Object {
-        return false;
-    }
-    let width = elem.width(ids) as usize;
-    if bytes.len() % width != 0 {
-        return false;
-    }
-    let Ok(count) = u32::try_from(bytes.len() / width) else {
-        return false;
-    };
-    let fields = [
-        Number::Id(id),
-        Number::Four(trace),
-        Number::Four(count),
-        Number::One(elem.code()),
-    ];
-    front_fits(&fields, bytes.len() + 1, ids)
+    front_fits(&front.fields[..front.count], front.more.len() + 1, ids)
 }
 
 /// Whether the lists of a class have identifiers of that size, and so a spelling.

@@ -1,18 +1,15 @@
 //! The fields of each record that states one fact, and the bytes behind them.
 
 ghost use Rattle.std.specs.Prelude.{◌≡◌, ◌≤◌, take, IsSome, IfSome, None};
-ghost use Rattle.hprof_values.specs.Ids.{IsBytes};
 ghost use Rattle.hprof_items.specs.Spelling.{Fits};
 ghost use Rattle.hprof_items.specs.RecordBody.{record_of};
 ghost use Rattle.hprof_items.specs.FactValue.{value_of, ListsHave};
 ghost use Rattle.hprof_writing.specs.RecordFronts.{IsRecordFront};
 
+use crate::front_parts::{NO_FIELD, in_range};
 use hprof_items::Fact;
 use hprof_values::Number::{Four, Id};
 use hprof_values::{IdSize, Number, RecordTag};
-
-/// What stands in a field that is not there.
-const NO_FIELD: Number = Number::One(0);
 
 /// A record's tag, the fields of its body, and the bytes behind them.
 #[derive(Clone, Copy)]
@@ -25,15 +22,6 @@ pub(crate) struct RecordFront<'a> {
     pub count: usize,
     /// The bytes behind them.
     pub more: &'a [u8],
-}
-
-/// The bytes, each of which lies in the range of a byte.
-#[inline(always)]
-fn in_range(bytes: &[u8]) -> &[u8]
-    ensures same { result.now ≡ bytes.now }
-    ensures range { IsBytes bytes.now }
-{
-    bytes
 }
 
 /// The front of the fact's record. There is none where its frames have identifiers of another size, or are too many
