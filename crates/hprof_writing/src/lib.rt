@@ -6,6 +6,7 @@ mod class_writing;
 mod fact_writing;
 mod fitting;
 mod front_fitting;
+mod front_lengths;
 mod front_parts;
 mod front_writing;
 mod object_fitting;
