@@ -29,10 +29,8 @@ pub fn write_fact<W: Target>(fact: &Fact<'_>, ids: IdSize, target: &mut W) -> Re
         | Fact::Trace { .. }
         | Fact::Start { .. }
         | Fact::End { .. } => write_stated(fact, ids, target),
-        Fact::Root(_)
-        | Fact::Instance { .. }
-        | Fact::ObjArray { .. }
-        | Fact::PrimArray { .. } => write_sub(fact, ids, target),
+        Fact::Root(_) | Fact::Instance { .. } | Fact::ObjArray { .. } | Fact::PrimArray { .. } =>
+            write_sub(fact, ids, target),
         Fact::Class { .. } => write_class(fact, ids, target),
     }
 }

@@ -6,11 +6,10 @@ ghost use Rattle.hprof_items.specs.ClassDump.{class_widths, class_lists};
 ghost use Rattle.hprof_items.specs.Spelling.{longest_body, spelling, Fits};
 ghost use Rattle.hprof_items.specs.FactValue.{value_of, ListsHave};
 
-use crate::front_lengths::{record_len, sub_len};
+use crate::front_lengths::{class_len, record_len, sub_len};
 use crate::object_fitting::{class_fits, sub_fits};
 use crate::record_fitting::record_fits;
 use hprof_items::Fact;
-use hprof_lists::{ConstantList, FieldList, StaticList};
 use hprof_values::IdSize;
 
 /// Whether the fact has a spelling under that size of identifiers: its identifiers and its lists have that size, no
@@ -26,10 +25,8 @@ pub fn fits(fact: &Fact<'_>, ids: IdSize) -> bool
         | Fact::Trace { .. }
         | Fact::Start { .. }
         | Fact::End { .. } => record_fits(fact, ids),
-        Fact::Root(_)
-        | Fact::Instance { .. }
-        | Fact::ObjArray { .. }
-        | Fact::PrimArray { .. } => sub_fits(fact, ids),
+        Fact::Root(_) | Fact::Instance { .. } | Fact::ObjArray { .. } | Fact::PrimArray { .. } =>
+            sub_fits(fact, ids),
         Fact::Class { .. } => class_fits(fact, ids),
     }
 }
@@ -48,32 +45,9 @@ pub fn spelled_len(fact: &Fact<'_>, ids: IdSize) -> u64
         | Fact::Trace { .. }
         | Fact::Start { .. }
         | Fact::End { .. } => record_len(fact, ids),
-        Fact::Root(_)
-        | Fact::Instance { .. }
-        | Fact::ObjArray { .. }
-        | Fact::PrimArray { .. } => sub_len(fact, ids),
-        Fact::Class {
-            constants,
-            statics,
-            fields,
-            ..
-        } => class_len(&constants, &statics, &fields, ids),
+        Fact::Root(_) | Fact::Instance { .. } | Fact::ObjArray { .. } | Fact::PrimArray { .. } =>
+            sub_len(fact, ids),
+        Fact::Class { .. } => class_len(fact, ids),
     };
     len as u64
-}
-
-/// The number of bytes in the sub-record of a class with those lists.
-fn class_len(
-    constants: &ConstantList<'_>,
-    statics: &StaticList<'_>,
-    fields: &FieldList<'_>,
-    ids: IdSize,
-) -> usize
-    requires lists { (constants_size constants.now ≡ ids) × (statics_size statics.now ≡ ids) × (fields_size fields.now ≡ ids) }
-    requires short { length (class_lists ids (constants_of constants.now) (statics_of statics.now) (fields_of fields.now)) ≤ longest_body }
-    ensures { result ≡ 1 + sum (class_widths ids) + length (class_lists ids (constants_of constants.now) (statics_of statics.now)
-        (fields_of fields.now)) }
-{
-    let entries = constants.bytes().len() + statics.bytes().len() + fields.bytes().len();
-    15 + 7 * ids.width() + entries
 }

@@ -2,6 +2,7 @@
 //! itself. No call of this crate takes memory.
 #![tactic(auto)]
 
+mod class_front;
 mod class_writing;
 mod fact_writing;
 mod fitting;
