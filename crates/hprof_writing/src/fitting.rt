@@ -1,9 +1,7 @@
 //! Which facts have a spelling, and how long it is.
 
-ghost use Rattle.std.specs.Prelude.{◌≡◌, ◌↔◌, IsTrue, ◌+◌, ◌≤◌, length, sum};
-ghost use Rattle.hprof_lists.specs.Lists.{constants_of, constants_size, statics_of, statics_size, fields_of, fields_size};
-ghost use Rattle.hprof_items.specs.ClassDump.{class_widths, class_lists};
-ghost use Rattle.hprof_items.specs.Spelling.{longest_body, spelling, Fits};
+ghost use Rattle.std.specs.Prelude.{◌≡◌, ◌↔◌, IsTrue, length};
+ghost use Rattle.hprof_items.specs.Spelling.{spelling, Fits};
 ghost use Rattle.hprof_items.specs.FactValue.{value_of, ListsHave};
 
 use crate::front_lengths::{class_len, record_len, sub_len};
