@@ -1,20 +1,12 @@
 -- Fields that are put behind those of a head, and the records that they begin.
-use Rattle.std.proofs.Common.{◌≡◌, ℕ, ◌+◌, ◌%◌, ◌<◌, List, [], ◌∷◌, ◌++◌, length, take, Option, Result, sym, ap, subst, ◌∙◌, append_assoc}
+use Rattle.std.proofs.Common.{◌≡◌, ℕ, ◌+◌, ◌%◌, ◌<◌, List, [], ◌∷◌, ◌++◌, length, take, sym, ap, ◌∙◌, append_assoc}
 use Rattle.std.proofs.Common.{arith}
 use Rattle.std.proofs.lemmas.List.{take_at, length-append}
 use borrow.Rule.Slice.PartMut.{put_mid, post_of}
 use Rattle.hprof_values.specs.FieldGroups.{field_bytes}
 use Rattle.byteorder.specs.Endian.{big_bytes}
 use Rattle.hprof_values.specs.declared.sub_tag.SubTag.{SubTag}
-use Rattle.hprof_lists.specs.declared.lists.ids.IdList.{IdList}
-use Rattle.hprof_lists.specs.Lists.{id_widths, identifiers_of, identifiers_size, IsIdList}
 use Rattle.hprof_values.specs.SubTag.{code_of_tag}
-use Rattle.hprof_values.specs.declared.ids.IdSize.{IdSize}
-use Rattle.hprof_items.specs.declared.fact.Fact.{Fact}
-use Rattle.hprof_devices.specs.declared.health.WriteFault.{WriteFault}
-use Rattle.hprof_items.specs.Spelling.{spelling, Fits}
-use Rattle.hprof_devices.specs.Device.{Writes}
-use Rattle.hprof_items.specs.FactValue.{value_of, ListsHave}
 use Rattle.hprof_items.specs.Head.{head_bytes, record_bytes}
 use Rattle.hprof_items.specs.SubRecord.{tagged_bytes}
 
@@ -49,27 +41,3 @@ record_parts tag code len widths numbers more same lt is =
 pub tagged_parts : (tag : ℕ) (code : SubTag) (widths numbers more : List ℕ) → tag ≡ code_of_tag code → tag < 256
     → (field_bytes (1 ∷ []) (tag ∷ []) ++ field_bytes widths numbers) ++ more ≡ tagged_bytes code widths numbers more
 tagged_parts tag code widths numbers more same lt = ap (λ (t : ℕ). t ∷ (field_bytes widths numbers ++ more)) (byte_same tag lt ∙ same)
-
--- ---- what is said of a fact in hand, where it is known which form it has
-
--- what a write of one form wrote
-pub writes_form : {A : Type 0} (ids : IdSize) (old new : Option (List ℕ)) (r : Result A WriteFault) (fact this : Fact) → fact ≡ this
-    → Writes old new r (spelling ids (value_of this)) → Writes old new r (spelling ids (value_of fact))
-writes_form ids old new r fact this same w = subst (λ (f : Fact). Writes old new r (spelling ids (value_of f))) (sym same) w
-
--- a fact of one form that has a spelling
-pub fits_form : (ids : IdSize) (fact this : Fact) → fact ≡ this → Fits ids (value_of fact) → Fits ids (value_of this)
-fits_form ids fact this same fits = subst (λ (f : Fact). Fits ids (value_of f)) same fits
-
--- lists of one form that have the size of identifiers
-pub lists_form : (ids : IdSize) (fact this : Fact) → fact ≡ this → ListsHave ids fact → ListsHave ids this
-lists_form ids fact this same lists = subst (ListsHave ids) same lists
-
--- ---- lists of identifiers
-
--- the bytes of a list of that size
-pub ids_bytes : (ids : IdSize) (list : IdList) (bytes : List ℕ) → identifiers_size list ≡ ids
-    → IsIdList (identifiers_size list) (identifiers_of list) bytes
-    → bytes ≡ field_bytes (id_widths ids (length (identifiers_of list))) (identifiers_of list)
-ids_bytes ids list bytes size spells =
-    spells.spelled ∙ ap (λ (s : IdSize). field_bytes (id_widths s (length (identifiers_of list))) (identifiers_of list)) size

@@ -1,2 +1,4 @@
+pub mod ClassFitting
 pub mod Fronts
 pub mod Lengths
+pub mod SubFitting

@@ -1,0 +1,3 @@
+pub mod ClassFronts
+pub mod RecordFronts
+pub mod SubFronts

@@ -1,39 +1,37 @@
 //! Writing the sub-record of a class.
 
 ghost use Rattle.std.specs.Prelude.{◌≡◌, ◌≤◌, ◌++◌, sum, Some};
-ghost use Rattle.byteorder.specs.Endian.{big_bytes};
 ghost use Rattle.hprof_devices.specs.declared.health.Health.TheVariants.{Well};
 ghost use Rattle.hprof_values.specs.declared.sub_tag.SubTag.TheVariants as tags;
-ghost use Rattle.hprof_lists.specs.Entries.{most_entries};
 ghost use Rattle.hprof_values.specs.FieldGroups.{field_bytes, FitFields};
 ghost use Rattle.hprof_values.specs.Numbers.{number_widths, number_values};
 ghost use Rattle.hprof_items.specs.Spelling.{spelling, Fits};
 ghost use Rattle.hprof_items.specs.ObjectTag.{object_of};
 ghost use Rattle.hprof_items.specs.FactValue.{value_of, ListsHave};
 ghost use Rattle.hprof_devices.specs.Device.{Writes, LeavesHealth};
+ghost use Rattle.hprof_writing.specs.ClassFronts.{counted};
 
+use crate::class_front::{ListFront, class_front};
 use crate::front_writing::write_front;
 use hprof_devices::{Target, WriteFault};
 use hprof_items::Fact;
-use hprof_values::{IdSize, Number, SubTag};
+use hprof_values::{IdSize, Number};
 
 /// Writes some fields, the number of entries of a list, and the entries.
 fn write_list<W: Target>(
     head: &[Number],
-    count: usize,
-    entries: &[u8],
+    list: ListFront<'_>,
     ids: IdSize,
     target: &mut W,
 ) -> Result<(), WriteFault>
     requires well { W.health target.old ≡ Well }
     requires fits { FitFields (number_widths ids head.now) (number_values head.now) }
     requires room { sum (number_widths ids head.now) ≤ 78 }
-    requires few { count ≤ most_entries }
     ensures bytes { Writes (W.written target.old) (W.written target.new) result
-        (field_bytes (number_widths ids head.now) (number_values head.now) ++ (big_bytes 2 count ++ entries.now)) }
+        (field_bytes (number_widths ids head.now) (number_values head.now) ++ counted list.entry.count list.entry.bytes.now) }
     ensures health { LeavesHealth result (W.health target.new) }
 {
-    write_front(head, &[Number::Two(count as u16)], entries, ids, target)
+    write_front(head, &[Number::Two(list.count)], list.bytes, ids, target)
 }
 
 /// Writes the sub-record of a class.
@@ -49,36 +47,10 @@ pub(crate) fn write_class<W: Target>(
     ensures bytes { Writes (W.written target.old) (W.written target.new) result (spelling ids (value_of fact.now)) }
     ensures health { LeavesHealth result (W.health target.new) }
 {
-    let Fact::Class {
-        id,
-        trace,
-        parent,
-        loader,
-        signers,
-        domain,
-        reserved1,
-        reserved2,
-        size,
-        constants,
-        statics,
-        fields,
-    } = *fact
-    else {
+    let Some(front) = class_front(fact, ids) else {
         unreachable!()
     };
-    let head = [
-        Number::One(SubTag::ClassDump.code()),
-        Number::Id(id),
-        Number::Four(trace),
-        Number::Id(parent),
-        Number::Id(loader),
-        Number::Id(signers),
-        Number::Id(domain),
-        Number::Id(reserved1),
-        Number::Id(reserved2),
-        Number::Four(size),
-    ];
-    write_list(&head, constants.len(), constants.bytes(), ids, target)?;
-    write_list(&[], statics.len(), statics.bytes(), ids, target)?;
-    write_list(&[], fields.len(), fields.bytes(), ids, target)
+    write_list(&front.fields, front.constants, ids, target)?;
+    write_list(&[], front.statics, ids, target)?;
+    write_list(&[], front.own, ids, target)
 }

@@ -7,10 +7,8 @@ ghost use Rattle.hprof_items.specs.FactValue.{value_of, ListsHave};
 ghost use Rattle.hprof_devices.specs.Device.{Writes, LeavesHealth};
 
 use crate::class_writing::write_class;
-use crate::object_writing::{write_instance, write_obj_array, write_prim_array, write_root};
-use crate::record_writing::{
-    write_end, write_frame, write_load, write_name, write_start, write_trace, write_unload,
-};
+use crate::object_writing::write_sub;
+use crate::record_writing::write_stated;
 use hprof_devices::{Target, WriteFault};
 use hprof_items::Fact;
 use hprof_values::IdSize;
@@ -24,17 +22,15 @@ pub fn write_fact<W: Target>(fact: &Fact<'_>, ids: IdSize, target: &mut W) -> Re
     ensures health { LeavesHealth result (W.health target.new) }
 {
     match *fact {
-        Fact::Name { .. } => write_name(fact, ids, target),
-        Fact::Load { .. } => write_load(fact, ids, target),
-        Fact::Unload { .. } => write_unload(fact, ids, target),
-        Fact::Frame { .. } => write_frame(fact, ids, target),
-        Fact::Trace { .. } => write_trace(fact, ids, target),
-        Fact::Start { .. } => write_start(fact, ids, target),
-        Fact::End { .. } => write_end(fact, ids, target),
-        Fact::Root(root) => write_root(root, ids, target),
+        Fact::Name { .. }
+        | Fact::Load { .. }
+        | Fact::Unload { .. }
+        | Fact::Frame { .. }
+        | Fact::Trace { .. }
+        | Fact::Start { .. }
+        | Fact::End { .. } => write_stated(fact, ids, target),
+        Fact::Root(_) | Fact::Instance { .. } | Fact::ObjArray { .. } | Fact::PrimArray { .. } =>
+            write_sub(fact, ids, target),
         Fact::Class { .. } => write_class(fact, ids, target),
-        Fact::Instance { .. } => write_instance(fact, ids, target),
-        Fact::ObjArray { .. } => write_obj_array(fact, ids, target),
-        Fact::PrimArray { .. } => write_prim_array(fact, ids, target),
     }
 }

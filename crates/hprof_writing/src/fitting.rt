@@ -1,21 +1,14 @@
 //! Which facts have a spelling, and how long it is.
 
-ghost use Rattle.std.specs.Prelude.{◌≡◌, ◌↔◌, IsTrue, ◌+◌, ◌≤◌, length, sum};
-ghost use Rattle.hprof_lists.specs.Lists.{constants_of, constants_size, statics_of, statics_size, fields_of, fields_size};
-ghost use Rattle.hprof_values.specs.Root.{root_bytes};
-ghost use Rattle.hprof_items.specs.ClassDump.{class_widths, class_lists};
-ghost use Rattle.hprof_items.specs.Spelling.{longest_body, spelling, Fits};
+ghost use Rattle.std.specs.Prelude.{◌≡◌, ◌↔◌, IsTrue, length};
+ghost use Rattle.hprof_items.specs.Spelling.{spelling, Fits};
 ghost use Rattle.hprof_items.specs.FactValue.{value_of, ListsHave};
 
-use crate::object_fitting::{
-    class_fits, instance_fits, obj_array_fits, prim_array_fits, root_fits,
-};
-use crate::record_fitting::{
-    end_fits, frame_fits, load_fits, name_fits, start_fits, trace_fits, unload_fits,
-};
-use hprof_items::{Fact, HEAD_LEN};
-use hprof_lists::{ConstantList, FieldList, StaticList};
-use hprof_values::{IdSize, Root};
+use crate::front_lengths::{class_len, record_len, sub_len};
+use crate::object_fitting::{class_fits, sub_fits};
+use crate::record_fitting::record_fits;
+use hprof_items::Fact;
+use hprof_values::IdSize;
 
 /// Whether the fact has a spelling under that size of identifiers: its identifiers and its lists have that size, no
 /// element of an array is cut, and its length fits the field for it.
@@ -23,41 +16,16 @@ pub fn fits(fact: &Fact<'_>, ids: IdSize) -> bool
     ensures { IsTrue result ↔ (Fits ids (value_of fact.now) × ListsHave ids fact.now) }
 {
     match *fact {
-        Fact::Name { id, text } => name_fits(id, text, ids),
-        Fact::Load { .. } => load_fits(fact, ids),
-        Fact::Unload { .. } => unload_fits(fact, ids),
-        Fact::Frame { .. } => frame_fits(fact, ids),
-        Fact::Trace { .. } => trace_fits(fact, ids),
-        Fact::Start { .. } => start_fits(fact, ids),
-        Fact::End { .. } => end_fits(fact, ids),
-        Fact::Root(root) => root_fits(root, ids),
+        Fact::Name { .. }
+        | Fact::Load { .. }
+        | Fact::Unload { .. }
+        | Fact::Frame { .. }
+        | Fact::Trace { .. }
+        | Fact::Start { .. }
+        | Fact::End { .. } => record_fits(fact, ids),
+        Fact::Root(_) | Fact::Instance { .. } | Fact::ObjArray { .. } | Fact::PrimArray { .. } =>
+            sub_fits(fact, ids),
         Fact::Class { .. } => class_fits(fact, ids),
-        Fact::Instance {
-            id,
-            trace,
-            class,
-            bytes,
-        } => instance_fits(id, trace, class, bytes, ids),
-        Fact::ObjArray { .. } => obj_array_fits(fact, ids),
-        Fact::PrimArray {
-            id,
-            trace,
-            elem,
-            bytes,
-        } => prim_array_fits(id, trace, elem, bytes, ids),
-    }
-}
-
-/// The number of bytes in the sub-record of a root.
-fn root_len(root: Root, ids: IdSize) -> usize
-    ensures { result ≡ length (root_bytes ids root) }
-{
-    let id = ids.width();
-    match root {
-        Root::JniGlobal { .. } => 1 + 2 * id,
-        Root::JniLocal { .. } | Root::JavaFrame { .. } | Root::ThreadObject { .. } => 9 + id,
-        Root::NativeStack { .. } | Root::Block { .. } => 5 + id,
-        Root::Sticky { .. } | Root::Monitor { .. } | Root::Unknown { .. } => 1 + id,
     }
 }
 
@@ -67,39 +35,17 @@ pub fn spelled_len(fact: &Fact<'_>, ids: IdSize) -> u64
     requires lists { ListsHave ids fact.now }
     ensures { result ≡ length (spelling ids (value_of fact.now)) }
 {
-    let id = ids.width();
     let len = match *fact {
-        Fact::Name { text, .. } => HEAD_LEN + id + text.len(),
-        Fact::Load { .. } => HEAD_LEN + 8 + 2 * id,
-        Fact::Unload { .. } | Fact::End { .. } => HEAD_LEN + 4,
-        Fact::Frame { .. } | Fact::Start { .. } => HEAD_LEN + 8 + 4 * id,
-        Fact::Trace { frames, .. } => HEAD_LEN + 12 + frames.bytes().len(),
-        Fact::Root(root) => root_len(root, ids),
-        Fact::Class {
-            constants,
-            statics,
-            fields,
-            ..
-        } => class_len(&constants, &statics, &fields, ids),
-        Fact::Instance { bytes, .. } => 9 + 2 * id + bytes.len(),
-        Fact::ObjArray { elements, .. } => 9 + 2 * id + elements.bytes().len(),
-        Fact::PrimArray { bytes, .. } => 10 + id + bytes.len(),
+        Fact::Name { .. }
+        | Fact::Load { .. }
+        | Fact::Unload { .. }
+        | Fact::Frame { .. }
+        | Fact::Trace { .. }
+        | Fact::Start { .. }
+        | Fact::End { .. } => record_len(fact, ids),
+        Fact::Root(_) | Fact::Instance { .. } | Fact::ObjArray { .. } | Fact::PrimArray { .. } =>
+            sub_len(fact, ids),
+        Fact::Class { .. } => class_len(fact, ids),
     };
     len as u64
-}
-
-/// The number of bytes in the sub-record of a class with those lists.
-fn class_len(
-    constants: &ConstantList<'_>,
-    statics: &StaticList<'_>,
-    fields: &FieldList<'_>,
-    ids: IdSize,
-) -> usize
-    requires lists { (constants_size constants.now ≡ ids) × (statics_size statics.now ≡ ids) × (fields_size fields.now ≡ ids) }
-    requires short { length (class_lists ids (constants_of constants.now) (statics_of statics.now) (fields_of fields.now)) ≤ longest_body }
-    ensures { result ≡ 1 + sum (class_widths ids) + length (class_lists ids (constants_of constants.now) (statics_of statics.now)
-        (fields_of fields.now)) }
-{
-    let entries = constants.bytes().len() + statics.bytes().len() + fields.bytes().len();
-    15 + 7 * ids.width() + entries
 }

@@ -2,15 +2,20 @@
 //! itself. No call of this crate takes memory.
 #![tactic(auto)]
 
+mod class_front;
 mod class_writing;
 mod fact_writing;
 mod fitting;
 mod front_fitting;
+mod front_lengths;
+mod front_parts;
 mod front_writing;
 mod object_fitting;
 mod object_writing;
 mod record_fitting;
+mod record_front;
 mod record_writing;
+mod sub_front;
 mod writing;
 
 pub use fact_writing::write_fact;

@@ -1,5 +1,0 @@
-use Rattle.std.proofs.Common.{rules}
-use Rattle.hprof_writing.proofs.fitting.spelled_len.Goals as goal
-
-pub returns-in-Instance : goal.returns-in-Instance
-returns-in-Instance c = search rules

@@ -1,0 +1,114 @@
+//! The fields of a class's sub-record, and the lists behind them.
+
+ghost use Rattle.std.specs.Prelude.{◌≡◌, ◌↔◌, IsTrue, IfSome, Some, None};
+ghost use Rattle.hprof_values.specs.declared.sub_tag.SubTag.TheVariants as tags;
+ghost use Rattle.hprof_lists.specs.declared.entry.EntryKind.TheVariants as kinds;
+ghost use Rattle.hprof_lists.specs.Entries.{ListFits};
+ghost use Rattle.hprof_lists.specs.Lists.{constants_of, constants_size, statics_of, statics_size, fields_of, fields_size};
+ghost use Rattle.hprof_items.specs.ObjectTag.{object_of};
+ghost use Rattle.hprof_items.specs.FactValue.{value_of, ListsHave};
+ghost use Rattle.hprof_writing.specs.ClassFronts.{counted, IsClassFront};
+
+use hprof_items::Fact;
+use hprof_lists::{ConstantList, FieldList, StaticList};
+use hprof_values::Number::{Four, Id, One};
+use hprof_values::{IdSize, Number, SubTag};
+
+/// A list of a class: how many entries it has, and the bytes that spell them.
+#[derive(Clone, Copy)]
+pub(crate) struct ListFront<'a> {
+    /// How many entries it has.
+    pub count: u16,
+    /// The bytes that spell them.
+    pub bytes: &'a [u8],
+}
+
+/// The tag and the fields of a class's sub-record, and the lists behind them.
+#[derive(Clone, Copy)]
+pub(crate) struct ClassFront<'a> {
+    /// The tag, and the fields behind it.
+    pub fields: [Number; 10],
+    /// The constants.
+    pub constants: ListFront<'a>,
+    /// The static fields.
+    pub statics: ListFront<'a>,
+    /// The fields that its instances have of their own.
+    pub own: ListFront<'a>,
+}
+
+/// Whether the lists of a class have identifiers of that size, and so a spelling.
+fn lists_fit(
+    constants: &ConstantList<'_>,
+    statics: &StaticList<'_>,
+    fields: &FieldList<'_>,
+    ids: IdSize,
+) -> bool
+    ensures sizes { IsTrue result ↔ ((constants_size constants.now ≡ ids) × (statics_size statics.now ≡ ids)
+        × (fields_size fields.now ≡ ids)) }
+    ensures fit { IsTrue result → (ListFits ids kinds.Constant (constants_of constants.now)
+        × ListFits ids kinds.Static (statics_of statics.now) × ListFits ids kinds.Field (fields_of fields.now)) }
+{
+    if constants.id_size() != ids {
+        return false;
+    }
+    if statics.id_size() != ids {
+        return false;
+    }
+    fields.id_size() == ids
+}
+
+/// The front of the class's sub-record. There is none where a list of it has identifiers of another size. The lists
+/// are never too long.
+pub(crate) fn class_front<'a>(fact: &Fact<'a>, ids: IdSize) -> Option<ClassFront<'a>>
+    requires is { object_of (value_of fact.now) ≡ Some tags.ClassDump }
+    ensures some { IfSome result (λ front. IsClassFront ids fact.now front.fields (counted front.constants.count front.constants.bytes.now)
+        (counted front.statics.count front.statics.bytes.now) (counted front.own.count front.own.bytes.now)) }
+    ensures none { result ≡ None → ListsHave ids fact.now → ⊥ }
+{
+    let Fact::Class {
+        id,
+        trace,
+        parent,
+        loader,
+        signers,
+        domain,
+        reserved1,
+        reserved2,
+        size,
+        constants,
+        statics,
+        fields,
+    } = *fact
+    else {
+        unreachable!()
+    };
+    if !lists_fit(&constants, &statics, &fields, ids) {
+        return None;
+    }
+    Some(ClassFront {
+        fields: [
+            One(SubTag::ClassDump.code()),
+            Id(id),
+            Four(trace),
+            Id(parent),
+            Id(loader),
+            Id(signers),
+            Id(domain),
+            Id(reserved1),
+            Id(reserved2),
+            Four(size),
+        ],
+        constants: ListFront {
+            count: constants.len() as u16,
+            bytes: constants.bytes(),
+        },
+        statics: ListFront {
+            count: statics.len() as u16,
+            bytes: statics.bytes(),
+        },
+        own: ListFront {
+            count: fields.len() as u16,
+            bytes: fields.bytes(),
+        },
+    })
+}
