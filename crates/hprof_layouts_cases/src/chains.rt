@@ -73,13 +73,7 @@ fn known(rt: HostRuntime) -> Result<(), Fail> {
 fn a_byte_less(rt: HostRuntime) -> Result<(), Fail> {
     let bytes = vec![in rt.alloc(); 3; 999]?;
     let heap = long_chain(rt.alloc(), 0, &bytes)?;
-    check_no_values(
-        &rt,
-        rt.alloc(),
-        &heap,
-        2_000,
-        NoValues::WidthDiffers(1_000),
-    )
+    check_no_values(&rt, rt.alloc(), &heap, 2_000, NoValues::WidthDiffers(1_000))
 }
 
 #[test]

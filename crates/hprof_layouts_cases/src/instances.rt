@@ -14,7 +14,6 @@ use std::test::*;
 // Its bytes.
 const BYTES: &[u8] = b"\0\0\0\x07\0\0\0\xc9\xff";
 
-
 fn value_of(slot: Slot, bits: u64) -> FieldValue {
     FieldValue {
         class: slot.class,
