@@ -2,3 +2,4 @@ pub mod EntryLists
 pub mod Counting
 pub mod IdLists
 pub mod ListEnds
+pub mod EntryPlaces

@@ -1,3 +1,4 @@
 pub mod Entries
+pub mod EntryPlaces
 pub mod Value
 pub mod Lists

@@ -1,10 +1,14 @@
 //! Laws of the definitions. None of these functions does anything.
 
-ghost use Rattle.std.specs.Prelude.{◌≡◌, List, ℕ};
+ghost use Rattle.std.specs.Prelude.{◌≡◌, ◌≤◌, ◌↔◌, List, ℕ, length};
 ghost use Rattle.hprof_values.specs.declared.ids.IdSize.{IdSize};
+ghost use Rattle.hprof_values.specs.declared.stop.Stop.{Stop};
+ghost use Rattle.hprof_values.specs.FieldGroups.{Bounds, IsWithin};
+ghost use Rattle.hprof_values.specs.Ids.{IsBytes};
 ghost use Rattle.hprof_lists.specs.declared.entry.Entry.{Entry};
 ghost use Rattle.hprof_lists.specs.declared.entry.EntryKind.{EntryKind};
-ghost use Rattle.hprof_lists.specs.Entries.{IsEntryList};
+ghost use Rattle.hprof_lists.specs.Entries.{IsEntryList, entries_end};
+ghost use Rattle.hprof_lists.specs.EntryPlaces.{EntriesLie, StopsBehind};
 ghost use Rattle.hprof_lists.specs.Lists.{IsIdList};
 
 /// Bytes spell one list of entries of a kind, and one list of identifiers.
@@ -13,4 +17,14 @@ pub fn one_list()
         → IsEntryList ids kind entries bytes → IsEntryList ids kind others bytes → entries ≡ others }
     ensures identifiers { (ids : IdSize) (numbers others bytes : List ℕ)
         → IsIdList ids numbers bytes → IsIdList ids others bytes → numbers ≡ others }
+{}
+
+/// So many entries end at a place exactly where as many lie from their first up to there, within all bounds. What is answered
+/// otherwise is what the tests of one of them answer, before which the others end.
+pub fn entries_end_or_stop()
+    ensures end { (ids : IdSize) (kind : EntryKind) (bounds : Bounds) (bytes : List ℕ) (count at end : ℕ) → IsBytes bytes
+        → bounds.there ≤ length bytes → IsWithin bounds at
+        → (entries_end ids kind bounds bytes count at ≡ Ok end) ↔ (EntriesLie ids kind count bytes at end × IsWithin bounds end) }
+    ensures stop { (ids : IdSize) (kind : EntryKind) (bounds : Bounds) (bytes : List ℕ) (count at : ℕ) (stop : Stop)
+        → (entries_end ids kind bounds bytes count at ≡ Err stop) ↔ StopsBehind ids kind bounds bytes count at stop }
 {}

@@ -10,6 +10,7 @@ pub mod Rests
 pub mod ItemLists
 pub mod Runs
 pub mod Behind
+pub mod ReadItems
 pub mod Walks
 pub mod Stepping
 pub mod Holding

@@ -4,6 +4,7 @@ pub mod Item
 pub mod ItemStep
 pub mod ItemValue
 pub mod Progress
+pub mod ReadItems
 pub mod Fault
 pub mod Run
 pub mod Offset

@@ -37,6 +37,7 @@ fn a_part_in_pieces(rt: HostRuntime) {
     laws::no_fault_exactly_in_the_grammar();
     laws::a_longer_input();
     laws::a_smaller_limit();
+    laws::items_are_counted();
 }
 
 #[test]

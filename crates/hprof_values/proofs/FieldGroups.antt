@@ -76,7 +76,7 @@ fields_found (w ∷ ws) bytes are long =
 -- ---- where they end
 
 -- a field that ends within all bounds
-field_within : (bounds : Bounds) (end : ℕ) → IsWithin bounds end → field_end bounds end ≡ Ok end
+pub field_within : (bounds : Bounds) (end : ℕ) → IsWithin bounds end → field_end bounds end ≡ Ok end
 field_within bounds end within =
     cond-false (ltb bounds.room end) _ _ (le-ltb _ _ within.room)
     ∙ cond-false (ltb bounds.longest end) _ _ (le-ltb _ _ within.longest)
@@ -88,7 +88,7 @@ passed true stop r x e = absurd cc
 passed false stop r x e = (refl, e)
 
 -- a field that passed its tests
-field_passed : (bounds : Bounds) (end last : ℕ) → field_end bounds end ≡ Ok last → (last ≡ end) × IsWithin bounds end
+pub field_passed : (bounds : Bounds) (end last : ℕ) → field_end bounds end ≡ Ok last → (last ≡ end) × IsWithin bounds end
 field_passed bounds end last e =
     let room = passed (ltb bounds.room end) (Fault PastEnd) (cond (ltb bounds.longest end) (Err TooLong)
     (cond (ltb bounds.there end) (Err Short) (Ok end))) last e in

@@ -1,4 +1,5 @@
 pub mod Numbers
 pub mod Orders
 pub mod FieldGroups
+pub mod FieldStops
 pub mod NumberWriting

@@ -1,6 +1,7 @@
 pub mod Ids
 pub mod Basic
 pub mod FieldGroups
+pub mod FieldStops
 pub mod BoundedBytes
 pub mod Numbers
 pub mod SubTag

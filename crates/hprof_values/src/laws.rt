@@ -1,15 +1,17 @@
 //! Laws of the definitions. None of these functions does anything.
 
-ghost use Rattle.std.specs.Prelude.{◌≡◌, ◌+◌, ◌<◌, ◌≤◌, ◌⊎◌, List, ℕ, ◌++◌, length, drop, sum};
+ghost use Rattle.std.specs.Prelude.{◌≡◌, ◌+◌, ◌<◌, ◌≤◌, ◌⊎◌, ◌↔◌, List, ℕ, ◌++◌, length, drop, sum};
 ghost use Rattle.std.specs.Cmp.Lexicographic.{slice_cmp};
 ghost use Rattle.std.specs.Ordering.{nat_cmp};
 ghost use Rattle.hprof_values.specs.declared.ids.IdSize.{IdSize};
 ghost use Rattle.hprof_values.specs.declared.basic.Basic.{Basic};
 ghost use Rattle.hprof_values.specs.Basic.{code_of_basic};
 ghost use Rattle.hprof_values.specs.declared.root.Root.{Root};
+ghost use Rattle.hprof_values.specs.declared.stop.Stop.{Stop};
 ghost use Rattle.hprof_values.specs.declared.stop.Stop.TheVariants as stops;
 ghost use Rattle.hprof_values.specs.Ids.{IsBytes};
 ghost use Rattle.hprof_values.specs.FieldGroups.{field_bytes, fields_in, FitFields, Bounds, reached, IsWithin, with_more};
+ghost use Rattle.hprof_values.specs.FieldStops.{IsFirstStop};
 ghost use Rattle.hprof_values.specs.Root.{root_bytes, RootFits};
 
 use crate::basic::Basic;
@@ -44,4 +46,13 @@ pub fn fronts_are_short()
         → at + sum widths ≤ bounds.room → at + sum widths ≤ bounds.longest → reached bounds at widths ≡ Err stops.Short }
     ensures more { (bounds : Bounds) (at more : ℕ) (widths : List ℕ)
         → (reached bounds at widths ≡ Err stops.Short) ⊎ (reached (with_more bounds more) at widths ≡ reached bounds at widths) }
+{}
+
+/// Fields, one or more, end where their widths say, exactly where that lies within all bounds. What is answered otherwise is
+/// what the test of the first field answers that does not end within them.
+pub fn fields_end_or_stop()
+    ensures end { (bounds : Bounds) (at end : ℕ) (widths : List ℕ) → 0 < length widths
+        → (reached bounds at widths ≡ Ok end) ↔ ((end ≡ at + sum widths) × IsWithin bounds end) }
+    ensures stop { (bounds : Bounds) (at : ℕ) (widths : List ℕ) (stop : Stop)
+        → (reached bounds at widths ≡ Err stop) ↔ IsFirstStop bounds at widths stop }
 {}
