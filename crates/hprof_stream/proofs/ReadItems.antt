@@ -10,12 +10,12 @@ use Rattle.hprof_stream.specs.Item as places
 use Rattle.hprof_stream.specs.Item.{Place, IsItem}
 use Rattle.hprof_stream.specs.ItemStep.{facts_of}
 use Rattle.hprof_stream.specs.Progress.{place_of, advanced}
-use Rattle.hprof_stream.specs.ReadItems.{IsReadAs, Reads, none, more, IsBehind}
+use Rattle.hprof_stream.specs.ReadItems.{IsReadAs, ReadsItems, none, more, CountsItems}
 use Rattle.hprof_stream.proofs.Behind.{next_place, count_next, facts_next, end_next, offset_next, limits_next}
 
 -- an item, and those behind it
 behind_more : (longest : ℕ) (from to : Progress) (one : Stated) (items : List Stated) (item : ItemValue) → IsReadAs longest from one item
-    → IsBehind longest (advanced from item (length one.bytes)) items to → IsBehind longest from (one ∷ items) to
+    → CountsItems longest (advanced from item (length one.bytes)) items to → CountsItems longest from (one ∷ items) to
 behind_more longest from to one items item read behind =
     let n : ℕ = length one.bytes in
     let mid : Progress = advanced from item n in
@@ -38,8 +38,8 @@ behind_more longest from to one items item read behind =
           ∙ or_assoc from.ended (is_end one) (list_any is_end items);
     }
 
-pub reads_behind : (longest : ℕ) (from : Progress) (items : List Stated) (to : Progress) → Reads longest from items to
-    → IsBehind longest from items to
+pub reads_behind : (longest : ℕ) (from : Progress) (items : List Stated) (to : Progress) → ReadsItems longest from items to
+    → CountsItems longest from items to
 reads_behind longest from items to none = record {
   each = places.none;
   same_limits = refl;

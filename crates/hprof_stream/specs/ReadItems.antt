@@ -16,14 +16,14 @@ pub record IsReadAs (longest : ℕ) (from : Progress) (one : Stated) (item : Ite
   pub ends : is_end_item item ≡ is_end one
 
 -- one item after the other was read, from one progress to another
-pub data Reads (longest : ℕ) : Progress → List Stated → Progress → Type 0 where
-  none : {progress : Progress} → Reads longest progress [] progress
+pub data ReadsItems (longest : ℕ) : Progress → List Stated → Progress → Type 0 where
+  none : {progress : Progress} → ReadsItems longest progress [] progress
   more : {from to : Progress} {one : Stated} {items : List Stated} {item : ItemValue} → IsReadAs longest from one item
-      → Reads longest (advanced from item (length one.bytes)) items to → Reads longest from (one ∷ items) to
+      → ReadsItems longest (advanced from item (length one.bytes)) items to → ReadsItems longest from (one ∷ items) to
 
 -- the second progress is behind the first by these items, their bytes, the records that they begin and their facts, and tells
 -- whether one of them ends a heap dump
-pub record IsBehind (longest : ℕ) (from : Progress) (items : List Stated) (to : Progress) : Type 0 where
+pub record CountsItems (longest : ℕ) (from : Progress) (items : List Stated) (to : Progress) : Type 0 where
   pub each : AreItems longest (place_of from) items (place_of to)
   pub same_limits : to.limits ≡ from.limits
   pub offset : to.at ≡ from.at + length (all_bytes items)

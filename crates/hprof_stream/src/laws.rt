@@ -7,7 +7,7 @@ ghost use Rattle.hprof_items.specs.FactValue.{FactValue};
 ghost use Rattle.hprof_items.specs.Spelling.{longest_body};
 ghost use Rattle.hprof_stream.specs.declared.progress.Progress.{Progress};
 ghost use Rattle.hprof_stream.specs.Part.{Stated, IsPart};
-ghost use Rattle.hprof_stream.specs.ReadItems.{Reads, IsBehind};
+ghost use Rattle.hprof_stream.specs.ReadItems.{ReadsItems, CountsItems};
 ghost use Rattle.hprof_stream.specs.declared.part_fault.PartFault.{PartFault};
 ghost use Rattle.hprof_stream.specs.declared.part_fault.PartFault.TheVariants.{ItemTooLong};
 ghost use Rattle.hprof_stream.specs.Fault.{HasNoFault, IsFirstFault, StatesSoFar, is_settled};
@@ -51,6 +51,6 @@ pub fn a_longer_input()
 /// Behind items that are read one after the other, the offset is greater by their bytes, and the numbers of records and of facts
 /// by those that they begin and state; the end of a heap dump is told where one of them ends one.
 pub fn items_are_counted()
-    ensures { (longest : ℕ) (from : Progress) (items : List Stated) (to : Progress) → Reads longest from items to
-        → IsBehind longest from items to }
+    ensures { (longest : ℕ) (from : Progress) (items : List Stated) (to : Progress) → ReadsItems longest from items to
+        → CountsItems longest from items to }
 {}
