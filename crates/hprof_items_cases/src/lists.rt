@@ -60,6 +60,7 @@ fn statics(rt: HostRuntime) -> Result<(), Fail> {
         }),
     );
     laws::one_list();
+    laws::entries_end_or_stop();
     Ok(())
 }
 

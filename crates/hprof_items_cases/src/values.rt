@@ -29,6 +29,7 @@ fn root_tags(rt: HostRuntime) {
         } < root,
     );
     laws::roots_in_order();
+    laws::fields_end_or_stop();
 }
 
 #[test]
