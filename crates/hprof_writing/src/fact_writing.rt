@@ -29,8 +29,11 @@ pub fn write_fact<W: Target>(fact: &Fact<'_>, ids: IdSize, target: &mut W) -> Re
         | Fact::Trace { .. }
         | Fact::Start { .. }
         | Fact::End { .. } => write_stated(fact, ids, target),
-        Fact::Root(_) | Fact::Instance { .. } | Fact::ObjArray { .. } | Fact::PrimArray { .. } =>
-            write_sub(fact, ids, target),
+        // An arm for each form: with `write_sub` in place, its fields are known there.
+        Fact::Root(_) => write_sub(fact, ids, target),
+        Fact::Instance { .. } => write_sub(fact, ids, target),
+        Fact::ObjArray { .. } => write_sub(fact, ids, target),
+        Fact::PrimArray { .. } => write_sub(fact, ids, target),
         Fact::Class { .. } => write_class(fact, ids, target),
     }
 }

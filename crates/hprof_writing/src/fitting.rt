@@ -23,8 +23,11 @@ pub fn fits(fact: &Fact<'_>, ids: IdSize) -> bool
         | Fact::Trace { .. }
         | Fact::Start { .. }
         | Fact::End { .. } => record_fits(fact, ids),
-        Fact::Root(_) | Fact::Instance { .. } | Fact::ObjArray { .. } | Fact::PrimArray { .. } =>
-            sub_fits(fact, ids),
+        // An arm for each form: with `sub_fits` in place, its fields are known there.
+        Fact::Root(_) => sub_fits(fact, ids),
+        Fact::Instance { .. } => sub_fits(fact, ids),
+        Fact::ObjArray { .. } => sub_fits(fact, ids),
+        Fact::PrimArray { .. } => sub_fits(fact, ids),
         Fact::Class { .. } => class_fits(fact, ids),
     }
 }

@@ -11,6 +11,7 @@ use hprof_values::{IdSize, Number, numbers_fit, numbers_len};
 const LONGEST: usize = 4294967295;
 
 /// Whether each field lies in its range, and the fields with so many bytes more are not too long.
+#[inline(always)]
 pub(crate) fn front_fits(fields: &[Number], more: usize, ids: IdSize) -> bool
     requires { length fields.now ≤ 10 }
     ensures { IsTrue result ↔ (FitFields (number_widths ids fields.now) (number_values fields.now)

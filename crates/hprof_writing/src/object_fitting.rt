@@ -14,6 +14,7 @@ use hprof_items::Fact;
 use hprof_values::{IdSize, numbers_fit};
 
 /// Whether a root, an instance or an array has a spelling.
+#[inline(always)]
 pub(crate) fn sub_fits(fact: &Fact<'_>, ids: IdSize) -> bool
     requires { HasSubFront (value_of fact.now) }
     ensures { IsTrue result ↔ (Fits ids (value_of fact.now) × ListsHave ids fact.now) }

@@ -37,6 +37,7 @@ fn write_sub_record<W: Target>(
 }
 
 /// Writes the sub-record of a root, an instance or an array.
+#[inline(always)]
 pub(crate) fn write_sub<W: Target>(
     fact: &Fact<'_>,
     ids: IdSize,
