@@ -22,14 +22,14 @@ pub fn write_fact<W: Target>(fact: &Fact<'_>, ids: IdSize, target: &mut W) -> Re
     ensures health { LeavesHealth result (W.health target.new) }
 {
     match *fact {
-        Fact::Name { .. }
-        | Fact::Load { .. }
-        | Fact::Unload { .. }
-        | Fact::Frame { .. }
-        | Fact::Trace { .. }
-        | Fact::Start { .. }
-        | Fact::End { .. } => write_stated(fact, ids, target),
-        // An arm for each form: with `write_sub` in place, its fields are known there.
+        // An arm for each form: with `write_stated` and `write_sub` in place, its fields are known there.
+        Fact::Name { .. } => write_stated(fact, ids, target),
+        Fact::Load { .. } => write_stated(fact, ids, target),
+        Fact::Unload { .. } => write_stated(fact, ids, target),
+        Fact::Frame { .. } => write_stated(fact, ids, target),
+        Fact::Trace { .. } => write_stated(fact, ids, target),
+        Fact::Start { .. } => write_stated(fact, ids, target),
+        Fact::End { .. } => write_stated(fact, ids, target),
         Fact::Root(_) => write_sub(fact, ids, target),
         Fact::Instance { .. } => write_sub(fact, ids, target),
         Fact::ObjArray { .. } => write_sub(fact, ids, target),

@@ -16,14 +16,14 @@ pub fn fits(fact: &Fact<'_>, ids: IdSize) -> bool
     ensures { IsTrue result ↔ (Fits ids (value_of fact.now) × ListsHave ids fact.now) }
 {
     match *fact {
-        Fact::Name { .. }
-        | Fact::Load { .. }
-        | Fact::Unload { .. }
-        | Fact::Frame { .. }
-        | Fact::Trace { .. }
-        | Fact::Start { .. }
-        | Fact::End { .. } => record_fits(fact, ids),
-        // An arm for each form: with `sub_fits` in place, its fields are known there.
+        // An arm for each form: with `record_fits` and `sub_fits` in place, its fields are known there.
+        Fact::Name { .. } => record_fits(fact, ids),
+        Fact::Load { .. } => record_fits(fact, ids),
+        Fact::Unload { .. } => record_fits(fact, ids),
+        Fact::Frame { .. } => record_fits(fact, ids),
+        Fact::Trace { .. } => record_fits(fact, ids),
+        Fact::Start { .. } => record_fits(fact, ids),
+        Fact::End { .. } => record_fits(fact, ids),
         Fact::Root(_) => sub_fits(fact, ids),
         Fact::Instance { .. } => sub_fits(fact, ids),
         Fact::ObjArray { .. } => sub_fits(fact, ids),
@@ -39,15 +39,17 @@ pub fn spelled_len(fact: &Fact<'_>, ids: IdSize) -> u64
     ensures { result ≡ length (spelling ids (value_of fact.now)) }
 {
     let len = match *fact {
-        Fact::Name { .. }
-        | Fact::Load { .. }
-        | Fact::Unload { .. }
-        | Fact::Frame { .. }
-        | Fact::Trace { .. }
-        | Fact::Start { .. }
-        | Fact::End { .. } => record_len(fact, ids),
-        Fact::Root(_) | Fact::Instance { .. } | Fact::ObjArray { .. } | Fact::PrimArray { .. } =>
-            sub_len(fact, ids),
+        Fact::Name { .. } => record_len(fact, ids),
+        Fact::Load { .. } => record_len(fact, ids),
+        Fact::Unload { .. } => record_len(fact, ids),
+        Fact::Frame { .. } => record_len(fact, ids),
+        Fact::Trace { .. } => record_len(fact, ids),
+        Fact::Start { .. } => record_len(fact, ids),
+        Fact::End { .. } => record_len(fact, ids),
+        Fact::Root(_) => sub_len(fact, ids),
+        Fact::Instance { .. } => sub_len(fact, ids),
+        Fact::ObjArray { .. } => sub_len(fact, ids),
+        Fact::PrimArray { .. } => sub_len(fact, ids),
         Fact::Class { .. } => class_len(fact, ids),
     };
     len as u64

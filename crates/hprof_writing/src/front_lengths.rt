@@ -15,6 +15,7 @@ use hprof_items::{Fact, HEAD_LEN};
 use hprof_values::{IdSize, numbers_len};
 
 /// The number of bytes in the fact's record.
+#[inline(always)]
 pub(crate) fn record_len(fact: &Fact<'_>, ids: IdSize) -> usize
     requires is { IsSome (record_of (value_of fact.now)) }
     requires fits { Fits ids (value_of fact.now) }
@@ -28,6 +29,7 @@ pub(crate) fn record_len(fact: &Fact<'_>, ids: IdSize) -> usize
 }
 
 /// The number of bytes in the sub-record of a root, an instance or an array.
+#[inline(always)]
 pub(crate) fn sub_len(fact: &Fact<'_>, ids: IdSize) -> usize
     requires has { HasSubFront (value_of fact.now) }
     requires fits { Fits ids (value_of fact.now) }

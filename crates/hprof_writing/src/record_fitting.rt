@@ -11,6 +11,7 @@ use hprof_items::Fact;
 use hprof_values::IdSize;
 
 /// Whether the fact's record has a spelling.
+#[inline(always)]
 pub(crate) fn record_fits(fact: &Fact<'_>, ids: IdSize) -> bool
     requires { IsSome (record_of (value_of fact.now)) }
     ensures { IsTrue result ↔ (Fits ids (value_of fact.now) × ListsHave ids fact.now) }

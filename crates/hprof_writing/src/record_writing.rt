@@ -44,6 +44,7 @@ fn write_record<W: Target>(
 }
 
 /// Writes the fact's record.
+#[inline(always)]
 pub(crate) fn write_stated<W: Target>(
     fact: &Fact<'_>,
     ids: IdSize,
