@@ -27,9 +27,7 @@ use Rattle.hprof_stream.specs.declared.rest.Passing.{Passing}
 use Rattle.hprof_stream.specs.declared.rest.Rest.{Rest}
 use Rattle.hprof_stream.specs.Item.{Place, Start, Between, Within, found_sub, place_behind, is_skipped_kind}
 use Rattle.hprof_stream.specs.Item.{is_skipped_head, is_passed_over, held_of, item_at}
-use Rattle.hprof_stream.specs.ItemValue as items
 use Rattle.hprof_stream.specs.Rest.{passing_by, passing_of, walk_at, IsWalked, IsWalkOf, IsRest}
-use Rattle.hprof_stream.specs.Walking.{seen}
 use Rattle.hprof_stream.proofs.Rests.{passed_of, passed_none_held, passed_walk, held_none, passing_none, IsBytes-append}
 
 -- ---- how far a sub-record was walked

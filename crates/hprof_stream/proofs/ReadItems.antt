@@ -1,5 +1,5 @@
 -- Items that are read one after the other are counted.
-use Rattle.std.proofs.Common.{◌≡◌, ℕ, ◌+◌, Bool, ◌||◌, List, [], ◌∷◌, ◌++◌, length, refl, sym, ap, subst, ◌∙◌, arith}
+use Rattle.std.proofs.Common.{ℕ, Bool, ◌||◌, List, ◌∷◌, length, refl, sym, ap, subst, ◌∙◌, arith}
 use Rattle.std.proofs.Math.Bool.{or_assoc, or-false}
 use Rattle.std.proofs.lemmas.List.{length-append}
 use Rattle.std.specs.List.{list_any}
@@ -8,7 +8,6 @@ use Rattle.hprof_stream.specs.declared.progress.Progress.{Progress}
 use Rattle.hprof_stream.specs.Part.{Stated, all_bytes, all_facts, is_end}
 use Rattle.hprof_stream.specs.Item as places
 use Rattle.hprof_stream.specs.Item.{Place, IsItem}
-use Rattle.hprof_stream.specs.ItemStep.{facts_of}
 use Rattle.hprof_stream.specs.Progress.{place_of, advanced}
 use Rattle.hprof_stream.specs.ReadItems.{IsReadAs, ReadsItems, none, more, CountsItems}
 use Rattle.hprof_stream.proofs.Behind.{next_place, count_next, facts_next, end_next, offset_next, limits_next}

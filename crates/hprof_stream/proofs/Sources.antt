@@ -14,7 +14,7 @@ use Rattle.hprof_stream.specs.declared.part_fault.PartFault.TheVariants as fault
 use Rattle.hprof_stream.specs.declared.part_reader.PartReader.{PartReader}
 use Rattle.hprof_stream.specs.declared.sink.SinkFault.{SinkFault}
 use Rattle.hprof_stream.specs.declared.summary.PartSummary.{PartSummary}
-use Rattle.hprof_stream.specs.Item.{none, more}
+use Rattle.hprof_stream.specs.Item.{none}
 use Rattle.hprof_stream.specs.Fault.{is_settled, IsFirstFault}
 use Rattle.hprof_stream.specs.Run.{Run}
 use Rattle.hprof_stream.specs.Feeding.{FeedsAll}
