@@ -136,7 +136,7 @@ module _ {R : Type 0} (left : R → Option (List ℕ)) (health : R → Health) (
       reads = stopped stops.TooLong reads;
       ok = λ e. absurd cc;
       unwritten = λ _. ends.1;
-      too_long = λ e parts told. record { heap = heap; agree = agree parts told; is = ends.0 };
+      too_long = λ e. (heap, ends.0, agree);
       write = λ fault e. absurd cc;
       memory = λ e. absurd cc;
       no_other = λ parts ids millis facts told state are_well is_well unhindered. absurd (unhindered tt);

@@ -54,8 +54,8 @@ WritesFront IsMade parts old new = (text : List ℕ) × (count : ℕ) × IsMade 
 pub record Making : Type 1 where
   -- the text is made of the parts
   pub IsMade : List (List ℕ) → List ℕ → Type 0
-  -- what would be made of the parts is refused before the first byte
-  pub IsTooLong : List (List ℕ) → Type 0
+  -- what would be made of the heap is refused before the first byte
+  pub IsTooLong : HeapValue → Type 0
   -- memory is taken before any of so many parts is read, beside that for reading
   pub TakesRoom : ℕ → Type 0
   -- memory is taken while it is written
@@ -72,7 +72,9 @@ pub record Makes {R W : Type 0} (left : R → Option (List ℕ)) (health : R →
       × ((parts : List (List ℕ)) → Tell left old parts → WritesAll making.IsMade parts (written before) (written after))
   -- a refusal before writing leaves the writer as it was
   pub unwritten : IsBeforeWriting ended → after ≡ before
-  pub too_long : ended ≡ Some tool.DumpTooLong → (parts : List (List ℕ)) → Tell left old parts → making.IsTooLong parts
+  -- what would be made of the heap that the parts state is too long
+  pub too_long : ended ≡ Some tool.DumpTooLong → (heap : HeapValue) × making.IsTooLong heap
+      × ((parts : List (List ℕ)) → Tell left old parts → Agree parts heap.ids heap.millis heap.facts)
   -- the writer failed or stuck, and a front was written
   pub write : (fault : WriteFault) → ended ≡ Some (tool.Write fault) → (well after ≡ health_after fault)
       × ((parts : List (List ℕ)) → Tell left old parts → WritesFront making.IsMade parts (written before) (written after))
@@ -107,18 +109,12 @@ pub record IsMadeOf (IsText : List PartSummary → HeapValue → List ℕ → Ty
   pub of_parts : AreSummaries parts summaries
   pub is : IsText summaries heap text
 
--- the parts agree, and what is made of the heap that they state is refused
-pub record IsTooLongOf (TooLong : HeapValue → Type 0) (parts : List (List ℕ)) : Type 0 where
-  pub heap : HeapValue
-  pub agree : Agree parts heap.ids heap.millis heap.facts
-  pub is : TooLong heap
-
 -- what is made of parts, by what a product says of one heap
 abbrev pub making_of : (IsText : List PartSummary → HeapValue → List ℕ → Type 0) (TooLong : HeapValue → Type 0)
     (TakesRoom : ℕ → Type 0) (TakesMemory : Type 0) → Making
 making_of IsText TooLong TakesRoom TakesMemory = record {
   IsMade = IsMadeOf IsText;
-  IsTooLong = IsTooLongOf TooLong;
+  IsTooLong = TooLong;
   TakesRoom = TakesRoom;
   TakesMemory = TakesMemory;
 }

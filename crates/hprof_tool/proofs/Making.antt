@@ -91,7 +91,7 @@ module _ {R : Type 0} (left : R → Option (List ℕ)) (health : R → Health) (
     refusal (tool.Conflict key) m parts told = m.reads.conflict key refl parts told
     refusal (tool.Write fault) m parts told =
         let is = (m.write fault refl).1 parts told in (is.0, is.2)
-    refusal tool.DumpTooLong m parts told = m.too_long refl parts told
+    refusal tool.DumpTooLong m parts told = let is = m.too_long refl in (is.0, is.1, is.2 parts told)
     refusal tool.OutOfMemory m parts told = tt
 
   -- the same of what a stream tells

@@ -9,6 +9,7 @@ use Rattle.hprof_stream.specs.declared.limits.Limits.{Limits}
 use Rattle.hprof_stream.specs.declared.part_fault.PartFault.{PartFault}
 use Rattle.hprof_stream.specs.declared.part_fault.PartFault.TheVariants as faults
 use Rattle.hprof_stream.specs.declared.sink.SinkFault.TheVariants as sinks
+use Rattle.hprof_rows.specs.HeapValue.{HeapValue}
 use Rattle.hprof_heap.specs.State.{HaveTwoSizes}
 use Rattle.hprof_engine.specs.declared.tool_fault.ToolFault.{ToolFault}
 use Rattle.hprof_engine.specs.declared.tool_fault.ToolFault.TheVariants as tool
@@ -16,7 +17,7 @@ use Rattle.hprof_tool.specs.declared.program.refused.Refused.{Refused}
 use Rattle.hprof_tool.specs.declared.program.refused.Refused.TheVariants as refusals
 use Rattle.hprof_tool.specs.declared.status.Status.{Status}
 use Rattle.hprof_tool.specs.declared.status.Status.TheVariants as statuses
-use Rattle.hprof_engine.specs.Joining.{Tell, Disagree, IsAccepted, IsOfPart}
+use Rattle.hprof_engine.specs.Joining.{Tell, Agree, Disagree, IsAccepted, IsOfPart}
 use Rattle.hprof_engine.specs.Makes.{Making, Makes, WritesAll}
 use Rattle.hprof_devices.specs.declared.health.Health.{Health}
 use Rattle.hprof_devices.specs.declared.health.Health.TheVariants as healths
@@ -51,7 +52,8 @@ IsRefusal making (refusals.Engine tool.NoParts) parts = parts ≡ []
 IsRefusal making (refusals.Engine tool.IdSizes) parts = HaveTwoSizes parts
 IsRefusal making (refusals.Engine (tool.Conflict key)) parts = Disagree parts key
 IsRefusal making (refusals.Engine (tool.Write fault)) parts = (text : List ℕ) × making.IsMade parts text
-IsRefusal making (refusals.Engine tool.DumpTooLong) parts = making.IsTooLong parts
+IsRefusal making (refusals.Engine tool.DumpTooLong) parts =
+    (heap : HeapValue) × making.IsTooLong heap × Agree parts heap.ids heap.millis heap.facts
 IsRefusal making (refusals.Engine tool.OutOfMemory) parts = ⊥
 IsRefusal making (refusals.Open index) parts = ⊥
 IsRefusal making refusals.Create parts = ⊥
