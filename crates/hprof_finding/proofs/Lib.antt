@@ -1,2 +1,3 @@
 pub mod ClassFacts
 pub mod ObjectFacts
+pub mod NameFacts

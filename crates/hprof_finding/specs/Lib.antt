@@ -3,3 +3,4 @@ pub mod Classes
 pub mod ClassRow
 pub mod Objects
 pub mod ObjectRow
+pub mod Names

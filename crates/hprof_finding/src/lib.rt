@@ -6,9 +6,11 @@ mod classes;
 mod heap_facts;
 mod object_row;
 mod objects;
+mod names;
 
 pub use class_row::ClassRow;
 pub use classes::find_class;
 pub use heap_facts::{class_name, id_size, table_facts, table_len};
 pub use object_row::ObjectRow;
 pub use objects::find_object;
+pub use names::find_name;

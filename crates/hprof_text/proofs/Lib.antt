@@ -2,3 +2,4 @@ pub mod Rows
 pub mod Fronts
 pub mod IdTexts
 pub mod Prints
+pub mod Decided

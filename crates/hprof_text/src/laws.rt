@@ -21,9 +21,10 @@ pub fn units_come_back()
         → DecodesTo bytes found → found ≡ Some units }
 {}
 
-/// The printed form of given bytes is one text.
+/// Given bytes have a printed form, and it is one text.
 pub fn one_printed_form()
-    ensures { (bytes a b : List ℕ) → IsPrinted bytes a → IsPrinted bytes b → a ≡ b }
+    ensures exists { (bytes : List ℕ) → (text : List ℕ) × IsPrinted bytes text }
+    ensures once { (bytes a b : List ℕ) → IsPrinted bytes a → IsPrinted bytes b → a ≡ b }
 {}
 
 /// The digits that `push_id` appends are lower-case hexadecimal without leading zeros, and write
