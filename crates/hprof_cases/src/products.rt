@@ -38,7 +38,13 @@ impl Product for Stopped {
         Gatherer::new(alloc)
     }
 
-    fn write<W: Target>(&self, _kept: &(), _heap: &Heap, target: &mut W) -> Result<(), Stop> {
+    fn write<W: Target>(
+        &self,
+        _alloc: Global,
+        _kept: &(),
+        _heap: &Heap,
+        target: &mut W,
+    ) -> Result<(), Stop> {
         match self.stop {
             Stop::TooLong => Err(Stop::TooLong),
             Stop::OutOfMemory => match target.push(&[]) {

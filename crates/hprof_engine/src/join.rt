@@ -42,7 +42,13 @@ impl Product for Dump {
         Gatherer::new(alloc)
     }
 
-    fn write<W: Target>(&self, _kept: &(), heap: &Heap, target: &mut W) -> Result<(), Stop> {
+    fn write<W: Target>(
+        &self,
+        _alloc: Global,
+        _kept: &(),
+        heap: &Heap,
+        target: &mut W,
+    ) -> Result<(), Stop> {
         match write_canonical(heap, target) {
             Ok(()) => Ok(()),
             Err(fault) => Err(Stop::Write(fault)),

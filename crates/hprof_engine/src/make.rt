@@ -57,7 +57,7 @@ pub fn make_to<P: Product, R: Source, W: Target>(
         Ok(found) => found,
         Err(fault) => return Err(fault),
     };
-    match product.write(&kept, &found, target) {
+    match product.write(alloc, &kept, &found, target) {
         Ok(()) => Ok(found),
         Err(stop) => Err(fault_of_stop(stop)),
     }

@@ -5,7 +5,7 @@ ghost use Rattle.std.specs.Prelude.{◌≡◌, ℕ, List};
 use crate::summaries::Summaries;
 use hprof_devices::{Target, WriteFault};
 use hprof_heap::Gather;
-use std::alloc::Global;
+use std::alloc::{AllocError, Global};
 
 /// Why the writing of a product stopped.
 #[derive(Clone, Copy, Debug, PartialEq, Eq)]
@@ -16,6 +16,16 @@ pub enum Stop {
     TooLong,
     /// Memory was refused.
     OutOfMemory,
+}
+
+impl From<AllocError> for Stop {
+    ghost use Rattle.hprof_engine.specs.declared.product.Stop.TheVariants.{OutOfMemory};
+
+    ghost from_gives = { λ _ stop. stop ≡ OutOfMemory };
+
+    fn from(_error: AllocError) -> Stop {
+        Stop::OutOfMemory
+    }
 }
 
 /// What is made of the heap that parts state, and of what was read of each.
@@ -52,6 +62,7 @@ pub trait Product {
     /// Writes it. At a fault, and at want of memory, some of it was written, from the front.
     fn write<W: Target>(
         &self,
+        alloc: Global,
         kept: &Self::Kept,
         found: &<Self::Gatherer as Gather>::Found,
         target: &mut W,

@@ -39,6 +39,7 @@ impl Product for Check {
 
     fn write<W: Target>(
         &self,
+        _alloc: Global,
         kept: &Vec<PartSummary>,
         heap: &Heap,
         target: &mut W,

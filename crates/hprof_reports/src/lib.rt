@@ -1,10 +1,17 @@
-//! Reports on heaps: texts that say what was read, line by line. Writing one takes no memory.
+//! Reports on heaps: texts that say what was read, and what a heap holds, line by line.
 #![tactic(auto)]
 
 mod check;
 mod check_parts;
+mod class_lines;
+mod contents;
 pub mod laws;
 mod line;
+mod lines;
+mod object;
+mod object_lines;
+mod shown;
 
 pub use check::write_check;
 pub use check_parts::{Check, check_to};
+pub use object::write_object;

@@ -1,8 +1,8 @@
 -- Bytes have units or have none, so each have a printed form.
-use Rattle.std.proofs.Common.{◌≡◌, ◌≢◌, ◌⊎◌, inl, inr, ℕ, zero, suc, ◌+◌, ◌^◌, ◌<◌, ◌≤◌, ◌==◌, Bool, true, false, List, [], ◌∷◌, ◌++◌, length}
+use Rattle.std.proofs.Common.{◌≡◌, ◌⊎◌, inl, inr, ℕ, zero, suc, ◌+◌, ◌^◌, ◌<◌, ◌≤◌, List, [], ◌∷◌, ◌++◌, length}
 use Rattle.std.proofs.Common.{arith, refl, sym, ap, ◌∙◌}
 use Rattle.std.specs.List.{All, flat_map}
-use Rattle.std.proofs.lemmas.Bool.Decides.{nat_tests}
+use Rattle.std.proofs.lemmas.Bool.{cases_eq}
 use Rattle.std.proofs.lemmas.List.Elements.{All-nil, All-cons, All-head, All-tail}
 use Rattle.hprof_text.specs.ModifiedUtf8.{unit_bytes, BeginsWithNoUnit, IsModifiedUtf8, HasUnits}
 use Rattle.hprof_text.specs.Printed.{printed_unit, printed_bytes, IsPrinted}
@@ -11,12 +11,6 @@ use Rattle.hprof_text.proofs.Fronts.{fits, same_unit}
 use Rattle.hprof_text.proofs.Prints.{IsPrinted-units, IsPrinted-bytes}
 
 -- ---- a unit stands at the front, or none does
-
-same_or_not : (x y : ℕ) → (x ≡ y) ⊎ (x ≢ y)
-same_or_not x y = go (x == y) refl where
-  go : (t : Bool) → (x == y) ≡ t → (x ≡ y) ⊎ (x ≢ y)
-  go true e = inl (grind (arith, nat_tests, e))
-  go false e = inr (grind (arith, nat_tests, e))
 
 -- what stands behind a front, if it is one
 pub record Follows (front all : List ℕ) : Type 0 where
@@ -27,7 +21,7 @@ follows_or_not : (front all : List ℕ) → Follows front all ⊎ ¬ (Follows fr
 follows_or_not [] all = inl (record { rest = all; parts = refl })
 follows_or_not (x ∷ front) [] = inr (λ f. let e = f.parts in absurd cc)
 follows_or_not (x ∷ front) (y ∷ all) =
-    elim (same_or_not y x) [
+    elim (cases_eq y x) [
       | inr differ ↦ inr (λ f. let e = f.parts in let same : y ≡ x = cc in absurd (differ same))
       | inl same ↦ elim (follows_or_not front all) [
           | inl f ↦ inl (record { rest = f.rest; parts = let e = f.parts in cc })
@@ -52,7 +46,7 @@ begins_or_not (suc below) bytes =
       | inl b ↦ inl (record { unit = b.unit; small = let s = b.small in omega arith; follows = b.follows })
       | inr none ↦ elim (follows_or_not (unit_bytes below) bytes) [
           | inl f ↦ inl (record { unit = below; small = omega arith; follows = f })
-          | inr not ↦ inr (λ unit small. elim (same_or_not unit below) [
+          | inr not ↦ inr (λ unit small. elim (cases_eq unit below) [
               | inl same ↦ rw same not
               | inr differ ↦ none unit (omega arith)
             ])

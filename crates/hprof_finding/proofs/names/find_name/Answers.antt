@@ -8,22 +8,22 @@ use Rattle.hprof_finding.specs.Names.{HasName}
 use Rattle.hprof_finding.proofs.NameFacts.{none_found, is_name_fact, key_name, one_name}
 use Rattle.hprof_finding.proofs.names.find_name.Goals as goal
 
-pub returns-in_err-name_fact-clause-none : goal.returns-in_err-name_fact-clause-none
-returns-in_err-name_fact-clause-none c =
-    rw c.from_residual.ensures (none_found (facts_of c.args.heap.now) c.args.name (sym c.in_err-name_fact.ensures))
+pub returns-in_err-text-clause-none : goal.returns-in_err-text-clause-none
+returns-in_err-text-clause-none c =
+    rw c.from_residual.ensures (none_found (facts_of c.args.heap.now) c.args.name (sym c.in_err-text.ensures))
 
 pub unreachable-requires : goal.unreachable-requires
 unreachable-requires c =
-    let is = found (has_key (keys.Name c.args.name)) (facts_of c.args.heap.now) (value_of c.in_ok-name_fact.field-0)
-    (sym c.in_ok-name_fact.ensures) in
-    is_name_fact c.args.name c.in_ok-name_fact.field-0 is.passes c.in_default.not-Name
+    let is = found (has_key (keys.Name c.args.name)) (facts_of c.args.heap.now) (value_of c.in_ok-text.field-0)
+    (sym c.in_ok-text.ensures) in
+    is_name_fact c.args.name c.in_ok-text.field-0 is.passes c.in_default.not-Name
 
 -- the name that was found
 abbrev is_there : (c : goal.In-Name) → HasName (facts_of c.args.heap.now) c.args.name c.in-Name.text.now
 is_there c =
     let is = subst (λ (fact : FactValue). IsPicked (has_key (keys.Name c.args.name)) (facts_of c.args.heap.now) fact)
     (ap value_of c.in-Name.is)
-    (found (has_key (keys.Name c.args.name)) (facts_of c.args.heap.now) (value_of c.in_ok-name_fact.field-0) (sym c.in_ok-name_fact.ensures)) in
+    (found (has_key (keys.Name c.args.name)) (facts_of c.args.heap.now) (value_of c.in_ok-text.field-0) (sym c.in_ok-text.ensures)) in
     let same = key_name c.args.name c.in-Name.id c.in-Name.text.now is.passes in
     rw same at is.has
 

@@ -1,0 +1,2 @@
+pub mod FirstLoads
+pub mod Namings

@@ -1,0 +1,73 @@
+//! The names of all classes of a heap, gathered in one pass.
+
+ghost use Rattle.std.specs.Prelude.{IfOk, List, OnOk};
+ghost use Rattle.hprof_items.specs.FactValue.{FactValue, value_of};
+ghost use Rattle.hprof_heap.specs.ClassName.{NamesClass};
+ghost use Rattle.hprof_finding.specs.HeapFacts.{facts_of};
+ghost use Rattle.hprof_naming.specs.ClassNames.{AreClassNames, NotesFact};
+
+use hprof_finding::table_facts;
+use hprof_heap::{Heap, Table};
+use hprof_items::Fact;
+use std::alloc::{AllocError, Global};
+use std::collections::BTreeMap;
+
+/// The name of a class, as one of the facts has it that load the class.
+#[derive(Clone, Copy, Debug, PartialEq, Eq)]
+struct Named {
+    /// The serial under which the class was loaded.
+    serial: u32,
+    /// The identifier of its name.
+    name: u64,
+}
+
+/// The names of all classes that are loaded.
+#[derive(Drop)]
+pub struct ClassNames {
+    names: BTreeMap<u64, Named>,
+}
+
+impl ClassNames {
+    /// Those of a heap, in one pass over its loads. The error is that memory was refused.
+    pub fn of(alloc: Global, heap: &Heap) -> Result<ClassNames, AllocError>
+        ensures { IfOk result (AreClassNames (facts_of heap.now)) }
+    {
+        let mut names = ClassNames {
+            names: BTreeMap::new(alloc),
+        };
+        for fact in table_facts(heap, Table::Loads) {
+            names.note(&fact)?;
+        }
+        Ok(names)
+    }
+
+    /// Notes the name in a fact that loads a class, where its serial is the least so far.
+    fn note(&mut self, fact: &Fact<'_>) -> Result<(), AllocError>
+        ensures { OnOk result (NotesFact (value_of fact.now) self.old self.new) }
+    {
+        let Fact::Load {
+            serial,
+            class,
+            name,
+            ..
+        } = *fact
+        else {
+            return Ok(());
+        };
+        if let Some(named) = self.names.get(&class) {
+            if named.serial <= serial {
+                return Ok(());
+            }
+        }
+        self.names.insert(class, Named { serial, name })?;
+        Ok(())
+    }
+
+    /// The name of a class: that which it has in the fact of least serial that loads it.
+    pub fn name_of(&self, class: u64) -> Option<u64>
+        ensures { (facts : List FactValue) → AreClassNames facts self.now → NamesClass facts class result }
+    {
+        let named = self.names.get(&class)?;
+        Some(named.name)
+    }
+}

@@ -1,0 +1,46 @@
+//! A name, and the label of a class, in print.
+
+ghost use Rattle.std.specs.Prelude.{◌≡◌, ◌++◌, IfOk, codes, string_bytes};
+ghost use Rattle.hprof_text.specs.Identifier.{id_digits};
+ghost use Rattle.hprof_finding.specs.HeapFacts.{facts_of};
+ghost use Rattle.hprof_naming.specs.Naming.{IsLabel, IsLabelOf, IsNameText};
+
+use hprof_finding::{class_name, find_name};
+use hprof_heap::Heap;
+use hprof_text::printed;
+use std::alloc::{AllocError, Global};
+
+/// What is printed for a name that a heap does not have.
+fn missing_name(alloc: Global, name: u64) -> Result<String, AllocError>
+    ensures { IfOk result (λ text. string_bytes text ≡ codes "\\?" ++ id_digits name) }
+{
+    format!(in alloc; "\\?{name:x}")
+}
+
+/// A name in print: its bytes in their printed form, or `\?` and its identifier where the heap does not have it. The error is
+/// that memory was refused.
+pub fn name_text(alloc: Global, heap: &Heap, name: u64) -> Result<String, AllocError>
+    ensures { IfOk result (λ text. IsNameText (facts_of heap.now) name (string_bytes text)) }
+{
+    match find_name(heap, name) {
+        Some(bytes) => printed(alloc, bytes),
+        None => missing_name(alloc, name),
+    }
+}
+
+/// The label of a class of that name, if it has one: the name in print, or `\?` alone. The error is that memory was refused.
+pub fn label_of(alloc: Global, heap: &Heap, name: Option<u64>) -> Result<String, AllocError>
+    ensures { IfOk result (λ text. IsLabelOf (facts_of heap.now) name (string_bytes text)) }
+{
+    match name {
+        Some(name) => name_text(alloc, heap, name),
+        None => String::from_str(alloc, "\\?"),
+    }
+}
+
+/// The label of a class, by the name in the fact of least serial that loads it. The error is that memory was refused.
+pub fn class_label(alloc: Global, heap: &Heap, class: u64) -> Result<String, AllocError>
+    ensures { IfOk result (λ text. IsLabel (facts_of heap.now) class (string_bytes text)) }
+{
+    label_of(alloc, heap, class_name(heap, class))
+}

@@ -1,0 +1,35 @@
+-- The report `histo`: how many objects of each kind a heap has, and how many bytes they have.
+use Rattle.std.specs.Prelude.{◌≡◌, ℕ, List, [], ◌∷◌, ◌++◌, map, codes}
+use Rattle.std.specs.Fmt.{decimal}
+use Rattle.hprof_text.specs.Identifier.{id_digits}
+use Rattle.hprof_values.specs.declared.ids.IdSize.{IdSize}
+use Rattle.hprof_items.specs.FactValue.{FactValue}
+use Rattle.hprof_rows.specs.Conflict.{IsConsistent}
+use Rattle.hprof_histogram.specs.declared.row.Kind.{Kind}
+use Rattle.hprof_histogram.specs.declared.row.Kind.TheVariants.{Class, Prim}
+use Rattle.hprof_histogram.specs.declared.row.Row.{Row}
+use Rattle.hprof_histogram.specs.Histogram.{IsHistogram}
+use Rattle.hprof_naming.specs.Naming.{Naming, IsNaming}
+use Rattle.hprof_reports.specs.Line.{line_of, text_of_lines}
+use Rattle.hprof_reports.specs.Shown.{type_word}
+
+-- a class with its label, or the type of arrays
+abbrev pub kind_fields : Naming → Kind → List (List ℕ)
+kind_fields naming (Class class) = id_digits class ∷ naming.label class ∷ []
+kind_fields naming (Prim elem) = codes "-" ∷ (type_word elem ++ codes "[]") ∷ []
+
+abbrev pub row_line : Naming → Row → List ℕ
+row_line naming row = line_of (decimal row.bytes ∷ decimal row.count ∷ kind_fields naming row.kind)
+
+-- a line for each row
+abbrev pub rows_text : Naming → List Row → List ℕ
+rows_text naming rows = text_of_lines (map (row_line naming) rows)
+
+-- the text is the report of these facts, which agree
+pub record IsHistogramText (ids : IdSize) (facts : List FactValue) (text : List ℕ) : Type 0 where
+  pub agree : IsConsistent facts
+  pub naming : Naming
+  pub is_naming : IsNaming facts naming
+  pub rows : List Row
+  pub are_rows : IsHistogram ids facts rows
+  pub is : text ≡ rows_text naming rows

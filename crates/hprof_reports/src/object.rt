@@ -1,0 +1,280 @@
+//! The report `object`: the class dump of an identifier, and then the object dump of it.
+
+ghost use Rattle.std.specs.Prelude.{◌≡◌, ℕ, List, IfOk, string_bytes};
+ghost use Rattle.std.specs.Option.{option_map};
+ghost use Rattle.hprof_lists.specs.Lists.{identifiers_of};
+ghost use Rattle.hprof_devices.specs.declared.health.Health.TheVariants.{Well};
+ghost use Rattle.hprof_finding.specs.HeapFacts.{facts_of, size_of};
+ghost use Rattle.hprof_finding.specs.ClassRow.{dump_of};
+ghost use Rattle.hprof_finding.specs.ObjectRow.{fact_of_object};
+ghost use Rattle.hprof_layouts.specs.Fields.{AreFields, FieldsValue, fields_value};
+ghost use Rattle.hprof_naming.specs.Naming.{IsNaming, Naming};
+ghost use Rattle.hprof_reports.specs.ObjectText.{IsObjectText, class_text, constants_text, elements_text, fields_text, found_text};
+ghost use Rattle.hprof_reports.specs.ObjectText.{nothing_line, object_text, own_fields_text, statics_text, why_no_fields};
+ghost use Rattle.hprof_reports.specs.Stopping.{LeavesTarget, WritesText};
+
+use crate::class_lines::{ConstantLines, OwnLines, StaticLines, class_line};
+use crate::contents::write_contents;
+use crate::lines::{write_lines, write_text};
+use crate::object_lines::{ElementLines, FieldLines, elements_line, instance_line, values_line};
+use hprof_devices::Target;
+use hprof_engine::Stop;
+use hprof_finding::{ClassRow, ObjectRow, find_class, find_object, id_size};
+use hprof_heap::Heap;
+use hprof_layouts::{Fields, fields};
+use hprof_lists::IdList;
+use std::alloc::{AllocError, Global};
+
+/// Writes a line for each constant of a class.
+fn write_constants<W: Target>(
+    alloc: Global,
+    heap: &Heap,
+    row: &ClassRow<'_>,
+    target: &mut W,
+) -> Result<(), Stop>
+    requires { W.health target.old ≡ Well }
+    ensures bytes { (naming : Naming) → IsNaming (facts_of heap.now) naming
+        → WritesText (W.written target.old) (W.written target.new) result
+        (constants_text (size_of heap.now) (dump_of row.now)) }
+    ensures health { LeavesTarget result (W.health target.new) }
+{
+    let _len = row.constants.len();
+    let lines = ConstantLines {
+        heap,
+        constants: row.constants.iter(),
+        place: 0,
+    };
+    write_lines(alloc, lines, target)
+}
+
+/// Writes a line for each static field of a class.
+fn write_statics<W: Target>(
+    alloc: Global,
+    heap: &Heap,
+    row: &ClassRow<'_>,
+    target: &mut W,
+) -> Result<(), Stop>
+    requires { W.health target.old ≡ Well }
+    ensures bytes { (naming : Naming) → IsNaming (facts_of heap.now) naming
+        → WritesText (W.written target.old) (W.written target.new) result
+        (statics_text naming (size_of heap.now) (dump_of row.now)) }
+    ensures health { LeavesTarget result (W.health target.new) }
+{
+    let _len = row.statics.len();
+    let lines = StaticLines {
+        heap,
+        statics: row.statics.iter(),
+        place: 0,
+    };
+    write_lines(alloc, lines, target)
+}
+
+/// Writes a line for each own field of a class.
+fn write_own_fields<W: Target>(
+    alloc: Global,
+    heap: &Heap,
+    row: &ClassRow<'_>,
+    target: &mut W,
+) -> Result<(), Stop>
+    requires { W.health target.old ≡ Well }
+    ensures bytes { (naming : Naming) → IsNaming (facts_of heap.now) naming
+        → WritesText (W.written target.old) (W.written target.new) result
+        (own_fields_text naming (dump_of row.now)) }
+    ensures health { LeavesTarget result (W.health target.new) }
+{
+    let _len = row.fields.len();
+    let lines = OwnLines {
+        heap,
+        fields: row.fields.iter(),
+        place: 0,
+    };
+    write_lines(alloc, lines, target)
+}
+
+/// Writes what a class dump says.
+fn write_class<W: Target>(
+    alloc: Global,
+    heap: &Heap,
+    row: &ClassRow<'_>,
+    target: &mut W,
+) -> Result<(), Stop>
+    requires { W.health target.old ≡ Well }
+    ensures bytes { (naming : Naming) → IsNaming (facts_of heap.now) naming
+        → WritesText (W.written target.old) (W.written target.new) result
+        (class_text naming (size_of heap.now) (dump_of row.now)) }
+    ensures health { LeavesTarget result (W.health target.new) }
+{
+    let line = class_line(alloc, heap, row)?;
+    write_text(&line, target)?;
+    write_constants(alloc, heap, row, target)?;
+    write_statics(alloc, heap, row, target)?;
+    write_own_fields(alloc, heap, row, target)
+}
+
+/// Why an object has no fields, in a line; nothing where it is no instance.
+fn no_fields_line(alloc: Global, why: &Fields) -> Result<String, AllocError>
+    ensures { IfOk result (λ line. string_bytes line ≡ why_no_fields (fields_value why.now)) }
+{
+    match why {
+        Fields::Missing(class) => format!(in alloc; "no layout: class {class:x} is missing\n"),
+        Fields::Cyclic => String::from_str(alloc, "no layout: the superclasses run in a circle\n"),
+        Fields::WidthDiffers(width) => {
+            format!(in alloc; "no fields: the layout has {width} bytes\n")
+        }
+        Fields::Values(_) | Fields::NotAnInstance | Fields::NoObject => Ok(String::new(alloc)),
+    }
+}
+
+/// Writes a line for each field of an object, or why there are none.
+fn write_fields<W: Target>(
+    alloc: Global,
+    heap: &Heap,
+    object: u64,
+    target: &mut W,
+) -> Result<(), Stop>
+    requires { W.health target.old ≡ Well }
+    ensures bytes { (naming : Naming) (shown : FieldsValue) → IsNaming (facts_of heap.now) naming
+        → AreFields (size_of heap.now) (facts_of heap.now) object shown
+        → WritesText (W.written target.old) (W.written target.new) result
+        (fields_text naming (size_of heap.now) shown) }
+    ensures health { LeavesTarget result (W.health target.new) }
+{
+    // Facts of a heap agree: that is told with the size.
+    let _ids = id_size(heap);
+    match fields(alloc, heap, object)? {
+        Fields::Values(values) => {
+            let lines = FieldLines {
+                heap,
+                values: &values,
+                place: 0,
+            };
+            write_lines(alloc, lines, target)
+        }
+        why => {
+            let line = no_fields_line(alloc, &why)?;
+            write_text(&line, target)
+        }
+    }
+}
+
+/// Writes a line for each element of an array of objects.
+fn write_elements<W: Target>(
+    alloc: Global,
+    heap: &Heap,
+    elements: &IdList<'_>,
+    target: &mut W,
+) -> Result<(), Stop>
+    requires { W.health target.old ≡ Well }
+    ensures bytes { (naming : Naming) → IsNaming (facts_of heap.now) naming
+        → WritesText (W.written target.old) (W.written target.new) result
+        (elements_text (identifiers_of elements.now)) }
+    ensures health { LeavesTarget result (W.health target.new) }
+{
+    let _len = elements.len();
+    let lines = ElementLines {
+        heap,
+        elements: elements.iter(),
+        place: 0,
+    };
+    write_lines(alloc, lines, target)
+}
+
+/// Writes what an object dump says.
+fn write_object_row<W: Target>(
+    alloc: Global,
+    heap: &Heap,
+    object: u64,
+    row: &ObjectRow<'_>,
+    target: &mut W,
+) -> Result<(), Stop>
+    requires { W.health target.old ≡ Well }
+    ensures bytes { (naming : Naming) (shown : FieldsValue) → IsNaming (facts_of heap.now) naming
+        → AreFields (size_of heap.now) (facts_of heap.now) object shown
+        → WritesText (W.written target.old) (W.written target.new) result
+        (object_text naming (size_of heap.now) shown (fact_of_object row.now)) }
+    ensures health { LeavesTarget result (W.health target.new) }
+{
+    match *row {
+        ObjectRow::Instance {
+            id, class, bytes, ..
+        } => {
+            let line = instance_line(alloc, heap, id, class, bytes)?;
+            write_text(&line, target)?;
+            write_fields(alloc, heap, object, target)
+        }
+        ObjectRow::ObjArray {
+            id,
+            class,
+            elements,
+            ..
+        } => {
+            let line = elements_line(alloc, heap, id, class, &elements)?;
+            write_text(&line, target)?;
+            write_elements(alloc, heap, &elements, target)
+        }
+        ObjectRow::PrimArray {
+            id, elem, bytes, ..
+        } => {
+            let line = values_line(alloc, id_size(heap), id, elem, bytes)?;
+            write_text(&line, target)?;
+            write_contents(bytes, target)
+        }
+    }
+}
+
+/// What is said of an identifier that no dump has.
+fn nothing_line(alloc: Global, id: u64) -> Result<String, AllocError>
+    ensures { IfOk result (λ line. string_bytes line ≡ nothing_line id) }
+{
+    format!(in alloc; "nothing at {id:x}\n")
+}
+
+/// Writes what was found of an identifier.
+fn write_found<W: Target>(
+    alloc: Global,
+    heap: &Heap,
+    id: u64,
+    class: Option<ClassRow<'_>>,
+    object: Option<ObjectRow<'_>>,
+    target: &mut W,
+) -> Result<(), Stop>
+    requires { W.health target.old ≡ Well }
+    ensures bytes { (naming : Naming) (shown : FieldsValue) → IsNaming (facts_of heap.now) naming
+        → AreFields (size_of heap.now) (facts_of heap.now) id shown
+        → WritesText (W.written target.old) (W.written target.new) result
+        (found_text naming (size_of heap.now) id shown (option_map dump_of class.entry) (option_map fact_of_object object.entry)) }
+    ensures health { LeavesTarget result (W.health target.new) }
+{
+    match (class, object) {
+        (None, None) => {
+            let line = nothing_line(alloc, id)?;
+            write_text(&line, target)
+        }
+        (Some(row), None) => write_class(alloc, heap, &row, target),
+        (None, Some(row)) => write_object_row(alloc, heap, id, &row, target),
+        (Some(row), Some(object)) => {
+            write_class(alloc, heap, &row, target)?;
+            write_object_row(alloc, heap, id, &object, target)
+        }
+    }
+}
+
+/// Writes the report `object` on an identifier: the lines of its class dump, and then those of its object dump, or that there is
+/// neither. Where it stops, at a fault or for want of memory, some of it was written, from the front.
+pub fn write_object<W: Target>(
+    alloc: Global,
+    heap: &Heap,
+    id: u64,
+    target: &mut W,
+) -> Result<(), Stop>
+    requires { W.health target.old ≡ Well }
+    ensures bytes { (text : List ℕ) × IsObjectText (size_of heap.now) (facts_of heap.now) id text
+        × WritesText (W.written target.old) (W.written target.new) result text }
+    ensures health { LeavesTarget result (W.health target.new) }
+{
+    // Facts of a heap agree: that is told with the size.
+    let _ids = id_size(heap);
+    let class = find_class(heap, id);
+    let object = find_object(heap, id);
+    write_found(alloc, heap, id, class, object, target)
+}

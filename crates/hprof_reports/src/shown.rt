@@ -1,0 +1,39 @@
+//! Types and bits in print.
+
+ghost use Rattle.std.specs.Prelude.{◌≡◌, IfOk, string_bytes};
+ghost use Rattle.hprof_reports.specs.Shown.{bits_text, type_word};
+
+use hprof_values::{Basic, IdSize};
+use std::alloc::{AllocError, Global};
+
+/// The word for a type.
+pub(crate) fn type_word(basic: Basic) -> &'static str
+    ensures { result.now ≡ type_word basic }
+{
+    match basic {
+        Basic::Array => "array",
+        Basic::Object => "object",
+        Basic::Boolean => "boolean",
+        Basic::Char => "char",
+        Basic::Float => "float",
+        Basic::Double => "double",
+        Basic::Byte => "byte",
+        Basic::Short => "short",
+        Basic::Int => "int",
+        Basic::Long => "long",
+    }
+}
+
+/// The bits of a value of that type, two digits for each byte of its width. The error is that memory was refused.
+pub(crate) fn bits_text(
+    alloc: Global,
+    ids: IdSize,
+    basic: Basic,
+    bits: u64,
+) -> Result<String, AllocError>
+    ensures { IfOk result (λ text. string_bytes text ≡ bits_text ids basic bits) }
+{
+    let bytes = bits.to_be_bytes();
+    let width = basic.width(ids) as usize;
+    hex::encode(alloc, &bytes[8 - width..])
+}
