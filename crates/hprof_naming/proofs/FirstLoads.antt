@@ -1,11 +1,18 @@
 -- The load of least serial of each class, as far as loads were gone over.
 use Rattle.std.proofs.Common.{◌≡◌, ◌≢◌, ◌⊎◌, inl, inr, ℕ, ◌<◌, ◌≤◌, Bool, true, false, cond, List, [], ◌∷◌, ◌++◌, Option, Some, None}
-use Rattle.std.proofs.Common.{refl, sym, ap, subst, ◌∙◌, arith}
+use Rattle.std.proofs.Common.{refl, sym, ap, subst, ◌∙◌, append_assoc, append-nil, arith}
 use Rattle.std.proofs.lemmas.Bool.{cases_eq}
 use Rattle.std.proofs.lemmas.Bool.Decides.{leb_tells}
-use Rattle.std.specs.Prelude.{nat_cmp, option_map}
-use Rattle.std.specs.BTreeMap.{get}
-use Rattle.hprof_items.specs.FactValue.{FactValue, Name, Load, Unload, Frame, Trace, Start, End, Rooted, Class, Instance, ObjArray}
+use Rattle.std.specs.Prelude.{option_map}
+use Rattle.std.specs.Ordering.{nat_cmp}
+use Rattle.std.specs.BTreeMap.{get, is_at}
+use Rattle.std.specs.Ordering.{MatchOrdering, is_eq}
+use Rattle.std.specs.declared.cmp.Ordering.{Ordering}
+use Rattle.std.specs.declared.cmp.Ordering.TheVariants.{Less, Equal, Greater}
+use Rattle.std.proofs.lemmas.Cmp.{ranked}
+use Rattle.hprof_items.specs.declared.fact.Fact.{Fact}
+use Rattle.hprof_items.specs.declared.fact.Fact.TheVariants as facts
+use Rattle.hprof_items.specs.FactValue.{FactValue, value_of, Name, Load, Unload, Frame, Trace, Start, End, Rooted, Class, Instance, ObjArray}
 use Rattle.hprof_items.specs.FactValue.{PrimArray}
 use Rattle.hprof_rows.specs.declared.table.Table.TheVariants as tables
 use Rattle.hprof_rows.specs.Facts.{Has}
@@ -17,7 +24,7 @@ use Rattle.hprof_rows.specs.Conflict.{IsConsistent}
 use Rattle.hprof_heap.specs.ClassName.{NamesClass, IsNamedFirst}
 use Rattle.hprof_naming.specs.declared.class_names.ClassNames.{ClassNames}
 use Rattle.hprof_naming.specs.declared.class_names.Named.{Named}
-use Rattle.hprof_naming.specs.ClassNames.{IsFirstLoad, IsFirst, AreFirst, AreClassNames}
+use Rattle.hprof_naming.specs.ClassNames.{IsFirstLoad, IsFirst, IsBelow, AreFirst, NotesFact, AreClassNames}
 
 -- ---- what a load says
 
@@ -36,11 +43,6 @@ same_serial s c t n s2 c2 t2 n2 e = ap serial_in e
 same_class : (s c t n s2 c2 t2 n2 : ℕ) → Load s c t n ≡ Load s2 c2 t2 n2 → c ≡ c2
 unfolding class_in
 same_class s c t n s2 c2 t2 n2 e = ap class_in e
-
--- no load had come so far, or that with the least serial has a greater one
-abbrev pub IsBelow : ℕ → Option Named → Type 0
-IsBelow serial None = Unit {0}
-IsBelow serial (Some named) = serial < named.serial
 
 -- the facts, and one more
 pub record IsOneMore (facts more : List FactValue) (last : FactValue) : Type 0 where
@@ -123,6 +125,77 @@ module _ (facts more : List FactValue) (class : ℕ) where
 -- a load of one class is none of another
 pub other_class : (class other serial trace name : ℕ) → class ≢ other → (s t n : ℕ) → Load s class t n ≡ Load serial other trace name → ⊥
 other_class class other serial trace name differ s t n e = differ (same_class s class t n serial other trace name e)
+
+-- ---- all classes, and one fact more
+
+-- a key is not at another
+apart : (one other : ℕ) → other ≢ one → is_at (nat_cmp one) other ≡ false
+apart one other differ = go (nat_cmp one other) (ranked one other (nat_cmp one other) refl) where
+  go : (o : Ordering) → MatchOrdering o (one < other) (one ≡ other) (other < one) → is_eq o ≡ false
+  go Less lt = refl
+  go Equal same = absurd (differ (sym same))
+  go Greater gt = refl
+
+-- a fact in hand that loads no class states no load
+no_load : (fact : Fact) → ((serial class trace name : ℕ) → fact ≡ facts.Load serial class trace name → ⊥)
+    → (serial class trace name : ℕ) → Load serial class trace name ≡ value_of fact → ⊥
+no_load (facts.Load serial class trace name) none = λ s c t n e. none serial class trace name refl
+no_load (facts.Name id text) none = λ s c t n e. absurd cc
+no_load (facts.Unload serial) none = λ s c t n e. absurd cc
+no_load (facts.Frame id method signature source class_serial line) none = λ s c t n e. absurd cc
+no_load (facts.Trace serial thread frames) none = λ s c t n e. absurd cc
+no_load (facts.Start thread object trace id group parent_group) none = λ s c t n e. absurd cc
+no_load (facts.End thread) none = λ s c t n e. absurd cc
+no_load (facts.Root root) none = λ s c t n e. absurd cc
+no_load (facts.Class id trace parent loader signers domain reserved1 reserved2 size constants statics fields) none = λ s c t n e. absurd cc
+no_load (facts.Instance id trace other bytes) none = λ s c t n e. absurd cc
+no_load (facts.ObjArray id trace other elements) none = λ s c t n e. absurd cc
+no_load (facts.PrimArray id trace elem bytes) none = λ s c t n e. absurd cc
+
+-- a fact that loads none changes nothing
+pub notes_other : (fact : Fact) (names : ClassNames)
+    → ((serial class trace name : ℕ) → fact ≡ facts.Load serial class trace name → ⊥) → NotesFact (value_of fact) names names
+notes_other fact names none taken are class =
+    first_stays taken (taken ++ value_of fact ∷ []) class (value_of fact) (get nat_cmp names.names class) (one_behind taken (value_of fact))
+    (λ serial trace name e. no_load fact none serial class trace name e) (are class)
+
+module _ (names : ClassNames) (serial class trace name : ℕ) where
+  -- nor does one that does not come first
+  stays_at : (taken : List FactValue) (first : Option Named) → ¬ (IsBelow serial first) → IsFirst taken class first
+      → IsFirst (taken ++ Load serial class trace name ∷ []) class first
+  stays_at taken None not is = absurd (not tt)
+  stays_at taken (Some named) not is =
+      first_stays_before taken (taken ++ Load serial class trace name ∷ []) class serial trace name
+      (one_behind taken (Load serial class trace name)) named (elim (leb_tells named.serial serial) [
+        | inl le ↦ le.1
+        | inr gt ↦ absurd (not gt.1)
+      ]) is
+
+  of_other : (other : ℕ) → other ≢ class → (taken : List FactValue) (first : Option Named) → IsFirst taken other first
+      → IsFirst (taken ++ Load serial class trace name ∷ []) other first
+  of_other other differ taken first is =
+      first_stays taken (taken ++ Load serial class trace name ∷ []) other (Load serial class trace name) first
+      (one_behind taken (Load serial class trace name)) (other_class other class serial trace name differ) is
+
+  pub notes_later : ¬ (IsBelow serial (get nat_cmp names.names class)) → NotesFact (Load serial class trace name) names names
+  notes_later not taken are other =
+      elim (cases_eq other class) [
+        | inl same ↦ rw same (stays_at taken (get nat_cmp names.names class) not (are class))
+        | inr differ ↦ of_other other differ taken (get nat_cmp names.names other) (are other)
+      ]
+
+  -- one that comes first is put in the place of what was there
+  pub notes_first : (new : ClassNames) → get nat_cmp new.names class ≡ Some (record { serial = serial; name = name })
+      → ((key : ℕ) → is_at (nat_cmp class) key ≡ false → get nat_cmp new.names key ≡ get nat_cmp names.names key)
+      → IsBelow serial (get nat_cmp names.names class) → NotesFact (Load serial class trace name) names new
+  notes_first new here there below taken are other =
+      elim (cases_eq other class) [
+        | inl same ↦ rw (same, here)
+            (first_comes taken (taken ++ Load serial class trace name ∷ []) class serial trace name
+            (one_behind taken (Load serial class trace name)) (get nat_cmp names.names class) below (are class))
+        | inr differ ↦ rw (there other (apart class other differ))
+            (of_other other differ taken (get nat_cmp names.names other) (are other))
+      ]
 
 -- ---- all loads were gone over
 
@@ -225,3 +298,32 @@ one_class_name facts class (Some name) (Some other) agree is is_too =
     let same : is.serial ≡ is_too.serial = omega (arith, le, ge) in
     ap Some (ap name_in (agree (keys.Load is.serial) (Load is.serial class is.trace name) (Load is_too.serial class is_too.trace other)
     is.loaded is_too.loaded refl (ap (λ (n : ℕ). Some (keys.Load n)) (sym same))))
+
+-- ---- going over loads
+
+-- the loads that were gone over, and those that are left
+pub record AreFirstSoFar (all : List FactValue) (names : ClassNames) (left : List FactValue) : Type 0 where
+  pub taken : List FactValue
+  pub parts : all ≡ taken ++ left
+  pub first : AreFirst taken names
+
+pub first_of_none : (all left : List FactValue) (names : ClassNames) → left ≡ all → ((class : ℕ) → get nat_cmp names.names class ≡ None)
+    → AreFirstSoFar all names left
+first_of_none all left names e empty = record {
+  taken = [];
+  parts = sym e;
+  first = λ class. rw (empty class) (λ serial trace name none. none);
+}
+
+pub first_of_more : (all left rest : List FactValue) (old new : ClassNames) (fact : FactValue) → left ≡ fact ∷ rest
+    → AreFirstSoFar all old left → NotesFact fact old new → AreFirstSoFar all new rest
+first_of_more all left rest old new fact e so_far notes = record {
+  taken = so_far.taken ++ fact ∷ [];
+  parts = so_far.parts ∙ ap (λ (l : List FactValue). so_far.taken ++ l) e ∙ sym (append_assoc so_far.taken (fact ∷ []) rest);
+  first = notes so_far.taken so_far.first;
+}
+
+pub first_of_all : (all left : List FactValue) (names : ClassNames) → left ≡ [] → AreFirstSoFar all names left → AreFirst all names
+first_of_all all left names e so_far =
+    let same : all ≡ so_far.taken = so_far.parts ∙ ap (λ (l : List FactValue). so_far.taken ++ l) e ∙ append-nil so_far.taken in
+    rw same so_far.first

@@ -1,5 +1,6 @@
 -- Names and classes are printed in one way.
-use Rattle.std.proofs.Common.{◌≡◌, ◌⊎◌, inl, inr, ℕ, List, ◌++◌, Option, Some, None, refl, sym, subst, ◌∙◌}
+use Rattle.std.proofs.Common.{◌≡◌, ◌⊎◌, inl, inr, ℕ, List, ◌++◌, Option, Some, None, Result, Ok, Err, refl, sym, subst, ◌∙◌}
+use Rattle.std.specs.Prelude.{IfOk}
 use Rattle.std.proofs.Common.{codes}
 use Rattle.hprof_text.specs.Identifier.{id_digits}
 use Rattle.hprof_text.proofs.Prints.{one_printed}
@@ -9,6 +10,11 @@ use Rattle.hprof_rows.specs.Conflict.{IsConsistent}
 use Rattle.hprof_finding.proofs.NameFacts.{Lookup, Found, NotFound, look_up, one_name}
 use Rattle.hprof_naming.specs.Naming.{IsNameText, IsLabelOf, IsLabel, Naming, IsNaming}
 use Rattle.hprof_naming.proofs.FirstLoads.{class_name_exists, one_class_name}
+
+-- what holds of a text that is there implies another
+pub of_text : {T E : Type 0} (P Q : T → Type 0) (r : Result T E) → ((x : T) → P x → Q x) → IfOk r P → IfOk r Q
+of_text P Q (Ok x) implies is = implies x is
+of_text P Q (Err e) implies is = tt
 
 -- ---- there is one
 

@@ -1,5 +1,6 @@
 -- The names of all classes, gathered.
-use Rattle.std.specs.Prelude.{◌≤◌, ℕ, List, ◌++◌, [], ◌∷◌, Option, Some, None, nat_cmp, option_map}
+use Rattle.std.specs.Prelude.{◌<◌, ◌≤◌, ℕ, List, ◌++◌, [], ◌∷◌, Option, Some, None, option_map, ⊤}
+use Rattle.std.specs.Ordering.{nat_cmp}
 use Rattle.std.specs.BTreeMap.{get}
 use Rattle.hprof_items.specs.FactValue.{FactValue, Load}
 use Rattle.hprof_rows.specs.Facts.{Has}
@@ -21,6 +22,11 @@ IsFirst facts class None = (serial trace name : ℕ) → Has facts (Load serial 
 -- of each class that was gathered
 abbrev pub AreFirst : List FactValue → ClassNames → Type 0
 AreFirst facts names = (class : ℕ) → IsFirst facts class (get nat_cmp names.names class)
+
+-- that has a greater serial, if there is one
+abbrev pub IsBelow : ℕ → Option Named → Type 0
+IsBelow serial (Some named) = serial < named.serial
+IsBelow serial None = ⊤
 
 -- one fact more was gone over
 abbrev pub NotesFact : FactValue → ClassNames → ClassNames → Type 0

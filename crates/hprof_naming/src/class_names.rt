@@ -1,10 +1,12 @@
 //! The names of all classes of a heap, gathered in one pass.
 
-ghost use Rattle.std.specs.Prelude.{IfOk, List, OnOk};
+ghost use Rattle.std.specs.Prelude.{◌↔◌, IfOk, IsTrue, List, OnOk};
+ghost use Rattle.std.specs.Ordering.{nat_cmp};
+ghost use Rattle.std.specs.BTreeMap.{get};
 ghost use Rattle.hprof_items.specs.FactValue.{FactValue, value_of};
 ghost use Rattle.hprof_heap.specs.ClassName.{NamesClass};
 ghost use Rattle.hprof_finding.specs.HeapFacts.{facts_of};
-ghost use Rattle.hprof_naming.specs.ClassNames.{AreClassNames, NotesFact};
+ghost use Rattle.hprof_naming.specs.ClassNames.{AreClassNames, IsBelow, NotesFact};
 
 use hprof_finding::table_facts;
 use hprof_heap::{Heap, Table};
@@ -41,26 +43,34 @@ impl ClassNames {
         Ok(names)
     }
 
+    /// Whether no load of the class came so far, or that with the least serial has a greater one.
+    fn comes_first(&self, class: u64, serial: u32) -> bool
+        ensures { IsTrue result ↔ IsBelow serial (get nat_cmp self.now.names class) }
+    {
+        match self.names.get(&class) {
+            Some(named) => serial < named.serial,
+            None => true,
+        }
+    }
+
     /// Notes the name in a fact that loads a class, where its serial is the least so far.
     fn note(&mut self, fact: &Fact<'_>) -> Result<(), AllocError>
         ensures { OnOk result (NotesFact (value_of fact.now) self.old self.new) }
     {
-        let Fact::Load {
-            serial,
-            class,
-            name,
-            ..
-        } = *fact
-        else {
-            return Ok(());
-        };
-        if let Some(named) = self.names.get(&class) {
-            if named.serial <= serial {
-                return Ok(());
+        match *fact {
+            Fact::Load {
+                serial,
+                class,
+                name,
+                ..
+            } => {
+                if self.comes_first(class, serial) {
+                    self.names.insert(class, Named { serial, name })?;
+                }
+                Ok(())
             }
+            _ => Ok(()),
         }
-        self.names.insert(class, Named { serial, name })?;
-        Ok(())
     }
 
     /// The name of a class: that which it has in the fact of least serial that loads it.

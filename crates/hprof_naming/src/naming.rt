@@ -3,9 +3,9 @@
 ghost use Rattle.std.specs.Prelude.{◌≡◌, ◌++◌, IfOk, codes, string_bytes};
 ghost use Rattle.hprof_text.specs.Identifier.{id_digits};
 ghost use Rattle.hprof_finding.specs.HeapFacts.{facts_of};
-ghost use Rattle.hprof_naming.specs.Naming.{IsLabel, IsLabelOf, IsNameText};
+ghost use Rattle.hprof_naming.specs.Naming.{IsLabel, IsLabelOf, IsNameText, IsNaming, Naming};
 
-use hprof_finding::{class_name, find_name};
+use hprof_finding::{class_name, find_name, id_size};
 use hprof_heap::Heap;
 use hprof_text::printed;
 use std::alloc::{AllocError, Global};
@@ -20,8 +20,12 @@ fn missing_name(alloc: Global, name: u64) -> Result<String, AllocError>
 /// A name in print: its bytes in their printed form, or `\?` and its identifier where the heap does not have it. The error is
 /// that memory was refused.
 pub fn name_text(alloc: Global, heap: &Heap, name: u64) -> Result<String, AllocError>
-    ensures { IfOk result (λ text. IsNameText (facts_of heap.now) name (string_bytes text)) }
+    ensures form { IfOk result (λ text. IsNameText (facts_of heap.now) name (string_bytes text)) }
+    ensures named { (naming : Naming) → IsNaming (facts_of heap.now) naming
+        → IfOk result (λ text. string_bytes text ≡ naming.name_text name) }
 {
+    // Facts of a heap agree: that is told with the size.
+    let _ids = id_size(heap);
     match find_name(heap, name) {
         Some(bytes) => printed(alloc, bytes),
         None => missing_name(alloc, name),
@@ -40,7 +44,11 @@ pub fn label_of(alloc: Global, heap: &Heap, name: Option<u64>) -> Result<String,
 
 /// The label of a class, by the name in the fact of least serial that loads it. The error is that memory was refused.
 pub fn class_label(alloc: Global, heap: &Heap, class: u64) -> Result<String, AllocError>
-    ensures { IfOk result (λ text. IsLabel (facts_of heap.now) class (string_bytes text)) }
+    ensures form { IfOk result (λ text. IsLabel (facts_of heap.now) class (string_bytes text)) }
+    ensures named { (naming : Naming) → IsNaming (facts_of heap.now) naming
+        → IfOk result (λ text. string_bytes text ≡ naming.label class) }
 {
+    // Facts of a heap agree: that is told with the size.
+    let _ids = id_size(heap);
     label_of(alloc, heap, class_name(heap, class))
 }

@@ -1,0 +1,14 @@
+use Rattle.std.proofs.Common.{◌≡◌}
+use Rattle.std.specs.String.{string_bytes}
+use Rattle.hprof_finding.specs.HeapFacts.{facts_of}
+use Rattle.hprof_naming.specs.Naming.{IsLabelOf}
+use Rattle.hprof_naming.proofs.Namings.{of_text, one_label}
+use Rattle.hprof_naming.proofs.naming.class_label.Goals as goal
+
+pub returns-clause-named : goal.returns-clause-named
+returns-clause-named c = λ naming is.
+    of_text (λ text. IsLabelOf (facts_of c.args.heap.now) c.class_name.result (string_bytes text))
+    (λ text. string_bytes text ≡ naming.label c.args.class) c.label_of.result
+    (λ text form. one_label (facts_of c.args.heap.now) c.id_size-ids.ensures.agree c.args.class (string_bytes text)
+    (naming.label c.args.class) (c.class_name.result, c.class_name.ensures, form) (is.labels c.args.class))
+    c.label_of.ensures
