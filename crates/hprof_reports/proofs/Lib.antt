@@ -1,3 +1,4 @@
 pub mod Counts
 pub mod Slices
-pub mod Lines
+pub mod CheckLines
+pub mod TextWriting

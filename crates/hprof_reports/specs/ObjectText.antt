@@ -23,6 +23,15 @@ use Rattle.hprof_reports.specs.Shown.{type_word, bits_text}
 
 -- ---- a class dump
 
+-- the line of a class, in two halves
+abbrev pub line_from_signers : ClassDump → List ℕ → List ℕ
+line_from_signers dump label = line_of (codes "signers" ∷ id_digits dump.signers ∷ codes "domain" ∷ id_digits dump.domain
+    ∷ codes "size" ∷ decimal dump.size ∷ label ∷ [])
+
+abbrev pub line_to_loader : ClassDump → List ℕ → List ℕ
+line_to_loader dump end = codes "class " ++ (id_digits dump.id ++ (codes " super " ++ (id_digits dump.parent
+    ++ (codes " loader " ++ (id_digits dump.loader ++ (codes " " ++ end))))))
+
 abbrev pub class_line : Naming → ClassDump → List ℕ
 class_line naming dump = line_of (codes "class" ∷ id_digits dump.id ∷ codes "super" ∷ id_digits dump.parent
     ∷ codes "loader" ∷ id_digits dump.loader ∷ codes "signers" ∷ id_digits dump.signers ∷ codes "domain" ∷ id_digits dump.domain
@@ -76,9 +85,13 @@ abbrev pub fields_text : Naming → IdSize → FieldsValue → List ℕ
 fields_text naming ids (Values values) = text_of_lines (each_line (field_line naming ids) 0 values)
 fields_text naming ids other = why_no_fields other
 
+-- the line of an array of so many objects, of a class that has this label
+abbrev pub counted_line : (id class count : ℕ) → List ℕ → List ℕ
+counted_line id class count label = line_of (codes "objects" ∷ id_digits id ∷ codes "class" ∷ id_digits class
+    ∷ codes "elements" ∷ decimal count ∷ label ∷ [])
+
 abbrev pub elements_line : Naming → (id class : ℕ) → List ℕ → List ℕ
-elements_line naming id class elements = line_of (codes "objects" ∷ id_digits id ∷ codes "class" ∷ id_digits class
-    ∷ codes "elements" ∷ decimal (length elements) ∷ naming.label class ∷ [])
+elements_line naming id class elements = counted_line id class (length elements) (naming.label class)
 
 abbrev pub element_line : ℕ → ℕ → List ℕ
 element_line place element = line_of (codes "element" ∷ decimal place ∷ id_digits element ∷ [])

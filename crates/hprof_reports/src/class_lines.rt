@@ -5,7 +5,7 @@ ghost use Rattle.hprof_lists.specs.Lists.{constants_left, statics_left, fields_l
 ghost use Rattle.hprof_finding.specs.HeapFacts.{facts_of, size_of};
 ghost use Rattle.hprof_finding.specs.ClassRow.{dump_of};
 ghost use Rattle.hprof_naming.specs.Naming.{IsNaming, Naming};
-ghost use Rattle.hprof_reports.specs.ObjectText.{class_line, constant_line, own_line, static_line};
+ghost use Rattle.hprof_reports.specs.ObjectText.{class_line, constant_line, line_from_signers, line_to_loader, own_line, static_line};
 
 use crate::lines::Lines;
 use crate::shown::{bits_text, type_word};
@@ -16,6 +16,33 @@ use hprof_naming::{class_label, name_text};
 use hprof_values::IdSize;
 use std::alloc::{AllocError, Global};
 
+/// The line of a class that has this label, from its signers on.
+fn line_from_signers(
+    alloc: Global,
+    row: &ClassRow<'_>,
+    label: &str,
+) -> Result<String, AllocError>
+    ensures { IfOk result (λ line. string_bytes line ≡ line_from_signers (dump_of row.now) label.now) }
+{
+    let ClassRow {
+        signers,
+        domain,
+        size,
+        ..
+    } = *row;
+    format!(in alloc; "signers {signers:x} domain {domain:x} size {size} {label}\n")
+}
+
+/// The line of a class, of which the end is given.
+fn line_to_loader(alloc: Global, row: &ClassRow<'_>, end: &str) -> Result<String, AllocError>
+    ensures { IfOk result (λ line. string_bytes line ≡ line_to_loader (dump_of row.now) end.now) }
+{
+    let ClassRow {
+        id, parent, loader, ..
+    } = *row;
+    format!(in alloc; "class {id:x} super {parent:x} loader {loader:x} {end}")
+}
+
 /// The line of a class. The error is that memory was refused.
 pub(crate) fn class_line(
     alloc: Global,
@@ -25,17 +52,9 @@ pub(crate) fn class_line(
     ensures { (naming : Naming) → IsNaming (facts_of heap.now) naming
         → IfOk result (λ line. string_bytes line ≡ class_line naming (dump_of row.now)) }
 {
-    let ClassRow {
-        id,
-        parent,
-        loader,
-        signers,
-        domain,
-        size,
-        ..
-    } = *row;
-    let label = class_label(alloc, heap, id)?;
-    format!(in alloc; "class {id:x} super {parent:x} loader {loader:x} signers {signers:x} domain {domain:x} size {size} {label}\n")
+    let label = class_label(alloc, heap, row.id)?;
+    let end = line_from_signers(alloc, row, &label)?;
+    line_to_loader(alloc, row, &end)
 }
 
 /// The line of the constant at that place.

@@ -1,6 +1,6 @@
 //! Lines of a report that are written one after the other.
 
-ghost use Rattle.std.specs.Prelude.{◌≡◌, List, ℕ};
+ghost use Rattle.std.specs.Prelude.{◌≡◌, IfOk, List, ℕ, string_bytes};
 ghost use Rattle.hprof_devices.specs.declared.health.Health.TheVariants.{Well};
 ghost use Rattle.hprof_finding.specs.HeapFacts.{facts_of};
 ghost use Rattle.hprof_naming.specs.Naming.{IsNaming, Naming};
@@ -43,6 +43,22 @@ pub(crate) fn write_text<W: Target>(text: &str, target: &mut W) -> Result<(), St
     match push_all(text.as_bytes(), target) {
         Ok(()) => Ok(()),
         Err(fault) => Err(Stop::Write(fault)),
+    }
+}
+
+/// Writes a line that was made, if there was memory for it. Where it stops some of it was written, from the front.
+pub(crate) fn write_line<W: Target>(
+    line: Result<String, AllocError>,
+    target: &mut W,
+) -> Result<(), Stop>
+    requires { W.health target.old ≡ Well }
+    ensures bytes { (text : List ℕ) → IfOk line (λ line. string_bytes line ≡ text)
+        → WritesText (W.written target.old) (W.written target.new) result text }
+    ensures health { LeavesTarget result (W.health target.new) }
+{
+    match line {
+        Ok(line) => write_text(&line, target),
+        Err(_) => Err(Stop::OutOfMemory),
     }
 }
 

@@ -15,7 +15,7 @@ ghost use Rattle.hprof_reports.specs.Stopping.{LeavesTarget, WritesText};
 
 use crate::class_lines::{ConstantLines, OwnLines, StaticLines, class_line};
 use crate::contents::write_contents;
-use crate::lines::{write_lines, write_text};
+use crate::lines::{write_line, write_lines};
 use crate::object_lines::{ElementLines, FieldLines, elements_line, instance_line, values_line};
 use hprof_devices::Target;
 use hprof_engine::Stop;
@@ -104,8 +104,7 @@ fn write_class<W: Target>(
         (class_text naming (size_of heap.now) (dump_of row.now)) }
     ensures health { LeavesTarget result (W.health target.new) }
 {
-    let line = class_line(alloc, heap, row)?;
-    write_text(&line, target)?;
+    write_line(class_line(alloc, heap, row), target)?;
     write_constants(alloc, heap, row, target)?;
     write_statics(alloc, heap, row, target)?;
     write_own_fields(alloc, heap, row, target)
@@ -150,10 +149,7 @@ fn write_fields<W: Target>(
             };
             write_lines(alloc, lines, target)
         }
-        why => {
-            let line = no_fields_line(alloc, &why)?;
-            write_text(&line, target)
-        }
+        why => write_line(no_fields_line(alloc, &why), target),
     }
 }
 
@@ -198,8 +194,7 @@ fn write_object_row<W: Target>(
         ObjectRow::Instance {
             id, class, bytes, ..
         } => {
-            let line = instance_line(alloc, heap, id, class, bytes)?;
-            write_text(&line, target)?;
+            write_line(instance_line(alloc, heap, id, class, bytes), target)?;
             write_fields(alloc, heap, object, target)
         }
         ObjectRow::ObjArray {
@@ -208,15 +203,13 @@ fn write_object_row<W: Target>(
             elements,
             ..
         } => {
-            let line = elements_line(alloc, heap, id, class, &elements)?;
-            write_text(&line, target)?;
+            write_line(elements_line(alloc, heap, id, class, &elements), target)?;
             write_elements(alloc, heap, &elements, target)
         }
         ObjectRow::PrimArray {
             id, elem, bytes, ..
         } => {
-            let line = values_line(alloc, id_size(heap), id, elem, bytes)?;
-            write_text(&line, target)?;
+            write_line(values_line(alloc, id_size(heap), id, elem, bytes), target)?;
             write_contents(bytes, target)
         }
     }
@@ -246,10 +239,7 @@ fn write_found<W: Target>(
     ensures health { LeavesTarget result (W.health target.new) }
 {
     match (class, object) {
-        (None, None) => {
-            let line = nothing_line(alloc, id)?;
-            write_text(&line, target)
-        }
+        (None, None) => write_line(nothing_line(alloc, id), target),
         (Some(row), None) => write_class(alloc, heap, &row, target),
         (None, Some(row)) => write_object_row(alloc, heap, id, &row, target),
         (Some(row), Some(object)) => {

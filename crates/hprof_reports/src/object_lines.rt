@@ -4,7 +4,7 @@ ghost use Rattle.std.specs.Prelude.{◌≡◌, ◌+◌, ◌<◌, ◌^◌, IfOk, 
 ghost use Rattle.hprof_lists.specs.Lists.{identifiers_left, identifiers_of};
 ghost use Rattle.hprof_finding.specs.HeapFacts.{facts_of, size_of};
 ghost use Rattle.hprof_naming.specs.Naming.{IsNaming, Naming};
-ghost use Rattle.hprof_reports.specs.ObjectText.{element_line, elements_line, field_line, instance_line, values_line};
+ghost use Rattle.hprof_reports.specs.ObjectText.{counted_line, element_line, elements_line, field_line, instance_line, values_line};
 
 use crate::lines::Lines;
 use crate::shown::{bits_text, type_word};
@@ -32,6 +32,19 @@ pub(crate) fn instance_line(
     format!(in alloc; "instance {id:x} class {class:x} bytes {len} {label}\n")
 }
 
+/// The line of an array of so many objects, of a class that has this label.
+fn counted_line(
+    alloc: Global,
+    id: u64,
+    class: u64,
+    len: usize,
+    label: &str,
+) -> Result<String, AllocError>
+    ensures { IfOk result (λ line. string_bytes line ≡ counted_line id class len label.now) }
+{
+    format!(in alloc; "objects {id:x} class {class:x} elements {len} {label}\n")
+}
+
 /// The line of an array of objects. The error is that memory was refused.
 pub(crate) fn elements_line(
     alloc: Global,
@@ -43,9 +56,8 @@ pub(crate) fn elements_line(
     ensures { (naming : Naming) → IsNaming (facts_of heap.now) naming
         → IfOk result (λ line. string_bytes line ≡ elements_line naming id class (identifiers_of elements.now)) }
 {
-    let len = elements.len();
     let label = class_label(alloc, heap, class)?;
-    format!(in alloc; "objects {id:x} class {class:x} elements {len} {label}\n")
+    counted_line(alloc, id, class, elements.len(), &label)
 }
 
 /// The line of an array of numbers or truth values. The error is that memory was refused.

@@ -5,7 +5,7 @@ use Rattle.hprof_devices.proofs.Writes.{Writes-then, Writes-stops}
 use Rattle.hprof_heap.specs.Heap.{heap_of}
 use Rattle.hprof_reports.specs.Check.{all_tables, check_text, table_line}
 use Rattle.hprof_reports.specs.Line.{count_line}
-use Rattle.hprof_reports.proofs.Lines.{check_stops_at_parts, check_after_parts}
+use Rattle.hprof_reports.proofs.CheckLines.{check_stops_at_parts, check_after_parts}
 use Rattle.hprof_reports.proofs.check.write_check.Goals as goal
 
 pub returns-in_err-write_parts-clause-bytes : goal.returns-in_err-write_parts-clause-bytes

@@ -1,7 +1,7 @@
 use Rattle.std.proofs.Common.{ap, subst, ◌∙◌, rules}
 use Rattle.std.specs.Fmt.{decimal}
 use Rattle.hprof_devices.specs.Device.{Writes}
-use Rattle.hprof_reports.proofs.Lines.{part_line_of}
+use Rattle.hprof_reports.proofs.CheckLines.{part_line_of}
 use Rattle.hprof_reports.proofs.check.write_part.Goals as goal
 
 pub returns-clause-bytes : goal.returns-clause-bytes

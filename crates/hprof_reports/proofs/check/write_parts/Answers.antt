@@ -4,7 +4,7 @@ use Rattle.std.proofs.lemmas.Result.{err_from_is_err_and}
 use Rattle.hprof_devices.proofs.Writes.{Pushed-more, Pushed-all}
 use Rattle.hprof_stream.specs.declared.summary.PartSummary.{PartSummary}
 use Rattle.hprof_reports.specs.Check.{part_line, part_lines}
-use Rattle.hprof_reports.proofs.Lines.{no_part, part_lines_from, Pushed-stops}
+use Rattle.hprof_reports.proofs.CheckLines.{no_part, part_lines_from, Pushed-stops}
 use Rattle.hprof_reports.proofs.check.write_parts.Goals as goal
 
 pub returns-in_err-write_part-clause-bytes : goal.returns-in_err-write_part-clause-bytes

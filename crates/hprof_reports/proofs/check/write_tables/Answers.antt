@@ -5,7 +5,7 @@ use Rattle.hprof_devices.proofs.Writes.{WritesFront}
 use Rattle.hprof_rows.specs.declared.table.Table.TheVariants.{Names}
 use Rattle.hprof_heap.specs.Heap.{heap_of}
 use Rattle.hprof_reports.specs.Check.{all_tables, table_line}
-use Rattle.hprof_reports.proofs.Lines.{table_line_of}
+use Rattle.hprof_reports.proofs.CheckLines.{table_line_of}
 use Rattle.hprof_reports.proofs.Slices.{slice_more, slice_stops, slice_all}
 use Rattle.hprof_reports.proofs.check.write_tables.Goals as goal
 

@@ -1,0 +1,75 @@
+-- What several texts come to that are written one after the other, and may stop for want of memory.
+use Rattle.std.proofs.Common.{◌≡◌, ℕ, ◌≤◌, List, [], ◌∷◌, ◌++◌, length, take, Option, Result, Ok, Err, refl, sym, ap, subst, ◌∙◌, arith}
+use Rattle.std.proofs.Common.{append-nil, ◌==◌, false, codes}
+use Rattle.std.specs.Io.KnownBytes.{Appends}
+use Rattle.std.proofs.KnownBytes.{Appends-nil, Appends-trans}
+use Rattle.hex.specs.Hex.{encode_lower, encode_with, lower_digits}
+use Rattle.hprof_text.proofs.Prints.{encode_with-append}
+use Rattle.hprof_devices.proofs.Writes.{WritesFront, WritesFront-more, WritesFront-then, Pushed}
+use Rattle.hprof_engine.specs.declared.product.Stop.{Stop}
+use Rattle.hprof_reports.specs.Line.{text_of_lines}
+use Rattle.hprof_reports.specs.ObjectText.{contents_text}
+use Rattle.hprof_reports.specs.Stopping.{WritesText}
+
+module _ {A : Type 0} (r : Result A Stop) where
+  -- nothing was written before it stopped
+  pub text_unwritten : (old : Option (List ℕ)) (stop : Stop) (text : List ℕ) → r ≡ Err stop → WritesText old old r text
+  text_unwritten old stop text e = rw e (0, omega arith, Appends-nil old)
+
+  -- a front was written when it stopped
+  pub text_stopped : (old new : Option (List ℕ)) (stop : Stop) (text : List ℕ) → r ≡ Err stop → WritesFront old new text
+      → WritesText old new r text
+  text_stopped old new stop text e front = rw e front
+
+  -- a front of the first text was
+  pub text_stops : (old new : Option (List ℕ)) (stop : Stop) (a b : List ℕ) → r ≡ Err stop → WritesFront old new a
+      → WritesText old new r (a ++ b)
+  text_stops old new stop a b e front = rw e (WritesFront-more old new a b front)
+
+  -- all of the first text was, and nothing of the next
+  pub text_stops_between : (old new : Option (List ℕ)) (stop : Stop) (a b : List ℕ) → r ≡ Err stop → Appends old new a
+      → WritesText old new r (a ++ b)
+  text_stops_between old new stop a b e first =
+      rw e (WritesFront-then old new new a b first (0, omega arith, Appends-nil new))
+
+-- the first text was written, and then the next as far as it went
+pub text_then : {A : Type 0} (r : Result A Stop) (old mid new : Option (List ℕ)) (a b : List ℕ) → Appends old mid a → WritesText mid new r b
+    → WritesText old new r (a ++ b)
+text_then (Ok done) old mid new a b first second = Appends-trans old mid new a b first second
+text_then (Err stop) old mid new a b first second = WritesFront-then old mid new a b first second
+
+-- ---- what is pushed
+
+module _ {A : Type 0} (r : Result A Stop) (stop : Stop) (e : r ≡ Err stop) (old mid : Option (List ℕ)) (all rest : List ℕ)
+    (p : Pushed old mid all rest) where
+  -- it stopped between two pieces
+  pub pushed_stops : WritesText old mid r all
+  pushed_stops = subst (WritesText old mid r) (sym p.parts) (text_stops_between r old mid stop p.front rest e p.appended)
+
+  -- it stopped within the next piece
+  pub pushed_stops_within : (new : Option (List ℕ)) (piece others : List ℕ) → rest ≡ piece ++ others → WritesFront mid new piece
+      → WritesText old new r all
+  pushed_stops_within new piece others split front =
+      subst (WritesText old new r) (sym p.parts)
+      (rw e (WritesFront-then old mid new p.front rest p.appended
+      (subst (WritesFront mid new) (sym split) (WritesFront-more mid new piece others front))))
+
+-- the next of the lines
+pub lines_next : (line : List ℕ) (left rest : List (List ℕ)) → left ≡ line ∷ rest → text_of_lines left ≡ line ++ text_of_lines rest
+lines_next line left rest e = ap text_of_lines e
+
+-- ---- digits, piece by piece
+
+-- the digits of a front, and then those of the rest
+pub digits_split : (bytes front rest : List ℕ) → bytes ≡ front ++ rest → encode_lower bytes ≡ encode_lower front ++ encode_lower rest
+digits_split bytes front rest e = ap encode_lower e ∙ encode_with-append lower_digits front rest
+
+-- the line of contents that are there
+pub contents_are : (bytes : List ℕ) → (length bytes == 0) ≡ false → contents_text bytes ≡ codes "bytes " ++ (encode_lower bytes ++ codes "\n")
+contents_are [] some = absurd cc
+contents_are (byte ∷ bytes) some = refl
+
+-- no bytes have no digits
+pub no_digits : (bytes : List ℕ) → bytes ≡ [] → length (encode_lower bytes) ≡ 0
+unfolding encode_with
+no_digits bytes e = rw e refl
