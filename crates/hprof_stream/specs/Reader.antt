@@ -130,9 +130,21 @@ module _ {S : Type 0} (begins : S → Header → S → Type 0) (steps : S → Fa
     pub has_facts : all_facts whole.items ≡ facts ++ handed
     pub ran : Run begins steps old (became from (header_before whole.before)) handed new
 
+  -- what the sink has run over where an item could not be held: all that is whole; or nothing of the piece
+  abbrev pub RanUnheld : (limits : Limits) (front piece : List ℕ) → IsUnheld limits front piece → List FactValue → Option Header → S
+      → Option Header → S → Type 0
+  RanUnheld limits front piece (inl all) facts before old after new =
+      RanOver limits.max_item (front ++ piece) facts before after old new
+  RanUnheld limits front piece (inr held) facts before old after new = (after ≡ before) × (old ≡ new)
+
+  -- a growth was refused when a piece came behind bytes that state facts
+  abbrev pub LacksMemory : Limits → List ℕ → List FactValue → Option Header → List ℕ → S → Option Header → S → Type 0
+  LacksMemory limits bytes facts before piece old after new =
+      (unheld : IsUnheld limits bytes piece) × RanUnheld limits bytes piece unheld facts before old after new
+
 module _ {S : Type 0} (begins : S → Header → S → Type 0) (steps : S → FactValue → S → Type 0) (refuses : S → List FactValue → SinkFault
     → S → Type 0) (failed : S → Bool) where
-  -- the sink has run over the items up to the last of these, and refused that one
+  -- the sink has run over the items up to the last of these, and refused it
   pub record RefusesLast {longest : ℕ} {bytes : List ℕ} {to : Option Header} (whole : BeginsWhole longest bytes to)
       (facts : List FactValue) (from : Option Header) (old : S) (fault : SinkFault) (new : S) : Type 0 where
     pub mid : S
@@ -147,25 +159,13 @@ module _ {S : Type 0} (begins : S → Header → S → Type 0) (steps : S → Fa
   IsFeedFault limits bytes facts before after old fault new =
       IsSettledFault limits bytes fault × RanOver begins steps limits.max_item (take limits.max_bytes bytes) facts before after old new
 
-  -- what the sink has run over where an item could not be held: all that is whole; or nothing of the piece
-  abbrev pub RanUnheld : (limits : Limits) (front piece : List ℕ) → IsUnheld limits front piece → List FactValue → Option Header → S
-      → Option Header → S → Type 0
-  RanUnheld limits front piece (inl all) facts before old after new =
-      RanOver begins steps limits.max_item (front ++ piece) facts before after old new
-  RanUnheld limits front piece (inr held) facts before old after new = (after ≡ before) × (old ≡ new)
-
-  -- a growth was refused when a piece came behind bytes that state facts
-  abbrev pub LacksMemory : Limits → List ℕ → List FactValue → Option Header → List ℕ → S → Option Header → S → Type 0
-  LacksMemory limits bytes facts before piece old after new =
-      (unheld : IsUnheld limits bytes piece) × RanUnheld limits bytes piece unheld facts before old after new
-
   -- what feeding a piece does, to a reader that was fed bytes which state facts
   abbrev pub Feeds : Limits → List ℕ → List FactValue → PartReader → List ℕ → S → Result (Unit {0}) PartFault → PartReader → S → Type 0
   Feeds limits bytes facts from piece old (Ok _) to new =
       (handed : List FactValue) × HasRead limits (bytes ++ piece) (facts ++ handed) to
       × Run begins steps old (became (header_of from) (header_of to)) handed new
   Feeds limits bytes facts from piece old (Err faults.OutOfMemory) to new =
-      (0 < length piece) × LacksMemory limits bytes facts (header_of from) piece old (header_of to) new
+      (0 < length piece) × LacksMemory begins steps limits bytes facts (header_of from) piece old (header_of to) new
   Feeds limits bytes facts from piece old (Err fault) to new =
       IsFeedFault limits (bytes ++ piece) facts (header_of from) (header_of to) old fault new
 
@@ -224,7 +224,8 @@ module _ {R : Type 0} (left : R → Option (List ℕ)) (pulls : R → ℕ) where
     pub behind : length last.front < whole_len whole
 
 module _ {R : Type 0} (left : R → Option (List ℕ)) (health : R → Health) (pulls : R → ℕ) where
-  -- with which fault reading a part is refused of which these bytes came, by the bytes and by how the source was pulled
+  -- with which fault reading a part is refused of which these bytes came, by the bytes and by how the source was pulled; where
+  -- memory was wanted, nothing was read, or an item could not be held when the last piece came
   --   was, is: the source, before and afterwards
   abbrev pub IsReadingFault : Limits → R → List ℕ → R → PartFault → Type 0
   IsReadingFault limits was came is faults.Read =
@@ -242,15 +243,14 @@ module _ {R : Type 0} (left : R → Option (List ℕ)) (health : R → Health) (
   IsReadingFault limits was came is fault =
       CameLast left pulls limits was came is × (health is ≡ healths.Well) × IsSettledFault limits came fault
 
-module _ {S : Type 0} (begins : S → Header → S → Type 0) (steps : S → FactValue → S → Type 0) (refuses : S → List FactValue → SinkFault
-    → S → Type 0) (failed : S → Bool) where
+module _ {S : Type 0} (begins : S → Header → S → Type 0) (steps : S → FactValue → S → Type 0) where
   -- the sink ran over the front, and then an item could not be held
   pub record LacksAtLast (limits : Limits) (front piece : List ℕ) (unheld : IsUnheld limits front piece) (old new : S) : Type 0 where
     pub told : Option Header
     pub header : Option Header
     pub mid : S
     pub over : RanOver begins steps limits.max_item front [] None told old mid
-    pub lacks : RanUnheld begins steps refuses failed limits front piece unheld over.handed told mid header new
+    pub lacks : RanUnheld begins steps limits front piece unheld over.handed told mid header new
 
 module _ {R : Type 0} (left : R → Option (List ℕ)) (health : R → Health) (pulls : R → ℕ)
     {S : Type 0} (begins : S → Header → S → Type 0) (steps : S → FactValue → S → Type 0) (refuses : S → List FactValue → SinkFault
@@ -260,7 +260,7 @@ module _ {R : Type 0} (left : R → Option (List ℕ)) (health : R → Health) (
       → IsReadingFault left health pulls limits was came is fault → S → Type 0
   RanBefore limits was came is old faults.OutOfMemory (well, inl nothing) new = old ≡ new
   RanBefore limits was came is old faults.OutOfMemory (well, inr (last, unheld)) new =
-      LacksAtLast begins steps refuses failed limits last.front last.piece unheld old new
+      LacksAtLast begins steps limits last.front last.piece unheld old new
   RanBefore limits was came is old (faults.Sink fault) (well, item) new =
       RefusesLast begins steps refuses failed item.whole [] None old fault new
   RanBefore limits was came is old fault why new =
