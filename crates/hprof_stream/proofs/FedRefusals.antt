@@ -19,7 +19,7 @@ use Rattle.hprof_stream.specs.Fault.{is_whole, IsFirstFault, HasNoSettledFault, 
 use Rattle.hprof_stream.specs.Progress.{place_of}
 use Rattle.hprof_stream.specs.Rest.{IsRest}
 use Rattle.hprof_stream.specs.Reader.{header_of, has_failed, HasRead, BeginsWhole, RanOver, RefusesLast, IsFeedFault, Feeds}
-use Rattle.hprof_stream.specs.Walking.{Refuses, Stops, Halts, ReadsOn}
+use Rattle.hprof_stream.specs.Walking.{Stops, Halts, ReadsOn}
 use Rattle.hprof_stream.proofs.Faults.{fault_is_first, too_long_is_first, short_unsettled}
 use Rattle.hprof_stream.proofs.Refusals.{item_stays, item_stays_long}
 use Rattle.hprof_stream.proofs.PieceRoom.{taken_within, some_of_taken}

@@ -208,8 +208,7 @@ module _ {R : Type 0} (left : R → Option (List ℕ)) (health : R → Health) (
       → health is ≡ healths.Failed
       → HasFed limits turns was before reader old new → turns < limits.max_reads → CameOf limits was is old (Err faults.Read) reader new
   HasFed-failed limits turns was before is reader old new last ill fed allowed =
-      let out = PulledOut-fed limits turns was before is reader old new last allowed fed in
-      (
+      let out = PulledOut-fed limits turns was before is reader old new last allowed fed in (
         fed.came,
         out.1,
         (
