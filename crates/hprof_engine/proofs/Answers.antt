@@ -115,7 +115,7 @@ unexpected left health pulls limits earlier bytes came was is ids millis facts (
 unexpected left health pulls limits earlier bytes came was is ids millis facts faults.BytesExceeded le part of_part why well
     unhindered = unhindered refl
 unexpected left health pulls limits earlier bytes came was is ids millis facts faults.Read le part of_part why well unhindered =
-    let no : healths.Failed ≡ healths.Well = sym why.0 ∙ well in cc
+    let no : healths.Failed ≡ healths.Well = sym why.1 ∙ well in cc
 unexpected left health pulls limits earlier bytes came was is ids millis facts faults.ReadsExceeded le part of_part why well
     unhindered = unhindered refl
 unexpected left health pulls limits earlier bytes came was is ids millis facts faults.OutOfMemory le part of_part why well unhindered =

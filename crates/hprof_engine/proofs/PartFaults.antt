@@ -1,12 +1,11 @@
 -- With which fault a part is refused, by the bytes that its reader had to tell.
-use Rattle.std.proofs.Common.{◌≡◌, ℕ, ◌≤◌, Bool, true, false, inl, inr, List, [], ◌++◌, length, take, drop, Option, Some, None, Err, refl}
+use Rattle.std.proofs.Common.{◌≡◌, ℕ, ◌≤◌, Bool, true, false, List, [], ◌++◌, length, take, drop, Option, Some, None, Err, refl}
 use Rattle.std.proofs.Common.{sym, ap, subst, ◌∙◌, append_assoc, append-nil, arith}
-use Rattle.std.proofs.lemmas.Bool.{cases_Bool}
-use Rattle.std.proofs.lemmas.List.{take_all, take-append-drop, length-append}
+use Rattle.std.proofs.lemmas.List.{take-append-drop, length-append}
 use Rattle.std.specs.Io.KnownBytes.{Consumes, IsAtEnd}
 use Rattle.hprof_items.specs.declared.header.Header.{Header}
 use Rattle.hprof_devices.specs.declared.health.Health.{Health}
-use Rattle.hprof_values.specs.declared.reason.Reason.TheVariants.{BadMagic, BadIdSize, Truncated, BadLength, BadSubTag, PastEnd, BadType}
+use Rattle.hprof_values.specs.declared.reason.Reason.TheVariants.{Truncated}
 use Rattle.hprof_items.specs.FactValue.{FactValue}
 use Rattle.hprof_stream.specs.declared.limits.Limits.{Limits}
 use Rattle.hprof_stream.specs.declared.part_fault.PartFault.{PartFault}
@@ -16,8 +15,8 @@ use Rattle.hprof_stream.specs.declared.sink.SinkFault.TheVariants as sinks
 use Rattle.hprof_stream.specs.Part.{all_facts}
 use Rattle.hprof_stream.specs.Item.{header_before}
 use Rattle.hprof_stream.specs.Run.{Run}
-use Rattle.hprof_stream.specs.Fault.{IsFirstFault, is_lasting, is_settled}
-use Rattle.hprof_stream.specs.Reader.{Pulled, none, once_more, RanUpTo, IsUnheld, LacksAtLast, ReadsPart}
+use Rattle.hprof_stream.specs.Fault.{IsFirstFault, is_settled}
+use Rattle.hprof_stream.specs.Reader.{Pulled, none, once_more, BeginsWhole, RanUpTo, ReadsPart}
 use Rattle.hprof_heap.specs.Gathering.{Gathered, Given, nothing_gathered, Begins, Takes, Gathers, LacksRow, IsNewBehind}
 use Rattle.hprof_heap.proofs.Told.{new_behind}
 use Rattle.hprof_engine.specs.Joining.{IsPartFault, IsOfPart}
@@ -33,27 +32,12 @@ settled_of_whole longest most came rest fault first settled =
     ∙ ap (λ (b : List ℕ). b ++ rest) (take-append-drop most came) in
     subst (λ (b : List ℕ). IsFirstFault longest b fault) whole more
 
--- bytes behind which no more are left are the whole
-unsettled_of_whole : (longest most : ℕ) (came rest : List ℕ) (fault : PartFault) → IsFirstFault longest (take most came) fault
-    → rest ≡ [] → length came ≤ most → IsFirstFault longest (came ++ rest) fault
-unsettled_of_whole longest most came rest fault first ends within =
-    let whole : take most came ≡ came ++ rest = take_all most came within ∙ sym (append-nil came)
-    ∙ ap (λ (b : List ℕ). came ++ b) (sym ends) in
-    subst (λ (b : List ℕ). IsFirstFault longest b fault) whole first
-
 -- so many pulls gave a byte each
 each_gave : {R : Type 0} (left : R → Option (List ℕ)) (pulls : R → ℕ) (was : R) (came : List ℕ) (count : ℕ) (is : R)
     → Pulled left pulls was came count is → count ≤ length came
 each_gave left pulls was came count is none = omega arith
 each_gave left pulls was came count is (once_more {came = front} {piece = piece} {count = before} {mid = mid} first pull some) =
     omega (arith, each_gave left pulls was front before mid first, some, length-append front piece)
-
--- what could not be held
-unheld : {G : Type 0} (begins : G → Header → G → Type 0) (steps : G → FactValue → G → Type 0)
-    (refuses : G → List FactValue → SinkFault → G → Type 0) (failed : G → Bool) (limits : Limits) (front piece : List ℕ) (old new : G)
-    → LacksAtLast begins steps refuses failed limits front piece old new → IsUnheld limits front piece
-unheld begins steps refuses failed limits front piece old new lacks =
-    elim lacks.lacks [ inl all ↦ inl (all.0, all.1, all.2) | inr held ↦ inr (held.0, held.1) ]
 
 -- what gathers parts, by what it has gathered
 module _ {G : Type 0} (gathered : G → Gathered) (begins : G → Header → G → Type 0) (steps : G → FactValue → G → Type 0)
@@ -63,13 +47,13 @@ module _ {G : Type 0} (gathered : G → Gathered) (begins : G → Header → G �
     (refuses_facts : (old : G) (given : List FactValue) (fault : SinkFault) (new : G) → refuses old given fault new
     → (gathered old).failed ≡ false → (fault ≡ sinks.OutOfMemory) × LacksRow (gathered old) given) where
   -- up to an item, it ran over what was handed on, and stands as it stood
-  module _ (limits : Limits) (bytes : List ℕ) (told : Option Header) (old mid : G) (sound : (gathered old).failed ≡ false)
-      (ran : RanUpTo begins steps limits.max_item bytes [] None told old mid) where
-    shown : Run Begins Takes (gathered old) (header_before ran.whole.before) ran.handed (gathered mid)
-    shown = Run-shown gathered begins steps begins_parts takes_facts old mid (header_before ran.whole.before) ran.handed ran.ran
+  module _ (longest : ℕ) (bytes : List ℕ) (told : Option Header) (whole : BeginsWhole longest bytes told) (old mid : G)
+      (sound : (gathered old).failed ≡ false) (ran : RanUpTo begins steps whole [] None old mid) where
+    shown : Run Begins Takes (gathered old) (header_before whole.before) ran.handed (gathered mid)
+    shown = Run-shown gathered begins steps begins_parts takes_facts old mid (header_before whole.before) ran.handed ran.ran
 
     still : (gathered mid).failed ≡ false
-    still = Run-sound (gathered old) (gathered mid) (header_before ran.whole.before) ran.handed shown sound
+    still = Run-sound (gathered old) (gathered mid) (header_before whole.before) ran.handed shown sound
 
     -- it refuses nothing but for want of memory
     no_failure : (given : List FactValue) (new : G) → refuses mid given sinks.Failed new → ⊥
@@ -77,12 +61,12 @@ module _ {G : Type 0} (gathered : G → Gathered) (begins : G → Header → G �
 
     -- and that for a fact that is new behind those before it
     new_then : (earlier : List Given) (new : G) → Gathers nothing_gathered earlier (gathered old)
-        → refuses mid ran.whole.last.facts sinks.OutOfMemory new
-        → IsNewBehind earlier (header_before ran.whole.before) (all_facts ran.whole.items) ran.whole.last.facts
+        → refuses mid whole.last.facts sinks.OutOfMemory new
+        → IsNewBehind earlier (header_before whole.before) (all_facts whole.items) whole.last.facts
     new_then earlier new gathers refused =
-        let fresh = new_behind earlier (header_before ran.whole.before) ran.handed ran.whole.last.facts (gathered old) (gathered mid)
-        gathers shown (refuses_facts mid ran.whole.last.facts sinks.OutOfMemory new refused still).1 in
-        subst (λ (facts : List FactValue). IsNewBehind earlier (header_before ran.whole.before) facts ran.whole.last.facts)
+        let fresh = new_behind earlier (header_before whole.before) ran.handed whole.last.facts (gathered old) (gathered mid)
+        gathers shown (refuses_facts mid whole.last.facts sinks.OutOfMemory new refused still).1 in
+        subst (λ (facts : List FactValue). IsNewBehind earlier (header_before whole.before) facts whole.last.facts)
         (sym ran.has_facts) fresh
 
   module _ {R : Type 0} (left : R → Option (List ℕ)) (health : R → Health) (pulls : R → ℕ) where
@@ -91,76 +75,34 @@ module _ {G : Type 0} (gathered : G → Gathered) (begins : G → Header → G �
         (fault : PartFault) → (gathered old).failed ≡ false → Gathers nothing_gathered earlier (gathered old)
         → ReadsPart left health pulls begins steps refuses failed limits was came is old (Err fault) new
         → IsPartFault left health pulls limits earlier was came is fault
-    fault_of_came limits earlier was came is old new (faults.Malformed at Truncated) sound gathers reads = (
-      reads.2,
-      subst (λ (b : List ℕ). IsFirstFault limits.max_item b (faults.Malformed at Truncated))
-          (sym (take_all limits.max_bytes came reads.3)) reads.4,
-      λ e. absurd cc,
-      λ _. (reads.0, reads.1, reads.3),
-    )
-    fault_of_came limits earlier was came is old new (faults.Malformed at BadMagic) sound gathers reads =
-        (reads.1, reads.2.1.0, λ _. reads.0, λ e. absurd cc)
-    fault_of_came limits earlier was came is old new (faults.Malformed at BadIdSize) sound gathers reads =
-        (reads.1, reads.2.1.0, λ _. reads.0, λ e. absurd cc)
-    fault_of_came limits earlier was came is old new (faults.Malformed at BadLength) sound gathers reads =
-        (reads.1, reads.2.1.0, λ _. reads.0, λ e. absurd cc)
-    fault_of_came limits earlier was came is old new (faults.Malformed at BadSubTag) sound gathers reads =
-        (reads.1, reads.2.1.0, λ _. reads.0, λ e. absurd cc)
-    fault_of_came limits earlier was came is old new (faults.Malformed at PastEnd) sound gathers reads =
-        (reads.1, reads.2.1.0, λ _. reads.0, λ e. absurd cc)
-    fault_of_came limits earlier was came is old new (faults.Malformed at BadType) sound gathers reads =
-        (reads.1, reads.2.1.0, λ _. reads.0, λ e. absurd cc)
-    fault_of_came limits earlier was came is old new (faults.ItemTooLong at) sound gathers reads = (reads.1, reads.2.1.0, reads.0)
-    fault_of_came limits earlier was came is old new faults.OutOfMemory sound gathers reads = (
-      reads.0,
-      elim reads.1 [
-        | inl nothing ↦ inl (nothing.0, nothing.1)
-        | inr last ↦ inr (last.0, unheld begins steps refuses failed limits last.0.front last.0.piece old new last.1)
-      ],
-    )
     fault_of_came limits earlier was came is old new (faults.Sink sinks.OutOfMemory) sound gathers reads =
-        let stops = reads.1.1 in (
+        let item = reads.0.1 in (
           reads.0,
-          (
-            reads.1.0,
-            (
-              stops.header,
-              stops.ran.whole,
-              stops.behind,
-              new_then limits (take limits.max_bytes came) stops.header old stops.mid sound stops.ran earlier new gathers stops.refused.0,
-            ),
-          ),
+          new_then limits.max_item (take limits.max_bytes came) item.told item.whole old reads.1.mid sound reads.1.ran earlier new gathers
+              reads.1.refused.0,
         )
     fault_of_came limits earlier was came is old new (faults.Sink sinks.Failed) sound gathers reads =
-        let stops = reads.1.1 in
-        absurd (no_failure limits (take limits.max_bytes came) stops.header old stops.mid sound stops.ran stops.ran.whole.last.facts new
-        stops.refused.0)
-    fault_of_came limits earlier was came is old new faults.Failed sound gathers reads = absurd reads.2.1
-    fault_of_came limits earlier was came is old new faults.Read sound gathers reads = (reads.1, reads.2.0, reads.2.1, reads.0)
-    fault_of_came limits earlier was came is old new faults.ReadsExceeded sound gathers reads = (reads.1, reads.0, reads.2.0, reads.2.1)
-    fault_of_came limits earlier was came is old new faults.BytesExceeded sound gathers reads = (reads.1, reads.2.1.0, reads.2.1.1, reads.0)
+        let item = reads.0.1 in
+        absurd (no_failure limits.max_item (take limits.max_bytes came) item.told item.whole old reads.1.mid sound reads.1.ran
+        item.whole.last.facts new reads.1.refused.0)
+    fault_of_came limits earlier was came is old new fault sound gathers reads = reads.0
 
 module _ {R : Type 0} (left : R → Option (List ℕ)) (health : R → Health) (pulls : R → ℕ) where
   -- a fault of an item that came is the first of the whole part
   of_rest : (limits : Limits) (earlier : List Given) (was : R) (came rest : List ℕ) (is : R) (fault : PartFault) → left is ≡ Some rest
       → IsPartFault left health pulls limits earlier was came is fault → IsOfPart limits (came ++ rest) fault
+  of_rest limits earlier was came rest is (faults.Malformed at Truncated) told why =
+      let ends : rest ≡ [] = subst IsAtEnd told why.1 in
+      subst (λ (b : List ℕ). IsFirstFault limits.max_item b (faults.Malformed at Truncated))
+      (sym (append-nil came) ∙ ap (λ (b : List ℕ). came ++ b) (sym ends)) why.4
   of_rest limits earlier was came rest is (faults.Malformed at reason) told why =
-      elim (cases_Bool (is_lasting reason)) [
-        | inl settled ↦ settled_of_whole limits.max_item limits.max_bytes came rest (faults.Malformed at reason) why.1 settled
-        | inr unsettled ↦
-            let whole = why.3 unsettled in
-            let ends : rest ≡ [] = subst IsAtEnd told whole.1 in
-            unsettled_of_whole limits.max_item limits.max_bytes came rest (faults.Malformed at reason) why.1 ends whole.2
-      ]
-  of_rest limits earlier was came rest is (faults.ItemTooLong at) told why = settled_of_whole limits.max_item limits.max_bytes came rest
-      (faults.ItemTooLong at) why.1 refl
-  of_rest limits earlier was came rest is faults.OutOfMemory told why = tt
-  of_rest limits earlier was came rest is (faults.Sink fault) told why = tt
-  of_rest limits earlier was came rest is faults.Failed told why = tt
-  of_rest limits earlier was came rest is faults.Read told why = tt
+      settled_of_whole limits.max_item limits.max_bytes came rest (faults.Malformed at reason) why.2.0 why.2.1
+  of_rest limits earlier was came rest is (faults.ItemTooLong at) told why =
+      settled_of_whole limits.max_item limits.max_bytes came rest (faults.ItemTooLong at) why.2.0 refl
   of_rest limits earlier was came rest is faults.ReadsExceeded told why =
-      omega (arith, each_gave left pulls was came limits.max_reads is why.1, length-append came rest)
-  of_rest limits earlier was came rest is faults.BytesExceeded told why = omega (arith, why.1, length-append came rest)
+      omega (arith, each_gave left pulls was came limits.max_reads is why.0, length-append came rest)
+  of_rest limits earlier was came rest is faults.BytesExceeded told why = omega (arith, why.2.0, length-append came rest)
+  of_rest limits earlier was came rest is fault told why = tt
 
   pub of_part : (limits : Limits) (earlier : List Given) (was : R) (bytes came : List ℕ) (is : R) (fault : PartFault)
       → left was ≡ Some bytes → Consumes (left was) (left is) came → IsPartFault left health pulls limits earlier was came is fault

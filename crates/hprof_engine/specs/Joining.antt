@@ -1,9 +1,8 @@
 -- What joining parts answers, and what it writes.
-use Rattle.std.specs.Prelude.{◌≡◌, ◌⊎◌, ℕ, ◌+◌, ◌<◌, ◌≤◌, Bool, true, false, List, [], ◌∷◌, ◌++◌, length, take, map, Option, Some, None}
+use Rattle.std.specs.Prelude.{◌≡◌, ℕ, ◌+◌, ◌<◌, ◌≤◌, Bool, true, false, List, [], ◌∷◌, ◌++◌, length, take, map, Option, Some, None}
 use Rattle.std.specs.Prelude.{Result, Ok, Err, ⊤, slice_get}
 use Rattle.std.specs.List.{AllByRecursion}
 use Rattle.std.specs.Io.KnownBytes.{Consumes, IsAtEnd}
-use Rattle.hprof_items.specs.declared.header.Header.{Header}
 use Rattle.hprof_devices.specs.declared.health.Health.{Health}
 use Rattle.hprof_devices.specs.declared.health.Health.TheVariants as healths
 use Rattle.hprof_values.specs.declared.ids.IdSize.{IdSize}
@@ -14,8 +13,8 @@ use Rattle.hprof_stream.specs.declared.part_fault.PartFault.TheVariants as fault
 use Rattle.hprof_stream.specs.declared.sink.SinkFault.TheVariants as sinks
 use Rattle.hprof_stream.specs.Part.{IsPart, all_facts}
 use Rattle.hprof_stream.specs.Item.{header_before}
-use Rattle.hprof_stream.specs.Reader.{BeginsWhole, whole_len, IsUnheld, Pulled, PulledOut, CameLast}
-use Rattle.hprof_stream.specs.Fault.{HasNoFault, IsFirstFault, HasNoSettledFault, is_lasting}
+use Rattle.hprof_stream.specs.Reader.{IsReadingFault, PulledOut}
+use Rattle.hprof_stream.specs.Fault.{HasNoFault, IsFirstFault}
 use Rattle.hprof_rows.specs.declared.key.Key.{Key}
 use Rattle.hprof_rows.specs.Conflict.{IsConsistent, IsLeastConflict}
 use Rattle.hprof_rows.specs.Order.{IsCanonicalOrder}
@@ -69,37 +68,15 @@ AreGiven limits [] (part ∷ parts) = ⊥
 AreGiven limits (left ∷ lefts) [] = ⊥
 
 module _ {R : Type 0} (left : R → Option (List ℕ)) (health : R → Health) (pulls : R → ℕ) where
-  -- with which fault a part is refused of which these bytes came, and were judged as far as they may be taken; where
-  -- memory was wanted, nothing was read, or all but the last piece was judged, and an item could not be held, or one that
-  -- ends in that piece, and states a fact that is new, could not be kept; each pull but one behind the end, or one that
-  -- failed, gave a byte
-  --   earlier: what the parts before it gave;  was, is: the reader, before and afterwards
+  -- with which fault a part is refused of which these bytes came: an item is refused for want of memory alone, and states
+  -- a fact that is new behind what the parts before it gave
+  --   earlier: what these gave;  was, is: the reader, before and afterwards
   abbrev pub IsPartFault : Limits → List Given → R → List ℕ → R → PartFault → Type 0
-  IsPartFault limits earlier was came is (faults.Malformed at reason) =
-      (health is ≡ healths.Well) × IsFirstFault limits.max_item (take limits.max_bytes came) (faults.Malformed at reason)
-      × (is_lasting reason ≡ true → CameLast left pulls limits was came is)
-      × (is_lasting reason ≡ false → PulledOut left pulls limits was came is × IsAtEnd (left is) × (length came ≤ limits.max_bytes))
-  IsPartFault limits earlier was came is (faults.ItemTooLong at) =
-      (health is ≡ healths.Well) × IsFirstFault limits.max_item (take limits.max_bytes came) (faults.ItemTooLong at)
-      × CameLast left pulls limits was came is
-  IsPartFault limits earlier was came is faults.BytesExceeded =
-      (health is ≡ healths.Well) × (limits.max_bytes < length came) × HasNoSettledFault limits.max_item (take limits.max_bytes came)
-      × CameLast left pulls limits was came is
-  IsPartFault limits earlier was came is faults.Read =
-      (health is ≡ healths.Failed) × (length came ≤ limits.max_bytes) × HasNoSettledFault limits.max_item came
-      × PulledOut left pulls limits was came is
-  IsPartFault limits earlier was came is faults.ReadsExceeded =
-      (health is ≡ healths.Well) × Pulled left pulls was came limits.max_reads is × (length came ≤ limits.max_bytes)
-      × HasNoSettledFault limits.max_item came
-  IsPartFault limits earlier was came is faults.OutOfMemory =
-      (health is ≡ healths.Well) × (((came ≡ []) × (was ≡ is)) ⊎ ((last : CameLast left pulls limits was came is)
-      × IsUnheld limits last.front last.piece))
   IsPartFault limits earlier was came is (faults.Sink sinks.OutOfMemory) =
-      (health is ≡ healths.Well) × ((last : CameLast left pulls limits was came is) × ((told : Option Header)
-      × (whole : BeginsWhole limits.max_item (take limits.max_bytes came) told) × (length last.front < whole_len whole)
-      × IsNewBehind earlier (header_before whole.before) (all_facts whole.items) whole.last.facts))
+      (why : IsReadingFault left health pulls limits was came is (faults.Sink sinks.OutOfMemory))
+      × IsNewBehind earlier (header_before why.1.whole.before) (all_facts why.1.whole.items) why.1.whole.last.facts
   IsPartFault limits earlier was came is (faults.Sink sinks.Failed) = ⊥
-  IsPartFault limits earlier was came is faults.Failed = ⊥
+  IsPartFault limits earlier was came is fault = IsReadingFault left health pulls limits was came is fault
 
 -- a fault of an item is the first of the whole part; a part with too many bytes has more than may be taken, and one that takes
 -- too many reads at least as many as these

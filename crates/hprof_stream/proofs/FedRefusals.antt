@@ -18,8 +18,8 @@ use Rattle.hprof_stream.specs.Item.{held_of, item_at}
 use Rattle.hprof_stream.specs.Fault.{is_whole, IsFirstFault, HasNoSettledFault, is_settled}
 use Rattle.hprof_stream.specs.Progress.{place_of}
 use Rattle.hprof_stream.specs.Rest.{IsRest}
-use Rattle.hprof_stream.specs.Reader.{header_of, has_failed, HasRead, RanOver, RanUpTo, IsFeedFault, Feeds}
-use Rattle.hprof_stream.specs.Walking.{Refuses, Stops, Halts, ReadsOn}
+use Rattle.hprof_stream.specs.Reader.{header_of, has_failed, HasRead, BeginsWhole, RanOver, RefusesLast, IsFeedFault, Feeds}
+use Rattle.hprof_stream.specs.Walking.{Stops, Halts, ReadsOn}
 use Rattle.hprof_stream.proofs.Faults.{fault_is_first, too_long_is_first, short_unsettled}
 use Rattle.hprof_stream.proofs.Refusals.{item_stays, item_stays_long}
 use Rattle.hprof_stream.proofs.PieceRoom.{taken_within, some_of_taken}
@@ -67,10 +67,9 @@ module _ {S : Type 0} (begins : S → Header → S → Type 0) (steps : S → Fa
       subst (λ (l : Limits). item_at l.max_item place rest ≡ Fault reason) walked.has_limits stop.0 in
       let first = fault_is_first limits.max_item whole walked.items place rest reason walked.splits test in
       let ran = RanOver-walked begins steps limits whole facts before at rest old mid walked (ap is_whole test) in
-      subst (λ (b : List ℕ). IsFirstFault limits.max_item b (faults.Malformed n reason) × (is_settled (faults.Malformed n reason) ≡ true)
+      subst (λ (b : List ℕ). (IsFirstFault limits.max_item b (faults.Malformed n reason) × (is_settled (faults.Malformed n reason) ≡ true))
       × RanOver begins steps limits.max_item b facts before told old new) taken (
-        subst (λ (k : ℕ). IsFirstFault limits.max_item whole (faults.Malformed k reason)) (sym (stop.1 ∙ walked.offset)) first.0,
-        first.1,
+        (subst (λ (k : ℕ). IsFirstFault limits.max_item whole (faults.Malformed k reason)) (sym (stop.1 ∙ walked.offset)) first.0, first.1),
         subst (λ (h : Option Header). RanOver begins steps limits.max_item whole facts before h old new) (sym stop.2)
             (subst (RanOver begins steps limits.max_item whole facts before at.header old) stop.3 ran),
       )
@@ -80,22 +79,19 @@ module _ {S : Type 0} (begins : S → Header → S → Type 0) (steps : S → Fa
       subst (λ (l : Limits). item_at l.max_item place rest ≡ TooLong) walked.has_limits stop.0 in
       let first = too_long_is_first limits.max_item whole walked.items place rest walked.splits test in
       let ran = RanOver-walked begins steps limits whole facts before at rest old mid walked (ap is_whole test) in
-      subst (λ (b : List ℕ). IsFirstFault limits.max_item b (faults.ItemTooLong n) × (is_settled (faults.ItemTooLong n) ≡ true)
+      subst (λ (b : List ℕ). (IsFirstFault limits.max_item b (faults.ItemTooLong n) × (is_settled (faults.ItemTooLong n) ≡ true))
       × RanOver begins steps limits.max_item b facts before told old new) taken (
-        subst (λ (k : ℕ). IsFirstFault limits.max_item whole (faults.ItemTooLong k)) (sym (stop.1 ∙ walked.offset)) first,
-        refl,
+        (subst (λ (k : ℕ). IsFirstFault limits.max_item whole (faults.ItemTooLong k)) (sym (stop.1 ∙ walked.offset)) first, refl),
         subst (λ (h : Option Header). RanOver begins steps limits.max_item whole facts before h old new) (sym stop.2)
             (subst (RanOver begins steps limits.max_item whole facts before at.header old) stop.3 ran),
       )
   IsFeedFault-stopped limits bytes whole facts before told at rest old mid new (faults.Sink fault) taken walked stays stop =
       let is : IsItem limits.max_item (place_of at) stop.0 stop.1 =
       subst (λ (l : Limits). IsItem l.max_item (place_of at) stop.0 stop.1) walked.has_limits stop.3 in
-      let ran = RanUpTo-walked begins steps limits whole facts before at rest old mid walked stop.0 stop.1 stop.2 told stays is stop.4
+      let up = RanUpTo-walked begins steps limits whole facts before at rest old mid walked stop.0 stop.1 stop.2 told stays is stop.4
       stop.5 stop.6 in
-      let refused = subst (λ (b : List ℕ). (r : RanUpTo begins steps limits.max_item b facts before told old mid)
-      × Refuses refuses failed mid r.whole.last.facts fault new)
-      taken (ran, stop.7) in
-      (mid, refused.0, refused.1)
+      subst (λ (b : List ℕ). (w : BeginsWhole limits.max_item b told) × RefusesLast begins steps refuses failed w facts before old fault new)
+      taken (up.0, record { mid = mid; ran = up.1; refused = stop.7 })
   IsFeedFault-stopped limits bytes whole facts before told at rest old mid new faults.OutOfMemory taken walked stays stop = absurd stop
   IsFeedFault-stopped limits bytes whole facts before told at rest old mid new faults.Failed taken walked stays stop = absurd stop
   IsFeedFault-stopped limits bytes whole facts before told at rest old mid new faults.Read taken walked stays stop = absurd stop
@@ -136,11 +132,12 @@ module _ {S : Type 0} (begins : S → Header → S → Type 0) (steps : S → Fa
       let holds : 0 < length (held_of limits.max_item (place_of from.progress) read.unfinished) =
       subst (λ (l : Limits). 0 < length (held_of l.max_item (place_of from.progress) read.unfinished)) read.has_limits on.holds in (
         some_of_taken limits.max_bytes bytes piece taken whole on.some,
-        inr (
-          omega (arith, taken_within limits.max_bytes bytes piece taken whole, on.some),
-          IsWithinItem-read limits bytes facts from read holds,
-          tells ∙ ap (λ (p : Progress). p.header) on.stands,
-          on.same,
+        (
+          inr (
+            omega (arith, taken_within limits.max_bytes bytes piece taken whole, on.some),
+            IsWithinItem-read limits bytes facts from read holds,
+          ),
+          (tells ∙ ap (λ (p : Progress). p.header) on.stands, on.same),
         ),
       )
   Feeds-refused limits bytes piece taken facts from to at rest old new faults.Failed read whole on tells = absurd on.stops
@@ -164,9 +161,9 @@ module _ {S : Type 0} (begins : S → Header → S → Type 0) (steps : S → Fa
       let over : RanOver begins steps limits.max_item (bytes ++ taken) facts (header_of from) told old new =
       subst (λ (h : Option Header). RanOver begins steps limits.max_item (bytes ++ taken) facts (header_of from) h old new) (sym tells)
       (RanOver-walked begins steps limits (bytes ++ taken) facts (header_of from) at behind old new walked (ap is_whole short)) in
-      subst (λ (b : List ℕ). (limits.max_bytes < length (bytes ++ piece)) × HasNoSettledFault limits.max_item b
+      subst (λ (b : List ℕ). ((limits.max_bytes < length (bytes ++ piece)) × HasNoSettledFault limits.max_item b)
       × RanOver begins steps limits.max_item b facts (header_of from) told old new) whole
-      (many, short_unsettled limits.max_item (bytes ++ taken) walked.items place behind walked.splits short, over)
+      ((many, short_unsettled limits.max_item (bytes ++ taken) walked.items place behind walked.splits short), over)
 
 -- ---- what is left was kept
 
@@ -240,10 +237,11 @@ module _ {S : Type 0} (begins : S → Header → S → Type 0) (steps : S → Fa
       subst (λ (h : Option Header). RanOver begins steps limits.max_item (bytes ++ piece) facts (header_of from) h old new) (sym tells)
       (RanOver-walked begins steps limits (bytes ++ piece) facts (header_of from) at (on.0 ++ left) old new walked (ap is_whole short)) in (
         omega (arith, lacks.1, shorter),
-        inl (
-          within,
-          short_unsettled limits.max_item (bytes ++ piece) walked.items (place_of at) (on.0 ++ left) walked.splits short,
-          IsWithinItem-walked begins steps limits (bytes ++ piece) facts (header_of from) at (on.0 ++ left) old new walked short some,
+        (
+          inl (
+            (within, short_unsettled limits.max_item (bytes ++ piece) walked.items (place_of at) (on.0 ++ left) walked.splits short),
+            IsWithinItem-walked begins steps limits (bytes ++ piece) facts (header_of from) at (on.0 ++ left) old new walked short some,
+          ),
           over,
         ),
       )

@@ -1,14 +1,12 @@
 -- What a reader knows of the facts, and the runs of its sink from where reading began.
 use Rattle.std.proofs.Common.{◌≡◌, ℕ, Bool, ◌<◌, List, [], ◌++◌, length, take, Option, Some, None}
-use Rattle.std.proofs.Common.{refl, sym, ap, ◌∙◌, arith}
+use Rattle.std.proofs.Common.{refl, sym, ap, subst, ◌∙◌, arith}
 use Rattle.std.proofs.KnownBytes.{Consumes-nil, Consumes-trans}
-use Rattle.std.proofs.lemmas.List.{length-append, nil_from_length}
+use Rattle.std.proofs.lemmas.List.{length-append, nil_from_length, take_all}
 use Rattle.std.specs.Io.KnownBytes.{Consumes}
 use Rattle.hprof_items.specs.declared.header.Header.{Header}
 use Rattle.hprof_items.specs.FactValue.{FactValue}
 use Rattle.hprof_stream.specs.declared.limits.Limits.{Limits}
-use Rattle.hprof_stream.specs.declared.part_fault.PartFault.{PartFault}
-use Rattle.hprof_stream.specs.declared.part_fault.PartFault.TheVariants as faults
 use Rattle.hprof_stream.specs.declared.part_reader.PartReader.{PartReader}
 use Rattle.hprof_stream.specs.declared.sink.SinkFault.{SinkFault}
 use Rattle.hprof_stream.specs.Part.{Stated, all_bytes, all_facts}
@@ -16,12 +14,11 @@ use Rattle.hprof_stream.specs.Item.{Place, Start, header_before, AreItems, none,
 use Rattle.hprof_stream.specs.Fault.{is_whole, StatesSoFar}
 use Rattle.hprof_stream.specs.Progress.{place_of}
 use Rattle.hprof_stream.specs.Run.{Run}
-use Rattle.hprof_stream.specs.Reader.{header_of, HasRead, RanOver, RanUpTo, IsFeedFault, IsPull, Pulled, none, once_more}
-use Rattle.hprof_stream.specs.Reader.{CameLast, IsJudged, RefusesAtLast}
+use Rattle.hprof_stream.specs.Reader.{header_of, HasRead, BeginsWhole, IsAcceptedSoFar, RanOver, RanUpTo, RefusesLast, IsPull, Pulled, none}
+use Rattle.hprof_stream.specs.Reader.{once_more, CameLast}
 use Rattle.hprof_stream.proofs.Runs.{Run-then}
 use Rattle.hprof_stream.proofs.Faults.{short_unsettled}
 use Rattle.hprof_stream.proofs.ItemLists.{items_headers, items_size, header_at_place, header_behind}
-use Rattle.hprof_stream.proofs.LastItems.{ends_behind}
 
 -- ---- what a reader knows of the facts
 
@@ -81,16 +78,15 @@ module _ {S : Type 0} (begins : S → Header → S → Type 0) (steps : S → Fa
   }
 
   -- the same, up to an item that the sink was then given
-  pub RanUpTo-from : (longest : ℕ) (bytes : List ℕ) (facts : List FactValue) (before told : Option Header) (old mid new : S)
-      → Run begins steps old before facts mid → (before ≡ None → facts ≡ [])
-      → RanUpTo begins steps longest bytes facts before told mid new → RanUpTo begins steps longest bytes [] None told old new
-  RanUpTo-from longest bytes facts before told old mid new first bare over = record {
-    whole = over.whole;
+  pub RanUpTo-from : {longest : ℕ} {bytes : List ℕ} {told : Option Header} (whole : BeginsWhole longest bytes told) (facts : List FactValue)
+      (before : Option Header) (old mid new : S) → Run begins steps old before facts mid → (before ≡ None → facts ≡ [])
+      → RanUpTo begins steps whole facts before mid new → RanUpTo begins steps whole [] None old new
+  RanUpTo-from whole facts before old mid new first bare up = record {
     stays = λ header e. absurd cc;
-    handed = facts ++ over.handed;
-    has_facts = over.has_facts;
-    ran = Run-then begins steps old mid new None before (header_before over.whole.before) facts over.handed (λ e. (refl, bare e)) over.stays
-        first over.ran;
+    handed = facts ++ up.handed;
+    has_facts = up.has_facts;
+    ran = Run-then begins steps old mid new None before (header_before whole.before) facts up.handed (λ e. (refl, bare e)) up.stays first
+        up.ran;
   }
 
   -- what a reader has read, the sink ran over
@@ -103,66 +99,35 @@ module _ {S : Type 0} (begins : S → Header → S → Type 0) (steps : S → Fa
     ran = ran;
   }
 
+  -- the same, over as many bytes as may be taken, which are all
+  pub RanOver-taken : (limits : Limits) (bytes : List ℕ) (facts : List FactValue) (reader : PartReader) (old new : S)
+      → HasRead limits bytes facts reader → Run begins steps old (header_of reader) facts new
+      → RanOver begins steps limits.max_item (take limits.max_bytes bytes) [] None (header_of reader) old new
+  RanOver-taken limits bytes facts reader old new read ran =
+      subst (λ (b : List ℕ). RanOver begins steps limits.max_item b [] None (header_of reader) old new)
+      (sym (take_all limits.max_bytes bytes read.within)) (RanOver-read limits bytes facts reader old new read ran)
+
+-- in what a reader has read nothing is wrong
+pub IsAcceptedSoFar-read : (limits : Limits) (bytes : List ℕ) (facts : List FactValue) (reader : PartReader)
+    → HasRead limits bytes facts reader → IsAcceptedSoFar limits bytes
+IsAcceptedSoFar-read limits bytes facts reader read = (
+  read.within,
+  short_unsettled limits.max_item bytes read.items (place_of reader.progress) read.unfinished read.splits read.keeps.short,
+)
+
 module _ {S : Type 0} (begins : S → Header → S → Type 0) (steps : S → FactValue → S → Type 0) (refuses : S → List FactValue → SinkFault
     → S → Type 0)
     (failed : S → Bool) where
-  -- a fault of feeding, from where reading began
-  pub IsFeedFault-from : (limits : Limits) (bytes : List ℕ) (facts : List FactValue) (before after : Option Header) (old mid new : S)
-      (fault : PartFault) → Run begins steps old before facts mid → (before ≡ None → facts ≡ [])
-      → ((header : Header) → before ≡ Some header → after ≡ Some header)
-      → IsFeedFault begins steps refuses failed limits bytes facts before after mid fault new
-      → IsFeedFault begins steps refuses failed limits bytes [] None after old fault new
-  unfolding RanUpTo-from
-  IsFeedFault-from limits bytes facts before after old mid new (faults.Malformed at reason) first bare stays is = (
-    is.0,
-    is.1,
-    RanOver-from begins steps limits.max_item (take limits.max_bytes bytes) facts before after old mid new first bare stays
-        is.2,
-  )
-  IsFeedFault-from limits bytes facts before after old mid new (faults.ItemTooLong at) first bare stays is = (
-    is.0,
-    is.1,
-    RanOver-from begins steps limits.max_item (take limits.max_bytes bytes) facts before after old mid new first bare stays
-        is.2,
-  )
-  IsFeedFault-from limits bytes facts before after old mid new faults.OutOfMemory first bare stays is = is
-  IsFeedFault-from limits bytes facts before after old mid new (faults.Sink fault) first bare stays is =
-      (is.0, RanUpTo-from begins steps limits.max_item (take limits.max_bytes bytes) facts before after old mid is.0 first bare is.1, is.2)
-  IsFeedFault-from limits bytes facts before after old mid new faults.Failed first bare stays is = is
-  IsFeedFault-from limits bytes facts before after old mid new faults.Read first bare stays is = is
-  IsFeedFault-from limits bytes facts before after old mid new faults.ReadsExceeded first bare stays is = is
-  IsFeedFault-from limits bytes facts before after old mid new faults.BytesExceeded first bare stays is = (
-    is.0,
-    is.1,
-    RanOver-from begins steps limits.max_item (take limits.max_bytes bytes) facts before after old mid new first bare stays
-        is.2,
-  )
-
-  -- an item that the sink refused while the last piece was fed
-  pub RefusesAtLast-fed : (limits : Limits) (bytes : List ℕ) (facts : List FactValue) (from : PartReader) (piece : List ℕ)
-      (told : Option Header) (old mid new : S) (fault : SinkFault) → HasRead limits bytes facts from
-      → Run begins steps old (header_of from) facts mid → IsFeedFault begins steps refuses failed limits (bytes ++ piece) facts
-      (header_of from) told mid (faults.Sink fault) new
-      → RefusesAtLast begins steps refuses failed limits bytes (bytes ++ piece) old fault new
-  unfolding RanUpTo-from
-  RefusesAtLast-fed limits bytes facts from piece told old mid new fault read first is = record {
-    header = told;
-    mid = is.0;
-    ran = RanUpTo-from begins steps limits.max_item (take limits.max_bytes (bytes ++ piece)) facts (header_of from) told old mid is.0 first
-        (no_header_no_fact limits bytes facts from read) is.1;
-    behind = ends_behind begins steps limits bytes facts from piece told mid is.0 read is.1;
-    refused = is.2;
+  -- an item that the sink refused, from where reading began
+  pub RefusesLast-from : {longest : ℕ} {bytes : List ℕ} {told : Option Header} (whole : BeginsWhole longest bytes told) (facts : List FactValue)
+      (before : Option Header) (old mid new : S) (fault : SinkFault) → Run begins steps old before facts mid → (before ≡ None → facts ≡ [])
+      → RefusesLast begins steps refuses failed whole facts before mid fault new
+      → RefusesLast begins steps refuses failed whole [] None old fault new
+  RefusesLast-from whole facts before old mid new fault first bare last = record {
+    mid = last.mid;
+    ran = RanUpTo-from begins steps whole facts before old mid last.mid first bare last.ran;
+    refused = last.refused;
   }
-
-  -- what a reader has read was judged
-  pub IsJudged-read : (limits : Limits) (bytes : List ℕ) (facts : List FactValue) (reader : PartReader) (old new : S)
-      → HasRead limits bytes facts reader → Run begins steps old (header_of reader) facts new
-      → IsJudged begins steps refuses failed limits bytes old new
-  IsJudged-read limits bytes facts reader old new read ran = (
-    read.within,
-    short_unsettled limits.max_item bytes read.items (place_of reader.progress) read.unfinished read.splits read.keeps.short,
-    (header_of reader, RanOver-read begins steps limits bytes facts reader old new read ran),
-  )
 
 module _ {R : Type 0} (left : R → Option (List ℕ)) (pulls : R → ℕ) where
   -- the bytes that pulls gave were taken from what was left
@@ -187,6 +152,5 @@ module _ {R : Type 0} (left : R → Option (List ℕ)) (pulls : R → ℕ) where
     allowed = allowed;
     last = last;
     some = some;
-    within = read.within;
-    unsettled = short_unsettled limits.max_item bytes read.items (place_of reader.progress) read.unfinished read.splits read.keeps.short;
+    accepted = IsAcceptedSoFar-read limits bytes facts reader read;
   }

@@ -22,7 +22,7 @@ use Rattle.hprof_stream.specs.Fault.{Splits, is_whole}
 use Rattle.hprof_stream.specs.Progress.{start_of, place_of}
 use Rattle.hprof_stream.specs.Rest.{passing_by, passing_of, IsWalkOf, IsRest, passed_len, rest_len}
 use Rattle.hprof_stream.specs.Run.{Run, became}
-use Rattle.hprof_stream.specs.Reader.{header_of, has_failed, HasRead, IsWithinItem, RanOver, RanUpTo}
+use Rattle.hprof_stream.specs.Reader.{header_of, has_failed, HasRead, IsWithinItem, BeginsWhole, RanOver, RanUpTo}
 use Rattle.hprof_stream.specs.Walking.{Walks}
 use Rattle.hprof_stream.proofs.Faults.{Splits-then}
 use Rattle.hprof_stream.proofs.ItemLists.{AreItems-then, all_bytes-then, all_facts-then, records_begun-then, header_at_place, items_headers}
@@ -173,11 +173,10 @@ module _ {S : Type 0} (begins : S → Header → S → Type 0) (steps : S → Fa
     unfoldable pub RanUpTo-walked : (one : Stated) (next : Place) (back : List ℕ) (told : Option Header)
         → ((header : Header) → before ≡ Some header → to.header ≡ Some header) → IsItem limits.max_item (place_of to) one next
         → header_before next ≡ told → (one.facts ≡ [] → to.header ≡ None) → rest ≡ one.bytes ++ back
-        → RanUpTo begins steps limits.max_item bytes facts before told old new
+        → (whole : BeginsWhole limits.max_item bytes told) × RanUpTo begins steps whole facts before old new
     RanUpTo-walked one next back told stays is tells given parts =
-        let at : header_before (place_of to) ≡ to.header = header_at_place to.header to.room in
-        record {
-          whole = record {
+        let at : header_before (place_of to) ≡ to.header = header_at_place to.header to.room in (
+          record {
             items = walked.items;
             before = place_of to;
             last = one;
@@ -188,12 +187,14 @@ module _ {S : Type 0} (begins : S → Header → S → Type 0) (steps : S → Fa
             has_told = tells;
             given = λ bare. at ∙ given bare;
             parts = walked.splits.parts ∙ ap (λ (r : List ℕ). all_bytes walked.items ++ r) parts;
-          };
-          stays = λ header e. at ∙ stays header e;
-          handed = walked.handed;
-          has_facts = walked.has_facts;
-          ran = subst (λ (h : Option Header). Run begins steps old (became before h) walked.handed new) (sym at) walked.ran;
-        }
+          },
+          record {
+            stays = λ header e. at ∙ stays header e;
+            handed = walked.handed;
+            has_facts = walked.has_facts;
+            ran = subst (λ (h : Option Header). Run begins steps old (became before h) walked.handed new) (sym at) walked.ran;
+          },
+        )
 
     -- the rest needs more bytes, and some of it is to be held
     pub IsWithinItem-walked : item_at limits.max_item (place_of to) rest ≡ Short

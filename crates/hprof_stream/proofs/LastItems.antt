@@ -13,7 +13,7 @@ use Rattle.hprof_stream.specs.declared.part_reader.PartReader.{PartReader}
 use Rattle.hprof_stream.specs.Part.{Stated, all_bytes, all_facts}
 use Rattle.hprof_stream.specs.Item.{Place, Start, Found, header_before, IsItem, AreItems, none, more, item_at}
 use Rattle.hprof_stream.specs.Progress.{place_of}
-use Rattle.hprof_stream.specs.Reader.{header_of, HasRead, RanUpTo, whole_len}
+use Rattle.hprof_stream.specs.Reader.{header_of, HasRead, BeginsWhole, RanUpTo, whole_len}
 use Rattle.hprof_stream.proofs.Items.{item_again}
 use Rattle.hprof_stream.proofs.ItemLists.{AreItems-then, all_bytes-then, all_facts-then, items_headers}
 use Rattle.hprof_stream.proofs.Faults.{item_once}
@@ -87,16 +87,16 @@ among_ends facts handed last others e =
 module _ {S : Type 0} (begins : S → Header → S → Type 0) (steps : S → FactValue → S → Type 0) (limits : Limits) (bytes : List ℕ)
     (facts : List FactValue) (reader : PartReader) (piece : List ℕ) (told : Option Header) (old new : S)
     (read : HasRead limits bytes facts reader)
-    (ran : RanUpTo begins steps limits.max_item (take limits.max_bytes (bytes ++ piece)) facts (header_of reader) told old new) where
+    (whole : BeginsWhole limits.max_item (take limits.max_bytes (bytes ++ piece)) told)
+    (ran : RanUpTo begins steps whole facts (header_of reader) old new) where
   -- the item that the sink was given is not among those that were read before
-  header_stays : (before : Option Header) → before ≡ header_of reader → header_before ran.whole.before ≡ None → (read.items ≡ [] → ⊥) → ⊥
+  header_stays : (before : Option Header) → before ≡ header_of reader → header_before whole.before ≡ None → (read.items ≡ [] → ⊥) → ⊥
   header_stays None e bare some =
       some ((items_headers limits.max_item None (header_of reader) 0 reader.progress.room read.items read.splits.each).0 (sym e)).1
-  header_stays (Some header) e bare some = let kept : header_before ran.whole.before ≡ Some header = ran.stays header (sym e) in cc
+  header_stays (Some header) e bare some = let kept : header_before whole.before ≡ Some header = ran.stays header (sym e) in cc
 
-  not_among : (behind : List Stated) → read.items ≡ (ran.whole.items ++ ran.whole.last ∷ []) ++ behind → ⊥
+  not_among : (behind : List Stated) → read.items ≡ (whole.items ++ whole.last ∷ []) ++ behind → ⊥
   not_among behind e =
-      let whole = ran.whole in
       let one : all_facts (whole.last ∷ []) ≡ whole.last.facts = append-nil whole.last.facts in
       let stated : facts ≡ ((facts ++ ran.handed) ++ whole.last.facts) ++ all_facts behind =
       sym read.has_facts ∙ ap all_facts e ∙ all_facts-then (whole.items ++ whole.last ∷ []) behind
@@ -114,9 +114,8 @@ module _ {S : Type 0} (begins : S → Header → S → Type 0) (steps : S → Fa
       header_stays (header_of reader) refl bare some
 
   -- an item that the sink was given while a piece was fed ends behind what was fed before
-  pub ends_behind : length bytes < whole_len ran.whole
+  pub ends_behind : length bytes < whole_len whole
   ends_behind =
-      let whole = ran.whole in
       let place : Place = place_of reader.progress in
       let others : List Stated = whole.items ++ whole.last ∷ [] in
       let are = AreItems-then limits.max_item Start whole.before whole.next whole.items (whole.last ∷ []) whole.each (more whole.item none)

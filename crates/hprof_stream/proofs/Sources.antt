@@ -1,12 +1,15 @@
 -- Reading a part from a source: what the reader was fed so far, and what that comes to.
-use Rattle.std.proofs.Common.{◌≡◌, ℕ, Bool, true, false, ◌+◌, ◌<◌, List, [], ◌++◌, length, Option, Some, None, Result, Ok, Err, inl}
+use Rattle.std.proofs.Common.{◌≡◌, ℕ, Bool, true, false, ◌+◌, ◌<◌, List, [], ◌++◌, length, take, Option, Some, None, Result, Ok, Err, inl}
 use Rattle.std.proofs.Common.{inr, refl, sym, subst, append-nil}
 use Rattle.std.proofs.KnownBytes.{Consumes-nil, Consumes-trans}
+use Rattle.std.proofs.lemmas.Bool.{both_ways}
 use Rattle.std.specs.Io.KnownBytes.{Consumes, IsAtEnd}
 use Rattle.hprof_items.specs.declared.header.Header.{Header}
 use Rattle.hprof_devices.specs.declared.health.Health.{Health}
 use Rattle.hprof_devices.specs.declared.health.Health.TheVariants as healths
-use Rattle.hprof_values.specs.declared.reason.Reason.TheVariants.{BadMagic, BadIdSize, Truncated, BadLength, BadSubTag, PastEnd, BadType}
+use Rattle.hprof_values.specs.declared.reason.Reason.TheVariants.{Truncated}
+use Rattle.hprof_items.specs.declared.step.Step.{Step}
+use Rattle.hprof_items.specs.declared.step.Step.TheVariants.{Whole, Short, TooLong, Fault}
 use Rattle.hprof_items.specs.FactValue.{FactValue}
 use Rattle.hprof_stream.specs.declared.limits.Limits.{Limits}
 use Rattle.hprof_stream.specs.declared.part_fault.PartFault.{PartFault}
@@ -14,15 +17,17 @@ use Rattle.hprof_stream.specs.declared.part_fault.PartFault.TheVariants as fault
 use Rattle.hprof_stream.specs.declared.part_reader.PartReader.{PartReader}
 use Rattle.hprof_stream.specs.declared.sink.SinkFault.{SinkFault}
 use Rattle.hprof_stream.specs.declared.summary.PartSummary.{PartSummary}
-use Rattle.hprof_stream.specs.Item.{none}
-use Rattle.hprof_stream.specs.Fault.{is_settled, IsFirstFault}
+use Rattle.hprof_stream.specs.Part.{all_bytes}
+use Rattle.hprof_stream.specs.Item.{Found, none, item_at}
+use Rattle.hprof_stream.specs.Fault.{fault_at, is_settled, IsFirstFault}
 use Rattle.hprof_stream.specs.Run.{Run}
 use Rattle.hprof_stream.specs.Feeding.{FeedsAll}
-use Rattle.hprof_stream.specs.Reader.{header_of, HasRead, IsFeedFault, Feeds, Finishes, IsPull, Pulled, none, once_more}
+use Rattle.hprof_stream.specs.Reader.{header_of, HasRead, IsSettledFault, RanOver, Feeds, Finishes, IsPull, Pulled, none, once_more}
 use Rattle.hprof_stream.specs.Reader.{PulledOut, CameLast, ReadsPart}
 use Rattle.hprof_stream.proofs.Runs.{Run-then}
-use Rattle.hprof_stream.proofs.FedRuns.{no_header_no_fact, RanOver-read, IsFeedFault-from, RefusesAtLast-fed, IsJudged-read}
+use Rattle.hprof_stream.proofs.FedRuns.{no_header_no_fact, RanOver-from, RanOver-read, RanOver-taken, RefusesLast-from, IsAcceptedSoFar-read}
 use Rattle.hprof_stream.proofs.FedRuns.{Pulled-consumes, CameLast-read}
+use Rattle.hprof_stream.proofs.LastItems.{ends_behind}
 
 -- the faults that judging what came gives
 abbrev is_judgement : PartFault → Bool
@@ -30,6 +35,26 @@ is_judgement (faults.Malformed at reason) = true
 is_judgement (faults.ItemTooLong at) = true
 is_judgement faults.BytesExceeded = true
 is_judgement other = false
+
+-- the test that fails at an item gives no other
+of_item : (offset : ℕ) (step : Step Found) (fault : PartFault) → fault_at offset step ≡ Some fault → is_judgement fault ≡ true
+of_item offset (Whole found n) fault e = absurd cc
+of_item offset Short fault e = let same : faults.Malformed offset Truncated ≡ fault = cc in
+    subst (λ (f : PartFault). is_judgement f ≡ true) same refl
+of_item offset TooLong fault e = let same : faults.ItemTooLong offset ≡ fault = cc in
+    subst (λ (f : PartFault). is_judgement f ≡ true) same refl
+of_item offset (Fault reason) fault e = let same : faults.Malformed offset reason ≡ fault = cc in
+    subst (λ (f : PartFault). is_judgement f ≡ true) same refl
+
+settled_is_judged : (limits : Limits) (bytes : List ℕ) (fault : PartFault) → IsSettledFault limits bytes fault → is_judgement fault ≡ true
+settled_is_judged limits bytes faults.BytesExceeded why = refl
+settled_is_judged limits bytes fault why =
+    let first = why.0 in
+    of_item (length (all_bytes first.items)) (item_at limits.max_item first.place first.rest) fault first.fails
+
+-- others are not settled faults of bytes
+no_other : (limits : Limits) (bytes : List ℕ) (fault : PartFault) → is_judgement fault ≡ false → IsSettledFault limits bytes fault → ⊥
+no_other limits bytes fault other why = both_ways (is_judgement fault) other (settled_is_judged limits bytes fault why)
 
 module _ {R : Type 0} (left : R → Option (List ℕ)) (health : R → Health) (pulls : R → ℕ)
     {S : Type 0} (begins : S → Header → S → Type 0) (steps : S → FactValue → S → Type 0) (refuses : S → List FactValue → SinkFault → S → Type 0)
@@ -71,26 +96,24 @@ module _ {R : Type 0} (left : R → Option (List ℕ)) (health : R → Health) (
             (λ e. (refl, no_header_no_fact limits fed.came fed.facts reader fed.read e)) stays fed.ran on.2;
       }
 
-  -- a fault of an item, or too many bytes, is what reading the part comes to
-  ReadsPart-fed : (limits : Limits) (was : R) (came : List ℕ) (is : R) (header : Option Header) (old new : S) (fault : PartFault)
-      → is_judgement fault ≡ true → CameLast left pulls limits was came is → health is ≡ healths.Well
-      → IsFeedFault begins steps refuses failed limits came [] None header old fault new
+  -- a settled fault of the bytes is what reading the part comes to
+  ReadsPart-settled : (limits : Limits) (was : R) (came : List ℕ) (is : R) (header : Option Header) (old new : S) (fault : PartFault)
+      → CameLast left pulls limits was came is → health is ≡ healths.Well → IsSettledFault limits came fault
+      → RanOver begins steps limits.max_item (take limits.max_bytes came) [] None header old new
       → ReadsPart left health pulls begins steps refuses failed limits was came is old (Err fault) new
-  ReadsPart-fed limits was came is header old new (faults.Malformed at BadMagic) judged last well why = (last, well, (header, why))
-  ReadsPart-fed limits was came is header old new (faults.Malformed at BadIdSize) judged last well why = (last, well, (header, why))
-  ReadsPart-fed limits was came is header old new (faults.Malformed at Truncated) judged last well why = let no : false ≡ true = why.1 in
-      absurd cc
-  ReadsPart-fed limits was came is header old new (faults.Malformed at BadLength) judged last well why = (last, well, (header, why))
-  ReadsPart-fed limits was came is header old new (faults.Malformed at BadSubTag) judged last well why = (last, well, (header, why))
-  ReadsPart-fed limits was came is header old new (faults.Malformed at PastEnd) judged last well why = (last, well, (header, why))
-  ReadsPart-fed limits was came is header old new (faults.Malformed at BadType) judged last well why = (last, well, (header, why))
-  ReadsPart-fed limits was came is header old new (faults.ItemTooLong at) judged last well why = (last, well, (header, why))
-  ReadsPart-fed limits was came is header old new faults.OutOfMemory judged last well why = absurd why
-  ReadsPart-fed limits was came is header old new (faults.Sink fault) judged last well why = absurd cc
-  ReadsPart-fed limits was came is header old new faults.Failed judged last well why = absurd why
-  ReadsPart-fed limits was came is header old new faults.Read judged last well why = absurd why
-  ReadsPart-fed limits was came is header old new faults.ReadsExceeded judged last well why = absurd why
-  ReadsPart-fed limits was came is header old new faults.BytesExceeded judged last well why = (last, well, (header, why))
+  ReadsPart-settled limits was came is header old new (faults.Malformed at Truncated) last well why over =
+      let no : false ≡ true = why.1 in absurd cc
+  ReadsPart-settled limits was came is header old new faults.OutOfMemory last well why over =
+      absurd (no_other limits came faults.OutOfMemory refl why)
+  ReadsPart-settled limits was came is header old new (faults.Sink fault) last well why over =
+      absurd (no_other limits came (faults.Sink fault) refl why)
+  ReadsPart-settled limits was came is header old new faults.Failed last well why over =
+      absurd (no_other limits came faults.Failed refl why)
+  ReadsPart-settled limits was came is header old new faults.Read last well why over =
+      absurd (no_other limits came faults.Read refl why)
+  ReadsPart-settled limits was came is header old new faults.ReadsExceeded last well why over =
+      absurd (no_other limits came faults.ReadsExceeded refl why)
+  ReadsPart-settled limits was came is header old new fault last well why over = ((last, well, why), (header, over))
 
   -- a fault of the last piece is what reading the part comes to
   ReadsPart-feeds : (limits : Limits) (bytes : List ℕ) (facts : List FactValue) (from to : PartReader) (piece : List ℕ) (count : ℕ)
@@ -107,43 +130,37 @@ module _ {R : Type 0} (left : R → Option (List ℕ)) (health : R → Health) (
       last : CameLast left pulls limits was (bytes ++ piece) is
       last = CameLast-read left pulls limits bytes facts from piece count was before is read pulled one some allowed
 
-      more : (f : PartFault) → is_judgement f ≡ true → IsFeedFault begins steps refuses failed limits (bytes ++ piece) facts
-          (header_of from) (header_of to) mid f new
-          → ReadsPart left health pulls begins steps refuses failed limits was (bytes ++ piece) is old (Err f) new
-      more f judged is_fault = ReadsPart-fed limits was (bytes ++ piece) is (header_of to) old new f judged last well
-          (IsFeedFault-from begins steps refuses failed limits (bytes ++ piece) facts (header_of from) (header_of to) old mid new f first
-          (no_header_no_fact limits bytes facts from read) stays is_fault)
+      bare : header_of from ≡ None → facts ≡ []
+      bare = no_header_no_fact limits bytes facts from read
 
       by : (f : PartFault) → Feeds begins steps refuses failed limits bytes facts from piece mid (Err f) to new
           → ReadsPart left health pulls begins steps refuses failed limits was (bytes ++ piece) is old (Err f) new
-      by (faults.Malformed at reason) is_fault = more (faults.Malformed at reason) refl is_fault
-      by (faults.ItemTooLong at) is_fault = more (faults.ItemTooLong at) refl is_fault
       by faults.OutOfMemory lacks = (
-        well,
-        inr (
-          last,
+        (well, inr (last, lacks.1.0)),
+        record {
+          told = header_of from;
+          header = header_of to;
+          mid = mid;
+          over = RanOver-read begins steps limits bytes facts from old mid read first;
+          lacks = lacks.1.1;
+        },
+      )
+      by (faults.Sink why) refused = (
+        (
+          well,
           record {
-            told = header_of from;
-            header = header_of to;
-            mid = mid;
-            over = RanOver-read begins steps limits bytes
-                facts from old mid read first;
-            lacks = lacks.1;
+            last = last;
+            told = header_of to;
+            whole = refused.0;
+            behind = ends_behind begins steps limits bytes facts from piece (header_of to) mid refused.1.mid read refused.0
+                refused.1.ran;
           },
         ),
+        RefusesLast-from begins steps refuses failed refused.0 facts (header_of from) old mid new why first bare refused.1,
       )
-      by (faults.Sink why) is_fault = (
-        well,
-        (
-          last,
-          RefusesAtLast-fed begins steps refuses failed limits bytes facts from piece
-              (header_of to) old mid new why read first is_fault,
-        ),
-      )
-      by faults.Failed is_fault = absurd is_fault
-      by faults.Read is_fault = absurd is_fault
-      by faults.ReadsExceeded is_fault = absurd is_fault
-      by faults.BytesExceeded is_fault = more faults.BytesExceeded refl is_fault
+      by f is_fault = ReadsPart-settled limits was (bytes ++ piece) is (header_of to) old new f last well is_fault.0
+          (RanOver-from begins steps limits.max_item (take limits.max_bytes (bytes ++ piece)) facts (header_of from) (header_of to) old mid
+          new first bare stays is_fault.1)
 
   -- what came and what feeding it came to
   abbrev pub CameOf : Limits → R → R → S → Result (Unit {0}) PartFault → PartReader → S → Type 0
@@ -191,8 +208,14 @@ module _ {R : Type 0} (left : R → Option (List ℕ)) (health : R → Health) (
       → health is ≡ healths.Failed
       → HasFed limits turns was before reader old new → turns < limits.max_reads → CameOf limits was is old (Err faults.Read) reader new
   HasFed-failed limits turns was before is reader old new last ill fed allowed =
-      let out = PulledOut-fed limits turns was before is reader old new last allowed fed in
-      (fed.came, out.1, (out.0, ill, IsJudged-read begins steps refuses failed limits fed.came fed.facts reader old new fed.read fed.ran))
+      let out = PulledOut-fed limits turns was before is reader old new last allowed fed in (
+        fed.came,
+        out.1,
+        (
+          (out.0, ill, IsAcceptedSoFar-read limits fed.came fed.facts reader fed.read),
+          (header_of reader, RanOver-taken begins steps limits fed.came fed.facts reader old new fed.read fed.ran),
+        ),
+      )
 
   -- what came is judged before there are too many reads
   pub HasFed-spent : (limits : Limits) (turns : ℕ) (was is : R) (reader : PartReader) (old new : S) → health is ≡ healths.Well
@@ -202,10 +225,12 @@ module _ {R : Type 0} (left : R → Option (List ℕ)) (health : R → Health) (
     fed.came,
     Pulled-consumes left pulls was fed.came turns is fed.pulled,
     (
-      subst (λ (n : ℕ). Pulled left pulls was fed.came n is) all fed.pulled,
-      well,
-      IsJudged-read begins steps refuses failed limits fed.came
-          fed.facts reader old new fed.read fed.ran,
+      (
+        subst (λ (n : ℕ). Pulled left pulls was fed.came n is) all fed.pulled,
+        well,
+        IsAcceptedSoFar-read limits fed.came fed.facts reader fed.read,
+      ),
+      (header_of reader, RanOver-taken begins steps limits fed.came fed.facts reader old new fed.read fed.ran),
     ),
   )
 
@@ -236,21 +261,11 @@ module _ {R : Type 0} (left : R → Option (List ℕ)) (health : R → Health) (
       → health is ≡ healths.Well → HasRead limits came facts reader → Run begins steps old (header_of reader) facts new
       → IsFirstFault limits.max_item came fault → is_settled fault ≡ false
       → ReadsPart left health pulls begins steps refuses failed limits was came is old (Err fault) new
-  ReadsPart-cut limits was came is reader facts old new (faults.Malformed at BadMagic) out end well read ran first unsettled = absurd cc
-  ReadsPart-cut limits was came is reader facts old new (faults.Malformed at BadIdSize) out end well read ran first unsettled = absurd cc
-  ReadsPart-cut limits was came is reader facts old new (faults.Malformed at Truncated) out end well read ran first unsettled =
-      (out, end, well, read.within, first, (header_of reader, RanOver-read begins steps limits came facts reader old new read ran))
-  ReadsPart-cut limits was came is reader facts old new (faults.Malformed at BadLength) out end well read ran first unsettled = absurd cc
-  ReadsPart-cut limits was came is reader facts old new (faults.Malformed at BadSubTag) out end well read ran first unsettled = absurd cc
-  ReadsPart-cut limits was came is reader facts old new (faults.Malformed at PastEnd) out end well read ran first unsettled = absurd cc
-  ReadsPart-cut limits was came is reader facts old new (faults.Malformed at BadType) out end well read ran first unsettled = absurd cc
-  ReadsPart-cut limits was came is reader facts old new (faults.ItemTooLong at) out end well read ran first unsettled = absurd cc
-  ReadsPart-cut limits was came is reader facts old new faults.OutOfMemory out end well read ran first unsettled = absurd cc
-  ReadsPart-cut limits was came is reader facts old new (faults.Sink fault) out end well read ran first unsettled = absurd cc
-  ReadsPart-cut limits was came is reader facts old new faults.Failed out end well read ran first unsettled = absurd cc
-  ReadsPart-cut limits was came is reader facts old new faults.Read out end well read ran first unsettled = absurd cc
-  ReadsPart-cut limits was came is reader facts old new faults.ReadsExceeded out end well read ran first unsettled = absurd cc
-  ReadsPart-cut limits was came is reader facts old new faults.BytesExceeded out end well read ran first unsettled = absurd cc
+  ReadsPart-cut limits was came is reader facts old new (faults.Malformed at Truncated) out end well read ran first unsettled = (
+    (out, end, well, read.within, first),
+    (header_of reader, RanOver-taken begins steps limits came facts reader old new read ran),
+  )
+  ReadsPart-cut limits was came is reader facts old new fault out end well read ran first unsettled = absurd cc
 
   -- the end of a part
   pub ReadsPart-finished : (limits : Limits) (was : R) (came : List ℕ) (is : R) (reader : PartReader) (old new : S) (done : Unit {0})
@@ -268,4 +283,4 @@ module _ {R : Type 0} (left : R → Option (List ℕ)) (health : R → Health) (
   pub ReadsPart-memory : (limits : Limits) (was : R) (sink : S) → health was ≡ healths.Well
       → (came : List ℕ) × Consumes (left was) (left was) came × ReadsPart left health pulls begins steps refuses failed limits was came was
       sink (Err faults.OutOfMemory) sink
-  ReadsPart-memory limits was sink well = ([], Consumes-nil (left was), (well, inl (refl, refl, refl)))
+  ReadsPart-memory limits was sink well = ([], Consumes-nil (left was), ((well, inl (refl, refl)), refl))

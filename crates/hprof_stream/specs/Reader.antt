@@ -1,6 +1,7 @@
 -- What a reader of a part has read, and what reading on does.
 use Rattle.std.specs.Prelude.{◌≡◌, ◌⊎◌, ℕ, ◌+◌, ◌-◌, ◌^◌, ◌≤◌, ◌<◌, min, max, Bool, true, false, List, ◌++◌, length, take, [], Option, Some}
 use Rattle.std.specs.Prelude.{None, Result, Ok, Err, vec_capacity}
+use Rattle.std.proofs.Common.{inl, inr}
 use Rattle.std.specs.List.{list_any}
 use Rattle.std.specs.Io.KnownBytes.{Consumes, IsAtEnd}
 use Rattle.hprof_items.specs.declared.header.Header.{Header}
@@ -89,6 +90,24 @@ pub record BeginsWhole (longest : ℕ) (bytes : List ℕ) (told : Option Header)
 abbrev pub whole_len : {longest : ℕ} {bytes : List ℕ} {told : Option Header} → BeginsWhole longest bytes told → ℕ
 whole_len whole = length (all_bytes whole.items) + length whole.last.bytes
 
+-- nothing is wrong in the bytes, which are no more than may come
+abbrev pub IsAcceptedSoFar : Limits → List ℕ → Type 0
+IsAcceptedSoFar limits bytes = (length bytes ≤ limits.max_bytes) × HasNoSettledFault limits.max_item bytes
+
+-- the fault of the bytes that no further one changes: they are more than may come, and nothing is wrong in those that are
+-- taken; or it is the first of these
+abbrev pub IsSettledFault : Limits → List ℕ → PartFault → Type 0
+IsSettledFault limits bytes faults.BytesExceeded =
+    (limits.max_bytes < length bytes) × HasNoSettledFault limits.max_item (take limits.max_bytes bytes)
+IsSettledFault limits bytes fault = IsFirstFault limits.max_item (take limits.max_bytes bytes) fault × (is_settled fault ≡ true)
+
+-- an item could not be held: that in which a front and the piece behind it end, when nothing is wrong in them; or the
+-- one in which the front ended
+abbrev pub IsUnheld : Limits → List ℕ → List ℕ → Type 0
+IsUnheld limits front piece =
+    (IsAcceptedSoFar limits (front ++ piece) × IsWithinItem limits.max_item (front ++ piece))
+    ⊎ ((length front < limits.max_bytes) × IsWithinItem limits.max_item front)
+
 -- the longer of a header and the longest item with its head
 abbrev pub longest_held : ℕ → ℕ
 longest_held longest = max 31 (9 + longest)
@@ -103,49 +122,42 @@ module _ {S : Type 0} (begins : S → Header → S → Type 0) (steps : S → Fa
     pub states : StatesSoFar longest bytes to (facts ++ handed)
     pub ran : Run begins steps old (became from to) handed new
 
-  -- the same over the items at the front, up to one that the sink was then given
-  pub record RanUpTo (longest : ℕ) (bytes : List ℕ) (facts : List FactValue) (from to : Option Header) (old new : S) : Type 0 where
-    pub whole : BeginsWhole longest bytes to
+  -- the same over the items at the front, up to the last of them, which the sink was then given
+  pub record RanUpTo {longest : ℕ} {bytes : List ℕ} {to : Option Header} (whole : BeginsWhole longest bytes to) (facts : List FactValue)
+      (from : Option Header) (old new : S) : Type 0 where
     pub stays : (before : Header) → from ≡ Some before → header_before whole.before ≡ Some before
     pub handed : List FactValue
     pub has_facts : all_facts whole.items ≡ facts ++ handed
     pub ran : Run begins steps old (became from (header_before whole.before)) handed new
 
+  -- what the sink has run over where an item could not be held: all that is whole; or nothing of the piece
+  abbrev pub RanUnheld : (limits : Limits) (front piece : List ℕ) → IsUnheld limits front piece → List FactValue → Option Header → S
+      → Option Header → S → Type 0
+  RanUnheld limits front piece (inl all) facts before old after new =
+      RanOver limits.max_item (front ++ piece) facts before after old new
+  RanUnheld limits front piece (inr held) facts before old after new = (after ≡ before) × (old ≡ new)
+
+  -- a growth was refused when a piece came behind bytes that state facts
+  abbrev pub LacksMemory : Limits → List ℕ → List FactValue → Option Header → List ℕ → S → Option Header → S → Type 0
+  LacksMemory limits bytes facts before piece old after new =
+      (unheld : IsUnheld limits bytes piece) × RanUnheld limits bytes piece unheld facts before old after new
+
 module _ {S : Type 0} (begins : S → Header → S → Type 0) (steps : S → FactValue → S → Type 0) (refuses : S → List FactValue → SinkFault
     → S → Type 0) (failed : S → Bool) where
-  -- a fault of an item, which no further byte changes: the first fault of the bytes that are taken
-  abbrev pub IsItemFault : Limits → List ℕ → List FactValue → Option Header → Option Header → S → PartFault → S → Type 0
-  IsItemFault limits bytes facts before after old fault new =
-      IsFirstFault limits.max_item (take limits.max_bytes bytes) fault × (is_settled fault ≡ true)
-      × RanOver begins steps limits.max_item (take limits.max_bytes bytes) facts before after old new
+  -- the sink has run over the items up to the last of these, and refused it
+  pub record RefusesLast {longest : ℕ} {bytes : List ℕ} {to : Option Header} (whole : BeginsWhole longest bytes to)
+      (facts : List FactValue) (from : Option Header) (old : S) (fault : SinkFault) (new : S) : Type 0 where
+    pub mid : S
+    pub ran : RanUpTo begins steps whole facts from old mid
+    pub refused : Refuses refuses failed mid whole.last.facts fault new
 
   -- with which fault a reader that was fed all these bytes, the last of them just now, refuses them; want of memory is
   -- told apart
   abbrev pub IsFeedFault : Limits → List ℕ → List FactValue → Option Header → Option Header → S → PartFault → S → Type 0
-  IsFeedFault limits bytes facts before after old (faults.Malformed at reason) new =
-      IsItemFault limits bytes facts before after old (faults.Malformed at reason) new
-  IsFeedFault limits bytes facts before after old (faults.ItemTooLong at) new =
-      IsItemFault limits bytes facts before after old (faults.ItemTooLong at) new
-  IsFeedFault limits bytes facts before after old faults.BytesExceeded new =
-      (limits.max_bytes < length bytes) × HasNoSettledFault limits.max_item (take limits.max_bytes bytes)
-      × RanOver begins steps limits.max_item (take limits.max_bytes bytes) facts before after old new
-  IsFeedFault limits bytes facts before after old faults.OutOfMemory new = ⊥
   IsFeedFault limits bytes facts before after old (faults.Sink fault) new =
-      (mid : S) × (ran : RanUpTo begins steps limits.max_item (take limits.max_bytes bytes) facts before after old mid)
-      × Refuses refuses failed mid ran.whole.last.facts fault new
-  IsFeedFault limits bytes facts before after old faults.Failed new = ⊥
-  IsFeedFault limits bytes facts before after old faults.Read new = ⊥
-  IsFeedFault limits bytes facts before after old faults.ReadsExceeded new = ⊥
-
-  -- a growth was refused: the item in which all the bytes end could not be held, when nothing was wrong in them and the
-  -- sink had run over all that is whole; or the one in which they ended before the piece came could not be held
-  -- further, when nothing of the piece had been handed on
-  abbrev pub LacksMemory : Limits → List ℕ → List FactValue → Option Header → List ℕ → S → Option Header → S → Type 0
-  LacksMemory limits bytes facts before piece old after new =
-      ((length (bytes ++ piece) ≤ limits.max_bytes) × HasNoSettledFault limits.max_item (bytes ++ piece)
-      × IsWithinItem limits.max_item (bytes ++ piece)
-      × RanOver begins steps limits.max_item (bytes ++ piece) facts before after old new)
-      ⊎ ((length bytes < limits.max_bytes) × IsWithinItem limits.max_item bytes × (after ≡ before) × (old ≡ new))
+      (whole : BeginsWhole limits.max_item (take limits.max_bytes bytes) after) × RefusesLast whole facts before old fault new
+  IsFeedFault limits bytes facts before after old fault new =
+      IsSettledFault limits bytes fault × RanOver begins steps limits.max_item (take limits.max_bytes bytes) facts before after old new
 
   -- what feeding a piece does, to a reader that was fed bytes which state facts
   abbrev pub Feeds : Limits → List ℕ → List FactValue → PartReader → List ℕ → S → Result (Unit {0}) PartFault → PartReader → S → Type 0
@@ -153,7 +165,7 @@ module _ {S : Type 0} (begins : S → Header → S → Type 0) (steps : S → Fa
       (handed : List FactValue) × HasRead limits (bytes ++ piece) (facts ++ handed) to
       × Run begins steps old (became (header_of from) (header_of to)) handed new
   Feeds limits bytes facts from piece old (Err faults.OutOfMemory) to new =
-      (0 < length piece) × LacksMemory limits bytes facts (header_of from) piece old (header_of to) new
+      (0 < length piece) × LacksMemory begins steps limits bytes facts (header_of from) piece old (header_of to) new
   Feeds limits bytes facts from piece old (Err fault) to new =
       IsFeedFault limits (bytes ++ piece) facts (header_of from) (header_of to) old fault new
 
@@ -167,14 +179,6 @@ Finishes limits bytes facts header (Ok summary) =
 Finishes limits bytes facts header (Err fault) = IsFirstFault limits.max_item bytes fault × (is_settled fault ≡ false)
 
 -- ---- a part from a source
-
--- an item could not be held: that in which a front and the piece behind it end, when nothing is wrong in them; or the
--- one in which the front ended
-abbrev pub IsUnheld : Limits → List ℕ → List ℕ → Type 0
-IsUnheld limits front piece =
-    ((length (front ++ piece) ≤ limits.max_bytes) × HasNoSettledFault limits.max_item (front ++ piece)
-    × IsWithinItem limits.max_item (front ++ piece))
-    ⊎ ((length front < limits.max_bytes) × IsWithinItem limits.max_item front)
 
 module _ {R : Type 0} (left : R → Option (List ℕ)) (pulls : R → ℕ) where
   -- one pull of a source gave these bytes, which are no more than a read asks for
@@ -210,36 +214,58 @@ module _ {R : Type 0} (left : R → Option (List ℕ)) (pulls : R → ℕ) where
     pub allowed : count < limits.max_reads
     pub last : IsPull before piece is
     pub some : 0 < length piece
-    pub within : length front ≤ limits.max_bytes
-    pub unsettled : HasNoSettledFault limits.max_item front
+    pub accepted : IsAcceptedSoFar limits front
 
-module _ {S : Type 0} (begins : S → Header → S → Type 0) (steps : S → FactValue → S → Type 0) (refuses : S → List FactValue → SinkFault
-    → S → Type 0) (failed : S → Bool) where
-  -- nothing is wrong in the bytes, which are no more than may come, and the sink has run over all that is whole
-  abbrev pub IsJudged : Limits → List ℕ → S → S → Type 0
-  IsJudged limits came old new =
-      (length came ≤ limits.max_bytes) × HasNoSettledFault limits.max_item came
-      × ((header : Option Header) × RanOver begins steps limits.max_item came [] None header old new)
+  -- an item ends in what the last pull gave
+  pub record EndsAtLast (limits : Limits) (was : R) (came : List ℕ) (is : R) : Type 0 where
+    pub last : CameLast limits was came is
+    pub told : Option Header
+    pub whole : BeginsWhole limits.max_item (take limits.max_bytes came) told
+    pub behind : length last.front < whole_len whole
 
-  -- the sink ran over the front, and then memory was wanted for the piece
-  pub record LacksAtLast (limits : Limits) (front piece : List ℕ) (old new : S) : Type 0 where
+module _ {R : Type 0} (left : R → Option (List ℕ)) (health : R → Health) (pulls : R → ℕ) where
+  -- with which fault reading a part is refused of which these bytes came, by the bytes and by how the source was pulled; where
+  -- memory was wanted, nothing was read, or an item could not be held when the last piece came
+  --   was, is: the source, before and afterwards
+  abbrev pub IsReadingFault : Limits → R → List ℕ → R → PartFault → Type 0
+  IsReadingFault limits was came is faults.Read =
+      PulledOut left pulls limits was came is × (health is ≡ healths.Failed) × IsAcceptedSoFar limits came
+  IsReadingFault limits was came is faults.ReadsExceeded =
+      Pulled left pulls was came limits.max_reads is × (health is ≡ healths.Well) × IsAcceptedSoFar limits came
+  IsReadingFault limits was came is (faults.Malformed at Truncated) =
+      PulledOut left pulls limits was came is × IsAtEnd (left is) × (health is ≡ healths.Well) × (length came ≤ limits.max_bytes)
+      × IsFirstFault limits.max_item came (faults.Malformed at Truncated)
+  IsReadingFault limits was came is faults.OutOfMemory =
+      (health is ≡ healths.Well) × (((came ≡ []) × (was ≡ is))
+      ⊎ ((last : CameLast left pulls limits was came is) × IsUnheld limits last.front last.piece))
+  IsReadingFault limits was came is (faults.Sink fault) = (health is ≡ healths.Well) × EndsAtLast left pulls limits was came is
+  IsReadingFault limits was came is faults.Failed = ⊥
+  IsReadingFault limits was came is fault =
+      CameLast left pulls limits was came is × (health is ≡ healths.Well) × IsSettledFault limits came fault
+
+module _ {S : Type 0} (begins : S → Header → S → Type 0) (steps : S → FactValue → S → Type 0) where
+  -- the sink ran over the front, and then an item could not be held
+  pub record LacksAtLast (limits : Limits) (front piece : List ℕ) (unheld : IsUnheld limits front piece) (old new : S) : Type 0 where
     pub told : Option Header
     pub header : Option Header
     pub mid : S
     pub over : RanOver begins steps limits.max_item front [] None told old mid
-    pub lacks : LacksMemory begins steps refuses failed limits front over.handed told piece mid header new
-
-  -- the sink refused an item that ends behind the front
-  pub record RefusesAtLast (limits : Limits) (front came : List ℕ) (old : S) (fault : SinkFault) (new : S) : Type 0 where
-    pub header : Option Header
-    pub mid : S
-    pub ran : RanUpTo begins steps limits.max_item (take limits.max_bytes came) [] None header old mid
-    pub behind : length front < whole_len ran.whole
-    pub refused : Refuses refuses failed mid ran.whole.last.facts fault new
+    pub lacks : RanUnheld begins steps limits front piece unheld over.handed told mid header new
 
 module _ {R : Type 0} (left : R → Option (List ℕ)) (health : R → Health) (pulls : R → ℕ)
     {S : Type 0} (begins : S → Header → S → Type 0) (steps : S → FactValue → S → Type 0) (refuses : S → List FactValue → SinkFault
     → S → Type 0) (failed : S → Bool) where
+  -- what the sink has run over where reading is refused so, and which item it refused
+  abbrev pub RanBefore : (limits : Limits) (was : R) (came : List ℕ) (is : R) → S → (fault : PartFault)
+      → IsReadingFault left health pulls limits was came is fault → S → Type 0
+  RanBefore limits was came is old faults.OutOfMemory (well, inl nothing) new = old ≡ new
+  RanBefore limits was came is old faults.OutOfMemory (well, inr (last, unheld)) new =
+      LacksAtLast begins steps limits last.front last.piece unheld old new
+  RanBefore limits was came is old (faults.Sink fault) (well, item) new =
+      RefusesLast begins steps refuses failed item.whole [] None old fault new
+  RanBefore limits was came is old fault why new =
+      (header : Option Header) × RanOver begins steps limits.max_item (take limits.max_bytes came) [] None header old new
+
   -- what reading a part to its end comes to, where these bytes came from a source
   --   was, is: the source, before and afterwards
   abbrev pub ReadsPart : Limits → R → List ℕ → R → S → Result PartSummary PartFault → S → Type 0
@@ -248,20 +274,5 @@ module _ {R : Type 0} (left : R → Option (List ℕ)) (health : R → Health) (
       × HasNoFault limits.max_item came × IsSummary came summary
       × ((facts : List FactValue) × IsPart came summary.header.ids summary.header.millis facts
       × Run begins steps old (Some summary.header) facts new)
-  ReadsPart limits was came is old (Err faults.Read) new =
-      PulledOut left pulls limits was came is × (health is ≡ healths.Failed) × IsJudged begins steps refuses failed limits came old new
-  ReadsPart limits was came is old (Err faults.ReadsExceeded) new =
-      Pulled left pulls was came limits.max_reads is × (health is ≡ healths.Well) × IsJudged begins steps refuses failed limits came old new
-  ReadsPart limits was came is old (Err (faults.Malformed at Truncated)) new =
-      PulledOut left pulls limits was came is × IsAtEnd (left is) × (health is ≡ healths.Well) × (length came ≤ limits.max_bytes)
-      × IsFirstFault limits.max_item came (faults.Malformed at Truncated)
-      × ((header : Option Header) × RanOver begins steps limits.max_item came [] None header old new)
-  ReadsPart limits was came is old (Err faults.OutOfMemory) new =
-      (health is ≡ healths.Well) × (((came ≡ []) × (was ≡ is) × (old ≡ new))
-      ⊎ ((last : CameLast left pulls limits was came is) × LacksAtLast begins steps refuses failed limits last.front last.piece old new))
-  ReadsPart limits was came is old (Err (faults.Sink fault)) new =
-      (health is ≡ healths.Well) × ((last : CameLast left pulls limits was came is)
-      × RefusesAtLast begins steps refuses failed limits last.front came old fault new)
   ReadsPart limits was came is old (Err fault) new =
-      CameLast left pulls limits was came is × (health is ≡ healths.Well)
-      × ((header : Option Header) × IsFeedFault begins steps refuses failed limits came [] None header old fault new)
+      (why : IsReadingFault left health pulls limits was came is fault) × RanBefore limits was came is old fault why new

@@ -1,4 +1,4 @@
-use Rattle.std.proofs.Common.{◌≡◌, ℕ, false, ◌+◌, ◌-◌, ◌<◌, ◌≤◌, length, get_or}
+use Rattle.std.proofs.Common.{◌≡◌, ℕ, false, ◌-◌, ◌<◌, ◌≤◌, length, get_or}
 use Rattle.hprof_engine.specs.Joining.{GathersFirst, AreReadOut}
 use Rattle.hprof_engine.specs.Summaries.{HoldsFirst}
 use Rattle.hprof_engine.proofs.parts.read_parts.Given as goal
