@@ -1,3 +1,6 @@
 pub mod Gathered
 pub mod RowOrder
 pub mod Tallies
+pub mod Members
+pub mod OneHistogram
+pub mod FactCounts

@@ -2,7 +2,7 @@
 
 ghost use Rattle.std.specs.Prelude.{◌≡◌, IfOk, IfSome};
 ghost use Rattle.std.specs.Option.{option_map};
-ghost use Rattle.hprof_items.specs.FactValue.{ListsHave, value_of};
+ghost use Rattle.hprof_items.specs.FactValue.{value_of};
 ghost use Rattle.hprof_finding.specs.HeapFacts.{facts_of, size_of};
 ghost use Rattle.hprof_histogram.specs.Histogram.{kind_of, size_of_object};
 ghost use Rattle.hprof_histogram.specs.Tally.{IsTally, nothing};
@@ -17,7 +17,6 @@ use std::alloc::{AllocError, Global};
 
 /// The kind of an object, and how many bytes it has.
 fn object_of(fact: &Fact<'_>, ids: IdSize) -> Option<(Kind, u128)>
-    requires { ListsHave ids fact.now }
     ensures kind { option_map (λ object. object.0) result ≡ kind_of (value_of fact.now) }
     ensures size { IfSome result (λ object. object.1 ≡ size_of_object ids (value_of fact.now)) }
 {
@@ -47,7 +46,6 @@ pub(crate) fn count_objects(alloc: Global, heap: &Heap) -> Result<Tally, AllocEr
             tally.count(kind, size)?;
         }
     }
-    prove!(objects <= usize::MAX);
     tally.close_run()?;
     Ok(tally)
 }
