@@ -91,19 +91,21 @@ pub tally_begins : (ids : IdSize) (all left : List FactValue) (tally : Tally) �
 tally_begins ids all left tally new e kind =
     ap (λ (c : Counted). both c (counted_of ids kind left)) (new kind) ∙ nothing_both (counted_of ids kind left) ∙ ap (counted_of ids kind) e
 
-pub tally_counts : (ids : IdSize) (all rest : List FactValue) (tally after : Tally) (fact : FactValue) (own : Kind) → kind_of fact ≡ Some own
+pub tally_counts : (ids : IdSize) (all rest : List FactValue) (tally after : Tally) (fact : FactValue) (own : Kind) (size : ℕ)
+    → kind_of fact ≡ Some own → size ≡ size_of_object ids fact
     → ((kind : Kind) → counted_in after kind
-    ≡ cond (same_kind kind own) (both (counted_in tally kind) (one_of (size_of_object ids fact))) (counted_in tally kind))
+    ≡ cond (same_kind kind own) (both (counted_in tally kind) (one_of size)) (counted_in tally kind))
     → IsTallyTo ids all tally (fact ∷ rest) → IsTallyTo ids all after rest
-tally_counts ids all rest tally after fact own is counts to kind =
+tally_counts ids all rest tally after fact own size is sized counts to kind =
     by_test (same_kind kind own) (counted_more ids kind own fact rest is) (counts kind) ∙ to kind where
   by_test : (b : Bool) → counted_of ids kind (fact ∷ rest)
       ≡ cond b (both (one_of (size_of_object ids fact)) (counted_of ids kind rest)) (counted_of ids kind rest)
-      → counted_in after kind ≡ cond b (both (counted_in tally kind) (one_of (size_of_object ids fact))) (counted_in tally kind)
+      → counted_in after kind ≡ cond b (both (counted_in tally kind) (one_of size)) (counted_in tally kind)
       → both (counted_in after kind) (counted_of ids kind rest) ≡ both (counted_in tally kind) (counted_of ids kind (fact ∷ rest))
   by_test true more is =
       ap (λ (c : Counted). both c (counted_of ids kind rest)) is
-      ∙ both_assoc (counted_in tally kind) (one_of (size_of_object ids fact)) (counted_of ids kind rest)
+      ∙ both_assoc (counted_in tally kind) (one_of size) (counted_of ids kind rest)
+      ∙ ap (λ (n : ℕ). both (counted_in tally kind) (both (one_of n) (counted_of ids kind rest))) sized
       ∙ ap (both (counted_in tally kind)) (sym more)
   by_test false more is =
       ap (λ (c : Counted). both c (counted_of ids kind rest)) is ∙ ap (both (counted_in tally kind)) (sym more)
@@ -125,15 +127,17 @@ pub room_so_far : (ids : IdSize) (all left : List FactValue) (tally : Tally) →
 room_so_far ids all left tally room to kind = room_alone _ _ _ (to kind) (room kind)
 
 -- so has one object more
-pub room_for_one : (ids : IdSize) (all rest : List FactValue) (tally : Tally) (fact : FactValue) (own : Kind) → kind_of fact ≡ Some own
+pub room_for_one : (ids : IdSize) (all rest : List FactValue) (tally : Tally) (fact : FactValue) (own : Kind) (size : ℕ)
+    → kind_of fact ≡ Some own → size ≡ size_of_object ids fact
     → ((kind : Kind) → HasRoom (counted_of ids kind all)) → IsTallyTo ids all tally (fact ∷ rest)
-    → HasRoom (both (counted_in tally own) (one_of (size_of_object ids fact)))
-room_for_one ids all rest tally fact own is room to =
-    let size = size_of_object ids fact in
+    → HasRoom (both (counted_in tally own) (one_of size))
+room_for_one ids all rest tally fact own size is sized room to =
     let before = counted_in tally own in
     let more : counted_of ids own (fact ∷ rest) ≡ both (one_of size) (counted_of ids own rest) =
         counted_more ids own own fact rest is
-        ∙ cond-true (same_kind own own) (both (one_of size) (counted_of ids own rest)) (counted_of ids own rest) (same_itself own) in
+        ∙ cond-true (same_kind own own) (both (one_of (size_of_object ids fact)) (counted_of ids own rest)) (counted_of ids own rest)
+            (same_itself own)
+        ∙ ap (λ (n : ℕ). both (one_of n) (counted_of ids own rest)) (sym sized) in
     room_alone (both before (one_of size)) (counted_of ids own rest) (counted_of ids own all)
     (both_assoc before (one_of size) (counted_of ids own rest) ∙ ap (both before) (sym more) ∙ to own) (room own)
 
@@ -192,3 +196,8 @@ room_of_all ids facts objects fit counted few kind =
         (All-filter of_this (λ fact. size_of_object ids fact ≤ 2 ^ 36) facts small) in
     let same = same_of_kind kind facts in
     record { count = count; bytes = omega (arith, few_bytes, ap length same, ap (sum_by (size_of_object ids)) same) }
+
+-- a tally of the table is one of all facts
+pub tally_of_all : (ids : IdSize) (facts : List FactValue) (tally : Tally) → IsTally ids (facts_of_table tables.Objects facts) tally
+    → IsTally ids facts tally
+tally_of_all ids facts tally is kind = is kind ∙ ap (counted_list ids) (same_of_kind kind facts)

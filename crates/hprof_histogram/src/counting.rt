@@ -1,6 +1,6 @@
 //! Objects are counted by their kind.
 
-ghost use Rattle.std.specs.Prelude.{◌≡◌, IfOk, IfSome};
+ghost use Rattle.std.specs.Prelude.{◌≡◌, length, IfOk, IfSome};
 ghost use Rattle.std.specs.Option.{option_map};
 ghost use Rattle.hprof_items.specs.FactValue.{value_of};
 ghost use Rattle.hprof_finding.specs.HeapFacts.{facts_of, size_of};
@@ -15,20 +15,27 @@ use hprof_items::Fact;
 use hprof_values::IdSize;
 use std::alloc::{AllocError, Global};
 
+/// How many bytes these are.
+fn size_of_bytes(bytes: &[u8]) -> u128
+    ensures { result ≡ length bytes.now }
+{
+    bytes.len() as u128
+}
+
 /// The kind of an object, and how many bytes it has.
 fn object_of(fact: &Fact<'_>, ids: IdSize) -> Option<(Kind, u128)>
     ensures kind { option_map (λ object. object.0) result ≡ kind_of (value_of fact.now) }
     ensures size { IfSome result (λ object. object.1 ≡ size_of_object ids (value_of fact.now)) }
 {
     match *fact {
-        Fact::Instance { class, bytes, .. } => Some((Kind::Class(class), bytes.len() as u128)),
+        Fact::Instance { class, bytes, .. } => Some((Kind::Class(class), size_of_bytes(bytes))),
         Fact::ObjArray {
             class, elements, ..
         } => {
             let size = elements.len() as u128 * ids.width() as u128;
             Some((Kind::Class(class), size))
         }
-        Fact::PrimArray { elem, bytes, .. } => Some((Kind::Prim(elem), bytes.len() as u128)),
+        Fact::PrimArray { elem, bytes, .. } => Some((Kind::Prim(elem), size_of_bytes(bytes))),
         _ => None,
     }
 }

@@ -1,7 +1,9 @@
 //! The rows of what was counted.
 
 ghost use Rattle.std.specs.Prelude.{◌≡◌, ◌++◌, ◌∷◌, [], OnOk, IfOk};
+ghost use Rattle.std.specs.BTreeMap.{IsOrdered};
 ghost use Rattle.std.specs.List.{filter};
+ghost use Rattle.std.specs.Ordering.{nat_cmp};
 ghost use Rattle.hprof_histogram.specs.Tally.{class_rows, element_types, has_objects, row_of, type_rows};
 
 use crate::counted::Counted;
@@ -59,10 +61,12 @@ fn push_types(rows: &mut Vec<Row>, types: &[Counted; TYPES]) -> Result<(), Alloc
 
 /// The rows of what was counted: those of classes, and then those of types.
 pub(crate) fn rows_of(alloc: Global, tally: &Tally) -> Result<Vec<Row>, AllocError>
-    ensures { IfOk result (λ rows. rows.items ≡ filter has_objects (class_rows tally.now.classes.entries)
+    ensures rows { IfOk result (λ rows. rows.items ≡ filter has_objects (class_rows tally.now.classes.entries)
         ++ filter has_objects (type_rows tally.now.types element_types)) }
+    ensures ordered { IsOrdered nat_cmp tally.now.classes }
 {
-    let mut rows = Vec::new(alloc);
+    let most = tally.classes.len() + ELEMENT_TYPES.len();
+    let mut rows = Vec::with_capacity(alloc, most)?;
     push_classes(&mut rows, &tally.classes)?;
     push_types(&mut rows, &tally.types)?;
     Ok(rows)

@@ -8,6 +8,7 @@ use crate::counting::count_objects;
 use crate::gathering::rows_of;
 use crate::row::Row;
 use crate::sorting::sort_rows;
+use hprof_finding::id_size;
 use hprof_heap::Heap;
 use std::alloc::{AllocError, Global};
 
@@ -18,6 +19,8 @@ use std::alloc::{AllocError, Global};
 pub fn histogram(alloc: Global, heap: &Heap) -> Result<Vec<Row>, AllocError>
     ensures { IfOk result (λ rows. IsHistogram (size_of heap.now) (facts_of heap.now) rows.items) }
 {
+    // Facts of a heap fit: that is told with the size.
+    let _ids = id_size(heap);
     let tally = count_objects(alloc, heap)?;
     let mut rows = rows_of(alloc, &tally)?;
     sort_rows(&mut rows);
