@@ -4,3 +4,5 @@ pub mod Tallies
 pub mod Members
 pub mod OneHistogram
 pub mod FactCounts
+pub mod CandidateRows
+pub mod HistogramRows

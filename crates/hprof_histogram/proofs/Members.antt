@@ -1,12 +1,14 @@
 -- Members of lists: lists that are strictly sorted and have the same ones are equal.
-use Rattle.std.proofs.Common.{◌≡◌, ◌⊎◌, ℕ, zero, suc, ◌<◌, List, [], ◌∷◌, length, get_or, refl, sym, ap, subst, ◌∙◌, inl, inr, arith}
+use Rattle.std.proofs.Common.{◌≡◌, ◌⊎◌, ℕ, zero, suc, ◌<◌, Bool, true, false, cond, Some, List, [], ◌∷◌, ◌++◌, map, length, get_or, refl, sym, ap, subst, ◌∙◌, inl, inr, arith}
 use Rattle.std.specs.Cmp.{IsTotalOrder}
-use Rattle.std.specs.List.{AllByRecursion, Contains}
+use Rattle.std.specs.List.{AllByRecursion, Contains, filter, slice_get}
 use Rattle.std.specs.List.Sorted.{IsStrictlySortedBy}
 use Rattle.std.specs.Ordering.{ordering_reverse}
 use Rattle.std.specs.declared.cmp.Ordering.{Ordering}
 use Rattle.std.specs.declared.cmp.Ordering.TheVariants.{Less, Equal, Greater}
+use Rattle.std.proofs.lemmas.Bool.{both_ways}
 use Rattle.std.proofs.lemmas.Cmp.{tied_itself}
+use Rattle.std.proofs.lemmas.List.Elements.{Contains-append_left, Contains-append_right}
 
 module _ {X : Type 0} where
   -- x is one of these
@@ -32,6 +34,25 @@ module _ {X : Type 0} where
   pub all_in : (P : X → Type 0) (xs : List X) (x : X) → AllByRecursion P xs → IsIn x xs → P x
   all_in P [] x all has = absurd has
   all_in P (y ∷ ys) x all has = elim has [ inl e ↦ subst P (sym e) all.0 | inr later ↦ all_in P ys x all.1 later ]
+
+  pub in_from_slice_get : (xs : List X) (place : ℕ) (x : X) → slice_get xs place ≡ Some x → IsIn x xs
+  in_from_slice_get [] place x e = absurd cc
+  in_from_slice_get (y ∷ ys) zero x e = inl cc
+  in_from_slice_get (y ∷ ys) (suc place) x e = inr (in_from_slice_get ys place x e)
+
+  pub in_front : (xs ys : List X) (x : X) → IsIn x xs → IsIn x (xs ++ ys)
+  in_front xs ys x has = in_from_Contains (xs ++ ys) x (Contains-append_left xs ys x (Contains-from_in xs x has))
+
+  pub in_back : (xs ys : List X) (x : X) → IsIn x ys → IsIn x (xs ++ ys)
+  in_back xs ys x has = in_from_Contains (xs ++ ys) x (Contains-append_right xs ys x (Contains-from_in ys x has))
+
+  -- a member that passes is a member of those that pass
+  pub in_filter : (p : X → Bool) (xs : List X) (x : X) → p x ≡ true → IsIn x xs → IsIn x (filter p xs)
+  in_filter p [] x passes has = absurd has
+  in_filter p (y ∷ ys) x passes has = by_test (in_filter p ys x passes) (p y) refl where
+    by_test : (IsIn x ys → IsIn x (filter p ys)) → (b : Bool) → p y ≡ b → IsIn x (cond b (y ∷ filter p ys) (filter p ys))
+    by_test later true e = elim has [ inl is ↦ inl is | inr rest ↦ inr (later rest) ]
+    by_test later false e = elim has [ inl is ↦ absurd (both_ways (p y) e (ap p (sym is) ∙ passes)) | inr rest ↦ later rest ]
 
   module _ {R : X → X → Ordering} (total : IsTotalOrder R) where
     -- nothing is before itself
@@ -72,3 +93,7 @@ module _ {X : Type 0} where
         let rest = one_sorted xs ys sorted.1 sorted_too.1 (in_rest x y xs ys sorted.0 first all)
             (in_rest y x ys xs sorted_too.0 (sym first) all_too) in
         λ i. first i ∷ rest i
+
+pub in_map : {X Y : Type 0} (f : X → Y) (xs : List X) (x : X) → IsIn x xs → IsIn (f x) (map f xs)
+in_map f [] x has = absurd has
+in_map f (y ∷ ys) x has = elim has [ inl e ↦ inl (ap f e) | inr later ↦ inr (in_map f ys x later) ]

@@ -51,11 +51,11 @@ row_cmp_total =
     (then_total (back_total (on_total (λ (row : Row). row.count) nat_cmp_total)) (on_total (λ (row : Row). row.kind) kind_cmp_total))
 
 -- numbers of which neither is before the other are equal
-tied_numbers : (n m : ℕ) → nat_cmp n m ≡ Equal → (n == m) ≡ true
+pub tied_numbers : (n m : ℕ) → nat_cmp n m ≡ Equal → (n == m) ≡ true
 tied_numbers n m e =
     by_ranked (n < m) (n ≡ m) (m < n) (nat_cmp n m) (ranked n m (nat_cmp n m) refl) (λ less lt. cc) (λ same is. eq-eqb n m is) (λ more gt. cc)
 
-tied_kinds : (kind other : Kind) → kind_cmp kind other ≡ Equal → same_kind kind other ≡ true
+pub tied_kinds : (kind other : Kind) → kind_cmp kind other ≡ Equal → same_kind kind other ≡ true
 tied_kinds (Class class) (Class other) e = tied_numbers class other e
 tied_kinds (Class class) (Prim elem) e = cc
 tied_kinds (Prim elem) (Class class) e = cc
