@@ -16,7 +16,7 @@ use Rattle.hprof_histogram.specs.declared.row.Kind.TheVariants.{Class, Prim}
 use Rattle.hprof_histogram.specs.declared.row.Row.{Row}
 use Rattle.hprof_histogram.specs.declared.counted.Counted.{Counted}
 use Rattle.hprof_histogram.specs.Histogram.{kind_cmp, same_kind}
-use Rattle.hprof_histogram.specs.Tally.{class_rows, element_types, has_objects, row_of, type_of, type_rows}
+use Rattle.hprof_histogram.specs.Tally.{class_rows, element_types, has_objects, type_rows}
 use Rattle.hprof_histogram.proofs.RowOrder.{kind_cmp_total, same_row_kind, tied_kinds}
 use Rattle.hprof_histogram.proofs.OneHistogram.{one_kind}
 
@@ -53,7 +53,7 @@ same_if_tied kind other = by_order (kind_cmp kind other) refl where
   not_tied : (order : Ordering) → kind_cmp kind other ≡ order → is_eq order ≡ false → same_kind kind other ≡ true → ⊥
   not_tied order is apart same =
       let tied : kind_cmp kind other ≡ Equal =
-          ap (kind_cmp kind) (sym (one_kind kind other same)) ∙ tied_itself kind_cmp_total kind in
+      ap (kind_cmp kind) (sym (one_kind kind other same)) ∙ tied_itself kind_cmp_total kind in
       let order_tied : is_eq order ≡ true = ap is_eq (sym is ∙ tied) in
       cc
 

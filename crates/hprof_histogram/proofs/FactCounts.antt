@@ -1,6 +1,6 @@
 -- How many objects of a kind facts have, counted from the front.
-use Rattle.std.proofs.Common.{◌≡◌, ℕ, ◌+◌, ◌*◌, ◌^◌, ◌<◌, ◌≤◌, Bool, true, false, cond, List, [], ◌∷◌, ◌++◌, Option, Some, None, length, refl, sym, ap, subst, ◌∙◌, inl, inr, arith, length-append}
-use Rattle.std.specs.List.{All, AllByRecursion, filter, sum_by, count_by}
+use Rattle.std.proofs.Common.{◌≡◌, ℕ, ◌+◌, ◌*◌, ◌^◌, ◌<◌, ◌≤◌, Bool, true, false, cond, List, [], ◌∷◌, Some, None, length, refl, sym, ap, ◌∙◌, inl, inr, arith, length-append}
+use Rattle.std.specs.List.{AllByRecursion, sum_by}
 use Rattle.std.proofs.lemmas.Bool.{cond-true}
 use Rattle.std.proofs.lemmas.List.Elements.{All-filter, All-from_recursion}
 use Rattle.std.proofs.lemmas.List.Sums.{sum_by-cons, sum_by-le, length-filter, count_by-le-length}
@@ -12,7 +12,7 @@ use Rattle.hprof_items.specs.FactValue.{FactValue, Name, Load, Unload, Frame, Tr
 use Rattle.hprof_items.specs.Spelling.{Fits}
 use Rattle.hprof_items.specs.SubRecord.{instance_widths, instance_numbers, prim_array_widths, prim_array_numbers}
 use Rattle.hprof_rows.specs.declared.table.Table.TheVariants as tables
-use Rattle.hprof_rows.specs.Facts.{Has, AllFit}
+use Rattle.hprof_rows.specs.Facts.{AllFit}
 use Rattle.hprof_rows.specs.Tables.{facts_of_table}
 use Rattle.hprof_histogram.specs.declared.row.Kind.{Kind}
 use Rattle.hprof_histogram.specs.declared.counted.Counted.{Counted}
@@ -98,17 +98,17 @@ pub tally_counts : (ids : IdSize) (all rest : List FactValue) (tally after : Tal
     → IsTallyTo ids all tally (fact ∷ rest) → IsTallyTo ids all after rest
 tally_counts ids all rest tally after fact own size is sized counts to kind =
     by_test (same_kind kind own) (counted_more ids kind own fact rest is) (counts kind) ∙ to kind where
-  by_test : (b : Bool) → counted_of ids kind (fact ∷ rest)
-      ≡ cond b (both (one_of (size_of_object ids fact)) (counted_of ids kind rest)) (counted_of ids kind rest)
-      → counted_in after kind ≡ cond b (both (counted_in tally kind) (one_of size)) (counted_in tally kind)
-      → both (counted_in after kind) (counted_of ids kind rest) ≡ both (counted_in tally kind) (counted_of ids kind (fact ∷ rest))
-  by_test true more is =
-      ap (λ (c : Counted). both c (counted_of ids kind rest)) is
-      ∙ both_assoc (counted_in tally kind) (one_of size) (counted_of ids kind rest)
-      ∙ ap (λ (n : ℕ). both (counted_in tally kind) (both (one_of n) (counted_of ids kind rest))) sized
-      ∙ ap (both (counted_in tally kind)) (sym more)
-  by_test false more is =
-      ap (λ (c : Counted). both c (counted_of ids kind rest)) is ∙ ap (both (counted_in tally kind)) (sym more)
+      by_test : (b : Bool) → counted_of ids kind (fact ∷ rest)
+          ≡ cond b (both (one_of (size_of_object ids fact)) (counted_of ids kind rest)) (counted_of ids kind rest)
+          → counted_in after kind ≡ cond b (both (counted_in tally kind) (one_of size)) (counted_in tally kind)
+          → both (counted_in after kind) (counted_of ids kind rest) ≡ both (counted_in tally kind) (counted_of ids kind (fact ∷ rest))
+      by_test true more is =
+          ap (λ (c : Counted). both c (counted_of ids kind rest)) is
+          ∙ both_assoc (counted_in tally kind) (one_of size) (counted_of ids kind rest)
+          ∙ ap (λ (n : ℕ). both (counted_in tally kind) (both (one_of n) (counted_of ids kind rest))) sized
+          ∙ ap (both (counted_in tally kind)) (sym more)
+      by_test false more is =
+          ap (λ (c : Counted). both c (counted_of ids kind rest)) is ∙ ap (both (counted_in tally kind)) (sym more)
 
 pub tally_passes : (ids : IdSize) (all rest : List FactValue) (tally : Tally) (fact : FactValue) → kind_of fact ≡ None
     → IsTallyTo ids all tally (fact ∷ rest) → IsTallyTo ids all tally rest
@@ -134,10 +134,10 @@ pub room_for_one : (ids : IdSize) (all rest : List FactValue) (tally : Tally) (f
 room_for_one ids all rest tally fact own size is sized room to =
     let before = counted_in tally own in
     let more : counted_of ids own (fact ∷ rest) ≡ both (one_of size) (counted_of ids own rest) =
-        counted_more ids own own fact rest is
-        ∙ cond-true (same_kind own own) (both (one_of (size_of_object ids fact)) (counted_of ids own rest)) (counted_of ids own rest)
-            (same_itself own)
-        ∙ ap (λ (n : ℕ). both (one_of n) (counted_of ids own rest)) (sym sized) in
+    counted_more ids own own fact rest is
+    ∙ cond-true (same_kind own own) (both (one_of (size_of_object ids fact)) (counted_of ids own rest)) (counted_of ids own rest)
+    (same_itself own)
+    ∙ ap (λ (n : ℕ). both (one_of n) (counted_of ids own rest)) (sym sized) in
     room_alone (both before (one_of size)) (counted_of ids own rest) (counted_of ids own all)
     (both_assoc before (one_of size) (counted_of ids own rest) ∙ ap (both before) (sym more) ∙ to own) (room own)
 
@@ -193,7 +193,7 @@ room_of_all ids facts objects fit counted few kind =
     let count : length (of_kind kind table) < 2 ^ 64 = omega (arith, length-filter of_this table, count_by-le-length of_this table) in
     let small = All-from_recursion (λ fact. size_of_object ids fact ≤ 2 ^ 36) facts (all_within ids facts fit) in
     let few_bytes = sum_by-le (size_of_object ids) (2 ^ 36) (of_kind kind facts)
-        (All-filter of_this (λ fact. size_of_object ids fact ≤ 2 ^ 36) facts small) in
+    (All-filter of_this (λ fact. size_of_object ids fact ≤ 2 ^ 36) facts small) in
     let same = same_of_kind kind facts in
     record { count = count; bytes = omega (arith, few_bytes, ap length same, ap (sum_by (size_of_object ids)) same) }
 

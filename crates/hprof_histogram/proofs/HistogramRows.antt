@@ -1,7 +1,7 @@
 -- The rows of what was counted are a histogram.
-use Rattle.std.proofs.Common.{◌≡◌, ℕ, ◌+◌, ◌<◌, ◌==◌, Bool, true, false, cond, List, [], ◌∷◌, ◌++◌, Option, Some, None, Ok, length, get_or, refl, sym, ap, subst, ◌∙◌, inl, inr, arith, unwrap_or}
-use Rattle.std.specs.BTreeMap.{BTreeMap, IsOrdered, get, is_at}
-use Rattle.std.specs.List.{All, Contains, filter}
+use Rattle.std.proofs.Common.{◌≡◌, ℕ, ◌<◌, ◌==◌, Bool, true, false, cond, List, [], ◌∷◌, Option, Some, None, Ok, length, get_or, refl, sym, ap, subst, ◌∙◌, inl, inr, arith, unwrap_or}
+use Rattle.std.specs.BTreeMap.{IsOrdered, get, is_at}
+use Rattle.std.specs.List.{All, filter}
 use Rattle.std.specs.List.Sorted.{IsPermutation, IsStrictlySortedBy}
 use Rattle.std.specs.Ordering.{is_eq, nat_cmp}
 use Rattle.std.specs.declared.cmp.Ordering.{Ordering}
@@ -25,7 +25,7 @@ use Rattle.hprof_histogram.specs.declared.row.Row.{Row}
 use Rattle.hprof_histogram.specs.declared.counted.Counted.{Counted}
 use Rattle.hprof_histogram.specs.declared.tally.Tally.{Tally}
 use Rattle.hprof_histogram.specs.Histogram.{kind_of, is_kind, of_kind, row_cmp, Counts, IsHistogram}
-use Rattle.hprof_histogram.specs.Tally.{IsTally, both, counted_in, counted_of, nothing, kept_of, type_of, row_of, has_objects, class_rows}
+use Rattle.hprof_histogram.specs.Tally.{IsTally, both, counted_in, nothing, kept_of, type_of, row_of, has_objects, class_rows}
 use Rattle.hprof_histogram.specs.Tally.{type_rows, element_types}
 use Rattle.hprof_histogram.proofs.CandidateRows.{candidates}
 use Rattle.hprof_histogram.proofs.Members.{IsIn, Contains-from_in, in_back, in_filter, in_from_slice_get, in_front, in_map}
@@ -71,7 +71,7 @@ some_counted kind (first ∷ facts) fact has is = by_test (λ later. some_counte
   by_test later false e = elim has [
     | inl same ↦
         let own : is_kind kind (kind_of first) ≡ true =
-            ap (λ (f : FactValue). is_kind kind (kind_of f)) (sym same) ∙ ap (is_kind kind) is ∙ same_itself kind in
+        ap (λ (f : FactValue). is_kind kind (kind_of f)) (sym same) ∙ ap (is_kind kind) is ∙ same_itself kind in
         absurd (both_ways (is_kind kind (kind_of first)) e own)
     | inr rest ↦ later rest
   ]
@@ -96,11 +96,11 @@ module _ (tally : Tally) (closed : tally.run ≡ nothing) (ordered : IsOrdered n
 
   entries_kept : All (λ (entry : ℕ × Counted). kept_of tally.classes entry.0 ≡ entry.1) tally.classes.entries
   entries_kept = All-from_get_or (λ (entry : ℕ × Counted). kept_of tally.classes entry.0 ≡ entry.1) tally.classes.entries (0, nothing) (λ place lt.
-    let entry : ℕ × Counted = get_or tally.classes.entries place (0, nothing) in
-    let found : get nat_cmp tally.classes entry.0 ≡ Some entry.1 =
-        btree_map_get_place nat_cmp_total tally.classes place entry.0 entry.1 ordered
-        (slice_get-get_or tally.classes.entries place (0, nothing) lt) in
-    ap (λ (o : Option Counted). unwrap_or o nothing) found)
+      let entry : ℕ × Counted = get_or tally.classes.entries place (0, nothing) in
+      let found : get nat_cmp tally.classes entry.0 ≡ Some entry.1 =
+      btree_map_get_place nat_cmp_total tally.classes place entry.0 entry.1 ordered
+      (slice_get-get_or tally.classes.entries place (0, nothing) lt) in
+      ap (λ (o : Option Counted). unwrap_or o nothing) found)
 
   candidates_of_tally : All IsOfTally (candidates tally.classes.entries tally.types)
   candidates_of_tally =
@@ -134,17 +134,17 @@ module _ (tally : Tally) (closed : tally.run ≡ nothing) (ordered : IsOrdered n
           → HasRow (filter has_objects (candidates tally.classes.entries tally.types)) (Class class)
       found None e =
           let none : counted_in tally (Class class) ≡ nothing =
-              class_counted class ∙ ap (λ (o : Option Counted). unwrap_or o nothing) e in
+          class_counted class ∙ ap (λ (o : Option Counted). unwrap_or o nothing) e in
           absurd (omega (arith, some, ap (λ (c : Counted). c.count) none))
       found (Some counted) e =
           let at = place_from_lookup (is_at (nat_cmp class)) tally.classes.entries counted e in
           let here : counted_in tally (Class class) ≡ counted =
-              class_counted class ∙ ap (λ (o : Option Counted). unwrap_or o nothing) e in
+          class_counted class ∙ ap (λ (o : Option Counted). unwrap_or o nothing) e in
           let row = row_of (Class at.1) counted in
           let passes : has_objects row ≡ true = lt-ltb 0 counted.count (omega (arith, some, ap (λ (c : Counted). c.count) here)) in
           let in_rows = in_front (class_rows tally.classes.entries) (type_rows tally.types element_types) row
-              (in_map (λ (entry : ℕ × Counted). row_of (Class entry.0) entry.1) tally.classes.entries (at.1, counted)
-              (in_from_slice_get tally.classes.entries at.0 (at.1, counted) at.2)) in
+          (in_map (λ (entry : ℕ × Counted). row_of (Class entry.0) entry.1) tally.classes.entries (at.1, counted)
+          (in_from_slice_get tally.classes.entries at.0 (at.1, counted) at.2)) in
           record {
             row = row;
             has = in_filter has_objects (candidates tally.classes.entries tally.types) row passes in_rows;
@@ -156,7 +156,7 @@ module _ (tally : Tally) (closed : tally.run ≡ nothing) (ordered : IsOrdered n
     type_row elem has some =
         let row = row_of (Prim elem) (type_of tally.types elem) in
         let in_rows = in_back (class_rows tally.classes.entries) (type_rows tally.types element_types) row
-            (in_map (λ (e : Basic). row_of (Prim e) (type_of tally.types e)) element_types elem has) in
+        (in_map (λ (e : Basic). row_of (Prim e) (type_of tally.types e)) element_types elem has) in
         record {
           row = row;
           has = in_filter has_objects (candidates tally.classes.entries tally.types) row (lt-ltb 0 row.count some) in_rows;
@@ -181,10 +181,10 @@ module _ (tally : Tally) (closed : tally.run ≡ nothing) (ordered : IsOrdered n
         record {
           ascend = sorted;
           counts = λ row has.
-            let had = Contains-permutation rows before row (IsPermutation-sym before rows moved) has in
-            row_counts row (All-contains IsOfTally before row (All-filter has_objects IsOfTally all candidates_of_tally) had)
-            (All-contains (λ r. has_objects r ≡ true) before row (filter_passes has_objects all) had);
+              let had = Contains-permutation rows before row (IsPermutation-sym before rows moved) has in
+              row_counts row (All-contains IsOfTally before row (All-filter has_objects IsOfTally all candidates_of_tally) had)
+              (All-contains (λ r. has_objects r ≡ true) before row (filter_passes has_objects all) had);
           all = λ fact kind has own.
-            let found = kind_row fit fact kind has own in
-            (found.row, Contains-permutation before rows found.row moved (Contains-from_in before found.row found.has), found.is_of);
+              let found = kind_row fit fact kind has own in
+              (found.row, Contains-permutation before rows found.row moved (Contains-from_in before found.row found.has), found.is_of);
         }

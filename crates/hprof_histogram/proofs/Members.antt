@@ -91,7 +91,7 @@ module _ {X : Type 0} where
     one_sorted (x ∷ xs) (y ∷ ys) sorted sorted_too all all_too =
         let first = same_first x y xs ys sorted.0 sorted_too.0 (all x (inl refl)) (all_too y (inl refl)) in
         let rest = one_sorted xs ys sorted.1 sorted_too.1 (in_rest x y xs ys sorted.0 first all)
-            (in_rest y x ys xs sorted_too.0 (sym first) all_too) in
+        (in_rest y x ys xs sorted_too.0 (sym first) all_too) in
         λ i. first i ∷ rest i
 
 pub in_map : {X Y : Type 0} (f : X → Y) (xs : List X) (x : X) → IsIn x xs → IsIn (f x) (map f xs)

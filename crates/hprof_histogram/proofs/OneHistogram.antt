@@ -1,7 +1,7 @@
 -- Facts have one histogram.
-use Rattle.std.proofs.Common.{◌≡◌, ℕ, ◌<◌, ◌==◌, Bool, true, false, cond, List, [], ◌∷◌, Option, Some, None, length, refl, sym, ap, subst, ◌∙◌, inl, inr, arith}
+use Rattle.std.proofs.Common.{◌≡◌, ◌<◌, Bool, true, false, cond, List, [], ◌∷◌, Option, Some, None, length, refl, sym, ap, subst, ◌∙◌, inl, inr, arith}
 use Rattle.std.specs.List.{Contains, sum_by}
-use Rattle.std.proofs.lemmas.Bool.{eqb-true, cases_Bool}
+use Rattle.std.proofs.lemmas.Bool.{eqb-true}
 use Rattle.hprof_values.specs.declared.ids.IdSize.{IdSize}
 use Rattle.hprof_values.specs.declared.basic.Basic.{Basic}
 use Rattle.hprof_values.specs.Basic.{code_of_basic, basic_of_code}
@@ -44,7 +44,7 @@ some_of_kind (fact ∷ facts) kind some = at_first (some_of_kind facts kind) (is
   at_first later true e = record { fact = fact; has = inl refl; is = is_of_kind kind (kind_of fact) e }
   at_first later false e =
       let others : of_kind kind (fact ∷ facts) ≡ of_kind kind facts =
-          ap (λ (b : Bool). cond b (fact ∷ of_kind kind facts) (of_kind kind facts)) e in
+      ap (λ (b : Bool). cond b (fact ∷ of_kind kind facts) (of_kind kind facts)) e in
       let found = later (omega (arith, ap length others)) in
       record { fact = found.fact; has = inr found.has; is = found.is }
 
@@ -53,7 +53,7 @@ one_row : (ids : IdSize) (facts : List FactValue) (row other : Row) → Counts i
     → row ≡ other
 one_row ids facts row other counts counts_too kind =
     let count : row.count ≡ other.count =
-        counts.count ∙ ap (λ (k : Kind). length (of_kind k facts)) kind ∙ sym counts_too.count in
+    counts.count ∙ ap (λ (k : Kind). length (of_kind k facts)) kind ∙ sym counts_too.count in
     let bytes : row.bytes ≡ other.bytes = counts.bytes ∙ ap (λ (k : Kind). sum_by (size_of_object ids) (of_kind k facts)) kind ∙ sym counts_too.bytes in
     λ i. record { kind = kind i; count = count i; bytes = bytes i }
 

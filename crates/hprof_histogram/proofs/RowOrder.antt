@@ -1,9 +1,9 @@
 -- The order of rows.
-use Rattle.std.proofs.Common.{◌≡◌, ◌≢◌, ℕ, ◌+◌, ◌-◌, ◌<◌, Bool, true, false, List, [], ◌∷◌, ◌++◌, length, get_or, refl, sym, ap, ◌∙◌, arith, eq-eqb, ◌==◌}
+use Rattle.std.proofs.Common.{◌≡◌, ℕ, ◌+◌, ◌<◌, Bool, true, false, List, [], ◌∷◌, get_or, refl, sym, ap, ◌∙◌, arith, eq-eqb, ◌==◌}
 use Rattle.std.specs.Cmp.{IsTotalOrder}
 use Rattle.std.specs.List.{IsDistinct}
 use Rattle.std.specs.List.Sorted.{IsSortedBy, IsStrictlySortedBy}
-use Rattle.std.specs.Ordering.{nat_cmp, ordering_then, ordering_reverse, is_lt, on, then_cmp, flip_args}
+use Rattle.std.specs.Ordering.{nat_cmp, ordering_then, ordering_reverse, is_lt, on, then_cmp}
 use Rattle.std.specs.declared.cmp.Ordering.{Ordering}
 use Rattle.std.specs.declared.cmp.Ordering.TheVariants.{Less, Equal, Greater}
 use Rattle.std.proofs.lemmas.Bool.{both_ways}
@@ -99,5 +99,5 @@ unfolding IsStrictlySortedBy
 rows_ascend [] sorted apart = tt
 rows_ascend (first ∷ rows) sorted apart =
     sorted_from_all_adjacent row_cmp_total (first ∷ rows) first (λ k lt.
-      rises (get_or (first ∷ rows) k first) (get_or (first ∷ rows) (k + 1) first) (sorted k first (omega arith) lt)
-      (apart_from_distinct same_row_kind (first ∷ rows) k (k + 1) first apart (omega arith) lt))
+    rises (get_or (first ∷ rows) k first) (get_or (first ∷ rows) (k + 1) first) (sorted k first (omega arith) lt)
+    (apart_from_distinct same_row_kind (first ∷ rows) k (k + 1) first apart (omega arith) lt))

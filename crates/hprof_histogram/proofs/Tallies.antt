@@ -1,5 +1,5 @@
 -- What is counted.
-use Rattle.std.proofs.Common.{◌≡◌, ◌+◌, ◌==◌, true, cond, Option, Some, refl, sym, ap, subst, ◌∙◌, arith, eq-eqb, unwrap_or}
+use Rattle.std.proofs.Common.{◌≡◌, ◌+◌, ◌==◌, true, Option, Some, refl, sym, ap, subst, ◌∙◌, arith, eq-eqb, unwrap_or}
 use Rattle.std.specs.BTreeMap.{get}
 use Rattle.std.specs.Ordering.{nat_cmp}
 use Rattle.std.proofs.lemmas.Bool.{cond-true}
@@ -22,9 +22,9 @@ pub run_fits : (tally : Tally) (kept : Counted) → Some kept ≡ get nat_cmp ta
     → HasRoom (counted_in tally (Class tally.class)) → HasRoom (both kept tally.run)
 run_fits tally kept found room =
     let is : counted_in tally (Class tally.class) ≡ both kept tally.run =
-        cond-true (tally.class == tally.class) (both (kept_of tally.classes tally.class) tally.run) (kept_of tally.classes tally.class)
-            (eq-eqb tally.class tally.class refl)
-        ∙ ap (λ (o : Option Counted). both (unwrap_or o nothing) tally.run) (sym found) in
+    cond-true (tally.class == tally.class) (both (kept_of tally.classes tally.class) tally.run) (kept_of tally.classes tally.class)
+    (eq-eqb tally.class tally.class refl)
+    ∙ ap (λ (o : Option Counted). both (unwrap_or o nothing) tally.run) (sym found) in
     subst HasRoom is room
 
 pub same_itself : (kind : Kind) → same_kind kind kind ≡ true

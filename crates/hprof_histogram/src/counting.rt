@@ -30,7 +30,9 @@ fn object_of(fact: &Fact<'_>, ids: IdSize) -> Option<(Kind, u128)>
     match *fact {
         Fact::Instance { class, bytes, .. } => Some((Kind::Class(class), size_of_bytes(bytes))),
         Fact::ObjArray {
-            class, elements, ..
+            class,
+            elements,
+            ..
         } => {
             let size = elements.len() as u128 * ids.width() as u128;
             Some((Kind::Class(class), size))

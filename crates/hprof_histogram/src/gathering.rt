@@ -37,10 +37,7 @@ fn push_row(rows: &mut Vec<Row>, kind: Kind, counted: Counted) -> Result<(), All
 }
 
 /// Puts the rows of classes behind others.
-fn push_classes(
-    rows: &mut Vec<Row>,
-    classes: &BTreeMap<u64, Counted>,
-) -> Result<(), AllocError>
+fn push_classes(rows: &mut Vec<Row>, classes: &BTreeMap<u64, Counted>) -> Result<(), AllocError>
     ensures { OnOk result (rows.new.items ≡ rows.old.items ++ filter has_objects (class_rows classes.now.entries)) }
 {
     for (class, counted) in classes {

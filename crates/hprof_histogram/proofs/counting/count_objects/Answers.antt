@@ -1,11 +1,11 @@
-use Rattle.std.proofs.Common.{◌≡◌, ◌<◌, ◌^◌, sym, ap, subst, ◌∙◌, arith}
+use Rattle.std.proofs.Common.{◌<◌, ◌^◌, sym, ap, subst, ◌∙◌, arith}
 use Rattle.hprof_items.specs.FactValue.{value_of}
 use Rattle.hprof_rows.specs.declared.table.Table.TheVariants as tables
 use Rattle.hprof_rows.specs.FactsLeft.{facts_left}
 use Rattle.hprof_rows.specs.Tables.{facts_of_table}
 use Rattle.hprof_finding.specs.HeapFacts.{facts_of, size_of}
 use Rattle.hprof_histogram.specs.Histogram.{size_of_object}
-use Rattle.hprof_histogram.proofs.FactCounts.{IsTallyTo, tally_begins, tally_counts, tally_passes, tally_ends, tally_of_all, room_so_far}
+use Rattle.hprof_histogram.proofs.FactCounts.{IsTallyTo, tally_counts, tally_ends, tally_of_all, room_so_far}
 use Rattle.hprof_histogram.proofs.FactCounts.{room_for_one, room_of_all}
 use Rattle.hprof_histogram.proofs.counting.count_objects.Goals as goal
 
@@ -54,6 +54,6 @@ returns-clause-all c =
     let facts = facts_of c.args.heap.now in
     λ kind. c.in_ok-close_run.ensures.same kind
     ∙ tally_of_all ids facts c.loop-fact.tally
-        (tally_ends ids (facts_of_table tables.Objects facts) (facts_left c.loop-fact.fact-iterator) c.loop-fact.tally
-        c.in-None.ensures.steps.0.0 c.loop-fact.invariant)
-        kind
+    (tally_ends ids (facts_of_table tables.Objects facts) (facts_left c.loop-fact.fact-iterator) c.loop-fact.tally
+    c.in-None.ensures.steps.0.0 c.loop-fact.invariant)
+    kind

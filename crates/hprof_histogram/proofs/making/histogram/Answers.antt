@@ -1,4 +1,4 @@
-use Rattle.std.proofs.Common.{◌≡◌, ◌++◌, sym, subst, ◌∙◌}
+use Rattle.std.proofs.Common.{◌≡◌, sym, subst, ◌∙◌}
 use Rattle.std.specs.List.{IsDistinct, filter}
 use Rattle.std.specs.List.Sorted.{IsPermutation}
 use Rattle.std.proofs.lemmas.List.Elements.{filter-append}
@@ -13,8 +13,8 @@ pub sort_rows-requires : goal.sort_rows-requires
 sort_rows-requires c =
     let tally = c.in_ok-tally.tally in
     let same : c.in_ok-rows.rows.items ≡ filter has_objects (candidates tally.classes.entries tally.types) =
-        c.in_ok-rows.ensures.rows
-        ∙ sym (filter-append has_objects (class_rows tally.classes.entries) (type_rows tally.types element_types)) in
+    c.in_ok-rows.ensures.rows
+    ∙ sym (filter-append has_objects (class_rows tally.classes.entries) (type_rows tally.types element_types)) in
     subst (IsDistinct same_row_kind) (sym same) (rows_apart tally.classes.entries tally.types c.in_ok-rows.ensures.ordered)
 
 pub returns : goal.returns
@@ -22,8 +22,8 @@ returns c =
     let tally = c.in_ok-tally.tally in
     let after = c.sort_rows.new.rows.items in
     let same : c.in_ok-rows.rows.items ≡ filter has_objects (candidates tally.classes.entries tally.types) =
-        c.in_ok-rows.ensures.rows
-        ∙ sym (filter-append has_objects (class_rows tally.classes.entries) (type_rows tally.types element_types)) in
+    c.in_ok-rows.ensures.rows
+    ∙ sym (filter-append has_objects (class_rows tally.classes.entries) (type_rows tally.types element_types)) in
     rows_are_histogram tally c.in_ok-tally.ensures.closed c.in_ok-rows.ensures.ordered (size_of c.args.heap.now) (facts_of c.args.heap.now)
     c.in_ok-tally.ensures.all c.id_size-ids.ensures.fit after
     (subst (λ before. IsPermutation before after) same c.sort_rows.ensures.same) c.sort_rows.ensures.ascend
