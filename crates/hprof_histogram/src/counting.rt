@@ -48,7 +48,8 @@ pub(crate) fn count_objects(alloc: Global, heap: &Heap) -> Result<Tally, AllocEr
     ensures closed { IfOk result (λ tally. tally.run ≡ nothing) }
 {
     let ids = id_size(heap);
-    let objects = table_len(heap, Table::Objects);
+    // How many objects there are fits a number: that is told with their count.
+    let _objects = table_len(heap, Table::Objects);
     let mut tally = Tally::new(alloc);
     for fact in table_facts(heap, Table::Objects) {
         if let Some((kind, size)) = object_of(&fact, ids) {
