@@ -8,7 +8,7 @@ mod object_row;
 mod objects;
 
 pub use class_row::ClassRow;
-pub use classes::find_class;
+pub use classes::{find_class, to_class_row};
 pub use heap_facts::{class_name, id_size, table_facts, table_len};
 pub use object_row::ObjectRow;
-pub use objects::find_object;
+pub use objects::{find_object, to_object_row};
