@@ -1,6 +1,8 @@
 -- What is known, told by what stands when no class is to be woken.
-use Rattle.std.specs.Prelude.{◌≢◌}
-use Rattle.std.proofs.Common.{◌≡◌, ℕ, ◌<◌, List, [], ◌∷◌, ◌++◌, Contains, Option, Some, None, refl, sym, ap, subst, ◌∙◌, ◌⊎◌, inl, inr, arith}
+use Rattle.std.specs.Prelude.{◌≢◌, IsTrue, is_some}
+use Rattle.std.specs.List.{IsDistinct}
+use Rattle.std.proofs.Common.{◌≡◌, ℕ, ◌<◌, ◌↔◌, Bool, true, false, List, [], ◌∷◌, ◌++◌, Contains, Option, Some, None, refl, sym, ap, subst, ◌∙◌}
+use Rattle.std.proofs.Common.{◌⊎◌, inl, inr, arith}
 use Rattle.std.proofs.lemmas.Bool.{cases_eq}
 use Rattle.hprof_values.specs.declared.ids.IdSize.{IdSize}
 use Rattle.hprof_items.specs.FactValue.{FactValue}
@@ -11,8 +13,10 @@ use Rattle.hprof_layouts.specs.Layout.{IsKnown, own_slots}
 use Rattle.hprof_laying.specs.declared.known.KnownLayouts.{KnownLayouts}
 use Rattle.hprof_laying.specs.declared.known.Waiting.{Waiting}
 use Rattle.hprof_laying.specs.declared.plan.Plan.{Plan}
-use Rattle.hprof_laying.specs.Known.{HasLayout, HasPlan, IsWaiting, Knows, Waits, plan_of, waiting_below}
+use Rattle.hprof_laying.specs.Known.{HasLayout, HasPlan, IsOnceEach, IsWaiting, Knows, Waits, plan_of, waiting_below}
 use Rattle.hprof_laying.specs.Waking.{IsPlanned, IsReady, Standing}
+use Rattle.hprof_laying.proofs.MoreDumps.{known_stays, plan_stays, waiting_stays}
+use Rattle.hprof_laying.proofs.ReferenceSets.{nothing_there}
 use Rattle.hprof_laying.proofs.Outlines.{one_known, known_zero, known_below, plan_known}
 
 -- there is a plan or none
@@ -145,3 +149,64 @@ module _ (ids : IdSize) (facts : List FactValue) (known : KnownLayouts) (knows :
     no_zero : (superclass : ℕ) (waiting : Waiting) → Contains (waiting_below known superclass) waiting → waiting.class ≢ 0
     no_zero superclass waiting there e =
         (knows.waits superclass waiting there).1 (subst (HasLayout facts) (sym e) ([], known_zero facts))
+
+-- a class is ready where the map has a plan, or where it is 0
+pub ready_by : (plans : ℕ → Option Plan) (class : ℕ) (t : Bool) → class ≢ 0 → t ≡ is_some (plans class) → IsTrue t ↔ IsReady plans class
+ready_by plans class t not_zero e = (there, back) where
+  there : IsTrue t → IsReady plans class
+  there yes_it_is = elim (look (plans class)) [
+    | There plan is ↦ inr (plan, is)
+    | Nowhere is ↦ let clash : true ≡ false = sym yes_it_is ∙ e ∙ ap is_some is in absurd cc
+  ]
+
+  back : IsReady plans class → IsTrue t
+  back (inl zero_is) = absurd (not_zero zero_is)
+  back (inr planned) = e ∙ ap is_some planned.1
+
+-- ---- no facts
+
+-- a layout that is known over no facts is that of class 0
+known_nowhere : (class : ℕ) (dumps : List ClassDump) → IsChain [] class dumps 0 → class ≡ 0
+known_nowhere class [] chain = chain
+known_nowhere class (dump ∷ dumps) chain = absurd chain.2
+
+pub knows_nothing : (ids : IdSize) (known : KnownLayouts) → ((class : ℕ) → plan_of known class ≡ None)
+    → ((superclass : ℕ) → waiting_below known superclass ≡ []) → Knows ids [] known
+unfolding IsDistinct
+knows_nothing ids known no_plans no_waits = record {
+  each = λ one other has too same. absurd has;
+  planned = λ class slots not_zero is. absurd (not_zero (known_nowhere class is.dumps is.chain));
+  only = λ class plan e. absurd (not_both (plan_of known class) plan e (no_plans class));
+  waits = λ superclass waiting there.
+      absurd (nothing_there waiting (subst (λ (l : List Waiting). Contains l waiting) (no_waits superclass) there));
+  all_wait = λ dump has unknown. absurd has;
+  once = λ superclass. subst IsOnceEach (sym (no_waits superclass)) tt;
+}
+
+-- ---- other facts with the same dumps
+
+pub knows_same : (ids : IdSize) (facts more : List FactValue) (known : KnownLayouts)
+    → ((dump : ClassDump) → HasDump more dump ↔ HasDump facts dump) → Knows ids facts known → Knows ids more known
+knows_same ids facts more known same knows = record {
+  each = λ one other has too e. knows.each one other (back one has) (back other too) e;
+  planned = λ class slots not_zero is.
+      let has = knows.planned class slots not_zero (known_stays more facts back class slots is) in
+      record { plan = has.plan; found = has.found; is = plan_stays facts more there ids class slots has.plan has.is };
+  only = λ class plan e. let only = knows.only class plan e in (only.0, there_known class only.1);
+  waits = λ superclass waiting in_list.
+      let is = knows.waits superclass waiting in_list in
+      (waiting_stays facts more there ids superclass waiting is.0, λ layout. is.1 (back_known waiting.class layout));
+  all_wait = λ dump has unknown. knows.all_wait dump (back dump has) (λ layout. unknown (there_known dump.id layout));
+  once = knows.once;
+} where
+  there : (dump : ClassDump) → HasDump facts dump → HasDump more dump
+  there dump has = (same dump).1 has
+
+  back : (dump : ClassDump) → HasDump more dump → HasDump facts dump
+  back dump has = (same dump).0 has
+
+  there_known : (class : ℕ) → HasLayout facts class → HasLayout more class
+  there_known class layout = (layout.0, known_stays facts more there class layout.0 layout.1)
+
+  back_known : (class : ℕ) → HasLayout more class → HasLayout facts class
+  back_known class layout = (layout.0, known_stays more facts back class layout.0 layout.1)

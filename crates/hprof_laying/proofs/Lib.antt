@@ -4,3 +4,8 @@ pub mod ReferenceSets
 pub mod Outlines
 pub mod KnownPlans
 pub mod Wakings
+pub mod Maps
+pub mod Gathered
+pub mod Hands
+pub mod Comings
+pub mod Pushes
