@@ -11,7 +11,7 @@ use Rattle.hprof_laying.specs.declared.own_fields.OwnFields.{OwnFields}
 use Rattle.hprof_laying.specs.declared.plan.Plan.{Plan}
 use Rattle.hprof_laying.specs.Known.{AreWoken, HasDumpMore, HasLayout, Knows, plan_of, waiting_below}
 use Rattle.hprof_laying.specs.OwnFields.{IsOwn}
-use Rattle.hprof_laying.specs.Waking.{IsReady, IsWaking, Standing, Woke, put}
+use Rattle.hprof_laying.specs.Waking.{IsReady, IsWaking, Standing, Wakes, Woke, put}
 use Rattle.hprof_laying.proofs.KnownPlans.{known_ready, knows_standing, not_both, ready_known, standing_knows}
 use Rattle.hprof_laying.proofs.Outlines.{known_zero}
 use Rattle.hprof_laying.proofs.Wakings.{stands_open, stands_waiting, stands_zero, woke_none}
@@ -69,3 +69,17 @@ module _ (ids : IdSize) (facts more : List FactValue) (known : KnownLayouts) (kn
       standing = stands_open ids more (plan_of other) (waiting_below other) (dump.parent ∷ []) stands_then dump.parent refl unready;
       woke = wakes_then.woke;
     }
+
+-- classes that were woken, for which others may wait, after none was
+pub wakes_first : (ids : IdSize) (facts : List FactValue) (before : ℕ → Option Plan) (known : KnownLayouts) (old new : List ℕ) → old ≡ []
+    → Wakes ids facts before known old new [] → IsWaking ids facts before known new new
+wakes_first ids facts before known old new none wakes =
+    let same : new ≡ wakes.more = wakes.woken_are ∙ ap (λ (l : List ℕ). l ++ wakes.more) none in
+    subst (IsWaking ids facts before known new) (sym same) wakes.waking
+
+-- when no class is to be woken, it is known what there is to know
+pub waking_ends : (ids : IdSize) (facts more : List FactValue) (known other : KnownLayouts) (woken : List ℕ) → Knows ids facts known
+    → IsWaking ids more (plan_of known) other woken [] → Knows ids more other × AreWoken facts more woken
+waking_ends ids facts more known other woken knew waking =
+    let knows = standing_knows ids more other waking.standing in
+    (knows, are_woken ids facts more known other woken knew knows waking.woke)

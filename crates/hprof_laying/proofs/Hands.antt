@@ -1,9 +1,11 @@
 -- The classes that waited for a class, woken one by one.
-use Rattle.std.proofs.lemmas.List.{append-nil}
-use Rattle.std.proofs.lemmas.List.Elements.{Contains-append_left, Contains-push}
-use Rattle.std.proofs.Common.{◌≡◌, ℕ, List, [], ◌∷◌, ◌++◌, Contains, Option, Some, None, refl, sym, ap, subst, ◌∙◌, append_assoc}
+use Rattle.std.proofs.lemmas.List.{append-nil, drop-append-le}
+use Rattle.std.proofs.lemmas.List.Elements.{Contains-get_or}
+use Rattle.std.proofs.Common.{◌≡◌, ℕ, ◌+◌, ◌<◌, ◌≤◌, List, [], ◌∷◌, ◌++◌, Contains, length, drop, get_or, Option, Some, None, refl, sym, ap}
+use Rattle.std.proofs.Common.{subst, ◌∙◌, append_assoc, inr, arith}
 use Rattle.hprof_values.specs.declared.ids.IdSize.{IdSize}
 use Rattle.hprof_items.specs.FactValue.{FactValue}
+use Rattle.hprof_rows.proofs.Tables.{drop_from}
 use Rattle.hprof_layouts.specs.declared.slot.Slot.{Slot}
 use Rattle.hprof_layouts.specs.Layout.{IsKnown}
 use Rattle.hprof_laying.specs.declared.known.KnownLayouts.{KnownLayouts}
@@ -12,7 +14,7 @@ use Rattle.hprof_laying.specs.declared.plan.Outline.{Outline}
 use Rattle.hprof_laying.specs.declared.plan.Plan.{Plan}
 use Rattle.hprof_laying.specs.Known.{plan_of, waiting_below}
 use Rattle.hprof_laying.specs.Plan.{IsOutline, plan_below}
-use Rattle.hprof_laying.specs.Waking.{IsWaking, Standing, Wakes, Woke, put}
+use Rattle.hprof_laying.specs.Waking.{IsReady, IsWaking, Standing, Wakes, Woke, put}
 use Rattle.hprof_laying.proofs.Wakings.{first_unplanned, put-put, put-same, stands_without, stands_woken, woke_more}
 
 module _ (ids : IdSize) (facts : List FactValue) (before : ℕ → Option Plan) (class : ℕ) (pending old : List ℕ) where
@@ -88,3 +90,25 @@ module _ (ids : IdSize) (facts : List FactValue) (before : ℕ → Option Plan) 
           woke = subst (λ (p : ℕ → Option Plan). Woke before p old) (sym e) waking.woke;
         };
       }
+
+-- ---- one after the other
+
+-- the class at a place of the list is the next that is still to be woken below
+pub wakes_next : (ids : IdSize) (facts : List FactValue) (before : ℕ → Option Plan) (known : KnownLayouts) (woken : List ℕ) (place class : ℕ)
+    → place < length woken → class ≡ get_or woken place class → IsWaking ids facts before known woken (drop place woken)
+    → IsReady (plan_of known) class × IsWaking ids facts before known woken (class ∷ drop (place + 1) woken)
+wakes_next ids facts before known woken place class within is waking =
+    let next : drop place woken ≡ class ∷ drop (place + 1) woken =
+        drop_from woken place class within ∙ ap (λ (c : ℕ). c ∷ drop (place + 1) woken) (sym is) in
+    let there : Contains woken class = subst (Contains woken) (sym is) (Contains-get_or woken place class within) in
+    (inr (waking.woke.woke class there).0, subst (IsWaking ids facts before known woken) next waking)
+
+-- and then those behind it are, with the classes that it woke
+pub wakes_on : (ids : IdSize) (facts : List FactValue) (before : ℕ → Option Plan) (known : KnownLayouts) (old new : List ℕ) (place : ℕ)
+    → place < length old → Wakes ids facts before known old new (drop (place + 1) old)
+    → IsWaking ids facts before known new (drop (place + 1) new)
+wakes_on ids facts before known old new place within wakes =
+    let few : place + 1 ≤ length old = omega arith in
+    let rest : drop (place + 1) new ≡ drop (place + 1) old ++ wakes.more =
+        ap (drop (place + 1)) wakes.woken_are ∙ drop-append-le (place + 1) old wakes.more few in
+    subst (IsWaking ids facts before known new) (sym rest) wakes.waking

@@ -9,3 +9,4 @@ pub mod Gathered
 pub mod Hands
 pub mod Comings
 pub mod Pushes
+pub mod Laid
