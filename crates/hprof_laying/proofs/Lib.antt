@@ -10,3 +10,4 @@ pub mod Hands
 pub mod Comings
 pub mod Pushes
 pub mod Laid
+pub mod TableDumps
