@@ -1,6 +1,6 @@
 -- What a class that comes changes.
 use Rattle.std.specs.Prelude.{◌≢◌}
-use Rattle.std.proofs.Common.{◌≡◌, ℕ, List, [], ◌∷◌, ◌++◌, Contains, Option, Some, None, refl, sym, ap, subst, ◌∙◌, inl, inr}
+use Rattle.std.proofs.Common.{◌≡◌, ℕ, List, [], ◌∷◌, ◌++◌, Contains, Option, refl, sym, ap, subst, ◌∙◌, inl, inr}
 use Rattle.hprof_values.specs.declared.ids.IdSize.{IdSize}
 use Rattle.hprof_items.specs.FactValue.{FactValue}
 use Rattle.hprof_finding.specs.Classes.{ClassDump, HasNoDump}
@@ -12,7 +12,7 @@ use Rattle.hprof_laying.specs.declared.plan.Plan.{Plan}
 use Rattle.hprof_laying.specs.Known.{AreWoken, HasDumpMore, HasLayout, Knows, plan_of, waiting_below}
 use Rattle.hprof_laying.specs.OwnFields.{IsOwn}
 use Rattle.hprof_laying.specs.Waking.{IsReady, IsWaking, Standing, Wakes, Woke, put}
-use Rattle.hprof_laying.proofs.KnownPlans.{known_ready, knows_standing, not_both, ready_known, standing_knows}
+use Rattle.hprof_laying.proofs.KnownPlans.{known_ready, knows_standing, not_both, standing_knows}
 use Rattle.hprof_laying.proofs.Outlines.{known_zero}
 use Rattle.hprof_laying.proofs.Wakings.{stands_open, stands_waiting, stands_zero, woke_none}
 

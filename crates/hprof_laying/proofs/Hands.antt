@@ -1,7 +1,7 @@
 -- The classes that waited for a class, woken one by one.
 use Rattle.std.proofs.lemmas.List.{append-nil, drop-append-le}
 use Rattle.std.proofs.lemmas.List.Elements.{Contains-get_or}
-use Rattle.std.proofs.Common.{◌≡◌, ℕ, ◌+◌, ◌<◌, ◌≤◌, List, [], ◌∷◌, ◌++◌, Contains, length, drop, get_or, Option, Some, None, refl, sym, ap}
+use Rattle.std.proofs.Common.{◌≡◌, ℕ, ◌+◌, ◌<◌, ◌≤◌, List, [], ◌∷◌, ◌++◌, Contains, length, drop, get_or, Option, Some, refl, sym, ap}
 use Rattle.std.proofs.Common.{subst, ◌∙◌, append_assoc, inr, arith}
 use Rattle.hprof_values.specs.declared.ids.IdSize.{IdSize}
 use Rattle.hprof_items.specs.FactValue.{FactValue}
@@ -29,7 +29,7 @@ module _ (ids : IdSize) (facts : List FactValue) (before : ℕ → Option Plan) 
       → waits class ≡ rest → Standing ids facts plans waits (class ∷ pending) → Woke before plans old → InHand plans taken old rest
   hand_begins plans waits taken rest e f stands woke =
       let same : put taken class rest ≡ waits =
-          ap (λ (w : ℕ → List Waiting). put w class rest) e ∙ put-put waits class [] rest ∙ put-same waits class rest f in
+      ap (λ (w : ℕ → List Waiting). put w class rest) e ∙ put-put waits class [] rest ∙ put-same waits class rest f in
       record {
         more = [];
         woken_are = sym (append-nil old);
@@ -44,7 +44,7 @@ module _ (ids : IdSize) (facts : List FactValue) (before : ℕ → Option Plan) 
       → InHand after waits (woken ++ first.class ∷ []) later
   hand_more plans after waits woken rest later first slots outline known outline_are hand e f =
       let stands : Standing ids facts plans (put waits class (first ∷ later)) (class ∷ (pending ++ hand.more)) =
-          subst (λ (l : List Waiting). Standing ids facts plans (put waits class l) (class ∷ (pending ++ hand.more))) e hand.standing in
+      subst (λ (l : List Waiting). Standing ids facts plans (put waits class l) (class ∷ (pending ++ hand.more))) e hand.standing in
       let then = stands_woken ids facts plans waits class first later (pending ++ hand.more) stands slots known outline outline_are in
       let none = first_unplanned ids facts plans waits class first later (pending ++ hand.more) stands slots known outline outline_are in
       record {
@@ -63,7 +63,7 @@ module _ (ids : IdSize) (facts : List FactValue) (before : ℕ → Option Plan) 
       → waiting_below known class ≡ [] → Wakes ids facts before known old woken pending
   hand_ends known woken hand none =
       let stands = subst (λ (w : ℕ → List Waiting). Standing ids facts (plan_of known) w (class ∷ (pending ++ hand.more)))
-          (put-same (waiting_below known) class [] none) hand.standing in
+      (put-same (waiting_below known) class [] none) hand.standing in
       record {
         more = hand.more;
         woken_are = hand.woken_are;
@@ -80,8 +80,8 @@ module _ (ids : IdSize) (facts : List FactValue) (before : ℕ → Option Plan) 
   none_in_hand known other e f none waking =
       let stands = stands_without ids facts (plan_of known) (waiting_below known) (class ∷ pending) waking.standing class pending refl none in
       let stands_other : Standing ids facts (plan_of other) (waiting_below other) pending =
-          subst (λ (w : ℕ → List Waiting). Standing ids facts (plan_of other) w pending) (sym f)
-          (subst (λ (p : ℕ → Option Plan). Standing ids facts p (waiting_below known) pending) (sym e) stands) in
+      subst (λ (w : ℕ → List Waiting). Standing ids facts (plan_of other) w pending) (sym f)
+      (subst (λ (p : ℕ → Option Plan). Standing ids facts p (waiting_below known) pending) (sym e) stands) in
       record {
         more = [];
         woken_are = sym (append-nil old);
@@ -99,7 +99,7 @@ pub wakes_next : (ids : IdSize) (facts : List FactValue) (before : ℕ → Optio
     → IsReady (plan_of known) class × IsWaking ids facts before known woken (class ∷ drop (place + 1) woken)
 wakes_next ids facts before known woken place class within is waking =
     let next : drop place woken ≡ class ∷ drop (place + 1) woken =
-        drop_from woken place class within ∙ ap (λ (c : ℕ). c ∷ drop (place + 1) woken) (sym is) in
+    drop_from woken place class within ∙ ap (λ (c : ℕ). c ∷ drop (place + 1) woken) (sym is) in
     let there : Contains woken class = subst (Contains woken) (sym is) (Contains-get_or woken place class within) in
     (inr (waking.woke.woke class there).0, subst (IsWaking ids facts before known woken) next waking)
 
@@ -110,5 +110,5 @@ pub wakes_on : (ids : IdSize) (facts : List FactValue) (before : ℕ → Option 
 wakes_on ids facts before known old new place within wakes =
     let few : place + 1 ≤ length old = omega arith in
     let rest : drop (place + 1) new ≡ drop (place + 1) old ++ wakes.more =
-        ap (drop (place + 1)) wakes.woken_are ∙ drop-append-le (place + 1) old wakes.more few in
+    ap (drop (place + 1)) wakes.woken_are ∙ drop-append-le (place + 1) old wakes.more few in
     subst (IsWaking ids facts before known new) (sym rest) wakes.waking

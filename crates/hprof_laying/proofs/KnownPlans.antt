@@ -1,8 +1,8 @@
 -- What is known, told by what stands when no class is to be woken.
 use Rattle.std.specs.Prelude.{◌≢◌, IsTrue, is_some}
 use Rattle.std.specs.List.{IsDistinct}
-use Rattle.std.proofs.Common.{◌≡◌, ℕ, ◌<◌, ◌↔◌, Bool, true, false, List, [], ◌∷◌, ◌++◌, Contains, Option, Some, None, refl, sym, ap, subst, ◌∙◌}
-use Rattle.std.proofs.Common.{◌⊎◌, inl, inr, arith}
+use Rattle.std.proofs.Common.{◌≡◌, ℕ, ◌↔◌, Bool, true, false, List, [], ◌∷◌, ◌++◌, Contains, Option, Some, None, refl, sym, ap, subst, ◌∙◌}
+use Rattle.std.proofs.Common.{inl, inr, arith}
 use Rattle.std.proofs.lemmas.Bool.{cases_eq}
 use Rattle.hprof_values.specs.declared.ids.IdSize.{IdSize}
 use Rattle.hprof_items.specs.FactValue.{FactValue}
@@ -90,8 +90,10 @@ standing_knows ids facts known stands = record {
   each = stands.each;
   planned = planned_slots ids facts (plan_of known) (waiting_below known) stands;
   only = planned_known ids facts (plan_of known) (waiting_below known) stands;
-  waits = λ superclass waiting there. (stands.waits_are superclass waiting there,
-      waits_unknown ids facts (plan_of known) (waiting_below known) stands superclass waiting there);
+  waits = λ superclass waiting there. (
+    stands.waits_are superclass waiting there,
+    waits_unknown ids facts (plan_of known) (waiting_below known) stands superclass waiting there,
+  );
   all_wait = unknown_waits ids facts (plan_of known) (waiting_below known) stands;
   once = stands.once;
 }
@@ -131,8 +133,10 @@ module _ (ids : IdSize) (facts : List FactValue) (known : KnownLayouts) (knows :
         let only = knows.only class plan e in
         (only.1.0, knows.planned class only.1.0 only.0 only.1.1);
     waits_are = λ superclass waiting there. (knows.waits superclass waiting there).0;
-    unplanned = λ superclass waiting there. (no_zero superclass waiting there,
-        unplanned_when waiting.class (knows.waits superclass waiting there).1);
+    unplanned = λ superclass waiting there. (
+      no_zero superclass waiting there,
+      unplanned_when waiting.class (knows.waits superclass waiting there).1,
+    );
     all = λ dump has not_zero. elim (look (plan_of known dump.id)) [
       | There plan e ↦ inl (plan, e)
       | Nowhere e ↦ inr (knows.all_wait dump has (λ layout.
@@ -142,7 +146,7 @@ module _ (ids : IdSize) (facts : List FactValue) (known : KnownLayouts) (knows :
     closed = λ superclass waiting there.
         let waits = knows.waits superclass waiting there in
         let unknown : HasLayout facts superclass → ⊥ = λ layout.
-            waits.1 (below_known superclass waiting waits.0 (no_zero superclass waiting there) layout) in
+        waits.1 (below_known superclass waiting waits.0 (no_zero superclass waiting there) layout) in
         inr (λ e. unknown (subst (HasLayout facts) (sym e) ([], known_zero facts)), unplanned_when superclass unknown);
     once = knows.once;
   } where

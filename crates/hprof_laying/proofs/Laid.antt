@@ -2,14 +2,14 @@
 use Rattle.std.specs.Prelude.{◌≢◌}
 use Rattle.std.proofs.lemmas.List.{append-nil}
 use Rattle.std.proofs.lemmas.Bool.{cases_eq}
-use Rattle.std.proofs.Common.{◌≡◌, ℕ, ◌+◌, ◌-◌, ◌^◌, ◌<◌, ◌≤◌, min, List, [], ◌∷◌, ◌++◌, length, drop, Option, Some, None, refl, sym, ap, subst, ◌∙◌}
+use Rattle.std.proofs.Common.{◌≡◌, ℕ, ◌+◌, ◌^◌, ◌<◌, ◌≤◌, min, List, [], ◌++◌, length, drop, Option, Some, None, refl, sym, ap, subst, ◌∙◌}
 use Rattle.std.proofs.Common.{append_assoc, inl, inr, arith, length-append, length-drop}
 use Rattle.hprof_values.specs.declared.ids.IdSize.{IdSize}
 use Rattle.hprof_items.specs.FactValue.{FactValue}
 use Rattle.hprof_finding.specs.Classes.{ClassDump}
 use Rattle.hprof_layouts.specs.declared.slot.Slot.{Slot}
 use Rattle.hprof_layouts.specs.Fields.{width_of_slots}
-use Rattle.hprof_layouts.specs.Layout.{IsKnown, own_slots}
+use Rattle.hprof_layouts.specs.Layout.{own_slots}
 use Rattle.hprof_laying.specs.declared.known.KnownLayouts.{KnownLayouts}
 use Rattle.hprof_laying.specs.declared.plan.Jump.{Jump}
 use Rattle.hprof_laying.specs.declared.plan.Outline.{Outline}
@@ -17,7 +17,7 @@ use Rattle.hprof_laying.specs.declared.plan.Plan.{Plan}
 use Rattle.hprof_laying.specs.declared.reference.Reference.{Reference}
 use Rattle.hprof_laying.specs.Known.{HasLayout, HasPlan, Knows, plan_of, waiting_below}
 use Rattle.hprof_laying.specs.OwnFields.{IsOwn, references_in}
-use Rattle.hprof_laying.specs.Plan.{IsFirst, IsJump, IsOutline, IsPlan, most, most_wide, outline_at}
+use Rattle.hprof_laying.specs.Plan.{IsFirst, IsOutline, most, outline_at}
 use Rattle.hprof_laying.specs.Waking.{IsReady}
 use Rattle.hprof_laying.specs.References.{AreReferences}
 use Rattle.hprof_laying.proofs.KnownPlans.{There, Nowhere, known_ready, knows_standing, look, not_both, one_plan}
@@ -77,17 +77,17 @@ module _ (ids : IdSize) (facts : List FactValue) (slots : List Slot) (bytes : Li
         let is = planned.is in
         let dumps : here.dump ≡ is.dump = knows.each here.dump is.dump here.has is.has (here.id ∙ sym is.id) in
         let wide : 0 < width_of_slots ids (own_slots is.dump) =
-            subst (λ (d : ClassDump). 0 < width_of_slots ids (own_slots d)) dumps here.some in
+        subst (λ (d : ClassDump). 0 < width_of_slots ids (own_slots d)) dumps here.some in
         let own = is.own_are.width_is in
         let count = is.own_are.count_is in
         let left : laying.left ≡ here.before ++ (own_slots is.dump ++ is.slots_above) =
-            here.slots_are ∙ ap (λ (l : List Slot). here.before ++ l) is.slots_are in
+        here.slots_are ∙ ap (λ (l : List Slot). here.before ++ l) is.slots_are in
         let split : width_of_slots ids laying.left
-            ≡ width_of_slots ids here.before + width_of_slots ids (own_slots is.dump ++ is.slots_above) =
-            ap (width_of_slots ids) left ∙ width-append ids here.before (own_slots is.dump ++ is.slots_above) in
+        ≡ width_of_slots ids here.before + width_of_slots ids (own_slots is.dump ++ is.slots_above) =
+        ap (width_of_slots ids) left ∙ width-append ids here.before (own_slots is.dump ++ is.slots_above) in
         let split_rest = width-append ids (own_slots is.dump) is.slots_above in
         let lengths : length laying.left ≡ length here.before + length (own_slots is.dump ++ is.slots_above) =
-            ap length left ∙ length-append here.before (own_slots is.dump ++ is.slots_above) in
+        ap length left ∙ length-append here.before (own_slots is.dump ++ is.slots_above) in
         let lengths_rest = length-append (own_slots is.dump) is.slots_above in
         let offset = here.offset_is in
         let places = here.place_is in
@@ -171,20 +171,20 @@ module _ (ids : IdSize) (facts : List FactValue) (slots : List Slot) (bytes : Li
           let later_len : length later ≡ length (drop plan.own.width landed) = ap length e in
           let end_exact : end ≡ start + plan.own.count = omega arith in
           let above : references_in ids (start + length here.own) here.above (drop (width_of_slots ids here.own) landed)
-              ≡ references_in ids end here.above later =
-              ap (λ (w : ℕ). references_in ids (start + length here.own) here.above (drop w landed)) (sym own_width)
-              ∙ ap (λ (l : List ℕ). references_in ids (start + length here.own) here.above l) (sym e)
-              ∙ ap (λ (p : ℕ). references_in ids p here.above later)
-                  (let same : start + length here.own ≡ end = omega arith in same) in
+          ≡ references_in ids end here.above later =
+          ap (λ (w : ℕ). references_in ids (start + length here.own) here.above (drop w landed)) (sym own_width)
+          ∙ ap (λ (l : List ℕ). references_in ids (start + length here.own) here.above l) (sym e)
+          ∙ ap (λ (p : ℕ). references_in ids p here.above later)
+          (let same : start + length here.own ≡ end = omega arith in same) in
           let own_then : references_in ids place laying.left rest
-              ≡ references_in ids start here.own landed ++ references_in ids end here.above later =
-              ap (λ (l : List Slot). references_in ids place l rest) here.left_are
-              ∙ references_in-behind ids place laying.first.before (here.own ++ here.above) rest laying.first.none_refers
-              ∙ ap (λ (p : ℕ). references_in ids p (here.own ++ here.above) (drop (width_of_slots ids laying.first.before) rest))
-                  (let same : place + length laying.first.before ≡ start = let p = here.place_is in omega arith in same)
-              ∙ ap (λ (w : ℕ). references_in ids start (here.own ++ here.above) (drop w rest)) (sym here.offset_is)
-              ∙ references_in-append ids start here.own here.above landed
-              ∙ ap (λ (l : List Reference). references_in ids start here.own landed ++ l) above in
+          ≡ references_in ids start here.own landed ++ references_in ids end here.above later =
+          ap (λ (l : List Slot). references_in ids place l rest) here.left_are
+          ∙ references_in-behind ids place laying.first.before (here.own ++ here.above) rest laying.first.none_refers
+          ∙ ap (λ (p : ℕ). references_in ids p (here.own ++ here.above) (drop (width_of_slots ids laying.first.before) rest))
+          (let same : place + length laying.first.before ≡ start = let p = here.place_is in omega arith in same)
+          ∙ ap (λ (w : ℕ). references_in ids start (here.own ++ here.above) (drop w rest)) (sym here.offset_is)
+          ∙ references_in-append ids start here.own here.above landed
+          ∙ ap (λ (l : List Reference). references_in ids start here.own landed ++ l) above in
           record {
             left = here.above;
             first = here.first;
@@ -230,7 +230,7 @@ module _ (ids : IdSize) (facts : List FactValue) (known : KnownLayouts) (knows :
           let bare : outline ≡ record { width = 0; first = None } = ap (outline_at class) e in
           let none : width_of_slots ids [] ≡ length bytes = ap (λ (o : Outline). o.width) (sym bare) ∙ same in
           let are : IsOutline ids facts [] outline =
-              subst (IsOutline ids facts []) (sym bare) (record { width_is = refl; first_is = tt }) in
+          subst (IsOutline ids facts []) (sym bare) (record { width_is = refl; first_is = tt }) in
           subst (AreReferences ids facts class bytes) (sym (found [] are none))
           (no_references ids facts class bytes (λ values has. unknown_class e other (has.slots, has.known)))
     ]

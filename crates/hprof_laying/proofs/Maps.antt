@@ -1,5 +1,5 @@
 -- Maps by number as functions.
-use Rattle.std.specs.BTreeMap.{BTreeMap, get, get_by, is_at}
+use Rattle.std.specs.BTreeMap.{BTreeMap, get, is_at}
 use Rattle.std.specs.Cmp.{unsigned_tied}
 use Rattle.std.specs.Map.{lookup, remove_entry, values_of}
 use Rattle.std.specs.Option.{option_map_or, option_map, unwrap_or}
@@ -69,5 +69,5 @@ counted-taken known other superclass e =
     ap (λ (es : List (ℕ × Vec Waiting Global)). sum_by (λ (list : Vec Waiting Global). length list.items) (values_of es)
     + length (list_in (lookup test entries))) e
     ∙ ap (λ (n : ℕ). sum_by (λ (list : Vec Waiting Global). length list.items) (values_of (remove_entry test entries)) + n)
-        (sym (length-list_in (lookup test entries)))
+    (sym (length-list_in (lookup test entries)))
     ∙ rest

@@ -78,7 +78,7 @@ module _ (ids : IdSize) (facts : List FactValue) where
     width_is = stopped_sum outline.width (width_of_slots ids slots) own.width (width_of_slots ids (own_slots dump ++ slots)) most_wide
         is.width_is (width-append ids (own_slots dump) slots
         ∙ (let e = own_are.width_is in let sum : width_of_slots ids (own_slots dump) + width_of_slots ids slots
-            ≡ width_of_slots ids slots + own.width = omega arith in sum));
+        ≡ width_of_slots ids slots + own.width = omega arith in sum));
     own_are = own_are;
     above_is = is.first_is;
   }
@@ -129,7 +129,7 @@ module _ (ids : IdSize) (facts : List FactValue) where
         let wide = is.own_are.width_is in
         let long = is.own_are.count_is in
         let width : width_of_slots ids (own ++ above.before) ≡ width_of_slots ids above.before + plan.own.width =
-            width-append ids own above.before ∙ omega arith in
+        width-append ids own above.before ∙ omega arith in
         let count : length (own ++ above.before) ≡ length above.before + plan.own.count = length-append own above.before ∙ omega arith in
         record {
           before = own ++ above.before;

@@ -1,9 +1,9 @@
 -- Fields that refer to something, with what lies before each.
 use Rattle.std.specs.List.{AllByRecursion}
-use Rattle.std.proofs.lemmas.List.{append-nil, drop-drop, map-append}
+use Rattle.std.proofs.lemmas.List.{drop-drop}
 use Rattle.std.proofs.lemmas.List.Sums.{sum_by-cons, sum_by-append}
-use Rattle.std.proofs.Common.{◌≡◌, ℕ, ◌+◌, ◌<◌, ◌≤◌, Bool, true, false, cond, List, [], ◌∷◌, ◌++◌, map, length, drop, get_or, refl, sym, ap, subst, ◌∙◌}
-use Rattle.std.proofs.Common.{append_assoc, add_assoc, arith, length-append}
+use Rattle.std.proofs.Common.{◌≡◌, ℕ, ◌+◌, ◌<◌, ◌≤◌, Bool, true, false, cond, List, [], ◌∷◌, ◌++◌, map, length, drop, refl, sym, ap, ◌∙◌}
+use Rattle.std.proofs.Common.{append_assoc, arith}
 use Rattle.byteorder.specs.Endian.{big_number}
 use Rattle.hprof_values.specs.declared.ids.IdSize.{IdSize}
 use Rattle.hprof_values.specs.declared.ids.IdSize.TheVariants as sizes
@@ -74,18 +74,18 @@ module _ (ids : IdSize) where
   references_in-append place [] others bytes =
       ap (λ (p : ℕ). references_in ids p others bytes) (let e : place ≡ place + 0 = omega arith in e)
   references_in-append place (slot ∷ slots) others bytes =
-      let head = cond (refers slot.basic) (record { place = place; to = big_number (width_of_basic ids slot.basic) bytes } ∷ []) [] in
+      let head : List Reference = cond (refers slot.basic) (record { place = place; to = big_number (width_of_basic ids slot.basic) bytes } ∷ []) [] in
       let behind = drop (width_of_basic ids slot.basic) bytes in
       let places : (place + 1) + length slots ≡ place + length (slot ∷ slots) = omega arith in
       let widths : width_of_basic ids slot.basic + width_of_slots ids slots ≡ width_of_slots ids (slot ∷ slots) = sym (width-cons slot slots) in
       ap (λ (l : List Reference). head ++ l)
       (references_in-append (place + 1) slots others behind
       ∙ ap (λ (l : List ℕ). references_in ids (place + 1) slots behind ++ references_in ids ((place + 1) + length slots) others l)
-          (drop-drop (width_of_slots ids slots) (width_of_basic ids slot.basic) bytes ∙ ap (λ (n : ℕ). drop n bytes) widths)
+      (drop-drop (width_of_slots ids slots) (width_of_basic ids slot.basic) bytes ∙ ap (λ (n : ℕ). drop n bytes) widths)
       ∙ ap (λ (p : ℕ). references_in ids (place + 1) slots behind
-          ++ references_in ids p others (drop (width_of_slots ids (slot ∷ slots)) bytes)) places)
+      ++ references_in ids p others (drop (width_of_slots ids (slot ∷ slots)) bytes)) places)
       ∙ sym (append_assoc head (references_in ids (place + 1) slots behind)
-          (references_in ids (place + length (slot ∷ slots)) others (drop (width_of_slots ids (slot ∷ slots)) bytes)))
+      (references_in ids (place + length (slot ∷ slots)) others (drop (width_of_slots ids (slot ∷ slots)) bytes)))
 
   -- slots that refer to nothing
   pub references_in-none : (place : ℕ) (slots : List Slot) (bytes : List ℕ) → NoneRefers slots → references_in ids place slots bytes ≡ []
@@ -115,11 +115,11 @@ module _ (ids : IdSize) where
   referring-none offset place (slot ∷ slots) e =
       let rest = referring ids (offset + width_of_basic ids slot.basic) (place + 1) slots in
       let go : (t : Bool) → refers slot.basic ≡ t → cond t (record { offset = offset; place = place } ∷ []) [] ++ rest ≡ []
-          → (refers slot.basic ≡ false) × NoneRefers slots = λ t is same. elim t as (λ v. refers slot.basic ≡ v
-          → cond v (record { offset = offset; place = place } ∷ []) [] ++ rest ≡ [] → (refers slot.basic ≡ false) × NoneRefers slots) [
-            | true ↦ λ yes clash. absurd cc
-            | false ↦ λ no none. (no, referring-none (offset + width_of_basic ids slot.basic) (place + 1) slots none)
-          ] is same in
+      → (refers slot.basic ≡ false) × NoneRefers slots = λ t is same. elim t as (λ v. refers slot.basic ≡ v
+      → cond v (record { offset = offset; place = place } ∷ []) [] ++ rest ≡ [] → (refers slot.basic ≡ false) × NoneRefers slots) [
+        | true ↦ λ yes clash. absurd cc
+        | false ↦ λ no none. (no, referring-none (offset + width_of_basic ids slot.basic) (place + 1) slots none)
+      ] is same in
       go (refers slot.basic) refl e
 
   -- where there is one, there are bytes
@@ -143,13 +143,13 @@ module _ (ids : IdSize) where
       let rest = referring ids (offset + width) (before + 1) slots in
       let places : place + (before + 1) ≡ (place + before) + 1 = omega arith in
       let later : map (reference_at place bytes) rest ≡ references_in ids ((place + before) + 1) slots (drop width (drop offset bytes)) =
-          references_in-referring place bytes (offset + width) (before + 1) slots
-          ∙ ap (λ (p : ℕ). references_in ids p slots (drop (offset + width) bytes)) places
-          ∙ ap (λ (l : List ℕ). references_in ids ((place + before) + 1) slots l) (sym (drop-drop width offset bytes)) in
+      references_in-referring place bytes (offset + width) (before + 1) slots
+      ∙ ap (λ (p : ℕ). references_in ids p slots (drop (offset + width) bytes)) places
+      ∙ ap (λ (l : List ℕ). references_in ids ((place + before) + 1) slots l) (sym (drop-drop width offset bytes)) in
       elim (refers slot.basic) as (λ t. refers slot.basic ≡ t
-          → map (reference_at place bytes) (cond t (record { offset = offset; place = before } ∷ []) [] ++ rest)
-          ≡ cond t (record { place = place + before; to = big_number width (drop offset bytes) } ∷ []) []
-          ++ references_in ids ((place + before) + 1) slots (drop width (drop offset bytes))) [
+      → map (reference_at place bytes) (cond t (record { offset = offset; place = before } ∷ []) [] ++ rest)
+      ≡ cond t (record { place = place + before; to = big_number width (drop offset bytes) } ∷ []) []
+      ++ references_in ids ((place + before) + 1) slots (drop width (drop offset bytes))) [
         | true ↦ λ yes. ap (λ (l : List Reference). reference_at place bytes (record { offset = offset; place = before }) ∷ l) later
             ∙ ap (λ (n : ℕ). record { place = place + before; to = big_number n (drop offset bytes) }
             ∷ references_in ids ((place + before) + 1) slots (drop width (drop offset bytes))) (sym (refers_width ids slot.basic yes))
@@ -170,7 +170,7 @@ module _ (ids : IdSize) where
       let counts : (place + 1) + length slots ≡ count = omega arith in
       let rest = referring-within (offset + width) (place + 1) end count slots ends counts in
       elim (refers slot.basic) as (λ t. refers slot.basic ≡ t → AllByRecursion (IsWithin end count)
-          (cond t (record { offset = offset; place = place } ∷ []) [] ++ referring ids (offset + width) (place + 1) slots)) [
+      (cond t (record { offset = offset; place = place } ∷ []) [] ++ referring ids (offset + width) (place + 1) slots)) [
         | true ↦ λ yes. let wide = refers_width ids slot.basic yes in ((omega arith, omega arith), rest)
         | false ↦ λ no. rest
       ] refl

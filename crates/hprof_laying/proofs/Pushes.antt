@@ -1,17 +1,16 @@
 -- What own fields refer to, put one by one behind other references.
 use Rattle.std.specs.List.{AllByRecursion}
-use Rattle.std.proofs.Common.{◌≡◌, ℕ, zero, suc, ◌+◌, ◌-◌, ◌^◌, ◌<◌, ◌≤◌, min, List, [], ◌∷◌, ◌++◌, map, length, get_or, drop, refl, sym, ap, subst, ◌∙◌}
+use Rattle.std.proofs.Common.{◌≡◌, ℕ, zero, suc, ◌+◌, ◌-◌, ◌^◌, ◌<◌, min, List, [], ◌∷◌, ◌++◌, map, length, get_or, drop, sym, ap, subst, ◌∙◌}
 use Rattle.std.proofs.Common.{append_assoc, arith}
 use Rattle.byteorder.specs.Endian.{big_number}
 use Rattle.hprof_values.specs.declared.ids.IdSize.{IdSize}
 use Rattle.hprof_values.specs.Ids.{width_of}
 use Rattle.hprof_rows.proofs.Tables.{drop_from}
 use Rattle.hprof_layouts.specs.declared.slot.Slot.{Slot}
-use Rattle.hprof_layouts.specs.Fields.{width_of_slots}
 use Rattle.hprof_laying.specs.declared.reference.Reference.{Reference}
 use Rattle.hprof_laying.specs.declared.own_fields.OwnReference.{OwnReference}
 use Rattle.hprof_laying.specs.declared.own_fields.OwnFields.{OwnFields}
-use Rattle.hprof_laying.specs.OwnFields.{IsOwn, referring, references_in}
+use Rattle.hprof_laying.specs.OwnFields.{IsOwn, references_in}
 use Rattle.hprof_laying.proofs.Places.{IsWithin, reference_at, references_in-referring, referring-within}
 
 -- what holds of each element holds at a place
@@ -35,7 +34,7 @@ module _ (ids : IdSize) (bytes : List ℕ) (place : ℕ) (own : OwnFields) (slot
         let width = are.width_is in
         let all = referring-within ids 0 0 own.width (length slots) slots (omega arith) (omega arith) in
         let all_own : AllByRecursion (IsWithin ids own.width (length slots)) own.references.items =
-            subst (AllByRecursion (IsWithin ids own.width (length slots))) (sym are.references_are) all in
+        subst (AllByRecursion (IsWithin ids own.width (length slots))) (sym are.references_are) all in
         subst (IsWithin ids own.width (length slots)) (sym is)
         (at_place (IsWithin ids own.width (length slots)) own.references.items at d all_own within)
 
@@ -48,8 +47,8 @@ module _ (ids : IdSize) (bytes : List ℕ) (place : ℕ) (own : OwnFields) (slot
         let lt = one_within.1 in
         let exact : placed ≡ place + one.place = omega arith in
         let next : drop at own.references.items ≡ one ∷ drop (at + 1) own.references.items =
-            drop_from own.references.items at d within
-            ∙ ap (λ (r : OwnReference). r ∷ drop (at + 1) own.references.items) (sym is) in
+        drop_from own.references.items at d within
+        ∙ ap (λ (r : OwnReference). r ∷ drop (at + 1) own.references.items) (sym is) in
         append_assoc references (record { place = placed; to = big_number (width_of ids) (drop one.offset bytes) } ∷ [])
         (map (reference_at ids place bytes) (drop (at + 1) own.references.items))
         ∙ ap (λ (n : ℕ). references ++ (record { place = n; to = big_number (width_of ids) (drop one.offset bytes) }

@@ -1,5 +1,5 @@
 -- What an instance refers to, as a set and in order.
-use Rattle.std.specs.Prelude.{◌≢◌, slice_get}
+use Rattle.std.specs.Prelude.{slice_get}
 use Rattle.std.specs.Cmp.{nat_cmp_is}
 use Rattle.std.specs.List.{AllByRecursion}
 use Rattle.std.specs.List.Sorted.{IsStrictlySortedBy, IsStrictlyIncreasing}
@@ -7,7 +7,7 @@ use Rattle.std.specs.Ordering.{nat_cmp}
 use Rattle.std.specs.declared.cmp.Ordering.TheVariants.{Less}
 use Rattle.std.proofs.lemmas.Map.Keys.{IsStrictlyIncreasing-from_sorted}
 use Rattle.std.proofs.lemmas.List.Elements.{Contains-append_left, Contains-append_right, Contains-append_cases, Contains-push, Contains-push_cases}
-use Rattle.std.proofs.Common.{◌≡◌, ℕ, zero, suc, ◌+◌, ◌<◌, ◌≤◌, Bool, true, false, cond, List, [], ◌∷◌, ◌++◌, map, length, drop, Contains, Some, None}
+use Rattle.std.proofs.Common.{◌≡◌, ℕ, zero, suc, ◌+◌, ◌<◌, Bool, true, false, cond, List, [], ◌∷◌, ◌++◌, map, length, drop, Contains, Some}
 use Rattle.std.proofs.Common.{refl, sym, ap, subst, ◌∙◌, inl, inr, arith}
 use Rattle.byteorder.specs.Endian.{big_number}
 use Rattle.hprof_values.specs.declared.ids.IdSize.{IdSize}
@@ -84,8 +84,8 @@ module _ (ids : IdSize) where
       let rest = references_in ids (place + 1) slots (drop (width_of_basic ids slot.basic) bytes) in
       let first : Reference = record { place = place; to = big_number (width_of_basic ids slot.basic) bytes } in
       let is : first ≡ record { place = place + 0; to = value.bits } =
-          ap (λ (n : ℕ). record { place = n; to = big_number (width_of_basic ids slot.basic) bytes }) (let e : place ≡ place + 0 = omega arith in e)
-          ∙ ap (λ (v : FieldValue). record { place = place + 0; to = v.bits }) same in
+      ap (λ (n : ℕ). record { place = n; to = big_number (width_of_basic ids slot.basic) bytes }) (let e : place ≡ place + 0 = omega arith in e)
+      ∙ ap (λ (v : FieldValue). record { place = place + 0; to = v.bits }) same in
       subst (λ (r : Reference). Contains (first_of place slot bytes (refers slot.basic) ++ rest) r) is
       (subst (λ (t : Bool). Contains (first_of place slot bytes t ++ rest) first) (sym refers_slot)
       (Contains-append_left (first ∷ []) rest first (Contains-push [] first)))
@@ -109,7 +109,7 @@ module _ (ids : IdSize) where
       let behind = drop (width_of_basic ids slot.basic) bytes in
       let rest = all_above least (place + 1) slots behind (omega arith) in
       elim (refers slot.basic) as (λ t. AllByRecursion (λ other. nat_cmp least other ≡ Less)
-          (map (λ (r : Reference). r.place) (first_of place slot bytes t ++ references_in ids (place + 1) slots behind))) [
+      (map (λ (r : Reference). r.place) (first_of place slot bytes t ++ references_in ids (place + 1) slots behind))) [
         | true ↦ (sym (nat_cmp_is least place Less lt), rest)
         | false ↦ rest
       ]
@@ -122,7 +122,7 @@ module _ (ids : IdSize) where
       let behind = drop (width_of_basic ids slot.basic) bytes in
       let rest = sorted (place + 1) slots behind in
       elim (refers slot.basic) as (λ t. IsStrictlySortedBy nat_cmp
-          (map (λ (r : Reference). r.place) (first_of place slot bytes t ++ references_in ids (place + 1) slots behind))) [
+      (map (λ (r : Reference). r.place) (first_of place slot bytes t ++ references_in ids (place + 1) slots behind))) [
         | true ↦ (all_above place (place + 1) slots behind (omega arith), rest)
         | false ↦ rest
       ]
@@ -158,12 +158,12 @@ module _ (ids : IdSize) (facts : List FactValue) (class : ℕ) (bytes : List ℕ
     back : (reference : Reference) → HasReference ids facts class bytes reference → Contains (references_in ids 0 slots bytes) reference
     back reference has =
         let same : has.values ≡ values_in ids slots bytes =
-            has.values_are.values_are ∙ ap (λ (l : List Slot). values_in ids l bytes) (one has.values_are.slots has.values_are.known) in
+        has.values_are.values_are ∙ ap (λ (l : List Slot). values_in ids l bytes) (one has.values_are.slots has.values_are.known) in
         let here : slice_get (values_in ids slots bytes) reference.place ≡ Some has.value =
-            subst (λ (l : List FieldValue). slice_get l reference.place ≡ Some has.value) same has.there in
+        subst (λ (l : List FieldValue). slice_get l reference.place ≡ Some has.value) same has.there in
         let is : record { place = 0 + reference.place; to = has.value.bits } ≡ reference =
-            ap (λ (n : ℕ). record { place = n; to = has.value.bits }) (let e : 0 + reference.place ≡ reference.place = omega arith in e)
-            ∙ ap (λ (n : ℕ). record { place = reference.place; to = n }) has.to_is in
+        ap (λ (n : ℕ). record { place = n; to = has.value.bits }) (let e : 0 + reference.place ≡ reference.place = omega arith in e)
+        ∙ ap (λ (n : ℕ). record { place = reference.place; to = n }) has.to_is in
         subst (λ (r : Reference). Contains (references_in ids 0 slots bytes) r) is
         (values_in-there ids 0 slots bytes reference.place has.value here has.refers_is)
 

@@ -1,7 +1,5 @@
 -- The class dumps of a heap, that come one by one.
-use Rattle.std.specs.Prelude.{◌≢◌}
-use Rattle.std.specs.List.{AllByRecursion}
-use Rattle.std.proofs.Common.{◌≡◌, ℕ, ◌↔◌, ◌⊎◌, List, [], ◌∷◌, ◌++◌, Some, refl, sym, ap, subst, ◌∙◌, inl, inr, append_assoc}
+use Rattle.std.proofs.Common.{◌≡◌, ℕ, ◌⊎◌, List, [], ◌∷◌, ◌++◌, Some, refl, sym, ap, subst, ◌∙◌, inl, inr, append_assoc}
 use Rattle.std.proofs.lemmas.List.{append-nil}
 use Rattle.hprof_values.specs.declared.ids.IdSize.{IdSize}
 use Rattle.hprof_items.specs.FactValue.{FactValue}
@@ -71,11 +69,11 @@ module _ (ids : IdSize) (all left later : List FactValue) (known other : KnownLa
       → Coming ids all later other
   came_more dump is ordered comes =
       let here : IsCanonicalOrder (coming.came ++ fact_of_dump dump ∷ later) =
-          subst (λ (f : FactValue). IsCanonicalOrder (coming.came ++ f ∷ later)) (sym is)
-          (subst (λ (l : List FactValue). IsCanonicalOrder (coming.came ++ l)) next (subst IsCanonicalOrder coming.all_are ordered)) in
+      subst (λ (f : FactValue). IsCanonicalOrder (coming.came ++ f ∷ later)) (sym is)
+      (subst (λ (l : List FactValue). IsCanonicalOrder (coming.came ++ l)) next (subst IsCanonicalOrder coming.all_are ordered)) in
       let more : Knows ids (coming.came ++ fact_of_dump dump ∷ []) other =
-          comes coming.came (coming.came ++ fact_of_dump dump ∷ []) coming.knows (first_of_class coming.came later dump here)
-          (one_dump_more coming.came dump) in
+      comes coming.came (coming.came ++ fact_of_dump dump ∷ []) coming.knows (first_of_class coming.came later dump here)
+      (one_dump_more coming.came dump) in
       record {
         came = coming.came ++ fact ∷ [];
         all_are = parts;
@@ -104,8 +102,10 @@ pub all_came : (ids : IdSize) (facts left : List FactValue) (known : KnownLayout
 all_came ids facts left known coming none =
     let table = facts_of_table tables.Classes facts in
     let same : table ≡ coming.came =
-        coming.all_are ∙ ap (λ (l : List FactValue). coming.came ++ l) none ∙ append-nil coming.came in
+    coming.all_are ∙ ap (λ (l : List FactValue). coming.came ++ l) none ∙ append-nil coming.came in
     knows_same ids table facts known
-    (λ dump. (λ has. dump_in_table facts dump has,
-    λ has. (picked_is (stands_in (number_of_table tables.Classes)) facts (fact_of_dump dump) has).has))
+    (λ dump. (
+      λ has. dump_in_table facts dump has,
+      λ has. (picked_is (stands_in (number_of_table tables.Classes)) facts (fact_of_dump dump) has).has,
+    ))
     (subst (λ (l : List FactValue). Knows ids l known) (sym same) coming.knows)

@@ -3,13 +3,13 @@ use Rattle.std.specs.Prelude.{◌≢◌}
 use Rattle.std.specs.Cmp.{nat_eq_equiv}
 use Rattle.std.specs.List.{IsDistinct, AllByRecursion, list_any}
 use Rattle.std.proofs.Math.Path.{fun_ext}
-use Rattle.std.proofs.lemmas.Bool.{cases_eq, eq-eqb, eqb-true, false_from_ne_true, or_cases}
-use Rattle.std.proofs.lemmas.List.{map-append, append-nil}
+use Rattle.std.proofs.lemmas.Bool.{cases_eq, eq-eqb, eqb-true, false_from_ne_true}
+use Rattle.std.proofs.lemmas.List.{map-append}
 use Rattle.std.proofs.lemmas.List.Elements.{Contains-append_left, Contains-append_right, Contains-append_cases, Contains-push, Contains-push_cases}
 use Rattle.std.proofs.lemmas.Map.Keys.{IsDistinct-push, IsDistinct-head, IsDistinct-tail}
 use Rattle.std.proofs.lemmas.Map.Views.{Contains-from_any}
-use Rattle.std.proofs.Common.{◌≡◌, ℕ, ◌==◌, ◌<◌, Bool, true, false, cond, ◌||◌, List, [], ◌∷◌, ◌++◌, map, length, Contains, Option, Some, None, nat_eq}
-use Rattle.std.proofs.Common.{refl, sym, ap, subst, ◌∙◌, ◌⊎◌, inl, inr, arith, append_assoc}
+use Rattle.std.proofs.Common.{◌≡◌, ℕ, ◌==◌, Bool, true, false, cond, List, [], ◌∷◌, ◌++◌, map, Contains, Option, Some, None, nat_eq}
+use Rattle.std.proofs.Common.{refl, sym, ap, subst, ◌∙◌, ◌⊎◌, inl, inr}
 use Rattle.hprof_values.specs.declared.ids.IdSize.{IdSize}
 use Rattle.hprof_items.specs.FactValue.{FactValue}
 use Rattle.hprof_finding.specs.Classes.{ClassDump, HasDump, HasNoDump}
@@ -19,7 +19,7 @@ use Rattle.hprof_laying.specs.declared.own_fields.OwnFields.{OwnFields}
 use Rattle.hprof_laying.specs.declared.known.Waiting.{Waiting}
 use Rattle.hprof_laying.specs.declared.plan.Outline.{Outline}
 use Rattle.hprof_laying.specs.declared.plan.Plan.{Plan}
-use Rattle.hprof_laying.specs.Known.{HasDumpMore, HasLayout, HasPlan, IsOnceEach, IsWaiting, Waits}
+use Rattle.hprof_laying.specs.Known.{HasDumpMore, HasPlan, IsOnceEach, IsWaiting, Waits}
 use Rattle.hprof_laying.specs.OwnFields.{IsOwn}
 use Rattle.hprof_laying.specs.Plan.{IsOutline, IsPlan, outline_at, plan_below}
 use Rattle.hprof_laying.specs.Waking.{IsPlanned, IsReady, Standing, Woke, put}
@@ -157,10 +157,13 @@ module _ (ids : IdSize) (facts : List FactValue) (plans : ℕ → Option Plan) (
       | inl some ↦
           let same : class ≡ superclass = one_there class superclass (subst (λ (l : List ℕ). Contains l superclass) e some) in
           let not_ready : IsReady plans superclass → ⊥ = subst (λ (s : ℕ). IsReady plans s → ⊥) same unready in
-          inr (λ is_zero. not_ready (inl is_zero), elim (look (plans superclass)) [
-            | There plan is ↦ absurd (not_ready (inr (plan, is)))
-            | Nowhere is ↦ is
-          ])
+          inr (
+            λ is_zero. not_ready (inl is_zero),
+            elim (look (plans superclass)) [
+              | There plan is ↦ absurd (not_ready (inr (plan, is)))
+              | Nowhere is ↦ is
+            ],
+          )
     ];
     once = stands.once;
   }
@@ -255,8 +258,8 @@ module _ (ids : IdSize) (facts more : List FactValue) (plans : ℕ → Option Pl
       | inl same ↦ subst IsOnceEach (sym (put-here waits dump.parent _ superclass same))
           (subst (IsDistinct nat_eq) (sym (map-append (λ (w : Waiting). w.class) (waits dump.parent) (comer ∷ [])))
           (distinct_push (classes_of (waits dump.parent)) dump.id (stands.once dump.parent) (λ there.
-            let found = of_classes (waits dump.parent) dump.id there in
-            not_waiting dump.parent found.0 found.1 found.2)))
+          let found = of_classes (waits dump.parent) dump.id there in
+          not_waiting dump.parent found.0 found.1 found.2)))
     ]
 
     pub stands_waiting : Standing ids more plans waits_more (dump.parent ∷ [])
@@ -363,11 +366,14 @@ module _ (ids : IdSize) (facts : List FactValue) (plans : ℕ → Option Plan) (
 
   plans_are_after : (at : ℕ) (plan : Plan) → plans_after at ≡ Some plan → (own : List Slot) × HasPlan ids facts plans_after at own
   plans_are_after at plan e = elim (cases_eq at first.class) [
-    | inl same ↦ (own_slots first_is.dump ++ slots, record {
-      plan = plan_first;
-      found = put-here plans first.class (Some plan_first) at same;
-      is = subst (λ (c : ℕ). IsPlan ids facts c (own_slots first_is.dump ++ slots) plan_first) (sym same) first_plan;
-    })
+    | inl same ↦ (
+      own_slots first_is.dump ++ slots,
+      record {
+        plan = plan_first;
+        found = put-here plans first.class (Some plan_first) at same;
+        is = subst (λ (c : ℕ). IsPlan ids facts c (own_slots first_is.dump ++ slots) plan_first) (sym same) first_plan;
+      },
+    )
     | inr other ↦
         let stay = put-other plans first.class (Some plan_first) at other in
         let has = stands.plans_are at plan (sym stay ∙ e) in
@@ -452,8 +458,8 @@ woke_more before plans woken class plan was none = record {
         ((plan, put-here plans class (Some plan) class refl), new)
   ];
   once = distinct_push woken class was.once (λ there.
-    let woke = was.woke class there in
-    not_both (plans class) woke.0.0 woke.0.1 none);
+      let woke = was.woke class there in
+      not_both (plans class) woke.0.0 woke.0.1 none);
 } where
   planned_more : (other : ℕ) → IsPlanned plans other → IsPlanned (put plans class (Some plan)) other
   planned_more other planned = elim (cases_eq other class) [

@@ -6,7 +6,7 @@ use Rattle.hprof_rows.specs.FactsLeft.{facts_left}
 use Rattle.hprof_rows.specs.Order.{IsCanonicalOrder}
 use Rattle.hprof_rows.specs.Tables.{facts_of_table}
 use Rattle.hprof_finding.specs.ClassRow.{dump_of}
-use Rattle.hprof_finding.specs.HeapFacts.{facts_of, size_of}
+use Rattle.hprof_finding.specs.HeapFacts.{facts_of}
 use Rattle.hprof_laying.specs.Known.{Knows}
 use Rattle.hprof_laying.proofs.TableDumps.{all_came, came_more, came_other}
 use Rattle.hprof_laying.proofs.of_heap.known_layouts.Goals as goal

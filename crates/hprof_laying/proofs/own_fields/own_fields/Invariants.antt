@@ -1,5 +1,4 @@
 use Rattle.std.specs.Prelude.{map}
-use Rattle.std.proofs.Common.{◌≡◌, ◌+◌, ◌*◌, ◌≤◌, ◌++◌, length}
 use Rattle.hprof_lists.specs.Lists.{fields_left}
 use Rattle.hprof_lists.specs.Value.{field_of}
 use Rattle.hprof_layouts.specs.Layout.{slot_of}

@@ -1,10 +1,9 @@
-use Rattle.std.proofs.Common.{◌≡◌, ℕ, true, false, List, [], ◌∷◌, sym, ap, subst, ◌∙◌}
+use Rattle.std.proofs.Common.{◌≡◌, ℕ, true, false, List, [], ◌∷◌, sym, subst, ◌∙◌}
 use Rattle.hprof_items.specs.FactValue.{FactValue}
 use Rattle.hprof_finding.specs.Classes.{HasNoDump}
 use Rattle.hprof_finding.specs.ClassRow.{dump_of}
-use Rattle.hprof_laying.specs.declared.known.KnownLayouts.{KnownLayouts}
 use Rattle.hprof_laying.specs.Known.{AreWoken, HasDumpMore, Knows, plan_of}
-use Rattle.hprof_laying.specs.Waking.{IsReady, IsWaking, Wakes}
+use Rattle.hprof_laying.specs.Waking.{IsReady, IsWaking}
 use Rattle.hprof_laying.proofs.Comings.{are_woken, waits_then, wakes_first, wakes_then, waking_ends, zero_comes}
 use Rattle.hprof_laying.proofs.Wakings.{woke_none}
 use Rattle.hprof_laying.proofs.known.KnownLayouts.come.Goals as goal
@@ -44,7 +43,7 @@ waking_is_over c facts more knows new are =
           rw (w.self-is, w.woken-is) all
       | else-knows w ↦
           let unready : IsReady (plan_of other) c.args.row.now.parent → ⊥ = λ ready.
-              let clash : true ≡ false = sym (c.knows.ensures.ready.1 ready) ∙ w.if-knows.false in cc in
+          let clash : true ≡ false = sym (c.knows.ensures.ready.1 ready) ∙ w.if-knows.false in cc in
           let waits = waits_then ids facts more known knows dump new are other c.in_ok-own.own c.in_ok-own.ensures c.if-row-eq0.false
           c.in_ok-wait.ensures.plans c.in_ok-wait.ensures.waits unready in
           rw (w.self-is, w.woken-is, none) waits

@@ -45,8 +45,8 @@ loop-next-preserved c = λ facts slots knows are fills.
     let start_is = c.saturating_add-start.ensures in
     let landed : c.split_at.result.1.now ≡ drop jump.offset c.loop-next.rest.now = c.split_at.ensures.back in
     let was : Laying ids facts slots bytes (Some jump) c.loop-next.rest.now c.loop-next.place old =
-        subst (λ (next : Option Jump). Laying ids facts slots bytes next c.loop-next.rest.now c.loop-next.place old) c.in-Some.is
-        (c.loop-next.invariant facts slots knows are fills) in
+    subst (λ (next : Option Jump). Laying ids facts slots bytes next c.loop-next.rest.now c.loop-next.place old) c.in-Some.is
+    (c.loop-next.invariant facts slots knows are fills) in
     let own = own_here ids facts slots bytes known knows jump c.loop-next.rest.now c.loop-next.place old was plan found start start_is in
     let pushed = c.in_ok-push_references.ensures own
     (own_are ids facts slots bytes known knows jump c.loop-next.rest.now c.loop-next.place old was plan found start start_is)

@@ -1,4 +1,4 @@
-use Rattle.std.proofs.Common.{◌≡◌, ◌≤◌, List, length}
+use Rattle.std.proofs.Common.{◌≡◌, List, length}
 use Rattle.hprof_items.specs.FactValue.{FactValue}
 use Rattle.hprof_layouts.specs.declared.slot.Slot.{Slot}
 use Rattle.hprof_layouts.specs.Fields.{width_of_slots}

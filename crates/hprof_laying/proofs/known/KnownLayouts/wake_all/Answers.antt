@@ -1,5 +1,5 @@
 use Rattle.std.proofs.lemmas.List.{drop_all}
-use Rattle.std.proofs.Common.{◌≡◌, ◌+◌, ◌<◌, ◌≤◌, length, drop, subst, arith}
+use Rattle.std.proofs.Common.{◌+◌, ◌<◌, ◌≤◌, length, drop, subst, arith}
 use Rattle.hprof_laying.specs.Waking.{IsWaking}
 use Rattle.hprof_laying.proofs.Hands.{wakes_next, wakes_on}
 use Rattle.hprof_laying.proofs.known.KnownLayouts.wake_all.Goals as goal

@@ -1,7 +1,7 @@
 use Rattle.std.specs.BTreeMap.{get, is_at}
 use Rattle.std.specs.Ordering.{nat_cmp}
 use Rattle.std.specs.Vec.Iter.{into_iter_items}
-use Rattle.std.proofs.Common.{◌≡◌, ℕ, ◌+◌, ◌∷◌, cond, List, [], length, Some, refl, sym, ap, subst, ◌∙◌, arith}
+use Rattle.std.proofs.Common.{◌≡◌, ℕ, ◌∷◌, cond, List, [], length, Some, refl, sym, ap, subst, ◌∙◌, arith}
 use Rattle.hprof_laying.specs.declared.known.KnownLayouts.{KnownLayouts}
 use Rattle.hprof_laying.specs.declared.known.Waiting.{Waiting}
 use Rattle.hprof_laying.specs.declared.plan.Plan.{Plan}
@@ -28,7 +28,7 @@ loop-below-init c =
     let taken = waiting-taken known other c.args.class c.in-Some.ensures.updates.0 in
     let list : waiting_below known c.args.class ≡ c.in-Some.waiting.items = ap list_in (sym c.in-Some.ensures.value) in
     let given : waiting_below known c.args.class ≡ into_iter_items c.into_iter-below-iterator.result =
-        list ∙ sym c.into_iter-below-iterator.ensures.into_iter_gives.0 in
+    list ∙ sym c.into_iter-below-iterator.ensures.into_iter_gives.0 in
     let lengths = ap (λ (l : List Waiting). length l) given in
     let counted = counted-taken known other c.args.class c.in-Some.ensures.entries in
     record {
@@ -58,7 +58,7 @@ loop-below-preserved c =
           let above = ready_outline ids facts (plan_of c.args.self.now) (waiting_below c.args.self.now) (c.args.class ∷ pending)
           waking.standing c.args.class ready in
           let outline : IsOutline ids facts above.slots c.outline-outline.result =
-              subst (IsOutline ids facts above.slots) (sym c.outline-outline.ensures) above.outline_are in
+          subst (IsOutline ids facts above.slots) (sym c.outline-outline.ensures) above.outline_are in
           subst (λ (l : List ℕ). InHand ids facts before c.args.class pending c.args.woken.now.items (get nat_cmp c.insert.new.self)
           (waiting_below c.loop-below.self) l later) (sym c.in_ok-push.ensures.items)
           (hand_more ids facts before c.args.class pending c.args.woken.now.items (plan_of c.loop-below.self) (get nat_cmp c.insert.new.self)

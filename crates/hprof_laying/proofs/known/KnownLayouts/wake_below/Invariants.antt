@@ -16,5 +16,5 @@ invariant-loop-below l = record {
   hand : (ids : IdSize) (facts : List FactValue) (before : ℕ → Option Plan) (pending : List ℕ) → IsReady (plan_of l.fn.self) l.fn.class
       → IsWaking ids facts before l.fn.self l.fn.woken.items (l.fn.class ∷ pending)
       → InHand ids facts before l.fn.class pending l.fn.woken.items (plan_of l.self) (waiting_below l.self) l.woken.items
-          (into_iter_items l.below-iterator);
+      (into_iter_items l.below-iterator);
 }

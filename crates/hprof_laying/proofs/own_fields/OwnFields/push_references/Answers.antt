@@ -1,5 +1,4 @@
-use Rattle.std.proofs.Common.{◌≡◌, ℕ, ◌+◌, ◌<◌, ◌≤◌, ◌++◌, List, ◌∷◌, [], map, length, get_or, drop, sym, ap, subst, ◌∙◌, arith}
-use Rattle.byteorder.specs.Endian.{big_number}
+use Rattle.std.proofs.Common.{ℕ, ◌+◌, ◌<◌, ◌≤◌, ◌++◌, List, ◌∷◌, [], map, length, get_or, drop, ap, subst, ◌∙◌, arith}
 use Rattle.hprof_values.specs.Ids.{width_of}
 use Rattle.hprof_laying.specs.declared.own_fields.OwnReference.{OwnReference}
 use Rattle.hprof_laying.specs.declared.reference.Reference.{Reference}
@@ -19,7 +18,7 @@ returns-in_default c = λ slots are wide small.
     let first : OwnReference = record { offset = 0; place = 0 } in
     let one : OwnReference = get_or c.deref-own-items.result.now c.loop-own.own-index first in
     let lt : c.loop-own.own-index < length c.args.self.now.references.items =
-        subst (λ (l : List OwnReference). c.loop-own.own-index < length l) items c.loop-own-test.true in
+    subst (λ (l : List OwnReference). c.loop-own.own-index < length l) items c.loop-own-test.true in
     let within = one_within c.args.ids c.args.bytes.now c.args.place c.args.self.now slots are c.loop-own.own-index one first lt
     (ap (λ (l : List OwnReference). get_or l c.loop-own.own-index first) items) in
     let fits : one.offset + width_of c.args.ids ≤ length c.args.bytes.now = let end = within.0 in omega arith in
@@ -32,7 +31,7 @@ loop-own-preserved c = λ slots are wide small.
     let first : OwnReference = record { offset = 0; place = 0 } in
     let one : OwnReference = get_or c.deref-own-items.result.now c.loop-own.own-index first in
     let lt : c.loop-own.own-index < length c.args.self.now.references.items =
-        subst (λ (l : List OwnReference). c.loop-own.own-index < length l) items c.loop-own-test.true in
+    subst (λ (l : List OwnReference). c.loop-own.own-index < length l) items c.loop-own-test.true in
     let old = c.args.references.now.items ++ references_in c.args.ids c.args.place slots c.args.bytes.now in
     let rest = map (reference_at c.args.ids c.args.place c.args.bytes.now)
     (drop (c.loop-own.own-index + 1) c.args.self.now.references.items) in
