@@ -21,7 +21,7 @@ abbrev pub OneDumpEach : List FactValue → Type 0
 OneDumpEach facts = (one other : ClassDump) → HasDump facts one → HasDump facts other → one.id ≡ other.id → one ≡ other
 
 -- what a class dump says
-abbrev dump_in : FactValue → ClassDump
+abbrev pub dump_in : FactValue → ClassDump
 dump_in (Class id trace parent loader signers domain reserved1 reserved2 size constants statics fields) = record {
   id = id;
   trace = trace;
@@ -80,7 +80,7 @@ pub record IsDump (class : ℕ) (fact : FactValue) : Type 0 where
   pub id : dump.id ≡ class
 
 -- so it is where it has its key
-key_is_dump : (class : ℕ) (fact : FactValue) → key_of fact ≡ Some (keys.Class class) → IsDump class fact
+pub key_is_dump : (class : ℕ) (fact : FactValue) → key_of fact ≡ Some (keys.Class class) → IsDump class fact
 key_is_dump class (Class id trace parent loader signers domain reserved1 reserved2 size constants statics fields) e = record {
   dump = dump_in (Class id trace parent loader signers domain reserved1 reserved2 size constants statics fields);
   is = refl;
@@ -98,24 +98,24 @@ key_is_dump class (Instance id trace other bytes) e = absurd cc
 key_is_dump class (ObjArray id trace other elements) e = absurd cc
 key_is_dump class (PrimArray id trace elem bytes) e = absurd cc
 
--- a fact in hand with the key of a class is a class dump
-pub is_class_fact : (class : ℕ) (fact : Fact) → has_key (keys.Class class) (value_of fact) ≡ true
+-- a fact in hand that is no class states no class dump
+pub no_class_no_dump : (fact : Fact)
     → ((id trace parent loader signers domain reserved1 reserved2 size : ℕ) (constants : ConstantList) (statics : StaticList)
     (fields : FieldList) → fact ≡ facts.Class id trace parent loader signers domain reserved1 reserved2 size constants statics fields → ⊥)
-    → ⊥
-is_class_fact class (facts.Class id trace parent loader signers domain reserved1 reserved2 size constants statics fields) e none =
+    → (dump : ClassDump) → fact_of_dump dump ≡ value_of fact → ⊥
+no_class_no_dump (facts.Class id trace parent loader signers domain reserved1 reserved2 size constants statics fields) none dump e =
     none id trace parent loader signers domain reserved1 reserved2 size constants statics fields refl
-is_class_fact class (facts.Name id text) e none = absurd cc
-is_class_fact class (facts.Load serial other trace name) e none = absurd cc
-is_class_fact class (facts.Unload serial) e none = absurd cc
-is_class_fact class (facts.Frame id method signature source class_serial line) e none = absurd cc
-is_class_fact class (facts.Trace serial thread frames) e none = absurd cc
-is_class_fact class (facts.Start thread object trace name group parent_group) e none = absurd cc
-is_class_fact class (facts.End thread) e none = absurd cc
-is_class_fact class (facts.Root root) e none = absurd cc
-is_class_fact class (facts.Instance id trace other bytes) e none = absurd cc
-is_class_fact class (facts.ObjArray id trace other elements) e none = absurd cc
-is_class_fact class (facts.PrimArray id trace elem bytes) e none = absurd cc
+no_class_no_dump (facts.Name id text) none dump e = cc
+no_class_no_dump (facts.Load serial other trace name) none dump e = cc
+no_class_no_dump (facts.Unload serial) none dump e = cc
+no_class_no_dump (facts.Frame id method signature source class_serial line) none dump e = cc
+no_class_no_dump (facts.Trace serial thread frames) none dump e = cc
+no_class_no_dump (facts.Start thread object trace name group parent_group) none dump e = cc
+no_class_no_dump (facts.End thread) none dump e = cc
+no_class_no_dump (facts.Root root) none dump e = cc
+no_class_no_dump (facts.Instance id trace other bytes) none dump e = cc
+no_class_no_dump (facts.ObjArray id trace other elements) none dump e = cc
+no_class_no_dump (facts.PrimArray id trace elem bytes) none dump e = cc
 
 -- ---- a class has a dump or none
 

@@ -5,7 +5,6 @@ use Rattle.hprof_values.specs.declared.basic.Basic.{Basic}
 use Rattle.hprof_lists.specs.declared.lists.ids.IdList.{IdList}
 use Rattle.hprof_items.specs.declared.fact.Fact.{Fact}
 use Rattle.hprof_items.specs.declared.fact.Fact.TheVariants as facts
-use Rattle.hprof_items.specs.declared.fact.Fact.TheVariants as facts
 use Rattle.hprof_items.specs.FactValue.{FactValue, value_of}
 use Rattle.hprof_rows.specs.declared.key.Key.TheVariants as keys
 use Rattle.hprof_rows.specs.Conflict.{IsConsistent}
@@ -38,7 +37,7 @@ none_found facts object e fact has is =
     not_found (has_key (keys.Object object)) facts fact e has (true-is_key (keys.Object object) (key_of fact) is)
 
 -- a fact in hand with the key of an object is an object dump
-pub is_object_fact : (object : ℕ) (fact : Fact) → has_key (keys.Object object) (value_of fact) ≡ true
+pub is_object_fact : (object : ℕ) (fact : Fact) → IsObject object (value_of fact)
     → ((id trace class : ℕ) (bytes : Bor (List ℕ)) → fact ≡ facts.Instance id trace class bytes → ⊥)
     → ((id trace class : ℕ) (elements : IdList) → fact ≡ facts.ObjArray id trace class elements → ⊥)
     → ((id trace : ℕ) (elem : Basic) (bytes : Bor (List ℕ)) → fact ≡ facts.PrimArray id trace elem bytes → ⊥) → ⊥

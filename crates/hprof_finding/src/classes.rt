@@ -1,12 +1,13 @@
 //! Class dumps, found in a heap.
 
-ghost use Rattle.std.specs.Prelude.{◌≡◌, IfNone, IfSome, find};
+ghost use Rattle.std.specs.Prelude.{◌≡◌, ◌≢◌, IfNone, IfSome, find};
 ghost use Rattle.std.specs.Option.{option_map};
+ghost use Rattle.hprof_values.specs.declared.ids.IdSize.{IdSize};
 ghost use Rattle.hprof_items.specs.FactValue.{ListsHave, value_of};
 ghost use Rattle.hprof_rows.specs.declared.key.Key.TheVariants as keys;
 ghost use Rattle.hprof_rows.specs.Key.{has_key};
 ghost use Rattle.hprof_finding.specs.HeapFacts.{facts_of, size_of};
-ghost use Rattle.hprof_finding.specs.Classes.{ClassDump, HasDump, HasNoDump};
+ghost use Rattle.hprof_finding.specs.Classes.{ClassDump, HasDump, HasNoDump, fact_of_dump};
 ghost use Rattle.hprof_finding.specs.ClassRow.{ClassListsHave, dump_of};
 
 use crate::class_row::ClassRow;
@@ -22,19 +23,14 @@ fn class_fact(heap: &Heap, class: u64) -> Option<Fact<'_>>
     heap.class(class)
 }
 
-/// The dump of a class.
-pub fn find_class(heap: &Heap, class: u64) -> Option<ClassRow<'_>>
-    ensures found { IfSome result (λ row. HasDump (facts_of heap.now) (dump_of row)) }
-    ensures id { IfSome result (λ row. row.id ≡ class) }
-    ensures lists { IfSome result (ClassListsHave (size_of heap.now)) }
-    // It is the only one.
-    ensures only { IfSome result (λ row. (dump : ClassDump) → HasDump (facts_of heap.now) dump → dump.id ≡ class
-        → dump_of row ≡ dump) }
-    ensures none { IfNone result (HasNoDump (facts_of heap.now) class) }
+/// The row of a fact that is a class dump; there is none of another fact.
+pub fn to_class_row<'a>(fact: &Fact<'a>) -> Option<ClassRow<'a>>
+    ensures found { IfSome result (λ row. fact_of_dump (dump_of row) ≡ value_of fact.now) }
+    ensures none { IfNone result ((dump : ClassDump) → fact_of_dump dump ≢ value_of fact.now) }
+    // The sizes of its lists stay.
+    ensures lists { IfSome result (λ row. (ids : IdSize) → ListsHave ids fact.now → ClassListsHave ids row) }
 {
-    // Facts of a heap agree: that is told with the size.
-    let _ids = id_size(heap);
-    match class_fact(heap, class)? {
+    match *fact {
         Fact::Class {
             id,
             trace,
@@ -62,7 +58,26 @@ pub fn find_class(heap: &Heap, class: u64) -> Option<ClassRow<'_>>
             statics,
             fields,
         }),
-        // A fact with the key of a class is its dump.
-        _ => unreachable!(),
+        _ => None,
     }
+}
+
+/// The dump of a class.
+pub fn find_class(heap: &Heap, class: u64) -> Option<ClassRow<'_>>
+    ensures found { IfSome result (λ row. HasDump (facts_of heap.now) (dump_of row)) }
+    ensures id { IfSome result (λ row. row.id ≡ class) }
+    ensures lists { IfSome result (ClassListsHave (size_of heap.now)) }
+    // It is the only one.
+    ensures only { IfSome result (λ row. (dump : ClassDump) → HasDump (facts_of heap.now) dump → dump.id ≡ class
+        → dump_of row ≡ dump) }
+    ensures none { IfNone result (HasNoDump (facts_of heap.now) class) }
+{
+    // Facts of a heap agree: that is told with the size.
+    let _ids = id_size(heap);
+    let fact = class_fact(heap, class)?;
+    let Some(row) = to_class_row(&fact) else {
+        // A fact with the key of a class is its dump.
+        unreachable!();
+    };
+    Some(row)
 }

@@ -1,16 +1,16 @@
-//! Class dumps, object dumps and the facts of a table, found in a heap. What each call answers is told by the heap's facts.
+//! Class dumps, object dumps, names and the facts of a table, found in a heap. What each call answers is told by the heap's facts.
 #![tactic(auto)]
 
 mod class_row;
 mod classes;
 mod heap_facts;
+mod names;
 mod object_row;
 mod objects;
-mod names;
 
 pub use class_row::ClassRow;
-pub use classes::find_class;
+pub use classes::{find_class, to_class_row};
 pub use heap_facts::{class_name, id_size, table_facts, table_len};
-pub use object_row::ObjectRow;
-pub use objects::find_object;
 pub use names::find_name;
+pub use object_row::ObjectRow;
+pub use objects::{find_object, to_object_row};

@@ -1,7 +1,8 @@
 //! Object dumps, found in a heap.
 
-ghost use Rattle.std.specs.Prelude.{◌≡◌, IfNone, IfSome, find};
+ghost use Rattle.std.specs.Prelude.{◌≡◌, ℕ, IfNone, IfSome, find};
 ghost use Rattle.std.specs.Option.{option_map};
+ghost use Rattle.hprof_values.specs.declared.ids.IdSize.{IdSize};
 ghost use Rattle.hprof_items.specs.FactValue.{FactValue, ListsHave, value_of};
 ghost use Rattle.hprof_rows.specs.declared.key.Key.TheVariants as keys;
 ghost use Rattle.hprof_rows.specs.Facts.{Has};
@@ -23,19 +24,14 @@ fn object_fact(heap: &Heap, object: u64) -> Option<Fact<'_>>
     heap.object(object)
 }
 
-/// The dump of an object.
-pub fn find_object(heap: &Heap, object: u64) -> Option<ObjectRow<'_>>
-    ensures found { IfSome result (λ row. Has (facts_of heap.now) (fact_of_object row)) }
-    ensures id { IfSome result (λ row. IsObject object (fact_of_object row)) }
-    ensures lists { IfSome result (ElementsHave (size_of heap.now)) }
-    // It is the only one.
-    ensures only { IfSome result (λ row. (fact : FactValue) → Has (facts_of heap.now) fact → IsObject object fact
-        → fact_of_object row ≡ fact) }
-    ensures none { IfNone result (HasNoObject (facts_of heap.now) object) }
+/// The row of a fact that is an object dump; there is none of another fact.
+pub fn to_object_row<'a>(fact: &Fact<'a>) -> Option<ObjectRow<'a>>
+    ensures found { IfSome result (λ row. fact_of_object row ≡ value_of fact.now) }
+    ensures none { IfNone result ((object : ℕ) → IsObject object (value_of fact.now) → ⊥) }
+    // The size of its list stays.
+    ensures lists { IfSome result (λ row. (ids : IdSize) → ListsHave ids fact.now → ElementsHave ids row) }
 {
-    // Facts of a heap agree: that is told with the size.
-    let _ids = id_size(heap);
-    match object_fact(heap, object)? {
+    match *fact {
         Fact::Instance {
             id,
             trace,
@@ -69,7 +65,26 @@ pub fn find_object(heap: &Heap, object: u64) -> Option<ObjectRow<'_>>
             elem,
             bytes,
         }),
-        // A fact with the key of an object is its dump.
-        _ => unreachable!(),
+        _ => None,
     }
+}
+
+/// The dump of an object.
+pub fn find_object(heap: &Heap, object: u64) -> Option<ObjectRow<'_>>
+    ensures found { IfSome result (λ row. Has (facts_of heap.now) (fact_of_object row)) }
+    ensures id { IfSome result (λ row. IsObject object (fact_of_object row)) }
+    ensures lists { IfSome result (ElementsHave (size_of heap.now)) }
+    // It is the only one.
+    ensures only { IfSome result (λ row. (fact : FactValue) → Has (facts_of heap.now) fact → IsObject object fact
+        → fact_of_object row ≡ fact) }
+    ensures none { IfNone result (HasNoObject (facts_of heap.now) object) }
+{
+    // Facts of a heap agree: that is told with the size.
+    let _ids = id_size(heap);
+    let fact = object_fact(heap, object)?;
+    let Some(row) = to_object_row(&fact) else {
+        // A fact with the key of an object is its dump.
+        unreachable!();
+    };
+    Some(row)
 }

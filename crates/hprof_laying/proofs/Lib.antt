@@ -1,0 +1,13 @@
+pub mod MoreDumps
+pub mod Places
+pub mod ReferenceSets
+pub mod Outlines
+pub mod KnownPlans
+pub mod Wakings
+pub mod Maps
+pub mod Gathered
+pub mod Hands
+pub mod Comings
+pub mod Pushes
+pub mod Laid
+pub mod TableDumps

@@ -1,0 +1,6 @@
+pub mod Refers
+pub mod OwnFields
+pub mod Plan
+pub mod Known
+pub mod References
+pub mod Waking

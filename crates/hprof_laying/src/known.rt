@@ -1,0 +1,193 @@
+//! Known layouts, kept as classes come.
+
+ghost use Rattle.std.specs.Prelude.{◌≡◌, ◌≢◌, ◌↔◌, ◌+◌, ◌≤◌, ◌<◌, ◌∷◌, ◌++◌, ℕ, List, [], length, IsTrue, IfNone, IfSome, OnOk, IfOk};
+ghost use Rattle.std.specs.Prelude.{Option, Some, vec_len};
+ghost use Rattle.std.specs.Option.{option_copied};
+ghost use Rattle.hprof_values.specs.declared.ids.IdSize.{IdSize};
+ghost use Rattle.hprof_items.specs.FactValue.{FactValue};
+ghost use Rattle.hprof_finding.specs.ClassRow.{dump_of};
+ghost use Rattle.hprof_finding.specs.Classes.{HasNoDump};
+ghost use Rattle.hprof_laying.specs.declared.plan.Plan.{Plan};
+ghost use Rattle.hprof_laying.specs.Plan.{outline_at};
+ghost use Rattle.hprof_laying.specs.Known.{AreWoken, HasDumpMore, HasLayout, Knows, plan_of, waiting_below};
+ghost use Rattle.hprof_laying.specs.References.{AreReferences};
+ghost use Rattle.hprof_laying.specs.Waking.{IsReady, IsWaking, Wakes, number_waiting, put};
+
+use crate::own_fields::{OwnFields, own_fields};
+use crate::plan::{Jump, Outline, Plan};
+use crate::reference::Reference;
+use hprof_finding::ClassRow;
+use hprof_values::IdSize;
+use std::alloc::{AllocError, Global};
+use std::collections::BTreeMap;
+
+/// A class that came, and whose layout is not known.
+#[derive(Drop)]
+struct Waiting {
+    /// The class.
+    class: u64,
+    /// Its own fields.
+    own: OwnFields,
+}
+
+/// Of each class whose layout is known, what laying its instances needs. A class that came waits until the layout of its
+/// superclass is known.
+#[derive(Drop)]
+pub struct KnownLayouts {
+    alloc: Global,
+    plans: BTreeMap<u64, Plan>,
+    waiting: BTreeMap<u64, Vec<Waiting>>,
+}
+
+impl KnownLayouts {
+    /// The layouts that are known where no class came. It takes no memory yet.
+    pub fn new(alloc: Global) -> KnownLayouts
+        ensures { (ids : IdSize) → Knows ids [] result }
+    {
+        KnownLayouts {
+            alloc,
+            plans: BTreeMap::new(alloc),
+            waiting: BTreeMap::new(alloc),
+        }
+    }
+
+    /// Whether the layout of the class is known.
+    pub fn knows(&self, class: u64) -> bool
+        ensures known { (ids : IdSize) (facts : List FactValue) → Knows ids facts self.now → IsTrue result ↔ HasLayout facts class }
+        ensures ready { IsTrue result ↔ IsReady (plan_of self.now) class }
+    {
+        class == 0 || self.plans.contains_key(&class)
+    }
+
+    /// The outline of the layout of a class that has a plan, or of no slots.
+    fn outline(&self, class: u64) -> Outline
+        ensures { result ≡ outline_at class (plan_of self.now class) }
+    {
+        match self.plans.get(&class) {
+            None => Outline {
+                width: 0,
+                first: None,
+            },
+            Some(plan) => plan.outline(class),
+        }
+    }
+
+    /// Takes a class dump that came, the first of its class, where identifiers have that size. It gives the classes whose
+    /// layouts become known by it. Where memory is refused, nothing holds of what is kept.
+    pub fn come(&mut self, row: &ClassRow<'_>, ids: IdSize) -> Result<Vec<u64>, AllocError>
+        ensures ok { OnOk result ((facts more : List FactValue) → Knows ids facts self.old → HasNoDump facts row.now.id
+            → HasDumpMore facts (dump_of row.now) more → Knows ids more self.new) }
+        ensures woken { IfOk result (λ woken. (facts more : List FactValue) → Knows ids facts self.old → HasNoDump facts row.now.id
+            → HasDumpMore facts (dump_of row.now) more → AreWoken facts more woken.items) }
+    {
+        let mut woken = Vec::new(self.alloc);
+        // A dump of class 0 is no class of any chain.
+        if row.id == 0 {
+            return Ok(woken);
+        }
+        let own = own_fields(self.alloc, row, ids)?;
+        self.wait(row.parent, row.id, own)?;
+        if self.knows(row.parent) {
+            self.wake_below(row.parent, &mut woken)?;
+            self.wake_all(&mut woken)?;
+        }
+        Ok(woken)
+    }
+
+    /// Lets a class wait for its superclass.
+    fn wait(&mut self, superclass: u64, class: u64, own: OwnFields) -> Result<(), AllocError>
+        ensures waits { OnOk result (waiting_below self.new ≡ put (waiting_below self.old) superclass
+            (waiting_below self.old superclass ++ record { class = class; own = own } ∷ [])) }
+        ensures plans { plan_of self.new ≡ plan_of self.old }
+    {
+        let mut list = match self.waiting.remove(&superclass) {
+            None => Vec::new(self.alloc),
+            Some(list) => list,
+        };
+        list.push(Waiting { class, own })?;
+        self.waiting.insert(superclass, list)?;
+        Ok(())
+    }
+
+    /// Makes plans of the classes that wait for a class that has one, and puts them behind other classes.
+    fn wake_below(&mut self, class: u64, woken: &mut Vec<u64>) -> Result<(), AllocError>
+        ensures ok { OnOk result ((ids : IdSize) (facts : List FactValue) (before : ℕ → Option Plan) (pending : List ℕ)
+            → IsReady (plan_of self.old) class → IsWaking ids facts before self.old woken.old.items (class ∷ pending)
+            → Wakes ids facts before self.new woken.old.items woken.new.items pending) }
+        ensures counted { OnOk result (number_waiting self.new + vec_len woken.new ≡ number_waiting self.old + vec_len woken.old) }
+    {
+        let outline = self.outline(class);
+        let Some(waiting) = self.waiting.remove(&class) else {
+            return Ok(());
+        };
+        for Waiting { class: below, own } in waiting {
+            self.plans.insert(below, Plan::below(outline, own))?;
+            woken.push(below)?;
+        }
+        Ok(())
+    }
+
+    /// Makes plans of the classes that wait for those that got one, and so on, until none waits for one of them.
+    fn wake_all(&mut self, woken: &mut Vec<u64>) -> Result<(), AllocError>
+        ensures { OnOk result ((ids : IdSize) (facts : List FactValue) (before : ℕ → Option Plan)
+            → IsWaking ids facts before self.old woken.old.items woken.old.items
+            → IsWaking ids facts before self.new woken.new.items []) }
+    {
+        let mut next = 0;
+        while next < woken.len() {
+            self.wake_below(woken[next], woken)?;
+            next += 1;
+        }
+        Ok(())
+    }
+
+    /// The plan of the class that a jump goes to, where its own fields lie within so many bytes.
+    fn landing(&self, jump: Jump, room: usize) -> Option<&Plan>
+        ensures plan { IfSome result (λ plan. plan_of self.now jump.class ≡ Some plan.now) }
+        ensures some { IfSome result (λ plan. 0 < plan.now.own.width) }
+        ensures within { IfSome result (λ plan. jump.offset + plan.now.own.width ≤ room) }
+        ensures none { IfNone result ((plan : Plan) → plan_of self.now jump.class ≡ Some plan → 0 < plan.own.width
+            → jump.offset + plan.own.width ≤ room → ⊥) }
+    {
+        let plan = self.plans.get(&jump.class)?;
+        let end = jump.offset.checked_add(plan.own.width)?;
+        if plan.own.width == 0 || room < end {
+            return None;
+        }
+        Some(plan)
+    }
+
+    /// Puts what an instance of the class that has these bytes refers to in the place of other references, in the order of
+    /// its fields. There is nothing where the layout of the class is not known, or has another number of bytes.
+    pub fn lay(
+        &self,
+        class: u64,
+        bytes: &[u8],
+        ids: IdSize,
+        references: &mut Vec<Reference>,
+    ) -> Result<(), AllocError>
+        ensures { OnOk result ((facts : List FactValue) → Knows ids facts self.now
+            → AreReferences ids facts class bytes.now references.new.items) }
+    {
+        references.clear();
+        let outline = self.outline(class);
+        if outline.width != bytes.len() as u128 {
+            return Ok(());
+        }
+        let mut next = outline.first;
+        let mut rest = bytes;
+        let mut place: u64 = 0;
+        while let Some(jump) = next {
+            let Some(plan) = self.landing(jump, rest.len()) else {
+                return Ok(());
+            };
+            let (_, landed) = rest.split_at(jump.offset);
+            let start = place.saturating_add(jump.place);
+            plan.own.push_references(landed, ids, start, references)?;
+            (_, rest) = landed.split_at(plan.own.width);
+            place = start.saturating_add(plan.own.count);
+            next = plan.above;
+        }
+        Ok(())
+    }
+}

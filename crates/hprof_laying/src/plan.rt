@@ -1,0 +1,86 @@
+//! What is kept of a class whose layout is known.
+
+ghost use Rattle.std.specs.Prelude.{◌≡◌};
+ghost use Rattle.hprof_laying.specs.Plan.{jump_behind, outline_of, plan_below};
+
+use crate::own_fields::OwnFields;
+
+/// A class that has own fields that refer to something, and what lies before its own fields.
+#[derive(Clone, Copy, Debug, PartialEq, Eq)]
+pub(crate) struct Jump {
+    /// The class.
+    pub(crate) class: u64,
+    /// How many bytes lie before; the greatest number stands for all from it on.
+    pub(crate) offset: usize,
+    /// How many fields lie before; the greatest number stands for all from it on.
+    pub(crate) place: u64,
+}
+
+/// What the classes below a class need of its layout.
+#[derive(Clone, Copy, Debug, PartialEq, Eq)]
+pub(crate) struct Outline {
+    /// How many bytes all slots have; the greatest number stands for all from it on.
+    pub(crate) width: u128,
+    /// The first class along the chain that has own fields that refer to something.
+    pub(crate) first: Option<Jump>,
+}
+
+/// What laying the instances of a class needs.
+#[derive(Drop)]
+pub(crate) struct Plan {
+    /// How many bytes all slots have; the greatest number stands for all from it on.
+    pub(crate) width: u128,
+    /// Its own fields.
+    pub(crate) own: OwnFields,
+    /// The first class above it that has own fields that refer to something. What lies before is counted from behind
+    /// its own fields on.
+    pub(crate) above: Option<Jump>,
+}
+
+impl Jump {
+    /// The same class from own fields of so many bytes on that stand before.
+    fn behind(self, own: &OwnFields) -> Jump
+        ensures { result ≡ jump_behind own.now self }
+    {
+        Jump {
+            class: self.class,
+            offset: self.offset.saturating_add(own.width),
+            place: self.place.saturating_add(own.count),
+        }
+    }
+}
+
+impl Plan {
+    /// The plan of a class with these own fields, below a class.
+    pub(crate) fn below(outline: Outline, own: OwnFields) -> Plan
+        ensures { result ≡ plan_below outline own }
+    {
+        Plan {
+            width: outline.width.saturating_add(own.width as u128),
+            own,
+            above: outline.first,
+        }
+    }
+
+    /// What the classes below the class need.
+    pub(crate) fn outline(&self, class: u64) -> Outline
+        ensures { result ≡ outline_of class self.now }
+    {
+        let first = if self.own.references.is_empty() {
+            match self.above {
+                None => None,
+                Some(jump) => Some(jump.behind(&self.own)),
+            }
+        } else {
+            Some(Jump {
+                class,
+                offset: 0,
+                place: 0,
+            })
+        };
+        Outline {
+            width: self.width,
+            first,
+        }
+    }
+}
