@@ -1,4 +1,4 @@
-//! Tests of hprof_finding and hprof_layouts, through public calls. It has no code of its own.
+//! Tests of hprof_finding, hprof_layouts and hprof_histogram, through public calls. It has no code of its own.
 #![tactic(auto)]
 
 #[cfg(test)]
@@ -7,6 +7,8 @@ mod chains;
 mod expecting;
 #[cfg(test)]
 mod finding;
+#[cfg(test)]
+mod histograms;
 #[cfg(test)]
 mod instances;
 #[cfg(test)]

@@ -1,0 +1,59 @@
+use Rattle.std.proofs.Common.{◌<◌, ◌^◌, sym, ap, subst, ◌∙◌, arith}
+use Rattle.hprof_items.specs.FactValue.{value_of}
+use Rattle.hprof_rows.specs.declared.table.Table.TheVariants as tables
+use Rattle.hprof_rows.specs.FactsLeft.{facts_left}
+use Rattle.hprof_rows.specs.Tables.{facts_of_table}
+use Rattle.hprof_finding.specs.HeapFacts.{facts_of, size_of}
+use Rattle.hprof_histogram.specs.Histogram.{size_of_object}
+use Rattle.hprof_histogram.proofs.FactCounts.{IsTallyTo, tally_counts, tally_ends, tally_of_all, room_so_far}
+use Rattle.hprof_histogram.proofs.FactCounts.{room_for_one, room_of_all}
+use Rattle.hprof_histogram.proofs.counting.count_objects.Goals as goal
+
+pub count-requires-clause-all : goal.count-requires-clause-all
+count-requires-clause-all c =
+    let ids = size_of c.args.heap.now in
+    let facts = facts_of c.args.heap.now in
+    let few : c.table_len-objects.result < 2 ^ 64 = omega arith in
+    room_so_far ids (facts_of_table tables.Objects facts) (facts_left c.loop-fact.fact-iterator) c.loop-fact.tally
+    (room_of_all ids facts c.table_len-objects.result c.id_size-ids.ensures.fit c.table_len-objects.ensures few) c.loop-fact.invariant
+
+pub count-requires-clause-one : goal.count-requires-clause-one
+count-requires-clause-one c =
+    let ids = size_of c.args.heap.now in
+    let facts = facts_of c.args.heap.now in
+    let fact = value_of c.in-Some.fact in
+    let few : c.table_len-objects.result < 2 ^ 64 = omega arith in
+    room_for_one ids (facts_of_table tables.Objects facts) (facts_left c.next.new.self) c.loop-fact.tally fact c.in-Some-object_of.kind
+    c.in-Some-object_of.size (sym c.in-Some-object_of.ensures.kind)
+    (c.in-Some-object_of.ensures.size ∙ ap (λ size. size_of_object size fact) c.id_size-ids.ensures.value)
+    (room_of_all ids facts c.table_len-objects.result c.id_size-ids.ensures.fit c.table_len-objects.ensures few)
+    (subst (IsTallyTo ids (facts_of_table tables.Objects facts) c.loop-fact.tally) c.in-Some.ensures.steps.0 c.loop-fact.invariant)
+
+pub loop-fact-preserved-in-Continue-1 : goal.loop-fact-preserved-in-Continue-1
+loop-fact-preserved-in-Continue-1 c =
+    let ids = size_of c.args.heap.now in
+    let all = facts_of_table tables.Objects (facts_of c.args.heap.now) in
+    let fact = value_of c.in-Some.fact in
+    tally_counts ids all (facts_left c.next.new.self) c.loop-fact.tally c.count.new.self fact c.in-Some-object_of.kind
+    c.in-Some-object_of.size (sym c.in-Some-object_of.ensures.kind)
+    (c.in-Some-object_of.ensures.size ∙ ap (λ size. size_of_object size fact) c.id_size-ids.ensures.value)
+    c.in_ok-count.ensures
+    (subst (IsTallyTo ids all c.loop-fact.tally) c.in-Some.ensures.steps.0 c.loop-fact.invariant)
+
+pub close_run-requires : goal.close_run-requires
+close_run-requires c =
+    let ids = size_of c.args.heap.now in
+    let facts = facts_of c.args.heap.now in
+    let few : c.table_len-objects.result < 2 ^ 64 = omega arith in
+    room_so_far ids (facts_of_table tables.Objects facts) (facts_left c.loop-fact.fact-iterator) c.loop-fact.tally
+    (room_of_all ids facts c.table_len-objects.result c.id_size-ids.ensures.fit c.table_len-objects.ensures few) c.loop-fact.invariant
+
+pub returns-clause-all : goal.returns-clause-all
+returns-clause-all c =
+    let ids = size_of c.args.heap.now in
+    let facts = facts_of c.args.heap.now in
+    λ kind. c.in_ok-close_run.ensures.same kind
+    ∙ tally_of_all ids facts c.loop-fact.tally
+    (tally_ends ids (facts_of_table tables.Objects facts) (facts_left c.loop-fact.fact-iterator) c.loop-fact.tally
+    c.in-None.ensures.steps.0.0 c.loop-fact.invariant)
+    kind

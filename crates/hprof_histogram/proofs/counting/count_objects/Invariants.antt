@@ -1,0 +1,9 @@
+use Rattle.hprof_rows.specs.declared.table.Table.TheVariants as tables
+use Rattle.hprof_rows.specs.FactsLeft.{facts_left}
+use Rattle.hprof_rows.specs.Tables.{facts_of_table}
+use Rattle.hprof_finding.specs.HeapFacts.{facts_of, size_of}
+use Rattle.hprof_histogram.proofs.FactCounts.{IsTallyTo}
+use Rattle.hprof_histogram.proofs.counting.count_objects.Given as goal
+
+abbrev pub invariant-loop-fact : goal.invariant-loop-fact
+invariant-loop-fact l = IsTallyTo (size_of l.heap) (facts_of_table tables.Objects (facts_of l.heap)) l.tally (facts_left l.fact-iterator)

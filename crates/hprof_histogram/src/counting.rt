@@ -1,0 +1,61 @@
+//! Objects are counted by their kind.
+
+ghost use Rattle.std.specs.Prelude.{◌≡◌, length, IfOk, IfSome};
+ghost use Rattle.std.specs.Option.{option_map};
+ghost use Rattle.hprof_items.specs.FactValue.{value_of};
+ghost use Rattle.hprof_finding.specs.HeapFacts.{facts_of, size_of};
+ghost use Rattle.hprof_histogram.specs.Histogram.{kind_of, size_of_object};
+ghost use Rattle.hprof_histogram.specs.Tally.{IsTally, nothing};
+
+use crate::row::Kind;
+use crate::tally::Tally;
+use hprof_finding::{id_size, table_facts, table_len};
+use hprof_heap::{Heap, Table};
+use hprof_items::Fact;
+use hprof_values::IdSize;
+use std::alloc::{AllocError, Global};
+
+/// How many bytes these are.
+fn size_of_bytes(bytes: &[u8]) -> u128
+    ensures { result ≡ length bytes.now }
+{
+    bytes.len() as u128
+}
+
+/// The kind of an object, and how many bytes it has.
+fn object_of(fact: &Fact<'_>, ids: IdSize) -> Option<(Kind, u128)>
+    ensures kind { option_map (λ object. object.0) result ≡ kind_of (value_of fact.now) }
+    ensures size { IfSome result (λ object. object.1 ≡ size_of_object ids (value_of fact.now)) }
+{
+    match *fact {
+        Fact::Instance { class, bytes, .. } => Some((Kind::Class(class), size_of_bytes(bytes))),
+        Fact::ObjArray {
+            class,
+            elements,
+            ..
+        } => {
+            let size = elements.len() as u128 * ids.width() as u128;
+            Some((Kind::Class(class), size))
+        }
+        Fact::PrimArray { elem, bytes, .. } => Some((Kind::Prim(elem), size_of_bytes(bytes))),
+        _ => None,
+    }
+}
+
+/// Counts the objects of a heap. Nothing is left beside the map.
+pub(crate) fn count_objects(alloc: Global, heap: &Heap) -> Result<Tally, AllocError>
+    ensures all { IfOk result (IsTally (size_of heap.now) (facts_of heap.now)) }
+    ensures closed { IfOk result (λ tally. tally.run ≡ nothing) }
+{
+    let ids = id_size(heap);
+    // How many objects there are fits a number: that is told with their count.
+    let _objects = table_len(heap, Table::Objects);
+    let mut tally = Tally::new(alloc);
+    for fact in table_facts(heap, Table::Objects) {
+        if let Some((kind, size)) = object_of(&fact, ids) {
+            tally.count(kind, size)?;
+        }
+    }
+    tally.close_run()?;
+    Ok(tally)
+}

@@ -1,0 +1,70 @@
+//! The rows of what was counted.
+
+ghost use Rattle.std.specs.Prelude.{◌≡◌, ◌++◌, ◌∷◌, [], OnOk, IfOk};
+ghost use Rattle.std.specs.BTreeMap.{IsOrdered};
+ghost use Rattle.std.specs.List.{filter};
+ghost use Rattle.std.specs.Ordering.{nat_cmp};
+ghost use Rattle.hprof_histogram.specs.Tally.{class_rows, element_types, has_objects, row_of, type_rows};
+
+use crate::counted::Counted;
+use crate::row::{Kind, Row};
+use crate::tally::{TYPES, Tally};
+use hprof_values::Basic;
+use std::alloc::{AllocError, Global};
+use std::collections::BTreeMap;
+
+/// The types that elements of arrays may have, by their codes.
+const ELEMENT_TYPES: [Basic; 8] = [
+    Basic::Boolean,
+    Basic::Char,
+    Basic::Float,
+    Basic::Double,
+    Basic::Byte,
+    Basic::Short,
+    Basic::Int,
+    Basic::Long,
+];
+
+/// Puts the row of a kind behind others, if there are objects of it.
+fn push_row(rows: &mut Vec<Row>, kind: Kind, counted: Counted) -> Result<(), AllocError>
+    ensures { OnOk result (rows.new.items ≡ rows.old.items ++ filter has_objects (row_of kind counted ∷ [])) }
+{
+    let Counted { count, bytes } = counted;
+    if count > 0 {
+        rows.push(Row { kind, count, bytes })?;
+    }
+    Ok(())
+}
+
+/// Puts the rows of classes behind others.
+fn push_classes(rows: &mut Vec<Row>, classes: &BTreeMap<u64, Counted>) -> Result<(), AllocError>
+    ensures { OnOk result (rows.new.items ≡ rows.old.items ++ filter has_objects (class_rows classes.now.entries)) }
+{
+    for (class, counted) in classes {
+        push_row(rows, Kind::Class(*class), *counted)?;
+    }
+    Ok(())
+}
+
+/// Puts the rows of types behind others.
+fn push_types(rows: &mut Vec<Row>, types: &[Counted; TYPES]) -> Result<(), AllocError>
+    ensures { OnOk result (rows.new.items ≡ rows.old.items ++ filter has_objects (type_rows types.now element_types)) }
+{
+    for elem in &ELEMENT_TYPES {
+        push_row(rows, Kind::Prim(*elem), types[elem.code() as usize])?;
+    }
+    Ok(())
+}
+
+/// The rows of what was counted: those of classes, and then those of types.
+pub(crate) fn rows_of(alloc: Global, tally: &Tally) -> Result<Vec<Row>, AllocError>
+    ensures rows { IfOk result (λ rows. rows.items ≡ filter has_objects (class_rows tally.now.classes.entries)
+        ++ filter has_objects (type_rows tally.now.types element_types)) }
+    ensures ordered { IsOrdered nat_cmp tally.now.classes }
+{
+    let most = tally.classes.len() + ELEMENT_TYPES.len();
+    let mut rows = Vec::with_capacity(alloc, most)?;
+    push_classes(&mut rows, &tally.classes)?;
+    push_types(&mut rows, &tally.types)?;
+    Ok(rows)
+}

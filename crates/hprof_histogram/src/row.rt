@@ -1,0 +1,23 @@
+//! The rows of a histogram.
+
+use hprof_values::Basic;
+
+/// A kind of objects.
+#[derive(Clone, Copy, Debug, PartialEq, Eq)]
+pub enum Kind {
+    /// The instances of a class, and the arrays of objects of that class.
+    Class(u64),
+    /// The arrays of numbers or truth values of that type.
+    Prim(Basic),
+}
+
+/// How many objects of a kind there are.
+#[derive(Clone, Copy, Debug, PartialEq, Eq)]
+pub struct Row {
+    /// Their kind.
+    pub kind: Kind,
+    /// Their number, which is not 0.
+    pub count: u64,
+    /// How many bytes their fields and elements have.
+    pub bytes: u128,
+}
