@@ -61,7 +61,7 @@ type_listed ids (PrimArray id trace own bytes) elem fits e =
 type_listed ids _ elem fits e = absurd cc
 
 -- an object is counted
-some_counted : (kind : Kind) (facts : List FactValue) (fact : FactValue) → Has facts fact → kind_of fact ≡ Some kind
+pub some_counted : (kind : Kind) (facts : List FactValue) (fact : FactValue) → Has facts fact → kind_of fact ≡ Some kind
     → 0 < length (of_kind kind facts)
 some_counted kind [] fact has is = absurd has
 some_counted kind (first ∷ facts) fact has is = by_test (λ later. some_counted kind facts fact later is) (is_kind kind (kind_of first)) refl where

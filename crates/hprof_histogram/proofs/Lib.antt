@@ -6,3 +6,4 @@ pub mod OneHistogram
 pub mod FactCounts
 pub mod CandidateRows
 pub mod HistogramRows
+pub mod SomeHistogram

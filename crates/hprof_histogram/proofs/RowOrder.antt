@@ -61,7 +61,7 @@ tied_kinds (Class class) (Prim elem) e = cc
 tied_kinds (Prim elem) (Class class) e = cc
 tied_kinds (Prim elem) (Prim other) e = tied_numbers (code_of_basic elem) (code_of_basic other) e
 
-then_tied : (first second : Ordering) → ordering_then first second ≡ Equal → second ≡ Equal
+pub then_tied : (first second : Ordering) → ordering_then first second ≡ Equal → second ≡ Equal
 then_tied Less second e = cc
 then_tied Equal second e = e
 then_tied Greater second e = cc

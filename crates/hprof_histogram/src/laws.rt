@@ -6,8 +6,9 @@ ghost use Rattle.hprof_items.specs.FactValue.{FactValue};
 ghost use Rattle.hprof_histogram.specs.declared.row.Row.{Row};
 ghost use Rattle.hprof_histogram.specs.Histogram.{IsHistogram};
 
-/// Facts have at most one histogram.
+/// Facts have one histogram: there is one, and no other.
 pub fn one_histogram()
-    ensures { (ids : IdSize) (facts : List FactValue) (one other : List Row)
+    ensures exists { (ids : IdSize) (facts : List FactValue) → (rows : List Row) × IsHistogram ids facts rows }
+    ensures once { (ids : IdSize) (facts : List FactValue) (one other : List Row)
         → IsHistogram ids facts one → IsHistogram ids facts other → one ≡ other }
 {}

@@ -2,3 +2,4 @@ pub mod Counts
 pub mod Slices
 pub mod CheckLines
 pub mod TextWriting
+pub mod ObjectParts

@@ -9,7 +9,11 @@ use Rattle.hprof_devices.proofs.Writes.{WritesFront, WritesFront-more, WritesFro
 use Rattle.hprof_engine.specs.declared.product.Stop.{Stop}
 use Rattle.hprof_reports.specs.Line.{text_of_lines}
 use Rattle.hprof_reports.specs.ObjectText.{contents_text}
-use Rattle.hprof_reports.specs.Stopping.{WritesText}
+use Rattle.hprof_engine.specs.declared.product.Stop.TheVariants as stops
+use Rattle.hprof_engine.specs.Makes.{EndsWriting}
+use Rattle.hprof_devices.specs.declared.health.Health.{Health}
+use Rattle.std.specs.Prelude.{⊤}
+use Rattle.hprof_reports.specs.Stopping.{WritesText, LeavesTarget}
 
 module _ {A : Type 0} (r : Result A Stop) where
   -- nothing was written before it stopped
@@ -73,3 +77,14 @@ contents_are (byte ∷ bytes) some = refl
 pub no_digits : (bytes : List ℕ) → bytes ≡ [] → length (encode_lower bytes) ≡ 0
 unfolding encode_with
 no_digits bytes e = rw e refl
+
+-- ---- how the writing of a report ends
+
+pub text_ends : {W : Type 0} (written : W → Option (List ℕ)) (well : W → Health) (IsText : List ℕ → Type 0) (before after : W)
+    (r : Result (Unit {0}) Stop) (text : List ℕ)
+    → IsText text → WritesText (written before) (written after) r text → LeavesTarget r (well after)
+    → EndsWriting written well IsText ⊥ ⊤ before after r
+text_ends written well IsText before after (Ok done) text is writes health = (health, (text, is, writes))
+text_ends written well IsText before after (Err (stops.Write fault)) text is front health = (health, (text, front.0, is, front.2))
+text_ends written well IsText before after (Err stops.OutOfMemory) text is front health = (tt, health, (text, front.0, is, front.2))
+text_ends written well IsText before after (Err stops.TooLong) text is front health = absurd health

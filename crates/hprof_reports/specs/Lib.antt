@@ -6,3 +6,5 @@ pub mod OneCheck
 pub mod Shown
 pub mod Stopping
 pub mod ObjectText
+pub mod ObjectReporting
+pub mod OneObject

@@ -17,11 +17,7 @@ use hprof_values::IdSize;
 use std::alloc::{AllocError, Global};
 
 /// The line of a class that has this label, from its signers on.
-fn line_from_signers(
-    alloc: Global,
-    row: &ClassRow<'_>,
-    label: &str,
-) -> Result<String, AllocError>
+fn line_from_signers(alloc: Global, row: &ClassRow<'_>, label: &str) -> Result<String, AllocError>
     ensures { IfOk result (λ line. string_bytes line ≡ line_from_signers (dump_of row.now) label.now) }
 {
     let ClassRow {
@@ -38,7 +34,10 @@ fn line_to_loader(alloc: Global, row: &ClassRow<'_>, end: &str) -> Result<String
     ensures { IfOk result (λ line. string_bytes line ≡ line_to_loader (dump_of row.now) end.now) }
 {
     let ClassRow {
-        id, parent, loader, ..
+        id,
+        parent,
+        loader,
+        ..
     } = *row;
     format!(in alloc; "class {id:x} super {parent:x} loader {loader:x} {end}")
 }
@@ -73,12 +72,7 @@ fn constant_line(
 }
 
 /// The line of the static field at that place.
-fn static_line(
-    alloc: Global,
-    heap: &Heap,
-    place: u64,
-    field: &Static,
-) -> Result<String, AllocError>
+fn static_line(alloc: Global, heap: &Heap, place: u64, field: &Static) -> Result<String, AllocError>
     ensures { (naming : Naming) → IsNaming (facts_of heap.now) naming
         → IfOk result (λ line. string_bytes line ≡ static_line naming (size_of heap.now) place field.now) }
 {

@@ -10,8 +10,10 @@ mod line;
 mod lines;
 mod object;
 mod object_lines;
+mod object_parts;
 mod shown;
 
 pub use check::write_check;
 pub use check_parts::{Check, check_to};
 pub use object::write_object;
+pub use object_parts::{ObjectReport, object_to};

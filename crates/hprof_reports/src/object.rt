@@ -192,7 +192,10 @@ fn write_object_row<W: Target>(
 {
     match *row {
         ObjectRow::Instance {
-            id, class, bytes, ..
+            id,
+            class,
+            bytes,
+            ..
         } => {
             write_line(instance_line(alloc, heap, id, class, bytes), target)?;
             write_fields(alloc, heap, object, target)
@@ -207,7 +210,10 @@ fn write_object_row<W: Target>(
             write_elements(alloc, heap, &elements, target)
         }
         ObjectRow::PrimArray {
-            id, elem, bytes, ..
+            id,
+            elem,
+            bytes,
+            ..
         } => {
             write_line(values_line(alloc, id_size(heap), id, elem, bytes), target)?;
             write_contents(bytes, target)

@@ -20,6 +20,13 @@ pub(crate) enum Task<'a> {
         /// The names of the parts, in order.
         parts: Vec<&'a str>,
     },
+    /// To report what an identifier is of.
+    Object {
+        /// The identifier, as text.
+        id: &'a str,
+        /// The names of the parts, in order.
+        parts: Vec<&'a str>,
+    },
 }
 
 /// The names of the parts, any number of them.
@@ -45,13 +52,23 @@ fn command<'a>(alloc: Global) -> Result<Command<'a>, AllocError> {
     let check = Command::new(alloc, "check")
         .about("Says how many facts the parts have")
         .arg(parts_arg(alloc))?;
+    let id = Arg::new(alloc, "id")
+        .value_name("ID")
+        .help("The identifier of a class or an object, in hexadecimal")
+        .required(true)
+        .action(ArgAction::Set);
+    let object = Command::new(alloc, "object")
+        .about("Says what the class and the object of an identifier hold")
+        .arg(id)?
+        .arg(parts_arg(alloc))?;
     Command::new(alloc, "hprof")
         .about(
             "Reads and joins Java heap dumps; without a command, from standard input to standard output",
         )
         .disable_help_subcommand(true)
         .subcommand(join)?
-        .subcommand(check)
+        .subcommand(check)?
+        .subcommand(object)
 }
 
 /// The names of the parts that were given to a command.
@@ -71,7 +88,11 @@ pub(crate) fn task_of<'a>(alloc: Global, words: &'a [String]) -> Result<Task<'a>
     if name == "check" {
         return Ok(Task::Check { parts });
     }
-    // The words were understood, so the name that is required is there.
+    // The words were understood, so a word that is required is there.
+    if name == "object" {
+        let id = words.get_str("id").unwrap_or("");
+        return Ok(Task::Object { id, parts });
+    }
     let out = words.get_str("out").unwrap_or("");
     Ok(Task::Join { out, parts })
 }

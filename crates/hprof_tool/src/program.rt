@@ -2,13 +2,16 @@
 
 ghost use Rattle.std.specs.Prelude.{◌≡◌, ◌≢◌, length};
 ghost use Rattle.hprof_engine.specs.Makes.{IsDump, IsMadeOf};
+ghost use Rattle.hprof_text.specs.Identifier.{IsIdText, id_value};
+ghost use Rattle.hprof_reports.specs.ObjectReporting.{IsObjectReport};
 ghost use Rattle.hprof_tool.specs.Program.{IsMadeOfStream, IsMadeInFile, IsMadeOfFiles};
 
 use crate::command::{Task, task_of};
 use crate::status::Status;
-use answers::{answer_no_words, answer_outcome, answer_words};
+use answers::{answer_no_id, answer_no_words, answer_outcome, answer_words};
 use hprof_engine::Product;
-use hprof_reports::Check;
+use hprof_reports::{Check, ObjectReport};
+use hprof_text::parse_id;
 use joining::{join_files, join_stream, report_files};
 use std::alloc::Global;
 use std::env::Args;
@@ -69,13 +72,34 @@ fn report<P: Product, F: Files, O: Write + Drop, E: Write>(
     )
 }
 
+/// Writes the report `object` on parts in files to `output`. An identifier that is none is told before any part is opened.
+fn object<F: Files, O: Write + Drop, E: Write>(
+    alloc: Global,
+    files: &F,
+    id: &str,
+    names: &[&str],
+    output: O,
+    errors: &mut E,
+) -> Status
+    ensures done { result ≡ Status.Done → IsIdText id.now × ((written : O)
+        × IsMadeOfFiles (IsMadeOf (IsObjectReport (id_value id.now))) F.File.remaining O.contents (length names.now) output written) }
+    ensures understood { IsIdText id.now → result ≢ Status.NotUnderstood }
+    ensures no_id { ¬ (IsIdText id.now) → result ≡ Status.NotUnderstood }
+{
+    match parse_id(id) {
+        Some(id) => report(alloc, files, &ObjectReport { id }, names, output, errors),
+        None => answer_no_id(errors),
+    }
+}
+
 /// The words as a list.
 fn list_of(alloc: Global, words: io::Result<Args>) -> io::Result<Vec<String>> {
     Ok(words?.collect(alloc)?)
 }
 
 /// Does what the words ask for: without a word behind the program's name it joins the part on `input` to `output`;
-/// `join OUT PART..` joins parts in files to a new file, and `check PART..` writes a report on parts in files to `output`.
+/// `join OUT PART..` joins parts in files to a new file, and `check PART..` and `object ID PART..` write a report on parts in files
+/// to `output`.
 /// Refusals are told on `errors`.
 pub fn run<F: Files, I: Read + Drop, O: Write + Drop, E: Write>(
     alloc: Global,
@@ -93,6 +117,7 @@ pub fn run<F: Files, I: Read + Drop, O: Write + Drop, E: Write>(
         Ok(Task::Pass) => pass(alloc, input, output, errors),
         Ok(Task::Join { out, parts }) => join(alloc, files, out, &parts, errors),
         Ok(Task::Check { parts }) => report(alloc, files, &Check, &parts, output, errors),
+        Ok(Task::Object { id, parts }) => object(alloc, files, id, &parts, output, errors),
         Err(error) => answer_words(alloc, &error, &mut output, errors),
     }
 }

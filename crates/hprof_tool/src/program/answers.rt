@@ -72,3 +72,11 @@ pub(crate) fn answer_no_words<E: Write>(alloc: Global, error: &io::Error, errors
     let _ = writeln!(errors, "hprof: the words are no text");
     Status::NotUnderstood
 }
+
+/// Answers that a word is no identifier.
+pub(crate) fn answer_no_id<E: Write>(errors: &mut E) -> Status
+    ensures { result ≡ Status.NotUnderstood }
+{
+    let _ = writeln!(errors, "hprof: not an identifier");
+    Status::NotUnderstood
+}

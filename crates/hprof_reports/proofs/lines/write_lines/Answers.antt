@@ -19,7 +19,7 @@ returns-in_err-write_text-clause-bytes g c = λ naming is.
     let p = err_from_is_err_and c.from_residual-in_err-write_text.result c.from_residual-in_err-write_text.ensures.1 in
     let next = c.in_ok-line.ensures.next naming (rw c.loop-lines.invariant.same is) in
     let line : g.L.Lines.lines_left c.loop-lines.lines naming
-        ≡ string_bytes c.in-Some.line ∷ g.L.Lines.lines_left c.next_line.new.self naming = rw c.in-Some.is at next in
+    ≡ string_bytes c.in-Some.line ∷ g.L.Lines.lines_left c.next_line.new.self naming = rw c.in-Some.is at next in
     pushed_stops_within c.from_residual-in_err-write_text.result p.0 p.1 (g.W.Target.written c.args.target.now)
     (g.W.Target.written c.loop-lines.target) (text_of_lines (g.L.Lines.lines_left c.args.lines naming))
     (text_of_lines (g.L.Lines.lines_left c.loop-lines.lines naming)) (c.loop-lines.invariant.pushed naming is)
@@ -36,7 +36,7 @@ loop-lines-preserved g c = record {
   pushed = λ naming is.
       let next = c.in_ok-line.ensures.next naming (rw c.loop-lines.invariant.same is) in
       let line : g.L.Lines.lines_left c.loop-lines.lines naming
-          ≡ string_bytes c.in-Some.line ∷ g.L.Lines.lines_left c.next_line.new.self naming = rw c.in-Some.is at next in
+      ≡ string_bytes c.in-Some.line ∷ g.L.Lines.lines_left c.next_line.new.self naming = rw c.in-Some.is at next in
       Pushed-more (g.W.Target.written c.args.target.now) (g.W.Target.written c.loop-lines.target)
       (g.W.Target.written c.write_text.new.target) (text_of_lines (g.L.Lines.lines_left c.args.lines naming))
       (text_of_lines (g.L.Lines.lines_left c.loop-lines.lines naming)) (string_bytes c.in-Some.line)

@@ -1,22 +1,38 @@
-use Rattle.std.proofs.Common.{rules, ◌≡◌, ℕ, List, IfOk, string_bytes, ◌+◌, ◌-◌, ◌*◌, ◌<◌, ◌≤◌, length, ◌/◌, ◌%◌, Bool, true, false, nat_eq, nat_lt, [], ◌∷◌, ◌++◌, slice_index_or, slice_set, bit_and, bit_or, Fits, w8, w32, w64, Bor, MutBor}
+use Rattle.std.proofs.Common.{Option, Some, sym, subst}
 use Rattle.std.specs.Option.{option_map}
-use Rattle.hprof_lists.specs.Lists.{identifiers_of}
-use Rattle.hprof_devices.specs.declared.health.Health.TheVariants.{Well}
-use Rattle.hprof_finding.specs.HeapFacts.{facts_of, size_of}
+use Rattle.std.proofs.lemmas.Result.{err_from_is_err_and}
+use Rattle.hprof_finding.specs.HeapFacts.{size_of}
+use Rattle.hprof_finding.specs.declared.class_row.ClassRow.{ClassRow}
+use Rattle.hprof_finding.specs.declared.object_row.ObjectRow.{ObjectRow}
 use Rattle.hprof_finding.specs.ClassRow.{dump_of}
 use Rattle.hprof_finding.specs.ObjectRow.{fact_of_object}
-use Rattle.hprof_layouts.specs.Fields.{AreFields, FieldsValue, fields_value}
-use Rattle.hprof_naming.specs.Naming.{IsNaming, Naming}
-use Rattle.hprof_reports.specs.ObjectText.{IsObjectText, class_text, constants_text, elements_text, fields_text, found_text, nothing_line, object_text, own_fields_text, statics_text, why_no_fields}
-use Rattle.hprof_reports.specs.Stopping.{LeavesTarget, WritesText}
+use Rattle.hprof_reports.specs.ObjectText.{class_text, found_text, object_text}
+use Rattle.hprof_reports.specs.Stopping.{WritesText}
+use Rattle.hprof_reports.proofs.TextWriting.{text_stops, text_then}
 use Rattle.hprof_reports.proofs.object.write_found.Goals as goal
 
--- src/object.rt:246:13
-pub returns-in_err-write_class-in-Some-Some-clause-bytes :
-    goal.returns-in_err-write_class-in-Some-Some-clause-bytes
-returns-in_err-write_class-in-Some-Some-clause-bytes g c = ?
+pub returns-in_err-write_class-in-Some-Some-clause-bytes : goal.returns-in_err-write_class-in-Some-Some-clause-bytes
+returns-in_err-write_class-in-Some-Some-clause-bytes g c = λ naming shown is are.
+    let ids = size_of c.args.heap.now in
+    let it = c.in-Some-Some in
+    let r = c.from_residual.result in
+    let p = err_from_is_err_and r c.from_residual.ensures.1 in
+    subst (λ (class : Option ClassRow). WritesText (g.W.Target.written c.args.target.now) (g.W.Target.written c.write_class-in-Some-Some.new.target) r
+    (found_text naming ids c.args.id shown (option_map dump_of class) (option_map fact_of_object c.args.object))) (sym it.is-0)
+    (subst (λ (object : Option ObjectRow). WritesText (g.W.Target.written c.args.target.now) (g.W.Target.written c.write_class-in-Some-Some.new.target) r
+    (found_text naming ids c.args.id shown (Some (dump_of it.row)) (option_map fact_of_object object))) (sym it.is-1)
+    (text_stops r (g.W.Target.written c.args.target.now) (g.W.Target.written c.write_class-in-Some-Some.new.target) p.0 (class_text naming ids (dump_of it.row))
+    (object_text naming ids shown (fact_of_object it.object)) p.1 (c.in_err-write_class-in-Some-Some.ensures.bytes naming is)))
 
--- src/object.rt:226:1
-pub returns-in_ok-write_class-in-Some-Some-clause-bytes :
-    goal.returns-in_ok-write_class-in-Some-Some-clause-bytes
-returns-in_ok-write_class-in-Some-Some-clause-bytes g c = ?
+pub returns-in_ok-write_class-in-Some-Some-clause-bytes : goal.returns-in_ok-write_class-in-Some-Some-clause-bytes
+returns-in_ok-write_class-in-Some-Some-clause-bytes g c = λ naming shown is are.
+    let ids = size_of c.args.heap.now in
+    let it = c.in-Some-Some in
+    let r = c.write_object_row-in-Some-Some.result in
+    subst (λ (class : Option ClassRow). WritesText (g.W.Target.written c.args.target.now) (g.W.Target.written c.write_object_row-in-Some-Some.new.target) r
+    (found_text naming ids c.args.id shown (option_map dump_of class) (option_map fact_of_object c.args.object))) (sym it.is-0)
+    (subst (λ (object : Option ObjectRow). WritesText (g.W.Target.written c.args.target.now) (g.W.Target.written c.write_object_row-in-Some-Some.new.target) r
+    (found_text naming ids c.args.id shown (Some (dump_of it.row)) (option_map fact_of_object object))) (sym it.is-1)
+    (text_then r (g.W.Target.written c.args.target.now) (g.W.Target.written c.write_class-in-Some-Some.new.target) (g.W.Target.written c.write_object_row-in-Some-Some.new.target) (class_text naming ids (dump_of it.row))
+    (object_text naming ids shown (fact_of_object it.object)) (c.in_ok-write_class-in-Some-Some.ensures.bytes naming is)
+    (c.write_object_row-in-Some-Some.ensures.bytes naming shown is are)))

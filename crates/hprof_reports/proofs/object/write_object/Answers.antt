@@ -1,16 +1,35 @@
-use Rattle.std.proofs.Common.{rules, ◌≡◌, ℕ, List, IfOk, string_bytes, ◌+◌, ◌-◌, ◌*◌, ◌<◌, ◌≤◌, length, ◌/◌, ◌%◌, Bool, true, false, nat_eq, nat_lt, [], ◌∷◌, ◌++◌, slice_index_or, slice_set, bit_and, bit_or, Fits, w8, w32, w64, Bor, MutBor}
+use Rattle.std.proofs.Common.{refl}
 use Rattle.std.specs.Option.{option_map}
-use Rattle.hprof_lists.specs.Lists.{identifiers_of}
-use Rattle.hprof_devices.specs.declared.health.Health.TheVariants.{Well}
 use Rattle.hprof_finding.specs.HeapFacts.{facts_of, size_of}
 use Rattle.hprof_finding.specs.ClassRow.{dump_of}
 use Rattle.hprof_finding.specs.ObjectRow.{fact_of_object}
-use Rattle.hprof_layouts.specs.Fields.{AreFields, FieldsValue, fields_value}
-use Rattle.hprof_naming.specs.Naming.{IsNaming, Naming}
-use Rattle.hprof_reports.specs.ObjectText.{IsObjectText, class_text, constants_text, elements_text, fields_text, found_text, nothing_line, object_text, own_fields_text, statics_text, why_no_fields}
-use Rattle.hprof_reports.specs.Stopping.{LeavesTarget, WritesText}
+use Rattle.hprof_layouts.proofs.FieldAnswers.{fields_exist}
+use Rattle.hprof_naming.proofs.Namings.{naming_exists}
+use Rattle.hprof_reports.specs.ObjectText.{found_text}
+use Rattle.hprof_reports.proofs.ObjectParts.{class_is_found, object_is_found}
 use Rattle.hprof_reports.proofs.object.write_object.Goals as goal
 
--- src/object.rt:254:1
 pub returns-clause-bytes : goal.returns-clause-bytes
-returns-clause-bytes g c = ?
+returns-clause-bytes g c =
+    let ids = size_of c.args.heap.now in
+    let facts = facts_of c.args.heap.now in
+    let id = c.args.id in
+    let naming = naming_exists facts in
+    let shown = fields_exist ids facts id in
+    let class = c.find_class-class in
+    let object = c.find_object-object in (
+      found_text naming.0 ids id shown.0 (option_map dump_of class.result) (option_map fact_of_object object.result),
+      record {
+        agree = c.id_size-ids.ensures.agree;
+        naming = naming.0;
+        is_naming = naming.1;
+        class = option_map dump_of class.result;
+        class_found = class_is_found facts id class.result class.ensures.found class.ensures.id class.ensures.none;
+        object = option_map fact_of_object object.result;
+        object_found = object_is_found facts id object.result object.ensures.found object.ensures.id object.ensures.none;
+        fields = shown.0;
+        are_fields = shown.1;
+        is = refl;
+      },
+      c.write_found.ensures.bytes naming.0 shown.0 naming.1 shown.1,
+    )

@@ -1,0 +1,32 @@
+-- What is found of an identifier, and what is said of it.
+use Rattle.std.proofs.Common.{◌≡◌, ℕ, List, Option, Some, None, refl}
+use Rattle.std.specs.Prelude.{IfNone, IfSome}
+use Rattle.std.specs.Option.{option_map}
+use Rattle.hprof_values.specs.declared.ids.IdSize.{IdSize}
+use Rattle.hprof_items.specs.FactValue.{FactValue}
+use Rattle.hprof_rows.specs.Facts.{Has}
+use Rattle.hprof_finding.specs.declared.class_row.ClassRow.{ClassRow}
+use Rattle.hprof_finding.specs.declared.object_row.ObjectRow.{ObjectRow}
+use Rattle.hprof_finding.specs.ClassRow.{dump_of}
+use Rattle.hprof_finding.specs.Classes.{HasDump, HasNoDump}
+use Rattle.hprof_finding.specs.ObjectRow.{fact_of_object}
+use Rattle.hprof_finding.specs.Objects.{IsObject, HasNoObject}
+use Rattle.hprof_layouts.specs.declared.field_value.Fields.{Fields}
+use Rattle.hprof_layouts.specs.declared.field_value.Fields.TheVariants as variants
+use Rattle.hprof_layouts.specs.declared.field_value.FieldValue.{FieldValue}
+use Rattle.hprof_layouts.specs.Fields.{fields_value}
+use Rattle.hprof_naming.specs.Naming.{Naming}
+use Rattle.hprof_reports.specs.ObjectText.{IsClassFound, IsObjectFound, fields_text, why_no_fields}
+
+-- the class dump that a look-up found, if there is one
+pub class_is_found : (facts : List FactValue) (id : ℕ) (row : Option ClassRow) → IfSome row (λ r. HasDump facts (dump_of r))
+    → IfSome row (λ r. r.id ≡ id) → IfNone row (HasNoDump facts id) → IsClassFound facts id (option_map dump_of row)
+class_is_found facts id (Some row) found same none = (found, same)
+class_is_found facts id None found same none = none
+
+-- the object dump
+pub object_is_found : (facts : List FactValue) (id : ℕ) (row : Option ObjectRow) → IfSome row (λ r. Has facts (fact_of_object r))
+    → IfSome row (λ r. IsObject id (fact_of_object r)) → IfNone row (HasNoObject facts id)
+    → IsObjectFound facts id (option_map fact_of_object row)
+object_is_found facts id (Some row) found same none = (found, same)
+object_is_found facts id None found same none = none
