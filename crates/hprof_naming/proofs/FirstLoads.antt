@@ -55,9 +55,9 @@ one_behind facts last = record {
   kept = λ fact has. Has-front facts (last ∷ []) fact has;
   added = Has-back facts (last ∷ []) last (inl refl);
   only = λ fact has. elim (Has-parts facts (last ∷ []) fact has) [
-      | inl h ↦ inl h
-      | inr h ↦ elim h [ inl e ↦ inr e | inr none ↦ absurd none ]
-    ];
+    | inl h ↦ inl h
+    | inr h ↦ elim h [ inl e ↦ inr e | inr none ↦ absurd none ]
+  ];
 }
 
 pub one_before : (facts : List FactValue) (last : FactValue) → IsOneMore facts (last ∷ facts) last

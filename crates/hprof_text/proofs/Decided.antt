@@ -24,9 +24,9 @@ follows_or_not (x ∷ front) (y ∷ all) =
     elim (cases_eq y x) [
       | inr differ ↦ inr (λ f. let e = f.parts in let same : y ≡ x = cc in absurd (differ same))
       | inl same ↦ elim (follows_or_not front all) [
-          | inl f ↦ inl (record { rest = f.rest; parts = let e = f.parts in cc })
-          | inr none ↦ inr (λ f. let e = f.parts in none (record { rest = f.rest; parts = cc }))
-        ]
+        | inl f ↦ inl (record { rest = f.rest; parts = let e = f.parts in cc })
+        | inr none ↦ inr (λ f. let e = f.parts in none (record { rest = f.rest; parts = cc }))
+      ]
     ]
 
 -- the unit at the front
@@ -45,12 +45,12 @@ begins_or_not (suc below) bytes =
     elim (begins_or_not below bytes) [
       | inl b ↦ inl (record { unit = b.unit; small = let s = b.small in omega arith; follows = b.follows })
       | inr none ↦ elim (follows_or_not (unit_bytes below) bytes) [
-          | inl f ↦ inl (record { unit = below; small = omega arith; follows = f })
-          | inr not ↦ inr (λ unit small. elim (cases_eq unit below) [
-              | inl same ↦ rw same not
-              | inr differ ↦ none unit (omega arith)
-            ])
-        ]
+        | inl f ↦ inl (record { unit = below; small = omega arith; follows = f })
+        | inr not ↦ inr (λ unit small. elim (cases_eq unit below) [
+          | inl same ↦ rw same not
+          | inr differ ↦ none unit (omega arith)
+        ])
+      ]
     ]
 
 -- ---- bytes have units, or none
@@ -65,11 +65,13 @@ rest_has unit bytes rest e (units, is) small = go units is where
       (us, record { in_range = All-tail fits u us is.in_range; encoded = same.1 })
 
 all_have : (unit : ℕ) (bytes rest : List ℕ) → bytes ≡ unit_bytes unit ++ rest → unit < 2 ^ 16 → HasUnits rest → HasUnits bytes
-all_have unit bytes rest e small has =
-    (unit ∷ has.0, record {
-      in_range = All-cons fits unit has.0 small has.1.in_range;
-      encoded = e ∙ ap (λ (l : List ℕ). unit_bytes unit ++ l) has.1.encoded;
-    })
+all_have unit bytes rest e small has = (
+  unit ∷ has.0,
+  record {
+    in_range = All-cons fits unit has.0 small has.1.in_range;
+    encoded = e ∙ ap (λ (l : List ℕ). unit_bytes unit ++ l) has.1.encoded;
+  },
+)
 
 -- no unit stands at the front of bytes that are there
 none_has : (byte : ℕ) (bytes : List ℕ) → NoneBelow (2 ^ 16) (byte ∷ bytes) → ¬ (HasUnits (byte ∷ bytes))
