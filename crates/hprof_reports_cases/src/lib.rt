@@ -1,0 +1,13 @@
+//! Tests of the reports on what a heap holds, and of hprof_naming, through public calls. It has no code of its own.
+#![tactic(auto)]
+
+#[cfg(test)]
+mod expecting;
+#[cfg(test)]
+mod names;
+#[cfg(test)]
+mod objects;
+#[cfg(test)]
+mod samples;
+#[cfg(test)]
+mod writers;
