@@ -52,7 +52,7 @@ module _ (ids : IdSize) where
   in_first place slot slots bytes reference false other there = absurd (nothing_there reference there)
   in_first place slot slots bytes reference true is_so there =
       let same : record { place = place; to = big_number (width_of_basic ids slot.basic) bytes } ≡ reference =
-          one_there _ reference there in
+      one_there _ reference there in
       record {
         at = 0;
         value = value_at ids slot bytes;
@@ -87,7 +87,8 @@ module _ (ids : IdSize) where
       let rest = references_in ids (place + 1) slots (drop (width_of_basic ids slot.basic) bytes) in
       let first : Reference = record { place = place; to = big_number (width_of_basic ids slot.basic) bytes } in
       let is : first ≡ record { place = place + 0; to = value.bits } =
-      ap (λ (n : ℕ). record { place = n; to = big_number (width_of_basic ids slot.basic) bytes }) (let e : place ≡ place + 0 = omega arith in e)
+      ap (λ (n : ℕ). record { place = n; to = big_number (width_of_basic ids slot.basic) bytes })
+      (let e : place ≡ place + 0 = omega arith in e)
       ∙ ap (λ (v : FieldValue). record { place = place + 0; to = v.bits }) same in
       subst (λ (r : Reference). Contains (first_of place slot bytes (refers slot.basic) ++ rest) r) is
       (subst (λ (t : Bool). Contains (first_of place slot bytes t ++ rest) first) (sym refers_slot)

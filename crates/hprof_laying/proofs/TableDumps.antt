@@ -66,7 +66,7 @@ module _ (ids : IdSize) (all left later : List FactValue) (known other : KnownLa
   -- a class came
   pub came_more : (dump : ClassDump) → fact_of_dump dump ≡ fact → IsCanonicalOrder all
       → ((facts more : List FactValue) → Knows ids facts known → HasNoDump facts dump.id → HasDumpMore facts dump more
-          → Knows ids more other)
+      → Knows ids more other)
       → Coming ids all later other
   came_more dump is ordered comes =
       let here : IsCanonicalOrder (coming.came ++ fact_of_dump dump ∷ later) =
