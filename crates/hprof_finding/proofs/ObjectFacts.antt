@@ -1,6 +1,6 @@
 -- Object dumps that are found by their keys.
 use Rattle.std.specs.List.{find}
-use Rattle.std.proofs.Common.{◌≡◌, ℕ, true, List, Option, Some, None, refl, Bor}
+use Rattle.std.proofs.Common.{◌≡◌, ℕ, List, Option, Some, None, refl, Bor}
 use Rattle.hprof_values.specs.declared.basic.Basic.{Basic}
 use Rattle.hprof_lists.specs.declared.lists.ids.IdList.{IdList}
 use Rattle.hprof_items.specs.declared.fact.Fact.{Fact}

@@ -76,9 +76,11 @@ module _ (ids : IdSize) (facts : List FactValue) (before : ℕ → Option Plan) 
 
   -- where none waited
   pub none_in_hand : (known other : KnownLayouts) → plan_of other ≡ plan_of known → waiting_below other ≡ waiting_below known
-      → waiting_below known class ≡ [] → IsWaking ids facts before known old (class ∷ pending) → Wakes ids facts before other old old pending
+      → waiting_below known class ≡ [] → IsWaking ids facts before known old (class ∷ pending)
+      → Wakes ids facts before other old old pending
   none_in_hand known other e f none waking =
-      let stands = stands_without ids facts (plan_of known) (waiting_below known) (class ∷ pending) waking.standing class pending refl none in
+      let stands = stands_without ids facts (plan_of known) (waiting_below known) (class ∷ pending) waking.standing class pending refl
+      none in
       let stands_other : Standing ids facts (plan_of other) (waiting_below other) pending =
       subst (λ (w : ℕ → List Waiting). Standing ids facts (plan_of other) w pending) (sym f)
       (subst (λ (p : ℕ → Option Plan). Standing ids facts p (waiting_below known) pending) (sym e) stands) in
@@ -94,8 +96,8 @@ module _ (ids : IdSize) (facts : List FactValue) (before : ℕ → Option Plan) 
 -- ---- one after the other
 
 -- the class at a place of the list is the next that is still to be woken below
-pub wakes_next : (ids : IdSize) (facts : List FactValue) (before : ℕ → Option Plan) (known : KnownLayouts) (woken : List ℕ) (place class : ℕ)
-    → place < length woken → class ≡ get_or woken place class → IsWaking ids facts before known woken (drop place woken)
+pub wakes_next : (ids : IdSize) (facts : List FactValue) (before : ℕ → Option Plan) (known : KnownLayouts) (woken : List ℕ)
+    (place class : ℕ) → place < length woken → class ≡ get_or woken place class → IsWaking ids facts before known woken (drop place woken)
     → IsReady (plan_of known) class × IsWaking ids facts before known woken (class ∷ drop (place + 1) woken)
 wakes_next ids facts before known woken place class within is waking =
     let next : drop place woken ≡ class ∷ drop (place + 1) woken =

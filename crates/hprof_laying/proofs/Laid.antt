@@ -27,8 +27,8 @@ use Rattle.hprof_laying.proofs.ReferenceSets.{are_references, no_references}
 use Rattle.hprof_laying.proofs.Wakings.{ready_outline}
 
 -- some slots were gone over: what was found, and what those that are left have over the bytes that are left, is the answer
-pub record Laying (ids : IdSize) (facts : List FactValue) (slots : List Slot) (bytes : List ℕ) (next : Option Jump) (rest : List ℕ) (place : ℕ)
-    (references : List Reference) : Type 0 where
+pub record Laying (ids : IdSize) (facts : List FactValue) (slots : List Slot) (bytes : List ℕ) (next : Option Jump) (rest : List ℕ)
+    (place : ℕ) (references : List Reference) : Type 0 where
   pub left : List Slot
   pub first : IsFirst ids facts left next
   pub fills : width_of_slots ids left ≡ length rest
@@ -118,11 +118,13 @@ module _ (ids : IdSize) (facts : List FactValue) (slots : List Slot) (bytes : Li
     lands_within plan found = let width = (landing_at plan found).width_is in let fills = laying.fills in omega arith
 
     -- there is such a plan
-    pub lands : ((plan : Plan) → plan_of known jump.class ≡ Some plan → 0 < plan.own.width → jump.offset + plan.own.width ≤ length rest → ⊥) → ⊥
+    pub lands : ((plan : Plan) → plan_of known jump.class ≡ Some plan → 0 < plan.own.width → jump.offset + plan.own.width ≤ length rest
+        → ⊥) → ⊥
     lands none = none planned.plan planned.found landing.some (lands_within planned.plan planned.found)
 
     -- what they refer to is found, and the slots above are left
-    module _ (plan : Plan) (found : plan_of known jump.class ≡ Some plan) (start : ℕ) (start_is : start ≡ min (place + jump.place) most) where
+    module _ (plan : Plan) (found : plan_of known jump.class ≡ Some plan) (start : ℕ)
+        (start_is : start ≡ min (place + jump.place) most) where
       pub own_here : List Slot
       own_here = (landing_at plan found).own
 
@@ -208,7 +210,8 @@ module _ (ids : IdSize) (facts : List FactValue) (known : KnownLayouts) (knows :
       not_both (plan_of known class) has.plan has.found none
 
   -- where the layout has another number of bytes, there is nothing
-  pub differs_laid : length bytes < 2 ^ 64 → (outline_at class (plan_of known class)).width ≢ length bytes → AreReferences ids facts class bytes []
+  pub differs_laid : length bytes < 2 ^ 64 → (outline_at class (plan_of known class)).width ≢ length bytes
+      → AreReferences ids facts class bytes []
   differs_laid small differs = no_references ids facts class bytes (λ values has.
       let ready = ready_outline ids facts (plan_of known) (waiting_below known) [] (knows_standing ids facts known knows) class
       (known_ready ids facts known knows class (has.slots, has.known)) in

@@ -6,7 +6,8 @@ use Rattle.std.specs.Option.{option_map_or, option_map, unwrap_or}
 use Rattle.std.specs.Ordering.{nat_cmp}
 use Rattle.std.proofs.Math.Path.{fun_ext}
 use Rattle.std.proofs.lemmas.Map.Entries.{sum_by-remove_entry}
-use Rattle.std.proofs.Common.{◌≡◌, ℕ, ◌==◌, ◌+◌, Bool, true, false, cond, List, [], length, sum_by, Option, Some, None, Vec, Global, refl, sym, ap, ◌∙◌}
+use Rattle.std.proofs.Common.{◌≡◌, ℕ, ◌==◌, ◌+◌, Bool, true, false, cond, List, [], length, sum_by, Option, Some, None, Vec, Global, refl}
+use Rattle.std.proofs.Common.{sym, ap, ◌∙◌}
 use Rattle.hprof_laying.specs.declared.known.KnownLayouts.{KnownLayouts}
 use Rattle.hprof_laying.specs.declared.known.Waiting.{Waiting}
 use Rattle.hprof_laying.specs.Known.{waiting_below}

@@ -136,8 +136,8 @@ module _ (ids : IdSize) (facts : List FactValue) where
           rest = above.rest;
           slots_are = is.slots_are ∙ ap (λ (l : List Slot). own ++ l) above.slots_are ∙ sym (append_assoc own above.before above.rest);
           none_refers = NoneRefers-append ids own above.before none above.none_refers;
-          offset_is = stopped_sum jump.offset (width_of_slots ids above.before) plan.own.width (width_of_slots ids (own ++ above.before)) most
-              above.offset_is width;
+          offset_is = stopped_sum jump.offset (width_of_slots ids above.before) plan.own.width (width_of_slots ids (own ++ above.before))
+              most above.offset_is width;
           place_is = stopped_sum jump.place (length above.before) plan.own.count (length (own ++ above.before)) most above.place_is count;
           not_zero = above.not_zero;
           known = above.known;

@@ -53,7 +53,8 @@ module _ (ids : IdSize) where
       → width_of_slots ids (slot ∷ slots) ≡ width_of_basic ids slot.basic + width_of_slots ids slots
   width-cons slot slots = sum_by-cons (λ (s : Slot). width_of_basic ids s.basic) slot slots
 
-  pub width-append : (slots others : List Slot) → width_of_slots ids (slots ++ others) ≡ width_of_slots ids slots + width_of_slots ids others
+  pub width-append : (slots others : List Slot)
+      → width_of_slots ids (slots ++ others) ≡ width_of_slots ids slots + width_of_slots ids others
   width-append slots others = sum_by-append (λ (s : Slot). width_of_basic ids s.basic) slots others
 
   -- there are no more slots than bytes
@@ -74,10 +75,12 @@ module _ (ids : IdSize) where
   references_in-append place [] others bytes =
       ap (λ (p : ℕ). references_in ids p others bytes) (let e : place ≡ place + 0 = omega arith in e)
   references_in-append place (slot ∷ slots) others bytes =
-      let head : List Reference = cond (refers slot.basic) (record { place = place; to = big_number (width_of_basic ids slot.basic) bytes } ∷ []) [] in
+      let head : List Reference =
+      cond (refers slot.basic) (record { place = place; to = big_number (width_of_basic ids slot.basic) bytes } ∷ []) [] in
       let behind = drop (width_of_basic ids slot.basic) bytes in
       let places : (place + 1) + length slots ≡ place + length (slot ∷ slots) = omega arith in
-      let widths : width_of_basic ids slot.basic + width_of_slots ids slots ≡ width_of_slots ids (slot ∷ slots) = sym (width-cons slot slots) in
+      let widths : width_of_basic ids slot.basic + width_of_slots ids slots ≡ width_of_slots ids (slot ∷ slots) =
+      sym (width-cons slot slots) in
       ap (λ (l : List Reference). head ++ l)
       (references_in-append (place + 1) slots others behind
       ∙ ap (λ (l : List ℕ). references_in ids (place + 1) slots behind ++ references_in ids ((place + 1) + length slots) others l)

@@ -1,6 +1,7 @@
 -- What own fields refer to, put one by one behind other references.
 use Rattle.std.specs.List.{AllByRecursion}
-use Rattle.std.proofs.Common.{◌≡◌, ℕ, zero, suc, ◌+◌, ◌-◌, ◌^◌, ◌<◌, min, List, [], ◌∷◌, ◌++◌, map, length, get_or, drop, sym, ap, subst, ◌∙◌}
+use Rattle.std.proofs.Common.{◌≡◌, ℕ, zero, suc, ◌+◌, ◌-◌, ◌^◌, ◌<◌, min, List, [], ◌∷◌, ◌++◌, map, length, get_or, drop, sym, ap, subst}
+use Rattle.std.proofs.Common.{◌∙◌}
 use Rattle.std.proofs.Common.{append_assoc, arith}
 use Rattle.byteorder.specs.Endian.{big_number}
 use Rattle.hprof_values.specs.declared.ids.IdSize.{IdSize}
@@ -14,7 +15,8 @@ use Rattle.hprof_laying.specs.OwnFields.{IsOwn, references_in}
 use Rattle.hprof_laying.proofs.Places.{IsWithin, reference_at, references_in-referring, referring-within}
 
 -- what holds of each element holds at a place
-pub at_place : {X : Type 0} (P : X → Type 0) (xs : List X) (place : ℕ) (d : X) → AllByRecursion P xs → place < length xs → P (get_or xs place d)
+pub at_place : {X : Type 0} (P : X → Type 0) (xs : List X) (place : ℕ) (d : X) → AllByRecursion P xs → place < length xs
+    → P (get_or xs place d)
 at_place P [] place d all lt = absurd (omega arith)
 at_place P (x ∷ xs) zero d all lt = all.0
 at_place P (x ∷ xs) (suc place) d all lt = at_place P xs place d all.1 (omega arith)

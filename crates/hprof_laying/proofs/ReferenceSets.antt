@@ -6,7 +6,8 @@ use Rattle.std.specs.List.Sorted.{IsStrictlySortedBy, IsStrictlyIncreasing}
 use Rattle.std.specs.Ordering.{nat_cmp}
 use Rattle.std.specs.declared.cmp.Ordering.TheVariants.{Less}
 use Rattle.std.proofs.lemmas.Map.Keys.{IsStrictlyIncreasing-from_sorted}
-use Rattle.std.proofs.lemmas.List.Elements.{Contains-append_left, Contains-append_right, Contains-append_cases, Contains-push, Contains-push_cases}
+use Rattle.std.proofs.lemmas.List.Elements.{Contains-append_left, Contains-append_right, Contains-append_cases, Contains-push}
+use Rattle.std.proofs.lemmas.List.Elements.{Contains-push_cases}
 use Rattle.std.proofs.Common.{◌≡◌, ℕ, zero, suc, ◌+◌, ◌<◌, Bool, true, false, cond, List, [], ◌∷◌, ◌++◌, map, length, drop, Contains, Some}
 use Rattle.std.proofs.Common.{refl, sym, ap, subst, ◌∙◌, inl, inr, arith}
 use Rattle.byteorder.specs.Endian.{big_number}
@@ -50,7 +51,8 @@ module _ (ids : IdSize) where
       → Contains (first_of place slot bytes t) reference → InValues place (slot ∷ slots) bytes reference
   in_first place slot slots bytes reference false other there = absurd (nothing_there reference there)
   in_first place slot slots bytes reference true is_so there =
-      let same : record { place = place; to = big_number (width_of_basic ids slot.basic) bytes } ≡ reference = one_there _ reference there in
+      let same : record { place = place; to = big_number (width_of_basic ids slot.basic) bytes } ≡ reference =
+      one_there _ reference there in
       record {
         at = 0;
         value = value_at ids slot bytes;
@@ -65,7 +67,8 @@ module _ (ids : IdSize) where
   in_values place [] bytes reference there = absurd (nothing_there reference there)
   in_values place (slot ∷ slots) bytes reference there =
       let behind = drop (width_of_basic ids slot.basic) bytes in
-      elim (Contains-append_cases (first_of place slot bytes (refers slot.basic)) (references_in ids (place + 1) slots behind) reference there) [
+      elim (Contains-append_cases (first_of place slot bytes (refers slot.basic)) (references_in ids (place + 1) slots behind) reference
+      there) [
         | inl here ↦ in_first place slot slots bytes reference (refers slot.basic) refl here
         | inr later ↦
             let is = in_values (place + 1) slots behind reference later in
@@ -84,7 +87,8 @@ module _ (ids : IdSize) where
       let rest = references_in ids (place + 1) slots (drop (width_of_basic ids slot.basic) bytes) in
       let first : Reference = record { place = place; to = big_number (width_of_basic ids slot.basic) bytes } in
       let is : first ≡ record { place = place + 0; to = value.bits } =
-      ap (λ (n : ℕ). record { place = n; to = big_number (width_of_basic ids slot.basic) bytes }) (let e : place ≡ place + 0 = omega arith in e)
+      ap (λ (n : ℕ). record { place = n; to = big_number (width_of_basic ids slot.basic) bytes })
+      (let e : place ≡ place + 0 = omega arith in e)
       ∙ ap (λ (v : FieldValue). record { place = place + 0; to = v.bits }) same in
       subst (λ (r : Reference). Contains (first_of place slot bytes (refers slot.basic) ++ rest) r) is
       (subst (λ (t : Bool). Contains (first_of place slot bytes t ++ rest) first) (sym refers_slot)

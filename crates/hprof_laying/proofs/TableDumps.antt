@@ -57,15 +57,16 @@ one_dump_more came dump other = (there, back) where
   back (inl was) = Has-front came (fact_of_dump dump ∷ []) (fact_of_dump other) was
   back (inr same) = Has-back came (fact_of_dump dump ∷ []) (fact_of_dump other) (inl (ap fact_of_dump same))
 
-module _ (ids : IdSize) (all left later : List FactValue) (known other : KnownLayouts) (fact : FactValue) (coming : Coming ids all left known)
-    (next : left ≡ fact ∷ later) where
+module _ (ids : IdSize) (all left later : List FactValue) (known other : KnownLayouts) (fact : FactValue)
+    (coming : Coming ids all left known) (next : left ≡ fact ∷ later) where
   parts : all ≡ (coming.came ++ fact ∷ []) ++ later
   parts =
       coming.all_are ∙ ap (λ (l : List FactValue). coming.came ++ l) next ∙ sym (append_assoc coming.came (fact ∷ []) later)
 
   -- a class came
   pub came_more : (dump : ClassDump) → fact_of_dump dump ≡ fact → IsCanonicalOrder all
-      → ((facts more : List FactValue) → Knows ids facts known → HasNoDump facts dump.id → HasDumpMore facts dump more → Knows ids more other)
+      → ((facts more : List FactValue) → Knows ids facts known → HasNoDump facts dump.id → HasDumpMore facts dump more
+      → Knows ids more other)
       → Coming ids all later other
   came_more dump is ordered comes =
       let here : IsCanonicalOrder (coming.came ++ fact_of_dump dump ∷ later) =
@@ -97,8 +98,8 @@ module _ (ids : IdSize) (all left later : List FactValue) (known other : KnownLa
     back dump has = Has-front coming.came (fact ∷ []) (fact_of_dump dump) has
 
 -- the class dumps of a heap came
-pub all_came : (ids : IdSize) (facts left : List FactValue) (known : KnownLayouts) → Coming ids (facts_of_table tables.Classes facts) left known
-    → left ≡ [] → Knows ids facts known
+pub all_came : (ids : IdSize) (facts left : List FactValue) (known : KnownLayouts)
+    → Coming ids (facts_of_table tables.Classes facts) left known → left ≡ [] → Knows ids facts known
 all_came ids facts left known coming none =
     let table = facts_of_table tables.Classes facts in
     let same : table ≡ coming.came =

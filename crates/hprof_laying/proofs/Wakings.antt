@@ -5,7 +5,8 @@ use Rattle.std.specs.List.{IsDistinct, AllByRecursion, list_any}
 use Rattle.std.proofs.Math.Path.{fun_ext}
 use Rattle.std.proofs.lemmas.Bool.{cases_eq, eq-eqb, eqb-true, false_from_ne_true}
 use Rattle.std.proofs.lemmas.List.{map-append}
-use Rattle.std.proofs.lemmas.List.Elements.{Contains-append_left, Contains-append_right, Contains-append_cases, Contains-push, Contains-push_cases}
+use Rattle.std.proofs.lemmas.List.Elements.{Contains-append_left, Contains-append_right, Contains-append_cases, Contains-push}
+use Rattle.std.proofs.lemmas.List.Elements.{Contains-push_cases}
 use Rattle.std.proofs.lemmas.Map.Keys.{IsDistinct-push, IsDistinct-head, IsDistinct-tail}
 use Rattle.std.proofs.lemmas.Map.Views.{Contains-from_any}
 use Rattle.std.proofs.Common.{◌≡◌, ℕ, ◌==◌, Bool, true, false, cond, List, [], ◌∷◌, ◌++◌, map, Contains, Option, Some, None, nat_eq}
@@ -171,7 +172,8 @@ module _ (ids : IdSize) (facts : List FactValue) (plans : ℕ → Option Plan) (
 -- ---- a class that comes
 
 module _ (ids : IdSize) (facts more : List FactValue) (plans : ℕ → Option Plan) (waits : ℕ → List Waiting)
-    (stands : Standing ids facts plans waits []) (dump : ClassDump) (new : HasNoDump facts dump.id) (are : HasDumpMore facts dump more) where
+    (stands : Standing ids facts plans waits []) (dump : ClassDump) (new : HasNoDump facts dump.id)
+    (are : HasDumpMore facts dump more) where
   stays : (other : ClassDump) → HasDump facts other → HasDump more other
   stays other has = (are other).1 (inl has)
 
@@ -197,7 +199,8 @@ module _ (ids : IdSize) (facts more : List FactValue) (plans : ℕ → Option Pl
   stands_zero is_zero = record {
     each = each_more;
     plans_are = plans_more;
-    waits_are = λ superclass waiting there. waiting_stays facts more stays ids superclass waiting (stands.waits_are superclass waiting there);
+    waits_are = λ superclass waiting there.
+        waiting_stays facts more stays ids superclass waiting (stands.waits_are superclass waiting there);
     unplanned = stands.unplanned;
     all = λ other has not_zero. elim ((are other).0 has) [
       | inl was ↦ stands.all other was not_zero

@@ -19,7 +19,7 @@ use Rattle.hprof_laying.specs.Plan.{IsPlan}
 abbrev pub HasLayout : List FactValue → ℕ → Type 0
 HasLayout facts class = (slots : List Slot) × IsKnown facts class slots
 
--- the facts have the class dumps of others, and one more
+-- the last facts have the class dumps of the first, and this one
 abbrev pub HasDumpMore : List FactValue → ClassDump → List FactValue → Type 0
 HasDumpMore facts row more = (dump : ClassDump) → HasDump more dump ↔ (HasDump facts dump ⊎ (dump ≡ row))
 

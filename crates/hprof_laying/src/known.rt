@@ -158,7 +158,8 @@ impl KnownLayouts {
     }
 
     /// Puts what an instance of the class that has these bytes refers to in the place of other references, in the order of
-    /// its fields. There is nothing where the layout of the class is not known, or has another number of bytes.
+    /// its fields. There is nothing where the layout of the class is not known, or has another number of bytes. Where memory
+    /// is refused, nothing holds of the references.
     pub fn lay(
         &self,
         class: u64,

@@ -4,7 +4,8 @@ use Rattle.hprof_laying.specs.declared.plan.Outline.{Outline}
 use Rattle.hprof_laying.specs.Known.{plan_of}
 use Rattle.hprof_laying.specs.OwnFields.{references_in}
 use Rattle.hprof_laying.specs.Plan.{IsFirst, outline_at}
-use Rattle.hprof_laying.proofs.Laid.{Laying, differs_laid, laid, lands, laying_begins, laying_ends, laying_on, own_are, own_few, own_here, own_wide}
+use Rattle.hprof_laying.proofs.Laid.{Laying, differs_laid, laid, lands, laying_begins, laying_ends, laying_on, own_are, own_few, own_here}
+use Rattle.hprof_laying.proofs.Laid.{own_wide}
 use Rattle.hprof_laying.proofs.known.KnownLayouts.lay.Goals as goal
 
 pub returns-then-outline-bytes : goal.returns-then-outline-bytes

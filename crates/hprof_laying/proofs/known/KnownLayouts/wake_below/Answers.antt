@@ -35,8 +35,8 @@ loop-below-init c =
       taken = ap (λ (w : ℕ → List Waiting). w c.args.class) taken ∙ put-here (waiting_below known) c.args.class [] c.args.class refl;
       counted = omega arith;
       hand = λ ids facts before pending ready waking.
-          hand_begins ids facts before c.args.class pending c.args.woken.now.items (plan_of known) (waiting_below known) (waiting_below other)
-          (into_iter_items c.into_iter-below-iterator.result) taken given waking.standing waking.woke;
+          hand_begins ids facts before c.args.class pending c.args.woken.now.items (plan_of known) (waiting_below known)
+          (waiting_below other) (into_iter_items c.into_iter-below-iterator.result) taken given waking.standing waking.woke;
     }
 
 pub loop-below-preserved : goal.loop-below-preserved
@@ -47,7 +47,8 @@ loop-below-preserved c =
     let later = into_iter_items c.next.new.self in
     let plans = get-updated c.loop-below.self.plans c.insert.new.self first.class (Some (plan_below c.outline-outline.result first.own))
     (subst (λ (p : Plan). (at : ℕ) → get nat_cmp c.insert.new.self at
-    ≡ cond (is_at (nat_cmp first.class) at) (Some p) (get nat_cmp c.loop-below.self.plans at)) c.below.ensures c.in_ok-insert.ensures.updates.0) in
+    ≡ cond (is_at (nat_cmp first.class) at) (Some p) (get nat_cmp c.loop-below.self.plans at)) c.below.ensures
+    c.in_ok-insert.ensures.updates.0) in
     let lengths = ap (λ (l : List Waiting). length l) steps.0 in
     let pushed = c.in_ok-push.ensures.len in
     let counted = was.counted in
@@ -61,8 +62,8 @@ loop-below-preserved c =
           subst (IsOutline ids facts above.slots) (sym c.outline-outline.ensures) above.outline_are in
           subst (λ (l : List ℕ). InHand ids facts before c.args.class pending c.args.woken.now.items (get nat_cmp c.insert.new.self)
           (waiting_below c.loop-below.self) l later) (sym c.in_ok-push.ensures.items)
-          (hand_more ids facts before c.args.class pending c.args.woken.now.items (plan_of c.loop-below.self) (get nat_cmp c.insert.new.self)
-          (waiting_below c.loop-below.self) c.loop-below.woken.items (into_iter_items c.loop-below.below-iterator) later first above.slots
+          (hand_more ids facts before c.args.class pending c.args.woken.now.items (plan_of c.loop-below.self)
+          (get nat_cmp c.insert.new.self) (waiting_below c.loop-below.self) c.loop-below.woken.items (into_iter_items c.loop-below.below-iterator) later first above.slots
           c.outline-outline.result above.known outline (was.hand ids facts before pending ready waking) steps.0 plans);
     }
 
@@ -73,5 +74,5 @@ returns-clause-ok c = λ ids facts before pending ready waking.
     let ended = c.in-None.ensures.steps.0 in
     let none : into_iter_items c.loop-below.below-iterator ≡ [] = no_elements (into_iter_items c.loop-below.below-iterator) (omega arith) in
     hand_ends ids facts before c.args.class pending c.args.woken.now.items c.loop-below.self c.loop-below.woken.items
-    (subst (InHand ids facts before c.args.class pending c.args.woken.now.items (plan_of c.loop-below.self) (waiting_below c.loop-below.self)
-    c.loop-below.woken.items) none hand) c.loop-below.invariant.taken
+    (subst (InHand ids facts before c.args.class pending c.args.woken.now.items (plan_of c.loop-below.self)
+    (waiting_below c.loop-below.self) c.loop-below.woken.items) none hand) c.loop-below.invariant.taken
