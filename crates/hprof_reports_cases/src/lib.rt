@@ -1,8 +1,11 @@
-//! Tests of the reports on what a heap holds, and of hprof_naming, through public calls. It has no code of its own.
+//! Tests of the reports on what a heap holds, of hprof_laying and of hprof_naming, through public calls. It has no code of its
+//! own.
 #![tactic(auto)]
 
 #[cfg(test)]
 mod expecting;
+#[cfg(test)]
+mod laying;
 #[cfg(test)]
 mod names;
 #[cfg(test)]

@@ -6,6 +6,8 @@ ghost use Rattle.hprof_devices.specs.Device.{health_of};
 
 use crate::expecting::{equal_at, equal_text};
 use hprof_devices::Device;
+use hprof_engine::read_heap;
+use hprof_heap::{Gatherer, Heap};
 use hprof_reports::object_to;
 use hprof_stream::Limits;
 use std::alloc::{AllocError, Global};
@@ -72,6 +74,16 @@ pub(crate) fn reader_of<'a>(
     let mut readers = Vec::new(alloc);
     readers.push(Device::new(part))?;
     Ok(readers)
+}
+
+/// The heap that the part states.
+pub(crate) fn heap_of(alloc: Global, part: &[u8]) -> Result<Heap, Fail> {
+    let mut readers = reader_of(alloc, part)?;
+    let gatherer = Gatherer::new(alloc);
+    match read_heap(alloc, &mut readers, Limits::usual(), gatherer, &mut ()) {
+        Ok(heap) => Ok(heap),
+        Err(fault) => Err(Fail::from(fault.text(alloc)?)),
+    }
 }
 
 /// Checks that this is the report on an identifier in the part.
