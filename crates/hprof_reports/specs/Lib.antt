@@ -8,3 +8,6 @@ pub mod Stopping
 pub mod ObjectText
 pub mod ObjectReporting
 pub mod OneObject
+pub mod HistogramText
+pub mod HistogramReporting
+pub mod OneHistogramText

@@ -5,6 +5,8 @@ mod check;
 mod check_parts;
 mod class_lines;
 mod contents;
+mod histogram_parts;
+mod histogram_report;
 pub mod laws;
 mod line;
 mod lines;
@@ -15,5 +17,7 @@ mod shown;
 
 pub use check::write_check;
 pub use check_parts::{Check, check_to};
+pub use histogram_parts::{HistogramReport, histo_to};
+pub use histogram_report::write_histogram;
 pub use object::write_object;
 pub use object_parts::{ObjectReport, object_to};

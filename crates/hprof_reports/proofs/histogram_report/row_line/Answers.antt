@@ -1,0 +1,17 @@
+use Rattle.std.proofs.Common.{◌≡◌, ◌∙◌, ℕ, List, ap, subst, sym}
+use Rattle.std.specs.Prelude.{IfOk}
+use Rattle.std.specs.String.{string_bytes}
+use Rattle.hprof_finding.specs.HeapFacts.{facts_of}
+use Rattle.hprof_histogram.specs.declared.row.Kind.{Kind}
+use Rattle.hprof_naming.proofs.Namings.{one_label}
+use Rattle.hprof_reports.specs.HistogramText.{class_row_line, kind_line}
+use Rattle.hprof_reports.proofs.histogram_report.row_line.Goals as goal
+
+pub returns-in_ok-label-in-Class : goal.returns-in_ok-label-in-Class
+returns-in_ok-label-in-Class c = λ naming is.
+    let facts = facts_of c.args.heap.now in
+    let class = c.in-Class.class in
+    let row = c.args.row.now in
+    let same = one_label facts c.id_size-ids.ensures.agree class (string_bytes c.in_ok-label-in-Class.label) (naming.label class)
+    (c.name_of.result, c.name_of.ensures facts c.requires, c.in_ok-label-in-Class.ensures) (is.labels class) in
+    ?

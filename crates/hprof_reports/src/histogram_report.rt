@@ -1,0 +1,113 @@
+//! The report `histo`: how many objects of each kind a heap has, and how many bytes they have.
+
+ghost use Rattle.std.specs.Prelude.{◌≡◌, ℕ, List, IfOk, string_bytes};
+ghost use Rattle.hprof_devices.specs.declared.health.Health.TheVariants.{Well};
+ghost use Rattle.hprof_finding.specs.HeapFacts.{facts_of, size_of};
+ghost use Rattle.hprof_naming.specs.ClassNames.{AreClassNames};
+ghost use Rattle.hprof_naming.specs.Naming.{IsNaming, Naming};
+ghost use Rattle.hprof_reports.specs.HistogramText.{IsHistogramText, array_row_line, array_word, class_row_line, row_line, rows_text};
+ghost use Rattle.hprof_reports.specs.Stopping.{LeavesTarget, WritesText};
+
+use crate::lines::write_line;
+use hprof_devices::Target;
+use hprof_engine::Stop;
+use hprof_finding::id_size;
+use hprof_heap::Heap;
+use hprof_histogram::{Kind, Row, histogram};
+use hprof_naming::{ClassNames, label_of};
+use hprof_values::Basic;
+use std::alloc::{AllocError, Global};
+
+/// The line of a row of a class that has this label.
+fn class_row_line(
+    alloc: Global,
+    bytes: u128,
+    count: u64,
+    class: u64,
+    label: &str,
+) -> Result<String, AllocError>
+    ensures { IfOk result (λ line. string_bytes line ≡ class_row_line bytes count class label.now) }
+{
+    format!(in alloc; "{bytes} {count} {class:x} {label}\n")
+}
+
+/// The word for arrays of that type.
+fn array_word(elem: Basic) -> &'static str
+    ensures { result.now ≡ array_word elem }
+{
+    match elem {
+        Basic::Array => "array[]",
+        Basic::Object => "object[]",
+        Basic::Boolean => "boolean[]",
+        Basic::Char => "char[]",
+        Basic::Float => "float[]",
+        Basic::Double => "double[]",
+        Basic::Byte => "byte[]",
+        Basic::Short => "short[]",
+        Basic::Int => "int[]",
+        Basic::Long => "long[]",
+    }
+}
+
+/// The line of a row of arrays of that type.
+fn array_row_line(alloc: Global, bytes: u128, count: u64, elem: Basic) -> Result<String, AllocError>
+    ensures { IfOk result (λ line. string_bytes line ≡ array_row_line bytes count elem) }
+{
+    let word = array_word(elem);
+    format!(in alloc; "{bytes} {count} - {word}\n")
+}
+
+/// The line of a row. The error is that memory was refused.
+fn row_line(alloc: Global, heap: &Heap, names: &ClassNames, row: &Row) -> Result<String, AllocError>
+    requires { AreClassNames (facts_of heap.now) names.now }
+    ensures { (naming : Naming) → IsNaming (facts_of heap.now) naming
+        → IfOk result (λ line. string_bytes line ≡ row_line naming row.now) }
+{
+    // Facts of a heap agree: that is told with the size.
+    let _ids = id_size(heap);
+    let Row { kind, count, bytes } = *row;
+    match kind {
+        Kind::Class(class) => {
+            let label = label_of(alloc, heap, names.name_of(class))?;
+            class_row_line(alloc, bytes, count, class, &label)
+        }
+        Kind::Prim(elem) => array_row_line(alloc, bytes, count, elem),
+    }
+}
+
+/// Writes a line for each row. Where it stops some of them were written, from the front.
+fn write_rows<W: Target>(
+    alloc: Global,
+    heap: &Heap,
+    names: &ClassNames,
+    rows: &[Row],
+    target: &mut W,
+) -> Result<(), Stop>
+    requires named { AreClassNames (facts_of heap.now) names.now }
+    requires well { W.health target.old ≡ Well }
+    ensures bytes { (naming : Naming) → IsNaming (facts_of heap.now) naming
+        → WritesText (W.written target.old) (W.written target.new) result (rows_text naming rows.now) }
+    ensures health { LeavesTarget result (W.health target.new) }
+{
+    let mut rest = rows;
+    while let Some((row, after)) = rest.split_first() {
+        write_line(row_line(alloc, heap, names, row), target)?;
+        rest = after;
+    }
+    Ok(())
+}
+
+/// Writes the report `histo`: a line for each kind of which a heap has objects, those with the most bytes first. Where it stops,
+/// at a fault or for want of memory, some of it was written, from the front.
+pub fn write_histogram<W: Target>(alloc: Global, heap: &Heap, target: &mut W) -> Result<(), Stop>
+    requires { W.health target.old ≡ Well }
+    ensures bytes { (text : List ℕ) × IsHistogramText (size_of heap.now) (facts_of heap.now) text
+        × WritesText (W.written target.old) (W.written target.new) result text }
+    ensures health { LeavesTarget result (W.health target.new) }
+{
+    // Facts of a heap agree: that is told with the size.
+    let _ids = id_size(heap);
+    let rows = histogram(alloc, heap)?;
+    let names = ClassNames::of(alloc, heap)?;
+    write_rows(alloc, heap, &names, &rows, target)
+}
