@@ -5,6 +5,8 @@
 #[cfg(test)]
 mod expecting;
 #[cfg(test)]
+mod histograms;
+#[cfg(test)]
 mod laying;
 #[cfg(test)]
 mod names;

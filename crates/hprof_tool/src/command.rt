@@ -20,6 +20,11 @@ pub(crate) enum Task<'a> {
         /// The names of the parts, in order.
         parts: Vec<&'a str>,
     },
+    /// To report how many objects of each kind the parts in files have.
+    Histogram {
+        /// The names of the parts, in order.
+        parts: Vec<&'a str>,
+    },
     /// To report what an identifier is of.
     Object {
         /// The identifier, as text.
@@ -52,6 +57,9 @@ fn command<'a>(alloc: Global) -> Result<Command<'a>, AllocError> {
     let check = Command::new(alloc, "check")
         .about("Says how many facts the parts have")
         .arg(parts_arg(alloc))?;
+    let histo = Command::new(alloc, "histo")
+        .about("Says how many objects of each class there are, and how many bytes they have")
+        .arg(parts_arg(alloc))?;
     let id = Arg::new(alloc, "id")
         .value_name("ID")
         .help("The identifier of a class or an object, in hexadecimal")
@@ -68,6 +76,7 @@ fn command<'a>(alloc: Global) -> Result<Command<'a>, AllocError> {
         .disable_help_subcommand(true)
         .subcommand(join)?
         .subcommand(check)?
+        .subcommand(histo)?
         .subcommand(object)
 }
 
@@ -87,6 +96,9 @@ pub(crate) fn task_of<'a>(alloc: Global, words: &'a [String]) -> Result<Task<'a>
     let parts = parts_of(alloc, words)?;
     if name == "check" {
         return Ok(Task::Check { parts });
+    }
+    if name == "histo" {
+        return Ok(Task::Histogram { parts });
     }
     // The words were understood, so a word that is required is there.
     if name == "object" {

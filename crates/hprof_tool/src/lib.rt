@@ -8,6 +8,6 @@ mod program;
 mod status;
 
 pub use hprof_engine::{Joined, Kept, ToolFault, join_kept, join_to};
-pub use hprof_reports::{check_to, object_to};
+pub use hprof_reports::{check_to, histo_to, object_to};
 pub use program::run;
 pub use status::Status;

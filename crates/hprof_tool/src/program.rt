@@ -10,7 +10,7 @@ use crate::command::{Task, task_of};
 use crate::status::Status;
 use answers::{answer_no_id, answer_no_words, answer_outcome, answer_words};
 use hprof_engine::Product;
-use hprof_reports::{Check, ObjectReport};
+use hprof_reports::{Check, HistogramReport, ObjectReport};
 use hprof_text::parse_id;
 use joining::{join_files, join_stream, report_files};
 use std::alloc::Global;
@@ -98,7 +98,7 @@ fn list_of(alloc: Global, words: io::Result<Args>) -> io::Result<Vec<String>> {
 }
 
 /// Does what the words ask for: without a word behind the program's name it joins the part on `input` to `output`;
-/// `join OUT PART..` joins parts in files to a new file, and `check PART..` and `object ID PART..` write a report on parts in files
+/// `join OUT PART..` joins parts in files to a new file, and `check PART..`, `histo PART..` and `object ID PART..` write a report on parts in files
 /// to `output`.
 /// Refusals are told on `errors`.
 pub fn run<F: Files, I: Read + Drop, O: Write + Drop, E: Write>(
@@ -117,6 +117,9 @@ pub fn run<F: Files, I: Read + Drop, O: Write + Drop, E: Write>(
         Ok(Task::Pass) => pass(alloc, input, output, errors),
         Ok(Task::Join { out, parts }) => join(alloc, files, out, &parts, errors),
         Ok(Task::Check { parts }) => report(alloc, files, &Check, &parts, output, errors),
+        Ok(Task::Histogram { parts }) => {
+            report(alloc, files, &HistogramReport, &parts, output, errors)
+        }
         Ok(Task::Object { id, parts }) => object(alloc, files, id, &parts, output, errors),
         Err(error) => answer_words(alloc, &error, &mut output, errors),
     }
