@@ -98,9 +98,8 @@ fn list_of(alloc: Global, words: io::Result<Args>) -> io::Result<Vec<String>> {
 }
 
 /// Does what the words ask for: without a word behind the program's name it joins the part on `input` to `output`;
-/// `join OUT PART..` joins parts in files to a new file, and `check PART..`, `histo PART..` and `object ID PART..` write a report on parts in files
-/// to `output`.
-/// Refusals are told on `errors`.
+/// `join OUT PART..` joins parts in files to a new file; `check PART..`, `histo PART..` and `object ID PART..` write a report on
+/// parts in files to `output`. Refusals are told on `errors`.
 pub fn run<F: Files, I: Read + Drop, O: Write + Drop, E: Write>(
     alloc: Global,
     files: &F,
