@@ -1,0 +1,105 @@
+-- The edges that a list keeps, in order.
+use Rattle.std.specs.Prelude.{◌↔◌, filter}
+use Rattle.std.specs.List.Sorted.{IsStrictlySortedBy}
+use Rattle.std.proofs.Common.{◌≡◌, ℕ, ◌==◌, Bool, true, false, cond, List, [], ◌∷◌, ◌++◌, Contains, refl, sym, ap, subst, ◌∙◌, inl, inr}
+use Rattle.std.proofs.lemmas.Bool.{both_ways, eq-eqb, eqb-true}
+use Rattle.std.proofs.lemmas.List.Elements.{All-contains, Contains-append_cases, Contains-append_left, Contains-append_right, Contains-push}
+use Rattle.std.proofs.lemmas.List.Elements.{filter_passes}
+use Rattle.hprof_values.specs.declared.ids.IdSize.{IdSize}
+use Rattle.hprof_items.specs.FactValue.{FactValue}
+use Rattle.hprof_edges.specs.declared.edge.Edge.{Edge}
+use Rattle.hprof_edges.specs.declared.edge_list.EdgeList.{EdgeList}
+use Rattle.hprof_edges.specs.declared.edge_list.Watched.{Watched}
+use Rattle.hprof_edges.specs.declared.edge_list.Watched.TheVariants as watched
+use Rattle.hprof_edges.specs.contracts.edge.EdgeOrd.TheImpl as edge_ord
+use Rattle.hprof_edges.specs.Collecting.{KeepsOf, PutBehind, is_watched, kept_in, watched_by}
+use Rattle.hprof_edges.specs.Edges.{AreEdges, AreEdgesFrom, AreReferrers, IsEdge}
+use Rattle.hprof_edges.proofs.EdgeMembers.{one_there}
+use Rattle.hprof_edges.proofs.PutTogether.{nothing_there}
+
+-- ---- what passes a test
+
+module _ {X : Type 0} (p : X → Bool) where
+  kept_before : (xs : List X) (x : X) → Contains (filter p xs) x → Contains xs x
+  kept_before [] x there = there
+  kept_before (first ∷ xs) x = go (p first) where
+    go : (t : Bool) → Contains (cond t (first ∷ filter p xs) (filter p xs)) x → Contains (first ∷ xs) x
+    go true there = elim (Contains-append_cases (first ∷ []) (filter p xs) x there) [
+      | inl here ↦ Contains-append_left (first ∷ []) xs x here
+      | inr later ↦ Contains-append_right (first ∷ []) xs x (kept_before xs x later)
+    ]
+    go false there = Contains-append_right (first ∷ []) xs x (kept_before xs x there)
+
+  kept : (xs : List X) (x : X) → p x ≡ true → Contains xs x → Contains (filter p xs) x
+  kept [] x passes there = there
+  kept (first ∷ xs) x passes there = go (p first) refl where
+    go : (t : Bool) → p first ≡ t → Contains (cond t (first ∷ filter p xs) (filter p xs)) x
+    go true e = elim (Contains-append_cases (first ∷ []) xs x there) [
+      | inl here ↦ Contains-append_left (first ∷ []) (filter p xs) x here
+      | inr later ↦ Contains-append_right (first ∷ []) (filter p xs) x (kept xs x passes later)
+    ]
+    go false e = elim (Contains-append_cases (first ∷ []) xs x there) [
+      | inl here ↦ absurd (both_ways (p first) e (ap p (one_there first x here) ∙ passes))
+      | inr later ↦ kept xs x passes later
+    ]
+
+  -- the members that pass
+  kept_are : (xs : List X) (x : X) → Contains (filter p xs) x ↔ (Contains xs x × (p x ≡ true))
+  kept_are xs x = (
+    λ there. (kept_before xs x there, All-contains (λ y. p y ≡ true) (filter p xs) x (filter_passes p xs) there),
+    λ both. kept xs x both.1 both.0,
+  )
+
+-- ---- a list of edges
+
+-- a list to which those were put of which that holds has those of them that it keeps
+list_has : (list : EdgeList) (which : Watched) (P : Edge → Type 0) → PutBehind (KeepsOf list) [] P
+    → is_watched (watched_by list) ≡ is_watched which
+    → (edge : Edge) → Contains (kept_in list) edge ↔ (P edge × (is_watched which edge ≡ true))
+list_has list which P put keeps edge =
+    let same : kept_in list ≡ filter (is_watched which) put.more =
+    put.holds_more ∙ ap (λ (test : Edge → Bool). filter test put.more) keeps in
+    let are = kept_are (is_watched which) put.more edge in
+    (
+      λ there. (let both = are.0 (subst (λ (l : List Edge). Contains l edge) same there) in ((put.exact edge).0 both.0, both.1)),
+      λ both. subst (λ (l : List Edge). Contains l edge) (sym same) (are.1 ((put.exact edge).1 both.0, both.1)),
+    )
+
+module _ (ids : IdSize) (facts : List FactValue) (id : ℕ) (list : EdgeList) (sorted : List Edge)
+    (ascend : IsStrictlySortedBy (edge_ord.ghosts).cmp sorted)
+    (same : (edge : Edge) → Contains sorted edge ↔ Contains (kept_in list) edge) where
+  -- all edges from there were put
+  pub edges_from : (P : Edge → Type 0) → PutBehind (KeepsOf list) [] P → is_watched (watched_by list) ≡ is_watched watched.All
+      → ((edge : Edge) → P edge ↔ (IsEdge ids facts edge × (edge.from ≡ id))) → AreEdgesFrom ids facts id sorted
+  edges_from P put keeps are = record {
+    ascend = ascend;
+    exact = λ edge. (
+      λ there. (are edge).0 ((list_has list watched.All P put keeps edge).0 ((same edge).0 there)).0,
+      λ is. (same edge).1 ((list_has list watched.All P put keeps edge).1 ((are edge).1 is, refl)),
+    );
+  }
+
+  -- all edges were put, and those to there are kept
+  pub edges_to : PutBehind (KeepsOf list) [] (IsEdge ids facts) → is_watched (watched_by list) ≡ is_watched (watched.To id)
+      → AreReferrers ids facts id sorted
+  edges_to put keeps = record {
+    ascend = ascend;
+    exact = λ edge. (
+      λ there. (
+        let has = (list_has list (watched.To id) (IsEdge ids facts) put keeps edge).0 ((same edge).0 there) in
+        (has.0, eqb-true edge.to id has.1)
+      ),
+      λ is. (same edge).1 ((list_has list (watched.To id) (IsEdge ids facts) put keeps edge).1 (is.0, eq-eqb edge.to id is.1)),
+    );
+  }
+
+-- nothing refers to 0
+pub none_to_zero : (ids : IdSize) (facts : List FactValue) (id : ℕ) (edges : List Edge) → id ≡ 0 → edges ≡ []
+    → AreReferrers ids facts id edges
+none_to_zero ids facts id edges zero_is none = subst (AreReferrers ids facts id) (sym none) (record {
+  ascend = nothing_sorted;
+  exact = λ edge. (λ there. absurd (nothing_there edge there), λ is. absurd (is.0.0 (is.1 ∙ zero_is)));
+}) where
+  nothing_sorted : IsStrictlySortedBy (edge_ord.ghosts).cmp []
+  unfolding IsStrictlySortedBy
+  nothing_sorted = tt

@@ -1,0 +1,12 @@
+pub mod EdgeEquality
+pub mod SortedEdges
+pub mod PutTogether
+pub mod EdgeMembers
+pub mod Targets
+pub mod ClassDumpEdges
+pub mod ObjectDumpEdges
+pub mod GivenEdges
+pub mod MoreFacts
+pub mod KeptEdges
+pub mod OnlyDumps
+pub mod TableEdges

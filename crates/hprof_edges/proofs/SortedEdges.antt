@@ -1,0 +1,87 @@
+-- Lists of edges that ascend strictly and have the same members are equal.
+use Rattle.std.proofs.Common.{◌≡◌, ◌⊎◌, ℕ, zero, suc, ◌<◌, List, [], ◌∷◌, length, get_or, refl, sym, ap, subst, ◌∙◌, inl, inr, arith}
+use Rattle.std.specs.Cmp.{IsTotalOrder}
+use Rattle.std.specs.List.{AllByRecursion, Contains}
+use Rattle.std.specs.List.Sorted.{IsStrictlySortedBy}
+use Rattle.std.specs.Ordering.{ordering_reverse}
+use Rattle.std.specs.declared.cmp.Ordering.{Ordering}
+use Rattle.std.specs.declared.cmp.Ordering.TheVariants.{Less, Equal, Greater}
+use Rattle.std.proofs.lemmas.Cmp.{tied_itself}
+use Rattle.hprof_values.specs.declared.ids.IdSize.{IdSize}
+use Rattle.hprof_items.specs.FactValue.{FactValue}
+use Rattle.hprof_edges.specs.declared.edge.Edge.{Edge}
+use Rattle.hprof_edges.specs.contracts.edge.EdgeOrd.TheImpl.Laws.{total-law}
+use Rattle.hprof_edges.specs.Edges.{AreEdges}
+
+module _ {X : Type 0} where
+  -- x is one of these
+  abbrev IsIn : X → List X → Type 0
+  IsIn x [] = ⊥
+  IsIn x (y ∷ ys) = (x ≡ y) ⊎ IsIn x ys
+
+  in_from_Contains : (xs : List X) (x : X) → Contains xs x → IsIn x xs
+  in_from_Contains xs x has = at_place xs x has.0 has.1 has.2 where
+    at_place : (xs : List X) (x : X) (place : ℕ) → place < length xs → get_or xs place x ≡ x → IsIn x xs
+    at_place [] x place lt e = absurd (omega arith)
+    at_place (y ∷ ys) x zero lt e = inl (sym e)
+    at_place (y ∷ ys) x (suc place) lt e = inr (at_place ys x place (omega arith) e)
+
+  Contains-from_in : (xs : List X) (x : X) → IsIn x xs → Contains xs x
+  Contains-from_in [] x has = absurd has
+  Contains-from_in (y ∷ ys) x has = elim has [
+    | inl e ↦ (0, omega arith, sym e)
+    | inr later ↦ let at = Contains-from_in ys x later in (suc at.0, omega (arith, at.1), at.2)
+  ]
+
+  -- what holds of all holds of each
+  all_in : (P : X → Type 0) (xs : List X) (x : X) → AllByRecursion P xs → IsIn x xs → P x
+  all_in P [] x all has = absurd has
+  all_in P (y ∷ ys) x all has = elim has [ inl e ↦ subst P (sym e) all.0 | inr later ↦ all_in P ys x all.1 later ]
+
+  module _ {R : X → X → Ordering} (total : IsTotalOrder R) where
+    -- nothing is before itself
+    not_before_itself : (x y : X) → x ≡ y → R y x ≡ Less → ⊥
+    not_before_itself x y e before = let tied : R y x ≡ Equal = ap (R y) e ∙ tied_itself total y in cc
+
+    not_both_ways : (x y : X) → R x y ≡ Less → R y x ≡ Less → ⊥
+    not_both_ways x y before after = let back : R x y ≡ Greater = total.antisymm x y ∙ ap ordering_reverse after in cc
+
+    -- the first of two sorted lists with the same members is the same
+    same_first : (x y : X) (xs ys : List X) → AllByRecursion (λ z. R x z ≡ Less) xs → AllByRecursion (λ z. R y z ≡ Less) ys
+        → IsIn x (y ∷ ys) → IsIn y (x ∷ xs) → x ≡ y
+    same_first x y xs ys below below_too has has_too = elim has [
+      | inl e ↦ e
+      | inr later ↦ elim has_too [
+        | inl e ↦ sym e
+        | inr later_too ↦ absurd (not_both_ways x y (all_in _ xs y below later_too) (all_in _ ys x below_too later))
+      ]
+    ]
+
+    -- a member of the rest of the one is a member of the rest of the other
+    in_rest : (x y : X) (xs ys : List X) → AllByRecursion (λ z. R x z ≡ Less) xs → x ≡ y
+        → ((z : X) → IsIn z (x ∷ xs) → IsIn z (y ∷ ys)) → (z : X) → IsIn z xs → IsIn z ys
+    in_rest x y xs ys below e all z has = elim (all z (inr has)) [
+      | inl is ↦ absurd (not_before_itself z x (is ∙ sym e) (all_in _ xs z below has))
+      | inr later ↦ later
+    ]
+
+    -- two strictly sorted lists with the same members are one
+    one_sorted : (xs ys : List X) → IsStrictlySortedBy R xs → IsStrictlySortedBy R ys
+        → ((z : X) → IsIn z xs → IsIn z ys) → ((z : X) → IsIn z ys → IsIn z xs) → xs ≡ ys
+    unfolding IsStrictlySortedBy
+    one_sorted [] [] sorted sorted_too all all_too = refl
+    one_sorted [] (y ∷ ys) sorted sorted_too all all_too = absurd (all_too y (inl refl))
+    one_sorted (x ∷ xs) [] sorted sorted_too all all_too = absurd (all x (inl refl))
+    one_sorted (x ∷ xs) (y ∷ ys) sorted sorted_too all all_too =
+        let first = same_first x y xs ys sorted.0 sorted_too.0 (all x (inl refl)) (all_too y (inl refl)) in
+        let rest = one_sorted xs ys sorted.1 sorted_too.1 (in_rest x y xs ys sorted.0 first all)
+        (in_rest y x ys xs sorted_too.0 (sym first) all_too) in
+        λ i. first i ∷ rest i
+
+-- edges of which the same holds are one list
+pub one_list : (ids : IdSize) (facts : List FactValue) (P : Edge → Type 0) (one other : List Edge) → AreEdges ids facts P one
+    → AreEdges ids facts P other → one ≡ other
+one_list ids facts P one other are too =
+    one_sorted total-law one other are.ascend too.ascend
+    (λ edge is. in_from_Contains other edge ((too.exact edge).1 ((are.exact edge).0 (Contains-from_in one edge is))))
+    (λ edge is. in_from_Contains one edge ((are.exact edge).1 ((too.exact edge).0 (Contains-from_in other edge is))))

@@ -1,0 +1,4 @@
+pub mod Edges
+pub mod DumpEdges
+pub mod Collecting
+pub mod EdgeLists

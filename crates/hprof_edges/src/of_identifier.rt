@@ -1,0 +1,95 @@
+//! The edges from an identifier.
+
+ghost use Rattle.std.specs.Prelude.{◌≡◌, ◌×◌, List, IfOk, OnOk};
+ghost use Rattle.hprof_finding.specs.HeapFacts.{facts_of, size_of};
+ghost use Rattle.hprof_edges.specs.declared.edge.Edge.{Edge};
+ghost use Rattle.hprof_edges.specs.Collecting.{PutBehind};
+ghost use Rattle.hprof_edges.specs.DumpEdges.{GivenByClass, GivenByInstance, GivenByObject};
+ghost use Rattle.hprof_edges.specs.Edges.{AreEdgesFrom};
+
+use crate::of_class::class_edges;
+use crate::collect::Collect;
+use crate::edge::Edge;
+use crate::edge_list::{EdgeList, Watched};
+use crate::of_object::{array_edges, edge_to_class};
+use crate::putting::put_values;
+use crate::sorting::sort_edges;
+use hprof_finding::{ObjectRow, find_class, find_object, id_size};
+use hprof_heap::Heap;
+use hprof_layouts::{Fields, fields};
+use std::alloc::{AllocError, Global};
+
+/// Puts the edges that the class dump of an identifier gives, if there is one.
+fn put_of_class<C: Collect>(heap: &Heap, id: u64, into: &mut C) -> Result<(), AllocError>
+    ensures holds { OnOk result ((edges : List Edge) → C.holds into.old edges
+        → PutBehind (C.holds into.new) edges (λ edge. (edge.from ≡ id) × GivenByClass (facts_of heap.now) edge)) }
+    ensures keeps { OnOk result (C.keeps into.new ≡ C.keeps into.old) }
+{
+    let Some(row) = find_class(heap, id) else {
+        return Ok(());
+    };
+    class_edges(&row, into)?;
+    Ok(())
+}
+
+/// Puts the edges of an identifier by the fields of the instance, if it is one. The layout of its class alone is found.
+fn put_of_fields<C: Collect>(
+    alloc: Global,
+    heap: &Heap,
+    id: u64,
+    into: &mut C,
+) -> Result<(), AllocError>
+    ensures holds { OnOk result ((edges : List Edge) → C.holds into.old edges
+        → PutBehind (C.holds into.new) edges (GivenByInstance (size_of heap.now) (facts_of heap.now) id)) }
+    ensures keeps { OnOk result (C.keeps into.new ≡ C.keeps into.old) }
+{
+    // Facts of a heap agree: that is told with the size.
+    let _ids = id_size(heap);
+    let Fields::Values(values) = fields(alloc, heap, id)? else {
+        return Ok(());
+    };
+    put_values(id, &values, into)?;
+    Ok(())
+}
+
+/// Puts the edges that the object dump of an identifier gives, if there is one.
+fn put_of_object<C: Collect>(
+    alloc: Global,
+    heap: &Heap,
+    id: u64,
+    into: &mut C,
+) -> Result<(), AllocError>
+    ensures holds { OnOk result ((edges : List Edge) → C.holds into.old edges
+        → PutBehind (C.holds into.new) edges (λ edge. (edge.from ≡ id) × GivenByObject (size_of heap.now) (facts_of heap.now) edge)) }
+    ensures keeps { OnOk result (C.keeps into.new ≡ C.keeps into.old) }
+{
+    match find_object(heap, id) {
+        None => Ok(()),
+        Some(ObjectRow::Instance { class, .. }) => {
+            edge_to_class(id, class, into)?;
+            put_of_fields(alloc, heap, id, into)?;
+            Ok(())
+        }
+        Some(ObjectRow::ObjArray {
+            class, elements, ..
+        }) => {
+            array_edges(id, class, elements, into)?;
+            Ok(())
+        }
+        // What is in an array of numbers refers to nothing.
+        Some(ObjectRow::PrimArray { .. }) => Ok(()),
+    }
+}
+
+/// All edges from an identifier, in order, each once. Its class dump and its object dump are looked up, and the layout of
+/// its class alone is found.
+pub fn edges_of(alloc: Global, heap: &Heap, id: u64) -> Result<Vec<Edge>, AllocError>
+    ensures { IfOk result (λ edges. AreEdgesFrom (size_of heap.now) (facts_of heap.now) id edges.items) }
+{
+    let mut list = EdgeList::new(alloc, Watched::All);
+    put_of_class(heap, id, &mut list)?;
+    put_of_object(alloc, heap, id, &mut list)?;
+    let mut edges = list.into_edges();
+    sort_edges(&mut edges);
+    Ok(edges)
+}

@@ -1,0 +1,107 @@
+//! The edges of an object.
+
+ghost use Rattle.std.specs.Prelude.{◌≡◌, ◌⊎◌, List, OnOk};
+ghost use Rattle.hprof_items.specs.FactValue.{FactValue};
+ghost use Rattle.hprof_lists.specs.Lists.{identifiers_of};
+ghost use Rattle.hprof_finding.specs.ObjectRow.{fact_of_object};
+ghost use Rattle.hprof_laying.specs.Known.{Knows};
+ghost use Rattle.hprof_edges.specs.declared.edge.Edge.{Edge};
+ghost use Rattle.hprof_edges.specs.Collecting.{PutBehind};
+ghost use Rattle.hprof_edges.specs.DumpEdges.{IsEdgeToClass, IsElementEdge, IsFieldEdge, IsObjectEdge};
+
+use crate::collect::Collect;
+use crate::edge::{Edge, Via};
+use crate::putting::{put_edge, put_elements, put_references};
+use hprof_finding::ObjectRow;
+use hprof_laying::{KnownLayouts, Reference};
+use hprof_lists::IdList;
+use hprof_values::IdSize;
+use std::alloc::AllocError;
+
+/// Puts the edge of an instance or of an array of objects to its class; there is none to class 0.
+pub fn edge_to_class<C: Collect>(object: u64, class: u64, into: &mut C) -> Result<(), AllocError>
+    ensures holds { OnOk result ((edges : List Edge) → C.holds into.old edges
+        → PutBehind (C.holds into.new) edges (IsEdgeToClass object class)) }
+    ensures keeps { OnOk result (C.keeps into.new ≡ C.keeps into.old) }
+{
+    let edge = Edge {
+        from: object,
+        via: Via::Class,
+        position: 0,
+        to: class,
+    };
+    put_edge(edge, into)?;
+    Ok(())
+}
+
+/// Puts the edges of an instance of the class that has these bytes by its fields. There are none where the layout of the
+/// class is not known, or has another number of bytes. The references are room that is used again.
+pub fn field_edges<C: Collect>(
+    known: &KnownLayouts,
+    instance: u64,
+    class: u64,
+    bytes: &[u8],
+    ids: IdSize,
+    references: &mut Vec<Reference>,
+    into: &mut C,
+) -> Result<(), AllocError>
+    ensures holds { OnOk result ((facts : List FactValue) (edges : List Edge) → Knows ids facts known.now → C.holds into.old edges
+        → PutBehind (C.holds into.new) edges (IsFieldEdge ids facts instance class bytes.now)) }
+    ensures keeps { OnOk result (C.keeps into.new ≡ C.keeps into.old) }
+{
+    known.lay(class, bytes, ids, references)?;
+    put_references(instance, references, into)?;
+    Ok(())
+}
+
+/// Puts the edges of an array of objects: to its class, and by its elements.
+pub(crate) fn array_edges<C: Collect>(
+    array: u64,
+    class: u64,
+    elements: IdList<'_>,
+    into: &mut C,
+) -> Result<(), AllocError>
+    ensures holds { OnOk result ((edges : List Edge) → C.holds into.old edges
+        → PutBehind (C.holds into.new) edges (λ edge. IsEdgeToClass array class edge ⊎ IsElementEdge array (identifiers_of elements) edge)) }
+    ensures keeps { OnOk result (C.keeps into.new ≡ C.keeps into.old) }
+{
+    edge_to_class(array, class, into)?;
+    put_elements(array, elements, into)?;
+    Ok(())
+}
+
+/// Puts the edges of an object dump into what collects them: to its class, by the fields of an instance whose class has a
+/// known layout, by the elements of an array of objects. The references are room that is used again. Where memory is
+/// refused, nothing holds of what collects them.
+pub fn object_edges<C: Collect>(
+    known: &KnownLayouts,
+    row: &ObjectRow<'_>,
+    ids: IdSize,
+    references: &mut Vec<Reference>,
+    into: &mut C,
+) -> Result<(), AllocError>
+    ensures holds { OnOk result ((facts : List FactValue) (edges : List Edge) → Knows ids facts known.now → C.holds into.old edges
+        → PutBehind (C.holds into.new) edges (IsObjectEdge ids facts (fact_of_object row.now))) }
+    ensures keeps { OnOk result (C.keeps into.new ≡ C.keeps into.old) }
+{
+    match *row {
+        ObjectRow::Instance {
+            id, class, bytes, ..
+        } => {
+            edge_to_class(id, class, into)?;
+            field_edges(known, id, class, bytes, ids, references, into)?;
+            Ok(())
+        }
+        ObjectRow::ObjArray {
+            id,
+            class,
+            elements,
+            ..
+        } => {
+            array_edges(id, class, elements, into)?;
+            Ok(())
+        }
+        // What is in an array of numbers refers to nothing.
+        ObjectRow::PrimArray { .. } => Ok(()),
+    }
+}

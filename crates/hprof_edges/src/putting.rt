@@ -1,0 +1,159 @@
+//! Edges, put one by one.
+
+ghost use Rattle.std.specs.Prelude.{◌≡◌, ◌++◌, List, OnOk};
+ghost use Rattle.hprof_lists.specs.Lists.{constants_of, identifiers_of, statics_of};
+ghost use Rattle.hprof_edges.specs.declared.edge.Edge.{Edge};
+ghost use Rattle.hprof_edges.specs.declared.edge.Via.TheVariants as vias;
+ghost use Rattle.hprof_edges.specs.EdgeLists.{numbered, reference_edges, target_of, targets_of_constants, targets_of_statics};
+ghost use Rattle.hprof_edges.specs.EdgeLists.{targets_of_values, unless_zero};
+
+use crate::collect::Collect;
+use crate::edge::{Edge, Via};
+use hprof_laying::{Reference, refers};
+use hprof_layouts::FieldValue;
+use hprof_lists::{ConstantList, IdList, StaticList};
+use hprof_values::Basic;
+use std::alloc::AllocError;
+
+/// Puts an edge, unless it refers to nothing.
+pub(crate) fn put_edge<C: Collect>(edge: Edge, into: &mut C) -> Result<(), AllocError>
+    ensures holds { OnOk result ((edges : List Edge) → C.holds into.old edges → C.holds into.new (edges ++ unless_zero edge)) }
+    ensures keeps { OnOk result (C.keeps into.new ≡ C.keeps into.old) }
+{
+    if edge.to == 0 {
+        return Ok(());
+    }
+    into.put(edge)?;
+    Ok(())
+}
+
+/// What a value of the type that has these bits refers to; 0 where it refers to nothing.
+fn target_of(basic: Basic, bits: u64) -> u64
+    ensures { result ≡ target_of basic bits }
+{
+    if refers(basic) { bits } else { 0 }
+}
+
+/// Puts the edges of a class by its constants.
+pub(crate) fn put_constants<C: Collect>(
+    class: u64,
+    constants: ConstantList<'_>,
+    into: &mut C,
+) -> Result<(), AllocError>
+    ensures holds { OnOk result ((edges : List Edge) → C.holds into.old edges
+        → C.holds into.new (edges ++ numbered class vias.Constant 0 (targets_of_constants (constants_of constants)))) }
+    ensures keeps { OnOk result (C.keeps into.new ≡ C.keeps into.old) }
+{
+    // They are no more than a number can count.
+    let _count = constants.len();
+    let mut position = 0;
+    for constant in constants.iter() {
+        let edge = Edge {
+            from: class,
+            via: Via::Constant,
+            position,
+            to: target_of(constant.value.basic, constant.value.bits),
+        };
+        put_edge(edge, into)?;
+        position += 1;
+    }
+    Ok(())
+}
+
+/// Puts the edges of a class by its static fields.
+pub(crate) fn put_statics<C: Collect>(
+    class: u64,
+    statics: StaticList<'_>,
+    into: &mut C,
+) -> Result<(), AllocError>
+    ensures holds { OnOk result ((edges : List Edge) → C.holds into.old edges
+        → C.holds into.new (edges ++ numbered class vias.Fixed 0 (targets_of_statics (statics_of statics)))) }
+    ensures keeps { OnOk result (C.keeps into.new ≡ C.keeps into.old) }
+{
+    // They are no more than a number can count.
+    let _count = statics.len();
+    let mut position = 0;
+    for field in statics.iter() {
+        let edge = Edge {
+            from: class,
+            via: Via::Fixed,
+            position,
+            to: target_of(field.value.basic, field.value.bits),
+        };
+        put_edge(edge, into)?;
+        position += 1;
+    }
+    Ok(())
+}
+
+/// Puts the edges of an array of objects by its elements.
+pub(crate) fn put_elements<C: Collect>(
+    array: u64,
+    elements: IdList<'_>,
+    into: &mut C,
+) -> Result<(), AllocError>
+    ensures holds { OnOk result ((edges : List Edge) → C.holds into.old edges
+        → C.holds into.new (edges ++ numbered array vias.Element 0 (identifiers_of elements))) }
+    ensures keeps { OnOk result (C.keeps into.new ≡ C.keeps into.old) }
+{
+    // They are no more than a number can count.
+    let _count = elements.len();
+    let mut position = 0;
+    for to in elements.iter() {
+        let edge = Edge {
+            from: array,
+            via: Via::Element,
+            position,
+            to,
+        };
+        put_edge(edge, into)?;
+        position += 1;
+    }
+    Ok(())
+}
+
+/// Puts the edges of an instance by the values of its fields.
+pub(crate) fn put_values<C: Collect>(
+    instance: u64,
+    values: &[FieldValue],
+    into: &mut C,
+) -> Result<(), AllocError>
+    ensures holds { OnOk result ((edges : List Edge) → C.holds into.old edges
+        → C.holds into.new (edges ++ numbered instance vias.Field 0 (targets_of_values values.now))) }
+    ensures keeps { OnOk result (C.keeps into.new ≡ C.keeps into.old) }
+{
+    let mut position = 0;
+    for value in values {
+        let edge = Edge {
+            from: instance,
+            via: Via::Field,
+            position,
+            to: target_of(value.basic, value.bits),
+        };
+        put_edge(edge, into)?;
+        position += 1;
+    }
+    Ok(())
+}
+
+/// Puts the edges of an instance by what its fields refer to.
+pub(crate) fn put_references<C: Collect>(
+    instance: u64,
+    references: &[Reference],
+    into: &mut C,
+) -> Result<(), AllocError>
+    ensures holds { OnOk result ((edges : List Edge) → C.holds into.old edges
+        → C.holds into.new (edges ++ reference_edges instance references.now)) }
+    ensures keeps { OnOk result (C.keeps into.new ≡ C.keeps into.old) }
+{
+    for reference in references {
+        let edge = Edge {
+            from: instance,
+            via: Via::Field,
+            position: reference.place,
+            to: reference.to,
+        };
+        put_edge(edge, into)?;
+    }
+    Ok(())
+}

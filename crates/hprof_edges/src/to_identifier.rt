@@ -1,0 +1,82 @@
+//! The edges to an identifier.
+
+ghost use Rattle.std.specs.Prelude.{◌≡◌, List, IfOk, OnOk};
+ghost use Rattle.hprof_finding.specs.HeapFacts.{facts_of, size_of};
+ghost use Rattle.hprof_laying.specs.Known.{Knows};
+ghost use Rattle.hprof_edges.specs.declared.edge.Edge.{Edge};
+ghost use Rattle.hprof_edges.specs.Collecting.{PutBehind};
+ghost use Rattle.hprof_edges.specs.DumpEdges.{GivenByClass, GivenByObject};
+ghost use Rattle.hprof_edges.specs.Edges.{AreReferrers, IsEdge};
+
+use crate::of_class::class_edges;
+use crate::collect::Collect;
+use crate::edge::Edge;
+use crate::edge_list::{EdgeList, Watched};
+use crate::of_object::object_edges;
+use crate::sorting::sort_edges;
+use hprof_finding::{id_size, table_facts, to_class_row, to_object_row};
+use hprof_heap::{Heap, Table};
+use hprof_laying::{KnownLayouts, known_layouts};
+use std::alloc::{AllocError, Global};
+
+/// Puts the edges that the class dumps of a heap give.
+fn put_of_classes<C: Collect>(heap: &Heap, into: &mut C) -> Result<(), AllocError>
+    ensures holds { OnOk result ((edges : List Edge) → C.holds into.old edges
+        → PutBehind (C.holds into.new) edges (GivenByClass (facts_of heap.now))) }
+    ensures keeps { OnOk result (C.keeps into.new ≡ C.keeps into.old) }
+{
+    for fact in table_facts(heap, Table::Classes) {
+        if let Some(row) = to_class_row(&fact) {
+            class_edges(&row, into)?;
+        }
+    }
+    Ok(())
+}
+
+/// Puts the edges that the object dumps of a heap give, whose layouts are known.
+fn put_of_objects<C: Collect>(
+    alloc: Global,
+    heap: &Heap,
+    known: &KnownLayouts,
+    into: &mut C,
+) -> Result<(), AllocError>
+    ensures holds { OnOk result ((edges : List Edge) → Knows (size_of heap.now) (facts_of heap.now) known.now → C.holds into.old edges
+        → PutBehind (C.holds into.new) edges (GivenByObject (size_of heap.now) (facts_of heap.now))) }
+    ensures keeps { OnOk result (C.keeps into.new ≡ C.keeps into.old) }
+{
+    let ids = id_size(heap);
+    let mut references = Vec::new(alloc);
+    for fact in table_facts(heap, Table::Objects) {
+        if let Some(row) = to_object_row(&fact) {
+            object_edges(known, &row, ids, &mut references, into)?;
+        }
+    }
+    Ok(())
+}
+
+/// Puts all edges of a heap, in one pass over its class dumps and its object dumps. The layout of a class is found once.
+fn put_all<C: Collect>(alloc: Global, heap: &Heap, into: &mut C) -> Result<(), AllocError>
+    ensures holds { OnOk result ((edges : List Edge) → C.holds into.old edges
+        → PutBehind (C.holds into.new) edges (IsEdge (size_of heap.now) (facts_of heap.now))) }
+    ensures keeps { OnOk result (C.keeps into.new ≡ C.keeps into.old) }
+{
+    put_of_classes(heap, into)?;
+    let known = known_layouts(alloc, heap)?;
+    put_of_objects(alloc, heap, &known, into)?;
+    Ok(())
+}
+
+/// All edges to an identifier, in order, each once; there are none to 0. All class dumps and object dumps are gone over
+/// once, and memory is taken for the edges and for what is kept of each class.
+pub fn referrers(alloc: Global, heap: &Heap, id: u64) -> Result<Vec<Edge>, AllocError>
+    ensures { IfOk result (λ edges. AreReferrers (size_of heap.now) (facts_of heap.now) id edges.items) }
+{
+    if id == 0 {
+        return Ok(Vec::new(alloc));
+    }
+    let mut list = EdgeList::new(alloc, Watched::To(id));
+    put_all(alloc, heap, &mut list)?;
+    let mut edges = list.into_edges();
+    sort_edges(&mut edges);
+    Ok(edges)
+}

@@ -1,0 +1,81 @@
+//! Edges that are put one by one.
+
+use crate::expecting::equal;
+use crate::samples::{INT_AND_OBJECT, class_of, edge, heap_of, instance_of};
+use hprof_edges::{
+    Collect, EdgeList, Via, Watched, class_edges, edge_to_class, field_edges, object_edges,
+    sort_edges,
+};
+use hprof_finding::{find_class, find_object};
+use hprof_laying::known_layouts;
+use hprof_values::IdSize;
+use std::test::*;
+
+#[test]
+fn edges_in_order(rt: HostRuntime) -> Result<(), Fail> {
+    let edges = [
+        edge(1, Via::Class, 0, 9),
+        edge(1, Via::Fixed, 0, 3),
+        edge(1, Via::Fixed, 1, 2),
+        edge(1, Via::Fixed, 1, 3),
+        edge(2, Via::Class, 0, 1),
+    ];
+    let mut list = EdgeList::new(rt.alloc(), Watched::All);
+    for place in [3, 1, 4, 0, 2, 1, 4] {
+        list.put(edges[place])?;
+    }
+    let mut sorted = list.into_edges();
+    equal(&rt, sorted.len(), 7);
+    sort_edges(&mut sorted);
+    equal(&rt, sorted.as_slice(), edges.as_slice());
+    Ok(())
+}
+
+#[test]
+fn edges_that_are_watched(rt: HostRuntime) -> Result<(), Fail> {
+    let mut list = EdgeList::new(rt.alloc(), Watched::To(3));
+    for to in [2, 3, 4] {
+        list.put(edge(3, Via::Field, 0, to))?;
+    }
+    let kept = [edge(3, Via::Field, 0, 3)];
+    equal(&rt, list.edges(), kept.as_slice());
+    Ok(())
+}
+
+#[test]
+fn edges_of_rows(rt: HostRuntime) -> Result<(), Fail> {
+    let class = class_of(100, 99, INT_AND_OBJECT).ok_or("no class")?;
+    let upper = class_of(99, 0, b"").ok_or("no class")?;
+    let bytes = b"\0\0\0\x07\0\0\0\xc9";
+    let heap = heap_of(
+        rt.alloc(),
+        &[class, upper, instance_of(200, 100, bytes)],
+    )?;
+    let known = known_layouts(rt.alloc(), &heap)?;
+    let mut references = Vec::new(rt.alloc());
+    let mut list = EdgeList::new(rt.alloc(), Watched::All);
+    let ids = IdSize::Four;
+    if let (Some(class), Some(object)) = (find_class(&heap, 100), find_object(&heap, 200)) {
+        class_edges(&class, &mut list)?;
+        object_edges(&known, &object, ids, &mut references, &mut list)?;
+    }
+    edge_to_class(300, 100, &mut list)?;
+    field_edges(
+        &known,
+        300,
+        100,
+        bytes,
+        ids,
+        &mut references,
+        &mut list,
+    )?;
+    let edges = [
+        edge(100, Via::Parent, 0, 99),
+        edge(200, Via::Class, 0, 100),
+        edge(200, Via::Field, 1, 201),
+        edge(300, Via::Class, 0, 100),
+        edge(300, Via::Field, 1, 201),
+    ];
+    equal(&rt, list.edges(), edges.as_slice());
+    Ok(())
+}
