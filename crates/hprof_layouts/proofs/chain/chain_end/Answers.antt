@@ -1,18 +1,18 @@
 use Rattle.std.proofs.Common.{◌<◌, arith}
 use Rattle.hprof_finding.specs.HeapFacts.{facts_of}
 use Rattle.hprof_finding.specs.ClassRow.{dump_of}
-use Rattle.hprof_layouts.proofs.Walks.{walked_more, walked_round}
+use Rattle.hprof_layouts.proofs.Walks.{walked_round, watched_more, watched_round}
 use Rattle.hprof_layouts.proofs.chain.chain_end.Goals as goal
 
 pub loop-at-preserved : goal.loop-at-preserved
 loop-at-preserved c =
     let invariant = c.loop-at.invariant in
-    let few = invariant.few in
+    let few = invariant.walking.few in
     let lt : c.loop-at.passed < c.table_len-classes.result = omega arith in
-    walked_more (facts_of c.args.heap.now) c.args.class _ _ _ invariant (dump_of c.in-Some.row) c.loop-at-test.true c.in-Some.ensures.found
-    c.in-Some.ensures.id lt
+    watched_more (facts_of c.args.heap.now) c.args.class _ _ _ _ invariant (dump_of c.in-Some.row) c.loop-at-test.true
+    c.in-Some.ensures.found c.in-Some.ensures.id lt _ c.behind.ensures
 
 pub returns-then-passed-classes : goal.returns-then-passed-classes
 returns-then-passed-classes c =
-    walked_round (facts_of c.args.heap.now) c.args.class _ _ _ c.loop-at.invariant (dump_of c.in-Some.row) c.loop-at-test.true
+    walked_round (facts_of c.args.heap.now) c.args.class _ _ _ c.loop-at.invariant.walking (dump_of c.in-Some.row) c.loop-at-test.true
     c.in-Some.ensures.found c.in-Some.ensures.id c.if-passed-classes.true
