@@ -13,7 +13,7 @@ ghost use Rattle.hprof_laying.specs.Known.{AreWoken, HasDumpMore, HasLayout, Kno
 ghost use Rattle.hprof_laying.specs.References.{AreReferences};
 ghost use Rattle.hprof_laying.specs.Waking.{IsReady, IsWaking, Wakes, number_waiting, put};
 
-use crate::own_fields::{OwnFields, own_fields};
+use crate::own_fields::{OwnLayout, own_fields};
 use crate::plan::{Jump, Outline, Plan};
 use crate::reference::Reference;
 use hprof_finding::ClassRow;
@@ -27,7 +27,7 @@ struct Waiting {
     /// The class.
     class: u64,
     /// Its own fields.
-    own: OwnFields,
+    own: OwnLayout,
 }
 
 /// Of each class whose layout is known, what laying its instances needs. A class that came waits until the layout of its
@@ -95,7 +95,7 @@ impl KnownLayouts {
     }
 
     /// Lets a class wait for its superclass.
-    fn wait(&mut self, superclass: u64, class: u64, own: OwnFields) -> Result<(), AllocError>
+    fn wait(&mut self, superclass: u64, class: u64, own: OwnLayout) -> Result<(), AllocError>
         ensures waits { OnOk result (waiting_below self.new ≡ put (waiting_below self.old) superclass
             (waiting_below self.old superclass ++ record { class = class; own = own } ∷ [])) }
         ensures plans { plan_of self.new ≡ plan_of self.old }

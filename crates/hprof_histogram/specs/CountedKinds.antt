@@ -11,7 +11,7 @@ use Rattle.hprof_histogram.specs.declared.row.Kind.{Kind}
 use Rattle.hprof_histogram.specs.declared.row.Kind.TheVariants.{Class, Prim}
 use Rattle.hprof_histogram.specs.declared.row.Row.{Row}
 use Rattle.hprof_histogram.specs.declared.counted.Counted.{Counted}
-use Rattle.hprof_histogram.specs.declared.tally.Tally.{Tally}
+use Rattle.hprof_histogram.specs.declared.counted_kinds.CountedKinds.{CountedKinds}
 use Rattle.hprof_histogram.specs.Histogram.{of_kind, size_of_object}
 
 -- no objects
@@ -45,13 +45,13 @@ abbrev pub type_of : List Counted → Basic → Counted
 type_of types elem = slice_index_or types (code_of_basic elem) nothing
 
 -- what a tally has of a kind
-abbrev pub counted_in : Tally → Kind → Counted
+abbrev pub counted_in : CountedKinds → Kind → Counted
 counted_in tally (Class class) =
     cond (tally.class == class) (both (kept_of tally.classes class) tally.run) (kept_of tally.classes class)
 counted_in tally (Prim elem) = type_of tally.types elem
 
 -- the tally has the objects among these facts, of each kind
-abbrev pub IsTally : IdSize → List FactValue → Tally → Type 0
+abbrev pub IsTally : IdSize → List FactValue → CountedKinds → Type 0
 IsTally ids facts tally = (kind : Kind) → counted_in tally kind ≡ counted_of ids kind facts
 
 -- the types that elements of arrays may have, by their codes

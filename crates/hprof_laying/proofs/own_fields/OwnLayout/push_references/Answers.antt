@@ -5,7 +5,7 @@ use Rattle.hprof_laying.specs.declared.reference.Reference.{Reference}
 use Rattle.hprof_laying.specs.OwnFields.{references_in}
 use Rattle.hprof_laying.proofs.Places.{reference_at}
 use Rattle.hprof_laying.proofs.Pushes.{pushing_begins, pushing_more, one_within}
-use Rattle.hprof_laying.proofs.own_fields.OwnFields.push_references.Goals as goal
+use Rattle.hprof_laying.proofs.own_fields.OwnLayout.push_references.Goals as goal
 
 pub loop-own-init : goal.loop-own-init
 loop-own-init c = λ slots are wide small.

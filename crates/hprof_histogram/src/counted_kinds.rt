@@ -12,7 +12,7 @@ pub(crate) const TYPES: usize = 12;
 /// How many objects of each kind were counted. Objects of one class often come one after the other, so what came last is
 /// kept beside the map.
 #[derive(Drop)]
-pub(crate) struct Tally {
+pub(crate) struct CountedKinds {
     /// What was counted of each class, but for the last ones.
     pub(crate) classes: BTreeMap<u64, Counted>,
     /// The class that came last.
@@ -23,18 +23,18 @@ pub(crate) struct Tally {
     pub(crate) types: [Counted; TYPES],
 }
 
-impl Tally {
+impl CountedKinds {
     ghost use Rattle.std.specs.Prelude.{◌≡◌, ◌==◌, cond, OnOk};
     ghost use Rattle.hprof_histogram.specs.declared.row.Kind.{Kind};
     ghost use Rattle.hprof_histogram.specs.declared.row.Kind.TheVariants as kinds;
     ghost use Rattle.hprof_histogram.specs.Histogram.{same_kind};
-    ghost use Rattle.hprof_histogram.specs.Tally.{HasRoom, both, counted_in, nothing, one_of};
+    ghost use Rattle.hprof_histogram.specs.CountedKinds.{HasRoom, both, counted_in, nothing, one_of};
 
     /// Nothing was counted.
-    pub(crate) fn new(alloc: Global) -> Tally
+    pub(crate) fn new(alloc: Global) -> CountedKinds
         ensures { (kind : Kind) → counted_in result kind ≡ nothing }
     {
-        Tally {
+        CountedKinds {
             classes: BTreeMap::new(alloc),
             class: 0,
             run: Counted::nothing(),
@@ -42,7 +42,7 @@ impl Tally {
         }
     }
 
-    /// Counts what came last into the map.
+    /// CountsKind what came last into the map.
     pub(crate) fn close_run(&mut self) -> Result<(), AllocError>
         requires { (kind : Kind) → HasRoom (counted_in self.old kind) }
         ensures same { OnOk result ((kind : Kind) → counted_in self.new kind ≡ counted_in self.old kind) }
@@ -58,7 +58,7 @@ impl Tally {
         Ok(())
     }
 
-    /// Counts an object of a class.
+    /// CountsKind an object of a class.
     fn count_class(&mut self, class: u64, size: u128) -> Result<(), AllocError>
         requires all { (kind : Kind) → HasRoom (counted_in self.old kind) }
         requires one { HasRoom (both (counted_in self.old (kinds.Class class)) (one_of size)) }
@@ -73,7 +73,7 @@ impl Tally {
         Ok(())
     }
 
-    /// Counts an array of a type.
+    /// CountsKind an array of a type.
     fn count_type(&mut self, elem: Basic, size: u128)
         requires { HasRoom (both (counted_in self.old (kinds.Prim elem)) (one_of size)) }
         ensures { (kind : Kind) → counted_in self.new kind
@@ -83,7 +83,7 @@ impl Tally {
         self.types[code] = self.types[code].with(size);
     }
 
-    /// Counts an object.
+    /// CountsKind an object.
     pub(crate) fn count(&mut self, kind: Kind, size: u128) -> Result<(), AllocError>
         requires all { (other : Kind) → HasRoom (counted_in self.old other) }
         requires one { HasRoom (both (counted_in self.old kind) (one_of size)) }

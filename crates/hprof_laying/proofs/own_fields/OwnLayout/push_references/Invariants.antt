@@ -3,7 +3,7 @@ use Rattle.std.proofs.Common.{◌≡◌, ◌+◌, ◌^◌, ◌≤◌, ◌<◌, �
 use Rattle.hprof_layouts.specs.declared.slot.Slot.{Slot}
 use Rattle.hprof_laying.specs.OwnFields.{IsOwn, references_in}
 use Rattle.hprof_laying.proofs.Places.{reference_at}
-use Rattle.hprof_laying.proofs.own_fields.OwnFields.push_references.Given as goal
+use Rattle.hprof_laying.proofs.own_fields.OwnLayout.push_references.Given as goal
 
 abbrev pub invariant-loop-own : goal.invariant-loop-own
 invariant-loop-own l = (slots : List Slot) → IsOwn l.ids slots l.self → l.self.width ≤ length l.bytes → l.place + length slots < 2 ^ 64
