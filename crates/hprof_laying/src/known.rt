@@ -73,7 +73,7 @@ impl KnownLayouts {
     }
 
     /// Takes a class dump that came, the first of its class, where identifiers have that size. It gives the classes whose
-    /// layouts become known by it. Where memory is refused, nothing holds of what is kept.
+    /// layouts become known by it, each once. The error is that memory was refused; nothing holds then of what is kept.
     pub fn come(&mut self, row: &ClassRow<'_>, ids: IdSize) -> Result<Vec<u64>, AllocError>
         ensures ok { OnOk result ((facts more : List FactValue) → Knows ids facts self.old → HasNoDump facts row.now.id
             → HasDumpMore facts (dump_of row.now) more → Knows ids more self.new) }
@@ -158,8 +158,8 @@ impl KnownLayouts {
     }
 
     /// Puts what an instance of the class that has these bytes refers to in the place of other references, in the order of
-    /// its fields. There is nothing where the layout of the class is not known, or has another number of bytes. Where memory
-    /// is refused, nothing holds of the references.
+    /// its fields. There is nothing where the layout of the class is not known, or has another number of bytes. The error is
+    /// that memory was refused; nothing holds then of the references.
     pub fn lay(
         &self,
         class: u64,
