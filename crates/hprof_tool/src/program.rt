@@ -9,10 +9,10 @@ ghost use Rattle.hprof_tool.specs.Program.{IsMadeOfStream, IsMadeInFile, IsMadeO
 use crate::command::{Task, task_of};
 use crate::status::Status;
 use answers::{answer_no_id, answer_no_words, answer_outcome, answer_words};
-use hprof_engine::Product;
+use hprof_engine::{Dump, Product};
 use hprof_reports::{Check, HistogramReport, ObjectReport};
 use hprof_text::parse_id;
-use joining::{join_files, join_stream, report_files};
+use joining::{join_stream, make_file, report_files};
 use std::alloc::Global;
 use std::env::Args;
 use std::io;
@@ -37,19 +37,20 @@ fn pass<I: Read + Drop, O: Write + Drop, E: Write>(
     answer_outcome(alloc, join_stream(alloc, input, output), errors)
 }
 
-/// Joins parts in files to a new file.
-fn join<F: Files, E: Write>(
+/// Writes what is made of parts in files to a new file.
+fn write_new<P: Product, F: Files, E: Write>(
     alloc: Global,
     files: &F,
+    product: &P,
     out: &str,
     names: &[&str],
     errors: &mut E,
 ) -> Status
     ensures done { result ≡ Status.Done → (written : F.File)
-        × IsMadeInFile IsDump F.File.remaining F.File.contents (length names.now) written }
+        × IsMadeInFile (IsMadeOf (P.is_text product.now)) F.File.remaining F.File.contents (length names.now) written }
     ensures understood { result ≢ Status.NotUnderstood }
 {
-    answer_outcome(alloc, join_files(alloc, files, out, names), errors)
+    answer_outcome(alloc, make_file(alloc, files, product, out, names), errors)
 }
 
 /// Writes a report on parts in files to `output`.
@@ -114,7 +115,7 @@ pub fn run<F: Files, I: Read + Drop, O: Write + Drop, E: Write>(
     };
     match task_of(alloc, &words) {
         Ok(Task::Pass) => pass(alloc, input, output, errors),
-        Ok(Task::Join { out, parts }) => join(alloc, files, out, &parts, errors),
+        Ok(Task::Join { out, parts }) => write_new(alloc, files, &Dump, out, &parts, errors),
         Ok(Task::Check { parts }) => report(alloc, files, &Check, &parts, output, errors),
         Ok(Task::Histogram { parts }) => {
             report(alloc, files, &HistogramReport, &parts, output, errors)
