@@ -42,7 +42,7 @@ impl CountedKinds {
         }
     }
 
-    /// CountsKind what came last into the map.
+    /// Counts what came last into the map.
     pub(crate) fn close_run(&mut self) -> Result<(), AllocError>
         requires { (kind : Kind) → HasRoom (counted_in self.old kind) }
         ensures same { OnOk result ((kind : Kind) → counted_in self.new kind ≡ counted_in self.old kind) }
@@ -58,7 +58,7 @@ impl CountedKinds {
         Ok(())
     }
 
-    /// CountsKind an object of a class.
+    /// Counts an object of a class.
     fn count_class(&mut self, class: u64, size: u128) -> Result<(), AllocError>
         requires all { (kind : Kind) → HasRoom (counted_in self.old kind) }
         requires one { HasRoom (both (counted_in self.old (kinds.Class class)) (one_of size)) }
@@ -73,7 +73,7 @@ impl CountedKinds {
         Ok(())
     }
 
-    /// CountsKind an array of a type.
+    /// Counts an array of a type.
     fn count_type(&mut self, elem: Basic, size: u128)
         requires { HasRoom (both (counted_in self.old (kinds.Prim elem)) (one_of size)) }
         ensures { (kind : Kind) → counted_in self.new kind
@@ -83,7 +83,7 @@ impl CountedKinds {
         self.types[code] = self.types[code].with(size);
     }
 
-    /// CountsKind an object.
+    /// Counts an object.
     pub(crate) fn count(&mut self, kind: Kind, size: u128) -> Result<(), AllocError>
         requires all { (other : Kind) → HasRoom (counted_in self.old other) }
         requires one { HasRoom (both (counted_in self.old kind) (one_of size)) }

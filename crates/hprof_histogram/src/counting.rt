@@ -42,7 +42,7 @@ fn object_of(fact: &Fact<'_>, ids: IdSize) -> Option<(Kind, u128)>
     }
 }
 
-/// CountsKind the objects of a heap. Nothing is left beside the map.
+/// Counts the objects of a heap. Nothing is left beside the map.
 pub(crate) fn count_objects(alloc: Global, heap: &Heap) -> Result<CountedKinds, AllocError>
     ensures all { IfOk result (IsTally (size_of heap.now) (facts_of heap.now)) }
     ensures closed { IfOk result (λ tally. tally.run ≡ nothing) }
