@@ -92,6 +92,7 @@ module _ (facts : List FactValue) (class at passed classes mark : ℕ) (watching
   watched_more lt next which = record { walking = longer; marked = go which } where
     longer : Walking facts class dump.parent (passed + 1) classes
     longer = walked_more facts class at passed classes watching.walking dump not_zero has is lt
+
     go : (next ≡ mark) ⊎ (next ≡ dump.parent) → Marked facts class next dump.parent
     go (inl stays) =
         let marked = watching.marked in

@@ -29,14 +29,35 @@ fn late_classes(rt: HostRuntime) -> Result<(), Fail> {
         field 0 64 int 00000007 n\n\
         field 1 64 object 000000c9 \\?6\n\
         field 2 63 byte ff \\?7\n";
-    let class = "class 64 super 63 loader 0 signers 0 domain 0 size 9 p/A\nown 0 int n\nown 1 object \\?6\n";
+    let class =
+        "class 64 super 63 loader 0 signers 0 domain 0 size 9 p/A\nown 0 int n\nown 1 object \\?6\n";
     let alloc = rt.alloc();
-    expect_report(&rt, alloc, &["object", "c8", one, two, three, names], fields)?;
-    expect_report(&rt, alloc, &["object", "00C8", names, three, two, one], fields)?;
+    expect_report(
+        &rt,
+        alloc,
+        &["object", "c8", one, two, three, names],
+        fields,
+    )?;
+    expect_report(
+        &rt,
+        alloc,
+        &["object", "00C8", names, three, two, one],
+        fields,
+    )?;
     expect_report(&rt, alloc, &["object", "64", one, two, three, names], class)?;
     // An identifier may be wider than those of the parts.
-    expect_report(&rt, alloc, &["object", "ffffffffff", one], "nothing at ffffffffff\n")?;
-    expect_report(&rt, alloc, &["histo", names, two, one, three], "9 1 64 p/A\n")?;
+    expect_report(
+        &rt,
+        alloc,
+        &["object", "ffffffffff", one],
+        "nothing at ffffffffff\n",
+    )?;
+    expect_report(
+        &rt,
+        alloc,
+        &["histo", names, two, one, three],
+        "9 1 64 p/A\n",
+    )?;
     expect_report(&rt, alloc, &["histo", names], "")
 }
 
