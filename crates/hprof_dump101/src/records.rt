@@ -1,0 +1,53 @@
+//! Writing the facts that records state.
+
+ghost use Rattle.std.specs.Prelude.{◌≡◌, flat_map};
+ghost use Rattle.hprof_devices.specs.declared.health.Health.TheVariants.{Well};
+ghost use Rattle.hprof_items.specs.Spelling.{spelling};
+ghost use Rattle.hprof_devices.specs.Device.{Writes, LeavesHealth};
+ghost use Rattle.hprof_dump.specs.Dump.{record_facts_bytes};
+ghost use Rattle.hprof_rows.specs.Tables.{facts_of_table};
+ghost use Rattle.hprof_heap.specs.Heap.{heap_of};
+
+use hprof_devices::{Target, WriteFault};
+use hprof_heap::Heap;
+use hprof_rows::Table;
+use hprof_writing::write_fact;
+
+/// The tables of the facts that records state.
+const RECORD_TABLES: [Table; 7] = [
+    Table::Names,
+    Table::Loads,
+    Table::Unloads,
+    Table::Frames,
+    Table::Traces,
+    Table::Starts,
+    Table::Ends,
+];
+
+/// Writes the heap's facts of a table, each as a spelling of its own. At a fault some of them were written, from the
+/// front.
+fn write_table<W: Target>(heap: &Heap, table: Table, target: &mut W) -> Result<(), WriteFault>
+    requires { W.health target.old ≡ Well }
+    ensures bytes { Writes (W.written target.old) (W.written target.new) result
+        (flat_map (spelling (heap_of heap.now).ids) (facts_of_table table (heap_of heap.now).facts)) }
+    ensures health { LeavesHealth result (W.health target.new) }
+{
+    let ids = heap.ids();
+    for fact in heap.rows(table) {
+        write_fact(&fact, ids, target)?;
+    }
+    Ok(())
+}
+
+/// Writes the heap's facts that records state. At a fault some of them were written, from the front.
+pub(crate) fn write_records<W: Target>(heap: &Heap, target: &mut W) -> Result<(), WriteFault>
+    requires { W.health target.old ≡ Well }
+    ensures bytes { Writes (W.written target.old) (W.written target.new) result
+        (record_facts_bytes (heap_of heap.now).ids (heap_of heap.now).facts) }
+    ensures health { LeavesHealth result (W.health target.new) }
+{
+    for table in &RECORD_TABLES {
+        write_table(heap, *table, target)?;
+    }
+    Ok(())
+}
