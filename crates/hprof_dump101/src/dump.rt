@@ -8,9 +8,9 @@ ghost use Rattle.hprof_dump101.specs.Dump101.{dump101, sub_len, IsTooLong, EndsD
 ghost use Rattle.hprof_dump101.specs.declared.fault.DumpFault.TheVariants.{TooLong};
 
 use crate::fault::DumpFault;
-use crate::records::write_records;
 use crate::subs::{count_subs, write_heap_dump};
 use hprof_devices::{Target, WriteFault};
+use hprof_dump::write_records;
 use hprof_heap::Heap;
 use hprof_items::{Header, Version};
 use hprof_writing::write_header;

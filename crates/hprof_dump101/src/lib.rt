@@ -6,7 +6,6 @@ mod dump;
 mod fault;
 mod join;
 pub mod laws;
-mod records;
 mod subs;
 
 pub use dump::write_v101;
