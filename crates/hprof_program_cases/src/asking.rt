@@ -1,7 +1,7 @@
 //! The program, asked what is behind an identifier, and what takes the room.
 
 use crate::expecting::{equal, holds};
-use crate::running::{expect_ran, ran, written};
+use crate::running::{expect_ran, outcome_of, written};
 use crate::samples::{ABOVE, CLASS, INSTANCE, NAMES};
 use std::alloc::Global;
 use std::process::Abort;
@@ -81,7 +81,7 @@ fn reports_that_are_refused(rt: HostRuntime) -> Result<(), Fail> {
         expect_ran(&rt, rt.alloc(), words, 1, "", "hprof: cannot open part 0\n")?;
     }
     // Without an identifier the words are not understood.
-    let told = ran(rt.alloc(), &rt, &["object"])?;
+    let told = outcome_of(rt.alloc(), &rt, &["object"])?;
     equal(&rt, told.status, 2);
     equal(&rt, told.output.len(), 0);
     holds(&rt, !told.errors.is_empty());

@@ -33,7 +33,7 @@ pub(crate) struct Ran {
 }
 
 /// Runs the program on words behind its name, with nothing on standard input.
-pub(crate) fn ran<F: Files>(alloc: Global, files: &F, words: &[&str]) -> Result<Ran, Fail> {
+pub(crate) fn outcome_of<F: Files>(alloc: Global, files: &F, words: &[&str]) -> Result<Ran, Fail> {
     let mut list = Vec::new(alloc);
     list.push(String::from_str(alloc, "hprof")?)?;
     for word in words {
@@ -59,7 +59,7 @@ pub(crate) fn expect_ran<F: Files + Abort>(
     output: &str,
     errors: &str,
 ) -> Result<(), Fail> {
-    let ran = ran(alloc, rt, words)?;
+    let ran = outcome_of(alloc, rt, words)?;
     equal_text(rt, &ran.errors, errors)?;
     equal_text(rt, &ran.output, output)?;
     equal_at(rt, words, ran.status, status);
