@@ -1,13 +1,14 @@
 #!/usr/bin/env python3
 """Runs the program with each of its requests for memory refused in turn.
 
-A run in which a request was refused has to answer want of memory, with status 1, no output file and nothing printed, or
-what the run with ample memory answers; nothing else may come in its place. A record that is passed over takes as many requests
-whatever its length. It needs the built program (`rt run` in crates/hprof
-leaves it as crates/hprof/out/hprof) and cc. It is no part of the gate.
+A run in which a request was refused has to answer want of memory, with status 1, no output file and nothing printed but some
+of the report, from its front, or what the run with ample memory answers; nothing else may come in its place. A record that is
+passed over takes as many requests whatever its length. It needs the built program (`rt run` in crates/hprof leaves it as
+crates/hprof/out/hprof) and cc. It is no part of the gate.
 """
 
 import os
+import struct
 import subprocess
 import sys
 import tempfile
@@ -21,6 +22,37 @@ HEADER = b"JAVA PROFILE 1.0.2\0" + (4).to_bytes(4, "big") + (1).to_bytes(8, "big
 def name(number, text):
     body = number.to_bytes(4, "big") + text
     return b"\x01\0\0\0\0" + len(body).to_bytes(4, "big") + body
+
+
+def load(serial, owner, name):
+    return b"\x02\0\0\0\0" + struct.pack(">IIIII", 16, serial, owner, 1, name)
+
+
+def segment(*subs):
+    body = b"".join(subs)
+    return b"\x1c\0\0\0\0" + len(body).to_bytes(4, "big") + body
+
+
+def class_dump(number, parent, size, entries):
+    return struct.pack(">BIIIIIIIII", 0x20, number, 1, parent, 0, 0, 0, 0, 0, size) + entries
+
+
+def object_dump(tag, number, rest):
+    return struct.pack(">BII", tag, number, 1) + rest
+
+
+# An instance whose class and its superclass come behind it, with names, an array of either kind and roots.
+LATE = [
+    HEADER + name(5, b"number") + name(6, b"next") + name(2, b"p/A") + load(1, 100, 2) + load(2, 100, 9),
+    HEADER + segment(object_dump(0x21, 200, struct.pack(">II", 100, 9) + bytes([0, 0, 0, 7, 0, 0, 0, 201, 255]))),
+    HEADER + segment(class_dump(100, 99, 9, struct.pack(">HHHIBIB", 0, 0, 2, 5, 10, 6, 2))),
+    HEADER + segment(class_dump(99, 0, 1, struct.pack(">HHHIB", 0, 0, 1, 7, 8))),
+    HEADER + segment(object_dump(0x22, 201, struct.pack(">IIII", 2, 100, 200, 0)), object_dump(0x23, 202, b"\0\0\0\2\x08ab")),
+    HEADER + segment(b"\x05" + (200).to_bytes(4, "big"), b"\x05" + (16).to_bytes(4, "big")),
+]
+
+
+REPORTS = [["histo"], ["object", "c8"], ["object", "64"], ["object", "c9"], ["object", "ca"]]
 
 
 def passed_over(length):
@@ -54,10 +86,14 @@ def main():
         short, long = folder / "short", folder / "long"
         short.write_bytes(HEADER + passed_over(100_000))
         long.write_bytes(HEADER + passed_over(10_000_000))
+        late = [folder / f"late{index}" for index in range(len(LATE))]
+        for path, part in zip(late, LATE):
+            path.write_bytes(part)
         cases = {
             "join": ["join", out, one, two],
             "conflict": ["join", out, one, one, two.with_name("three")],
             "check": ["check", one, two],
+            **{" ".join(words): [*words, *late] for words in REPORTS},
             "passed over, 100,000 bytes": ["join", out, short],
             "passed over, 10,000,000 bytes": ["join", out, long],
         }
@@ -76,12 +112,12 @@ def main():
                     break
                 if answer == ample:
                     answers["the answer"] += 1
-                elif answer[0] == 1 and answer[1] == b"" and answer[3] is None and b"out of memory" in answer[2]:
+                elif answer[0] == 1 and ample[1].startswith(answer[1]) and answer[3] is None and b"out of memory" in answer[2]:
                     answers["want of memory"] += 1
                 else:
                     wrong += 1
                     print(f"{title}, request {refuse_at}: {answer}")
-            print(f"{title}: {answers}, {wrong} of another kind")
+            print(f"{title}: {answers}, {wrong} of another kind", flush=True)
         wrong += requests["passed over, 100,000 bytes"] != requests["passed over, 10,000,000 bytes"]
         print(f"requests for memory: {requests}")
         sys.exit(wrong != 0)

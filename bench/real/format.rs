@@ -16,7 +16,7 @@ pub fn number(bytes: &[u8]) -> u64 {
 }
 
 /// The width of a value of that type.
-fn type_width(code: u8, width: usize) -> usize {
+pub fn type_width(code: u8, width: usize) -> usize {
     match code {
         1 | 2 => width,
         4 | 8 => 1,

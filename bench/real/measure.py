@@ -1,12 +1,13 @@
 #!/usr/bin/env python3
-"""Joins and checks real dumps, which a Java program makes of its own heap, and times it beside a plain Rust program.
+"""Joins and reports on real dumps, which a Java program makes of its own heap, and times it beside a plain Rust program.
 
 For each collector and size: `hprof join` takes the dump; joined again it gives the same bytes; cut into five parts with
 all records and sub-records in any order, some repeated, it gives the same bytes; and the plain program writes the same.
-`hprof check` of the dump and of the five parts prints what the plain program does. Then it runs both programs in turn and
+Each report of the dump, of its canonical dump and of the five parts prints what the plain program does, for those that ask
+for an identifier with some ten classes, instances and arrays of either kind each. Then it runs both programs in turn and
 prints the fastest times, the peak memories and the ratios.
 
-    bench/real/measure.py [--turns N] [MEGABYTES..]       (5 turns; 1 10 100)
+    bench/real/measure.py [--turns N] [--commands WORD,..] [MEGABYTES..]       (5 turns; all commands; 1 10 100)
 
 It needs the built program (`rt run` in crates/hprof leaves it as crates/hprof/out/hprof), java, javac and rustc. It is no
 part of the gate. 1,000 megabytes take about 6 GB of memory and 10 GB of disk.
@@ -43,13 +44,15 @@ def join(program, out, parts):
     return run([program, "join", out, *parts])
 
 
-def report(program, out, parts):
-    """Writes the report `check` of the parts to a file."""
+def report(program, out, parts, *words):
+    """Writes a report on the parts to a file."""
     with open(out, "wb") as file:
-        return run([program, "check", *parts], file)
+        return run([program, *words, *parts], file)
 
 
-COMMANDS = {"join": join, "check": report}
+REPORTS = ["check", "histo"]
+ASKING = ["object"]
+COMMANDS = ["join", *REPORTS, *ASKING]
 
 
 def check_same(one, other, what):
@@ -57,7 +60,13 @@ def check_same(one, other, what):
         sys.exit(f"{what}: other bytes")
 
 
-def check(folder, dump):
+def sample(folder, dump):
+    """Identifiers of every kind: of classes, of instances, of arrays of objects and of arrays of values."""
+    words = [folder / "plain", "sample", "10", dump]
+    return subprocess.run(words, check=True, capture_output=True, text=True).stdout.split()
+
+
+def check(folder, dump, commands):
     """Checks what is written, and leaves nothing behind."""
     plain = folder / "plain"
     once, twice, other, cut = (folder / name for name in ("once", "twice", "other", "cut"))
@@ -70,10 +79,14 @@ def check(folder, dump):
     check_same(once, other, "the plain program")
     join(PROGRAM, cut, parts)
     check_same(once, cut, "cut into five parts")
-    for checked in ([dump], [once], parts):
-        report(PROGRAM, twice, checked)
-        report(plain, other, checked)
-        check_same(twice, other, "the report of the plain program")
+    asked = [[word] for word in REPORTS] + [[word, id] for word in ASKING for id in sample(folder, dump)]
+    for words in asked:
+        if words[0] not in commands:
+            continue
+        for checked in ([dump],) if len(words) > 1 else ([dump], [once], parts):
+            report(PROGRAM, twice, checked, *words)
+            report(plain, other, checked, *words)
+            check_same(twice, other, "the report of the plain program, " + " ".join(words))
     for path in (once, twice, other, cut, *parts):
         path.unlink()
 
@@ -108,8 +121,19 @@ def dump_of(folder, collector, megabytes):
     return dump
 
 
+def work_of(folder, dump, command):
+    """What runs a command: a join, a report, or one on an identifier in the middle of all."""
+    if command == "join":
+        return join
+    words = [command]
+    if command in ASKING:
+        asked = sample(folder, dump)
+        words.append(asked[len(asked) // 2])
+    return lambda program, out, parts: report(program, out, parts, *words)
+
+
 def print_row(folder, collector, dump, turns, command):
-    (ours, plain), peaks = measure(folder, dump, turns, COMMANDS[command])
+    (ours, plain), peaks = measure(folder, dump, turns, work_of(folder, dump, command))
     size = dump.stat().st_size
     print(
         f"| {collector} | {size / 1e6:.1f} MB | {command} | {ours:.3f} s | {plain:.3f} s | {ours / plain:.2f} "
@@ -121,8 +145,10 @@ def print_row(folder, collector, dump, turns, command):
 def main():
     words = argparse.ArgumentParser()
     words.add_argument("--turns", type=int, default=5)
+    words.add_argument("--commands", default=",".join(COMMANDS))
     words.add_argument("megabytes", type=int, nargs="*", default=[1, 10, 100])
     words = words.parse_args()
+    commands = words.commands.split(",")
     print("| collector | dump | command | ours | plain | ratio | our peak | times the dump | plain peak |")
     print("|---|---|---|---|---|---|---|---|---|")
     with tempfile.TemporaryDirectory() as folder:
@@ -131,8 +157,8 @@ def main():
         for megabytes in words.megabytes:
             for collector in COLLECTORS:
                 dump = dump_of(folder, collector, megabytes)
-                check(folder, dump)
-                for command in COMMANDS:
+                check(folder, dump, commands)
+                for command in commands:
                     print_row(folder, collector, dump, words.turns, command)
 
 

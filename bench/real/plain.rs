@@ -1,9 +1,13 @@
-//! A plain program with the same tables, to measure hprof's `join` and `check` beside: it reads parts in pieces, goes over
-//! them in place, unites their facts in BTreeMaps of boxed spellings, and writes the canonical dump, or how many facts there
-//! are. It uses std alone.
+//! A plain program with the same tables, to measure hprof beside: it reads parts in pieces, goes over them in place, unites
+//! their facts in BTreeMaps of boxed spellings, and writes a dump or a report. It uses std alone.
 //!
 //!     plain join OUT PART..
+//!     plain join101 OUT PART..
+//!     plain salvage OUT PART..       (of a part that is cut short; of no other fault)
 //!     plain check PART..
+//!     plain histo PART..
+//!     plain object ID PART..         (and refs, path)
+//!     plain sample COUNT PART..      (identifiers, about so many of classes, of instances, and of either kind of array)
 
 use std::collections::btree_map::Entry;
 use std::collections::{BTreeMap, BTreeSet};
@@ -12,6 +16,8 @@ use std::fs::File;
 use std::io::{self, BufWriter, Read, Write};
 
 mod format;
+mod graph;
+mod reports;
 mod text;
 use format::{HEAD_LEN, HEADER_LEN, number, refuse, sub_len};
 
@@ -173,7 +179,8 @@ fn take(heap: &mut Heap, part: &mut Summary, place: &mut Place, bytes: &[u8]) ->
     }
 }
 
-fn read_part(heap: &mut Heap, name: &str) -> Summary {
+/// Reads a part to its end. One that is cut short is refused, unless what is whole of it is to be kept.
+fn read_part(heap: &mut Heap, name: &str, keep: bool) -> Summary {
     let mut file = File::open(name).unwrap_or_else(|_| refuse("cannot open"));
     let mut piece = vec![0; PIECE_LEN];
     // What is held of a part is at the front of the piece, which grows where an item is longer.
@@ -192,7 +199,7 @@ fn read_part(heap: &mut Heap, name: &str) -> Summary {
         piece.copy_within(taken..held + count, 0);
         held = held + count - taken;
     }
-    if held != 0 || !matches!(place, Place::Between) {
+    if !keep && (held != 0 || !matches!(place, Place::Between)) {
         refuse("truncated");
     }
     part
@@ -205,8 +212,9 @@ fn head(tag: u8, len: usize) -> [u8; HEAD_LEN] {
     head
 }
 
-fn write(heap: &Heap, out: &mut impl Write) -> std::io::Result<()> {
-    out.write_all(b"JAVA PROFILE 1.0.2\0")?;
+/// Writes the header and what records state.
+fn write_records(heap: &Heap, version: &[u8], out: &mut impl Write) -> io::Result<()> {
+    out.write_all(version)?;
     out.write_all(&(heap.width as u32).to_be_bytes())?;
     out.write_all(&heap.millis.to_be_bytes())?;
     for (tag, rows) in [
@@ -223,7 +231,28 @@ fn write(heap: &Heap, out: &mut impl Write) -> std::io::Result<()> {
             out.write_all(body)?;
         }
     }
-    let subs = || heap.roots.iter().chain(heap.classes.values()).chain(heap.objects.values());
+    Ok(())
+}
+
+/// The sub-records in order.
+fn subs(heap: &Heap) -> impl Iterator<Item = &Box<[u8]>> {
+    heap.roots.iter().chain(heap.classes.values()).chain(heap.objects.values())
+}
+
+/// Writes the 1.0.1 dump.
+fn write101(heap: &Heap, out: &mut impl Write) -> io::Result<()> {
+    write_records(heap, b"JAVA PROFILE 1.0.1\0", out)?;
+    let len: usize = subs(heap).map(|sub| sub.len()).sum();
+    if len > 0 {
+        out.write_all(&head(0x0c, len))?;
+    }
+    subs(heap).try_for_each(|sub| out.write_all(sub))
+}
+
+/// Writes the canonical dump.
+fn write(heap: &Heap, out: &mut impl Write) -> io::Result<()> {
+    write_records(heap, b"JAVA PROFILE 1.0.2\0", out)?;
+    let subs = || subs(heap);
     let mut ahead = subs();
     let mut first = ahead.next();
     let mut behind = subs();
@@ -278,35 +307,59 @@ fn report(parts: &[Summary], heap: &Heap, out: &mut impl Write) -> io::Result<()
 }
 
 /// Reads the parts, and what was read of each.
-fn read_parts(names: &[String]) -> (Vec<Summary>, Heap) {
+fn read_parts(names: &[String], keep: bool) -> (Vec<Summary>, Heap) {
     let mut heap = Heap::default();
-    let parts = names.iter().map(|name| read_part(&mut heap, name)).collect();
+    let parts = names.iter().map(|name| read_part(&mut heap, name, keep)).collect();
     (parts, heap)
 }
 
-fn join(out: &str, names: &[String]) {
-    let (_, heap) = read_parts(names);
-    let file = File::create_new(out).unwrap_or_else(|_| refuse("cannot create"));
-    let mut out = BufWriter::with_capacity(PIECE_LEN, file);
-    write(&heap, &mut out).unwrap_or_else(|_| refuse("write failed"));
+/// Writes through a buffer what is made of a heap, which is then left: freeing millions of rows is no work that anyone waits for.
+fn write_out<W: Write>(out: W, heap: Heap, make: impl FnOnce(&Heap, &mut BufWriter<W>) -> io::Result<()>) {
+    let mut out = BufWriter::with_capacity(PIECE_LEN, out);
+    make(&heap, &mut out).unwrap_or_else(|_| refuse("write failed"));
     out.flush().unwrap_or_else(|_| refuse("write failed"));
-    // Freeing millions of rows is no work that anyone waits for.
     std::mem::forget(heap);
 }
 
-fn check(names: &[String]) {
-    let (parts, heap) = read_parts(names);
-    let mut out = BufWriter::with_capacity(PIECE_LEN, io::stdout());
-    report(&parts, &heap, &mut out).unwrap_or_else(|_| refuse("write failed"));
-    out.flush().unwrap_or_else(|_| refuse("write failed"));
-    std::mem::forget(heap);
+fn create(name: &str) -> File {
+    File::create_new(name).unwrap_or_else(|_| refuse("cannot create"))
+}
+
+fn id_of(word: &str) -> u64 {
+    u64::from_str_radix(word, 16).unwrap_or_else(|_| refuse("not an identifier"))
+}
+
+/// Prints identifiers of every kind, about so many of each, spread over all.
+fn sample(heap: &Heap, count: usize, out: &mut impl Write) -> io::Result<()> {
+    let kind = |tag: u8| heap.objects.iter().filter(move |(_, bytes)| bytes[0] == tag).map(|(id, _)| *id).collect();
+    let kinds: [Vec<u64>; 4] = [heap.classes.keys().copied().collect(), kind(0x21), kind(0x22), kind(0x23)];
+    for ids in kinds {
+        // Some way behind the beginning of each stretch, so that not the same ones are first everywhere.
+        let stride = (ids.len() / count).max(1);
+        for id in ids.iter().skip(stride * 2 / 3).step_by(stride) {
+            writeln!(out, "{id:x}")?;
+        }
+    }
+    Ok(())
 }
 
 fn main() {
     let words: Vec<String> = env::args().skip(1).collect();
+    let read = |first: usize| read_parts(&words[first..], false);
+    let stdout = io::stdout;
     match words[0].as_str() {
-        "join" => join(&words[1], &words[2..]),
-        "check" => check(&words[1..]),
-        _ => refuse("join or check"),
+        "join" => write_out(create(&words[1]), read(2).1, |heap, out| write(heap, out)),
+        "join101" => write_out(create(&words[1]), read(2).1, |heap, out| write101(heap, out)),
+        "salvage" => write_out(create(&words[1]), read_parts(&words[2..], true).1, |heap, out| write(heap, out)),
+        "check" => {
+            let (parts, heap) = read(1);
+            write_out(stdout(), heap, |heap, out| report(&parts, heap, out));
+        }
+        "histo" => write_out(stdout(), read(1).1, |heap, out| reports::histo(heap, out)),
+        "object" => write_out(stdout(), read(2).1, |heap, out| reports::object(heap, id_of(&words[1]), out)),
+        "sample" => write_out(stdout(), read(2).1, |heap, out| sample(heap, words[1].parse().unwrap_or(1), out)),
+        "refs" => write_out(stdout(), read(2).1, |heap, out| reports::refs(heap, id_of(&words[1]), out)),
+        "path" => write_out(stdout(), read(2).1, |heap, out| reports::reached(heap, id_of(&words[1]), out)),
+        _ => refuse("join, join101, salvage, check, histo, object, refs or path"),
     }
 }

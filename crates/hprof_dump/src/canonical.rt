@@ -41,8 +41,9 @@ fn write_table<W: Target>(heap: &Heap, table: Table, target: &mut W) -> Result<(
     Ok(())
 }
 
-/// Writes the heap's facts that records state. At a fault some of them were written, from the front.
-fn write_records<W: Target>(heap: &Heap, target: &mut W) -> Result<(), WriteFault>
+/// Writes the heap's facts that records state, each as a spelling of its own, in canonical order: names, loads, unloads,
+/// frames, stacks, starts and ends of threads. It takes no memory. At a fault some of them were written, from the front.
+pub fn write_records<W: Target>(heap: &Heap, target: &mut W) -> Result<(), WriteFault>
     requires { W.health target.old ≡ Well }
     ensures bytes { Writes (W.written target.old) (W.written target.new) result
         (record_facts_bytes (heap_of heap.now).ids (heap_of heap.now).facts) }

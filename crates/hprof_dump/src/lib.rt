@@ -6,4 +6,4 @@ mod canonical;
 pub mod laws;
 mod segments;
 
-pub use canonical::write_canonical;
+pub use canonical::{write_canonical, write_records};

@@ -62,7 +62,7 @@ pub fn to_class_row<'a>(fact: &Fact<'a>) -> Option<ClassRow<'a>>
     }
 }
 
-/// The dump of a class.
+/// The dump of a class; None where the heap has none.
 pub fn find_class(heap: &Heap, class: u64) -> Option<ClassRow<'_>>
     ensures found { IfSome result (λ row. HasDump (facts_of heap.now) (dump_of row)) }
     ensures id { IfSome result (λ row. row.id ≡ class) }

@@ -39,7 +39,7 @@ pub fn table_len(heap: &Heap, table: Table) -> usize
     heap.len(table)
 }
 
-/// The name of a class: that which it has in the fact of least serial that loads it.
+/// The name of a class: that which it has in the fact of least serial that loads it; None where none does.
 pub fn class_name(heap: &Heap, class: u64) -> Option<u64>
     ensures { NamesClass (facts_of heap.now) class result }
 {

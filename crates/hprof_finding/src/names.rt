@@ -19,7 +19,7 @@ fn name_fact(heap: &Heap, name: u64) -> Option<Fact<'_>>
     heap.name(name)
 }
 
-/// The bytes of a name.
+/// The bytes of a name; None where the heap does not have it.
 pub fn find_name(heap: &Heap, name: u64) -> Option<&[u8]>
     ensures found { IfSome result (λ bytes. HasName (facts_of heap.now) name bytes.now) }
     // They are the only ones.

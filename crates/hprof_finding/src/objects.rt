@@ -69,7 +69,7 @@ pub fn to_object_row<'a>(fact: &Fact<'a>) -> Option<ObjectRow<'a>>
     }
 }
 
-/// The dump of an object.
+/// The dump of an object; None where the heap has none.
 pub fn find_object(heap: &Heap, object: u64) -> Option<ObjectRow<'_>>
     ensures found { IfSome result (λ row. Has (facts_of heap.now) (fact_of_object row)) }
     ensures id { IfSome result (λ row. IsObject object (fact_of_object row)) }

@@ -16,7 +16,7 @@ use Rattle.hprof_histogram.specs.declared.row.Kind.TheVariants.{Class, Prim}
 use Rattle.hprof_histogram.specs.declared.row.Row.{Row}
 use Rattle.hprof_histogram.specs.declared.counted.Counted.{Counted}
 use Rattle.hprof_histogram.specs.Histogram.{kind_cmp, same_kind}
-use Rattle.hprof_histogram.specs.Tally.{class_rows, element_types, has_objects, type_rows}
+use Rattle.hprof_histogram.specs.CountedKinds.{class_rows, element_types, has_objects, type_rows}
 use Rattle.hprof_histogram.proofs.RowOrder.{kind_cmp_total, same_row_kind, tied_kinds}
 use Rattle.hprof_histogram.proofs.OneHistogram.{one_kind}
 

@@ -16,9 +16,9 @@ use Rattle.hprof_rows.specs.Facts.{AllFit}
 use Rattle.hprof_rows.specs.Tables.{facts_of_table}
 use Rattle.hprof_histogram.specs.declared.row.Kind.{Kind}
 use Rattle.hprof_histogram.specs.declared.counted.Counted.{Counted}
-use Rattle.hprof_histogram.specs.declared.tally.Tally.{Tally}
+use Rattle.hprof_histogram.specs.declared.counted_kinds.CountedKinds.{CountedKinds}
 use Rattle.hprof_histogram.specs.Histogram.{kind_of, is_kind, same_kind, of_kind, size_of_object}
-use Rattle.hprof_histogram.specs.Tally.{HasRoom, IsTally, both, counted_in, counted_of, nothing, one_of}
+use Rattle.hprof_histogram.specs.CountedKinds.{HasRoom, IsTally, both, counted_in, counted_of, nothing, one_of}
 use Rattle.hprof_histogram.proofs.Tallies.{both_nothing, same_itself}
 
 -- ---- sums
@@ -83,15 +83,15 @@ counted_other ids kind fact facts none = ap (counted_list ids) (left_out kind fa
 -- ---- what is counted, and what is left
 
 -- what the tally has, and then the facts that are left, is what all facts have
-abbrev pub IsTallyTo : IdSize → List FactValue → Tally → List FactValue → Type 0
+abbrev pub IsTallyTo : IdSize → List FactValue → CountedKinds → List FactValue → Type 0
 IsTallyTo ids all tally left = (kind : Kind) → both (counted_in tally kind) (counted_of ids kind left) ≡ counted_of ids kind all
 
-pub tally_begins : (ids : IdSize) (all left : List FactValue) (tally : Tally) → ((kind : Kind) → counted_in tally kind ≡ nothing) → left ≡ all
+pub tally_begins : (ids : IdSize) (all left : List FactValue) (tally : CountedKinds) → ((kind : Kind) → counted_in tally kind ≡ nothing) → left ≡ all
     → IsTallyTo ids all tally left
 tally_begins ids all left tally new e kind =
     ap (λ (c : Counted). both c (counted_of ids kind left)) (new kind) ∙ nothing_both (counted_of ids kind left) ∙ ap (counted_of ids kind) e
 
-pub tally_counts : (ids : IdSize) (all rest : List FactValue) (tally after : Tally) (fact : FactValue) (own : Kind) (size : ℕ)
+pub tally_counts : (ids : IdSize) (all rest : List FactValue) (tally after : CountedKinds) (fact : FactValue) (own : Kind) (size : ℕ)
     → kind_of fact ≡ Some own → size ≡ size_of_object ids fact
     → ((kind : Kind) → counted_in after kind
     ≡ cond (same_kind kind own) (both (counted_in tally kind) (one_of size)) (counted_in tally kind))
@@ -110,11 +110,11 @@ tally_counts ids all rest tally after fact own size is sized counts to kind =
       by_test false more is =
           ap (λ (c : Counted). both c (counted_of ids kind rest)) is ∙ ap (both (counted_in tally kind)) (sym more)
 
-pub tally_passes : (ids : IdSize) (all rest : List FactValue) (tally : Tally) (fact : FactValue) → kind_of fact ≡ None
+pub tally_passes : (ids : IdSize) (all rest : List FactValue) (tally : CountedKinds) (fact : FactValue) → kind_of fact ≡ None
     → IsTallyTo ids all tally (fact ∷ rest) → IsTallyTo ids all tally rest
 tally_passes ids all rest tally fact none to kind = ap (both (counted_in tally kind)) (sym (counted_other ids kind fact rest none)) ∙ to kind
 
-pub tally_ends : (ids : IdSize) (all left : List FactValue) (tally : Tally) → left ≡ [] → IsTallyTo ids all tally left → IsTally ids all tally
+pub tally_ends : (ids : IdSize) (all left : List FactValue) (tally : CountedKinds) → left ≡ [] → IsTallyTo ids all tally left → IsTally ids all tally
 tally_ends ids all left tally none to kind =
     sym (both_nothing (counted_in tally kind)) ∙ ap (λ (l : List FactValue). both (counted_in tally kind) (counted_of ids kind l)) (sym none)
     ∙ to kind
@@ -122,12 +122,12 @@ tally_ends ids all left tally none to kind =
 -- ---- room
 
 -- what was counted so far has room
-pub room_so_far : (ids : IdSize) (all left : List FactValue) (tally : Tally) → ((kind : Kind) → HasRoom (counted_of ids kind all))
+pub room_so_far : (ids : IdSize) (all left : List FactValue) (tally : CountedKinds) → ((kind : Kind) → HasRoom (counted_of ids kind all))
     → IsTallyTo ids all tally left → (kind : Kind) → HasRoom (counted_in tally kind)
 room_so_far ids all left tally room to kind = room_alone _ _ _ (to kind) (room kind)
 
 -- so has one object more
-pub room_for_one : (ids : IdSize) (all rest : List FactValue) (tally : Tally) (fact : FactValue) (own : Kind) (size : ℕ)
+pub room_for_one : (ids : IdSize) (all rest : List FactValue) (tally : CountedKinds) (fact : FactValue) (own : Kind) (size : ℕ)
     → kind_of fact ≡ Some own → size ≡ size_of_object ids fact
     → ((kind : Kind) → HasRoom (counted_of ids kind all)) → IsTallyTo ids all tally (fact ∷ rest)
     → HasRoom (both (counted_in tally own) (one_of size))
@@ -198,6 +198,6 @@ room_of_all ids facts objects fit counted few kind =
     record { count = count; bytes = omega (arith, few_bytes, ap length same, ap (sum_by (size_of_object ids)) same) }
 
 -- a tally of the table is one of all facts
-pub tally_of_all : (ids : IdSize) (facts : List FactValue) (tally : Tally) → IsTally ids (facts_of_table tables.Objects facts) tally
+pub tally_of_all : (ids : IdSize) (facts : List FactValue) (tally : CountedKinds) → IsTally ids (facts_of_table tables.Objects facts) tally
     → IsTally ids facts tally
 tally_of_all ids facts tally is kind = is kind ∙ ap (counted_list ids) (same_of_kind kind facts)

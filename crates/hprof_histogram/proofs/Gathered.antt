@@ -6,7 +6,7 @@ use Rattle.hprof_values.specs.declared.basic.Basic.{Basic}
 use Rattle.hprof_histogram.specs.declared.row.Kind.TheVariants.{Prim}
 use Rattle.hprof_histogram.specs.declared.row.Row.{Row}
 use Rattle.hprof_histogram.specs.declared.counted.Counted.{Counted}
-use Rattle.hprof_histogram.specs.Tally.{has_objects, row_of, type_of, type_rows}
+use Rattle.hprof_histogram.specs.CountedKinds.{has_objects, row_of, type_of, type_rows}
 
 -- a row that may be left out, and then the others
 row_pushed : (b : Bool) (done : List Row) (row : Row) (rest : List Row) → (done ++ cond b (row ∷ []) []) ++ rest

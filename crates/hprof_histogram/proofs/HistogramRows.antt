@@ -23,10 +23,10 @@ use Rattle.hprof_histogram.specs.declared.row.Kind.{Kind}
 use Rattle.hprof_histogram.specs.declared.row.Kind.TheVariants.{Class, Prim}
 use Rattle.hprof_histogram.specs.declared.row.Row.{Row}
 use Rattle.hprof_histogram.specs.declared.counted.Counted.{Counted}
-use Rattle.hprof_histogram.specs.declared.tally.Tally.{Tally}
-use Rattle.hprof_histogram.specs.Histogram.{kind_of, is_kind, of_kind, row_cmp, Counts, IsHistogram}
-use Rattle.hprof_histogram.specs.Tally.{IsTally, both, counted_in, nothing, kept_of, type_of, row_of, has_objects, class_rows}
-use Rattle.hprof_histogram.specs.Tally.{type_rows, element_types}
+use Rattle.hprof_histogram.specs.declared.counted_kinds.CountedKinds.{CountedKinds}
+use Rattle.hprof_histogram.specs.Histogram.{kind_of, is_kind, of_kind, row_cmp, CountsKind, IsHistogram}
+use Rattle.hprof_histogram.specs.CountedKinds.{IsTally, both, counted_in, nothing, kept_of, type_of, row_of, has_objects, class_rows}
+use Rattle.hprof_histogram.specs.CountedKinds.{type_rows, element_types}
 use Rattle.hprof_histogram.proofs.CandidateRows.{candidates}
 use Rattle.hprof_histogram.proofs.Members.{IsIn, Contains-from_in, in_back, in_filter, in_from_slice_get, in_front, in_map}
 use Rattle.hprof_histogram.proofs.RowOrder.{tied_numbers}
@@ -78,7 +78,7 @@ some_counted kind (first ∷ facts) fact has is = by_test (λ later. some_counte
 
 -- ---- what a row says
 
-module _ (tally : Tally) (closed : tally.run ≡ nothing) (ordered : IsOrdered nat_cmp tally.classes) where
+module _ (tally : CountedKinds) (closed : tally.run ≡ nothing) (ordered : IsOrdered nat_cmp tally.classes) where
   -- nothing is left beside the map
   class_counted : (class : ℕ) → counted_in tally (Class class) ≡ kept_of tally.classes class
   class_counted class = by_test (tally.class == class) where
@@ -112,7 +112,7 @@ module _ (tally : Tally) (closed : tally.run ≡ nothing) (ordered : IsOrdered n
       (All-from_get_or (λ elem. IsOfTally (row_of (Prim elem) (type_of tally.types elem))) element_types basics.Array (λ place lt. refl)))
 
   module _ (ids : IdSize) (facts : List FactValue) (is : IsTally ids facts tally) where
-    row_counts : (row : Row) → IsOfTally row → has_objects row ≡ true → Counts ids facts row
+    row_counts : (row : Row) → IsOfTally row → has_objects row ≡ true → CountsKind ids facts row
     row_counts row says some = record {
       some = ltb-true 0 row.count some;
       count = ap (λ (r : Row). r.count) says ∙ ap (λ (c : Counted). c.count) (is row.kind);

@@ -11,7 +11,7 @@ use Rattle.hprof_rows.specs.Facts.{Has}
 use Rattle.hprof_histogram.specs.declared.row.Kind.{Kind}
 use Rattle.hprof_histogram.specs.declared.row.Kind.TheVariants.{Class, Prim}
 use Rattle.hprof_histogram.specs.declared.row.Row.{Row}
-use Rattle.hprof_histogram.specs.Histogram.{kind_of, size_of_object, is_kind, same_kind, of_kind, Counts, IsHistogram}
+use Rattle.hprof_histogram.specs.Histogram.{kind_of, size_of_object, is_kind, same_kind, of_kind, CountsKind, IsHistogram}
 use Rattle.hprof_histogram.proofs.Members.{IsIn, in_from_Contains, Contains-from_in, one_sorted}
 use Rattle.hprof_histogram.proofs.RowOrder.{row_cmp_total}
 
@@ -49,7 +49,7 @@ some_of_kind (fact ∷ facts) kind some = at_first (some_of_kind facts kind) (is
       record { fact = found.fact; has = inr found.has; is = found.is }
 
 -- two rows that count the objects of one kind are one
-one_row : (ids : IdSize) (facts : List FactValue) (row other : Row) → Counts ids facts row → Counts ids facts other → row.kind ≡ other.kind
+one_row : (ids : IdSize) (facts : List FactValue) (row other : Row) → CountsKind ids facts row → CountsKind ids facts other → row.kind ≡ other.kind
     → row ≡ other
 one_row ids facts row other counts counts_too kind =
     let count : row.count ≡ other.count =

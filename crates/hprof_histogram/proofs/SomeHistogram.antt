@@ -12,8 +12,8 @@ use Rattle.hprof_items.specs.FactValue.{FactValue}
 use Rattle.hprof_rows.specs.Facts.{Has}
 use Rattle.hprof_histogram.specs.declared.row.Kind.{Kind}
 use Rattle.hprof_histogram.specs.declared.row.Row.{Row}
-use Rattle.hprof_histogram.specs.Histogram.{kind_of, kind_cmp, of_kind, row_cmp, Counts, IsHistogram}
-use Rattle.hprof_histogram.specs.Tally.{counted_of, row_of}
+use Rattle.hprof_histogram.specs.Histogram.{kind_of, kind_cmp, of_kind, row_cmp, CountsKind, IsHistogram}
+use Rattle.hprof_histogram.specs.CountedKinds.{counted_of, row_of}
 use Rattle.hprof_histogram.proofs.HistogramRows.{some_counted}
 use Rattle.hprof_histogram.proofs.Members.{IsIn, all_in, in_from_Contains, Contains-from_in}
 use Rattle.hprof_histogram.proofs.OneHistogram.{one_kind}
@@ -131,14 +131,14 @@ module _ (ids : IdSize) (facts : List FactValue) where
   row_for kind = row_of kind (counted_of ids kind facts)
 
   -- it counts the objects of a kind that has some
-  row_for_counts : (kind : Kind) → 0 < length (of_kind kind facts) → Counts ids facts (row_for kind)
+  row_for_counts : (kind : Kind) → 0 < length (of_kind kind facts) → CountsKind ids facts (row_for kind)
   row_for_counts kind some = record { some = some; count = refl; bytes = refl }
 
   -- rows for the objects among some of the facts
   record RowsFor (some : List FactValue) : Type 0 where
     pub rows : List Row
     pub ascend : IsStrictlySortedBy row_cmp rows
-    pub counts : (row : Row) → IsIn row rows → Counts ids facts row
+    pub counts : (row : Row) → IsIn row rows → CountsKind ids facts row
     pub all : (fact : FactValue) (kind : Kind) → Has some fact → kind_of fact ≡ Some kind → IsIn (row_for kind) rows
 
   -- a fact that is an object, and others
@@ -150,7 +150,7 @@ module _ (ids : IdSize) (facts : List FactValue) where
         rows = more.all;
         ascend = more.sorted;
         counts = λ row has. elim (more.only row has) [
-          | inl same ↦ subst (Counts ids facts) (sym same) (row_for_counts own (some_counted own facts fact here is))
+          | inl same ↦ subst (CountsKind ids facts) (sym same) (row_for_counts own (some_counted own facts fact here is))
           | inr had ↦ before.counts row had
         ];
         all = λ other kind has of. elim has [

@@ -7,9 +7,9 @@ use Rattle.hprof_values.specs.Basic.{code_of_basic}
 use Rattle.hprof_histogram.specs.declared.row.Kind.{Kind}
 use Rattle.hprof_histogram.specs.declared.row.Kind.TheVariants.{Class, Prim}
 use Rattle.hprof_histogram.specs.declared.counted.Counted.{Counted}
-use Rattle.hprof_histogram.specs.declared.tally.Tally.{Tally}
+use Rattle.hprof_histogram.specs.declared.counted_kinds.CountedKinds.{CountedKinds}
 use Rattle.hprof_histogram.specs.Histogram.{same_kind}
-use Rattle.hprof_histogram.specs.Tally.{HasRoom, both, counted_in, kept_of, nothing}
+use Rattle.hprof_histogram.specs.CountedKinds.{HasRoom, both, counted_in, kept_of, nothing}
 
 pub both_nothing : (counted : Counted) → both counted nothing ≡ counted
 both_nothing counted =
@@ -18,7 +18,7 @@ both_nothing counted =
     λ i. record { count = count i; bytes = bytes i }
 
 -- what is kept of the class that came last has room for the last ones
-pub run_fits : (tally : Tally) (kept : Counted) → Some kept ≡ get nat_cmp tally.classes tally.class
+pub run_fits : (tally : CountedKinds) (kept : Counted) → Some kept ≡ get nat_cmp tally.classes tally.class
     → HasRoom (counted_in tally (Class tally.class)) → HasRoom (both kept tally.run)
 run_fits tally kept found room =
     let is : counted_in tally (Class tally.class) ≡ both kept tally.run =

@@ -55,7 +55,7 @@ row_cmp row other =
     ordering_then (nat_cmp other.bytes row.bytes) (ordering_then (nat_cmp other.count row.count) (kind_cmp row.kind other.kind))
 
 -- the row counts the objects of its kind, of which there are some
-pub record Counts (ids : IdSize) (facts : List FactValue) (row : Row) : Type 0 where
+pub record CountsKind (ids : IdSize) (facts : List FactValue) (row : Row) : Type 0 where
   pub some : 0 < row.count
   pub count : row.count ≡ length (of_kind row.kind facts)
   pub bytes : row.bytes ≡ sum_by (size_of_object ids) (of_kind row.kind facts)
@@ -63,6 +63,6 @@ pub record Counts (ids : IdSize) (facts : List FactValue) (row : Row) : Type 0 w
 -- one row for each kind of which there are objects, in order
 pub record IsHistogram (ids : IdSize) (facts : List FactValue) (rows : List Row) : Type 0 where
   pub ascend : IsStrictlySortedBy row_cmp rows
-  pub counts : (row : Row) → Contains rows row → Counts ids facts row
+  pub counts : (row : Row) → Contains rows row → CountsKind ids facts row
   pub all : (fact : FactValue) (kind : Kind) → Has facts fact → kind_of fact ≡ Some kind
       → (row : Row) × Contains rows row × (row.kind ≡ kind)

@@ -1,2 +1,2 @@
 pub mod Histogram
-pub mod Tally
+pub mod CountedKinds

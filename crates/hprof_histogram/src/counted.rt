@@ -9,7 +9,7 @@ pub(crate) struct Counted {
 
 impl Counted {
     ghost use Rattle.std.specs.Prelude.{◌≡◌};
-    ghost use Rattle.hprof_histogram.specs.Tally.{HasRoom, both, nothing, one_of};
+    ghost use Rattle.hprof_histogram.specs.CountedKinds.{HasRoom, both, nothing, one_of};
 
     /// No objects.
     pub(crate) fn nothing() -> Counted

@@ -5,10 +5,10 @@ ghost use Rattle.std.specs.Option.{option_map};
 ghost use Rattle.hprof_items.specs.FactValue.{value_of};
 ghost use Rattle.hprof_finding.specs.HeapFacts.{facts_of, size_of};
 ghost use Rattle.hprof_histogram.specs.Histogram.{kind_of, size_of_object};
-ghost use Rattle.hprof_histogram.specs.Tally.{IsTally, nothing};
+ghost use Rattle.hprof_histogram.specs.CountedKinds.{IsTally, nothing};
 
 use crate::row::Kind;
-use crate::tally::Tally;
+use crate::counted_kinds::CountedKinds;
 use hprof_finding::{id_size, table_facts, table_len};
 use hprof_heap::{Heap, Table};
 use hprof_items::Fact;
@@ -43,14 +43,14 @@ fn object_of(fact: &Fact<'_>, ids: IdSize) -> Option<(Kind, u128)>
 }
 
 /// Counts the objects of a heap. Nothing is left beside the map.
-pub(crate) fn count_objects(alloc: Global, heap: &Heap) -> Result<Tally, AllocError>
+pub(crate) fn count_objects(alloc: Global, heap: &Heap) -> Result<CountedKinds, AllocError>
     ensures all { IfOk result (IsTally (size_of heap.now) (facts_of heap.now)) }
     ensures closed { IfOk result (λ tally. tally.run ≡ nothing) }
 {
     let ids = id_size(heap);
     // How many objects there are fits a number: that is told with their count.
     let _objects = table_len(heap, Table::Objects);
-    let mut tally = Tally::new(alloc);
+    let mut tally = CountedKinds::new(alloc);
     for fact in table_facts(heap, Table::Objects) {
         if let Some((kind, size)) = object_of(&fact, ids) {
             tally.count(kind, size)?;

@@ -4,11 +4,11 @@ ghost use Rattle.std.specs.Prelude.{◌≡◌, ◌++◌, ◌∷◌, [], OnOk, If
 ghost use Rattle.std.specs.BTreeMap.{IsOrdered};
 ghost use Rattle.std.specs.List.{filter};
 ghost use Rattle.std.specs.Ordering.{nat_cmp};
-ghost use Rattle.hprof_histogram.specs.Tally.{class_rows, element_types, has_objects, row_of, type_rows};
+ghost use Rattle.hprof_histogram.specs.CountedKinds.{class_rows, element_types, has_objects, row_of, type_rows};
 
 use crate::counted::Counted;
 use crate::row::{Kind, Row};
-use crate::tally::{TYPES, Tally};
+use crate::counted_kinds::{TYPES, CountedKinds};
 use hprof_values::Basic;
 use std::alloc::{AllocError, Global};
 use std::collections::BTreeMap;
@@ -57,7 +57,7 @@ fn push_types(rows: &mut Vec<Row>, types: &[Counted; TYPES]) -> Result<(), Alloc
 }
 
 /// The rows of what was counted: those of classes, and then those of types.
-pub(crate) fn rows_of(alloc: Global, tally: &Tally) -> Result<Vec<Row>, AllocError>
+pub(crate) fn rows_of(alloc: Global, tally: &CountedKinds) -> Result<Vec<Row>, AllocError>
     ensures rows { IfOk result (λ rows. rows.items ≡ filter has_objects (class_rows tally.now.classes.entries)
         ++ filter has_objects (type_rows tally.now.types element_types)) }
     ensures ordered { IsOrdered nat_cmp tally.now.classes }

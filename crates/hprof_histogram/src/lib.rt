@@ -8,7 +8,7 @@ pub mod laws;
 mod making;
 mod row;
 mod sorting;
-mod tally;
+mod counted_kinds;
 
 pub use making::histogram;
 pub use row::{Kind, Row};

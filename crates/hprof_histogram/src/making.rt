@@ -15,7 +15,8 @@ use std::alloc::{AllocError, Global};
 /// How many objects of each kind a heap has, and how many bytes they have. Instances and arrays of objects are counted
 /// under their class, arrays of numbers or truth values under their type; class dumps are no objects. An instance has
 /// the bytes of its fields, and an array those of its elements. The row with the most bytes comes first; of those with
-/// equal bytes the one with the most objects, then classes by their identifiers, and then types by their codes.
+/// equal bytes the one with the most objects, then classes by their identifiers, and then types by their codes. The error is
+/// that memory was refused.
 pub fn histogram(alloc: Global, heap: &Heap) -> Result<Vec<Row>, AllocError>
     ensures { IfOk result (λ rows. IsHistogram (size_of heap.now) (facts_of heap.now) rows.items) }
 {

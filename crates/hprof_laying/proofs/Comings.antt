@@ -7,11 +7,11 @@ use Rattle.hprof_finding.specs.Classes.{ClassDump, HasNoDump}
 use Rattle.hprof_layouts.specs.Layout.{own_slots}
 use Rattle.hprof_laying.specs.declared.known.KnownLayouts.{KnownLayouts}
 use Rattle.hprof_laying.specs.declared.known.Waiting.{Waiting}
-use Rattle.hprof_laying.specs.declared.own_fields.OwnFields.{OwnFields}
+use Rattle.hprof_laying.specs.declared.own_fields.OwnLayout.{OwnLayout}
 use Rattle.hprof_laying.specs.declared.plan.Plan.{Plan}
 use Rattle.hprof_laying.specs.Known.{AreWoken, HasDumpMore, HasLayout, Knows, plan_of, waiting_below}
 use Rattle.hprof_laying.specs.OwnFields.{IsOwn}
-use Rattle.hprof_laying.specs.Waking.{IsReady, IsWaking, Standing, Wakes, Woke, put}
+use Rattle.hprof_laying.specs.Waking.{IsReady, IsWaking, PlansStand, Wakes, Woke, put}
 use Rattle.hprof_laying.proofs.KnownPlans.{known_ready, knows_standing, not_both, standing_knows}
 use Rattle.hprof_laying.proofs.Outlines.{known_zero}
 use Rattle.hprof_laying.proofs.Wakings.{stands_open, stands_waiting, stands_zero, woke_none}
@@ -44,14 +44,14 @@ module _ (ids : IdSize) (facts more : List FactValue) (known : KnownLayouts) (kn
       (stands_zero ids facts more (plan_of known) (waiting_below known) (knows_standing ids facts known knows) dump new are is_zero)
 
   -- one of another class, which waits
-  module _ (other : KnownLayouts) (own : OwnFields) (own_are : IsOwn ids (own_slots dump) own) (not_zero : dump.id ≢ 0)
+  module _ (other : KnownLayouts) (own : OwnLayout) (own_are : IsOwn ids (own_slots dump) own) (not_zero : dump.id ≢ 0)
       (plans : plan_of other ≡ plan_of known)
       (waits : waiting_below other ≡ put (waiting_below known) dump.parent
       (waiting_below known dump.parent ++ record { class = dump.id; own = own } ∷ [])) where
-    stands_then : Standing ids more (plan_of other) (waiting_below other) (dump.parent ∷ [])
+    stands_then : PlansStand ids more (plan_of other) (waiting_below other) (dump.parent ∷ [])
     stands_then =
-        subst (λ (w : ℕ → List Waiting). Standing ids more (plan_of other) w (dump.parent ∷ [])) (sym waits)
-        (subst (λ (p : ℕ → Option Plan). Standing ids more p (put (waiting_below known) dump.parent
+        subst (λ (w : ℕ → List Waiting). PlansStand ids more (plan_of other) w (dump.parent ∷ [])) (sym waits)
+        (subst (λ (p : ℕ → Option Plan). PlansStand ids more p (put (waiting_below known) dump.parent
         (waiting_below known dump.parent ++ record { class = dump.id; own = own } ∷ [])) (dump.parent ∷ [])) (sym plans)
         (stands_waiting ids facts more (plan_of known) (waiting_below known) (knows_standing ids facts known knows) dump new are own own_are
         not_zero))

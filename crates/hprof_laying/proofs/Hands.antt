@@ -14,7 +14,7 @@ use Rattle.hprof_laying.specs.declared.plan.Outline.{Outline}
 use Rattle.hprof_laying.specs.declared.plan.Plan.{Plan}
 use Rattle.hprof_laying.specs.Known.{plan_of, waiting_below}
 use Rattle.hprof_laying.specs.Plan.{IsOutline, plan_below}
-use Rattle.hprof_laying.specs.Waking.{IsReady, IsWaking, Standing, Wakes, Woke, put}
+use Rattle.hprof_laying.specs.Waking.{IsReady, IsWaking, PlansStand, Wakes, Woke, put}
 use Rattle.hprof_laying.proofs.Wakings.{first_unplanned, put-put, put-same, stands_without, stands_woken, woke_more}
 
 module _ (ids : IdSize) (facts : List FactValue) (before : ℕ → Option Plan) (class : ℕ) (pending old : List ℕ) where
@@ -22,19 +22,19 @@ module _ (ids : IdSize) (facts : List FactValue) (before : ℕ → Option Plan) 
   pub record InHand (plans : ℕ → Option Plan) (waits : ℕ → List Waiting) (woken : List ℕ) (rest : List Waiting) : Type 0 where
     pub more : List ℕ
     pub woken_are : woken ≡ old ++ more
-    pub standing : Standing ids facts plans (put waits class rest) (class ∷ (pending ++ more))
+    pub standing : PlansStand ids facts plans (put waits class rest) (class ∷ (pending ++ more))
     pub woke : Woke before plans woken
 
   pub hand_begins : (plans : ℕ → Option Plan) (waits taken : ℕ → List Waiting) (rest : List Waiting) → taken ≡ put waits class []
-      → waits class ≡ rest → Standing ids facts plans waits (class ∷ pending) → Woke before plans old → InHand plans taken old rest
+      → waits class ≡ rest → PlansStand ids facts plans waits (class ∷ pending) → Woke before plans old → InHand plans taken old rest
   hand_begins plans waits taken rest e f stands woke =
       let same : put taken class rest ≡ waits =
       ap (λ (w : ℕ → List Waiting). put w class rest) e ∙ put-put waits class [] rest ∙ put-same waits class rest f in
       record {
         more = [];
         woken_are = sym (append-nil old);
-        standing = subst (λ (w : ℕ → List Waiting). Standing ids facts plans w (class ∷ (pending ++ []))) (sym same)
-            (subst (λ (l : List ℕ). Standing ids facts plans waits (class ∷ l)) (sym (append-nil pending)) stands);
+        standing = subst (λ (w : ℕ → List Waiting). PlansStand ids facts plans w (class ∷ (pending ++ []))) (sym same)
+            (subst (λ (l : List ℕ). PlansStand ids facts plans waits (class ∷ l)) (sym (append-nil pending)) stands);
         woke = woke;
       }
 
@@ -43,16 +43,16 @@ module _ (ids : IdSize) (facts : List FactValue) (before : ℕ → Option Plan) 
       → InHand plans waits woken rest → rest ≡ first ∷ later → after ≡ put plans first.class (Some (plan_below outline first.own))
       → InHand after waits (woken ++ first.class ∷ []) later
   hand_more plans after waits woken rest later first slots outline known outline_are hand e f =
-      let stands : Standing ids facts plans (put waits class (first ∷ later)) (class ∷ (pending ++ hand.more)) =
-      subst (λ (l : List Waiting). Standing ids facts plans (put waits class l) (class ∷ (pending ++ hand.more))) e hand.standing in
+      let stands : PlansStand ids facts plans (put waits class (first ∷ later)) (class ∷ (pending ++ hand.more)) =
+      subst (λ (l : List Waiting). PlansStand ids facts plans (put waits class l) (class ∷ (pending ++ hand.more))) e hand.standing in
       let then = stands_woken ids facts plans waits class first later (pending ++ hand.more) stands slots known outline outline_are in
       let none = first_unplanned ids facts plans waits class first later (pending ++ hand.more) stands slots known outline outline_are in
       record {
         more = hand.more ++ first.class ∷ [];
         woken_are = ap (λ (l : List ℕ). l ++ first.class ∷ []) hand.woken_are ∙ append_assoc old hand.more (first.class ∷ []);
-        standing = subst (λ (p : ℕ → Option Plan). Standing ids facts p (put waits class later)
+        standing = subst (λ (p : ℕ → Option Plan). PlansStand ids facts p (put waits class later)
             (class ∷ (pending ++ (hand.more ++ first.class ∷ [])))) (sym f)
-            (subst (λ (l : List ℕ). Standing ids facts (put plans first.class (Some (plan_below outline first.own))) (put waits class later)
+            (subst (λ (l : List ℕ). PlansStand ids facts (put plans first.class (Some (plan_below outline first.own))) (put waits class later)
             (class ∷ l)) (append_assoc pending hand.more (first.class ∷ [])) then);
         woke = subst (λ (p : ℕ → Option Plan). Woke before p (woken ++ first.class ∷ [])) (sym f)
             (woke_more before plans woken first.class (plan_below outline first.own) hand.woke none);
@@ -62,7 +62,7 @@ module _ (ids : IdSize) (facts : List FactValue) (before : ℕ → Option Plan) 
   pub hand_ends : (known : KnownLayouts) (woken : List ℕ) → InHand (plan_of known) (waiting_below known) woken []
       → waiting_below known class ≡ [] → Wakes ids facts before known old woken pending
   hand_ends known woken hand none =
-      let stands = subst (λ (w : ℕ → List Waiting). Standing ids facts (plan_of known) w (class ∷ (pending ++ hand.more)))
+      let stands = subst (λ (w : ℕ → List Waiting). PlansStand ids facts (plan_of known) w (class ∷ (pending ++ hand.more)))
       (put-same (waiting_below known) class [] none) hand.standing in
       record {
         more = hand.more;
@@ -81,14 +81,14 @@ module _ (ids : IdSize) (facts : List FactValue) (before : ℕ → Option Plan) 
   none_in_hand known other e f none waking =
       let stands = stands_without ids facts (plan_of known) (waiting_below known) (class ∷ pending) waking.standing class pending refl
       none in
-      let stands_other : Standing ids facts (plan_of other) (waiting_below other) pending =
-      subst (λ (w : ℕ → List Waiting). Standing ids facts (plan_of other) w pending) (sym f)
-      (subst (λ (p : ℕ → Option Plan). Standing ids facts p (waiting_below known) pending) (sym e) stands) in
+      let stands_other : PlansStand ids facts (plan_of other) (waiting_below other) pending =
+      subst (λ (w : ℕ → List Waiting). PlansStand ids facts (plan_of other) w pending) (sym f)
+      (subst (λ (p : ℕ → Option Plan). PlansStand ids facts p (waiting_below known) pending) (sym e) stands) in
       record {
         more = [];
         woken_are = sym (append-nil old);
         waking = record {
-          standing = subst (Standing ids facts (plan_of other) (waiting_below other)) (sym (append-nil pending)) stands_other;
+          standing = subst (PlansStand ids facts (plan_of other) (waiting_below other)) (sym (append-nil pending)) stands_other;
           woke = subst (λ (p : ℕ → Option Plan). Woke before p old) (sym e) waking.woke;
         };
       }

@@ -14,7 +14,7 @@ use Rattle.hprof_laying.specs.declared.known.KnownLayouts.{KnownLayouts}
 use Rattle.hprof_laying.specs.declared.known.Waiting.{Waiting}
 use Rattle.hprof_laying.specs.declared.plan.Plan.{Plan}
 use Rattle.hprof_laying.specs.Known.{HasLayout, HasPlan, IsOnceEach, IsWaiting, Knows, Waits, plan_of, waiting_below}
-use Rattle.hprof_laying.specs.Waking.{IsPlanned, IsReady, Standing}
+use Rattle.hprof_laying.specs.Waking.{IsPlanned, IsReady, PlansStand}
 use Rattle.hprof_laying.proofs.MoreDumps.{known_stays, plan_stays, waiting_stays}
 use Rattle.hprof_laying.proofs.ReferenceSets.{nothing_there}
 use Rattle.hprof_laying.proofs.Outlines.{one_known, known_zero, known_below, plan_known}
@@ -39,7 +39,7 @@ one_plan found plan other e f = let same : Some plan ≡ Some other = sym e ∙ 
 -- ---- what stands
 
 module _ (ids : IdSize) (facts : List FactValue) (plans : ℕ → Option Plan) (waits : ℕ → List Waiting)
-    (stands : Standing ids facts plans waits []) where
+    (stands : PlansStand ids facts plans waits []) where
   -- a class whose chain comes to 0 has a plan
   pub known_planned : (class : ℕ) (dumps : List ClassDump) → IsChain facts class dumps 0 → class ≢ 0 → IsPlanned plans class
   known_planned class [] chain not_zero = absurd (not_zero chain)
@@ -85,7 +85,7 @@ module _ (ids : IdSize) (facts : List FactValue) (plans : ℕ → Option Plan) (
       ]
 
 pub standing_knows : (ids : IdSize) (facts : List FactValue) (known : KnownLayouts)
-    → Standing ids facts (plan_of known) (waiting_below known) [] → Knows ids facts known
+    → PlansStand ids facts (plan_of known) (waiting_below known) [] → Knows ids facts known
 standing_knows ids facts known stands = record {
   each = stands.each;
   planned = planned_slots ids facts (plan_of known) (waiting_below known) stands;
@@ -126,7 +126,7 @@ module _ (ids : IdSize) (facts : List FactValue) (known : KnownLayouts) (knows :
       let below = known_below facts is.dump layout.0 (λ e. not_zero (sym is.id ∙ e)) is.has above in
       (own_slots is.dump ++ layout.0, subst (λ (c : ℕ). IsKnown facts c (own_slots is.dump ++ layout.0)) is.id below)
 
-  pub knows_standing : Standing ids facts (plan_of known) (waiting_below known) []
+  pub knows_standing : PlansStand ids facts (plan_of known) (waiting_below known) []
   knows_standing = record {
     each = knows.each;
     plans_are = λ class plan e.

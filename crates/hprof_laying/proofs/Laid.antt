@@ -17,7 +17,7 @@ use Rattle.hprof_laying.specs.declared.plan.Plan.{Plan}
 use Rattle.hprof_laying.specs.declared.reference.Reference.{Reference}
 use Rattle.hprof_laying.specs.Known.{HasLayout, HasPlan, Knows, plan_of, waiting_below}
 use Rattle.hprof_laying.specs.OwnFields.{IsOwn, references_in}
-use Rattle.hprof_laying.specs.Plan.{IsFirst, IsOutline, most, outline_at}
+use Rattle.hprof_laying.specs.Plan.{IsFirstJump, IsOutline, most, outline_at}
 use Rattle.hprof_laying.specs.Waking.{IsReady}
 use Rattle.hprof_laying.specs.References.{AreReferences}
 use Rattle.hprof_laying.proofs.KnownPlans.{There, Nowhere, known_ready, knows_standing, look, not_both, one_plan}
@@ -30,7 +30,7 @@ use Rattle.hprof_laying.proofs.Wakings.{ready_outline}
 pub record Laying (ids : IdSize) (facts : List FactValue) (slots : List Slot) (bytes : List ℕ) (next : Option Jump) (rest : List ℕ)
     (place : ℕ) (references : List Reference) : Type 0 where
   pub left : List Slot
-  pub first : IsFirst ids facts left next
+  pub first : IsFirstJump ids facts left next
   pub fills : width_of_slots ids left ≡ length rest
   pub counted : place + length left ≡ length slots
   pub few : length slots < 2 ^ 64
@@ -38,7 +38,7 @@ pub record Laying (ids : IdSize) (facts : List FactValue) (slots : List Slot) (b
   pub all : references ++ references_in ids place left rest ≡ references_in ids 0 slots bytes
 
 module _ (ids : IdSize) (facts : List FactValue) (slots : List Slot) (bytes : List ℕ) where
-  pub laying_begins : (next : Option Jump) → IsFirst ids facts slots next → width_of_slots ids slots ≡ length bytes → length bytes < 2 ^ 64
+  pub laying_begins : (next : Option Jump) → IsFirstJump ids facts slots next → width_of_slots ids slots ≡ length bytes → length bytes < 2 ^ 64
       → Laying ids facts slots bytes next bytes 0 []
   laying_begins next first fills small =
       let less = length-le-width ids slots in
@@ -60,7 +60,7 @@ module _ (ids : IdSize) (facts : List FactValue) (slots : List Slot) (bytes : Li
       pub own : List Slot
       pub above : List Slot
       pub are : IsOwn ids own plan.own
-      pub first : IsFirst ids facts above plan.above
+      pub first : IsFirstJump ids facts above plan.above
       pub some : 0 < plan.own.width
       pub offset_is : jump.offset ≡ width_of_slots ids laying.first.before
       pub place_is : jump.place ≡ length laying.first.before

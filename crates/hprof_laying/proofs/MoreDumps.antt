@@ -10,7 +10,7 @@ use Rattle.hprof_laying.specs.declared.known.Waiting.{Waiting}
 use Rattle.hprof_laying.specs.declared.plan.Jump.{Jump}
 use Rattle.hprof_laying.specs.declared.plan.Plan.{Plan}
 use Rattle.hprof_laying.specs.Known.{IsWaiting}
-use Rattle.hprof_laying.specs.Plan.{IsFirst, IsJump, IsPlan}
+use Rattle.hprof_laying.specs.Plan.{IsFirstJump, IsJump, IsPlan}
 
 module _ (facts more : List FactValue) (all : (dump : ClassDump) → HasDump facts dump → HasDump more dump) where
   pub chain_stays : (class end : ℕ) (dumps : List ClassDump) → IsChain facts class dumps end → IsChain more class dumps end
@@ -37,7 +37,7 @@ module _ (facts more : List FactValue) (all : (dump : ClassDump) → HasDump fac
       some = is.some;
     }
 
-    pub first_stays : (slots : List Slot) (first : Option Jump) → IsFirst ids facts slots first → IsFirst ids more slots first
+    pub first_stays : (slots : List Slot) (first : Option Jump) → IsFirstJump ids facts slots first → IsFirstJump ids more slots first
     first_stays slots None is = is
     first_stays slots (Some jump) is = jump_stays slots jump is
 

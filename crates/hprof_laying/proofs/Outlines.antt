@@ -14,12 +14,12 @@ use Rattle.hprof_layouts.specs.Layout.{IsKnown, own_slots, slots_of}
 use Rattle.hprof_layouts.proofs.Chains.{stops_zero, stopped_list}
 use Rattle.hprof_layouts.proofs.Layouts.{one_chain}
 use Rattle.hprof_laying.specs.declared.own_fields.OwnReference.{OwnReference}
-use Rattle.hprof_laying.specs.declared.own_fields.OwnFields.{OwnFields}
+use Rattle.hprof_laying.specs.declared.own_fields.OwnLayout.{OwnLayout}
 use Rattle.hprof_laying.specs.declared.plan.Jump.{Jump}
 use Rattle.hprof_laying.specs.declared.plan.Outline.{Outline}
 use Rattle.hprof_laying.specs.declared.plan.Plan.{Plan}
 use Rattle.hprof_laying.specs.OwnFields.{IsOwn, referring}
-use Rattle.hprof_laying.specs.Plan.{IsFirst, IsJump, IsOutline, IsPlan, jump_behind, most, most_wide, outline_of, plan_below}
+use Rattle.hprof_laying.specs.Plan.{IsFirstJump, IsJump, IsOutline, IsPlan, jump_behind, most, most_wide, outline_of, plan_below}
 use Rattle.hprof_laying.specs.Refers.{NoneRefers}
 use Rattle.hprof_laying.proofs.Places.{NoneRefers-append, referring-none, referring-some, width-append}
 
@@ -64,7 +64,7 @@ no_elements (x ∷ xs) e = absurd (omega arith)
 module _ (ids : IdSize) (facts : List FactValue) where
   -- ---- from above to below
 
-  pub plan_is : (dump : ClassDump) (own : OwnFields) (slots : List Slot) (outline : Outline) → dump.id ≢ 0 → HasDump facts dump
+  pub plan_is : (dump : ClassDump) (own : OwnLayout) (slots : List Slot) (outline : Outline) → dump.id ≢ 0 → HasDump facts dump
       → IsOwn ids (own_slots dump) own → IsKnown facts dump.parent slots → IsOutline ids facts slots outline
       → IsPlan ids facts dump.id (own_slots dump ++ slots) (plan_below outline own)
   plan_is dump own slots outline not_zero has own_are known is = record {
@@ -120,8 +120,8 @@ module _ (ids : IdSize) (facts : List FactValue) where
         let e : length plan.own.references.items ≡ 0 = omega arith in
         referring-none ids 0 0 (own_slots is.dump) (sym is.own_are.references_are ∙ no_elements plan.own.references.items e)
 
-    first_above : (first : Option Jump) → NoneRefers (own_slots is.dump) → IsFirst ids facts is.slots_above first
-        → IsFirst ids facts slots (option_map (jump_behind plan.own) first)
+    first_above : (first : Option Jump) → NoneRefers (own_slots is.dump) → IsFirstJump ids facts is.slots_above first
+        → IsFirstJump ids facts slots (option_map (jump_behind plan.own) first)
     first_above None none above =
         subst NoneRefers (sym is.slots_are) (NoneRefers-append ids (own_slots is.dump) is.slots_above none above)
     first_above (Some jump) none above =
@@ -147,7 +147,7 @@ module _ (ids : IdSize) (facts : List FactValue) where
           some = above.some;
         }
 
-    first_by : (t : Bool) → (vec_len plan.own.references == 0) ≡ t → IsFirst ids facts slots
+    first_by : (t : Bool) → (vec_len plan.own.references == 0) ≡ t → IsFirstJump ids facts slots
         (cond t (option_map (jump_behind plan.own) plan.above) (Some (record { class = class; offset = 0; place = 0 })))
     first_by true none = first_above plan.above (none_own (eqb-true (vec_len plan.own.references) 0 none)) is.above_is
     first_by false some = first_here (grind (arith, some))

@@ -10,7 +10,7 @@ use Rattle.hprof_rows.proofs.Tables.{drop_from}
 use Rattle.hprof_layouts.specs.declared.slot.Slot.{Slot}
 use Rattle.hprof_laying.specs.declared.reference.Reference.{Reference}
 use Rattle.hprof_laying.specs.declared.own_fields.OwnReference.{OwnReference}
-use Rattle.hprof_laying.specs.declared.own_fields.OwnFields.{OwnFields}
+use Rattle.hprof_laying.specs.declared.own_fields.OwnLayout.{OwnLayout}
 use Rattle.hprof_laying.specs.OwnFields.{IsOwn, references_in}
 use Rattle.hprof_laying.proofs.Places.{IsWithin, reference_at, references_in-referring, referring-within}
 
@@ -21,7 +21,7 @@ at_place P [] place d all lt = absurd (omega arith)
 at_place P (x ∷ xs) zero d all lt = all.0
 at_place P (x ∷ xs) (suc place) d all lt = at_place P xs place d all.1 (omega arith)
 
-module _ (ids : IdSize) (bytes : List ℕ) (place : ℕ) (own : OwnFields) (slots : List Slot) (are : IsOwn ids slots own) where
+module _ (ids : IdSize) (bytes : List ℕ) (place : ℕ) (own : OwnLayout) (slots : List Slot) (are : IsOwn ids slots own) where
   pub pushing_begins : (references : List Reference)
       → references ++ map (reference_at ids place bytes) own.references.items ≡ references ++ references_in ids place slots bytes
   pushing_begins references =

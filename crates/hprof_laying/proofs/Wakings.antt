@@ -16,14 +16,14 @@ use Rattle.hprof_items.specs.FactValue.{FactValue}
 use Rattle.hprof_finding.specs.Classes.{ClassDump, HasDump, HasNoDump}
 use Rattle.hprof_layouts.specs.declared.slot.Slot.{Slot}
 use Rattle.hprof_layouts.specs.Layout.{IsKnown, own_slots}
-use Rattle.hprof_laying.specs.declared.own_fields.OwnFields.{OwnFields}
+use Rattle.hprof_laying.specs.declared.own_fields.OwnLayout.{OwnLayout}
 use Rattle.hprof_laying.specs.declared.known.Waiting.{Waiting}
 use Rattle.hprof_laying.specs.declared.plan.Outline.{Outline}
 use Rattle.hprof_laying.specs.declared.plan.Plan.{Plan}
 use Rattle.hprof_laying.specs.Known.{HasDumpMore, HasPlan, IsOnceEach, IsWaiting, Waits}
 use Rattle.hprof_laying.specs.OwnFields.{IsOwn}
 use Rattle.hprof_laying.specs.Plan.{IsOutline, IsPlan, outline_at, plan_below}
-use Rattle.hprof_laying.specs.Waking.{IsPlanned, IsReady, Standing, Woke, put}
+use Rattle.hprof_laying.specs.Waking.{IsPlanned, IsReady, PlansStand, Woke, put}
 use Rattle.hprof_laying.proofs.KnownPlans.{There, Nowhere, look, not_both}
 use Rattle.hprof_laying.proofs.MoreDumps.{plan_stays, waiting_stays}
 use Rattle.hprof_laying.proofs.Outlines.{known_zero, outline_is, plan_is, plan_known}
@@ -94,7 +94,7 @@ apart_from_first first list waiting once there same =
 -- ---- a class that is ready
 
 module _ (ids : IdSize) (facts : List FactValue) (plans : ℕ → Option Plan) (waits : ℕ → List Waiting) (pending : List ℕ)
-    (stands : Standing ids facts plans waits pending) where
+    (stands : PlansStand ids facts plans waits pending) where
   -- class 0 has no plan
   no_plan_of_zero : plans 0 ≡ None
   no_plan_of_zero = elim (look (plans 0)) [
@@ -127,7 +127,7 @@ module _ (ids : IdSize) (facts : List FactValue) (plans : ℕ → Option Plan) (
       }
 
   -- a class for which none waits need not be woken below
-  pub stands_without : (class : ℕ) (others : List ℕ) → pending ≡ class ∷ others → waits class ≡ [] → Standing ids facts plans waits others
+  pub stands_without : (class : ℕ) (others : List ℕ) → pending ≡ class ∷ others → waits class ≡ [] → PlansStand ids facts plans waits others
   stands_without class others e none = record {
     each = stands.each;
     plans_are = stands.plans_are;
@@ -146,7 +146,7 @@ module _ (ids : IdSize) (facts : List FactValue) (plans : ℕ → Option Plan) (
   }
 
   -- nor a class that is not ready
-  pub stands_open : (class : ℕ) → pending ≡ class ∷ [] → (IsReady plans class → ⊥) → Standing ids facts plans waits []
+  pub stands_open : (class : ℕ) → pending ≡ class ∷ [] → (IsReady plans class → ⊥) → PlansStand ids facts plans waits []
   stands_open class e unready = record {
     each = stands.each;
     plans_are = stands.plans_are;
@@ -172,7 +172,7 @@ module _ (ids : IdSize) (facts : List FactValue) (plans : ℕ → Option Plan) (
 -- ---- a class that comes
 
 module _ (ids : IdSize) (facts more : List FactValue) (plans : ℕ → Option Plan) (waits : ℕ → List Waiting)
-    (stands : Standing ids facts plans waits []) (dump : ClassDump) (new : HasNoDump facts dump.id)
+    (stands : PlansStand ids facts plans waits []) (dump : ClassDump) (new : HasNoDump facts dump.id)
     (are : HasDumpMore facts dump more) where
   stays : (other : ClassDump) → HasDump facts other → HasDump more other
   stays other has = (are other).1 (inl has)
@@ -195,7 +195,7 @@ module _ (ids : IdSize) (facts more : List FactValue) (plans : ℕ → Option Pl
       (has.0, record { plan = has.1.plan; found = has.1.found; is = plan_stays facts more stays ids class has.0 has.1.plan has.1.is })
 
   -- a dump of class 0 changes nothing
-  pub stands_zero : dump.id ≡ 0 → Standing ids more plans waits []
+  pub stands_zero : dump.id ≡ 0 → PlansStand ids more plans waits []
   stands_zero is_zero = record {
     each = each_more;
     plans_are = plans_more;
@@ -211,7 +211,7 @@ module _ (ids : IdSize) (facts more : List FactValue) (plans : ℕ → Option Pl
   }
 
   -- another class waits for its superclass
-  module _ (own : OwnFields) (own_are : IsOwn ids (own_slots dump) own) (not_zero : dump.id ≢ 0) where
+  module _ (own : OwnLayout) (own_are : IsOwn ids (own_slots dump) own) (not_zero : dump.id ≢ 0) where
     abbrev comer : Waiting
     comer = record { class = dump.id; own = own }
 
@@ -265,7 +265,7 @@ module _ (ids : IdSize) (facts more : List FactValue) (plans : ℕ → Option Pl
           not_waiting dump.parent found.0 found.1 found.2)))
     ]
 
-    pub stands_waiting : Standing ids more plans waits_more (dump.parent ∷ [])
+    pub stands_waiting : PlansStand ids more plans waits_more (dump.parent ∷ [])
     stands_waiting = record {
       each = each_more;
       plans_are = plans_more;
@@ -304,7 +304,7 @@ module _ (ids : IdSize) (facts more : List FactValue) (plans : ℕ → Option Pl
 -- ---- a class that is woken
 
 module _ (ids : IdSize) (facts : List FactValue) (plans : ℕ → Option Plan) (waits : ℕ → List Waiting) (class : ℕ) (first : Waiting)
-    (rest : List Waiting) (pending : List ℕ) (stands : Standing ids facts plans (put waits class (first ∷ rest)) (class ∷ pending))
+    (rest : List Waiting) (pending : List ℕ) (stands : PlansStand ids facts plans (put waits class (first ∷ rest)) (class ∷ pending))
     (slots : List Slot) (known : IsKnown facts class slots) (outline : Outline) (outline_are : IsOutline ids facts slots outline) where
   abbrev plan_first : Plan
   plan_first = plan_below outline first.own
@@ -420,7 +420,7 @@ module _ (ids : IdSize) (facts : List FactValue) (plans : ℕ → Option Plan) (
         (subst IsOnceEach (put-here waits class (first ∷ rest) superclass same) (stands.once superclass)))
   ]
 
-  pub stands_woken : Standing ids facts plans_after after (class ∷ (pending ++ first.class ∷ []))
+  pub stands_woken : PlansStand ids facts plans_after after (class ∷ (pending ++ first.class ∷ []))
   stands_woken = record {
     each = stands.each;
     plans_are = plans_are_after;

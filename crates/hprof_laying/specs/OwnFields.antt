@@ -7,7 +7,7 @@ use Rattle.hprof_layouts.specs.declared.slot.Slot.{Slot}
 use Rattle.hprof_layouts.specs.Fields.{width_of_slots}
 use Rattle.hprof_laying.specs.declared.reference.Reference.{Reference}
 use Rattle.hprof_laying.specs.declared.own_fields.OwnReference.{OwnReference}
-use Rattle.hprof_laying.specs.declared.own_fields.OwnFields.{OwnFields}
+use Rattle.hprof_laying.specs.declared.own_fields.OwnLayout.{OwnLayout}
 use Rattle.hprof_laying.specs.Refers.{refers}
 
 -- the fields that refer to something, each with what lies before it, where so many bytes and fields lie before the first
@@ -18,7 +18,7 @@ referring ids offset place (slot ∷ slots) =
     ++ referring ids (offset + width_of_basic ids slot.basic) (place + 1) slots
 
 -- these are the own fields of a class that has these slots for them
-pub record IsOwn (ids : IdSize) (slots : List Slot) (own : OwnFields) : Type 0 where
+pub record IsOwn (ids : IdSize) (slots : List Slot) (own : OwnLayout) : Type 0 where
   pub width_is : own.width ≡ width_of_slots ids slots
   pub count_is : own.count ≡ length slots
   pub references_are : own.references.items ≡ referring ids 0 0 slots

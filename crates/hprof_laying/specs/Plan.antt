@@ -7,7 +7,7 @@ use Rattle.hprof_finding.specs.Classes.{ClassDump, HasDump}
 use Rattle.hprof_layouts.specs.declared.slot.Slot.{Slot}
 use Rattle.hprof_layouts.specs.Layout.{IsKnown, own_slots}
 use Rattle.hprof_layouts.specs.Fields.{width_of_slots}
-use Rattle.hprof_laying.specs.declared.own_fields.OwnFields.{OwnFields}
+use Rattle.hprof_laying.specs.declared.own_fields.OwnLayout.{OwnLayout}
 use Rattle.hprof_laying.specs.declared.plan.Jump.{Jump}
 use Rattle.hprof_laying.specs.declared.plan.Outline.{Outline}
 use Rattle.hprof_laying.specs.declared.plan.Plan.{Plan}
@@ -39,14 +39,14 @@ pub record IsJump (ids : IdSize) (facts : List FactValue) (slots : List Slot) (j
   pub some : 0 < width_of_slots ids (own_slots dump)
 
 -- the first class among the slots that has own fields that refer to something
-abbrev pub IsFirst : IdSize → List FactValue → List Slot → Option Jump → Type 0
-IsFirst ids facts slots None = NoneRefers slots
-IsFirst ids facts slots (Some jump) = IsJump ids facts slots jump
+abbrev pub IsFirstJump : IdSize → List FactValue → List Slot → Option Jump → Type 0
+IsFirstJump ids facts slots None = NoneRefers slots
+IsFirstJump ids facts slots (Some jump) = IsJump ids facts slots jump
 
 -- the outline of a layout that has these slots
 pub record IsOutline (ids : IdSize) (facts : List FactValue) (slots : List Slot) (outline : Outline) : Type 0 where
   pub width_is : outline.width ≡ min (width_of_slots ids slots) most_wide
-  pub first_is : IsFirst ids facts slots outline.first
+  pub first_is : IsFirstJump ids facts slots outline.first
 
 -- the plan of a class whose layout has these slots
 pub record IsPlan (ids : IdSize) (facts : List FactValue) (class : ℕ) (slots : List Slot) (plan : Plan) : Type 0 where
@@ -59,12 +59,12 @@ pub record IsPlan (ids : IdSize) (facts : List FactValue) (class : ℕ) (slots :
   pub slots_are : slots ≡ own_slots dump ++ slots_above
   pub width_is : plan.width ≡ min (width_of_slots ids slots) most_wide
   pub own_are : IsOwn ids (own_slots dump) plan.own
-  pub above_is : IsFirst ids facts slots_above plan.above
+  pub above_is : IsFirstJump ids facts slots_above plan.above
 
 -- ---- how one comes from another
 
 -- the jump, from own fields on that stand before
-abbrev pub jump_behind : OwnFields → Jump → Jump
+abbrev pub jump_behind : OwnLayout → Jump → Jump
 jump_behind own jump = record {
   class = jump.class;
   offset = min (jump.offset + own.width) most;
@@ -72,7 +72,7 @@ jump_behind own jump = record {
 }
 
 -- the plan of a class with these own fields, below a layout of that outline
-abbrev pub plan_below : Outline → OwnFields → Plan
+abbrev pub plan_below : Outline → OwnLayout → Plan
 plan_below outline own = record { width = min (outline.width + own.width) most_wide; own = own; above = outline.first }
 
 -- the outline of the layout of a class that has the plan

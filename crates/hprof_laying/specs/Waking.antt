@@ -24,7 +24,7 @@ abbrev pub IsReady : (ℕ → Option Plan) → ℕ → Type 0
 IsReady plans class = (class ≡ 0) ⊎ IsPlanned plans class
 
 -- plans and what waits, where those are still to be woken that wait for some classes
-pub record Standing (ids : IdSize) (facts : List FactValue) (plans : ℕ → Option Plan) (waits : ℕ → List Waiting) (pending : List ℕ)
+pub record PlansStand (ids : IdSize) (facts : List FactValue) (plans : ℕ → Option Plan) (waits : ℕ → List Waiting) (pending : List ℕ)
     : Type 0 where
   pub each : (one other : ClassDump) → HasDump facts one → HasDump facts other → one.id ≡ other.id → one ≡ other
   -- each plan is right
@@ -50,7 +50,7 @@ pub record Woke (before after : ℕ → Option Plan) (woken : List ℕ) : Type 0
 -- known layouts while classes are woken
 pub record IsWaking (ids : IdSize) (facts : List FactValue) (before : ℕ → Option Plan) (known : KnownLayouts) (woken pending : List ℕ)
     : Type 0 where
-  pub standing : Standing ids facts (plan_of known) (waiting_below known) pending
+  pub standing : PlansStand ids facts (plan_of known) (waiting_below known) pending
   pub woke : Woke before (plan_of known) woken
 
 -- more classes were woken, for which others may wait

@@ -13,7 +13,7 @@ ghost use Rattle.hprof_laying.specs.Known.{AreWoken, HasDumpMore, HasLayout, Kno
 ghost use Rattle.hprof_laying.specs.References.{AreReferences};
 ghost use Rattle.hprof_laying.specs.Waking.{IsReady, IsWaking, Wakes, number_waiting, put};
 
-use crate::own_fields::{OwnFields, own_fields};
+use crate::own_fields::{OwnLayout, own_fields};
 use crate::plan::{Jump, Outline, Plan};
 use crate::reference::Reference;
 use hprof_finding::ClassRow;
@@ -27,7 +27,7 @@ struct Waiting {
     /// The class.
     class: u64,
     /// Its own fields.
-    own: OwnFields,
+    own: OwnLayout,
 }
 
 /// Of each class whose layout is known, what laying its instances needs. A class that came waits until the layout of its
@@ -73,7 +73,7 @@ impl KnownLayouts {
     }
 
     /// Takes a class dump that came, the first of its class, where identifiers have that size. It gives the classes whose
-    /// layouts become known by it. Where memory is refused, nothing holds of what is kept.
+    /// layouts become known by it, each once. The error is that memory was refused; nothing holds then of what is kept.
     pub fn come(&mut self, row: &ClassRow<'_>, ids: IdSize) -> Result<Vec<u64>, AllocError>
         ensures ok { OnOk result ((facts more : List FactValue) → Knows ids facts self.old → HasNoDump facts row.now.id
             → HasDumpMore facts (dump_of row.now) more → Knows ids more self.new) }
@@ -95,7 +95,7 @@ impl KnownLayouts {
     }
 
     /// Lets a class wait for its superclass.
-    fn wait(&mut self, superclass: u64, class: u64, own: OwnFields) -> Result<(), AllocError>
+    fn wait(&mut self, superclass: u64, class: u64, own: OwnLayout) -> Result<(), AllocError>
         ensures waits { OnOk result (waiting_below self.new ≡ put (waiting_below self.old) superclass
             (waiting_below self.old superclass ++ record { class = class; own = own } ∷ [])) }
         ensures plans { plan_of self.new ≡ plan_of self.old }
@@ -158,8 +158,8 @@ impl KnownLayouts {
     }
 
     /// Puts what an instance of the class that has these bytes refers to in the place of other references, in the order of
-    /// its fields. There is nothing where the layout of the class is not known, or has another number of bytes. Where memory
-    /// is refused, nothing holds of the references.
+    /// its fields. There is nothing where the layout of the class is not known, or has another number of bytes. The error is
+    /// that memory was refused; nothing holds then of the references.
     pub fn lay(
         &self,
         class: u64,

@@ -9,7 +9,8 @@ use hprof_finding::{id_size, table_facts, to_class_row};
 use hprof_heap::{Heap, Table};
 use std::alloc::{AllocError, Global};
 
-/// The layouts of the classes of a heap that are known, by one pass over its class dumps.
+/// The layouts of the classes of a heap that are known, by one pass over its class dumps. The error is that memory was
+/// refused.
 pub fn known_layouts(alloc: Global, heap: &Heap) -> Result<KnownLayouts, AllocError>
     ensures { IfOk result (Knows (size_of heap.now) (facts_of heap.now)) }
 {

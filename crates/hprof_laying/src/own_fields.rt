@@ -26,7 +26,7 @@ pub(crate) struct OwnReference {
 
 /// The own fields of a class.
 #[derive(Drop)]
-pub(crate) struct OwnFields {
+pub(crate) struct OwnLayout {
     /// How many bytes they have.
     pub(crate) width: usize,
     /// How many they are.
@@ -40,7 +40,7 @@ pub(crate) fn own_fields(
     alloc: Global,
     row: &ClassRow<'_>,
     ids: IdSize,
-) -> Result<OwnFields, AllocError>
+) -> Result<OwnLayout, AllocError>
     ensures { IfOk result (IsOwn ids (own_slots (dump_of row.now))) }
 {
     // They are 65,535 at most: that is told with the size of identifiers among them.
@@ -58,7 +58,7 @@ pub(crate) fn own_fields(
         width += field.basic.width(ids) as usize;
         count += 1;
     }
-    Ok(OwnFields {
+    Ok(OwnLayout {
         width,
         count,
         references,
@@ -76,7 +76,7 @@ fn id_behind(bytes: &[u8], offset: usize, ids: IdSize) -> Option<u64>
     Some(id_at(rest, ids))
 }
 
-impl OwnFields {
+impl OwnLayout {
     /// Puts what the own fields refer to behind other references. The bytes begin with their values, and so many fields
     /// stand before them.
     pub(crate) fn push_references(

@@ -3,7 +3,7 @@
 ghost use Rattle.std.specs.Prelude.{◌≡◌};
 ghost use Rattle.hprof_laying.specs.Plan.{jump_behind, outline_of, plan_below};
 
-use crate::own_fields::OwnFields;
+use crate::own_fields::OwnLayout;
 
 /// A class that has own fields that refer to something, and what lies before its own fields.
 #[derive(Clone, Copy, Debug, PartialEq, Eq)]
@@ -31,7 +31,7 @@ pub(crate) struct Plan {
     /// How many bytes all slots have; the greatest number stands for all from it on.
     pub(crate) width: u128,
     /// Its own fields.
-    pub(crate) own: OwnFields,
+    pub(crate) own: OwnLayout,
     /// The first class above it that has own fields that refer to something. What lies before is counted from behind
     /// its own fields on.
     pub(crate) above: Option<Jump>,
@@ -39,7 +39,7 @@ pub(crate) struct Plan {
 
 impl Jump {
     /// The same class from own fields of so many bytes on that stand before.
-    fn behind(self, own: &OwnFields) -> Jump
+    fn behind(self, own: &OwnLayout) -> Jump
         ensures { result ≡ jump_behind own.now self }
     {
         Jump {
@@ -52,7 +52,7 @@ impl Jump {
 
 impl Plan {
     /// The plan of a class with these own fields, below a class.
-    pub(crate) fn below(outline: Outline, own: OwnFields) -> Plan
+    pub(crate) fn below(outline: Outline, own: OwnLayout) -> Plan
         ensures { result ≡ plan_below outline own }
     {
         Plan {

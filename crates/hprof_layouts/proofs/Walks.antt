@@ -1,6 +1,6 @@
 -- Walking up a chain of superclasses.
 use Rattle.std.specs.Prelude.{◌≢◌}
-use Rattle.std.proofs.Common.{◌≡◌, ℕ, ◌+◌, ◌-◌, ◌<◌, ◌≤◌, List, [], ◌∷◌, ◌++◌, length, refl, sym, ap, subst, ◌∙◌, arith}
+use Rattle.std.proofs.Common.{◌≡◌, ◌⊎◌, inl, inr, ℕ, ◌+◌, ◌-◌, ◌<◌, ◌≤◌, List, [], ◌∷◌, ◌++◌, length, refl, sym, ap, subst, ◌∙◌, arith}
 use Rattle.std.proofs.Common.{length-append, append_assoc}
 use Rattle.std.proofs.lemmas.List.{append-nil}
 use Rattle.hprof_items.specs.FactValue.{FactValue}
@@ -62,6 +62,66 @@ module _ (facts : List FactValue) (class at passed classes : ℕ) (walking : Wal
     chain = subst (IsChain facts class walking.dumps) e walking.chain;
     counted = walking.counted;
   }
+
+-- ---- past a mark
+
+-- the chain came to the mark, and on from it
+pub record Marked (facts : List FactValue) (class mark at : ℕ) : Type 0 where
+  pub before : List ClassDump
+  pub to_mark : IsChain facts class before mark
+  pub since : List ClassDump
+  pub onward : IsChain facts mark since at
+
+-- so many classes were passed, among them the mark
+pub record Watching (facts : List FactValue) (class at passed classes mark : ℕ) : Type 0 where
+  pub walking : Walking facts class at passed classes
+  pub marked : Marked facts class mark at
+
+pub watching_none : (facts : List FactValue) (class classes : ℕ) → classes ≡ length (facts_of_table tables.Classes facts)
+    → Watching facts class class 0 classes class
+watching_none facts class classes all = record {
+  walking = walking_none facts class classes all;
+  marked = record { before = []; to_mark = refl; since = []; onward = refl };
+}
+
+module _ (facts : List FactValue) (class at passed classes mark : ℕ) (watching : Watching facts class at passed classes mark)
+    (dump : ClassDump) (not_zero : at ≢ 0) (has : HasDump facts dump) (is : dump.id ≡ at) where
+  -- the mark stays, or is the class that was come to
+  pub watched_more : passed < classes → (next : ℕ) → (next ≡ mark) ⊎ (next ≡ dump.parent)
+      → Watching facts class dump.parent (passed + 1) classes next
+  watched_more lt next which = record { walking = longer; marked = go which } where
+    longer : Walking facts class dump.parent (passed + 1) classes
+    longer = walked_more facts class at passed classes watching.walking dump not_zero has is lt
+
+    go : (next ≡ mark) ⊎ (next ≡ dump.parent) → Marked facts class next dump.parent
+    go (inl stays) =
+        let marked = watching.marked in
+        subst (λ (n : ℕ). Marked facts class n dump.parent) (sym stays) (record {
+          before = marked.before;
+          to_mark = marked.to_mark;
+          since = marked.since ++ dump ∷ [];
+          onward = chain_more facts mark marked.since at dump marked.onward not_zero is has;
+        })
+    go (inr moves) = subst (λ (n : ℕ). Marked facts class n dump.parent) (sym moves) (record {
+      before = longer.dumps;
+      to_mark = longer.chain;
+      since = [];
+      onward = refl;
+    })
+
+  -- the chain came to the mark again
+  pub watched_round : dump.parent ≡ mark → IsCyclic facts class
+  watched_round e =
+      let marked = watching.marked in
+      record {
+        dumps = marked.before;
+        ring = marked.since ++ dump ∷ [];
+        again = mark;
+        chain = marked.to_mark;
+        turns = subst (IsChain facts mark (marked.since ++ dump ∷ [])) e
+            (chain_more facts mark marked.since at dump marked.onward not_zero is has);
+        not_empty = λ none. (let counted = length-append marked.since (dump ∷ []) in let l = ap length none in omega arith);
+      }
 
 -- ---- along a chain that comes to 0
 

@@ -1,5 +1,6 @@
 //! The chain of superclasses: a class, its superclass, and so on.
 
+ghost use Rattle.std.specs.Prelude.{◌≡◌, ◌⊎◌};
 ghost use Rattle.hprof_finding.specs.HeapFacts.{facts_of};
 ghost use Rattle.hprof_layouts.specs.Layout.{EndsAs};
 
@@ -17,13 +18,40 @@ pub(crate) enum ChainEnd {
     Cyclic,
 }
 
-/// Where the chain of a class ends. It takes no memory: a chain that is longer than there are class dumps is a circle.
+/// A class that the chain passed, for which it is watched: to come to it again is to go round.
+#[derive(Clone, Copy)]
+struct Mark {
+    /// The class.
+    class: u64,
+    /// How many classes were passed before it.
+    before: usize,
+}
+
+impl Mark {
+    /// The mark behind so many classes: each time twice as many were passed, the class that was come to. So a circle is found
+    /// within a few rounds of it, and none of its classes is looked up more often.
+    fn behind(self, passed: usize, at: u64) -> Mark
+        ensures { (result.class ≡ self.class) ⊎ (result.class ≡ at) }
+    {
+        if passed / 2 < self.before {
+            return self;
+        }
+        Mark {
+            class: at,
+            before: passed,
+        }
+    }
+}
+
+/// Where the chain of a class ends. It takes no memory: a chain that comes to a mark again is a circle, and so is one that is
+/// longer than there are class dumps.
 pub(crate) fn chain_end(heap: &Heap, class: u64) -> ChainEnd
     ensures { EndsAs (facts_of heap.now) class result }
 {
     let classes = table_len(heap, Table::Classes);
     let mut at = class;
     let mut passed = 0;
+    let mut mark = Mark { class, before: 0 };
     while at != 0 {
         let Some(row) = find_class(heap, at) else {
             return ChainEnd::Missing(at);
@@ -31,8 +59,12 @@ pub(crate) fn chain_end(heap: &Heap, class: u64) -> ChainEnd
         if passed == classes {
             return ChainEnd::Cyclic;
         }
+        if row.parent == mark.class {
+            return ChainEnd::Cyclic;
+        }
         passed += 1;
         at = row.parent;
+        mark = mark.behind(passed, at);
     }
     ChainEnd::Zero(passed)
 }

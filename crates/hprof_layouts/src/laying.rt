@@ -47,7 +47,7 @@ fn slots_along(
     Ok(slots)
 }
 
-/// The layout of a class. Where it is not known no memory is taken.
+/// The layout of a class. Where it is not known no memory is taken. The error is that memory was refused.
 pub fn layout(alloc: Global, heap: &Heap, class: u64) -> Result<Layout, AllocError>
     ensures { IfOk result (λ layout. IsLayout (facts_of heap.now) class (layout_value layout)) }
 {

@@ -36,7 +36,7 @@ fn instance_fields(
     }
 }
 
-/// The fields of an object.
+/// The fields of an object. The error is that memory was refused.
 pub fn fields(alloc: Global, heap: &Heap, object: u64) -> Result<Fields, AllocError>
     ensures { IfOk result (λ fields. AreFields (size_of heap.now) (facts_of heap.now) object (fields_value fields)) }
 {

@@ -73,7 +73,7 @@ impl ClassNames {
         }
     }
 
-    /// The name of a class: that which it has in the fact of least serial that loads it.
+    /// The name of a class: that which it has in the fact of least serial that loads it; None where none does.
     pub fn name_of(&self, class: u64) -> Option<u64>
         ensures { (facts : List FactValue) → AreClassNames facts self.now → NamesClass facts class result }
     {

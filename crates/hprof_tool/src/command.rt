@@ -8,8 +8,10 @@ use std::alloc::{AllocError, Global};
 pub(crate) enum Task<'a> {
     /// To join the part on standard input, to standard output.
     Pass,
-    /// To join the parts in files, to a new file.
-    Join {
+    /// To make something of the parts in files, in a new file.
+    Make {
+        /// What to make.
+        product: NewFile,
         /// The name of the new file.
         out: &'a str,
         /// The names of the parts, in order.
@@ -25,13 +27,31 @@ pub(crate) enum Task<'a> {
         /// The names of the parts, in order.
         parts: Vec<&'a str>,
     },
-    /// To report what an identifier is of.
-    Object {
+    /// To report something on an identifier.
+    Ask {
+        /// What to report.
+        question: Question,
         /// The identifier, as text.
         id: &'a str,
         /// The names of the parts, in order.
         parts: Vec<&'a str>,
     },
+}
+
+/// What is written to a new file.
+#[derive(Clone, Copy, Debug, PartialEq, Eq)]
+pub(crate) enum NewFile {
+    /// The canonical dump.
+    Dump,
+    /// The 1.0.1 dump.
+    Dump101,
+}
+
+/// What is asked about an identifier.
+#[derive(Clone, Copy, Debug, PartialEq, Eq)]
+pub(crate) enum Question {
+    /// What its class and its object hold.
+    Object,
 }
 
 /// The names of the parts, any number of them.
@@ -43,41 +63,65 @@ fn parts_arg<'a>(alloc: Global) -> Arg<'a> {
         .action(ArgAction::Append)
 }
 
-/// The program's command line.
-fn command<'a>(alloc: Global) -> Result<Command<'a>, AllocError> {
+/// A command that reports on parts.
+fn reporting<'a>(alloc: Global, name: &'a str, about: &'a str) -> Result<Command<'a>, AllocError> {
+    Command::new(alloc, name).about(about).arg(parts_arg(alloc))
+}
+
+/// A command that writes a new file that is made of parts.
+fn making<'a>(alloc: Global, name: &'a str, about: &'a str) -> Result<Command<'a>, AllocError> {
     let out = Arg::new(alloc, "out")
         .value_name("OUT")
         .help("The new file for the dump")
         .required(true)
         .action(ArgAction::Set);
-    let join = Command::new(alloc, "join")
-        .about("Joins parts of a Java heap into one canonical dump")
+    Command::new(alloc, name)
+        .about(about)
         .arg(out)?
-        .arg(parts_arg(alloc))?;
-    let check = Command::new(alloc, "check")
-        .about("Says how many facts the parts have")
-        .arg(parts_arg(alloc))?;
-    let histo = Command::new(alloc, "histo")
-        .about("Says how many objects of each class there are, and how many bytes they have")
-        .arg(parts_arg(alloc))?;
+        .arg(parts_arg(alloc))
+}
+
+/// A command that reports on an identifier.
+fn asking<'a>(alloc: Global, name: &'a str, about: &'a str) -> Result<Command<'a>, AllocError> {
     let id = Arg::new(alloc, "id")
         .value_name("ID")
         .help("The identifier of a class or an object, in hexadecimal")
         .required(true)
         .action(ArgAction::Set);
-    let object = Command::new(alloc, "object")
-        .about("Says what the class and the object of an identifier hold")
+    Command::new(alloc, name)
+        .about(about)
         .arg(id)?
-        .arg(parts_arg(alloc))?;
+        .arg(parts_arg(alloc))
+}
+
+/// The program's command line.
+fn command<'a>(alloc: Global) -> Result<Command<'a>, AllocError> {
     Command::new(alloc, "hprof")
         .about(
             "Reads and joins Java heap dumps; without a command, from standard input to standard output",
         )
         .disable_help_subcommand(true)
-        .subcommand(join)?
-        .subcommand(check)?
-        .subcommand(histo)?
-        .subcommand(object)
+        .subcommand(making(
+            alloc,
+            "join",
+            "Joins parts of a Java heap into one canonical dump",
+        )?)?
+        .subcommand(making(
+            alloc,
+            "join101",
+            "Joins parts of a Java heap into one dump for tools that read JAVA PROFILE 1.0.1 alone",
+        )?)?
+        .subcommand(reporting(alloc, "check", "Says how many facts the parts have")?)?
+        .subcommand(reporting(
+            alloc,
+            "histo",
+            "Says how many objects of each class there are, and how many bytes they have",
+        )?)?
+        .subcommand(asking(
+            alloc,
+            "object",
+            "Says what the class and the object of an identifier hold",
+        )?)
 }
 
 /// The names of the parts that were given to a command.
@@ -87,24 +131,42 @@ fn parts_of<'a>(alloc: Global, matches: &ArgMatches<'a>) -> Result<Vec<&'a str>,
     Ok(parts)
 }
 
+/// What a command of that name, which is one of the program's, asks for with these words. The words were understood, so a word
+/// that is required is there.
+fn task_named<'a>(
+    alloc: Global,
+    name: &str,
+    words: &ArgMatches<'a>,
+) -> Result<Task<'a>, AllocError> {
+    let parts = parts_of(alloc, words)?;
+    let id = words.get_str("id").unwrap_or("");
+    let out = words.get_str("out").unwrap_or("");
+    Ok(match name {
+        "check" => Task::Check { parts },
+        "histo" => Task::Histogram { parts },
+        "object" => Task::Ask {
+            question: Question::Object,
+            id,
+            parts,
+        },
+        "join101" => Task::Make {
+            product: NewFile::Dump101,
+            out,
+            parts,
+        },
+        _ => Task::Make {
+            product: NewFile::Dump,
+            out,
+            parts,
+        },
+    })
+}
+
 /// What the words ask for, the first of which is the program's name.
 pub(crate) fn task_of<'a>(alloc: Global, words: &'a [String]) -> Result<Task<'a>, Error> {
     let matches = command(alloc)?.try_get_matches_from(words)?;
     let Some((name, words)) = matches.subcommand() else {
         return Ok(Task::Pass);
     };
-    let parts = parts_of(alloc, words)?;
-    if name == "check" {
-        return Ok(Task::Check { parts });
-    }
-    if name == "histo" {
-        return Ok(Task::Histogram { parts });
-    }
-    // The words were understood, so a word that is required is there.
-    if name == "object" {
-        let id = words.get_str("id").unwrap_or("");
-        return Ok(Task::Object { id, parts });
-    }
-    let out = words.get_str("out").unwrap_or("");
-    Ok(Task::Join { out, parts })
+    Ok(task_named(alloc, name, words)?)
 }

@@ -7,6 +7,7 @@ pub mod laws;
 mod program;
 mod status;
 
+pub use hprof_dump101::{join101_kept, join101_to};
 pub use hprof_engine::{Joined, Kept, ToolFault, join_kept, join_to};
 pub use hprof_reports::{check_to, histo_to, object_to};
 pub use program::run;

@@ -3,16 +3,17 @@
 ghost use Rattle.std.specs.Prelude.{◌≡◌, ◌≢◌, length};
 ghost use Rattle.hprof_engine.specs.Makes.{IsDump, IsMadeOf};
 ghost use Rattle.hprof_text.specs.Identifier.{IsIdText, id_value};
-ghost use Rattle.hprof_reports.specs.ObjectReporting.{IsObjectReport};
 ghost use Rattle.hprof_tool.specs.Program.{IsMadeOfStream, IsMadeInFile, IsMadeOfFiles};
+ghost use Rattle.hprof_tool.specs.Words.{is_answer, is_new_file};
 
-use crate::command::{Task, task_of};
+use crate::command::{NewFile, Question, Task, task_of};
 use crate::status::Status;
 use answers::{answer_no_id, answer_no_words, answer_outcome, answer_words};
-use hprof_engine::Product;
+use hprof_dump101::Dump101;
+use hprof_engine::{Dump, Product};
 use hprof_reports::{Check, HistogramReport, ObjectReport};
 use hprof_text::parse_id;
-use joining::{join_files, join_stream, report_files};
+use joining::{join_stream, make_file, report_files};
 use std::alloc::Global;
 use std::env::Args;
 use std::io;
@@ -37,19 +38,20 @@ fn pass<I: Read + Drop, O: Write + Drop, E: Write>(
     answer_outcome(alloc, join_stream(alloc, input, output), errors)
 }
 
-/// Joins parts in files to a new file.
-fn join<F: Files, E: Write>(
+/// Writes what is made of parts in files to a new file.
+fn write_new<P: Product, F: Files, E: Write>(
     alloc: Global,
     files: &F,
+    product: &P,
     out: &str,
     names: &[&str],
     errors: &mut E,
 ) -> Status
     ensures done { result ≡ Status.Done → (written : F.File)
-        × IsMadeInFile IsDump F.File.remaining F.File.contents (length names.now) written }
+        × IsMadeInFile (IsMadeOf (P.is_text product.now)) F.File.remaining F.File.contents (length names.now) written }
     ensures understood { result ≢ Status.NotUnderstood }
 {
-    answer_outcome(alloc, join_files(alloc, files, out, names), errors)
+    answer_outcome(alloc, make_file(alloc, files, product, out, names), errors)
 }
 
 /// Writes a report on parts in files to `output`.
@@ -72,23 +74,46 @@ fn report<P: Product, F: Files, O: Write + Drop, E: Write>(
     )
 }
 
-/// Writes the report `object` on parts in files to `output`. An identifier that is none is told before any part is opened.
-fn object<F: Files, O: Write + Drop, E: Write>(
+/// Makes what is asked for of parts in files, in a new file.
+fn make<F: Files, E: Write>(
     alloc: Global,
     files: &F,
+    product: NewFile,
+    out: &str,
+    names: &[&str],
+    errors: &mut E,
+) -> Status
+    ensures done { result ≡ Status.Done → (written : F.File)
+        × IsMadeInFile (IsMadeOf (is_new_file product)) F.File.remaining F.File.contents (length names.now) written }
+    ensures understood { result ≢ Status.NotUnderstood }
+{
+    match product {
+        NewFile::Dump => write_new(alloc, files, &Dump, out, names, errors),
+        NewFile::Dump101 => write_new(alloc, files, &Dump101, out, names, errors),
+    }
+}
+
+/// Writes the report that is asked for on an identifier to `output`. An identifier that is none is told before any part is
+/// opened.
+fn ask<F: Files, O: Write + Drop, E: Write>(
+    alloc: Global,
+    files: &F,
+    question: Question,
     id: &str,
     names: &[&str],
     output: O,
     errors: &mut E,
 ) -> Status
     ensures done { result ≡ Status.Done → IsIdText id.now × ((written : O)
-        × IsMadeOfFiles (IsMadeOf (IsObjectReport (id_value id.now))) F.File.remaining O.contents (length names.now) output written) }
+        × IsMadeOfFiles (IsMadeOf (is_answer question (id_value id.now))) F.File.remaining O.contents (length names.now) output written) }
     ensures understood { IsIdText id.now → result ≢ Status.NotUnderstood }
     ensures no_id { ¬ (IsIdText id.now) → result ≡ Status.NotUnderstood }
 {
-    match parse_id(id) {
-        Some(id) => report(alloc, files, &ObjectReport { id }, names, output, errors),
-        None => answer_no_id(errors),
+    let Some(id) = parse_id(id) else {
+        return answer_no_id(errors);
+    };
+    match question {
+        Question::Object => report(alloc, files, &ObjectReport { id }, names, output, errors),
     }
 }
 
@@ -98,8 +123,8 @@ fn list_of(alloc: Global, words: io::Result<Args>) -> io::Result<Vec<String>> {
 }
 
 /// Does what the words ask for: without a word behind the program's name it joins the part on `input` to `output`;
-/// `join OUT PART..` joins parts in files to a new file; `check PART..`, `histo PART..` and `object ID PART..` write a report on
-/// parts in files to `output`. Refusals are told on `errors`.
+/// `join OUT PART..` and `join101 OUT PART..` join parts in files to a new file; `check PART..`, `histo PART..` and
+/// `object ID PART..` write a report on parts in files to `output`. Refusals are told on `errors`.
 pub fn run<F: Files, I: Read + Drop, O: Write + Drop, E: Write>(
     alloc: Global,
     files: &F,
@@ -114,12 +139,24 @@ pub fn run<F: Files, I: Read + Drop, O: Write + Drop, E: Write>(
     };
     match task_of(alloc, &words) {
         Ok(Task::Pass) => pass(alloc, input, output, errors),
-        Ok(Task::Join { out, parts }) => join(alloc, files, out, &parts, errors),
+        Ok(
+            Task::Make {
+                product,
+                out,
+                parts,
+            },
+        ) => make(alloc, files, product, out, &parts, errors),
         Ok(Task::Check { parts }) => report(alloc, files, &Check, &parts, output, errors),
         Ok(Task::Histogram { parts }) => {
             report(alloc, files, &HistogramReport, &parts, output, errors)
         }
-        Ok(Task::Object { id, parts }) => object(alloc, files, id, &parts, output, errors),
+        Ok(
+            Task::Ask {
+                question,
+                id,
+                parts,
+            },
+        ) => ask(alloc, files, question, id, &parts, output, errors),
         Err(error) => answer_words(alloc, &error, &mut output, errors),
     }
 }

@@ -56,22 +56,26 @@ fn open_parts<F: Files>(
     Ok(parts)
 }
 
-/// Joins parts in files to a new file, which it gives back. After a refusal by the engine the new file is removed.
-pub(crate) fn join_files<F: Files>(
+/// Writes what is made of parts in files to a new file, which it gives back. After a refusal by the engine the new file is
+/// removed.
+pub(crate) fn make_file<P: Product, F: Files>(
     alloc: Global,
     files: &F,
+    product: &P,
     out: &str,
     names: &[&str],
 ) -> Result<F::File, Refused>
-    ensures ok { IfOk result (IsMadeInFile IsDump F.File.remaining F.File.contents (length names.now)) }
+    ensures ok { IfOk result (IsMadeInFile (IsMadeOf (P.is_text product.now)) F.File.remaining F.File.contents (length names.now)) }
     ensures no_parts { result ≡ Err (Refused.Engine ToolFault.NoParts) → length names.now ≡ 0 }
-    ensures refused { IfErr result (IsFilesRefusal dump_making F.File.remaining (length names.now)) }
+    ensures refused { IfErr result (IsFilesRefusal
+        (making_of (P.is_text product.now) (P.is_too_long product.now) P.Kept.takes_room (P.takes_memory product.now))
+        F.File.remaining (length names.now)) }
 {
     let mut parts = open_parts(alloc, files, names)?;
     let Ok(file) = File::create_new(files, out) else {
         return Err(Refused::Create);
     };
-    match make_buffered(alloc, &Dump, &mut parts, file) {
+    match make_buffered(alloc, product, &mut parts, file) {
         Ok(file) => Ok(file),
         Err(fault) => {
             // Where it cannot be removed, it stays.

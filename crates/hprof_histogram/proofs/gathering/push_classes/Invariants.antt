@@ -1,6 +1,6 @@
 use Rattle.std.proofs.Common.{◌≡◌, ◌++◌}
 use Rattle.std.specs.List.{filter}
-use Rattle.hprof_histogram.specs.Tally.{class_rows, has_objects}
+use Rattle.hprof_histogram.specs.CountedKinds.{class_rows, has_objects}
 use Rattle.hprof_histogram.proofs.gathering.push_classes.Given as goal
 
 abbrev pub invariant-loop-class : goal.invariant-loop-class

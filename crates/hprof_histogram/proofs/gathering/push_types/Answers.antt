@@ -1,6 +1,6 @@
 use Rattle.std.proofs.Common.{ap, get_or}
 use Rattle.hprof_values.specs.declared.basic.Basic.TheVariants.{Array}
-use Rattle.hprof_histogram.specs.Tally.{element_types, nothing}
+use Rattle.hprof_histogram.specs.CountedKinds.{element_types, nothing}
 use Rattle.hprof_histogram.proofs.Gathered.{types_more}
 use Rattle.hprof_histogram.proofs.gathering.push_types.Goals as goal
 

@@ -1,6 +1,6 @@
 use Rattle.std.proofs.Common.{◌≡◌, ◌++◌, drop}
 use Rattle.std.specs.List.{filter}
-use Rattle.hprof_histogram.specs.Tally.{has_objects, type_rows, element_types}
+use Rattle.hprof_histogram.specs.CountedKinds.{has_objects, type_rows, element_types}
 use Rattle.hprof_histogram.proofs.gathering.push_types.Given as goal
 
 abbrev pub invariant-loop-elem : goal.invariant-loop-elem

@@ -3,7 +3,7 @@ use Rattle.hprof_laying.specs.declared.plan.Jump.{Jump}
 use Rattle.hprof_laying.specs.declared.plan.Outline.{Outline}
 use Rattle.hprof_laying.specs.Known.{plan_of}
 use Rattle.hprof_laying.specs.OwnFields.{references_in}
-use Rattle.hprof_laying.specs.Plan.{IsFirst, outline_at}
+use Rattle.hprof_laying.specs.Plan.{IsFirstJump, outline_at}
 use Rattle.hprof_laying.proofs.Laid.{Laying, differs_laid, laid, lands, laying_begins, laying_ends, laying_on, own_are, own_few, own_here}
 use Rattle.hprof_laying.proofs.Laid.{own_wide}
 use Rattle.hprof_laying.proofs.known.KnownLayouts.lay.Goals as goal
@@ -20,7 +20,7 @@ loop-next-init c = λ facts slots knows are fills.
     let outline : c.outline-outline.result ≡ outline_at c.args.class (plan_of c.args.self.now c.args.class) = c.outline-outline.ensures in
     let small : length c.args.bytes.now < 2 ^ 64 = omega arith in
     rw c.clear.ensures.items (laying_begins c.args.ids facts slots c.args.bytes.now c.outline-outline.result.first
-    (subst (λ (o : Outline). IsFirst c.args.ids facts slots o.first) (sym outline) are.first_is) fills small)
+    (subst (λ (o : Outline). IsFirstJump c.args.ids facts slots o.first) (sym outline) are.first_is) fills small)
 
 pub returns-in_default-landing : goal.returns-in_default-landing
 returns-in_default-landing c = λ facts knows.

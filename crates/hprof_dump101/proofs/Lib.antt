@@ -1,0 +1,4 @@
+pub mod Lists
+pub mod ReadsBack
+pub mod Counting
+pub mod Writing

@@ -1,0 +1,2 @@
+pub mod Dump101
+pub mod Joining101

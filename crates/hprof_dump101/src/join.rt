@@ -1,0 +1,110 @@
+//! Joining parts into a 1.0.1 dump.
+
+ghost use Rattle.std.specs.Prelude.{◌≡◌, ℕ, List, All, IfOk};
+ghost use Rattle.std.specs.Io.KnownBytes.{Appends};
+ghost use Rattle.hprof_devices.specs.declared.health.Health.TheVariants.{Well};
+ghost use Rattle.hprof_heap.specs.Heap.{heap_of};
+ghost use Rattle.hprof_engine.specs.Joining.{Tell, AreJoined, fault_of};
+ghost use Rattle.hprof_engine.specs.Makes.{Makes};
+ghost use Rattle.hprof_dump101.specs.Dump101.{dump101};
+ghost use Rattle.hprof_dump101.specs.Joining101.{dump101_making};
+
+use crate::dump::write_v101;
+use crate::fault::DumpFault;
+use hprof_devices::{Source, Target};
+use hprof_engine::{Joined, Kept, Product, Stop, ToolFault, make_to};
+use hprof_heap::{Gatherer, Heap};
+use hprof_stream::Limits;
+use std::alloc::Global;
+
+/// The 1.0.1 dump. A heap whose sub-records have more than 4,294,967,295 bytes together has none.
+#[derive(Clone, Copy)]
+pub struct Dump101;
+
+impl Product for Dump101 {
+    ghost use Rattle.std.proofs.Common.{sym, ◌∙◌};
+    ghost use Rattle.hprof_dump101.specs.Joining101.{IsDump101Text, IsTooLong101};
+
+    ghost is_text = { λ dump. IsDump101Text };
+
+    ghost is_too_long = { λ dump. IsTooLong101 };
+
+    ghost takes_memory = { λ dump. ⊥ };
+
+    ghost asks = { λ dump id. ⊥ };
+
+    type Kept = ();
+
+    type Gatherer = Gatherer;
+
+    fn gatherer(&self, alloc: Global) -> Gatherer {
+        Gatherer::new(alloc)
+    }
+
+    fn write<W: Target>(
+        &self,
+        _alloc: Global,
+        _kept: &(),
+        heap: &Heap,
+        target: &mut W,
+    ) -> Result<(), Stop> {
+        match write_v101(heap, u32::MAX, target) {
+            Ok(()) => Ok(()),
+            Err(DumpFault::TooLong) => Err(Stop::TooLong),
+            Err(DumpFault::Write(fault)) => Err(Stop::Write(fault)),
+        }
+    }
+
+    ghost one_text = { λ dump summaries heap one other is is_too. is.1 ∙ sym is_too.1 };
+}
+
+/// As [`join101_to`], and hands back the heap that was written, so that a program that ends need not free it row by row.
+pub fn join101_kept<R: Source, W: Target>(
+    alloc: Global,
+    readers: &mut [R],
+    target: &mut W,
+    limits: Limits,
+) -> Result<Kept, ToolFault>
+    requires readers { All (λ reader. R.health reader ≡ Well) readers.old }
+    requires writer { W.health target.old ≡ Well }
+    ensures makes { Makes R.left R.health R.pulls W.written W.health limits dump101_making
+        readers.old readers.new target.old target.new (fault_of result) }
+    ensures joined { IfOk result (λ kept. (parts : List (List ℕ)) → Tell R.left readers.old parts → AreJoined parts kept.joined) }
+
+    // The heap that is handed back is the one whose dump was written.
+    ensures heap { IfOk result (λ kept. let heap = heap_of kept.heap in
+        Appends (W.written target.old) (W.written target.new) (dump101 heap.ids heap.millis heap.facts)) }
+{
+    match make_to(alloc, &Dump101, readers, target, limits) {
+        Ok(heap) => {
+            let joined = Joined {
+                parts: readers.len(),
+                facts: heap.count(),
+            };
+            Ok(Kept { joined, heap })
+        }
+        Err(fault) => Err(fault),
+    }
+}
+
+/// Reads all parts, and writes the 1.0.1 dump of the facts that they state.
+///
+/// It is refused as too long exactly where the sub-records of these facts have more than 4,294,967,295 bytes together. All
+/// parts are read, and this is found, before the first byte is written.
+pub fn join101_to<R: Source, W: Target>(
+    alloc: Global,
+    readers: &mut [R],
+    target: &mut W,
+    limits: Limits,
+) -> Result<Joined, ToolFault>
+    requires readers { All (λ reader. R.health reader ≡ Well) readers.old }
+    requires writer { W.health target.old ≡ Well }
+    ensures makes { Makes R.left R.health R.pulls W.written W.health limits dump101_making
+        readers.old readers.new target.old target.new (fault_of result) }
+    ensures joined { IfOk result (λ joined. (parts : List (List ℕ)) → Tell R.left readers.old parts → AreJoined parts joined) }
+{
+    match join101_kept(alloc, readers, target, limits) {
+        Ok(kept) => Ok(kept.joined),
+        Err(fault) => Err(fault),
+    }
+}

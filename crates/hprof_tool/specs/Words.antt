@@ -1,0 +1,20 @@
+-- What words ask for.
+use Rattle.std.specs.Prelude.{ℕ, List}
+use Rattle.hprof_stream.specs.declared.summary.PartSummary.{PartSummary}
+use Rattle.hprof_rows.specs.HeapValue.{HeapValue}
+use Rattle.hprof_engine.specs.Makes.{IsDumpText}
+use Rattle.hprof_dump101.specs.Joining101.{IsDump101Text}
+use Rattle.hprof_reports.specs.ObjectReporting.{IsObjectReport}
+use Rattle.hprof_tool.specs.declared.command.NewFile.{NewFile}
+use Rattle.hprof_tool.specs.declared.command.NewFile.TheVariants as files
+use Rattle.hprof_tool.specs.declared.command.Question.{Question}
+use Rattle.hprof_tool.specs.declared.command.Question.TheVariants as questions
+
+-- what is written to a new file: the canonical dump, or the 1.0.1 dump
+abbrev pub is_new_file : NewFile → List PartSummary → HeapValue → List ℕ → Type 0
+is_new_file files.Dump = IsDumpText
+is_new_file files.Dump101 = IsDump101Text
+
+-- what is told on an identifier: what its class and its object hold
+abbrev pub is_answer : Question → ℕ → List PartSummary → HeapValue → List ℕ → Type 0
+is_answer questions.Object = IsObjectReport
