@@ -2,7 +2,7 @@
 use Rattle.std.specs.Prelude.{◌↔◌, filter}
 use Rattle.std.specs.List.Sorted.{IsStrictlySortedBy}
 use Rattle.std.proofs.Common.{◌≡◌, ℕ, ◌==◌, Bool, true, false, cond, List, [], ◌∷◌, ◌++◌, Contains, refl, sym, ap, subst, ◌∙◌, inl, inr}
-use Rattle.std.proofs.lemmas.Bool.{both_ways, eq-eqb, eqb-true}
+use Rattle.std.proofs.lemmas.Bool.{eq-eqb, eqb-true}
 use Rattle.std.proofs.lemmas.List.Elements.{All-contains, Contains-append_cases, Contains-append_left, Contains-append_right, Contains-push}
 use Rattle.std.proofs.lemmas.List.Elements.{filter_passes}
 use Rattle.hprof_values.specs.declared.ids.IdSize.{IdSize}
@@ -20,28 +20,35 @@ use Rattle.hprof_edges.proofs.PutTogether.{nothing_there}
 -- ---- what passes a test
 
 module _ {X : Type 0} (p : X → Bool) where
+  before_first : (first : X) (xs : List X) (x : X) → (Contains (filter p xs) x → Contains xs x) → (t : Bool)
+      → Contains (cond t (first ∷ filter p xs) (filter p xs)) x → Contains (first ∷ xs) x
+  before_first first xs x rest true there = elim (Contains-append_cases (first ∷ []) (filter p xs) x there) [
+    | inl here ↦ Contains-append_left (first ∷ []) xs x here
+    | inr later ↦ Contains-append_right (first ∷ []) xs x (rest later)
+  ]
+  before_first first xs x rest false there = Contains-append_right (first ∷ []) xs x (rest there)
+
   kept_before : (xs : List X) (x : X) → Contains (filter p xs) x → Contains xs x
   kept_before [] x there = there
-  kept_before (first ∷ xs) x = go (p first) where
-    go : (t : Bool) → Contains (cond t (first ∷ filter p xs) (filter p xs)) x → Contains (first ∷ xs) x
-    go true there = elim (Contains-append_cases (first ∷ []) (filter p xs) x there) [
-      | inl here ↦ Contains-append_left (first ∷ []) xs x here
-      | inr later ↦ Contains-append_right (first ∷ []) xs x (kept_before xs x later)
-    ]
-    go false there = Contains-append_right (first ∷ []) xs x (kept_before xs x there)
+  kept_before (first ∷ xs) x there = before_first first xs x (kept_before xs x) (p first) there
+
+  kept_first : (first : X) (xs : List X) (x : X) → p x ≡ true → (Contains xs x → Contains (filter p xs) x) → (t : Bool) → p first ≡ t
+      → Contains (first ∷ xs) x → Contains (cond t (first ∷ filter p xs) (filter p xs)) x
+  kept_first first xs x passes rest true e there = elim (Contains-append_cases (first ∷ []) xs x there) [
+    | inl here ↦ Contains-append_left (first ∷ []) (filter p xs) x here
+    | inr later ↦ Contains-append_right (first ∷ []) (filter p xs) x (rest later)
+  ]
+  kept_first first xs x passes rest false e there = elim (Contains-append_cases (first ∷ []) xs x there) [
+    | inl here ↦
+        let yes : p first ≡ true = ap p (one_there first x here) ∙ passes in
+        let no = e in
+        absurd cc
+    | inr later ↦ rest later
+  ]
 
   kept : (xs : List X) (x : X) → p x ≡ true → Contains xs x → Contains (filter p xs) x
   kept [] x passes there = there
-  kept (first ∷ xs) x passes there = go (p first) refl where
-    go : (t : Bool) → p first ≡ t → Contains (cond t (first ∷ filter p xs) (filter p xs)) x
-    go true e = elim (Contains-append_cases (first ∷ []) xs x there) [
-      | inl here ↦ Contains-append_left (first ∷ []) (filter p xs) x here
-      | inr later ↦ Contains-append_right (first ∷ []) (filter p xs) x (kept xs x passes later)
-    ]
-    go false e = elim (Contains-append_cases (first ∷ []) xs x there) [
-      | inl here ↦ absurd (both_ways (p first) e (ap p (one_there first x here) ∙ passes))
-      | inr later ↦ kept xs x passes later
-    ]
+  kept (first ∷ xs) x passes there = kept_first first xs x passes (kept xs x passes) (p first) refl there
 
   -- the members that pass
   kept_are : (xs : List X) (x : X) → Contains (filter p xs) x ↔ (Contains xs x × (p x ≡ true))
@@ -93,13 +100,14 @@ module _ (ids : IdSize) (facts : List FactValue) (id : ℕ) (list : EdgeList) (s
     );
   }
 
+nothing_sorted : IsStrictlySortedBy (edge_ord.ghosts).cmp []
+unfolding IsStrictlySortedBy
+nothing_sorted = tt
+
 -- nothing refers to 0
 pub none_to_zero : (ids : IdSize) (facts : List FactValue) (id : ℕ) (edges : List Edge) → id ≡ 0 → edges ≡ []
     → AreReferrers ids facts id edges
 none_to_zero ids facts id edges zero_is none = subst (AreReferrers ids facts id) (sym none) (record {
   ascend = nothing_sorted;
   exact = λ edge. (λ there. absurd (nothing_there edge there), λ is. absurd (is.0.0 (is.1 ∙ zero_is)));
-}) where
-  nothing_sorted : IsStrictlySortedBy (edge_ord.ghosts).cmp []
-  unfolding IsStrictlySortedBy
-  nothing_sorted = tt
+})

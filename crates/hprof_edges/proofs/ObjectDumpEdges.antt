@@ -21,7 +21,7 @@ use Rattle.hprof_edges.proofs.Targets.{is_target, target_there}
 pub to_class : (object class : ℕ) (edge : Edge)
     → Contains (unless_zero (record { from = object; via = vias.Class; position = 0; to = class })) edge ↔ IsEdgeToClass object class edge
 to_class object class edge = (there, back) where
-  abbrev one : Edge
+  one : Edge
   one = record { from = object; via = vias.Class; position = 0; to = class }
 
   there : Contains (unless_zero one) edge → IsEdgeToClass object class edge

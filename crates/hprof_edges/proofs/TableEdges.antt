@@ -1,10 +1,12 @@
 -- The edges that the dumps of a table give, which are gone over one by one.
 use Rattle.std.specs.Prelude.{◌↔◌}
-use Rattle.std.proofs.Common.{◌≡◌, ◌⊎◌, true, List, [], ◌∷◌, ◌++◌, refl, sym, ap, subst, ◌∙◌, inl, inr, append_assoc}
+use Rattle.std.proofs.Common.{◌≡◌, ◌⊎◌, ℕ, Some, true, List, [], ◌∷◌, ◌++◌, refl, sym, ap, subst, ◌∙◌, inl, inr, append_assoc}
 use Rattle.std.proofs.lemmas.List.{append-nil}
 use Rattle.hprof_values.specs.declared.ids.IdSize.{IdSize}
 use Rattle.hprof_items.specs.FactValue.{FactValue, Instance, ObjArray}
+use Rattle.hprof_rows.specs.declared.key.Key.TheVariants as keys
 use Rattle.hprof_rows.specs.declared.table.Table.TheVariants as tables
+use Rattle.hprof_rows.specs.Key.{key_of}
 use Rattle.hprof_rows.specs.Facts.{Has}
 use Rattle.hprof_rows.specs.Tables.{facts_of_table, number_of_table, stands_in}
 use Rattle.hprof_rows.proofs.FactSets.{Has-back, Has-front, Has-parts}
@@ -138,6 +140,13 @@ module _ (ids : IdSize) (facts : List FactValue) where
       edge_is = is.gives;
     },
   )
+
+  -- a fact that is no object dump gives none
+  pub no_object_no_edge : (fact : FactValue) → ((object : ℕ) → key_of fact ≡ Some (keys.Object object) → ⊥) → (edge : Edge)
+      → IsObjectEdge ids facts fact edge → ⊥
+  no_object_no_edge (Instance id trace class bytes) none edge is = none id refl
+  no_object_no_edge (ObjArray id trace class elements) none edge is = none id refl
+  no_object_no_edge fact none edge is = is
 
   -- ---- both
 

@@ -1,12 +1,12 @@
 //! Laws of the definitions. None of these functions does anything.
 
-ghost use Rattle.std.specs.Prelude.{◌≡◌, ◌↔◌, ◌⊎◌, List};
+ghost use Rattle.std.specs.Prelude.{◌≡◌, ◌↔◌, ◌⊎◌, ℕ, List};
 ghost use Rattle.hprof_values.specs.declared.ids.IdSize.{IdSize};
 ghost use Rattle.hprof_items.specs.FactValue.{FactValue};
 ghost use Rattle.hprof_rows.specs.Facts.{Has};
 ghost use Rattle.hprof_edges.specs.declared.edge.Edge.{Edge};
 ghost use Rattle.hprof_edges.specs.DumpEdges.{GivenByClass, GivenByObject};
-ghost use Rattle.hprof_edges.specs.Edges.{AreEdges, IsEdge};
+ghost use Rattle.hprof_edges.specs.Edges.{AreEdgesFrom, AreReferrers, IsEdge};
 
 /// The edges of facts are those that a class dump gives, and those that an object dump gives.
 pub fn dumps_give_edges()
@@ -14,10 +14,12 @@ pub fn dumps_give_edges()
         → IsEdge ids facts edge ↔ (GivenByClass facts edge ⊎ GivenByObject ids facts edge) }
 {}
 
-/// There is at most one list of the edges of which something holds: of those from an identifier, and of those to one.
+/// An identifier has one list of edges from it, and one of edges to it.
 pub fn one_list_of_edges()
-    ensures { (ids : IdSize) (facts : List FactValue) (P : Edge → Type 0) (one other : List Edge)
-        → AreEdges ids facts P one → AreEdges ids facts P other → one ≡ other }
+    ensures from { (ids : IdSize) (facts : List FactValue) (id : ℕ) (one other : List Edge)
+        → AreEdgesFrom ids facts id one → AreEdgesFrom ids facts id other → one ≡ other }
+    ensures to { (ids : IdSize) (facts : List FactValue) (id : ℕ) (one other : List Edge)
+        → AreReferrers ids facts id one → AreReferrers ids facts id other → one ≡ other }
 {}
 
 /// With more facts each edge stays.

@@ -41,7 +41,7 @@ pub(crate) fn put_constants<C: Collect>(
     into: &mut C,
 ) -> Result<(), AllocError>
     ensures holds { OnOk result ((edges : List Edge) → C.holds into.old edges
-        → C.holds into.new (edges ++ numbered class vias.Constant 0 (targets_of_constants (constants_of constants)))) }
+        → C.holds into.new (edges ++ numbered class vias.Constant 0 (targets_of_constants (constants_of constants.entry)))) }
     ensures keeps { OnOk result (C.keeps into.new ≡ C.keeps into.old) }
 {
     // They are no more than a number can count.
@@ -67,7 +67,7 @@ pub(crate) fn put_statics<C: Collect>(
     into: &mut C,
 ) -> Result<(), AllocError>
     ensures holds { OnOk result ((edges : List Edge) → C.holds into.old edges
-        → C.holds into.new (edges ++ numbered class vias.Fixed 0 (targets_of_statics (statics_of statics)))) }
+        → C.holds into.new (edges ++ numbered class vias.Fixed 0 (targets_of_statics (statics_of statics.entry)))) }
     ensures keeps { OnOk result (C.keeps into.new ≡ C.keeps into.old) }
 {
     // They are no more than a number can count.
@@ -93,7 +93,7 @@ pub(crate) fn put_elements<C: Collect>(
     into: &mut C,
 ) -> Result<(), AllocError>
     ensures holds { OnOk result ((edges : List Edge) → C.holds into.old edges
-        → C.holds into.new (edges ++ numbered array vias.Element 0 (identifiers_of elements))) }
+        → C.holds into.new (edges ++ numbered array vias.Element 0 (identifiers_of elements.entry))) }
     ensures keeps { OnOk result (C.keeps into.new ≡ C.keeps into.old) }
 {
     // They are no more than a number can count.

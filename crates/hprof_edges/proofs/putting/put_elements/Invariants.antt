@@ -9,8 +9,8 @@ use Rattle.hprof_edges.proofs.putting.put_elements.Given as goal
 abbrev pub invariant-loop-to : goal.invariant-loop-to
 invariant-loop-to g l = record {
   put : (edges : List Edge) → g.C.Collect.holds l.fn.into edges → Putting (g.C.Collect.holds l.into) edges
-      (numbered l.array vias.Element 0 (identifiers_of l.elements))
+      (numbered l.array vias.Element 0 (identifiers_of l.fn.elements))
       (numbered l.array vias.Element l.position (identifiers_left l.to-iterator));
   keeps : g.C.Collect.keeps l.into ≡ g.C.Collect.keeps l.fn.into;
-  count : l.position + length (identifiers_left l.to-iterator) ≡ length (identifiers_of l.elements);
+  count : l.position + length (identifiers_left l.to-iterator) ≡ length (identifiers_of l.fn.elements);
 }

@@ -1,0 +1,21 @@
+use Rattle.std.proofs.Common.{◌≡◌, ap, ◌∙◌, sym, subst, List}
+use Rattle.std.specs.Prelude.{◌↔◌, Contains}
+use Rattle.hprof_finding.specs.HeapFacts.{facts_of, size_of}
+use Rattle.hprof_edges.specs.declared.edge.Edge.{Edge}
+use Rattle.hprof_edges.specs.declared.edge_list.Watched.{Watched}
+use Rattle.hprof_edges.specs.Collecting.{is_watched}
+use Rattle.hprof_edges.proofs.KeptEdges.{edges_to, none_to_zero}
+use Rattle.hprof_edges.proofs.to_identifier.referrers.Goals as goal
+
+pub returns-then-id-eq0 : goal.returns-then-id-eq0
+returns-then-id-eq0 c =
+    none_to_zero (size_of c.args.heap.now) (facts_of c.args.heap.now) c.args.id c.new.result.items c.if-id-eq0.true c.new.ensures.items
+
+pub returns : goal.returns
+returns c =
+    edges_to (size_of c.args.heap.now) (facts_of c.args.heap.now) c.args.id c.put_all.new.into c.sort_edges.new.edges.items
+    c.sort_edges.ensures.ascend
+    (λ edge. subst (λ (l : List Edge). Contains c.sort_edges.new.edges.items edge ↔ Contains l edge) c.into_edges-edges.ensures
+    (c.sort_edges.ensures.same edge))
+    (c.in_ok-put_all.ensures.holds _ c.new-list.ensures.none)
+    (c.in_ok-put_all.ensures.keeps ∙ ap is_watched c.new-list.ensures.watched)
