@@ -2,14 +2,13 @@
 """Times the program on hostile dumps: long chains and circles of classes, classes of many fields, instances of many slots.
 
 Each dump is written by this script, and what the program answers is compared with what the dump was made to have. It prints a
-row for each: how many bytes the dump has, how long the program took, and its peak memory.
+row for each: how many bytes the dump has, and how long the program took.
 
     bench/hostile/run.py [WORD..]            (of those whose title has one of the words; all)
 
 It needs the built program (`rt run` in crates/hprof leaves it as crates/hprof/out/hprof). It is no part of the gate.
 """
 
-import os
 import struct
 import subprocess
 import sys
@@ -134,8 +133,8 @@ CASES = [
 def main():
     wanted = sys.argv[1:]
     wrong = 0
-    print("| dump | its bytes | words | seconds | peak memory |")
-    print("|---|---|---|---|---|")
+    print("| dump | its bytes | words | seconds |")
+    print("|---|---|---|---|")
     with tempfile.TemporaryDirectory() as folder:
         dump, out = Path(folder) / "dump.hprof", Path(folder) / "out"
         for title, make, words, test in CASES:
@@ -144,11 +143,10 @@ def main():
             dump.write_bytes(make())
             start = time.perf_counter()
             with open(out, "wb") as file:
-                process = subprocess.Popen([PROGRAM, *words, dump], stdout=file)
-                _, status, usage = os.wait4(process.pid, 0)
+                status = subprocess.run([PROGRAM, *words, dump], stdout=file).returncode
             seconds = time.perf_counter() - start
             size = dump.stat().st_size
-            print(f"| {title} | {size / 1e6:.1f} MB | {' '.join(words)} | {seconds:.2f} | {usage.ru_maxrss / 1e3:.0f} MB |", flush=True)
+            print(f"| {title} | {size / 1e6:.1f} MB | {' '.join(words)} | {seconds:.2f} |", flush=True)
             if status != 0 or not test(out.read_text().splitlines()):
                 wrong += 1
                 print(f"{title}: another answer, status {status}")
