@@ -1,6 +1,6 @@
 -- Counting the bytes of sub-records.
 use Rattle.std.proofs.Common.{◌≡◌, ℕ, ◌+◌, ◌<◌, true, List, [], ◌∷◌, ◌++◌, length, refl, sym, ap, subst, ◌∙◌, arith}
-use Rattle.std.specs.Prelude.{sum_by}
+use Rattle.std.specs.Prelude.{sum_by, ⊤}
 use Rattle.std.specs.List.{AllByRecursion, flat_map}
 use Rattle.std.proofs.lemmas.List.Concat.{length-flat_map}
 use Rattle.std.proofs.lemmas.List.Sums.{sum_by-cons}
@@ -62,15 +62,15 @@ none_of : (ids : IdSize) (subs : List FactValue) → AllByRecursion (λ fact. is
 none_of ids [] each none = refl
 none_of ids (fact ∷ others) each none = absurd (omega (arith, sub_some ids fact each.0, sum_by-cons (size_of ids) fact others, none))
 
-all_facts_are : (rows : List FactValue) → AllByRecursion (λ fact. fact ≡ fact) rows
-all_facts_are [] = tt
-all_facts_are (fact ∷ rows) = (refl, all_facts_are rows)
+anything : (rows : List FactValue) → AllByRecursion (λ fact. ⊤) rows
+anything [] = tt
+anything (fact ∷ rows) = (tt, anything rows)
 
 -- where sub-records have no bytes, there is no heap dump
 pub no_heap_dump : (ids : IdSize) (rows : List FactValue) → sub_len ids rows ≡ 0 → heap_dump ids (sub_facts rows) ≡ []
 no_heap_dump ids rows none =
     none_of ids (sub_facts rows)
-    (all_filter (λ fact. fact ≡ fact) (λ fact. is_sub_fact fact ≡ true) is_sub_fact rows (λ fact e is. is) (all_facts_are rows)) none
+    (all_filter (λ fact. ⊤) (λ fact. is_sub_fact fact ≡ true) is_sub_fact rows (λ fact any is. is) (anything rows)) none
 
 -- where they have so many, there is one of that length
 pub heap_dump_by : (ids : IdSize) (subs : List FactValue) (len : ℕ) → len ≡ sum_by (size_of ids) subs → 0 < len

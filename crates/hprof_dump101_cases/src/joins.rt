@@ -86,11 +86,9 @@ fn the_dump_is_checked(rt: HostRuntime) -> Result<(), Fail> {
 }
 
 /// A segment with the byte array 16 of one byte.
-const ARRAY_OF_1: &[u8] =
-    b"\x1c\0\0\0\0\0\0\0\x0f\x23\0\0\0\x10\0\0\0\x01\0\0\0\x01\x08\x01";
+const ARRAY_OF_1: &[u8] = b"\x1c\0\0\0\0\0\0\0\x0f\x23\0\0\0\x10\0\0\0\x01\0\0\0\x01\x08\x01";
 
-const ARRAY_OF_2: &[u8] =
-    b"\x1c\0\0\0\0\0\0\0\x0f\x23\0\0\0\x10\0\0\0\x01\0\0\0\x01\x08\x02";
+const ARRAY_OF_2: &[u8] = b"\x1c\0\0\0\0\0\0\0\x0f\x23\0\0\0\x10\0\0\0\x01\0\0\0\x01\x08\x02";
 
 #[test]
 fn refusals(rt: HostRuntime) -> Result<(), Fail> {

@@ -36,8 +36,7 @@ pub(crate) const ARRAY_16: &[u8] = b"\x23\0\0\0\x10\0\0\0\x01\0\0\0\x02\x08\x01\
 pub(crate) const STICKY_16: &[u8] = b"\x05\0\0\0\x10";
 
 /// With identifiers of eight bytes: the greatest name is `A`; frame 1, whose method has that name, in line -3; a JNI local root.
-pub(crate) const WIDE_NAME: &[u8] =
-    b"\x01\0\0\0\0\0\0\0\x09\xff\xff\xff\xff\xff\xff\xff\xffA";
+pub(crate) const WIDE_NAME: &[u8] = b"\x01\0\0\0\0\0\0\0\x09\xff\xff\xff\xff\xff\xff\xff\xffA";
 
 pub(crate) const WIDE_FRAME: &[u8] = b"\x04\0\0\0\0\0\0\0\x28\0\0\0\0\0\0\0\x01\
     \xff\xff\xff\xff\xff\xff\xff\xff\0\0\0\0\0\0\0\0\0\0\0\0\0\0\0\0\0\0\0\0\xff\xff\xff\xfd";

@@ -40,7 +40,7 @@ impl Write for Limited {
 }
 
 /// A device with such a writer.
-fn limited(alloc: Global, room: usize, sticks: bool) -> Device<Limited>
+fn device_with(alloc: Global, room: usize, sticks: bool) -> Device<Limited>
     ensures { health_of result ≡ Well }
 {
     Device::new(Limited {
@@ -58,9 +58,13 @@ fn a_dump_cut_at_each_byte(rt: HostRuntime) -> Result<(), Fail> {
     let heap = heap_of(rt.alloc(), PLAIN_DUMP)?;
     for room in 0..90usize {
         for (sticks, fault) in ENDS {
-            let mut target = limited(rt.alloc(), room, sticks);
+            let mut target = device_with(rt.alloc(), room, sticks);
             let answer = write_v101(&heap, 21, &mut target);
-            let expected = if room < 89 { Err(DumpFault::Write(fault)) } else { Ok(()) };
+            let expected = if room < 89 {
+                Err(DumpFault::Write(fault))
+            } else {
+                Ok(())
+            };
             equal_at(&rt, (room, sticks), answer, expected);
             equal_bytes(&rt, &target.into_inner().taken, &PLAIN_DUMP[..room]);
         }
@@ -73,7 +77,7 @@ fn a_join_cut_at_each_byte(rt: HostRuntime) -> Result<(), Fail> {
     let part = plain_part(rt.alloc())?;
     for room in 0..90usize {
         for (sticks, fault) in ENDS {
-            let mut target = limited(rt.alloc(), room, sticks);
+            let mut target = device_with(rt.alloc(), room, sticks);
             let mut readers = readers_of(rt.alloc(), &[&part])?;
             let answer = join101_to(rt.alloc(), &mut readers, &mut target, Limits::usual());
             let expected = if room < 89 {
@@ -89,9 +93,11 @@ fn a_join_cut_at_each_byte(rt: HostRuntime) -> Result<(), Fail> {
 }
 
 #[test]
-fn a_writer_that_fails_is_not_asked_where_the_dump_is_too_long(rt: HostRuntime) -> Result<(), Fail> {
+fn a_writer_that_fails_is_not_asked_where_the_dump_is_too_long(
+    rt: HostRuntime,
+) -> Result<(), Fail> {
     let heap = heap_of(rt.alloc(), PLAIN_DUMP)?;
-    let mut target = limited(rt.alloc(), 0, false);
+    let mut target = device_with(rt.alloc(), 0, false);
     let answer = write_v101(&heap, 20, &mut target);
     equal_at(&rt, 20, answer, Err(DumpFault::TooLong));
     Ok(())
