@@ -29,15 +29,15 @@ module _ (ids : IdSize) (facts : List FactValue) where
       ⊎ GivenByObject ids facts (record { from = from; via = via; position = position; to = to })
   given from vias.Class position to not_zero is = elim is.1 [
     | inl one ↦ inr (record {
-        fact = Instance from one.1.trace to one.0;
-        has = one.1.has;
-        edge_is = inl (record { not_zero = not_zero; from_is = refl; via_is = refl; position_is = is.0; to_is = refl });
-      })
+      fact = Instance from one.1.trace to one.0;
+      has = one.1.has;
+      edge_is = inl (record { not_zero = not_zero; from_is = refl; via_is = refl; position_is = is.0; to_is = refl });
+    })
     | inr one ↦ inr (record {
-        fact = ObjArray from one.1.trace to one.0;
-        has = one.1.has;
-        edge_is = inl (record { not_zero = not_zero; from_is = refl; via_is = refl; position_is = is.0; to_is = refl });
-      })
+      fact = ObjArray from one.1.trace to one.0;
+      has = one.1.has;
+      edge_is = inl (record { not_zero = not_zero; from_is = refl; via_is = refl; position_is = is.0; to_is = refl });
+    })
   ]
   given from vias.Parent position to not_zero is = inl (by_dump from vias.Parent position to _ not_zero is.1 (λ dump e. (is.0, e)))
   given from vias.Loader position to not_zero is = inl (by_dump from vias.Loader position to _ not_zero is.1 (λ dump e. (is.0, e)))
@@ -75,11 +75,10 @@ module _ (ids : IdSize) (facts : List FactValue) where
 
   pub class_edge_back : (edge : Edge) → GivenByClass facts edge → IsEdge ids facts edge
   class_edge_back edge is =
-      let e = is.edge_is in
-      (
+      let e = is.edge_is in (
         e.not_zero,
         subst (λ (from : ℕ). Refers ids facts from edge.via edge.position edge.to) (sym e.from_is)
-        (dump_refers is.dump is.has edge.via edge.position edge.to e.refers_is),
+            (dump_refers is.dump is.has edge.via edge.position edge.to e.refers_is),
       )
 
   -- ---- from an object dump to an edge

@@ -66,8 +66,7 @@ list_has : (list : EdgeList) (which : Watched) (P : Edge → Type 0) → PutBehi
 list_has list which P put keeps edge =
     let same : kept_in list ≡ filter (is_watched which) put.more =
     put.holds_more ∙ ap (λ (test : Edge → Bool). filter test put.more) keeps in
-    let are = kept_are (is_watched which) put.more edge in
-    (
+    let are = kept_are (is_watched which) put.more edge in (
       λ there. (let both = are.0 (subst (λ (l : List Edge). Contains l edge) same there) in ((put.exact edge).0 both.0, both.1)),
       λ both. subst (λ (l : List Edge). Contains l edge) (sym same) (are.1 ((put.exact edge).1 both.0, both.1)),
     )
@@ -93,9 +92,9 @@ module _ (ids : IdSize) (facts : List FactValue) (id : ℕ) (list : EdgeList) (s
     ascend = ascend;
     exact = λ edge. (
       λ there. (
-        let has = (list_has list (watched.To id) (IsEdge ids facts) put keeps edge).0 ((same edge).0 there) in
-        (has.0, eqb-true edge.to id has.1)
-      ),
+          let has = (list_has list (watched.To id) (IsEdge ids facts) put keeps edge).0 ((same edge).0 there) in
+          (has.0, eqb-true edge.to id has.1)
+          ),
       λ is. (same edge).1 ((list_has list (watched.To id) (IsEdge ids facts) put keeps edge).1 (is.0, eq-eqb edge.to id is.1)),
     );
   }

@@ -49,6 +49,14 @@ module _ (ids : IdSize) (facts : List FactValue) (object : ℕ) where
   is_dump (ObjArray id trace class elements) edge from (inr is) = ap (λ (n : ℕ). Some (keys.Object n)) (sym is.from_is ∙ from)
   is_dump fact edge from is = absurd is
 
+  -- what a dump of the object gives is from it
+  from_object : (fact : FactValue) (edge : Edge) → IsObject object fact → IsObjectEdge ids facts fact edge → edge.from ≡ object
+  from_object (Instance id trace class bytes) edge of (inl is) = is.from_is ∙ same_object id object of
+  from_object (Instance id trace class bytes) edge of (inr is) = is.from_is ∙ same_object id object of
+  from_object (ObjArray id trace class elements) edge of (inl is) = is.from_is ∙ same_object id object of
+  from_object (ObjArray id trace class elements) edge of (inr is) = is.from_is ∙ same_object id object of
+  from_object fact edge of is = absurd is
+
   -- so it is the only one
   by_only : (fact : FactValue) → IsOnlyObject facts object fact → (edge : Edge) → (edge.from ≡ object) × GivenByObject ids facts edge
       → IsObjectEdge ids facts fact edge
@@ -56,6 +64,10 @@ module _ (ids : IdSize) (facts : List FactValue) (object : ℕ) where
       let g = given.1 in
       subst (λ (f : FactValue). IsObjectEdge ids facts f edge) (sym (is.only g.fact g.has (is_dump g.fact edge given.0 g.edge_is)))
       g.edge_is
+
+  pub of_only : (fact : FactValue) → IsOnlyObject facts object fact → (edge : Edge)
+      → ((edge.from ≡ object) × GivenByObject ids facts edge) ↔ IsObjectEdge ids facts fact edge
+  of_only fact is edge = (by_only fact is edge, λ gives. (from_object fact edge is.id gives, record { fact = fact; has = is.has; edge_is = gives }))
 
   pub by_instance : (id trace class : ℕ) (bytes : List ℕ) → IsOnlyObject facts object (Instance id trace class bytes) → (edge : Edge)
       → ((edge.from ≡ object) × GivenByObject ids facts edge)
@@ -68,11 +80,11 @@ module _ (ids : IdSize) (facts : List FactValue) (object : ℕ) where
     there given = elim (by_only (Instance id trace class bytes) is edge given) [
       | inl to_class ↦ inl (subst (λ (n : ℕ). IsEdgeToClass n class edge) same to_class)
       | inr by_field ↦ inr (record {
-          class = class;
-          bytes = bytes;
-          instance = dump_of_instance facts object id trace class bytes is.has is.id;
-          edge_is = subst (λ (n : ℕ). IsFieldEdge ids facts n class bytes edge) same by_field;
-        })
+        class = class;
+        bytes = bytes;
+        instance = dump_of_instance facts object id trace class bytes is.has is.id;
+        edge_is = subst (λ (n : ℕ). IsFieldEdge ids facts n class bytes edge) same by_field;
+      })
     ]
 
     back : IsEdgeToClass object class edge ⊎ GivenByInstance ids facts object edge → (edge.from ≡ object) × GivenByObject ids facts edge
@@ -132,3 +144,7 @@ module _ (ids : IdSize) (facts : List FactValue) (object : ℕ) where
     back : IsEdge ids facts edge × (edge.from ≡ object)
         → ((edge.from ≡ object) × GivenByClass facts edge) ⊎ ((edge.from ≡ object) × GivenByObject ids facts edge)
     back is = elim (edge_given ids facts edge is.0) [ inl given ↦ inl (is.1, given) | inr given ↦ inr (is.1, given) ]
+
+  pub dumps_from : (edge : Edge) → (IsEdge ids facts edge × (edge.from ≡ object))
+      ↔ (((edge.from ≡ object) × GivenByClass facts edge) ⊎ ((edge.from ≡ object) × GivenByObject ids facts edge))
+  dumps_from edge = ((from_dumps edge).1, (from_dumps edge).0)

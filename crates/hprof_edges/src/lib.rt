@@ -1,22 +1,24 @@
 //! References between classes and objects: edges, those that a dump gives, those from an identifier and those to one.
 #![tactic(auto)]
 
-mod of_class;
 mod collect;
 mod edge;
 mod edge_list;
+mod from_known;
 pub mod laws;
-mod of_object;
+mod of_class;
 mod of_identifier;
+mod of_object;
 mod putting;
 mod sorting;
 mod to_identifier;
 
-pub use of_class::class_edges;
 pub use collect::Collect;
 pub use edge::{Edge, Via};
 pub use edge_list::{EdgeList, Watched};
-pub use of_object::{edge_to_class, field_edges, object_edges};
+pub use from_known::known_edges;
+pub use of_class::class_edges;
 pub use of_identifier::edges_of;
+pub use of_object::{array_edges, edge_to_class, field_edges, object_edges};
 pub use sorting::sort_edges;
 pub use to_identifier::referrers;

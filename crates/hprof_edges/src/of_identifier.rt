@@ -7,10 +7,10 @@ ghost use Rattle.hprof_edges.specs.Collecting.{PutBehind};
 ghost use Rattle.hprof_edges.specs.DumpEdges.{GivenByClass, GivenByInstance, GivenByObject};
 ghost use Rattle.hprof_edges.specs.Edges.{AreEdgesFrom};
 
-use crate::of_class::class_edges;
 use crate::collect::Collect;
 use crate::edge::Edge;
 use crate::edge_list::{EdgeList, Watched};
+use crate::of_class::class_edges;
 use crate::of_object::{array_edges, edge_to_class};
 use crate::putting::put_values;
 use crate::sorting::sort_edges;
@@ -20,7 +20,7 @@ use hprof_layouts::{Fields, fields};
 use std::alloc::{AllocError, Global};
 
 /// Puts the edges that the class dump of an identifier gives, if there is one.
-fn put_of_class<C: Collect>(heap: &Heap, id: u64, into: &mut C) -> Result<(), AllocError>
+pub(crate) fn put_of_class<C: Collect>(heap: &Heap, id: u64, into: &mut C) -> Result<(), AllocError>
     ensures holds { OnOk result ((edges : List Edge) → C.holds into.old edges
         → PutBehind (C.holds into.new) edges (λ edge. (edge.from ≡ id) × GivenByClass (facts_of heap.now) edge)) }
     ensures keeps { OnOk result (C.keeps into.new ≡ C.keeps into.old) }
@@ -70,9 +70,13 @@ fn put_of_object<C: Collect>(
             put_of_fields(alloc, heap, id, into)?;
             Ok(())
         }
-        Some(ObjectRow::ObjArray {
-            class, elements, ..
-        }) => {
+        Some(
+            ObjectRow::ObjArray {
+                class,
+                elements,
+                ..
+            },
+        ) => {
             array_edges(id, class, elements, into)?;
             Ok(())
         }

@@ -54,8 +54,9 @@ pub fn field_edges<C: Collect>(
     Ok(())
 }
 
-/// Puts the edges of an array of objects: to its class, and by its elements.
-pub(crate) fn array_edges<C: Collect>(
+/// Puts the edges of an array of objects: to its class, and by its elements. Where memory is refused, nothing holds of what
+/// collects them.
+pub fn array_edges<C: Collect>(
     array: u64,
     class: u64,
     elements: IdList<'_>,
@@ -86,7 +87,10 @@ pub fn object_edges<C: Collect>(
 {
     match *row {
         ObjectRow::Instance {
-            id, class, bytes, ..
+            id,
+            class,
+            bytes,
+            ..
         } => {
             edge_to_class(id, class, into)?;
             field_edges(known, id, class, bytes, ids, references, into)?;

@@ -8,10 +8,10 @@ ghost use Rattle.hprof_edges.specs.Collecting.{PutBehind};
 ghost use Rattle.hprof_edges.specs.DumpEdges.{GivenByClass, GivenByObject};
 ghost use Rattle.hprof_edges.specs.Edges.{AreReferrers, IsEdge};
 
-use crate::of_class::class_edges;
 use crate::collect::Collect;
 use crate::edge::Edge;
 use crate::edge_list::{EdgeList, Watched};
+use crate::of_class::class_edges;
 use crate::of_object::object_edges;
 use crate::sorting::sort_edges;
 use hprof_finding::{id_size, table_facts, to_class_row, to_object_row};

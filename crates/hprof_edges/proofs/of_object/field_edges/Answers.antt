@@ -9,7 +9,7 @@ pub returns-clause-holds : goal.returns-clause-holds
 returns-clause-holds g c = λ facts edges knows held.
     let references = c.deref.result.now in
     let are = subst (AreReferences c.args.ids facts c.args.class c.args.bytes.now) (sym c.deref.ensures.value)
-        (c.in_ok-lay.ensures facts knows) in
+    (c.in_ok-lay.ensures facts knows) in
     record {
       more = reference_edges c.args.instance references;
       holds_more = c.in_ok-put_references.ensures.holds edges held;

@@ -15,7 +15,7 @@ pub loop-fact-init : goal.loop-fact-init
 loop-fact-init g c = record {
   put = λ edges held.
       let table = facts_of_table tables.Classes (facts_of c.args.heap.now) in
-      subst (GoneOver GivesByClass (g.C.Collect.holds c.args.into.now) edges table) 
+      subst (GoneOver GivesByClass (g.C.Collect.holds c.args.into.now) edges table)
       (sym (ap facts_left c.into_iter-fact-iterator.ensures.into_iter_gives ∙ c.table_facts-fact-items.ensures.all))
       (gone_over_none GivesByClass (g.C.Collect.holds c.args.into.now) edges table held);
   keeps = refl;

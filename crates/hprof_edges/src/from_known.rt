@@ -1,0 +1,55 @@
+//! The edges from an identifier, where layouts are known.
+
+ghost use Rattle.std.specs.Prelude.{◌≡◌, List, OnOk};
+ghost use Rattle.hprof_finding.specs.HeapFacts.{facts_of, size_of};
+ghost use Rattle.hprof_laying.specs.Known.{Knows};
+ghost use Rattle.hprof_edges.specs.declared.edge.Edge.{Edge};
+ghost use Rattle.hprof_edges.specs.Collecting.{PutBehind};
+ghost use Rattle.hprof_edges.specs.DumpEdges.{GivenByObject};
+ghost use Rattle.hprof_edges.specs.Edges.{IsEdge};
+
+use crate::collect::Collect;
+use crate::of_identifier::put_of_class;
+use crate::of_object::object_edges;
+use hprof_finding::{find_object, id_size};
+use hprof_heap::Heap;
+use hprof_laying::{KnownLayouts, Reference};
+use std::alloc::AllocError;
+
+/// Puts the edges that the object dump of an identifier gives, if there is one.
+fn put_of_known_object<C: Collect>(
+    heap: &Heap,
+    known: &KnownLayouts,
+    id: u64,
+    references: &mut Vec<Reference>,
+    into: &mut C,
+) -> Result<(), AllocError>
+    ensures holds { OnOk result ((edges : List Edge) → Knows (size_of heap.now) (facts_of heap.now) known.now → C.holds into.old edges
+        → PutBehind (C.holds into.new) edges (λ edge. (edge.from ≡ id) × GivenByObject (size_of heap.now) (facts_of heap.now) edge)) }
+    ensures keeps { OnOk result (C.keeps into.new ≡ C.keeps into.old) }
+{
+    let Some(row) = find_object(heap, id) else {
+        return Ok(());
+    };
+    object_edges(known, &row, id_size(heap), references, into)?;
+    Ok(())
+}
+
+/// Puts all edges from an identifier into what collects them, where the layouts of the heap's classes are known. Its class dump
+/// and its object dump are looked up. The references are room that is used again. Where memory is refused, nothing holds of
+/// what collects them.
+pub fn known_edges<C: Collect>(
+    heap: &Heap,
+    known: &KnownLayouts,
+    id: u64,
+    references: &mut Vec<Reference>,
+    into: &mut C,
+) -> Result<(), AllocError>
+    ensures holds { OnOk result ((edges : List Edge) → Knows (size_of heap.now) (facts_of heap.now) known.now → C.holds into.old edges
+        → PutBehind (C.holds into.new) edges (λ edge. IsEdge (size_of heap.now) (facts_of heap.now) edge × (edge.from ≡ id))) }
+    ensures keeps { OnOk result (C.keeps into.new ≡ C.keeps into.old) }
+{
+    put_of_class(heap, id, into)?;
+    put_of_known_object(heap, known, id, references, into)?;
+    Ok(())
+}
