@@ -1,0 +1,9 @@
+pub mod OneWalk
+pub mod Forth
+pub mod Searched
+pub mod NextLevel
+pub mod Ending
+pub mod Ascending
+pub mod Leasts
+pub mod Partitions
+pub mod Numbers
