@@ -7,3 +7,4 @@ pub mod Ascending
 pub mod Leasts
 pub mod Partitions
 pub mod Numbers
+pub mod WaysBack

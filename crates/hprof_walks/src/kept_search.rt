@@ -22,14 +22,15 @@ ghost use Rattle.std.specs.List.Sorted.{IsNonDecreasing};
 ghost use Rattle.hprof_walks.specs.Kept.{IsWhole};
 
 impl Search {
-    ghost use Rattle.std.specs.Prelude.{◌≡◌, IfOk};
+    ghost use Rattle.std.specs.Prelude.{◌≡◌, ◌<◌, IfOk, IfSome, length, slice_index};
     ghost use Rattle.std.specs.Option.{option_map};
-    ghost use Rattle.hprof_walks.specs.Kept.{level_in};
+    ghost use Rattle.hprof_walks.specs.Kept.{level_in, node_in};
     ghost use Rattle.hprof_walks.specs.Search.{distance_in, path_in, place_of};
 
     /// The place in the order of the search where a node was found.
     fn place(&self, node: u64) -> Option<usize>
-        ensures { result ≡ place_of self.now node }
+        ensures place { result ≡ place_of self.now node }
+        ensures within { IfSome result (λ place. place < length self.now.found.keys) }
     {
         let number = self.nodes.binary_search(&node).ok()?;
         self.found.get_index_of(&number)
@@ -40,6 +41,23 @@ impl Search {
         ensures { result ≡ level_in self.now.levels.items place }
     {
         self.levels.partition_point(|begin| *begin <= place)
+    }
+
+    /// The node that was found at a place.
+    fn node(&self, place: usize) -> u64
+        requires { place < length self.now.found.keys }
+        ensures { result ≡ node_in self.now.nodes.items self.now.found.keys place }
+    {
+        self.nodes[self.found.as_slice()[place]]
+    }
+
+    /// The place that the node at a place was found from.
+    fn step_back(&self, place: usize) -> usize
+        requires { place < length self.now.found.keys }
+        ensures before { result ≡ slice_index self.now.before.items place }
+        ensures within { result < length self.now.found.keys }
+    {
+        self.before[place]
     }
 
     /// The least number of steps that lead to a node from a start; none where no start leads there, as to what is no node.
@@ -61,10 +79,10 @@ impl Search {
         };
         let mut place = found;
         let mut nodes = Vec::new(alloc);
-        nodes.push(self.nodes[self.found.as_slice()[place]])?;
+        nodes.push(self.node(place))?;
         for _ in 0..self.level(found) {
-            place = self.before[place];
-            nodes.push(self.nodes[self.found.as_slice()[place]])?;
+            place = self.step_back(place);
+            nodes.push(self.node(place))?;
         }
         nodes.reverse();
         Ok(Some(nodes))
