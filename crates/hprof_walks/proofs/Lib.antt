@@ -8,3 +8,10 @@ pub mod Leasts
 pub mod Partitions
 pub mod Numbers
 pub mod WaysBack
+pub mod FollowedArrivals
+pub mod LedArrivals
+pub mod FollowSteps
+pub mod Searchings
+pub mod FirstLevel
+pub mod OneMoreLevel
+pub mod Told

@@ -2,7 +2,7 @@
 use Rattle.std.proofs.Common.{◌≡◌, ◌⊎◌, ℕ, zero, suc, ◌+◌, ◌<◌, ◌≤◌, inl, inr, refl, sym, ap, subst, subst₂, ◌∙◌, arith}
 use Rattle.std.proofs.lemmas.Bool.{cases_order}
 use Rattle.hprof_walks.specs.Walks.{Reaches, IsDistance, IsLeastBefore}
-use Rattle.hprof_walks.proofs.Searched.{Order, IsAt, IsFrom, IsSearched, IsNextLevel, near, at_distance, in_level}
+use Rattle.hprof_walks.proofs.Searched.{Places, IsAt, IsFrom, IsSearched, IsNextLevel, near, at_distance, in_level}
 
 -- a place lies below another, or not
 pub splits : (place middle : ℕ) → (place < middle) ⊎ (middle ≤ place)
@@ -11,7 +11,7 @@ splits place middle = elim (cases_order place middle) [
   | inr apart ↦ elim apart [ inl lt ↦ inl lt | inr gt ↦ inr (omega arith) ]
 ]
 
-module _ (Starts : ℕ → Type 0) (Steps : ℕ → ℕ → Type 0) (old new : Order) (begin middle length level : ℕ)
+module _ (Starts : ℕ → Type 0) (Steps : ℕ → ℕ → Type 0) (old new : Places) (begin middle length level : ℕ)
     (searched : IsSearched Starts Steps old begin middle level) (next : IsNextLevel Starts Steps old new begin middle length level) where
   reached_more : (place : ℕ) → place < length → Reaches Starts Steps (new.level place) (new.node place)
   reached_more place below = elim (splits place middle) [

@@ -5,43 +5,43 @@ use Rattle.std.proofs.lemmas.Bool.{cases_order}
 use Rattle.hprof_walks.specs.Walks.{Reaches, IsDistance, IsLeastBefore, IsWayBack}
 
 -- what stands at a place
-pub record Order : Type 0 where
+pub record Places : Type 0 where
   pub node : ℕ → ℕ
   pub level : ℕ → ℕ
   pub before : ℕ → ℕ
 
 -- the way back from a place
-unfoldable pub ways_back : Order → ℕ → ℕ → List ℕ
-ways_back order zero place = order.node place ∷ []
-ways_back order (suc count) place = order.node place ∷ ways_back order count (order.before place)
+unfoldable pub ways_back : Places → ℕ → ℕ → List ℕ
+ways_back places zero place = places.node place ∷ []
+ways_back places (suc count) place = places.node place ∷ ways_back places count (places.before place)
 
 -- a place below the length where the node stands
-pub record IsAt (order : Order) (length node : ℕ) : Type 0 where
+pub record IsAt (places : Places) (length node : ℕ) : Type 0 where
   pub place : ℕ
   pub below : place < length
-  pub is : order.node place ≡ node
+  pub is : places.node place ≡ node
 
 module _ (Starts : ℕ → Type 0) (Steps : ℕ → ℕ → Type 0) where
   -- a place from which the node at another was found: the least of the level before with a step there
-  pub record IsFrom (order : Order) (length before place : ℕ) : Type 0 where
+  pub record IsFrom (places : Places) (length before place : ℕ) : Type 0 where
     pub below : before < length
-    pub level : order.level place ≡ suc (order.level before)
-    pub least : IsLeastBefore Starts Steps (order.level before) (order.node before) (order.node place)
+    pub level : places.level place ≡ suc (places.level before)
+    pub least : IsLeastBefore Starts Steps (places.level before) (places.node before) (places.node place)
 
   -- the places below a length have all nodes up to a level, once each; those from `begin` on are at that level
-  pub record IsSearched (order : Order) (begin length level : ℕ) : Type 0 where
+  pub record IsSearched (places : Places) (begin length level : ℕ) : Type 0 where
     pub within : begin ≤ length
-    pub reached : (place : ℕ) → place < length → Reaches Starts Steps (order.level place) (order.node place)
-    pub once : (place other : ℕ) → place < length → other < length → order.node place ≡ order.node other → place ≡ other
+    pub reached : (place : ℕ) → place < length → Reaches Starts Steps (places.level place) (places.node place)
+    pub once : (place other : ℕ) → place < length → other < length → places.node place ≡ places.node other → place ≡ other
     pub complete : (node count : ℕ) → count ≤ level → Reaches Starts Steps count node
-        → (place : ℕ) × (place < length) × (order.node place ≡ node) × (order.level place ≤ count)
-    pub earlier : (place : ℕ) → place < begin → order.level place < level
-    pub last : (place : ℕ) → begin ≤ place → place < length → order.level place ≡ level
-    pub ascend : (place other : ℕ) → begin ≤ place → place ≤ other → other < length → order.node place ≤ order.node other
-    pub from : (place : ℕ) → place < length → (order.level place ≡ 0) ⊎ IsFrom order length (order.before place) place
+        → (place : ℕ) × (place < length) × (places.node place ≡ node) × (places.level place ≤ count)
+    pub earlier : (place : ℕ) → place < begin → places.level place < level
+    pub last : (place : ℕ) → begin ≤ place → place < length → places.level place ≡ level
+    pub ascend : (place other : ℕ) → begin ≤ place → place ≤ other → other < length → places.node place ≤ places.node other
+    pub from : (place : ℕ) → place < length → (places.level place ≡ 0) ⊎ IsFrom places length (places.before place) place
 
   -- one level more: what was there stays, and what came was not there, next to nodes of the last level
-  pub record IsNextLevel (old new : Order) (begin middle length depth : ℕ) : Type 0 where
+  pub record IsNextLevel (old new : Places) (begin middle length depth : ℕ) : Type 0 where
     pub longer : middle ≤ length
     pub node : (place : ℕ) → place < middle → new.node place ≡ old.node place
     pub level : (place : ℕ) → place < middle → new.level place ≡ old.level place
@@ -54,9 +54,9 @@ module _ (Starts : ℕ → Type 0) (Steps : ℕ → ℕ → Type 0) where
         × ((other : ℕ) → begin ≤ other → other < middle → Steps (old.node other) (new.node place) → new.before place ≤ other)
     pub all : (place node : ℕ) → begin ≤ place → place < middle → Steps (old.node place) node → IsAt new length node
 
-  module _ (order : Order) (begin length level : ℕ) (searched : IsSearched order begin length level) where
+  module _ (places : Places) (begin length level : ℕ) (searched : IsSearched places begin length level) where
     -- no place is beyond the last level
-    pub near : (place : ℕ) → place < length → order.level place ≤ level
+    pub near : (place : ℕ) → place < length → places.level place ≤ level
     near place below = elim (cases_order place begin) [
       | inl here ↦ let last = searched.last place (omega arith) below in omega arith
       | inr apart ↦ elim apart [
@@ -66,17 +66,17 @@ module _ (Starts : ℕ → Type 0) (Steps : ℕ → ℕ → Type 0) where
     ]
 
     -- each node stands at its distance
-    pub at_distance : (place : ℕ) → place < length → IsDistance Starts Steps (order.node place) (order.level place)
+    pub at_distance : (place : ℕ) → place < length → IsDistance Starts Steps (places.node place) (places.level place)
     at_distance place below = record {
       reaches = searched.reached place below;
-      least = λ other reaches. elim (cases_order (order.level place) other) [
+      least = λ other reaches. elim (cases_order (places.level place) other) [
         | inl same ↦ omega arith
         | inr apart ↦ elim apart [
           | inl lt ↦ omega arith
           | inr gt ↦
               let close = near place below in
-              let there = searched.complete (order.node place) other (omega arith) reaches in
-              let same = ap order.level (searched.once there.0 place there.1 below there.2) in
+              let there = searched.complete (places.node place) other (omega arith) reaches in
+              let same = ap places.level (searched.once there.0 place there.1 below there.2) in
               let less = there.3 in
               absurd (omega arith)
         ]
@@ -85,11 +85,11 @@ module _ (Starts : ℕ → Type 0) (Steps : ℕ → ℕ → Type 0) where
 
     -- a node at the distance of the last level stands in it
     pub in_level : (node : ℕ) → IsDistance Starts Steps node level
-        → (place : ℕ) × (begin ≤ place) × (place < length) × (order.node place ≡ node)
+        → (place : ℕ) × (begin ≤ place) × (place < length) × (places.node place ≡ node)
     in_level node is =
         let there = searched.complete node level (omega arith) is.reaches in
-        let reached = subst (Reaches Starts Steps (order.level there.0)) there.2 (searched.reached there.0 there.1) in
-        let least = is.least (order.level there.0) reached in
+        let reached = subst (Reaches Starts Steps (places.level there.0)) there.2 (searched.reached there.0 there.1) in
+        let least = is.least (places.level there.0) reached in
         elim (cases_order there.0 begin) [
           | inl here ↦ (there.0, omega arith, there.1, there.2)
           | inr apart ↦ elim apart [
