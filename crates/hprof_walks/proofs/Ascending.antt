@@ -1,6 +1,6 @@
 -- Numbers that ascend.
-use Rattle.std.proofs.Common.{◌≡◌, ◌⊎◌, ℕ, ◌+◌, ◌<◌, ◌≤◌, List, length, slice_index, Contains, inl, inr, ap, sym, ◌∙◌, arith}
-use Rattle.std.specs.List.Sorted.{IsStrictlyIncreasing, IsNonDecreasing}
+use Rattle.std.proofs.Common.{◌≡◌, ℕ, ◌<◌, ◌≤◌, List, length, slice_index, Contains, inl, inr, ap, sym, ◌∙◌, arith}
+use Rattle.std.specs.List.Sorted.{IsStrictlyIncreasing}
 use Rattle.std.proofs.lemmas.Bool.{cases_order}
 use Rattle.std.proofs.lemmas.Grind.{get_or_default_zero}
 use Rattle.std.proofs.lemmas.List.Kept.{AllPairs-from_increasing}

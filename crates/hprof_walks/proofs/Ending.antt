@@ -1,7 +1,7 @@
 -- Where a level is empty, everything was found.
-use Rattle.std.proofs.Common.{◌≡◌, ◌⊎◌, ℕ, zero, suc, ◌+◌, ◌<◌, ◌≤◌, List, [], ◌∷◌, inl, inr, refl, sym, subst, arith}
+use Rattle.std.proofs.Common.{◌≡◌, ℕ, zero, suc, ◌<◌, inl, inr, refl, sym, subst, arith}
 use Rattle.hprof_walks.specs.Walks.{Reaches, IsDistance, IsLeastBefore, IsWayBack}
-use Rattle.hprof_walks.proofs.Searched.{Places, IsAt, IsFrom, IsSearched, at_distance, ways_back}
+use Rattle.hprof_walks.proofs.Searched.{Places, IsAt, IsSearched, at_distance, ways_back}
 
 module _ (Starts : ℕ → Type 0) (Steps : ℕ → ℕ → Type 0) (places : Places) (length level : ℕ)
     (searched : IsSearched Starts Steps places length length level) where
@@ -28,9 +28,14 @@ module _ (Starts : ℕ → Type 0) (Steps : ℕ → ℕ → Type 0) (places : Pl
         let before = places.before place in
         let up = is.level in
         let same : places.level before ≡ count = omega arith in
-        let distance = at_distance Starts Steps places length length level searched place below in
-        (subst (IsDistance Starts Steps (places.node place)) e distance,
-            (places.node before, ways_back places count before, refl,
+        let distance = at_distance Starts Steps places length length level searched place below in (
+          subst (IsDistance Starts Steps (places.node place)) e distance,
+          (
+            places.node before,
+            ways_back places count before,
+            refl,
             subst (λ (n : ℕ). IsLeastBefore Starts Steps n (places.node before) (places.node place)) same is.least,
-            goes_back count before is.below same))
+            goes_back count before is.below same,
+          ),
+        )
   ]

@@ -1,31 +1,21 @@
 -- The first level: the starts that are nodes.
-use Rattle.std.proofs.Common.{◌≡◌, ◌⊎◌, ℕ, zero, suc, ◌+◌, ◌<◌, ◌≤◌, List, [], ◌∷◌, ◌++◌, length, map, slice_index, Contains, inl, inr, refl, sym, ap, subst, ◌∙◌, arith}
+use Rattle.std.proofs.Common.{◌≡◌, ℕ, zero, suc, ◌<◌, ◌≤◌, List, [], length, map, slice_index, Contains, inl, refl, sym, subst, ◌∙◌, arith}
 use Rattle.std.specs.List.Sorted.{IsStrictlyIncreasing}
 use Rattle.hprof_walks.specs.declared.arrival.Arrival.{Arrival}
 use Rattle.hprof_walks.specs.Arrivals.{AreLeast}
 use Rattle.hprof_walks.specs.Kept.{node_in, level_in}
-use Rattle.hprof_walks.specs.Trail.{Order, IsTrail, Follows}
+use Rattle.hprof_walks.specs.Trail.{Order, Follows}
 use Rattle.hprof_walks.specs.Walks.{Reaches}
 use Rattle.hprof_walks.proofs.LedArrivals.{arrive, has_arrive, arrives}
-use Rattle.hprof_walks.proofs.Searched.{Places, IsSearched}
-use Rattle.hprof_walks.proofs.Searchings.{places_of, StartsIn, StepsIn, LeadsBack, IsSearching, node_once, node_is}
-
-pub trail_none : (nodes : List ℕ) (order : Order) → order.found ≡ [] → order.before ≡ [] → IsTrail nodes order
-trail_none nodes order none empty =
-    let long = ap (length {A = ℕ}) none in
-    let short = ap (length {A = ℕ}) empty in
-    record {
-      numbers = λ place below. absurd (omega arith);
-      paired = omega arith;
-      once = λ place other below within same. absurd (omega arith);
-    }
+use Rattle.hprof_walks.proofs.Searchings.{StartsIn, StepsIn, IsSearching, node_once, node_is}
 
 module _ (Leads : ℕ → ℕ → Type 0) (nodes starts : List ℕ) (ascend : IsStrictlyIncreasing nodes) (old new : Order) (all least : List Arrival)
     (none : length old.found ≡ 0) (are : all ≡ map (arrive 0) starts) (leasts : AreLeast all least) (follows : Follows nodes old new least) where
   came : (place : ℕ) → place < length new.found → (slice_index new.before place ≡ 0) × Contains starts (node_in nodes new.found place)
   came place below =
       let there = follows.came place (omega arith) below in
-      arrives 0 starts _ (subst (λ (arrivals : List Arrival). Contains arrivals _) are (leasts.among _ there))
+      let arrival : Arrival = record { to = node_in nodes new.found place; from = slice_index new.before place } in
+      arrives 0 starts arrival (subst (λ (arrivals : List Arrival). Contains arrivals arrival) are (leasts.among arrival there))
 
   found : (node count : ℕ) → count ≤ 0 → Reaches (StartsIn nodes starts) (StepsIn Leads nodes) count node
       → (place : ℕ) × (place < length new.found) × (node_in nodes new.found place ≡ node) × (level_in [] place ≤ count)

@@ -1,5 +1,5 @@
 -- One arrival more is followed.
-use Rattle.std.proofs.Common.{◌≡◌, ◌⊎◌, ℕ, suc, ◌+◌, ◌<◌, ◌≤◌, ◌==◌, Bool, true, false, List, [], ◌∷◌, ◌++◌, length, map, take, get_or, slice_index, Contains, nat_eq, if◌then◌else◌, inl, inr, refl, sym, ap, subst, ◌∙◌, arith, length-take, get_or-take, eqb-true}
+use Rattle.std.proofs.Common.{◌≡◌, ℕ, ◌+◌, ◌<◌, ◌≤◌, Bool, true, false, List, [], ◌∷◌, ◌++◌, length, map, take, get_or, slice_index, Contains, nat_eq, if◌then◌else◌, inl, inr, refl, sym, ap, subst, ◌∙◌, arith, length-take, get_or-take, eqb-true}
 use Rattle.std.specs.List.{list_any}
 use Rattle.std.specs.List.Sorted.{IsStrictlyIncreasing}
 use Rattle.std.proofs.lemmas.Cmp.{nat_eq_equiv}
@@ -7,8 +7,7 @@ use Rattle.std.proofs.lemmas.List.{get_or-map, length-map, take_more}
 use Rattle.std.proofs.lemmas.Map.Views.{list_any-from_Contains, Contains-from_any}
 use Rattle.indexmap.specs.IndexSet.{insert_key}
 use Rattle.hprof_walks.specs.declared.arrival.Arrival.{Arrival}
-use Rattle.hprof_walks.specs.Kept.{node_in}
-use Rattle.hprof_walks.specs.Trail.{Order, IsTrail, Follows}
+use Rattle.hprof_walks.specs.Trail.{Order, Follows}
 use Rattle.hprof_walks.proofs.Ascending.{less_far, number_of}
 use Rattle.hprof_walks.proofs.FollowedArrivals.{follows_still, follows_on}
 use Rattle.hprof_walks.proofs.NextLevel.{splits}
@@ -62,7 +61,7 @@ module _ (nodes : List ℕ) (old now : Order) (arrivals : List Arrival) (index b
       let early : has.0 < index = omega arith in
       let is : get_or arrivals has.0 other ≡ other = sym (get_or-take index arrivals has.0 other early) ∙ has.2 in
       let one : slice_index ends has.0 ≡ other.to =
-          get_or-map (λ (arrival : Arrival). arrival.to) arrivals has.0 other 0 (omega arith) ∙ ap (λ (a : Arrival). a.to) is in
+      get_or-map (λ (arrival : Arrival). arrival.to) arrivals has.0 other 0 (omega arith) ∙ ap (λ (a : Arrival). a.to) is in
       let same = end_at index left in
       let all = ends_long in
       let further = less_far ends rise has.0 index early (omega arith) in
@@ -80,22 +79,22 @@ module _ (nodes : List ℕ) (old now : Order) (arrivals : List Arrival) (index b
     within = within;
     passed = passed_more;
   } where
-      nowhere : (place : ℕ) × (place < length nodes) × (slice_index nodes place ≡ (arrival_at arrivals index).to) → ⊥
-      nowhere at =
-          let is = at.2 in
-          let there = at.1 in
-          elim (splits at.0 number) [
-            | inl early ↦ let low = all_less at.0 early in omega arith
-            | inr late ↦ elim (splits number at.0) [
-              | inl beyond ↦
-                  let high = less_far nodes ascend number at.0 beyond at.1 in
-                  let least = not_less number (omega arith) (omega arith) in
-                  omega arith
-              | inr equal ↦
-                  let here : at.0 ≡ number = omega arith in
-                  other (omega arith) (ap (slice_index nodes) (sym here) ∙ is)
-            ]
+    nowhere : (place : ℕ) × (place < length nodes) × (slice_index nodes place ≡ (arrival_at arrivals index).to) → ⊥
+    nowhere at =
+        let is = at.2 in
+        let there = at.1 in
+        elim (splits at.0 number) [
+          | inl early ↦ let low = all_less at.0 early in omega arith
+          | inr late ↦ elim (splits number at.0) [
+            | inl beyond ↦
+                let high = less_far nodes ascend number at.0 beyond at.1 in
+                let least = not_less number (omega arith) (omega arith) in
+                omega arith
+            | inr equal ↦
+                let here : at.0 ≡ number = omega arith in
+                other (omega arith) (ap (slice_index nodes) (sym here) ∙ is)
           ]
+        ]
 
   module _ (new : Order) (inside : number < length nodes) (is : slice_index nodes number ≡ (arrival_at arrivals index).to) where
     -- at a node that was found
@@ -106,7 +105,7 @@ module _ (nodes : List ℕ) (old now : Order) (arrivals : List Arrival) (index b
         let at = number_of now.found number has in
         let order : now ≡ new = λ i. record { found = sym same i; before = sym same_before i } in
         let follows = follows_still nodes old now (take index arrivals) (arrival_at arrivals index) followed.follows
-            (λ there. (at.0, at.1, ap (slice_index nodes) at.2 ∙ is)) in
+        (λ there. (at.0, at.1, ap (slice_index nodes) at.2 ∙ is)) in
         subst (λ (o : Order). Follows nodes old o (take (index + 1) arrivals)) order (subst (Follows nodes old now) (sym one_more) follows)
 
     found_now : list_any (nat_eq number) now.found ≡ false → new.found ≡ now.found ++ number ∷ []
@@ -114,7 +113,7 @@ module _ (nodes : List ℕ) (old now : Order) (arrivals : List Arrival) (index b
     found_now absent found before_it =
         let fresh = λ (has : Contains now.found number). let there = list_any-from_Contains nat_eq_equiv number now.found has in absurd (cc) in
         subst (Follows nodes old new) (sym one_more) (follows_on nodes old now (take index arrivals) (arrival_at arrivals index)
-            followed.follows new number inside is fresh above found before_it)
+        followed.follows new number inside is fresh above found before_it)
 
     pub visited : new.found ≡ insert_key nat_eq now.found number
         → new.before ≡ (if list_any (nat_eq number) now.found then now.before else now.before ++ (arrival_at arrivals index).from ∷ [])
@@ -124,8 +123,8 @@ module _ (nodes : List ℕ) (old now : Order) (arrivals : List Arrival) (index b
       within = within;
       passed = passed_more;
     } where
-        by : (b : Bool) → list_any (nat_eq number) now.found ≡ b → new.found ≡ (if b then now.found else now.found ++ number ∷ [])
-            → new.before ≡ (if b then now.before else now.before ++ (arrival_at arrivals index).from ∷ [])
-            → Follows nodes old new (take (index + 1) arrivals)
-        by true e found before_it = still_there e found before_it
-        by false e found before_it = found_now e found before_it
+      by : (b : Bool) → list_any (nat_eq number) now.found ≡ b → new.found ≡ (if b then now.found else now.found ++ number ∷ [])
+          → new.before ≡ (if b then now.before else now.before ++ (arrival_at arrivals index).from ∷ [])
+          → Follows nodes old new (take (index + 1) arrivals)
+      by true e found before_it = still_there e found before_it
+      by false e found before_it = found_now e found before_it

@@ -1,10 +1,10 @@
 -- A path, from its start on.
-use Rattle.std.proofs.Common.{◌≡◌, ◌⊎◌, ℕ, zero, suc, ◌+◌, ◌-◌, ◌<◌, ◌≤◌, List, [], ◌∷◌, ◌++◌, length, reverse, slice_index, inl, inr, refl, sym, ap, subst, subst₂, ◌∙◌, arith, length-append, Some}
+use Rattle.std.proofs.Common.{◌≡◌, ℕ, zero, suc, ◌+◌, ◌-◌, ◌<◌, ◌≤◌, List, [], ◌∷◌, ◌++◌, length, reverse, slice_index, inl, inr, refl, sym, ap, subst, subst₂, ◌∙◌, arith, length-append, Some}
 use Rattle.std.proofs.lemmas.Bool.{cases_order}
 use Rattle.std.proofs.lemmas.List.{reverse-reverse, reverse-append}
 use Rattle.std.proofs.Math.ListN.{get_or-append}
 use Rattle.std.proofs.Math.Seq.{get_or-append_seam}
-use Rattle.hprof_walks.specs.Walks.{Reaches, IsDistance, HasDistance, IsLeastBefore, IsWayBack, IsPath, IsWalk}
+use Rattle.hprof_walks.specs.Walks.{Reaches, HasDistance, IsLeastBefore, IsWayBack, IsPath, IsWalk}
 use Rattle.hprof_walks.proofs.OneWalk.{way_distance, same_distance}
 
 at_seam : (nodes : List ℕ) (node count : ℕ) → length nodes ≡ count → slice_index (nodes ++ node ∷ []) count ≡ node
@@ -86,9 +86,11 @@ module _ (Starts : ℕ → Type 0) (Steps : ℕ → ℕ → Type 0) where
   walk_reaches nodes node zero walk below = walk.starts
   walk_reaches nodes node (suc place) walk below =
       let next : place + 1 ≡ suc place = omega arith in
-      let step = walk.steps place (omega arith) in
-      (slice_index nodes place, walk_reaches nodes node place walk (omega arith),
-          subst (λ (k : ℕ). Steps (slice_index nodes place) (slice_index nodes k)) next step)
+      let step = walk.steps place (omega arith) in (
+        slice_index nodes place,
+        walk_reaches nodes node place walk (omega arith),
+        subst (λ (k : ℕ). Steps (slice_index nodes place) (slice_index nodes k)) next step,
+      )
 
   pub path_shortest : (node : ℕ) (nodes other : List ℕ) → IsPath Starts Steps node (Some nodes) → IsWalk Starts Steps other node
       → length nodes ≤ length other

@@ -1,12 +1,12 @@
 -- Sorted arrivals, of which those at one node after the first are left out.
-use Rattle.std.proofs.Common.{◌≡◌, ◌⊎◌, ℕ, zero, suc, ◌+◌, ◌<◌, ◌≤◌, ◌==◌, Bool, true, false, cond, List, [], ◌∷◌, ◌++◌, length, map, All, AllPairs, Contains, slice_index_or, get_or, inl, inr, refl, sym, ap, subst, subst₂, ◌∙◌, arith, IsSorted, nat_cmp, is_lt, Less, Equal}
+use Rattle.std.proofs.Common.{◌≡◌, ◌⊎◌, zero, suc, ◌+◌, ◌<◌, ◌≤◌, ◌==◌, Bool, true, false, cond, List, [], ◌∷◌, map, All, AllPairs, Contains, get_or, inl, inr, refl, sym, ap, subst, ◌∙◌, arith, IsSorted, nat_cmp, is_lt, Less, Equal}
 use Rattle.std.specs.Cmp.{nat_cmp_is}
 use Rattle.std.specs.List.{dedup, dedup_from}
 use Rattle.std.specs.List.Sorted.{IsStrictlyIncreasing}
 use Rattle.std.specs.Ordering.{ordering_then}
 use Rattle.std.proofs.lemmas.Bool.{cases_order, eqb-true, eq-eqb}
 use Rattle.std.proofs.lemmas.List.{get_or-map, length-map}
-use Rattle.std.proofs.lemmas.List.Elements.{Contains-append_cases, Contains-append_left, Contains-append_right, Contains-get_or, All-contains}
+use Rattle.std.proofs.lemmas.List.Elements.{Contains-append_right, Contains-get_or, All-contains}
 use Rattle.std.proofs.lemmas.List.Filters.{All-dedup}
 use Rattle.std.proofs.lemmas.List.Kept.{AllPairs-cons}
 use Rattle.std.proofs.lemmas.List.MinMax.{ranks_by}
@@ -94,15 +94,15 @@ rises_from kept (next ∷ arrivals) all pairs =
             | inr same ↦ let equal = eq-eqb next.to kept.to (sym same.0) in absurd (cc)
           ] in
           let over : All (Under kept) (next ∷ arrivals) = λ place d below.
-              elim (cons_cases next arrivals (get_or (next ∷ arrivals) place d) (Contains-get_or (next ∷ arrivals) place d below)) [
-                | inl same ↦ subst (Under kept) same under
-                | inr there ↦ elim (All-contains (Before next) arrivals _ (pairs_head Before next arrivals pairs) there) [
-                  | inl less ↦ omega arith
-                  | inr same ↦ let e = same.0 in omega arith
-                ]
-              ] in
+          elim (cons_cases next arrivals (get_or (next ∷ arrivals) place d) (Contains-get_or (next ∷ arrivals) place d below)) [
+            | inl same ↦ subst (Under kept) same under
+            | inr there ↦ elim (All-contains (Before next) arrivals _ (pairs_head Before next arrivals pairs) there) [
+              | inl less ↦ omega arith
+              | inr same ↦ let e = same.0 in omega arith
+            ]
+          ] in
           AllPairs-cons Under kept (dedup_from same_end next arrivals) (All-dedup same_end (Under kept) (next ∷ arrivals) over)
-              (rises_from next arrivals (pairs_head Before next arrivals pairs) rest)
+          (rises_from next arrivals (pairs_head Before next arrivals pairs) rest)
     ] refl
 
 pub rises : (arrivals : List Arrival) → AllPairs Before arrivals → AllPairs Under (dedup same_end arrivals)
@@ -148,9 +148,12 @@ first_from kept (next ∷ arrivals) all pairs arrival has =
             ]
           ]
       | false ↦ λ e. elim (cons_cases kept (next ∷ arrivals) arrival has) [
-        | inl same ↦
-            (kept, has_head kept (dedup_from same_end next arrivals), ap (λ (a : Arrival). a.to) same,
-                let from = ap (λ (a : Arrival). a.from) same in omega arith)
+        | inl same ↦ (
+          kept,
+          has_head kept (dedup_from same_end next arrivals),
+          ap (λ (a : Arrival). a.to) same,
+          let from = ap (λ (a : Arrival). a.from) same in omega arith,
+        )
         | inr later ↦
             let first = first_from next arrivals (pairs_head Before next arrivals pairs) rest arrival later in
             (first.0, has_cons kept (dedup_from same_end next arrivals) first.0 first.1, first.2, first.3)

@@ -1,6 +1,5 @@
 -- Arrivals from one place more.
-use Rattle.std.proofs.Common.{◌≡◌, ◌↔◌, ◌⊎◌, ℕ, suc, ◌+◌, ◌<◌, ◌≤◌, List, [], ◌∷◌, ◌++◌, length, map, slice_index_or, get_or, Contains, inl, inr, refl, sym, ap, subst, ◌∙◌, arith}
-use Rattle.std.proofs.lemmas.Bool.{cases_order}
+use Rattle.std.proofs.Common.{◌≡◌, ◌↔◌, ℕ, ◌+◌, ◌<◌, ◌≤◌, List, [], ◌++◌, length, map, get_or, Contains, inl, inr, sym, ap, subst, ◌∙◌, arith}
 use Rattle.std.proofs.lemmas.List.{get_or-map, length-map}
 use Rattle.std.proofs.lemmas.List.Elements.{Contains-append_left, Contains-append_right, Contains-append_cases, Contains-get_or}
 use Rattle.hprof_walks.specs.declared.arrival.Arrival.{Arrival}
@@ -58,3 +57,13 @@ module _ (Leads : ℕ → ℕ → Type 0) (nodes found : List ℕ) (begin : ℕ)
           subst P here (Contains-append_right arrivals (map (arrive place) targets) _ (has_arrive place targets to has))
     ];
   }
+
+-- the same of graphs in which the same leads on
+pub leads_same : (Leads Other : ℕ → ℕ → Type 0) → ((from to : ℕ) → Leads from to ↔ Other from to) → (nodes found : List ℕ) (begin end : ℕ)
+    (arrivals : List Arrival) → AreArrivals Leads nodes found begin end arrivals → AreArrivals Other nodes found begin end arrivals
+leads_same Leads Other same nodes found begin end arrivals are = record {
+  from_there = λ arrival has.
+      let there = are.from_there arrival has in
+      (there.0, there.1, (same (node_in nodes found arrival.from) arrival.to).0 there.2);
+  all = λ place to on below leads. are.all place to on below ((same (node_in nodes found place) to).1 leads);
+}

@@ -15,3 +15,4 @@ pub mod Searchings
 pub mod FirstLevel
 pub mod OneMoreLevel
 pub mod Told
+pub mod Few

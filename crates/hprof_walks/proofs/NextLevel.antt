@@ -1,8 +1,8 @@
 -- With one level more everything is found that is that far off.
-use Rattle.std.proofs.Common.{◌≡◌, ◌⊎◌, ℕ, zero, suc, ◌+◌, ◌<◌, ◌≤◌, inl, inr, refl, sym, ap, subst, subst₂, ◌∙◌, arith}
+use Rattle.std.proofs.Common.{◌≡◌, ◌⊎◌, ℕ, zero, suc, ◌<◌, ◌≤◌, inl, inr, sym, ap, subst, subst₂, ◌∙◌, arith}
 use Rattle.std.proofs.lemmas.Bool.{cases_order}
 use Rattle.hprof_walks.specs.Walks.{Reaches, IsDistance, IsLeastBefore}
-use Rattle.hprof_walks.proofs.Searched.{Places, IsAt, IsFrom, IsSearched, IsNextLevel, near, at_distance, in_level}
+use Rattle.hprof_walks.proofs.Searched.{Places, IsFrom, IsSearched, IsNextLevel, near, at_distance, in_level}
 
 -- a place lies below another, or not
 pub splits : (place middle : ℕ) → (place < middle) ⊎ (middle ≤ place)
@@ -21,7 +21,7 @@ module _ (Starts : ℕ → Type 0) (Steps : ℕ → ℕ → Type 0) (old new : P
         let from = next.from place beyond below in
         let before = new.before place in
         let reached = subst (λ (count : ℕ). Reaches Starts Steps count (old.node before)) (searched.last before from.0 from.1)
-            (searched.reached before from.1) in
+        (searched.reached before from.1) in
         let there : Reaches Starts Steps (suc level) (new.node place) = (old.node before, reached, from.2) in
         subst (λ (count : ℕ). Reaches Starts Steps count (new.node place)) (sym (next.farther place beyond below)) there
   ]

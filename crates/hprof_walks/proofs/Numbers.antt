@@ -1,5 +1,5 @@
 -- The place in the order of the search where a node stands, from its number.
-use Rattle.std.proofs.Common.{◌≡◌, ◌⊎◌, ℕ, zero, suc, ◌+◌, ◌<◌, ◌≤◌, ◌==◌, Bool, true, false, not, cond, List, [], ◌∷◌, length, slice_index, nat_lt, nat_eq, position, Option, Some, None, Result, Ok, Err, MatchResult, inl, inr, refl, sym, ap, subst, ◌∙◌, arith, nat_cmp, eqb-true, eq-eqb, ne_eqb}
+use Rattle.std.proofs.Common.{◌≡◌, ℕ, suc, ◌+◌, ◌<◌, ◌≤◌, ◌==◌, Bool, true, false, not, cond, List, [], ◌∷◌, length, slice_index, nat_lt, nat_eq, position, Some, None, Result, Ok, Err, inl, inr, refl, sym, ap, ◌∙◌, arith, nat_cmp, eqb-true, eq-eqb, ne_eqb}
 use Rattle.std.specs.List.{prefix_len}
 use Rattle.std.specs.List.Sorted.{IsStrictlyIncreasing, IsBinarySearchResult}
 use Rattle.std.specs.Result.{result_ok}
@@ -42,11 +42,11 @@ module _ (nodes found : List ℕ) (node : ℕ) (ascend : IsStrictlyIncreasing no
   no_place (Err number) search e =
       let told = searched nodes node (Err number) search up in
       no_position (λ number. slice_index nodes number == node) found (λ place below. ne_eqb _ _ (λ same.
-          let within = numbers place below in
-          elim (splits (slice_index found place) number) [
-            | inl before ↦ let less = told.1 (slice_index found place) before in omega arith
-            | inr after ↦ let more = told.2 (slice_index found place) after within in omega arith
-          ]))
+      let within = numbers place below in
+      elim (splits (slice_index found place) number) [
+        | inl before ↦ let less = told.1 (slice_index found place) before in omega arith
+        | inr after ↦ let more = told.2 (slice_index found place) after within in omega arith
+      ]))
 
   -- the node stands where its number does
   pub same_place : (r : Result ℕ ℕ) (number : ℕ) → IsBinarySearchResult (λ y. nat_cmp y node) nodes r → Some number ≡ result_ok r
@@ -58,7 +58,7 @@ module _ (nodes found : List ℕ) (node : ℕ) (ascend : IsStrictlyIncreasing no
       let is : slice_index nodes number ≡ node = ap (slice_index nodes) same ∙ told.1 in
       let below = told.0 in
       same_position (nat_eq number) (λ number. slice_index nodes number == node) found (λ place within.
-          by place within (number == slice_index found place) refl is (omega arith))
+      by place within (number == slice_index found place) refl is (omega arith))
     where
       by : (place : ℕ) (within : place < length found) (b : Bool) → number == slice_index found place ≡ b → slice_index nodes number ≡ node
           → number < length nodes → b ≡ (slice_index nodes (slice_index found place) == node)

@@ -1,16 +1,16 @@
 -- One level more is gone over.
-use Rattle.std.proofs.Common.{◌≡◌, ◌⊎◌, ℕ, suc, ◌+◌, ◌<◌, ◌≤◌, List, [], ◌∷◌, ◌++◌, length, map, slice_index, get_or, Contains, inl, inr, refl, sym, ap, subst, ◌∙◌, arith}
+use Rattle.std.proofs.Common.{◌≡◌, ℕ, suc, ◌<◌, ◌≤◌, List, [], ◌∷◌, ◌++◌, length, map, slice_index, get_or, Contains, inl, inr, refl, sym, ap, subst, ◌∙◌, arith}
 use Rattle.std.specs.List.Sorted.{IsStrictlyIncreasing}
 use Rattle.std.proofs.lemmas.List.{get_or-map, get_or_default, length-map}
 use Rattle.hprof_walks.specs.declared.arrival.Arrival.{Arrival}
 use Rattle.hprof_walks.specs.Arrivals.{AreArrivals, AreLeast}
 use Rattle.hprof_walks.specs.Kept.{node_in, level_in}
-use Rattle.hprof_walks.specs.Trail.{Order, IsTrail, Follows}
+use Rattle.hprof_walks.specs.Trail.{Order, Follows}
 use Rattle.hprof_walks.proofs.Ascending.{one_place}
 use Rattle.hprof_walks.proofs.FollowedArrivals.{push_long}
 use Rattle.hprof_walks.proofs.NextLevel.{splits, searched_more}
 use Rattle.hprof_walks.proofs.Partitions.{level_stays, level_last}
-use Rattle.hprof_walks.proofs.Searched.{Places, IsAt, IsSearched, IsNextLevel}
+use Rattle.hprof_walks.proofs.Searched.{IsAt, IsSearched, IsNextLevel}
 use Rattle.hprof_walks.proofs.Searchings.{places_of, StartsIn, StepsIn, LeadsBack, IsSearching, node_once, node_is, begins_more, ascend_more}
 
 -- arrivals that ascend by their ends are one where they end at one node
@@ -67,8 +67,8 @@ module _ (Leads : ℕ → ℕ → Type 0) (nodes starts : List ℕ) (ascend : Is
   far place on =
       let long = push_long levels more middle refl in
       level_last more place (λ k below.
-          let low = begins_more levels more begin middle refl searching.searched.within searching.begins k below in
-          omega arith) ∙ long
+      let low = begins_more levels more begin middle refl searching.searched.within searching.begins k below in
+      omega arith) ∙ long
 
   next : IsNextLevel (StartsIn nodes starts) (StepsIn Leads nodes) (places_of nodes old levels) (places_of nodes new more) begin middle
       (length new.found) (length levels)
@@ -81,9 +81,12 @@ module _ (Leads : ℕ → ℕ → Type 0) (nodes starts : List ℕ) (ascend : Is
     once = node_once nodes new ascend follows.trail;
     ascend = follows.ascend;
     from = λ place on below.
-        let there = from_there place on below in
-        (there.0, there.1, (there.2, node_is nodes new follows.trail place below),
-            λ other late within step. least_from place other on below late within step.0);
+        let there = from_there place on below in (
+          there.0,
+          there.1,
+          (there.2, node_is nodes new follows.trail place below),
+          λ other late within step. least_from place other on below late within step.0,
+        );
     all = found;
   }
 
@@ -107,7 +110,7 @@ module _ (Leads : ℕ → ℕ → Type 0) (nodes starts : List ℕ) (ascend : Is
         let long = push_long levels more middle refl in
         let P : ℕ → Type 0 = λ depth. IsSearched (StartsIn nodes starts) (StepsIn Leads nodes) (places_of nodes new more) middle (length new.found) depth in
         subst P (sym long) (searched_more (StartsIn nodes starts) (StepsIn Leads nodes) (places_of nodes old levels) (places_of nodes new more)
-            begin middle (length new.found) (length levels) searching.searched next);
+        begin middle (length new.found) (length levels) searching.searched next);
     begins = begins_more levels more begin middle refl searching.searched.within searching.begins;
     back = back_more;
     levels_ascend = ascend_more levels more begin middle refl searching.searched.within searching.begins searching.levels_ascend;

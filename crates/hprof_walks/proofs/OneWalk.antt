@@ -1,7 +1,7 @@
 -- A node has one distance, and one path.
-use Rattle.std.proofs.Common.{◌≡◌, ℕ, zero, suc, ◌≤◌, List, [], ◌∷◌, Option, Some, None, reverse, refl, sym, ap, subst, ◌∙◌, arith}
+use Rattle.std.proofs.Common.{◌≡◌, ℕ, zero, suc, List, ◌∷◌, Option, Some, None, reverse, refl, sym, ap, subst, ◌∙◌, arith}
 use Rattle.std.proofs.lemmas.List.{reverse-reverse}
-use Rattle.hprof_walks.specs.Walks.{Reaches, IsDistance, HasDistance, IsLeastBefore, IsWayBack, IsPath}
+use Rattle.hprof_walks.specs.Walks.{IsDistance, HasDistance, IsLeastBefore, IsWayBack, IsPath}
 
 module _ (Starts : ℕ → Type 0) (Steps : ℕ → ℕ → Type 0) where
   pub same_distance : (node one other : ℕ) → IsDistance Starts Steps node one → IsDistance Starts Steps node other → one ≡ other

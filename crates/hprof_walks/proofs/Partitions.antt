@@ -1,12 +1,11 @@
 -- Where numbers that do not fall are cut by a test.
-use Rattle.std.proofs.Common.{◌≡◌, ◌⊎◌, ℕ, zero, suc, ◌+◌, ◌-◌, ◌<◌, ◌≤◌, Bool, true, false, List, [], ◌∷◌, ◌++◌, length, take, drop, get_or, slice_index, slice_range, count_by, nat_lt, nat_le, cond, sum_by, inl, inr, refl, sym, ap, subst, ◌∙◌, arith, add-one, add-zero, take_all, get_or-take, get_or-drop, length-drop, length-take, ltb-true, ltb-false, le-leb}
+use Rattle.std.proofs.Common.{◌≡◌, ℕ, zero, suc, ◌+◌, ◌-◌, ◌<◌, ◌≤◌, Bool, true, false, List, [], ◌∷◌, ◌++◌, length, take, drop, get_or, slice_index, slice_range, count_by, nat_lt, nat_le, cond, refl, sym, ap, ◌∙◌, arith, add-zero, take_all, get_or-take, get_or-drop, length-drop, length-take, ltb-true, ltb-false, le-leb}
 use Rattle.std.specs.List.Sorted.{IsStrictlyIncreasing, IsNonDecreasing, IsPartitionPoint, IsPartitionedBy}
 use Rattle.std.proofs.lemmas.Grind.{get_or_default_zero}
 use Rattle.std.proofs.lemmas.List.Sorted.{IsPartitionedBy-ltb, IsNonDecreasingBy-drop, IsNonDecreasingBy-take}
 use Rattle.std.proofs.lemmas.List.Sums.{count_by_more_yes, count_by_more_no, sum_by-append}
 use Rattle.hprof_walks.specs.Kept.{level_in}
 use Rattle.hprof_walks.proofs.Ascending.{not_less_far}
-use Rattle.hprof_walks.proofs.NextLevel.{splits}
 
 pub never_fall : (nodes : List ℕ) → IsStrictlyIncreasing nodes → IsNonDecreasing nodes
 never_fall nodes ascend = λ place other d before below.
@@ -26,7 +25,7 @@ module _ (nodes : List ℕ) (low high target : ℕ) where
     part_at place on below =
         let same : low + (place - low) ≡ place = omega arith in
         get_or-take (high - low) (drop low nodes) (place - low) 0 (omega arith) ∙ get_or-drop low nodes (place - low) 0
-            ∙ ap (slice_index nodes) same
+        ∙ ap (slice_index nodes) same
 
     part_long : length (slice_range nodes low high) ≡ high - low
     part_long = let cut = length-drop low nodes in let long = length-take (high - low) (drop low nodes) in omega arith
@@ -90,7 +89,8 @@ level_stays levels begin place below =
 -- a place from where each level begins on is as deep as there are levels
 pub level_last : (levels : List ℕ) (place : ℕ) → ((k : ℕ) → k < length levels → slice_index levels k ≤ place) → level_in levels place ≡ length levels
 level_last levels place all =
-    counted (λ (b : ℕ). nat_le b place) levels (length levels)
-    ((λ k d low below. let e = get_or_default_zero levels k d below in
-        le-leb (get_or levels k d) place (let less = all k below in omega arith)),
-        λ k d low below. absurd (omega arith)) (omega arith)
+    counted (λ (b : ℕ). nat_le b place) levels (length levels) (
+      (λ k d low below. let e = get_or_default_zero levels k d below in
+          le-leb (get_or levels k d) place (let less = all k below in omega arith)),
+      λ k d low below. absurd (omega arith),
+    ) (omega arith)

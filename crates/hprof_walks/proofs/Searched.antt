@@ -1,8 +1,8 @@
 -- What was found by a search by levels, told by places in the order of the search: the node, the level, and where it was
 -- found from.
-use Rattle.std.proofs.Common.{◌≡◌, ◌⊎◌, ℕ, zero, suc, ◌+◌, ◌<◌, ◌≤◌, List, [], ◌∷◌, inl, inr, ap, subst, arith}
+use Rattle.std.proofs.Common.{◌≡◌, ◌⊎◌, ℕ, zero, suc, ◌<◌, ◌≤◌, List, [], ◌∷◌, inl, inr, ap, subst, arith}
 use Rattle.std.proofs.lemmas.Bool.{cases_order}
-use Rattle.hprof_walks.specs.Walks.{Reaches, IsDistance, IsLeastBefore, IsWayBack}
+use Rattle.hprof_walks.specs.Walks.{Reaches, IsDistance, IsLeastBefore}
 
 -- what stands at a place
 pub record Places : Type 0 where

@@ -1,8 +1,8 @@
 -- What is kept while a search goes on from level to level.
-use Rattle.std.proofs.Common.{◌≡◌, ◌⊎◌, ℕ, suc, ◌+◌, ◌<◌, ◌≤◌, ◌==◌, List, [], ◌∷◌, ◌++◌, length, replicate, slice_index, get_or, Contains, inl, inr, refl, sym, ap, subst, ◌∙◌, arith, nat_eq}
+use Rattle.std.proofs.Common.{◌≡◌, ℕ, ◌<◌, ◌≤◌, List, [], ◌∷◌, ◌++◌, length, slice_index, Contains, inl, inr, refl, arith}
 use Rattle.std.specs.List.Sorted.{IsStrictlyIncreasing, IsNonDecreasing}
 use Rattle.std.proofs.lemmas.Grind.{get_or_default_zero}
-use Rattle.hprof_walks.specs.Kept.{node_in, level_in, IsWhole}
+use Rattle.hprof_walks.specs.Kept.{node_in, level_in}
 use Rattle.hprof_walks.specs.Trail.{Order, IsTrail}
 use Rattle.hprof_walks.proofs.Ascending.{one_place, has_number}
 use Rattle.hprof_walks.proofs.FollowedArrivals.{push_keeps, push_last, push_long}

@@ -1,6 +1,5 @@
 -- What a search tells where it has come to its end.
-use Rattle.std.proofs.Common.{◌≡◌, ◌⊎◌, ℕ, zero, suc, ◌+◌, ◌<◌, ◌≤◌, ◌==◌, Bool, true, false, List, [], ◌∷◌, length, reverse, slice_index, position, Option, Some, None, Contains, inl, inr, refl, sym, ap, subst, ◌∙◌, arith, eqb-true, eq-eqb}
-use Rattle.std.specs.List.Sorted.{IsStrictlyIncreasing}
+use Rattle.std.proofs.Common.{◌≡◌, ℕ, zero, suc, ◌<◌, ◌≤◌, ◌==◌, Bool, false, List, ◌∷◌, length, reverse, slice_index, position, Option, Some, None, refl, sym, ap, subst, ◌∙◌, arith, eqb-true, eq-eqb}
 use Rattle.std.specs.List.{position_or_len}
 use Rattle.std.specs.Option.{option_map}
 use Rattle.std.proofs.lemmas.Grind.{common_steps}
@@ -8,12 +7,12 @@ use Rattle.std.proofs.lemmas.List.{reverse-reverse}
 use Rattle.std.proofs.lemmas.List.Quantifiers.{position-Some}
 use Rattle.std.proofs.lemmas.List.Sums.{fails_before_first}
 use Rattle.hprof_walks.specs.declared.kept_search.Search.{Search}
-use Rattle.hprof_walks.specs.Kept.{node_in, level_in, IsWhole}
+use Rattle.hprof_walks.specs.Kept.{node_in, level_in}
 use Rattle.hprof_walks.specs.Search.{IsSearch, place_of, way_back, distance_in, path_in}
-use Rattle.hprof_walks.specs.Trail.{Order, IsTrail}
+use Rattle.hprof_walks.specs.Trail.{Order}
 use Rattle.hprof_walks.specs.Walks.{Reaches, IsDistance, HasDistance, IsWayBack, IsPath}
 use Rattle.hprof_walks.proofs.Ending.{found_all, goes_back}
-use Rattle.hprof_walks.proofs.Searched.{Places, IsAt, IsSearched, at_distance, ways_back}
+use Rattle.hprof_walks.proofs.Searched.{Places, IsSearched, at_distance, ways_back}
 use Rattle.hprof_walks.proofs.Searchings.{places_of}
 
 abbrev kept_order : Search → Order
@@ -67,9 +66,11 @@ module _ (Starts : ℕ → Type 0) (Steps : ℕ → ℕ → Type 0) (search : Se
       let at = stands node place some in
       let deep = level_in search.levels.items place in
       let way = goes_back Starts Steps (kept_places search) (length search.found.keys) level searched deep place at.0 refl in
-      let same = same_ways search deep place ∙ sym (reverse-reverse (way_back search deep place)) in
-      (deep, subst (λ (n : ℕ). IsWayBack Starts Steps deep n (reverse (reverse (way_back search deep place)))) at.1
-          (subst (IsWayBack Starts Steps deep (node_at place)) same way))
+      let same = same_ways search deep place ∙ sym (reverse-reverse (way_back search deep place)) in (
+        deep,
+        subst (λ (n : ℕ). IsWayBack Starts Steps deep n (reverse (reverse (way_back search deep place)))) at.1
+            (subst (IsWayBack Starts Steps deep (node_at place)) same way),
+      )
 
   pub tells : IsSearch Starts Steps search
   unfolding distance_in path_in

@@ -1,5 +1,5 @@
 -- The way back from a place, of which a part was gone.
-use Rattle.std.proofs.Common.{◌≡◌, ℕ, zero, suc, List, [], ◌∷◌, ◌++◌, slice_index, refl, sym, ap, ◌∙◌, append_assoc, append-nil, Option, Some, reverse}
+use Rattle.std.proofs.Common.{◌≡◌, ℕ, zero, suc, List, [], ◌∷◌, ◌++◌, slice_index, refl, sym, ap, ◌∙◌, append_assoc, append-nil, Some, reverse}
 use Rattle.std.specs.Option.{option_map}
 use Rattle.hprof_walks.specs.declared.kept_search.Search.{Search}
 use Rattle.hprof_walks.specs.Kept.{node_in, level_in}
@@ -43,6 +43,6 @@ module _ (search : Search) where
   unfolding path_in
   went_all node level found place left nodes path none at deep way reversed =
       let whole : nodes ≡ way_back search level found =
-          sym (append-nil nodes) ∙ ap (λ (n : ℕ). nodes ++ way_left search n place) (sym none) ∙ way in
+      sym (append-nil nodes) ∙ ap (λ (n : ℕ). nodes ++ way_left search n place) (sym none) ∙ way in
       ap Some (reversed ∙ ap (reverse {A = ℕ}) whole ∙ ap (λ (n : ℕ). reverse (way_back search n found)) deep)
       ∙ ap (option_map (λ (p : ℕ). reverse (way_back search (level_in search.levels.items p) p))) at

@@ -1,5 +1,5 @@
 -- Steps that arrive at nodes, from places of a level.
-use Rattle.std.specs.Prelude.{◌≡◌, ◌<◌, ◌≤◌, ℕ, List, length, map, Contains}
+use Rattle.std.specs.Prelude.{◌≡◌, ◌<◌, ◌≤◌, ℕ, List, map, Contains}
 use Rattle.std.specs.List.Sorted.{IsStrictlyIncreasing}
 use Rattle.hprof_walks.specs.declared.arrival.Arrival.{Arrival}
 use Rattle.hprof_walks.specs.Kept.{node_in}

@@ -1,7 +1,7 @@
 -- Nodes in the order in which they were found: of each its number, which is its place among all nodes.
 use Rattle.std.specs.Prelude.{◌<◌, ◌≡◌, ℕ, List, nat_le, length, slice_index}
 use Rattle.std.specs.List.{count_by}
-use Rattle.std.specs.List.Sorted.{IsNonDecreasing, IsStrictlyIncreasing}
+use Rattle.std.specs.List.Sorted.{IsStrictlyIncreasing}
 
 -- the node that was found at a place
 abbrev pub node_in : List ℕ → List ℕ → ℕ → ℕ

@@ -1,7 +1,6 @@
 -- What a search by levels keeps, and what it tells.
-use Rattle.std.specs.Prelude.{◌==◌, ◌≤◌, ◌<◌, ◌≡◌, ℕ, zero, suc, List, [], ◌∷◌, Option, nat_le, length, reverse, slice_index}
-use Rattle.std.specs.List.{count_by, position}
-use Rattle.std.specs.List.Sorted.{IsNonDecreasing, IsStrictlyIncreasing}
+use Rattle.std.specs.Prelude.{◌==◌, ℕ, zero, suc, List, [], ◌∷◌, Option, reverse, slice_index}
+use Rattle.std.specs.List.{position}
 use Rattle.std.specs.Option.{option_map}
 use Rattle.hprof_walks.specs.declared.kept_search.Search.{Search}
 use Rattle.hprof_walks.specs.Kept.{node_in, level_in}

@@ -25,7 +25,11 @@ fn visit(trail: &mut Trail, number: usize, from: usize) -> Result<(), AllocError
 
 /// Puts the nodes at which there are arrivals, and that were not found before, at the end of a trail. Where memory is
 /// refused, nothing holds of the trail.
-pub(crate) fn follow(nodes: &[u64], trail: &mut Trail, arrivals: &[Arrival]) -> Result<(), AllocError>
+pub(crate) fn follow(
+    nodes: &[u64],
+    trail: &mut Trail,
+    arrivals: &[Arrival],
+) -> Result<(), AllocError>
     requires nodes { IsStrictlyIncreasing nodes.now }
     requires arrivals { IsStrictlyIncreasing (map (λ arrival. arrival.to) arrivals.now) }
     requires trail { IsTrail nodes.now (order_of trail.old) }

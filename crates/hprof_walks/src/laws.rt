@@ -6,6 +6,7 @@ ghost use Rattle.hprof_walks.specs.Walks.{HasDistance, IsLeastBefore, IsPath, Is
 /// Starts and steps from node to node, whatever they are.
 pub trait Walks {
     ghost starts: { ℕ → Type 0 };
+
     ghost steps: { ℕ → ℕ → Type 0 };
 }
 

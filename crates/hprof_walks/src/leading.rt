@@ -8,7 +8,11 @@ use crate::graph::Graph;
 use std::alloc::AllocError;
 
 /// Puts arrivals at these targets, all from one place, behind others.
-pub(crate) fn push_arrivals(arrivals: &mut Vec<Arrival>, targets: &[u64], from: usize) -> Result<(), AllocError>
+pub(crate) fn push_arrivals(
+    arrivals: &mut Vec<Arrival>,
+    targets: &[u64],
+    from: usize,
+) -> Result<(), AllocError>
     ensures { OnOk result (arrivals.new.items ≡ arrivals.old.items ++ map (λ to. record { to = to; from = from }) targets.now) }
 {
     for to in targets {

@@ -5,9 +5,9 @@ mod arrival;
 mod following;
 mod galloping;
 mod graph;
+mod kept_search;
 pub mod laws;
 mod leading;
-mod kept_search;
 mod searching;
 mod trail;
 

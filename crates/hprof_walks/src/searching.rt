@@ -16,7 +16,12 @@ use std::alloc::{AllocError, Global};
 
 /// Goes from the starts that are nodes along the edges of a graph that lead to nodes, level by level. The nodes are given in
 /// ascending order. Edges to what is no node are not followed, and each edge is looked at once.
-pub fn search<G: Graph>(alloc: Global, graph: &mut G, nodes: Vec<u64>, starts: &[u64]) -> Result<Search, AllocError>
+pub fn search<G: Graph>(
+    alloc: Global,
+    graph: &mut G,
+    nodes: Vec<u64>,
+    starts: &[u64],
+) -> Result<Search, AllocError>
     requires { IsStrictlyIncreasing nodes.items }
     ensures { IfOk result (IsSearch (λ node. Contains nodes.items node × Contains starts.now node)
         (λ from to. G.leads graph.old from to × Contains nodes.items to)) }
@@ -34,7 +39,14 @@ pub fn search<G: Graph>(alloc: Global, graph: &mut G, nodes: Vec<u64>, starts: &
     let mut begin = 0;
     while begin < trail.found.len() {
         let end = trail.found.len();
-        lead_on(graph, &nodes, trail.found.as_slice(), begin, &mut targets, &mut arrivals)?;
+        lead_on(
+            graph,
+            &nodes,
+            trail.found.as_slice(),
+            begin,
+            &mut targets,
+            &mut arrivals,
+        )?;
         keep_least(&mut arrivals);
         follow(&nodes, &mut trail, &arrivals)?;
         levels.push(end)?;

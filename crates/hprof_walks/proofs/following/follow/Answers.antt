@@ -1,4 +1,4 @@
-use Rattle.std.proofs.Common.{◌≡◌, ◌+◌, sym, subst, arith}
+use Rattle.std.proofs.Common.{◌+◌, sym, subst, arith}
 use Rattle.hprof_walks.specs.declared.trail.Trail.{Trail}
 use Rattle.hprof_walks.specs.Trail.{order_of, Order}
 use Rattle.hprof_walks.proofs.FollowSteps.{Followed, skipped, visited}
@@ -18,13 +18,13 @@ loop-arrival-preserved c =
       | then-number-nodes+then-nodes-number+in_ok-visit w ↦
           let P : Trail → Type 0 = λ trail. Followed nodes old (order_of trail) arrivals (index + 1) number in
           subst P (sym w.trail-is) (visited nodes old now arrivals index c.loop-arrival.number number c.requires.nodes c.requires.arrivals
-              c.loop-arrival-test.true c.loop-arrival.invariant answer.within answer.less answer.not_less
-              (order_of w.visit.new.trail) w.if-number-nodes.true w.if-nodes-number.true
-              w.in_ok-visit.ensures.found w.in_ok-visit.ensures.before)
+          c.loop-arrival-test.true c.loop-arrival.invariant answer.within answer.less answer.not_less
+          (order_of w.visit.new.trail) w.if-number-nodes.true w.if-nodes-number.true
+          w.in_ok-visit.ensures.found w.in_ok-visit.ensures.before)
       | else-number-nodes w ↦
           let P : Trail → Type 0 = λ trail. Followed nodes old (order_of trail) arrivals (index + 1) number in
           let skip = skipped nodes old now arrivals index c.loop-arrival.number number c.requires.nodes c.requires.arrivals
-              c.loop-arrival-test.true c.loop-arrival.invariant answer.within answer.less answer.not_less in
+          c.loop-arrival-test.true c.loop-arrival.invariant answer.within answer.less answer.not_less in
           subst P (sym w.trail-is) (elim w.else-number-nodes.branch [
             | else-number-nodes-via-then-number-nodes+else-nodes-number w' ↦ skip (λ inside is. w'.if-nodes-number.false is)
             | else-number-nodes-via-else-number-nodes w' ↦ skip (λ inside is. let outside = w'.if-number-nodes.false in omega arith)

@@ -1,4 +1,4 @@
-use Rattle.std.proofs.Common.{◌≡◌, ◌⊎◌, ℕ, ◌+◌, ◌-◌, ◌<◌, ◌≤◌, inl, inr, length, slice_index, nat_lt, arith, rules, of_calls}
+use Rattle.std.proofs.Common.{◌+◌, ◌-◌, inl, inr, nat_lt, arith, rules, of_calls}
 use Rattle.std.proofs.lemmas.Fn.{always_returns_same}
 use Rattle.hprof_walks.proofs.Ascending.{not_less_far}
 use Rattle.hprof_walks.proofs.NextLevel.{splits}
@@ -25,8 +25,8 @@ pub returns-clause-less : goal.returns-clause-less
 returns-clause-less c = λ place on below.
     let high = c.min-high.ensures in
     let cut = c.partition_point.ensures.partitioned (λ node. nat_lt node c.args.target)
-        (always_returns_same _ _ _ (λ a r f k. search (rules, of_calls)))
-        (part_is_cut c.args.nodes.now c.loop-step.low c.min-high.result c.args.target c.requires.ascend) in
+    (always_returns_same _ _ _ (λ a r f k. search (rules, of_calls)))
+    (part_is_cut c.args.nodes.now c.loop-step.low c.min-high.result c.args.target c.requires.ascend) in
     elim (splits place c.loop-step.low) [
       | inl before ↦ c.loop-step.invariant.less place on before
       | inr after ↦ cut_less c.args.nodes.now c.loop-step.low c.min-high.result c.args.target (omega arith) (omega arith)
@@ -37,8 +37,8 @@ pub returns-clause-not_less : goal.returns-clause-not_less
 returns-clause-not_less c = λ place on below.
     let high = c.min-high.ensures in
     let cut = c.partition_point.ensures.partitioned (λ node. nat_lt node c.args.target)
-        (always_returns_same _ _ _ (λ a r f k. search (rules, of_calls)))
-        (part_is_cut c.args.nodes.now c.loop-step.low c.min-high.result c.args.target c.requires.ascend) in
+    (always_returns_same _ _ _ (λ a r f k. search (rules, of_calls)))
+    (part_is_cut c.args.nodes.now c.loop-step.low c.min-high.result c.args.target c.requires.ascend) in
     elim (splits place c.min-high.result) [
       | inl before ↦ cut_not_less c.args.nodes.now c.loop-step.low c.min-high.result c.args.target (omega arith) (omega arith)
           c.partition_point.result cut c.partition_point.ensures.bound place on before

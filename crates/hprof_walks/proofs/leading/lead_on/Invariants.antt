@@ -1,4 +1,4 @@
-use Rattle.std.proofs.Common.{◌↔◌, ℕ, List}
+use Rattle.std.proofs.Common.{◌↔◌, ℕ}
 use Rattle.hprof_walks.specs.Arrivals.{AreArrivals}
 use Rattle.hprof_walks.proofs.leading.lead_on.Given as goal
 

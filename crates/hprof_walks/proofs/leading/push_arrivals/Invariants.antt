@@ -1,5 +1,4 @@
-use Rattle.std.proofs.Common.{◌≡◌, ◌++◌, List, map, take}
-use Rattle.hprof_walks.specs.declared.arrival.Arrival.{Arrival}
+use Rattle.std.proofs.Common.{◌≡◌, ◌++◌, map, take}
 use Rattle.hprof_walks.proofs.leading.push_arrivals.Given as goal
 
 abbrev pub invariant-loop-to : goal.invariant-loop-to

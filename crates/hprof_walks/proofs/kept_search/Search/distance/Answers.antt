@@ -1,7 +1,7 @@
-use Rattle.std.proofs.Common.{◌≡◌, ◌∙◌, sym, ap, Some, rules}
+use Rattle.std.proofs.Common.{◌∙◌, sym, ap, Some}
 use Rattle.std.specs.Option.{option_map}
 use Rattle.hprof_walks.specs.Kept.{level_in}
-use Rattle.hprof_walks.specs.Search.{distance_in, place_of}
+use Rattle.hprof_walks.specs.Search.{distance_in}
 use Rattle.hprof_walks.proofs.kept_search.Search.distance.Goals as goal
 
 pub returns-in_err-place : goal.returns-in_err-place

@@ -1,4 +1,4 @@
-use Rattle.std.proofs.Common.{◌≡◌, ◌+◌, ◌-◌, ◌++◌, ◌∷◌, [], ℕ, List, suc, ◌∙◌, sym, ap, arith, Some, reverse}
+use Rattle.std.proofs.Common.{◌+◌, ◌-◌, ◌++◌, ◌∷◌, [], ℕ, List, ◌∙◌, sym, ap, arith, reverse}
 use Rattle.std.specs.Option.{option_map}
 use Rattle.hprof_walks.specs.Kept.{level_in}
 use Rattle.hprof_walks.specs.Search.{path_in, way_back}
