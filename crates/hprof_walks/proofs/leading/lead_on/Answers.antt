@@ -1,0 +1,36 @@
+use Rattle.std.proofs.Common.{◌≡◌, ◌++◌, ◌+◌, ℕ, List, map, length, ◌∙◌, ap, sym, subst, refl, arith, slice_index}
+use Rattle.hprof_walks.specs.declared.arrival.Arrival.{Arrival}
+use Rattle.hprof_walks.specs.Arrivals.{AreArrivals}
+use Rattle.hprof_walks.proofs.LedArrivals.{leads_more}
+use Rattle.hprof_walks.proofs.leading.lead_on.Goals as goal
+
+pub loop-place-preserved : goal.loop-place-preserved
+loop-place-preserved g c =
+    let place = c.loop-place.place in
+    let given = c.in_ok-push_targets.ensures.ok in
+    let stays = c.in_ok-push_targets.ensures.stays in
+    let was = c.loop-place.invariant in
+    let targets : c.deref.result.now ≡ given.0 =
+    c.deref.ensures.value ∙ given.1 ∙ ap (λ (ns : List ℕ). ns ++ given.0) c.clear-in-loop-place.ensures.items in
+    let pushed : c.push_arrivals.new.arrivals.items
+    ≡ c.loop-place.arrivals.items ++ map {B = Arrival} (λ (to : ℕ). record { to = to; from = place }) given.0 =
+    c.in_ok-push_arrivals.ensures
+    ∙ ap (λ (ns : List ℕ). c.loop-place.arrivals.items ++ map {B = Arrival} (λ (to : ℕ). record { to = to; from = place }) ns) targets in
+    let node = slice_index c.args.nodes.now (slice_index c.args.found.now place) in
+    let on = c.loop-place.auto.place in (
+      subst (AreArrivals (g.G.Graph.leads c.args.graph.now) c.args.nodes.now c.args.found.now c.args.begin (place + 1)) (sym pushed)
+          (leads_more (g.G.Graph.leads c.args.graph.now) c.args.nodes.now c.args.found.now c.args.begin place (place + 1)
+          c.loop-place.arrivals.items given.0 refl on
+          (λ to. (λ has. (was.1 node to).0 ((given.2 to).0 has), λ leads. (given.2 to).1 ((was.1 node to).1 leads))) was.0),
+      λ other to. (λ leads. (was.1 other to).0 ((stays other to).0 leads), λ leads. (stays other to).1 ((was.1 other to).1 leads)),
+    )
+
+pub returns-clause-ok : goal.returns-clause-ok
+returns-clause-ok g c =
+    let test = c.loop-place-test.false in
+    let begin = c.requires.begin in
+    let auto = c.loop-place.auto in
+    let near = auto.place-end begin in
+    let same : c.loop-place.place ≡ length c.args.found.now = omega arith in
+    subst (λ (end : ℕ). AreArrivals (g.G.Graph.leads c.args.graph.now) c.args.nodes.now c.args.found.now c.args.begin end c.loop-place.arrivals.items)
+    same c.loop-place.invariant.0

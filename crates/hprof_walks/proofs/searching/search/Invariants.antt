@@ -1,0 +1,12 @@
+use Rattle.std.proofs.Common.{◌↔◌, ◌-◌, ℕ, length}
+use Rattle.hprof_walks.specs.Trail.{order_of}
+use Rattle.hprof_walks.proofs.Searchings.{IsSearching}
+use Rattle.hprof_walks.proofs.searching.search.Given as goal
+
+abbrev pub invariant-loop-begin : goal.invariant-loop-begin
+invariant-loop-begin g l =
+    IsSearching (g.G.Graph.leads l.initial.graph) l.nodes.items l.starts (order_of l.trail) l.levels.items l.begin
+    × ((node to : ℕ) → g.G.Graph.leads l.graph node to ↔ g.G.Graph.leads l.initial.graph node to)
+
+abbrev pub decreases-loop-begin : goal.decreases-loop-begin
+decreases-loop-begin g l = length l.nodes.items - l.begin

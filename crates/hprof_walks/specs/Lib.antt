@@ -1,0 +1,5 @@
+pub mod Walks
+pub mod Kept
+pub mod Search
+pub mod Arrivals
+pub mod Trail

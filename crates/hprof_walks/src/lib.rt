@@ -1,0 +1,16 @@
+//! A search by levels over any graph: how few steps lead to each node from a start, and by which path.
+#![tactic(auto)]
+
+mod arrival;
+mod following;
+mod galloping;
+mod graph;
+mod kept_search;
+pub mod laws;
+mod leading;
+mod searching;
+mod trail;
+
+pub use graph::Graph;
+pub use kept_search::Search;
+pub use searching::search;

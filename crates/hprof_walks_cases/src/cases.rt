@@ -1,0 +1,53 @@
+//! Cases: a graph, and what a search tells of it.
+
+use crate::expecting::{equal, holds};
+use crate::graphs::Edges;
+use hprof_walks::{Search, search};
+use std::alloc::Global;
+use std::process::Abort;
+use std::test::*;
+
+/// A graph, the distances of nodes, and paths.
+#[derive(Clone, Copy)]
+pub(crate) struct Case<'a> {
+    pub(crate) nodes: &'a [u64],
+    pub(crate) starts: &'a [u64],
+    pub(crate) edges: &'a [(u64, u64)],
+    pub(crate) distances: &'a [(u64, Option<u64>)],
+    pub(crate) paths: &'a [(u64, &'a [u64])],
+}
+
+// A search from these starts, among nodes that must ascend.
+fn searched(rt: &impl Abort, alloc: Global, case: &Case<'_>) -> Result<Search, Fail> {
+    holds(rt, case.nodes.is_sorted_by(|one, next| *one < *next));
+    let nodes = case.nodes.to_vec(alloc)?;
+    let mut edges = Edges { edges: case.edges };
+    Ok(search(alloc, &mut edges, nodes, case.starts)?)
+}
+
+// That there is a path to the node where nodes are expected, and that it is these.
+fn check_path(rt: &impl Abort, alloc: Global, search: &Search, node: u64, expected: Option<&[u64]>) -> Result<(), Fail> {
+    let path = search.path(alloc, node)?;
+    equal(rt, path.as_ref().map(|nodes| nodes.as_slice()), expected);
+    Ok(())
+}
+
+// The path that is expected to a node.
+fn path_to<'a>(paths: &'a [(u64, &'a [u64])], node: u64) -> Option<&'a [u64]> {
+    for path in paths {
+        if path.0 == node {
+            return Some(path.1);
+        }
+    }
+    None
+}
+
+/// Ends the test where the search tells another distance, or another path; where a case has none, none is expected.
+pub(crate) fn check(rt: &impl Abort, alloc: Global, case: &Case<'_>) -> Result<(), Fail> {
+    let search = searched(rt, alloc, case)?;
+    for (node, distance) in case.distances {
+        equal(rt, search.distance(*node), *distance);
+        check_path(rt, alloc, &search, *node, path_to(case.paths, *node))?;
+    }
+    Ok(())
+}

@@ -1,0 +1,103 @@
+//! Searches.
+
+use crate::cases::{Case, check};
+use crate::expecting::equal;
+use crate::graphs::Edges;
+use hprof_walks::search;
+use std::test::*;
+
+#[test]
+fn distances(rt: HostRuntime) -> Result<(), Fail> {
+    // 153 and 0 are no nodes, though edges lead to them.
+    let case = Case {
+        nodes: &[16, 17, 18, 19],
+        starts: &[0, 16, 119],
+        edges: &[(16, 17), (16, 18), (16, 153), (17, 19), (18, 19), (18, 0)],
+        distances: &[
+            (0, None),
+            (16, Some(0)),
+            (17, Some(1)),
+            (18, Some(1)),
+            (19, Some(2)),
+            (100, None),
+            (119, None),
+            (153, None),
+        ],
+        paths: &[
+            (16, &[16]),
+            (17, &[16, 17]),
+            (18, &[16, 18]),
+            (19, &[16, 17, 19]),
+        ],
+    };
+    check(&rt, rt.alloc(), &case)
+}
+
+#[test]
+fn no_starts(rt: HostRuntime) -> Result<(), Fail> {
+    let case = Case {
+        nodes: &[1, 2],
+        starts: &[],
+        edges: &[(1, 2)],
+        distances: &[(1, None), (2, None)],
+        paths: &[],
+    };
+    check(&rt, rt.alloc(), &case)
+}
+
+#[test]
+fn circles(rt: HostRuntime) -> Result<(), Fail> {
+    // A start twice, an edge from a node to itself, a circle, and what only leads to it.
+    let case = Case {
+        nodes: &[1, 2, 3, 4],
+        starts: &[3, 3],
+        edges: &[(3, 3), (3, 1), (1, 2), (2, 3), (4, 3), (1, 2)],
+        distances: &[(1, Some(1)), (2, Some(2)), (3, Some(0)), (4, None)],
+        paths: &[(1, &[3, 1]), (2, &[3, 1, 2]), (3, &[3])],
+    };
+    check(&rt, rt.alloc(), &case)
+}
+
+#[test]
+fn two_paths(rt: HostRuntime) -> Result<(), Fail> {
+    // From the end the least node before 30 is 10, and before 10 only 2 is; 1, 20, 30 is less from the beginning.
+    let case = Case {
+        nodes: &[1, 2, 10, 20, 30],
+        starts: &[2, 1],
+        edges: &[(1, 20), (2, 10), (20, 30), (10, 30)],
+        distances: &[
+            (1, Some(0)),
+            (2, Some(0)),
+            (10, Some(1)),
+            (20, Some(1)),
+            (30, Some(2)),
+        ],
+        paths: &[
+            (1, &[1]),
+            (2, &[2]),
+            (10, &[2, 10]),
+            (20, &[1, 20]),
+            (30, &[2, 10, 30]),
+        ],
+    };
+    check(&rt, rt.alloc(), &case)
+}
+
+#[test]
+fn long_chain(rt: HostRuntime) -> Result<(), Fail> {
+    let alloc = rt.alloc();
+    let mut nodes = Vec::new(alloc);
+    let mut edges = Vec::new(alloc);
+    for node in 1..=2_000u64 {
+        nodes.push(node)?;
+        edges.push((node, node + 1))?;
+    }
+    let case = Case {
+        nodes: &nodes,
+        starts: &[1],
+        edges: &edges,
+        distances: &[(1_000, Some(999)), (2_000, Some(1_999)), (2_001, None)],
+        paths: &[(1_000, &nodes[..1_000]), (2_000, &nodes)],
+    };
+    check(&rt, alloc, &case)
+}
