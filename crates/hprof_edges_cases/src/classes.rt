@@ -1,7 +1,7 @@
 //! The edges of the class 100.
 
 use crate::samples::{Asked, check_edges, class_of, class_with, edge, heap_of};
-use hprof_edges::Via;
+use hprof_edges::{Edge, Via};
 use std::test::*;
 
 #[test]
@@ -14,8 +14,8 @@ fn constants_and_static_fields(rt: HostRuntime) -> Result<(), Fail> {
     let heap = heap_of(rt.alloc(), &[class])?;
     let constant = edge(100, Via::Constant, 0, 200);
     let fixed = edge(100, Via::Fixed, 0, 201);
-    let cases = [
-        (Asked::From(100), [constant, fixed].as_slice()),
+    let cases: [(Asked, &[Edge]); 4] = [
+        (Asked::From(100), &[constant, fixed]),
         (Asked::To(200), &[constant]),
         (Asked::To(201), &[fixed]),
         (Asked::To(7), &[]),
@@ -52,8 +52,8 @@ fn loader_signers_and_domain(rt: HostRuntime) -> Result<(), Fail> {
     let loader = edge(100, Via::Loader, 0, 1);
     let signers = edge(100, Via::Signers, 0, 2);
     let domain = edge(100, Via::Domain, 0, 3);
-    let cases = [
-        (Asked::From(100), [loader, signers, domain].as_slice()),
+    let cases: [(Asked, &[Edge]); 6] = [
+        (Asked::From(100), &[loader, signers, domain]),
         (Asked::To(1), &[loader]),
         (Asked::To(2), &[signers]),
         (Asked::To(3), &[domain]),

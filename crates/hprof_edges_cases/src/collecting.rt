@@ -47,10 +47,7 @@ fn edges_of_rows(rt: HostRuntime) -> Result<(), Fail> {
     let class = class_of(100, 99, INT_AND_OBJECT).ok_or("no class")?;
     let upper = class_of(99, 0, b"").ok_or("no class")?;
     let bytes = b"\0\0\0\x07\0\0\0\xc9";
-    let heap = heap_of(
-        rt.alloc(),
-        &[class, upper, instance_of(200, 100, bytes)],
-    )?;
+    let heap = heap_of(rt.alloc(), &[class, upper, instance_of(200, 100, bytes)])?;
     let known = known_layouts(rt.alloc(), &heap)?;
     let mut references = Vec::new(rt.alloc());
     let mut list = EdgeList::new(rt.alloc(), Watched::All);
@@ -60,15 +57,7 @@ fn edges_of_rows(rt: HostRuntime) -> Result<(), Fail> {
         object_edges(&known, &object, ids, &mut references, &mut list)?;
     }
     edge_to_class(300, 100, &mut list)?;
-    field_edges(
-        &known,
-        300,
-        100,
-        bytes,
-        ids,
-        &mut references,
-        &mut list,
-    )?;
+    field_edges(&known, 300, 100, bytes, ids, &mut references, &mut list)?;
     let edges = [
         edge(100, Via::Parent, 0, 99),
         edge(200, Via::Class, 0, 100),

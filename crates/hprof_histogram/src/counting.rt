@@ -7,8 +7,8 @@ ghost use Rattle.hprof_finding.specs.HeapFacts.{facts_of, size_of};
 ghost use Rattle.hprof_histogram.specs.Histogram.{kind_of, size_of_object};
 ghost use Rattle.hprof_histogram.specs.CountedKinds.{IsTally, nothing};
 
-use crate::row::Kind;
 use crate::counted_kinds::CountedKinds;
+use crate::row::Kind;
 use hprof_finding::{id_size, table_facts, table_len};
 use hprof_heap::{Heap, Table};
 use hprof_items::Fact;

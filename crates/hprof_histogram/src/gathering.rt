@@ -7,8 +7,8 @@ ghost use Rattle.std.specs.Ordering.{nat_cmp};
 ghost use Rattle.hprof_histogram.specs.CountedKinds.{class_rows, element_types, has_objects, row_of, type_rows};
 
 use crate::counted::Counted;
+use crate::counted_kinds::{CountedKinds, TYPES};
 use crate::row::{Kind, Row};
-use crate::counted_kinds::{TYPES, CountedKinds};
 use hprof_values::Basic;
 use std::alloc::{AllocError, Global};
 use std::collections::BTreeMap;

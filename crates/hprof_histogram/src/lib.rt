@@ -2,13 +2,13 @@
 #![tactic(auto)]
 
 mod counted;
+mod counted_kinds;
 mod counting;
 mod gathering;
 pub mod laws;
 mod making;
 mod row;
 mod sorting;
-mod counted_kinds;
 
 pub use making::histogram;
 pub use row::{Kind, Row};

@@ -1,14 +1,14 @@
 //! A heap as a graph.
 
+ghost use Rattle.hprof_finding.specs.HeapFacts.{facts_of, size_of};
+ghost use Rattle.hprof_laying.specs.Known.{Knows};
+
 use crate::targets::Targets;
 use hprof_edges::known_edges;
 use hprof_heap::Heap;
 use hprof_laying::{KnownLayouts, Reference};
 use hprof_walks::Graph;
 use std::alloc::AllocError;
-
-ghost use Rattle.hprof_finding.specs.HeapFacts.{facts_of, size_of};
-ghost use Rattle.hprof_laying.specs.Known.{Knows};
 
 /// The edges of a heap, with what is used again for each node.
 #[derive(Drop)]

@@ -8,4 +8,4 @@ mod reach;
 mod starts;
 mod targets;
 
-pub use reach::{Reach, reach};
+pub use reach::{Reach, reach_of};

@@ -42,7 +42,7 @@ impl Reach {
 
 /// How the classes and objects of a heap are reached from its roots. Each reference is looked at once. The error is that memory
 /// was refused.
-pub fn reach(alloc: Global, heap: &Heap) -> Result<Reach, AllocError>
+pub fn reach_of(alloc: Global, heap: &Heap) -> Result<Reach, AllocError>
     ensures { IfOk result (IsReach (size_of heap.now) (facts_of heap.now)) }
 {
     let known = known_layouts(alloc, heap)?;

@@ -70,7 +70,7 @@ impl Search {
     }
 
     /// The path to a node, from a start; none where no start leads there, as to what is no node. From its end each node
-    /// before is the least one that the search could have come from.
+    /// before is the least one of those that are as far off and have a step to it. The error is that memory was refused.
     pub fn path(&self, alloc: Global, node: u64) -> Result<Option<Vec<u64>>, AllocError>
         ensures { IfOk result (λ path. option_map (λ nodes. nodes.items) path ≡ path_in self.now node) }
     {

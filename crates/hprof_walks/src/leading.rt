@@ -31,10 +31,12 @@ pub(crate) fn lead_on<G: Graph>(
     targets: &mut Vec<u64>,
     arrivals: &mut Vec<Arrival>,
 ) -> Result<(), AllocError>
+    requires stands { G.stands graph.old }
     requires begin { begin ≤ length found.now }
     requires numbers { (place : ℕ) → place < length found.now → slice_index found.now place < length nodes.now }
     ensures ok { OnOk result (AreArrivals (G.leads graph.old) nodes.now found.now begin (length found.now) arrivals.new.items) }
     ensures stays { (node to : ℕ) → G.leads graph.new node to ↔ G.leads graph.old node to }
+    ensures stands { G.stands graph.new }
 {
     arrivals.clear();
     for place in begin..found.len() {

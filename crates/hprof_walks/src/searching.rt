@@ -15,14 +15,16 @@ use indexmap::IndexSet;
 use std::alloc::{AllocError, Global};
 
 /// Goes from the starts that are nodes along the edges of a graph that lead to nodes, level by level. The nodes are given in
-/// ascending order. Edges to what is no node are not followed, and each edge is looked at once.
+/// ascending order. Edges to what is no node are not followed, and each edge is looked at once. The error is that memory was
+/// refused.
 pub fn search<G: Graph>(
     alloc: Global,
     graph: &mut G,
     nodes: Vec<u64>,
     starts: &[u64],
 ) -> Result<Search, AllocError>
-    requires { IsStrictlyIncreasing nodes.items }
+    requires ascend { IsStrictlyIncreasing nodes.items }
+    requires stands { G.stands graph.old }
     ensures { IfOk result (IsSearch (λ node. Contains nodes.items node × Contains starts.now node)
         (λ from to. G.leads graph.old from to × Contains nodes.items to)) }
 {

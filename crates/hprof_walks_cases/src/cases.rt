@@ -1,5 +1,8 @@
 //! Cases: a graph, and what a search tells of it.
 
+ghost use Rattle.std.specs.Prelude.{IsTrue};
+ghost use Rattle.std.specs.List.Sorted.{IsStrictlyIncreasing};
+
 use crate::expecting::{equal, holds};
 use crate::graphs::Edges;
 use hprof_walks::{Search, search};
@@ -17,16 +20,34 @@ pub(crate) struct Case<'a> {
     pub(crate) paths: &'a [(u64, &'a [u64])],
 }
 
+// Whether each number is below the next.
+fn is_ascending(numbers: &[u64]) -> bool
+    ensures { IsTrue result → IsStrictlyIncreasing numbers.now }
+{
+    for place in 1..numbers.len() {
+        if numbers[place - 1] >= numbers[place] {
+            return false;
+        }
+    }
+    true
+}
+
 // A search from these starts, among nodes that must ascend.
 fn searched(rt: &impl Abort, alloc: Global, case: &Case<'_>) -> Result<Search, Fail> {
-    holds(rt, case.nodes.is_sorted_by(|one, next| *one < *next));
     let nodes = case.nodes.to_vec(alloc)?;
+    holds(rt, is_ascending(&nodes));
     let mut edges = Edges { edges: case.edges };
     Ok(search(alloc, &mut edges, nodes, case.starts)?)
 }
 
 // That there is a path to the node where nodes are expected, and that it is these.
-fn check_path(rt: &impl Abort, alloc: Global, search: &Search, node: u64, expected: Option<&[u64]>) -> Result<(), Fail> {
+fn check_path(
+    rt: &impl Abort,
+    alloc: Global,
+    search: &Search,
+    node: u64,
+    expected: Option<&[u64]>,
+) -> Result<(), Fail> {
     let path = search.path(alloc, node)?;
     equal(rt, path.as_ref().map(|nodes| nodes.as_slice()), expected);
     Ok(())

@@ -10,9 +10,11 @@ pub(crate) struct Edges<'a> {
 }
 
 impl Graph for Edges<'_> {
-    ghost use Rattle.std.specs.Prelude.{Contains};
+    ghost use Rattle.std.specs.Prelude.{Contains, ⊤};
 
     ghost leads = { λ graph from to. Contains graph.edges.now (from, to) };
+
+    ghost stands = { λ graph. ⊤ };
 
     fn push_targets(&mut self, from: u64, targets: &mut Vec<u64>) -> Result<(), AllocError> {
         for edge in self.edges {

@@ -8,4 +8,6 @@ mod expecting;
 #[cfg(test)]
 mod graphs;
 #[cfg(test)]
+mod laws;
+#[cfg(test)]
 mod walking;

@@ -23,6 +23,7 @@ loop-place-preserved g c =
           c.loop-place.arrivals.items given.0 refl on
           (λ to. (λ has. (was.1 node to).0 ((given.2 to).0 has), λ leads. (given.2 to).1 ((was.1 node to).1 leads))) was.0),
       λ other to. (λ leads. (was.1 other to).0 ((stays other to).0 leads), λ leads. (stays other to).1 ((was.1 other to).1 leads)),
+      c.in_ok-push_targets.ensures.stands,
     )
 
 pub returns-clause-ok : goal.returns-clause-ok

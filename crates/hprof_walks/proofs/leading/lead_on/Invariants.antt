@@ -6,3 +6,4 @@ abbrev pub invariant-loop-place : goal.invariant-loop-place
 invariant-loop-place g l =
     AreArrivals (g.G.Graph.leads l.initial.graph) l.nodes l.found l.begin l.place l.arrivals.items
     × ((node to : ℕ) → g.G.Graph.leads l.graph node to ↔ g.G.Graph.leads l.initial.graph node to)
+    × g.G.Graph.stands l.graph

@@ -24,9 +24,10 @@ loop-begin-init g c =
     c.in_ok-push_arrivals.ensures ∙ ap (λ (arrivals : List Arrival). arrivals ++ map (arrive 0) starts) c.new-arrivals.ensures.items in
     let follows = subst₂ (λ (ns : List ℕ) (arrivals : List Arrival). Follows ns old new arrivals)
     c.deref.ensures.value c.deref-2.ensures.value c.in_ok-follow.ensures in
-    let first = searching_first Leads nodes starts c.requires old new all least c.new.ensures.len are c.keep_least.ensures follows in (
+    let first = searching_first Leads nodes starts c.requires.ascend old new all least c.new.ensures.len are c.keep_least.ensures follows in (
       subst (λ (levels : List ℕ). IsSearching Leads nodes starts new levels 0) (sym c.new-levels.ensures.items) first,
       λ node to. (λ leads. leads, λ leads. leads),
+      c.requires.stands,
     )
 
 pub loop-begin-smaller : goal.loop-begin-smaller
@@ -55,13 +56,14 @@ loop-begin-preserved g c =
     let are = leads_same (g.G.Graph.leads c.loop-begin.graph) Leads was.1 nodes old.found begin (length old.found) all led in
     let follows = subst₂ (λ (ns : List ℕ) (arrivals : List Arrival). Follows ns old new arrivals)
     c.deref-in-loop-begin-2.ensures.value c.deref-in-loop-begin-3.ensures.value c.in_ok-follow-2.ensures in
-    let more = searching_more Leads nodes starts c.requires old new levels begin all least was.0 are c.keep_least-in-loop-begin.ensures follows in
+    let more = searching_more Leads nodes starts c.requires.ascend old new levels begin all least was.0 are c.keep_least-in-loop-begin.ensures follows in
     let end : length old.found ≡ c.len-end.result = sym c.len-end.ensures.len in
     let pushed : levels ++ length old.found ∷ [] ≡ c.push.new.self.items =
     ap (λ (n : ℕ). levels ++ n ∷ []) end ∙ sym c.in_ok-push.ensures.items in
     let stays = c.in_ok-lead_on.ensures.stays in (
       subst₂ (IsSearching Leads nodes starts new) pushed end more,
       λ node to. (λ leads. (was.1 node to).0 ((stays node to).0 leads), λ leads. (stays node to).1 ((was.1 node to).1 leads)),
+      c.in_ok-lead_on.ensures.stands,
     )
 
 pub returns : goal.returns

@@ -7,6 +7,7 @@ abbrev pub invariant-loop-begin : goal.invariant-loop-begin
 invariant-loop-begin g l =
     IsSearching (g.G.Graph.leads l.initial.graph) l.nodes.items l.starts (order_of l.trail) l.levels.items l.begin
     × ((node to : ℕ) → g.G.Graph.leads l.graph node to ↔ g.G.Graph.leads l.initial.graph node to)
+    × g.G.Graph.stands l.graph
 
 abbrev pub decreases-loop-begin : goal.decreases-loop-begin
 decreases-loop-begin g l = length l.nodes.items - l.begin
