@@ -1,2 +1,0 @@
-pub mod SameWalks
-pub mod Reached
