@@ -20,6 +20,11 @@ pub(crate) fn equal_at<C: Debug + Drop, T: PartialEq + Debug + Drop>(
     assert_eq!(rt; found, expected, "{case:?}");
 }
 
+/// Ends the test where other bytes were found than are expected.
+pub(crate) fn equal_bytes(rt: &impl Abort, found: &[u8], expected: &[u8]) {
+    assert_eq!(rt; found, expected);
+}
+
 /// Ends the test where another text was found than is expected.
 pub(crate) fn equal_text(rt: &impl Abort, found: &[u8], expected: &str) -> Result<(), Fail> {
     assert_eq!(rt; str::from_utf8(found)?, expected);
