@@ -1,0 +1,2 @@
+pub mod SameWalks
+pub mod Reached

@@ -1,0 +1,14 @@
+-- Nodes by what dump they have; no public contract speaks of it.
+use Rattle.std.specs.Prelude.{◌≡◌, ◌≢◌, ℕ, List}
+use Rattle.hprof_items.specs.FactValue.{FactValue}
+use Rattle.hprof_rows.specs.Facts.{Has}
+use Rattle.hprof_finding.specs.Classes.{ClassDump, HasDump}
+use Rattle.hprof_finding.specs.Objects.{IsObject}
+
+-- it has a class dump
+abbrev pub IsClassNode : List FactValue → ℕ → Type 0
+IsClassNode facts id = (id ≢ 0) × ((dump : ClassDump) × HasDump facts dump × (dump.id ≡ id))
+
+-- it has an object dump
+abbrev pub IsObjectNode : List FactValue → ℕ → Type 0
+IsObjectNode facts id = (id ≢ 0) × ((fact : FactValue) × Has facts fact × IsObject id fact)

@@ -1,0 +1,67 @@
+-- How objects are reached from roots. Of roots: heapDumper.cpp, "HPROF binary format", HPROF_GC_ROOT_UNKNOWN and those behind it; what
+-- they keep alive is their object. Nodes, steps and paths are this project's own.
+use Rattle.std.specs.Prelude.{◌≡◌, ◌≢◌, ◌⊎◌, ◌∷◌, [], ◌++◌, ℕ, List, Option, map}
+use Rattle.hprof_values.specs.declared.ids.IdSize.{IdSize}
+use Rattle.hprof_values.specs.declared.root.Root.{Root}
+use Rattle.hprof_values.specs.declared.root.Root.TheVariants as roots
+use Rattle.hprof_items.specs.FactValue.{FactValue, Rooted}
+use Rattle.hprof_rows.specs.Facts.{Has}
+use Rattle.hprof_finding.specs.Classes.{ClassDump, HasDump}
+use Rattle.hprof_finding.specs.Objects.{IsObject}
+use Rattle.hprof_edges.specs.declared.edge.Via.{Via}
+use Rattle.hprof_edges.specs.Edges.{IsEdge}
+use Rattle.hprof_walks.specs.Search.{IsSearch}
+use Rattle.hprof_walks.specs.Walks.{HasDistance, IsPath}
+use Rattle.hprof_reach.specs.declared.reach.Reach.{Reach}
+
+-- the identifier has a class dump, or an object dump
+abbrev pub IsDumped : List FactValue → ℕ → Type 0
+IsDumped facts id = ((dump : ClassDump) × HasDump facts dump × (dump.id ≡ id)) ⊎ ((fact : FactValue) × Has facts fact × IsObject id fact)
+
+-- it is a node: it has a dump, and is not 0
+abbrev pub IsNode : List FactValue → ℕ → Type 0
+IsNode facts id = (id ≢ 0) × IsDumped facts id
+
+-- the object that a root keeps alive. The reference of a JNI global root is none
+abbrev pub root_id : Root → ℕ
+root_id (roots.JniGlobal id reference) = id
+root_id (roots.JniLocal id thread frame) = id
+root_id (roots.JavaFrame id thread frame) = id
+root_id (roots.NativeStack id thread) = id
+root_id (roots.Sticky id) = id
+root_id (roots.Block id thread) = id
+root_id (roots.Monitor id) = id
+root_id (roots.ThreadObject id thread trace) = id
+root_id (roots.Unknown id) = id
+
+-- one of the roots keeps it alive
+pub record IsRooted (facts : List FactValue) (id : ℕ) : Type 0 where
+  pub root : Root
+  pub has : Has facts (Rooted root)
+  pub is : root_id root ≡ id
+
+-- chains begin at nodes that a root keeps alive
+abbrev pub IsStart : List FactValue → ℕ → Type 0
+IsStart facts id = IsNode facts id × IsRooted facts id
+
+-- an edge leads from the one identifier to the other, of whatever kind
+pub record Leads (ids : IdSize) (facts : List FactValue) (from to : ℕ) : Type 0 where
+  pub via : Via
+  pub position : ℕ
+  pub edge : IsEdge ids facts (record { from = from; via = via; position = position; to = to })
+
+-- they lead on to nodes
+abbrev pub IsStep : IdSize → List FactValue → ℕ → ℕ → Type 0
+IsStep ids facts from to = Leads ids facts from to × IsNode facts to
+
+-- how many edges lead to an identifier from a root, and no fewer; none where none do
+abbrev pub IsDistanceFromRoots : IdSize → List FactValue → ℕ → Option ℕ → Type 0
+IsDistanceFromRoots ids facts id distance = HasDistance (IsStart facts) (IsStep ids facts) id distance
+
+-- the path to an identifier from a root: from its end back, each is the least node that is one nearer, with an edge to the next
+abbrev pub IsPathFromRoots : IdSize → List FactValue → ℕ → Option (List ℕ) → Type 0
+IsPathFromRoots ids facts id path = IsPath (IsStart facts) (IsStep ids facts) id path
+
+-- what is kept tells of each identifier its distance and its path
+abbrev pub IsReach : IdSize → List FactValue → Reach → Type 0
+IsReach ids facts reach = IsSearch (IsStart facts) (IsStep ids facts) reach.search

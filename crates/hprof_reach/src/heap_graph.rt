@@ -1,0 +1,41 @@
+//! A heap as a graph.
+
+use crate::targets::Targets;
+use hprof_edges::known_edges;
+use hprof_heap::Heap;
+use hprof_laying::{KnownLayouts, Reference};
+use hprof_walks::Graph;
+use std::alloc::AllocError;
+
+/// The edges of a heap, with what is used again for each node.
+#[derive(Drop)]
+pub(crate) struct HeapGraph<'h> {
+    pub(crate) heap: &'h Heap,
+    /// The known layouts of its classes.
+    pub(crate) known: KnownLayouts,
+    pub(crate) references: Vec<Reference>,
+    pub(crate) targets: Targets,
+}
+
+impl<'h> Graph for HeapGraph<'h> {
+    ghost use Rattle.hprof_finding.specs.HeapFacts.{facts_of, size_of};
+    ghost use Rattle.hprof_laying.specs.Known.{Knows};
+    ghost use Rattle.hprof_reach.specs.Reaching.{Leads};
+
+    ghost leads = { λ graph. Leads (size_of graph.heap.now) (facts_of graph.heap.now) };
+
+    ghost stands = { λ graph. Knows (size_of graph.heap.now) (facts_of graph.heap.now) graph.known };
+
+    fn push_targets(&mut self, from: u64, targets: &mut Vec<u64>) -> Result<(), AllocError> {
+        self.targets.list.clear();
+        known_edges(
+            self.heap,
+            &self.known,
+            from,
+            &mut self.references,
+            &mut self.targets,
+        )?;
+        targets.extend_from_slice(&self.targets.list)?;
+        Ok(())
+    }
+}

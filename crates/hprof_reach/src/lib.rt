@@ -1,0 +1,11 @@
+//! How objects are reached from roots: how few references lead to each, and by which path.
+#![tactic(auto)]
+
+mod heap_graph;
+pub mod laws;
+mod nodes;
+mod reach;
+mod starts;
+mod targets;
+
+pub use reach::{Reach, reach_of};

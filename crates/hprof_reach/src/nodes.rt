@@ -1,0 +1,82 @@
+//! The nodes of a heap.
+
+ghost use Rattle.std.specs.Prelude.{◌≡◌, ◌≢◌, ◌↔◌, ◌⊎◌, ℕ, IfOk, OnOk, Contains};
+ghost use Rattle.std.specs.List.Sorted.{IsStrictlyIncreasing};
+ghost use Rattle.hprof_finding.specs.HeapFacts.{facts_of};
+ghost use Rattle.hprof_finding.specs.ObjectRow.{fact_of_object};
+ghost use Rattle.hprof_finding.specs.Objects.{IsObject};
+ghost use Rattle.hprof_reach.specs.Nodes.{IsClassNode, IsObjectNode};
+ghost use Rattle.hprof_reach.specs.Reaching.{IsNode};
+
+use hprof_finding::{ObjectRow, table_facts, table_len, to_class_row, to_object_row};
+use hprof_heap::{Heap, Table};
+use std::alloc::{AllocError, Global};
+
+/// Puts an identifier behind others, but for 0.
+fn push_node(nodes: &mut Vec<u64>, id: u64) -> Result<(), AllocError>
+    ensures { OnOk result ((node : ℕ) → Contains nodes.new.items node ↔ (Contains nodes.old.items node ⊎ ((node ≢ 0) × (id ≡ node)))) }
+{
+    if id != 0 {
+        nodes.push(id)?;
+    }
+    Ok(())
+}
+
+/// The identifier of an object dump.
+fn id_of(row: &ObjectRow<'_>) -> u64
+    ensures { IsObject result (fact_of_object row.now) }
+{
+    match *row {
+        ObjectRow::Instance { id, .. } => id,
+        ObjectRow::ObjArray { id, .. } => id,
+        ObjectRow::PrimArray { id, .. } => id,
+    }
+}
+
+/// Puts the identifiers that have a class dump behind others.
+fn push_classes(heap: &Heap, nodes: &mut Vec<u64>) -> Result<(), AllocError>
+    ensures { OnOk result ((node : ℕ) → Contains nodes.new.items node
+        ↔ (Contains nodes.old.items node ⊎ IsClassNode (facts_of heap.now) node)) }
+{
+    for fact in table_facts(heap, Table::Classes) {
+        if let Some(row) = to_class_row(&fact) {
+            push_node(nodes, row.id)?;
+        }
+    }
+    Ok(())
+}
+
+/// Puts the identifiers that have an object dump behind others.
+fn push_objects(heap: &Heap, nodes: &mut Vec<u64>) -> Result<(), AllocError>
+    ensures { OnOk result ((node : ℕ) → Contains nodes.new.items node
+        ↔ (Contains nodes.old.items node ⊎ IsObjectNode (facts_of heap.now) node)) }
+{
+    for fact in table_facts(heap, Table::Objects) {
+        if let Some(row) = to_object_row(&fact) {
+            push_node(nodes, id_of(&row))?;
+        }
+    }
+    Ok(())
+}
+
+/// Puts numbers in order, each once. It takes no memory.
+fn sort_once(nodes: &mut Vec<u64>)
+    ensures ascend { IsStrictlyIncreasing nodes.new.items }
+    ensures same { (node : ℕ) → Contains nodes.new.items node ↔ Contains nodes.old.items node }
+{
+    nodes.sort_unstable();
+    nodes.dedup();
+}
+
+/// All nodes of a heap, in ascending order. The error is that memory was refused.
+pub(crate) fn nodes_of(alloc: Global, heap: &Heap) -> Result<Vec<u64>, AllocError>
+    ensures ascend { IfOk result (λ nodes. IsStrictlyIncreasing nodes.items) }
+    ensures all { IfOk result (λ nodes. (node : ℕ) → Contains nodes.items node ↔ IsNode (facts_of heap.now) node) }
+{
+    let most = table_len(heap, Table::Classes).saturating_add(table_len(heap, Table::Objects));
+    let mut nodes = Vec::with_capacity(alloc, most)?;
+    push_classes(heap, &mut nodes)?;
+    push_objects(heap, &mut nodes)?;
+    sort_once(&mut nodes);
+    Ok(nodes)
+}

@@ -1,0 +1,61 @@
+//! How objects are reached.
+
+ghost use Rattle.std.specs.Prelude.{ℕ, List, IfOk};
+ghost use Rattle.std.specs.Option.{option_map};
+ghost use Rattle.hprof_values.specs.declared.ids.IdSize.{IdSize};
+ghost use Rattle.hprof_items.specs.FactValue.{FactValue};
+ghost use Rattle.hprof_finding.specs.HeapFacts.{facts_of, size_of};
+ghost use Rattle.hprof_reach.specs.Reaching.{IsDistanceFromRoots, IsPathFromRoots, IsReach};
+
+use crate::heap_graph::HeapGraph;
+use crate::nodes::nodes_of;
+use crate::starts::starts_of;
+use crate::targets::Targets;
+use hprof_heap::Heap;
+use hprof_laying::known_layouts;
+use hprof_walks::{Search, search};
+use std::alloc::{AllocError, Global};
+
+/// How the classes and objects of a heap are reached from its roots.
+#[derive(Drop)]
+pub struct Reach {
+    search: Search,
+}
+
+impl Reach {
+    /// How few references lead to an identifier from a root; None where none do, or it has no dump. It takes no memory.
+    pub fn distance(&self, id: u64) -> Option<u64>
+        ensures { (ids : IdSize) (facts : List FactValue) → IsReach ids facts self.now → IsDistanceFromRoots ids facts id result }
+    {
+        self.search.distance(id)
+    }
+
+    /// The path to an identifier from a root: a shortest one, and from its end back each is the least that it could be; None
+    /// where no root leads there. The error is that memory was refused.
+    pub fn path(&self, alloc: Global, id: u64) -> Result<Option<Vec<u64>>, AllocError>
+        ensures { IfOk result (λ path. (ids : IdSize) (facts : List FactValue) → IsReach ids facts self.now
+            → IsPathFromRoots ids facts id (option_map (λ nodes. nodes.items) path)) }
+    {
+        self.search.path(alloc, id)
+    }
+}
+
+/// How the classes and objects of a heap are reached from its roots. Each reference is looked at once. The error is that memory
+/// was refused.
+pub fn reach_of(alloc: Global, heap: &Heap) -> Result<Reach, AllocError>
+    ensures { IfOk result (IsReach (size_of heap.now) (facts_of heap.now)) }
+{
+    let known = known_layouts(alloc, heap)?;
+    let mut graph = HeapGraph {
+        heap,
+        known,
+        references: Vec::new(alloc),
+        targets: Targets {
+            list: Vec::new(alloc),
+        },
+    };
+    let nodes = nodes_of(alloc, heap)?;
+    let starts = starts_of(alloc, heap)?;
+    let search = search(alloc, &mut graph, nodes, &starts)?;
+    Ok(Reach { search })
+}

@@ -1,0 +1,41 @@
+//! What roots keep alive.
+
+ghost use Rattle.std.specs.Prelude.{◌≡◌, ◌↔◌, ℕ, IfOk, Contains};
+ghost use Rattle.hprof_finding.specs.HeapFacts.{facts_of};
+ghost use Rattle.hprof_reach.specs.Reaching.{IsRooted, root_id};
+
+use hprof_finding::table_facts;
+use hprof_heap::{Heap, Table};
+use hprof_items::Fact;
+use hprof_values::Root;
+use std::alloc::{AllocError, Global};
+
+/// The object that a root keeps alive.
+fn root_id(root: Root) -> u64
+    ensures { result ≡ root_id root }
+{
+    match root {
+        Root::JniGlobal { id, .. } => id,
+        Root::JniLocal { id, .. } => id,
+        Root::JavaFrame { id, .. } => id,
+        Root::NativeStack { id, .. } => id,
+        Root::Sticky { id } => id,
+        Root::Block { id, .. } => id,
+        Root::Monitor { id } => id,
+        Root::ThreadObject { id, .. } => id,
+        Root::Unknown { id } => id,
+    }
+}
+
+/// The objects that the roots of a heap keep alive, in whatever order and however often. The error is that memory was refused.
+pub(crate) fn starts_of(alloc: Global, heap: &Heap) -> Result<Vec<u64>, AllocError>
+    ensures { IfOk result (λ starts. (id : ℕ) → Contains starts.items id ↔ IsRooted (facts_of heap.now) id) }
+{
+    let mut starts = Vec::new(alloc);
+    for fact in table_facts(heap, Table::Roots) {
+        if let Fact::Root(root) = fact {
+            starts.push(root_id(root))?;
+        }
+    }
+    Ok(starts)
+}
