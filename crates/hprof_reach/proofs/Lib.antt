@@ -1,2 +1,3 @@
 pub mod SameWalks
 pub mod Reached
+pub mod TableNodes
