@@ -1,3 +1,4 @@
 pub mod SameWalks
 pub mod Reached
 pub mod TableNodes
+pub mod TargetLists

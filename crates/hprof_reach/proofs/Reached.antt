@@ -1,6 +1,6 @@
 -- What is found of a heap's nodes, roots and edges is what they are.
-use Rattle.std.specs.Prelude.{◌↔◌, ◌≢◌, Contains}
-use Rattle.std.proofs.Common.{◌≡◌, ◌⊎◌, ℕ, List, inl, inr}
+use Rattle.std.specs.Prelude.{◌↔◌, Contains}
+use Rattle.std.proofs.Common.{◌≡◌, ◌⊎◌, ℕ, List, [], inl, inr, arith, subst}
 use Rattle.hprof_values.specs.declared.ids.IdSize.{IdSize}
 use Rattle.hprof_items.specs.FactValue.{FactValue}
 use Rattle.hprof_walks.specs.declared.kept_search.Search.{Search}
@@ -29,3 +29,38 @@ reached ids facts nodes starts search are rooted is =
     (λ from to. Leads ids facts from to × Contains nodes to) (IsStep ids facts)
     (λ node. (λ start. ((are node).0 start.0, (rooted node).0 start.1), λ start. ((are node).1 start.0, (rooted node).1 start.1)))
     (λ from to. (λ step. (step.0, (are to).0 step.1), λ step. (step.0, (are to).1 step.1))) search is
+
+none_in : (id : ℕ) → Contains [] id → ⊥
+none_in id has = omega (arith, has.1)
+
+-- what was gathered of class dumps and of object dumps, and then sorted, are the nodes
+pub all_nodes : (facts : List FactValue) (none classes objects sorted : List ℕ) → none ≡ []
+    → ((id : ℕ) → Contains classes id ↔ (Contains none id ⊎ IsClassNode facts id))
+    → ((id : ℕ) → Contains objects id ↔ (Contains classes id ⊎ IsObjectNode facts id))
+    → ((id : ℕ) → Contains sorted id ↔ Contains objects id) → (id : ℕ) → Contains sorted id ↔ IsNode facts id
+all_nodes facts none classes objects sorted nothing of_classes of_objects same id = (there, back) where
+  first : Contains classes id → IsClassNode facts id
+  first has = elim ((of_classes id).0 has) [
+    | inl old ↦ absurd (none_in id (subst (λ (l : List ℕ). Contains l id) nothing old))
+    | inr is ↦ is
+  ]
+
+  there : Contains sorted id → IsNode facts id
+  there has = elim ((of_objects id).0 ((same id).0 has)) [
+    | inl old ↦ (either_dump facts id).1 (inl (first old))
+    | inr is ↦ (either_dump facts id).1 (inr is)
+  ]
+
+  back : IsNode facts id → Contains sorted id
+  back is = elim ((either_dump facts id).0 is) [
+    | inl class ↦ (same id).1 ((of_objects id).1 (inl ((of_classes id).1 (inr class))))
+    | inr object ↦ (same id).1 ((of_objects id).1 (inr object))
+  ]
+
+-- what was gathered of roots, from nothing on
+pub all_starts : (facts : List FactValue) (starts : List ℕ)
+    → ((id : ℕ) → Contains starts id ↔ (Contains [] id ⊎ IsRooted facts id)) → (id : ℕ) → Contains starts id ↔ IsRooted facts id
+all_starts facts starts are id = (
+  λ has. elim ((are id).0 has) [ inl none ↦ absurd (none_in id none) | inr is ↦ is ],
+  λ is. (are id).1 (inr is),
+)

@@ -1,6 +1,6 @@
 -- Walks over the same starts and steps are the same walks, however these are told.
 use Rattle.std.specs.Prelude.{◌↔◌, reverse}
-use Rattle.std.proofs.Common.{◌≡◌, ℕ, zero, suc, List, Option, Some, None}
+use Rattle.std.proofs.Common.{ℕ, zero, suc, List, Option, Some, None}
 use Rattle.hprof_walks.specs.declared.kept_search.Search.{Search}
 use Rattle.hprof_walks.specs.Search.{IsSearch, distance_in, path_in}
 use Rattle.hprof_walks.specs.Walks.{HasDistance, IsDistance, IsLeastBefore, IsPath, IsWayBack, Reaches}

@@ -3,6 +3,10 @@ use Rattle.std.specs.Prelude.{◌↔◌, ◌≢◌, Contains}
 use Rattle.std.proofs.Common.{◌≡◌, ◌⊎◌, ℕ, Some, true, List, [], ◌∷◌, ◌++◌, refl, sym, ap, subst, ◌∙◌, inl, inr, append_assoc}
 use Rattle.std.proofs.lemmas.List.{append-nil}
 use Rattle.hprof_values.specs.declared.root.Root.{Root}
+use Rattle.std.proofs.lemmas.List.Elements.{Contains-append_left, Contains-push, Contains-push_cases}
+use Rattle.hprof_items.specs.declared.fact.Fact.{Fact}
+use Rattle.hprof_items.specs.declared.fact.Fact.TheVariants as facts
+use Rattle.hprof_items.specs.FactValue.{value_of}
 use Rattle.hprof_items.specs.FactValue.{FactValue, Instance, ObjArray, PrimArray, Rooted}
 use Rattle.hprof_rows.specs.declared.key.Key.TheVariants as keys
 use Rattle.hprof_rows.specs.declared.table.Table.TheVariants as tables
@@ -121,14 +125,16 @@ pub class_nodes : (facts : List FactValue) (id : ℕ) → IsGiven GivesClass (fa
 class_nodes facts id = (
   λ is. (
     is.gives.not_zero,
-    is.gives.dump,
-    subst (Has facts) (sym is.gives.is) (picked_is (stands_in (number_of_table tables.Classes)) facts is.fact is.has).has,
-    is.gives.id_is,
+    (
+      is.gives.dump,
+      subst (Has facts) (sym is.gives.is) (picked_is (stands_in (number_of_table tables.Classes)) facts is.fact is.has).has,
+      is.gives.id_is,
+    ),
   ),
   λ node. record {
-    fact = fact_of_dump node.1;
-    has = dump_in_table facts node.1 node.2;
-    gives = record { not_zero = node.0; dump = node.1; is = refl; id_is = node.3 };
+    fact = fact_of_dump node.1.0;
+    has = dump_in_table facts node.1.0 node.1.1;
+    gives = record { not_zero = node.0; dump = node.1.0; is = refl; id_is = node.1.2 };
   },
 )
 
@@ -160,15 +166,13 @@ pub object_nodes : (facts : List FactValue) (id : ℕ)
 object_nodes facts id = (
   λ is. (
     is.gives.0,
-    is.fact,
-    (picked_is (stands_in (number_of_table tables.Objects)) facts is.fact is.has).has,
-    is.gives.1,
+    (is.fact, (picked_is (stands_in (number_of_table tables.Objects)) facts is.fact is.has).has, is.gives.1),
   ),
   λ node. record {
-    fact = node.1;
-    has = picked (stands_in (number_of_table tables.Objects)) facts node.1
-        (record { has = node.2; passes = stands_there node.1 id node.3 });
-    gives = (node.0, node.3);
+    fact = node.1.0;
+    has = picked (stands_in (number_of_table tables.Objects)) facts node.1.0
+        (record { has = node.1.1; passes = stands_there node.1.0 id node.1.2 });
+    gives = (node.0, node.1.2);
   },
 )
 
@@ -187,6 +191,9 @@ gives_root root fact is id = (
   λ id_is. record { root = root; is = is; id_is = id_is },
 )
 
+pub gives_no_root : (fact : FactValue) → ((root : Root) → Rooted root ≡ fact → ⊥) → (id : ℕ) → GivesRoot fact id → ⊥
+gives_no_root fact none id gives = none gives.root gives.is
+
 pub rooted : (facts : List FactValue) (id : ℕ) → IsGiven GivesRoot (facts_of_table tables.Roots facts) id ↔ IsRooted facts id
 rooted facts id = (
   λ is. record {
@@ -200,3 +207,22 @@ rooted facts id = (
     gives = record { root = is.root; is = refl; id_is = is.is };
   },
 )
+
+-- one is put behind others
+pub one_more : (before after : List ℕ) (one : ℕ) (Gives : ℕ → Type 0) → after ≡ before ++ one ∷ [] → ((id : ℕ) → Gives id ↔ (one ≡ id))
+    → (id : ℕ) → Contains after id ↔ (Contains before id ⊎ Gives id)
+one_more before after one Gives are is id = (
+  λ has. elim (Contains-push_cases before one id (subst (λ (l : List ℕ). Contains l id) are has)) [
+    | inl old ↦ inl old
+    | inr same ↦ inr ((is id).1 same)
+  ],
+  λ either. subst (λ (l : List ℕ). Contains l id) (sym are) (elim either [
+    | inl old ↦ Contains-append_left before (one ∷ []) id old
+    | inr gives ↦ subst (λ (n : ℕ). Contains (before ++ one ∷ []) n) ((is id).0 gives) (Contains-push before one)
+  ]),
+)
+
+-- a fact in hand of another form is no root
+pub no_root : (fact : Fact) → ((root : Root) → fact ≡ facts.Root root → ⊥) → (root : Root) → Rooted root ≡ value_of fact → ⊥
+no_root (facts.Root own) none root is = none own refl
+no_root fact none root is = absurd cc

@@ -1,0 +1,52 @@
+-- The targets of edges that were put are what the edges lead to.
+use Rattle.std.specs.Prelude.{◌↔◌, map}
+use Rattle.std.proofs.Common.{◌≡◌, ℕ, List, [], ◌∷◌, Contains, refl, sym, subst, inl, inr, arith}
+use Rattle.std.proofs.lemmas.List.Elements.{Contains-append_cases, Contains-append_left, Contains-append_right, Contains-push}
+use Rattle.hprof_values.specs.declared.ids.IdSize.{IdSize}
+use Rattle.hprof_items.specs.FactValue.{FactValue}
+use Rattle.hprof_edges.specs.declared.edge.Edge.{Edge}
+use Rattle.hprof_edges.specs.Edges.{IsEdge}
+use Rattle.hprof_edges.proofs.EdgeMembers.{one_there}
+use Rattle.hprof_reach.specs.Reaching.{Leads}
+
+-- one of the edges leads there
+abbrev IsTarget : List Edge → ℕ → Type 0
+IsTarget edges to = (edge : Edge) × Contains edges edge × (edge.to ≡ to)
+
+is_target : (edges : List Edge) (to : ℕ) → Contains (map (λ (edge : Edge). edge.to) edges) to → IsTarget edges to
+is_target [] to has = absurd (omega (arith, has.1))
+is_target (edge ∷ edges) to has = elim (Contains-append_cases (edge.to ∷ []) (map (λ (e : Edge). e.to) edges) to has) [
+  | inl here ↦ (edge, Contains-append_left (edge ∷ []) edges edge (Contains-push [] edge), one_there edge.to to here)
+  | inr later ↦ let is = is_target edges to later in (is.0, Contains-append_right (edge ∷ []) edges is.0 is.1, is.2)
+]
+
+from_target : (edges : List Edge) (edge : Edge) → Contains edges edge → Contains (map (λ (e : Edge). e.to) edges) edge.to
+from_target [] edge has = absurd (omega (arith, has.1))
+from_target (first ∷ edges) edge has = elim (Contains-append_cases (first ∷ []) edges edge has) [
+  | inl here ↦ subst (λ (e : Edge). Contains (first.to ∷ map (λ (e : Edge). e.to) edges) e.to) (one_there first edge here)
+      (Contains-append_left (first.to ∷ []) (map (λ (e : Edge). e.to) edges) first.to (Contains-push [] first.to))
+  | inr later ↦ Contains-append_right (first.to ∷ []) (map (λ (e : Edge). e.to) edges) edge.to (from_target edges edge later)
+]
+
+-- the targets of all edges from an identifier
+pub led_to : (ids : IdSize) (facts : List FactValue) (from : ℕ) (edges : List Edge) (targets : List ℕ)
+    → targets ≡ map (λ (edge : Edge). edge.to) edges
+    → ((edge : Edge) → Contains edges edge ↔ (IsEdge ids facts edge × (edge.from ≡ from)))
+    → (to : ℕ) → Contains targets to ↔ Leads ids facts from to
+led_to ids facts from edges targets are exact to = (there, back) where
+  there : Contains targets to → Leads ids facts from to
+  there has =
+      let target = is_target edges to (subst (λ (l : List ℕ). Contains l to) are has) in
+      let edge = target.0 in
+      let is = (exact edge).0 target.1 in
+      record {
+        via = edge.via;
+        position = edge.position;
+        edge = subst (λ (t : ℕ). IsEdge ids facts (record { from = from; via = edge.via; position = edge.position; to = t })) target.2
+            (subst (λ (f : ℕ). IsEdge ids facts (record { from = f; via = edge.via; position = edge.position; to = edge.to })) is.1 is.0);
+      }
+
+  back : Leads ids facts from to → Contains targets to
+  back leads =
+      let edge : Edge = record { from = from; via = leads.via; position = leads.position; to = to } in
+      subst (λ (l : List ℕ). Contains l to) (sym are) (from_target edges edge ((exact edge).1 (leads.edge, refl)))

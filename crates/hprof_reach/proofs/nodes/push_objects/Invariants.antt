@@ -1,0 +1,10 @@
+use Rattle.hprof_rows.specs.declared.table.Table.TheVariants as tables
+use Rattle.hprof_rows.specs.FactsLeft.{facts_left}
+use Rattle.hprof_rows.specs.Tables.{facts_of_table}
+use Rattle.hprof_finding.specs.HeapFacts.{facts_of}
+use Rattle.hprof_reach.proofs.TableNodes.{GivesObject, GoneOver}
+use Rattle.hprof_reach.proofs.nodes.push_objects.Given as goal
+
+abbrev pub invariant-loop-fact : goal.invariant-loop-fact
+invariant-loop-fact l = GoneOver GivesObject l.fn.nodes.items l.nodes.items (facts_of_table tables.Objects (facts_of l.heap))
+    (facts_left l.fact-iterator)
