@@ -1,13 +1,11 @@
 -- Of facts that agree there is a list of all edges from an identifier.
 use Rattle.std.specs.Prelude.{◌↔◌, Contains}
-use Rattle.std.proofs.Common.{◌≡◌, ◌⊎◌, ℕ, List, [], ◌++◌, refl, sym, ◌∙◌, inl, inr}
+use Rattle.std.proofs.Common.{◌≡◌, ◌⊎◌, ℕ, List, [], ◌++◌, sym, ◌∙◌, inl, inr}
 use Rattle.std.proofs.lemmas.List.Elements.{Contains-append_cases, Contains-append_left, Contains-append_right}
 use Rattle.hprof_values.specs.declared.ids.IdSize.{IdSize}
 use Rattle.hprof_items.specs.FactValue.{FactValue, Name, Load, Unload, Frame, Trace, Start, End, Rooted, Class, Instance, ObjArray, PrimArray}
 use Rattle.hprof_rows.specs.declared.key.Key.TheVariants as keys
 use Rattle.hprof_rows.specs.Conflict.{IsConsistent}
-use Rattle.hprof_rows.specs.Facts.{Has}
-use Rattle.hprof_finding.specs.Objects.{IsObject}
 use Rattle.hprof_finding.proofs.ClassFacts.{one_dump_each}
 use Rattle.hprof_finding.proofs.ClassFacts as classes
 use Rattle.hprof_finding.proofs.ObjectFacts.{IsOnlyObject}
@@ -16,7 +14,7 @@ use Rattle.hprof_layouts.specs.Fields.{AreFields, FieldsValue, Values, Missing, 
 use Rattle.hprof_layouts.proofs.FieldAnswers.{fields_exist}
 use Rattle.hprof_edges.specs.declared.edge.Edge.{Edge}
 use Rattle.hprof_edges.specs.declared.edge.Via.TheVariants as vias
-use Rattle.hprof_edges.specs.DumpEdges.{GivenByClass, GivenByInstance, GivenByObject}
+use Rattle.hprof_edges.specs.DumpEdges.{GivenByClass, GivenByInstance, GivenByObject, IsEdgeToClass}
 use Rattle.hprof_edges.specs.EdgeLists.{named_edges, numbered, targets_of_constants, targets_of_statics, targets_of_values, unless_zero}
 use Rattle.hprof_edges.specs.Edges.{IsEdge}
 use Rattle.hprof_edges.proofs.ClassDumpEdges.{class_dump_edges}
@@ -68,7 +66,7 @@ module _ (ids : IdSize) (facts : List FactValue) (agree : IsConsistent facts) (i
           ++ numbered dump.id vias.Fixed 0 (targets_of_statics dump.statics));
       exact = class_dump_edges dump;
     }) (by_class facts id dump has same
-    (λ other has_other same_other. one_dump_each facts agree dump other has has_other (same ∙ sym same_other)))
+        (λ other has_other same_other. one_dump_each facts agree dump other has has_other (same ∙ sym same_other)))
   ]
 
   by_fields : Listed (GivenByInstance ids facts id)
@@ -90,7 +88,7 @@ module _ (ids : IdSize) (facts : List FactValue) (agree : IsConsistent facts) (i
     | objects.Found fact has is ↦ go fact
         (record { has = has; id = is; only = λ other has_other is_other. agree (keys.Object id) fact other has has_other is is_other })
   ] where
-    to_the_class : (class : ℕ) → Listed (λ edge. _)
+    to_the_class : (class : ℕ) → Listed (IsEdgeToClass id class)
     to_the_class class = record {
       edges = unless_zero (record { from = id; via = vias.Class; position = 0; to = class });
       exact = to_class id class;

@@ -1,7 +1,7 @@
 -- Of facts that agree each identifier has a distance from the roots, or none, and a path, or none.
 use Rattle.std.specs.Prelude.{◌↔◌, Contains, map}
 use Rattle.std.specs.List.{flat_map}
-use Rattle.std.proofs.Common.{◌≡◌, ◌⊎◌, ℕ, ◌==◌, Bool, true, false, List, [], ◌∷◌, Option, refl, sym, ap, subst, ◌∙◌, inl, inr}
+use Rattle.std.proofs.Common.{◌≡◌, ◌⊎◌, ℕ, ◌==◌, Bool, true, false, List, [], ◌∷◌, Option, refl, sym, ap, subst, inl, inr}
 use Rattle.std.proofs.lemmas.Bool.{eqb-true, eq-eqb, or_cases, or_left, or_right}
 use Rattle.std.proofs.lemmas.List.Elements.{Contains-append_cases, Contains-append_left, Contains-append_right, Contains-push}
 use Rattle.hprof_values.specs.declared.ids.IdSize.{IdSize}
@@ -37,7 +37,7 @@ module _ (of : FactValue → List ℕ) where
   ]
 
 -- the identifier that has a dump
-dumped : FactValue → List ℕ
+abbrev dumped : FactValue → List ℕ
 dumped (Class id trace parent loader signers domain reserved1 reserved2 size constants statics fields) = id ∷ []
 dumped (Instance id trace class bytes) = id ∷ []
 dumped (ObjArray id trace class elements) = id ∷ []
@@ -45,7 +45,7 @@ dumped (PrimArray id trace elem bytes) = id ∷ []
 dumped fact = []
 
 -- the object that a root keeps alive
-rooted : FactValue → List ℕ
+abbrev rooted : FactValue → List ℕ
 rooted (Rooted root) = root_id root ∷ []
 rooted fact = []
 
@@ -76,13 +76,13 @@ module _ (P : ℕ → Type 0) (decide : (n : ℕ) → P n ⊎ (P n → ⊥)) whe
     pub exact : (n : ℕ) → (has list n ≡ true) ↔ ((has xs n ≡ true) × P n)
 
   picked : (xs : List ℕ) → Picked xs
-  picked [] = record { list = []; exact = λ n. (λ e. absurd cc, λ e. absurd (let no = e.0 in cc)) }
+  picked [] = record { list = []; exact = λ n. (λ e. absurd cc, λ e. absurd (let none = e.0 in cc)) }
   picked (x ∷ xs) = elim (decide x) [
-    | inl yes ↦ record {
+    | inl holds ↦ record {
       list = x ∷ (picked xs).list;
       exact = λ n. (
         λ e. elim (or_cases (n == x) (has (picked xs).list n) e) [
-          | inl here ↦ (or_left (n == x) (has xs n) here, subst P (sym (eqb-true n x here)) yes)
+          | inl here ↦ (or_left (n == x) (has xs n) here, subst P (sym (eqb-true n x here)) holds)
           | inr later ↦ let more = ((picked xs).exact n).0 later in (or_right (n == x) (has xs n) more.0, more.1)
         ],
         λ is. elim (or_cases (n == x) (has xs n) is.0) [
@@ -91,12 +91,12 @@ module _ (P : ℕ → Type 0) (decide : (n : ℕ) → P n ⊎ (P n → ⊥)) whe
         ],
       );
     }
-    | inr no ↦ record {
+    | inr fails ↦ record {
       list = (picked xs).list;
       exact = λ n. (
         λ e. (let more = ((picked xs).exact n).0 e in (or_right (n == x) (has xs n) more.0, more.1)),
         λ is. elim (or_cases (n == x) (has xs n) is.0) [
-          | inl here ↦ absurd (no (subst P (eqb-true n x here) is.1))
+          | inl here ↦ absurd (fails (subst P (eqb-true n x here) is.1))
           | inr later ↦ ((picked xs).exact n).1 (later, is.1)
         ],
       );
@@ -145,7 +145,7 @@ module _ (ids : IdSize) (facts : List FactValue) (agree : IsConsistent facts) wh
       | inr none ↦ inr (λ is. none is.1)
     ]
 
-  nodes : List ℕ
+  abbrev nodes : List ℕ
   nodes = flat_map dumped facts
 
   node_there : (id : ℕ) → IsNode facts id → has nodes id ≡ true
@@ -176,16 +176,16 @@ module _ (ids : IdSize) (facts : List FactValue) (agree : IsConsistent facts) wh
   are_starts : (id : ℕ) → (has starts.list id ≡ true) ↔ IsStart facts id
   are_starts id = (
     λ e. (
-      let is = (starts.exact id).0 e in
-      let fact = given rooted facts id is.0 in
-      (is.1, root_of fact.0 id fact.1 fact.2)
-    ),
+        let is = (starts.exact id).0 e in
+        let fact = given rooted facts id is.0 in
+        (is.1, root_of fact.0 id fact.1 fact.2)
+        ),
     λ is. (starts.exact id).1 (gives rooted facts (Rooted is.1.root) id is.1.has (one_has (root_id is.1.root) id is.1.is), is.0),
   )
 
   -- ---- steps
 
-  leads_to : ℕ → List ℕ
+  abbrev leads_to : ℕ → List ℕ
   leads_to from = map (λ edge. edge.to) (edges_exist ids facts agree from).edges
 
   are_led_to : (from to : ℕ) → (has (leads_to from) to ≡ true) ↔ Leads ids facts from to
@@ -205,7 +205,7 @@ module _ (ids : IdSize) (facts : List FactValue) (agree : IsConsistent facts) wh
   steps_to : (from : ℕ) → Picked (IsNode facts) node_decided (leads_to from)
   steps_to from = picked (IsNode facts) node_decided (leads_to from)
 
-  targets : ℕ → List ℕ
+  abbrev targets : ℕ → List ℕ
   targets from = (steps_to from).list
 
   are_targets : (from to : ℕ) → (has (targets from) to ≡ true) ↔ IsStep ids facts from to

@@ -1,6 +1,6 @@
 -- How objects are reached from roots. Of roots: heapDumper.cpp, "HPROF binary format", HPROF_GC_ROOT_UNKNOWN and those behind it; what
 -- they keep alive is their object. Nodes, steps and paths are this project's own.
-use Rattle.std.specs.Prelude.{◌≡◌, ◌≢◌, ◌⊎◌, ◌∷◌, [], ◌++◌, ℕ, List, Option, map}
+use Rattle.std.specs.Prelude.{◌≡◌, ◌≢◌, ◌⊎◌, ℕ, List, Option}
 use Rattle.hprof_values.specs.declared.ids.IdSize.{IdSize}
 use Rattle.hprof_values.specs.declared.root.Root.{Root}
 use Rattle.hprof_values.specs.declared.root.Root.TheVariants as roots

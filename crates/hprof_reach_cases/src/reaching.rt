@@ -52,6 +52,7 @@ fn distances(rt: HostRuntime) -> Result<(), Fail> {
     }
     laws::one_distance_and_path();
     laws::path_is_shortest();
+    laws::some_distance_and_path();
     Ok(())
 }
 
