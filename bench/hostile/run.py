@@ -1,14 +1,19 @@
 #!/usr/bin/env python3
-"""Times the program on hostile dumps: long chains and circles of classes, classes of many fields, instances of many slots.
+"""Times the program on hostile dumps: long chains and circles of classes, classes of many fields, instances of many slots, long
+chains of objects, great arrays, many roots, many that refer to one; and salvages a dump that is cut short at random places.
 
-Each dump is written by this script, and what the program answers is compared with what the dump was made to have. It prints a
-row for each: how many bytes the dump has, and how long the program took.
+Each dump is written by this script, and what the program answers is compared with what the dump was made to have, or, of one
+that is cut short, with what the plain program of bench/real writes. It prints a row for each: how many bytes the dump has, and
+how long the program took.
 
-    bench/hostile/run.py [WORD..]            (of those whose title has one of the words; all)
+    bench/hostile/run.py [--less N] [WORD..]        (of those whose title has one of the words; all)
 
-It needs the built program (`rt run` in crates/hprof leaves it as crates/hprof/out/hprof). It is no part of the gate.
+With --less the greater dumps have an Nth of what their titles say. It needs the built program (`rt run` in crates/hprof leaves
+it as crates/hprof/out/hprof), and rustc for the plain one. It is no part of the gate.
 """
 
+import argparse
+import random
 import struct
 import subprocess
 import sys
@@ -87,6 +92,51 @@ def crowd(count):
     return part([heavy, *(instance(10 + i, 1, b"") for i in range(count))])
 
 
+def chain(count):
+    """So many arrays of one element, each of which is the next, from one root."""
+    return part([sticky(1), *(array(i, 0, [i + 1]) for i in range(1, count + 1))])
+
+
+def great_array(count, nodes):
+    """An array of so many elements, in descending order, from one root, and as many others as are nodes, which are the least."""
+    elements = struct.pack(f">{count}I", *range(count + 1, 1, -1))
+    head = struct.pack(">BIIII", 0x22, 1, 1, count, 0)
+    return part([sticky(1), head + elements, *(array(i, 0, []) for i in range(2, nodes + 2))])
+
+
+def many_roots(count):
+    """So many roots, each of an array that leads to the same object, and as many of what has no dump."""
+    target = 3 * count
+    arrays = (array(i, 0, [target]) for i in range(count, 0, -1))
+    return part([*arrays, array(target, 0, []), *(sticky(i) for i in range(2 * count, 0, -1))])
+
+
+def many_referrers(count):
+    """So many arrays, in descending order, each of which refers to one object, which has no dump."""
+    return part(array(i, 0, [5_000_001]) for i in range(count, 0, -1))
+
+
+TARGET = 0x7FFF_FFFF
+
+
+def laid_chain(count, order):
+    """So many classes of a field each, each below the next, in that order, and an instance of the first, which comes first."""
+    classes = (class_dump(i, 0 if i == count else i + 1, field(1, OBJECT), 1) for i in order)
+    return part([instance(5_000_000, 1, struct.pack(">I", TARGET) * count), *classes])
+
+
+def waiting(count):
+    """So many instances of a class that comes last."""
+    instances = (instance(i, 1, struct.pack(">I", TARGET)) for i in range(count + 1, 1, -1))
+    return part([*instances, class_dump(1, 0, field(1, OBJECT), 1)])
+
+
+def closed_last(count):
+    """A circle of classes, the last of which closes it, and as many instances of the first, which come before them."""
+    instances = (instance(1_000_000 + i, 1, struct.pack(">I", TARGET)) for i in range(count))
+    return part([*instances, *(class_dump(i, 1 if i == count else i + 1, field(1, OBJECT), 1) for i in range(1, count + 1))])
+
+
 def ends(first, last, count):
     """A test of a report: its first line, its last, and how many it has."""
 
@@ -130,26 +180,119 @@ CASES = [
 ]
 
 
+def path_cases(less):
+    """How the last object is reached."""
+    million = 1_000_000 // less
+    elements, nodes = 10 * million, million // 10
+    return [
+        ("a chain of 1,000,000 objects", lambda: chain(million), ["path", f"{million:x}"],
+         ends(f"distance {million - 1}", f"{million:x}", million + 1)),
+        ("a chain of 1,000,000 objects, its end", lambda: chain(million), ["path", f"{million + 1:x}"],
+         ends("not reached", "not reached", 1)),
+        ("an array of 10,000,000 elements", lambda: great_array(elements, nodes), ["path", f"{nodes + 1:x}"],
+         ends("distance 1", f"{nodes + 1:x}", 3)),
+        ("1,000,000 roots", lambda: many_roots(million), ["path", f"{3 * million:x}"],
+         lambda lines: lines == ["distance 1", "1", f"{3 * million:x}"]),
+    ]
+
+
+def refs_cases(less):
+    """What refers to one object, or to one class."""
+    million = 1_000_000 // less
+    target = f"{TARGET:x}"
+    cases = [
+        ("5,000,000 referrers in descending order", lambda: many_referrers(5 * million), ["refs", f"{5_000_001:x}"],
+         ends("1 element 0", f"{5 * million:x} element 0", 5 * million)),
+        ("1,000,000 instances, their class last", lambda: waiting(million), ["refs", target],
+         ends("2 field 0", f"{million + 1:x} field 0", million)),
+        ("a circle of 100,000 classes, closed last", lambda: closed_last(million // 10), ["refs", "1"],
+         ends(f"{million // 10:x} super 0", f"{1_000_000 + million // 10 - 1:x} class 0", million // 10 + 1)),
+        ("a circle of 100,000 classes, its fields", lambda: closed_last(million // 10), ["refs", target],
+         lambda lines: lines == []),
+    ]
+    for count in (100_000, 200_000, 400_000):
+        for order, ids in (("ascending", range(1, count // less + 1)), ("descending", range(count // less, 0, -1))):
+            cases.append(
+                (f"{count:,} classes, {order}", lambda ids=ids: laid_chain(len(ids), ids), ["refs", target],
+                 ends("4c4b40 field 0", f"4c4b40 field {len(ids) - 1}", len(ids)))
+            )
+    return cases
+
+
+def run_case(folder, title, make, words, test):
+    """Runs the program on a dump, and says whether it answers as it should."""
+    dump, out = folder / "dump.hprof", folder / "out"
+    dump.write_bytes(make())
+    start = time.perf_counter()
+    with open(out, "wb") as file:
+        status = subprocess.run([PROGRAM, *words, dump], stdout=file).returncode
+    seconds = time.perf_counter() - start
+    size = dump.stat().st_size
+    print(f"| {title} | {size / 1e6:.1f} MB | {' '.join(words)} | {seconds:.2f} |", flush=True)
+    if status != 0 or not test(out.read_text().splitlines()):
+        print(f"{title}: another answer, status {status}")
+        return False
+    return True
+
+
+def mixed(count):
+    """So many objects of each kind, and classes."""
+    subs = []
+    for i in range(1, count + 1):
+        subs.append(array(4 * i, 7, [4 * i + 1, 4 * i + 4]))
+        subs.append(instance(4 * i + 1, 4 * i + 2, struct.pack(">I", 4 * i)))
+        subs.append(class_dump(4 * i + 2, 4 * i - 2, field(1, OBJECT), 1))
+        subs.append(sticky(4 * i + 2))
+    return part(subs)
+
+
+def salvaged(program, dump, out):
+    """What a program leaves of a dump, and what it prints of it, with its status and the seconds that it takes."""
+    out.unlink(missing_ok=True)
+    start = time.perf_counter()
+    done = subprocess.run([program, "salvage", out, dump], capture_output=True)
+    seconds = time.perf_counter() - start
+    return (done.returncode, done.stdout, out.read_bytes() if out.exists() else b""), seconds
+
+
+def salvage(folder, count):
+    """Cuts a dump short at 20 random places, and compares what is left of it with what the plain program leaves."""
+    plain, dump = folder / "plain", folder / "dump.hprof"
+    source = HERE.parent / "real" / "plain.rs"
+    subprocess.run(["rustc", "-O", "--edition", "2024", "-o", plain, source], check=True)
+    whole = mixed(count)
+    right, most = True, 0
+    for place in random.Random(1).sample(range(31, len(whole)), 20):
+        dump.write_bytes(whole[:place])
+        ours, seconds = salvaged(PROGRAM, dump, folder / "ours.hprof")
+        theirs, _ = salvaged(plain, dump, folder / "theirs.hprof")
+        most = max(most, seconds)
+        if ours != theirs or ours[0] != 0:
+            right = False
+            print(f"cut to {place} bytes: another answer, status {ours[0]}")
+    print(f"| cut short at 20 places | {len(whole) / 1e6:.1f} MB | salvage | {most:.2f} at most |", flush=True)
+    return right
+
+
 def main():
-    wanted = sys.argv[1:]
+    words = argparse.ArgumentParser()
+    words.add_argument("--less", type=int, default=1)
+    words.add_argument("wanted", nargs="*")
+    words = words.parse_args()
+
+    def is_wanted(title, command):
+        return not words.wanted or any(word in title or word in command for word in words.wanted)
+
     wrong = 0
     print("| dump | its bytes | words | seconds |")
     print("|---|---|---|---|")
     with tempfile.TemporaryDirectory() as folder:
-        dump, out = Path(folder) / "dump.hprof", Path(folder) / "out"
-        for title, make, words, test in CASES:
-            if wanted and not any(word in title or word in words for word in wanted):
-                continue
-            dump.write_bytes(make())
-            start = time.perf_counter()
-            with open(out, "wb") as file:
-                status = subprocess.run([PROGRAM, *words, dump], stdout=file).returncode
-            seconds = time.perf_counter() - start
-            size = dump.stat().st_size
-            print(f"| {title} | {size / 1e6:.1f} MB | {' '.join(words)} | {seconds:.2f} |", flush=True)
-            if status != 0 or not test(out.read_text().splitlines()):
-                wrong += 1
-                print(f"{title}: another answer, status {status}")
+        folder = Path(folder)
+        for case in [*CASES, *path_cases(words.less), *refs_cases(words.less)]:
+            if is_wanted(case[0], case[2]):
+                wrong += not run_case(folder, *case)
+        if is_wanted("cut short at 20 places", ["salvage"]):
+            wrong += not salvage(folder, 1_000_000 // words.less)
     sys.exit(wrong != 0)
 
 

@@ -3,9 +3,10 @@
 
 For each collector and size: `hprof join` takes the dump; joined again it gives the same bytes; cut into five parts with
 all records and sub-records in any order, some repeated, it gives the same bytes; and the plain program writes the same.
-Each report of the dump, of its canonical dump and of the five parts prints what the plain program does, for those that ask
-for an identifier with some ten classes, instances and arrays of either kind each. Then it runs both programs in turn and
-prints the fastest times, the peak memories and the ratios.
+So it is with `join101`; with `salvage` too, which also takes the dump cut short at some places, and prints where. Each report of
+the dump, of its canonical dump and of the five parts prints what the plain program does, for those that ask for an identifier with
+some ten classes, instances and arrays of either kind each; `path` and `refs` are asked of fewer. Then it runs both programs in
+turn and prints the fastest times, the peak memories and the ratios.
 
     bench/real/measure.py [--turns N] [--commands WORD,..] [MEGABYTES..]       (5 turns; all commands; 1 10 100)
 
@@ -16,6 +17,7 @@ part of the gate. 1,000 megabytes take about 6 GB of memory and 10 GB of disk.
 import argparse
 import filecmp
 import os
+import shutil
 import subprocess
 import sys
 import tempfile
@@ -38,10 +40,10 @@ def run(words, stdout=None):
     return seconds, usage.ru_maxrss * 1024
 
 
-def join(program, out, parts):
+def join(program, out, parts, word="join", stdout=None):
     """Joins the parts to a new file."""
     out.unlink(missing_ok=True)
-    return run([program, "join", out, *parts])
+    return run([program, word, out, *parts], stdout)
 
 
 def report(program, out, parts, *words):
@@ -50,9 +52,13 @@ def report(program, out, parts, *words):
         return run([program, *words, *parts], file)
 
 
+JOINS = ["join", "join101", "salvage"]
 REPORTS = ["check", "histo"]
-ASKING = ["object"]
-COMMANDS = ["join", *REPORTS, *ASKING]
+# Those that ask for an identifier, and of about how many of each kind.
+ASKING = {"object": 10, "path": 3, "refs": 3}
+COMMANDS = [*JOINS, *REPORTS, *ASKING]
+# How much is left of a dump where it is cut short.
+FRONTS = [0.00001, 0.1, 0.5, 0.9, 0.99999]
 
 
 def check_same(one, other, what):
@@ -60,34 +66,63 @@ def check_same(one, other, what):
         sys.exit(f"{what}: other bytes")
 
 
-def sample(folder, dump):
-    """Identifiers of every kind: of classes, of instances, of arrays of objects and of arrays of values."""
-    words = [folder / "plain", "sample", "10", dump]
+def sample(folder, dump, count):
+    """Identifiers of every kind, about so many of each: of classes, of instances, of arrays of objects and of arrays of values."""
+    words = [folder / "plain", "sample", str(count), dump]
     return subprocess.run(words, check=True, capture_output=True, text=True).stdout.split()
+
+
+def check_join(folder, dump, parts, word):
+    """Checks what a command writes that joins parts; it leaves the dump that it wrote of one as `once`."""
+    once, twice, other, cut = (folder / name for name in ("once", "twice", "other", "cut"))
+    join(PROGRAM, once, [dump], word)
+    join(PROGRAM, twice, [once], word)
+    check_same(once, twice, f"{word}, joined again")
+    join(folder / "plain", other, [dump], word)
+    check_same(once, other, f"{word}, the plain program")
+    join(PROGRAM, cut, parts, word)
+    check_same(once, cut, f"{word}, cut into five parts")
+
+
+def check_salvage(folder, dump):
+    """Checks what is left of a dump that is cut short, and what is printed of it."""
+    front, ours, other = (folder / name for name in ("front", "twice", "other"))
+    for share in FRONTS:
+        shutil.copyfile(dump, front)
+        os.truncate(front, max(31, int(share * dump.stat().st_size)))
+        lines = []
+        for program, out in ((PROGRAM, ours), (folder / "plain", other)):
+            with open(folder / "lines", "wb") as file:
+                join(program, out, [front], "salvage", file)
+            lines.append((folder / "lines").read_text())
+        check_same(ours, other, f"salvage of {share}")
+        if lines[0] != lines[1]:
+            sys.exit(f"salvage of {share}: other lines")
+    for path in (front, folder / "lines"):
+        path.unlink()
 
 
 def check(folder, dump, commands):
     """Checks what is written, and leaves nothing behind."""
-    plain = folder / "plain"
-    once, twice, other, cut = (folder / name for name in ("once", "twice", "other", "cut"))
+    once, twice, other = (folder / name for name in ("once", "twice", "other"))
     parts = [folder / f"part{index}" for index in range(5)]
     subprocess.run([folder / "recut", dump, *parts], check=True)
-    join(PROGRAM, once, [dump])
-    join(PROGRAM, twice, [once])
-    check_same(once, twice, "joined again")
-    join(plain, other, [dump])
-    check_same(once, other, "the plain program")
-    join(PROGRAM, cut, parts)
-    check_same(once, cut, "cut into five parts")
-    asked = [[word] for word in REPORTS] + [[word, id] for word in ASKING for id in sample(folder, dump)]
+    # The join is the last, since its dump is what the reports are made of.
+    for word in reversed(JOINS):
+        if word == "join" or word in commands:
+            check_join(folder, dump, parts, word)
+    if "salvage" in commands:
+        check_salvage(folder, dump)
+    asked = [[word] for word in REPORTS if word in commands]
+    for word, count in ASKING.items():
+        if word in commands:
+            asked += [[word, id] for id in sample(folder, dump, count)]
     for words in asked:
-        if words[0] not in commands:
-            continue
         for checked in ([dump],) if len(words) > 1 else ([dump], [once], parts):
             report(PROGRAM, twice, checked, *words)
-            report(plain, other, checked, *words)
+            report(folder / "plain", other, checked, *words)
             check_same(twice, other, "the report of the plain program, " + " ".join(words))
-    for path in (once, twice, other, cut, *parts):
+    for path in (once, twice, other, folder / "cut", *parts):
         path.unlink()
 
 
@@ -123,11 +158,11 @@ def dump_of(folder, collector, megabytes):
 
 def work_of(folder, dump, command):
     """What runs a command: a join, a report, or one on an identifier in the middle of all."""
-    if command == "join":
-        return join
+    if command in JOINS:
+        return lambda program, out, parts: join(program, out, parts, command)
     words = [command]
     if command in ASKING:
-        asked = sample(folder, dump)
+        asked = sample(folder, dump, 10)
         words.append(asked[len(asked) // 2])
     return lambda program, out, parts: report(program, out, parts, *words)
 

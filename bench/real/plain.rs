@@ -3,7 +3,7 @@
 //!
 //!     plain join OUT PART..
 //!     plain join101 OUT PART..
-//!     plain salvage OUT PART..       (of a part that is cut short; of no other fault)
+//!     plain salvage OUT PART..       (of parts that are cut short; of no other fault)
 //!     plain check PART..
 //!     plain histo PART..
 //!     plain object ID PART..         (and refs, path)
@@ -102,6 +102,8 @@ struct Summary {
     records: u64,
     facts: u64,
     ended: bool,
+    /// Where the first item stands that is not whole.
+    cut: Option<usize>,
 }
 
 /// Where in a part reading stands.
@@ -110,8 +112,8 @@ enum Place {
     Between,
     /// Within a heap dump record, with so many bytes of it left.
     Within(usize),
-    /// Within a record that is passed over.
-    Over(usize),
+    /// Within a record that is passed over, with so many bytes of it left, of so many.
+    Over(usize, usize),
 }
 
 /// Takes the whole items at the front of the bytes, and gives how many bytes they have.
@@ -148,13 +150,13 @@ fn take(heap: &mut Heap, part: &mut Summary, place: &mut Place, bytes: &[u8]) ->
                     }
                     tag => {
                         part.ended |= tag == 0x2c;
-                        *place = Place::Over(len);
+                        *place = Place::Over(len, len);
                     }
                 }
                 part.records += 1;
                 at += HEAD_LEN;
             }
-            Place::Within(0) | Place::Over(0) => *place = Place::Between,
+            Place::Within(0) | Place::Over(0, _) => *place = Place::Between,
             Place::Within(left) => {
                 let Some(len) = sub_len(rest, heap.width) else {
                     return at;
@@ -167,13 +169,13 @@ fn take(heap: &mut Heap, part: &mut Summary, place: &mut Place, bytes: &[u8]) ->
                 at += len;
                 *place = Place::Within(left - len);
             }
-            Place::Over(left) => {
+            Place::Over(left, len) => {
                 let count = left.min(rest.len());
                 if count == 0 {
                     return at;
                 }
                 at += count;
-                *place = Place::Over(left - count);
+                *place = Place::Over(left - count, len);
             }
         }
     }
@@ -185,6 +187,7 @@ fn read_part(heap: &mut Heap, name: &str, keep: bool) -> Summary {
     let mut piece = vec![0; PIECE_LEN];
     // What is held of a part is at the front of the piece, which grows where an item is longer.
     let mut held = 0;
+    let mut at = 0;
     let mut place = Place::Start;
     let mut part = Summary::default();
     loop {
@@ -196,10 +199,16 @@ fn read_part(heap: &mut Heap, name: &str, keep: bool) -> Summary {
             break;
         }
         let taken = take(heap, &mut part, &mut place, &piece[..held + count]);
+        at += taken;
         piece.copy_within(taken..held + count, 0);
         held = held + count - taken;
     }
-    if !keep && (held != 0 || !matches!(place, Place::Between)) {
+    part.cut = match place {
+        Place::Between if held == 0 => None,
+        Place::Over(left, len) => Some(at - (len - left) - HEAD_LEN),
+        _ => Some(at),
+    };
+    if !keep && part.cut.is_some() {
         refuse("truncated");
     }
     part
@@ -292,7 +301,7 @@ fn counts(heap: &Heap) -> [(&'static str, usize); 10] {
 
 fn report(parts: &[Summary], heap: &Heap, out: &mut impl Write) -> io::Result<()> {
     for (number, part) in parts.iter().enumerate() {
-        let Summary { version, width, millis, records, facts, ended } = part;
+        let Summary { version, width, millis, records, facts, ended, .. } = part;
         let ended = if *ended { "yes" } else { "no" };
         writeln!(
             out,
@@ -325,6 +334,20 @@ fn create(name: &str) -> File {
     File::create_new(name).unwrap_or_else(|_| refuse("cannot create"))
 }
 
+/// Writes the canonical dump of what is whole, and prints where each part is cut short.
+fn salvage(out: &str, names: &[String]) {
+    let (parts, heap) = read_parts(names, true);
+    if heap.width == 0 {
+        refuse("no parts");
+    }
+    write_out(create(out), heap, |heap, out| write(heap, out));
+    for (number, part) in parts.iter().enumerate() {
+        if let Some(at) = part.cut {
+            println!("part {number}: malformed at {at}: Truncated");
+        }
+    }
+}
+
 fn id_of(word: &str) -> u64 {
     u64::from_str_radix(word, 16).unwrap_or_else(|_| refuse("not an identifier"))
 }
@@ -350,7 +373,7 @@ fn main() {
     match words[0].as_str() {
         "join" => write_out(create(&words[1]), read(2).1, |heap, out| write(heap, out)),
         "join101" => write_out(create(&words[1]), read(2).1, |heap, out| write101(heap, out)),
-        "salvage" => write_out(create(&words[1]), read_parts(&words[2..], true).1, |heap, out| write(heap, out)),
+        "salvage" => salvage(&words[1], &words[2..]),
         "check" => {
             let (parts, heap) = read(1);
             write_out(stdout(), heap, |heap, out| report(&parts, heap, out));

@@ -1,8 +1,8 @@
-//! The program, asked what is behind an identifier, and what takes the room.
+//! The program, asked what is behind an identifier, how it is reached, and what takes the room.
 
 use crate::expecting::{equal, holds};
 use crate::running::{expect_ran, outcome_of, written};
-use crate::samples::{ABOVE, CLASS, INSTANCE, NAMES};
+use crate::samples::{ABOVE, CLASS, FRAME, INSTANCE, NAMES};
 use std::alloc::Global;
 use std::process::Abort;
 use std::rt::Files;
@@ -62,18 +62,40 @@ fn late_classes(rt: HostRuntime) -> Result<(), Fail> {
 }
 
 #[test]
+fn paths(rt: HostRuntime) -> Result<(), Fail> {
+    let one = written(&rt, "path-one", INSTANCE)?;
+    let two = written(&rt, "path-two", CLASS)?;
+    let three = written(&rt, "path-three", ABOVE)?;
+    let root = written(&rt, "path-root", FRAME)?;
+    let [one, two, three, root] = [&one, &two, &three, &root].map(|path| path.as_str());
+    let cases = [
+        ("63", "distance 2\nc8\n64\n63\n"),
+        ("c8", "distance 0\nc8\n"),
+        ("C9", "not reached\n"),
+        ("ffffffffff", "not reached\n"),
+    ];
+    for (id, report) in cases {
+        let words = ["path", id, one, two, three, root];
+        expect_report(&rt, rt.alloc(), &words, report)?;
+    }
+    Ok(())
+}
+
+#[test]
 fn words_that_are_no_identifiers(rt: HostRuntime) -> Result<(), Fail> {
     // No part is opened: there is none of that name.
     for id in ["0x1", "", "g", "12345678901234567", " 1"] {
-        let words = ["object", id, "/no such part"];
-        expect_ran(&rt, rt.alloc(), &words, 2, "", "hprof: not an identifier\n")?;
+        for question in ["object", "path"] {
+            let words = [question, id, "/no such part"];
+            expect_ran(&rt, rt.alloc(), &words, 2, "", "hprof: not an identifier\n")?;
+        }
     }
     Ok(())
 }
 
 #[test]
 fn reports_that_are_refused(rt: HostRuntime) -> Result<(), Fail> {
-    for words in [["object", "1"].as_slice(), &["histo"]] {
+    for words in [["object", "1"].as_slice(), &["path", "1"], &["histo"]] {
         expect_ran(&rt, rt.alloc(), words, 1, "", "hprof: no parts\n")?;
     }
     let (asked, all) = (["object", "1", "/no such part"], ["histo", "/no such part"]);

@@ -19,6 +19,10 @@ pub(crate) const ABOVE: &[u8] = b"JAVA PROFILE 1.0.2\0\0\0\0\x04\0\0\0\0\0\0\0\x
     \x1c\0\0\0\0\0\0\0\x30\x20\0\0\0\x63\0\0\0\x01\0\0\0\0\0\0\0\0\0\0\0\0\0\0\0\0\0\0\0\0\0\0\0\0\
     \0\0\0\x01\0\0\0\0\0\x01\0\0\0\x07\x08";
 
+/// A header and a segment: a root of a Java frame, with instance 200.
+pub(crate) const FRAME: &[u8] = b"JAVA PROFILE 1.0.2\0\0\0\0\x04\0\0\0\0\0\0\0\x01\
+    \x1c\0\0\0\0\0\0\0\x0d\x03\0\0\0\xc8\0\0\0\x01\0\0\0\0";
+
 /// What the names and the instance are as a dump of version 1.0.1.
 pub(crate) const OLD_DUMP: &[u8] = b"JAVA PROFILE 1.0.1\0\0\0\0\x04\0\0\0\0\0\0\0\x01\
     \x01\0\0\0\0\0\0\0\x05\0\0\0\x01n\x01\0\0\0\0\0\0\0\x07\0\0\0\x02p/A\

@@ -2,3 +2,6 @@ pub mod SameWalks
 pub mod Reached
 pub mod TableNodes
 pub mod TargetLists
+pub mod SomeWalk
+pub mod SomeEdges
+pub mod SomeReach

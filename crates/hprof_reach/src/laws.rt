@@ -3,6 +3,7 @@
 ghost use Rattle.std.specs.Prelude.{◌≡◌, ◌+◌, ◌<◌, ◌≤◌, ℕ, List, Option, Some, length, slice_index};
 ghost use Rattle.hprof_values.specs.declared.ids.IdSize.{IdSize};
 ghost use Rattle.hprof_items.specs.FactValue.{FactValue};
+ghost use Rattle.hprof_rows.specs.Conflict.{IsConsistent};
 ghost use Rattle.hprof_walks.specs.Walks.{IsLeastBefore, IsWalk};
 ghost use Rattle.hprof_reach.specs.Reaching.{IsDistanceFromRoots, IsPathFromRoots, IsStart, IsStep};
 
@@ -28,4 +29,12 @@ pub fn path_is_shortest()
     ensures least { (ids : IdSize) (facts : List FactValue) (id place : ℕ) (nodes : List ℕ)
         → IsPathFromRoots ids facts id (Some nodes) → place + 1 < length nodes
         → IsLeastBefore (IsStart facts) (IsStep ids facts) place (slice_index nodes place) (slice_index nodes (place + 1)) }
+{}
+
+/// Of facts that agree each identifier has a distance, or none, and a path, or none.
+pub fn some_distance_and_path()
+    ensures distance { (ids : IdSize) (facts : List FactValue) (id : ℕ) → IsConsistent facts
+        → (distance : Option ℕ) × IsDistanceFromRoots ids facts id distance }
+    ensures path { (ids : IdSize) (facts : List FactValue) (id : ℕ) → IsConsistent facts
+        → (path : Option (List ℕ)) × IsPathFromRoots ids facts id path }
 {}

@@ -3,3 +3,4 @@ pub mod Slices
 pub mod CheckLines
 pub mod TextWriting
 pub mod ObjectParts
+pub mod PathTold

@@ -1,0 +1,89 @@
+//! The report `path`: how far from the roots an identifier is, and by which path they lead there.
+
+ghost use Rattle.std.specs.Prelude.{◌≡◌, ℕ, List, IfOk, string_bytes};
+ghost use Rattle.hprof_devices.specs.declared.health.Health.TheVariants.{Well};
+ghost use Rattle.hprof_values.specs.declared.ids.IdSize.{IdSize};
+ghost use Rattle.hprof_items.specs.FactValue.{FactValue};
+ghost use Rattle.hprof_finding.specs.HeapFacts.{facts_of, size_of};
+ghost use Rattle.hprof_reach.specs.Reaching.{IsReach};
+ghost use Rattle.hprof_reports.specs.PathText.{IsPathText, distance_line, node_line, nodes_text};
+ghost use Rattle.hprof_reports.specs.Stopping.{LeavesTarget, WritesText};
+
+use crate::lines::{write_line, write_text};
+use hprof_devices::Target;
+use hprof_engine::Stop;
+use hprof_finding::id_size;
+use hprof_heap::Heap;
+use hprof_reach::{Reach, reach_of};
+use std::alloc::{AllocError, Global};
+
+/// The line of a distance. The error is that memory was refused.
+fn distance_line(alloc: Global, distance: u64) -> Result<String, AllocError>
+    ensures { IfOk result (λ line. string_bytes line ≡ distance_line distance) }
+{
+    format!(in alloc; "distance {distance}\n")
+}
+
+/// The line of a node. The error is that memory was refused.
+fn node_line(alloc: Global, node: u64) -> Result<String, AllocError>
+    ensures { IfOk result (λ line. string_bytes line ≡ node_line node) }
+{
+    format!(in alloc; "{node:x}\n")
+}
+
+/// Writes a line for each node. Where it stops some of them were written, from the front.
+fn write_nodes<W: Target>(alloc: Global, nodes: &[u64], target: &mut W) -> Result<(), Stop>
+    requires { W.health target.old ≡ Well }
+    ensures bytes { WritesText (W.written target.old) (W.written target.new) result (nodes_text nodes.now) }
+    ensures health { LeavesTarget result (W.health target.new) }
+{
+    let mut rest = nodes;
+    while let Some((node, after)) = rest.split_first() {
+        write_line(node_line(alloc, *node), target)?;
+        rest = after;
+    }
+    Ok(())
+}
+
+/// Writes what is told of an identifier: its distance, and then each node of its path, or that no root leads there. Where it
+/// stops some of that was written, from the front.
+fn write_reached<W: Target>(
+    alloc: Global,
+    reach: &Reach,
+    id: u64,
+    target: &mut W,
+) -> Result<(), Stop>
+    requires { W.health target.old ≡ Well }
+    ensures bytes { (ids : IdSize) (facts : List FactValue) → IsReach ids facts reach.now
+        → (text : List ℕ) × IsPathText ids facts id text × WritesText (W.written target.old) (W.written target.new) result text }
+    ensures health { LeavesTarget result (W.health target.new) }
+{
+    let distance = reach.distance(id);
+    let path = reach.path(alloc, id)?;
+    match (distance, path) {
+        (Some(distance), Some(nodes)) => {
+            write_line(distance_line(alloc, distance), target)?;
+            write_nodes(alloc, &nodes, target)
+        }
+        _ => write_text("not reached\n", target),
+    }
+}
+
+/// Writes the report `path` on an identifier: its distance from the roots, and then each node of its path in a line of its own,
+/// or that no root leads there. Where it stops, at a fault or for want of memory, some of it was written, from the front.
+pub fn write_path<W: Target>(
+    alloc: Global,
+    heap: &Heap,
+    id: u64,
+    target: &mut W,
+) -> Result<(), Stop>
+    requires { W.health target.old ≡ Well }
+    ensures bytes { (text : List ℕ) × IsPathText (size_of heap.now) (facts_of heap.now) id text
+        × WritesText (W.written target.old) (W.written target.new) result text }
+    ensures health { LeavesTarget result (W.health target.new) }
+{
+    // Facts of a heap agree: that is told with the size.
+    let _ids = id_size(heap);
+    let reach = reach_of(alloc, heap)?;
+    write_reached(alloc, &reach, id, target)
+}
