@@ -52,7 +52,7 @@ LATE = [
 ]
 
 
-REPORTS = [["histo"], ["object", "c8"], ["object", "64"], ["object", "c9"], ["object", "ca"]]
+REPORTS = [["histo"], ["object", "c8"], ["object", "64"], ["object", "c9"], ["object", "ca"], ["path", "63"], ["path", "c9"], ["path", "ca"]]
 
 
 def passed_over(length):
