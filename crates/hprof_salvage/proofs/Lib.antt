@@ -1,0 +1,3 @@
+pub mod SavedParts
+pub mod PartReads
+pub mod PartByFault
