@@ -1,3 +1,5 @@
 pub mod SavedParts
 pub mod PartReads
 pub mod PartByFault
+pub mod Going
+pub mod WholeParts

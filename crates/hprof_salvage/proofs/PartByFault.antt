@@ -1,6 +1,6 @@
 -- What reading one part comes to, by its fault.
-use Rattle.std.proofs.Common.{◌≡◌, ℕ, ◌+◌, ◌-◌, ◌^◌, ◌≤◌, min, Bool, true, false, List, [], ◌++◌, length, take, Option, Some, None, Result, Ok, Err}
-use Rattle.std.proofs.Common.{refl, sym, ap, subst, ◌∙◌, append-nil, arith}
+use Rattle.std.proofs.Common.{◌≡◌, ℕ, ◌+◌, ◌-◌, ◌^◌, ◌≤◌, min, Bool, false, List, [], ◌∷◌, ◌++◌, take, Option, Some, None, Ok, Err}
+use Rattle.std.proofs.Common.{sym, ap, subst, ◌∙◌, append-nil}
 use Rattle.std.specs.Io.KnownBytes.{Consumes, IsAtEnd}
 use Rattle.hprof_items.specs.declared.header.Header.{Header}
 use Rattle.hprof_items.specs.FactValue.{FactValue}
@@ -13,13 +13,12 @@ use Rattle.hprof_stream.specs.declared.sink.SinkFault.TheVariants as sinks
 use Rattle.hprof_stream.specs.declared.summary.PartSummary.{PartSummary}
 use Rattle.hprof_stream.specs.Run.{Run, Steps}
 use Rattle.hprof_stream.specs.Fault.{StatesSoFar}
-use Rattle.hprof_stream.specs.Reader.{IsReadingFault, RanOver, RanBefore, ReadsPart}
+use Rattle.hprof_stream.specs.Reader.{RanOver, ReadsPart}
 use Rattle.hprof_heap.specs.Gathering.{Gathered, Given, nothing_gathered, Begins, Takes, LacksRow, Gathers}
-use Rattle.hprof_engine.specs.Joining.{IsPartFault, IsOfPart}
+use Rattle.hprof_engine.specs.Joining.{IsPartFault}
 use Rattle.hprof_engine.proofs.Gathered.{Run-shown, Run-sound}
 use Rattle.hprof_engine.proofs.PartFaults.{fault_of_came, of_part}
-use Rattle.hprof_salvage.specs.Saved.{given_with}
-use Rattle.hprof_salvage.specs.Salvaging.{PartRead, is_want_of_memory, IsOfWhole, EndsPart, IsReadSo}
+use Rattle.hprof_salvage.specs.Salvaging.{is_want_of_memory, IsReadSo}
 use Rattle.hprof_salvage.proofs.SavedParts.{counted_with, whole_states, handled_all}
 
 -- a part that was read to its end came whole
@@ -109,15 +108,15 @@ module _ {G : Type 0} (gathered : G → Gathered) (parts : G → ℕ) where
           → IsPartFault left health pulls limits earlier was came is fault
           → ReadsPart left health pulls begins steps refuses has_failed limits was came is old (Err fault) new
           → (header : Option Header) × RanOver begins steps limits.max_item (take limits.max_bytes came) [] None header old new
-      ran_over (faults.Malformed at reason) no why reads = reads.1
-      ran_over (faults.ItemTooLong at) no why reads = reads.1
-      ran_over faults.OutOfMemory no why reads = absurd cc
-      ran_over (faults.Sink sinks.OutOfMemory) no why reads = absurd cc
-      ran_over (faults.Sink sinks.Failed) no why reads = absurd why
-      ran_over faults.Failed no why reads = absurd why
-      ran_over faults.Read no why reads = reads.1
-      ran_over faults.ReadsExceeded no why reads = reads.1
-      ran_over faults.BytesExceeded no why reads = reads.1
+      ran_over (faults.Malformed at reason) other why reads = reads.1
+      ran_over (faults.ItemTooLong at) other why reads = reads.1
+      ran_over faults.OutOfMemory other why reads = absurd cc
+      ran_over (faults.Sink sinks.OutOfMemory) other why reads = absurd cc
+      ran_over (faults.Sink sinks.Failed) other why reads = absurd why
+      ran_over faults.Failed other why reads = absurd why
+      ran_over faults.Read other why reads = reads.1
+      ran_over faults.ReadsExceeded other why reads = reads.1
+      ran_over faults.BytesExceeded other why reads = reads.1
 
       -- a part with a fault that is no want of memory
       pub read_faulty : Consumes (left was) (left is) came → pulls is ≤ pulls was + limits.max_reads → (fault : PartFault)
@@ -125,13 +124,13 @@ module _ {G : Type 0} (gathered : G → Gathered) (parts : G → ℕ) where
           → ReadsPart left health pulls begins steps refuses has_failed limits was came is old (Err fault) new
           → IsReadSo left health pulls limits was is (record { came = came; fault = Some fault })
           × TakesSaved limits.max_item (take limits.max_bytes came) old new
-      read_faulty consumed spared fault no reads =
+      read_faulty consumed spared fault other reads =
           let why = refused_so fault reads in
-          let over = ran_over fault no why reads in (
+          let over = ran_over fault other why reads in (
             record {
               consumed = consumed;
               spared = spared;
-              ends = (reads.0, no);
+              ends = (reads.0, other);
               whole = λ bytes told. of_part left health pulls limits earlier was bytes came is fault told consumed why;
             },
             takes_saved limits.max_item (take limits.max_bytes came) old new over.0 over.1.handed sound over.1.states over.1.ran,

@@ -1,5 +1,5 @@
 -- How reading all parts ended, one after the other.
-use Rattle.std.proofs.Common.{◌≡◌, ℕ, zero, suc, ◌+◌, ◌<◌, ◌≤◌, List, [], ◌∷◌, ◌++◌, length, set, Option, Some, None, inl, inr, refl, sym}
+use Rattle.std.proofs.Common.{◌≡◌, ℕ, zero, suc, ◌+◌, ◌<◌, List, [], ◌∷◌, ◌++◌, length, set, Option, Some, None, inl, inr, refl, sym}
 use Rattle.std.proofs.Common.{ap, subst, ◌∙◌, arith}
 use Rattle.std.specs.Prelude.{slice_get}
 use Rattle.std.proofs.lemmas.Bool.{cases_lt}
@@ -75,14 +75,14 @@ module _ {R : Type 0} (left : R → Option (List ℕ)) (health : R → Health) (
   AreReadSo-more old cur reads read was is i size there within are one k below =
       elim (cases_lt k i) [
         | inl before ↦ let front = are k (omega (arith, before)) in (
-            front.0,
-            front.1,
-            front.2,
-            front.3,
-            get_set_before cur i k is before ∙ front.4,
-            get_front reads read k (omega (arith, before)) ∙ front.5,
-            front.6,
-          )
+          front.0,
+          front.1,
+          front.2,
+          front.3,
+          get_set_before cur i k is before ∙ front.4,
+          get_front reads read k (omega (arith, before)) ∙ front.5,
+          front.6,
+        )
         | inr here ↦ let same : i ≡ k = omega (arith, here, below, length-append reads (read ∷ [])) in
             subst (λ (n : ℕ). (from : R) × (to : R) × (so : PartRead) × (slice_get old n ≡ Some from)
             × (slice_get (set cur i is) n ≡ Some to) × (slice_get (reads ++ read ∷ []) n ≡ Some so)

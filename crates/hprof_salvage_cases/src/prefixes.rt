@@ -102,19 +102,139 @@ fn expect_prefix(
     }
 }
 
+/// The place behind an item.
+fn border<'a>(
+    at: usize,
+    may_end: bool,
+    records: &'a [&'a [u8]],
+    subs: &'a [&'a [u8]],
+) -> Border<'a> {
+    Border {
+        at,
+        may_end,
+        records,
+        subs,
+    }
+}
+
+#[test]
+fn prefixes_of_one_name(rt: HostRuntime) -> Result<(), Fail> {
+    let part = bytes_of(rt.alloc(), &[HEADER, NAME_1_A])?;
+    let borders = [
+        border(31, true, &[], &[]),
+        border(45, true, &[NAME_1_A], &[]),
+    ];
+    expect_prefixes(&rt, rt.alloc(), HEADER, &part, &borders)
+}
+
 #[test]
 fn prefixes_of_the_plain_part(rt: HostRuntime) -> Result<(), Fail> {
     let part = plain_part(rt.alloc())?;
-    let names: &[&[u8]] = &[NAME_1_A, NAME_2_B];
-    let none: &[&[u8]] = &[];
-    let of = |at, may_end, records, subs| Border { at, may_end, records, subs };
+    let names = [NAME_1_A, NAME_2_B];
     let borders = [
-        of(31, true, none, none),
-        of(45, true, &[NAME_2_B], none),
-        of(59, true, names, none),
-        of(68, false, names, none),
-        of(84, false, names, &[ARRAY_16]),
-        of(89, true, names, &[STICKY_16, ARRAY_16]),
+        border(31, true, &[], &[]),
+        border(45, true, &[NAME_2_B], &[]),
+        border(59, true, &names, &[]),
+        border(68, false, &names, &[]),
+        border(84, false, &names, &[ARRAY_16]),
+        border(89, true, &names, &[STICKY_16, ARRAY_16]),
     ];
     expect_prefixes(&rt, rt.alloc(), HEADER, &part, &borders)
+}
+
+/// An instance 200 of class 100: 26 bytes.
+const INSTANCE_200: &[u8] = b"\x21\0\0\0\xc8\0\0\0\x01\0\0\0\x64\0\0\0\x09\0\0\0\x07\0\0\0\xc9\xff";
+
+/// Class 100 below class 99, with an int and an object: 53 bytes.
+const CLASS_100: &[u8] = b"\x20\0\0\0\x64\0\0\0\x01\0\0\0\x63\0\0\0\0\0\0\0\0\0\0\0\0\0\0\0\0\0\0\0\0\
+    \0\0\0\x09\0\0\0\0\0\x02\0\0\0\x05\x0a\0\0\0\x06\x02";
+
+/// Class 99, with a byte: 48 bytes.
+const CLASS_99: &[u8] = b"\x20\0\0\0\x63\0\0\0\x01\0\0\0\0\0\0\0\0\0\0\0\0\0\0\0\0\0\0\0\0\0\0\0\0\
+    \0\0\0\x01\0\0\0\0\0\x01\0\0\0\x07\x08";
+
+/// Class 100 with a constant and two static fields: 68 bytes.
+const CLASS_OF_STATICS: &[u8] =
+    b"\x20\0\0\0\x64\0\0\0\x01\0\0\0\0\0\0\0\0\0\0\0\0\0\0\0\0\0\0\0\0\0\0\0\0\0\0\0\0\
+    \0\x01\0\x03\x02\0\0\0\xc8\0\x02\0\0\0\x05\x01\0\0\0\xc9\0\0\0\x06\x0a\0\0\0\x07\0\0";
+
+#[test]
+fn prefixes_of_late_classes(rt: HostRuntime) -> Result<(), Fail> {
+    for (sub, end) in [
+        (INSTANCE_200, 66usize),
+        (CLASS_100, 93),
+        (CLASS_99, 88),
+        (CLASS_OF_STATICS, 108),
+    ] {
+        let segment = record(rt.alloc(), 0x1c, &[sub])?;
+        let part = bytes_of(rt.alloc(), &[HEADER, &segment])?;
+        let subs = [sub];
+        let borders = [
+            border(31, true, &[], &[]),
+            border(40, false, &[], &[]),
+            border(end, true, &[], &subs),
+        ];
+        expect_prefixes(&rt, rt.alloc(), HEADER, &part, &borders)?;
+    }
+    Ok(())
+}
+
+/// With identifiers of eight bytes: the greatest name is `A`; frame 1, whose method has that name, in line -3; a JNI local root.
+const WIDE_NAME: &[u8] = b"\x01\0\0\0\0\0\0\0\x09\xff\xff\xff\xff\xff\xff\xff\xffA";
+
+const WIDE_FRAME: &[u8] = b"\x04\0\0\0\0\0\0\0\x28\0\0\0\0\0\0\0\x01\
+    \xff\xff\xff\xff\xff\xff\xff\xff\0\0\0\0\0\0\0\0\0\0\0\0\0\0\0\0\0\0\0\0\xff\xff\xff\xfd";
+
+const WIDE_LOCAL: &[u8] = b"\x02\0\0\0\0\0\0\0\x07\0\0\0\x01\xff\xff\xff\xff";
+
+#[test]
+fn prefixes_of_eight_byte_identifiers(rt: HostRuntime) -> Result<(), Fail> {
+    let segment = record(rt.alloc(), 0x1c, &[WIDE_LOCAL])?;
+    let part = bytes_of(rt.alloc(), &[WIDE_HEADER, WIDE_NAME, WIDE_FRAME, &segment])?;
+    let records = [WIDE_NAME, WIDE_FRAME];
+    let borders = [
+        border(31, true, &[], &[]),
+        border(49, true, &[WIDE_NAME], &[]),
+        border(98, true, &records, &[]),
+        border(107, false, &records, &[]),
+        border(124, true, &records, &[WIDE_LOCAL]),
+    ];
+    expect_prefixes(&rt, rt.alloc(), WIDE_HEADER, &part, &borders)
+}
+
+/// As the JDK writes: a name, a class that was loaded, a trace; the class, its root, and an instance of it.
+const JDK_NAME: &[u8] = b"\x01\0\0\0\0\0\0\0\x09\0\0\0\0\0\0\0\x10T";
+
+const JDK_LOAD: &[u8] =
+    b"\x02\0\0\0\0\0\0\0\x18\0\0\0\x01\0\0\0\0\0\0\0\x20\0\0\0\x01\0\0\0\0\0\0\0\x10";
+
+const JDK_TRACE: &[u8] = b"\x05\0\0\0\0\0\0\0\x0c\0\0\0\x01\0\0\0\0\0\0\0\0";
+
+const JDK_CLASS: &[u8] = b"\x20\0\0\0\0\0\0\0\x20\0\0\0\x01\0\0\0\0\0\0\0\0\0\0\0\0\0\0\0\0\
+    \0\0\0\0\0\0\0\0\0\0\0\0\0\0\0\0\0\0\0\0\0\0\0\0\0\0\0\0\0\0\0\0\0\0\0\0\0\0\0\0\0\0";
+
+const JDK_ROOT: &[u8] = b"\x05\0\0\0\0\0\0\0\x20";
+
+const JDK_INSTANCE: &[u8] =
+    b"\x21\0\0\0\0\0\0\0\x30\0\0\0\x01\0\0\0\0\0\0\0\x20\0\0\0\0";
+
+#[test]
+fn prefixes_of_a_part_as_the_jdk_writes_it(rt: HostRuntime) -> Result<(), Fail> {
+    let segment = record(rt.alloc(), 0x1c, &[JDK_CLASS, JDK_ROOT, JDK_INSTANCE])?;
+    let texts = [WIDE_HEADER, JDK_NAME, JDK_LOAD, JDK_TRACE, &segment, END];
+    let part = bytes_of(rt.alloc(), &texts)?;
+    let records = [JDK_NAME, JDK_LOAD, JDK_TRACE];
+    let subs = [JDK_ROOT, JDK_CLASS, JDK_INSTANCE];
+    let borders = [
+        border(31, true, &[], &[]),
+        border(49, true, &records[..1], &[]),
+        border(82, true, &records[..2], &[]),
+        border(103, true, &records, &[]),
+        border(112, false, &records, &[]),
+        border(183, false, &records, &[JDK_CLASS]),
+        border(192, false, &records, &subs[..2]),
+        border(217, true, &records, &subs),
+        border(226, true, &records, &subs),
+    ];
+    expect_prefixes(&rt, rt.alloc(), WIDE_HEADER, &part, &borders)
 }
