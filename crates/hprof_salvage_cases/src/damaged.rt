@@ -1,8 +1,8 @@
 //! Parts that are cut, or wrong from some place on.
 
 use crate::samples::{
-    END, HEADER, NAME_1_A, NAME_2_B, STICKY_16, array_dump, bytes_of, expect_salvaged, malformed, plain_part,
-    record, truncated,
+    END, HEADER, NAME_1_A, NAME_2_B, STICKY_16, array_dump, bytes_of, expect_salvaged, malformed,
+    plain_part, record, truncated,
 };
 use hprof_engine::Joined;
 use hprof_items::Reason;
@@ -13,7 +13,14 @@ fn salvage_of_a_cut_part(rt: HostRuntime) -> Result<(), Fail> {
     let part = plain_part(rt.alloc())?;
     let dump = array_dump(rt.alloc())?;
     let joined = Joined { parts: 1, facts: 3 };
-    expect_salvaged(&rt, rt.alloc(), &[&part[..84]], joined, &[truncated(0, 84)], &dump)
+    expect_salvaged(
+        &rt,
+        rt.alloc(),
+        &[&part[..84]],
+        joined,
+        &[truncated(0, 84)],
+        &dump,
+    )
 }
 
 #[test]
@@ -23,29 +30,57 @@ fn three_parts_of_which_one_is_whole(rt: HostRuntime) -> Result<(), Fail> {
     let dump = bytes_of(rt.alloc(), &[HEADER, NAME_1_A, END])?;
     let joined = Joined { parts: 2, facts: 1 };
     let faults = [truncated(0, 0), malformed(2, 31, Reason::BadLength)];
-    expect_salvaged(&rt, rt.alloc(), &[b"JAVA ", &whole, &wrong], joined, &faults, &dump)
+    expect_salvaged(
+        &rt,
+        rt.alloc(),
+        &[b"JAVA ", &whole, &wrong],
+        joined,
+        &faults,
+        &dump,
+    )
 }
 
 #[test]
 fn headers_that_are_wrong_are_listed_and_not_counted(rt: HostRuntime) -> Result<(), Fail> {
     let whole = bytes_of(rt.alloc(), &[HEADER, NAME_1_A])?;
-    let text = b"JAVA PROFILE 1.0.3\0\0\0\0\x04\0\0\0\0\0\0\0\x01\x01\0\0\0\0\0\0\0\x05\0\0\0\x02B".as_slice();
-    let size = b"JAVA PROFILE 1.0.2\0\0\0\0\x02\0\0\0\0\0\0\0\x01\x01\0\0\0\0\0\0\0\x05\0\0\0\x02B".as_slice();
+    let text =
+        b"JAVA PROFILE 1.0.3\0\0\0\0\x04\0\0\0\0\0\0\0\x01\x01\0\0\0\0\0\0\0\x05\0\0\0\x02B".as_slice();
+    let size =
+        b"JAVA PROFILE 1.0.2\0\0\0\0\x02\0\0\0\0\0\0\0\x01\x01\0\0\0\0\0\0\0\x05\0\0\0\x02B".as_slice();
     let dump = bytes_of(rt.alloc(), &[HEADER, NAME_1_A, END])?;
     let joined = Joined { parts: 1, facts: 1 };
-    let faults = [malformed(0, 0, Reason::BadMagic), malformed(2, 0, Reason::BadIdSize)];
-    expect_salvaged(&rt, rt.alloc(), &[text, &whole, size], joined, &faults, &dump)
+    let faults = [
+        malformed(0, 0, Reason::BadMagic),
+        malformed(2, 0, Reason::BadIdSize),
+    ];
+    expect_salvaged(
+        &rt,
+        rt.alloc(),
+        &[text, &whole, size],
+        joined,
+        &faults,
+        &dump,
+    )
 }
 
 #[test]
-fn the_next_part_is_read_behind_one_that_is_cut_in_a_heap_dump(rt: HostRuntime) -> Result<(), Fail> {
+fn the_next_part_is_read_behind_one_that_is_cut_in_a_heap_dump(
+    rt: HostRuntime,
+) -> Result<(), Fail> {
     let part = plain_part(rt.alloc())?;
     let segment = record(rt.alloc(), 0x1c, &[STICKY_16])?;
     let root = bytes_of(rt.alloc(), &[HEADER, &segment, b"\x01"])?;
     let dump = bytes_of(rt.alloc(), &[HEADER, NAME_1_A, NAME_2_B, &segment, END])?;
     let joined = Joined { parts: 2, facts: 3 };
     let faults = [truncated(0, 68), truncated(1, 45)];
-    expect_salvaged(&rt, rt.alloc(), &[&part[..70], &root], joined, &faults, &dump)
+    expect_salvaged(
+        &rt,
+        rt.alloc(),
+        &[&part[..70], &root],
+        joined,
+        &faults,
+        &dump,
+    )
 }
 
 /// The header with the time that its last two bytes say.

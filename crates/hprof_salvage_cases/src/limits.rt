@@ -45,11 +45,22 @@ fn salvaged_broken(
 fn a_reader_that_fails_at_its_read_60(rt: HostRuntime) -> Result<(), Fail> {
     let part = plain_part(rt.alloc())?;
     let dump = names_dump(rt.alloc())?;
-    equal_bytes(&rt, &part[31..59], b"\x01\0\0\0\0\0\0\0\x05\0\0\0\x02B\x01\0\0\0\0\0\0\0\x05\0\0\0\x01A");
+    equal_bytes(
+        &rt,
+        &part[31..59],
+        b"\x01\0\0\0\0\0\0\0\x05\0\0\0\x02B\x01\0\0\0\0\0\0\0\x05\0\0\0\x01A",
+    );
     let joined = Joined { parts: 1, facts: 2 };
     let fault = PartFault::Read;
     let (answer, written) = salvaged_broken(rt.alloc(), &part[..59], Limits::usual());
-    expect_answer(&rt, answer, &written, joined, &[FaultedPart { index: 0, fault }], &dump)
+    expect_answer(
+        &rt,
+        answer,
+        &written,
+        joined,
+        &[FaultedPart { index: 0, fault }],
+        &dump,
+    )
 }
 
 #[test]
@@ -63,7 +74,14 @@ fn too_many_reads(rt: HostRuntime) -> Result<(), Fail> {
     let joined = Joined { parts: 1, facts: 2 };
     let fault = PartFault::ReadsExceeded;
     let (answer, written) = salvaged_broken(rt.alloc(), &part, limits);
-    expect_answer(&rt, answer, &written, joined, &[FaultedPart { index: 0, fault }], &dump)
+    expect_answer(
+        &rt,
+        answer,
+        &written,
+        joined,
+        &[FaultedPart { index: 0, fault }],
+        &dump,
+    )
 }
 
 #[test]
@@ -77,7 +95,14 @@ fn an_item_that_is_too_long(rt: HostRuntime) -> Result<(), Fail> {
     let joined = Joined { parts: 1, facts: 2 };
     let fault = PartFault::ItemTooLong { at: 68 };
     let (answer, written) = salvaged_under(rt.alloc(), &[&part], limits)?;
-    expect_answer(&rt, answer, &written, joined, &[FaultedPart { index: 0, fault }], &dump)
+    expect_answer(
+        &rt,
+        answer,
+        &written,
+        joined,
+        &[FaultedPart { index: 0, fault }],
+        &dump,
+    )
 }
 
 #[test]
@@ -91,5 +116,12 @@ fn too_many_bytes(rt: HostRuntime) -> Result<(), Fail> {
     let joined = Joined { parts: 1, facts: 3 };
     let fault = PartFault::BytesExceeded;
     let (answer, written) = salvaged_under(rt.alloc(), &[&part], limits)?;
-    expect_answer(&rt, answer, &written, joined, &[FaultedPart { index: 0, fault }], &dump)
+    expect_answer(
+        &rt,
+        answer,
+        &written,
+        joined,
+        &[FaultedPart { index: 0, fault }],
+        &dump,
+    )
 }

@@ -2,8 +2,8 @@
 
 use crate::expecting::equal_at;
 use crate::samples::{
-    ARRAY_16, END, HEADER, NAME_1_A, NAME_2_B, STICKY_16, WIDE_HEADER, bytes_of, plain_part, record,
-    salvaged_under, truncated,
+    ARRAY_16, END, HEADER, NAME_1_A, NAME_2_B, STICKY_16, WIDE_HEADER, bytes_of, plain_part,
+    record, salvaged_under, truncated,
 };
 use hprof_engine::{Joined, ToolFault};
 use hprof_salvage::FaultedPart;
@@ -92,7 +92,11 @@ fn expect_prefix(
             equal_at(
                 rt,
                 bytes.len(),
-                (salvaged.joined, salvaged.faults.as_slice(), written.as_slice()),
+                (
+                    salvaged.joined,
+                    salvaged.faults.as_slice(),
+                    written.as_slice(),
+                ),
                 (joined, faults.as_slice(), dump.as_slice()),
             );
             Ok(())
@@ -103,7 +107,7 @@ fn expect_prefix(
 }
 
 /// The place behind an item.
-fn border<'a>(
+fn border_at<'a>(
     at: usize,
     may_end: bool,
     records: &'a [&'a [u8]],
@@ -121,8 +125,8 @@ fn border<'a>(
 fn prefixes_of_one_name(rt: HostRuntime) -> Result<(), Fail> {
     let part = bytes_of(rt.alloc(), &[HEADER, NAME_1_A])?;
     let borders = [
-        border(31, true, &[], &[]),
-        border(45, true, &[NAME_1_A], &[]),
+        border_at(31, true, &[], &[]),
+        border_at(45, true, &[NAME_1_A], &[]),
     ];
     expect_prefixes(&rt, rt.alloc(), HEADER, &part, &borders)
 }
@@ -132,12 +136,12 @@ fn prefixes_of_the_plain_part(rt: HostRuntime) -> Result<(), Fail> {
     let part = plain_part(rt.alloc())?;
     let names = [NAME_1_A, NAME_2_B];
     let borders = [
-        border(31, true, &[], &[]),
-        border(45, true, &[NAME_2_B], &[]),
-        border(59, true, &names, &[]),
-        border(68, false, &names, &[]),
-        border(84, false, &names, &[ARRAY_16]),
-        border(89, true, &names, &[STICKY_16, ARRAY_16]),
+        border_at(31, true, &[], &[]),
+        border_at(45, true, &[NAME_2_B], &[]),
+        border_at(59, true, &names, &[]),
+        border_at(68, false, &names, &[]),
+        border_at(84, false, &names, &[ARRAY_16]),
+        border_at(89, true, &names, &[STICKY_16, ARRAY_16]),
     ];
     expect_prefixes(&rt, rt.alloc(), HEADER, &part, &borders)
 }
@@ -146,7 +150,8 @@ fn prefixes_of_the_plain_part(rt: HostRuntime) -> Result<(), Fail> {
 const INSTANCE_200: &[u8] = b"\x21\0\0\0\xc8\0\0\0\x01\0\0\0\x64\0\0\0\x09\0\0\0\x07\0\0\0\xc9\xff";
 
 /// Class 100 below class 99, with an int and an object: 53 bytes.
-const CLASS_100: &[u8] = b"\x20\0\0\0\x64\0\0\0\x01\0\0\0\x63\0\0\0\0\0\0\0\0\0\0\0\0\0\0\0\0\0\0\0\0\
+const CLASS_100: &[u8] =
+    b"\x20\0\0\0\x64\0\0\0\x01\0\0\0\x63\0\0\0\0\0\0\0\0\0\0\0\0\0\0\0\0\0\0\0\0\
     \0\0\0\x09\0\0\0\0\0\x02\0\0\0\x05\x0a\0\0\0\x06\x02";
 
 /// Class 99, with a byte: 48 bytes.
@@ -170,9 +175,9 @@ fn prefixes_of_late_classes(rt: HostRuntime) -> Result<(), Fail> {
         let part = bytes_of(rt.alloc(), &[HEADER, &segment])?;
         let subs = [sub];
         let borders = [
-            border(31, true, &[], &[]),
-            border(40, false, &[], &[]),
-            border(end, true, &[], &subs),
+            border_at(31, true, &[], &[]),
+            border_at(40, false, &[], &[]),
+            border_at(end, true, &[], &subs),
         ];
         expect_prefixes(&rt, rt.alloc(), HEADER, &part, &borders)?;
     }
@@ -193,11 +198,11 @@ fn prefixes_of_eight_byte_identifiers(rt: HostRuntime) -> Result<(), Fail> {
     let part = bytes_of(rt.alloc(), &[WIDE_HEADER, WIDE_NAME, WIDE_FRAME, &segment])?;
     let records = [WIDE_NAME, WIDE_FRAME];
     let borders = [
-        border(31, true, &[], &[]),
-        border(49, true, &[WIDE_NAME], &[]),
-        border(98, true, &records, &[]),
-        border(107, false, &records, &[]),
-        border(124, true, &records, &[WIDE_LOCAL]),
+        border_at(31, true, &[], &[]),
+        border_at(49, true, &[WIDE_NAME], &[]),
+        border_at(98, true, &records, &[]),
+        border_at(107, false, &records, &[]),
+        border_at(124, true, &records, &[WIDE_LOCAL]),
     ];
     expect_prefixes(&rt, rt.alloc(), WIDE_HEADER, &part, &borders)
 }
@@ -215,8 +220,7 @@ const JDK_CLASS: &[u8] = b"\x20\0\0\0\0\0\0\0\x20\0\0\0\x01\0\0\0\0\0\0\0\0\0\0\
 
 const JDK_ROOT: &[u8] = b"\x05\0\0\0\0\0\0\0\x20";
 
-const JDK_INSTANCE: &[u8] =
-    b"\x21\0\0\0\0\0\0\0\x30\0\0\0\x01\0\0\0\0\0\0\0\x20\0\0\0\0";
+const JDK_INSTANCE: &[u8] = b"\x21\0\0\0\0\0\0\0\x30\0\0\0\x01\0\0\0\0\0\0\0\x20\0\0\0\0";
 
 #[test]
 fn prefixes_of_a_part_as_the_jdk_writes_it(rt: HostRuntime) -> Result<(), Fail> {
@@ -226,15 +230,15 @@ fn prefixes_of_a_part_as_the_jdk_writes_it(rt: HostRuntime) -> Result<(), Fail> 
     let records = [JDK_NAME, JDK_LOAD, JDK_TRACE];
     let subs = [JDK_ROOT, JDK_CLASS, JDK_INSTANCE];
     let borders = [
-        border(31, true, &[], &[]),
-        border(49, true, &records[..1], &[]),
-        border(82, true, &records[..2], &[]),
-        border(103, true, &records, &[]),
-        border(112, false, &records, &[]),
-        border(183, false, &records, &[JDK_CLASS]),
-        border(192, false, &records, &subs[..2]),
-        border(217, true, &records, &subs),
-        border(226, true, &records, &subs),
+        border_at(31, true, &[], &[]),
+        border_at(49, true, &records[..1], &[]),
+        border_at(82, true, &records[..2], &[]),
+        border_at(103, true, &records, &[]),
+        border_at(112, false, &records, &[]),
+        border_at(183, false, &records, &[JDK_CLASS]),
+        border_at(192, false, &records, &subs[..2]),
+        border_at(217, true, &records, &subs),
+        border_at(226, true, &records, &subs),
     ];
     expect_prefixes(&rt, rt.alloc(), WIDE_HEADER, &part, &borders)
 }

@@ -14,14 +14,46 @@ const fn malformed(at: u64, reason: Reason) -> PartFault {
 #[test]
 fn texts(rt: HostRuntime) -> Result<(), Fail> {
     for (index, fault, text) in [
-        (0usize, malformed(0, Reason::Truncated), "part 0: malformed at 0: Truncated"),
-        (2, malformed(31, Reason::BadLength), "part 2: malformed at 31: BadLength"),
-        (1, malformed(0, Reason::BadMagic), "part 1: malformed at 0: BadMagic"),
-        (1, malformed(0, Reason::BadIdSize), "part 1: malformed at 0: BadIdSize"),
-        (1, malformed(40, Reason::BadSubTag), "part 1: malformed at 40: BadSubTag"),
-        (1, malformed(40, Reason::PastEnd), "part 1: malformed at 40: PastEnd"),
-        (1, malformed(40, Reason::BadType), "part 1: malformed at 40: BadType"),
-        (10, PartFault::ItemTooLong { at: 68 }, "part 10: item too long at 68"),
+        (
+            0usize,
+            malformed(0, Reason::Truncated),
+            "part 0: malformed at 0: Truncated",
+        ),
+        (
+            2,
+            malformed(31, Reason::BadLength),
+            "part 2: malformed at 31: BadLength",
+        ),
+        (
+            1,
+            malformed(0, Reason::BadMagic),
+            "part 1: malformed at 0: BadMagic",
+        ),
+        (
+            1,
+            malformed(0, Reason::BadIdSize),
+            "part 1: malformed at 0: BadIdSize",
+        ),
+        (
+            1,
+            malformed(40, Reason::BadSubTag),
+            "part 1: malformed at 40: BadSubTag",
+        ),
+        (
+            1,
+            malformed(40, Reason::PastEnd),
+            "part 1: malformed at 40: PastEnd",
+        ),
+        (
+            1,
+            malformed(40, Reason::BadType),
+            "part 1: malformed at 40: BadType",
+        ),
+        (
+            10,
+            PartFault::ItemTooLong { at: 68 },
+            "part 10: item too long at 68",
+        ),
         (11, PartFault::Read, "part 11: read failed"),
         (12, PartFault::ReadsExceeded, "part 12: too many reads"),
         (13, PartFault::BytesExceeded, "part 13: too many bytes"),
