@@ -3,3 +3,4 @@ pub mod PartReads
 pub mod PartByFault
 pub mod Going
 pub mod WholeParts
+pub mod AsJoined

@@ -20,7 +20,7 @@ use Rattle.hprof_heap.specs.declared.standing.Refusal.TheVariants as refusals
 use Rattle.hprof_heap.specs.Gathering.{Given, Tells}
 use Rattle.hprof_engine.specs.Joining.{IsAccepted, AreGiven}
 use Rattle.hprof_engine.proofs.Answers.{agree, disagree, two_sizes, no_readers}
-use Rattle.hprof_salvage.specs.Saved.{Saved, IsSaved, given_with, given_of, SavesTo}
+use Rattle.hprof_salvage.specs.Saved.{Saved, IsSaved, given_with, given_of, AreSaved, SavesTo}
 use Rattle.hprof_salvage.specs.Sound.{JoinsTo, StandsBefore, IsAllOf}
 
 -- where a step is at fault it is not whole
@@ -98,12 +98,17 @@ module _ (limits : Limits) where
     joins (Err (refusals.Conflict key)) tells = disagree Some limits parts given of_all parts refl key tells
     joins (Err refusals.Failed) tells = absurd tells
 
-  -- parts that have no fault come to what they come to where they are joined
-  pub sound_joins : (parts : List (List ℕ)) (answer : Result HeapValue Refusal) → AllByRecursion (IsAccepted limits) parts
-      → SavesTo limits.max_item parts answer → JoinsTo parts answer
-  sound_joins parts answer accepted saves =
-      let are = saves.saved in
+  -- of parts that have no fault all is given
+  pub sound_given : (parts : List (List ℕ)) (given : List Given) → AllByRecursion (IsAccepted limits) parts
+      → AreSaved limits.max_item parts given → AreGiven limits (map Some parts) given
+  sound_given parts given accepted are =
       let of_saved = given_whole are.saved are.each
       (subst (λ (ps : List (List ℕ)). AllByRecursion (IsAccepted limits) ps) (sym are.of_parts) accepted) in
       let of_parts = subst (λ (ps : List (List ℕ)). AreGiven limits (map Some ps) (given_of are.saved)) are.of_parts of_saved in
-      joins parts saves.given (subst (λ (gs : List Given). AreGiven limits (map Some parts) gs) are.has_given of_parts) answer saves.tells
+      subst (λ (gs : List Given). AreGiven limits (map Some parts) gs) are.has_given of_parts
+
+  -- they come to what they come to where they are joined
+  pub sound_joins : (parts : List (List ℕ)) (answer : Result HeapValue Refusal) → AllByRecursion (IsAccepted limits) parts
+      → SavesTo limits.max_item parts answer → JoinsTo parts answer
+  sound_joins parts answer accepted saves =
+      joins parts saves.given (sound_given parts saves.given accepted saves.saved) answer saves.tells

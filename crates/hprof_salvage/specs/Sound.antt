@@ -10,7 +10,9 @@ use Rattle.hprof_rows.specs.HeapValue.{HeapValue}
 use Rattle.hprof_heap.specs.declared.standing.Refusal.{Refusal}
 use Rattle.hprof_heap.specs.declared.standing.Refusal.TheVariants as refusals
 use Rattle.hprof_heap.specs.State.{HaveTwoSizes}
-use Rattle.hprof_engine.specs.Joining.{Agree, Disagree}
+use Rattle.hprof_engine.specs.Joining.{Tell, Agree, Disagree, AreJoined}
+use Rattle.hprof_engine.specs.Makes.{IsDump, WritesAll}
+use Rattle.hprof_salvage.specs.declared.salvaged.Salvaged.{Salvaged}
 
 -- what the parts come to where they are joined
 abbrev pub JoinsTo : List (List ℕ) → Result HeapValue Refusal → Type 0
@@ -30,3 +32,10 @@ pub record StandsBefore (longest : ℕ) (bytes : List ℕ) (fault : PartFault) (
 abbrev pub IsAllOf : List ℕ → Option Header → List FactValue → Type 0
 IsAllOf bytes None facts = ⊥
 IsAllOf bytes (Some header) facts = IsPart bytes header.ids header.millis facts
+
+-- where no fault is listed, the parts that the readers tell are joined: their canonical dump was written, and they are counted
+--   left, written: what a reader has left to tell, what a writer holds, where it tells;  old: the readers;  before, after: the writer
+abbrev pub IsAsJoined : {R W : Type 0} → (left : R → Option (List ℕ)) → (written : W → Option (List ℕ)) → (old : List R)
+    → (before after : W) → Salvaged → Type 0
+IsAsJoined left written old before after salvaged = salvaged.faults.items ≡ [] → (parts : List (List ℕ)) → Tell left old parts
+    → AreJoined parts salvaged.joined × WritesAll IsDump parts (written before) (written after)

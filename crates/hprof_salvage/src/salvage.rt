@@ -7,6 +7,7 @@ ghost use Rattle.hprof_dump.specs.Dump.{canonical_dump};
 ghost use Rattle.hprof_heap.specs.Gathering.{Given, gathered, nothing_gathered, Gathers};
 ghost use Rattle.hprof_heap.specs.Heap.{heap_of};
 ghost use Rattle.hprof_salvage.specs.Salvaging.{Salvages};
+ghost use Rattle.hprof_salvage.specs.Sound.{IsAsJoined};
 ghost use Rattle.hprof_salvage.specs.Through.{TellsHeap, salvaged_in};
 
 use crate::counter::PartCounter;
@@ -45,6 +46,7 @@ pub fn salvage_kept<R: Source, W: Target>(
     requires writer { W.health target.old ≡ Well }
     ensures salvages { Salvages R.left R.health R.pulls limits readers.old readers.new W.written W.health target.old target.new
         (salvaged_in result) }
+    ensures joined { IfOk result (λ kept. IsAsJoined R.left W.written readers.old target.old target.new kept.salvaged) }
 
     // The heap that is handed back is the one whose dump was written.
     ensures heap { IfOk result (λ kept. let heap = heap_of kept.heap in
@@ -78,7 +80,10 @@ pub fn salvage_to<R: Source, W: Target>(
 ) -> Result<Salvaged, ToolFault>
     requires readers { All (λ reader. R.health reader ≡ Well) readers.old }
     requires writer { W.health target.old ≡ Well }
-    ensures { Salvages R.left R.health R.pulls limits readers.old readers.new W.written W.health target.old target.new result }
+    ensures salvages { Salvages R.left R.health R.pulls limits readers.old readers.new W.written W.health target.old target.new result }
+
+    // Where no fault is listed, it did what `join_to` does.
+    ensures joined { IfOk result (λ salvaged. IsAsJoined R.left W.written readers.old target.old target.new salvaged) }
 {
     match salvage_kept(alloc, readers, target, limits) {
         Ok(kept) => Ok(kept.salvaged),

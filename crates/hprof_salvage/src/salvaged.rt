@@ -1,12 +1,9 @@
 //! What was saved.
 
-ghost use Rattle.std.specs.Prelude.{IfOk, string_bytes};
-ghost use Rattle.hprof_engine.specs.FaultText.{IsPartText};
-
-use hprof_engine::{Joined, ToolFault};
+use hprof_engine::Joined;
 use hprof_heap::Heap;
 use hprof_stream::PartFault;
-use std::alloc::{AllocError, Global};
+use std::fmt;
 
 /// A part that has a fault. What stands before it was saved.
 #[derive(Clone, Copy, Debug, PartialEq, Eq)]
@@ -17,13 +14,10 @@ pub struct FaultedPart {
     pub fault: PartFault,
 }
 
-impl FaultedPart {
-    /// Its text, in one line: the number of the part, and why. The error is that there is no memory for the text.
-    pub fn text(&self, alloc: Global) -> Result<String, AllocError>
-        ensures { IfOk result (λ text. IsPartText self.now.index (string_bytes text)) }
-    {
-        let FaultedPart { index, fault } = *self;
-        ToolFault::Part { index, fault }.text(alloc)
+/// Its text, in one line, as it is where the part is refused: the number of the part, and why.
+impl fmt::Display for FaultedPart {
+    fn fmt<W: fmt::Write>(&self, f: &mut fmt::Formatter<W>) -> fmt::Result {
+        write!(f, "part {}: {}", self.index, self.fault)
     }
 }
 

@@ -1,8 +1,8 @@
 //! Parts that are cut, or wrong from some place on.
 
 use crate::samples::{
-    END, HEADER, NAME_1_A, NAME_2_B, STICKY_16, array_dump, bytes_of, expect_salvaged, malformed,
-    plain_part, record, truncated,
+    END, HEADER, NAME_1_A, NAME_2_B, STICKY_16, array_dump, bytes_of, expect_salvaged, front,
+    malformed, plain_part, record, truncated,
 };
 use hprof_engine::Joined;
 use hprof_items::Reason;
@@ -16,7 +16,7 @@ fn salvage_of_a_cut_part(rt: HostRuntime) -> Result<(), Fail> {
     expect_salvaged(
         &rt,
         rt.alloc(),
-        &[&part[..84]],
+        &[front(&part, 84)],
         joined,
         &[truncated(0, 84)],
         &dump,
@@ -40,13 +40,16 @@ fn three_parts_of_which_one_is_whole(rt: HostRuntime) -> Result<(), Fail> {
     )
 }
 
+/// A part whose header has another text, and one with another size.
+const WRONG_TEXT: &[u8] =
+    b"JAVA PROFILE 1.0.3\0\0\0\0\x04\0\0\0\0\0\0\0\x01\x01\0\0\0\0\0\0\0\x05\0\0\0\x02B";
+
+const WRONG_SIZE: &[u8] =
+    b"JAVA PROFILE 1.0.2\0\0\0\0\x02\0\0\0\0\0\0\0\x01\x01\0\0\0\0\0\0\0\x05\0\0\0\x02B";
+
 #[test]
 fn headers_that_are_wrong_are_listed_and_not_counted(rt: HostRuntime) -> Result<(), Fail> {
     let whole = bytes_of(rt.alloc(), &[HEADER, NAME_1_A])?;
-    let text =
-        b"JAVA PROFILE 1.0.3\0\0\0\0\x04\0\0\0\0\0\0\0\x01\x01\0\0\0\0\0\0\0\x05\0\0\0\x02B".as_slice();
-    let size =
-        b"JAVA PROFILE 1.0.2\0\0\0\0\x02\0\0\0\0\0\0\0\x01\x01\0\0\0\0\0\0\0\x05\0\0\0\x02B".as_slice();
     let dump = bytes_of(rt.alloc(), &[HEADER, NAME_1_A, END])?;
     let joined = Joined { parts: 1, facts: 1 };
     let faults = [
@@ -56,7 +59,7 @@ fn headers_that_are_wrong_are_listed_and_not_counted(rt: HostRuntime) -> Result<
     expect_salvaged(
         &rt,
         rt.alloc(),
-        &[text, &whole, size],
+        &[WRONG_TEXT, &whole, WRONG_SIZE],
         joined,
         &faults,
         &dump,
@@ -76,7 +79,7 @@ fn the_next_part_is_read_behind_one_that_is_cut_in_a_heap_dump(
     expect_salvaged(
         &rt,
         rt.alloc(),
-        &[&part[..70], &root],
+        &[front(&part, 70), &root],
         joined,
         &faults,
         &dump,
@@ -88,12 +91,14 @@ const LATER: &[u8] = b"JAVA PROFILE 1.0.2\0\0\0\0\x04\0\0\0\0\0\0\x07\xd0";
 
 const EARLIER: &[u8] = b"JAVA PROFILE 1.0.1\0\0\0\0\x04\0\0\0\0\0\0\x03\xe8";
 
+/// The same, of version 1.0.2.
+const EARLIER_AGAIN: &[u8] = b"JAVA PROFILE 1.0.2\0\0\0\0\x04\0\0\0\0\0\0\x03\xe8";
+
 #[test]
 fn the_earliest_time_is_that_of_a_part_with_a_fault(rt: HostRuntime) -> Result<(), Fail> {
     let late = bytes_of(rt.alloc(), &[LATER, NAME_1_A])?;
     let early = bytes_of(rt.alloc(), &[EARLIER, b"\x2c\0\0\0\0\0\0\0\x01\0"])?;
-    let mut dump = bytes_of(rt.alloc(), &[EARLIER, NAME_1_A, END])?;
-    dump[17] = b'2';
+    let dump = bytes_of(rt.alloc(), &[EARLIER_AGAIN, NAME_1_A, END])?;
     let joined = Joined { parts: 2, facts: 1 };
     let fault = [malformed(1, 31, Reason::BadLength)];
     expect_salvaged(&rt, rt.alloc(), &[&late, &early], joined, &fault, &dump)

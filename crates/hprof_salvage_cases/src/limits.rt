@@ -1,7 +1,6 @@
 //! Parts that go beyond a limit, or whose reader fails.
 
-use crate::expecting::equal_bytes;
-use crate::samples::{array_dump, expect_answer, names_dump, plain_part, salvaged_under};
+use crate::samples::{array_dump, expect_answer, front, names_dump, plain_part, salvaged_under};
 use hprof_devices::Device;
 use hprof_engine::{Joined, ToolFault};
 use hprof_salvage::{FaultedPart, Salvaged, salvage_to};
@@ -45,14 +44,9 @@ fn salvaged_broken(
 fn a_reader_that_fails_at_its_read_60(rt: HostRuntime) -> Result<(), Fail> {
     let part = plain_part(rt.alloc())?;
     let dump = names_dump(rt.alloc())?;
-    equal_bytes(
-        &rt,
-        &part[31..59],
-        b"\x01\0\0\0\0\0\0\0\x05\0\0\0\x02B\x01\0\0\0\0\0\0\0\x05\0\0\0\x01A",
-    );
     let joined = Joined { parts: 1, facts: 2 };
     let fault = PartFault::Read;
-    let (answer, written) = salvaged_broken(rt.alloc(), &part[..59], Limits::usual());
+    let (answer, written) = salvaged_broken(rt.alloc(), front(&part, 59), Limits::usual());
     expect_answer(
         &rt,
         answer,

@@ -1,7 +1,7 @@
 //! Parts of which nothing can be saved together.
 
 use crate::samples::{
-    HEADER, NAME_1_A, NAME_1_B, WIDE_HEADER, bytes_of, expect_refused, plain_part, record,
+    HEADER, NAME_1_A, NAME_1_B, WIDE_HEADER, bytes_of, expect_refused, front, plain_part, record,
 };
 use hprof_engine::ToolFault;
 use hprof_heap::Key;
@@ -24,8 +24,8 @@ fn no_part_with_a_whole_header(rt: HostRuntime) -> Result<(), Fail> {
 fn a_cut_part_and_one_of_another_size(rt: HostRuntime) -> Result<(), Fail> {
     let part = plain_part(rt.alloc())?;
     let sizes = ToolFault::IdSizes;
-    expect_refused(&rt, rt.alloc(), &[&part[..84], WIDE_HEADER], sizes)?;
-    expect_refused(&rt, rt.alloc(), &[WIDE_HEADER, &part[..84]], sizes)
+    expect_refused(&rt, rt.alloc(), &[front(&part, 84), WIDE_HEADER], sizes)?;
+    expect_refused(&rt, rt.alloc(), &[WIDE_HEADER, front(&part, 84)], sizes)
 }
 
 #[test]

@@ -73,6 +73,11 @@ pub(crate) fn array_dump(alloc: Global) -> Result<Vec<u8>, AllocError> {
     bytes_of(alloc, &[HEADER, NAME_1_A, NAME_2_B, &segment, END])
 }
 
+/// The front of so many bytes.
+pub(crate) fn front(bytes: &[u8], len: usize) -> &[u8] {
+    bytes.get(..len).unwrap_or(bytes)
+}
+
 /// The part has an item at that offset of which bytes are lacking.
 pub(crate) fn truncated(index: usize, at: u64) -> FaultedPart {
     malformed(index, at, Reason::Truncated)

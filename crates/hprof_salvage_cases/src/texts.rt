@@ -1,6 +1,7 @@
-//! The text of each fault that is listed.
+//! The text of each fault that is listed, which is that of the refusal where parts are joined.
 
 use crate::expecting::equal;
+use hprof_engine::ToolFault;
 use hprof_items::Reason;
 use hprof_salvage::FaultedPart;
 use hprof_stream::PartFault;
@@ -58,8 +59,9 @@ fn texts(rt: HostRuntime) -> Result<(), Fail> {
         (12, PartFault::ReadsExceeded, "part 12: too many reads"),
         (13, PartFault::BytesExceeded, "part 13: too many bytes"),
     ] {
-        let told = FaultedPart { index, fault }.text(rt.alloc())?;
-        equal(&rt, told.as_str(), text);
+        let listed = FaultedPart { index, fault }.to_string(rt.alloc())?;
+        let refused = ToolFault::Part { index, fault }.text(rt.alloc())?;
+        equal(&rt, (listed.as_str(), refused.as_str()), (text, text));
     }
     Ok(())
 }

@@ -5,7 +5,7 @@ ghost use Rattle.hprof_devices.specs.declared.health.Health.TheVariants.{Well};
 ghost use Rattle.hprof_devices.specs.Device.{health_of};
 
 use crate::expecting::{equal_at, equal_bytes};
-use crate::samples::{array_dump, plain_part, readers_of};
+use crate::samples::{array_dump, front, plain_part, readers_of};
 use hprof_devices::{Device, WriteFault};
 use hprof_engine::ToolFault;
 use hprof_salvage::salvage_to;
@@ -58,7 +58,7 @@ fn salvage_cut_at_each_byte(rt: HostRuntime) -> Result<(), Fail> {
     for room in 0..94usize {
         for (sticks, fault) in [(false, WriteFault::Failed), (true, WriteFault::Stuck)] {
             let mut target = device_with(rt.alloc(), room, sticks);
-            let mut readers = readers_of(rt.alloc(), &[&part[..84]])?;
+            let mut readers = readers_of(rt.alloc(), &[front(&part, 84)])?;
             let answer = salvage_to(rt.alloc(), &mut readers, &mut target, Limits::usual());
             let expected = (room < 93).then_some(ToolFault::Write(fault));
             equal_at(&rt, (room, sticks), answer.err(), expected);

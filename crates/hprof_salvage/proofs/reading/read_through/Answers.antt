@@ -44,30 +44,31 @@ loop-index-preserved g c =
     let few : index < 2 ^ 64 - 1 = omega arith in
     let there = element_at c.args.readers.now c.loop-index.readers index found within (c.loop-index.invariant.unread index found
     (omega arith) within) c.index-readers-index.is ∙ ap Some c.index-readers-index.is in
-    let more = gathers_more g.R.Source.left g.R.Source.health g.R.Source.pulls c.args.limits c.args.readers.now c.loop-index.readers
-    (λ it. gathered it.gatherer) (λ it. it.parts) index was c.read_part.new.source in
     record {
       unread = λ k d after below.
           let other : k ≢ index = omega arith in
           get_or-set_other c.loop-index.readers index k c.read_part.new.source d other
           ∙ c.loop-index.invariant.unread k d (omega arith) below;
-      saved = elim c.match-read_part.branch [
-        | in-Err+in_ok-list_fault w ↦
-            let read = w.in-Err.ensures.read in
-            let listed = w.in_ok-list_fault.ensures.ok in
-            let one = read_faulty (λ it. gathered it.gatherer) (λ it. it.parts) g.R.Source.left g.R.Source.health g.R.Source.pulls
-            c.args.limits was read.0 c.read_part.new.source c.loop-index.counter c.read_part.new.sink c.loop-index.invariant.saved.sound
-            c.loop-index.invariant.saved.given c.loop-index.invariant.saved.gathers read.1 w.in-Err.ensures.pulls w.in-Err.fault listed.0 read.2 in
-            more (record { came = read.0; fault = Some w.in-Err.fault }) c.loop-index.counter c.read_part.new.sink c.loop-index.faults.items
-            c.match-read_part.faults.items there still few c.loop-index.invariant.saved one.0 one.1
-            (ap (λ v. v.items) w.faults-is ∙ listed.1)
-        | in_default w ↦
-            let read = w.in_default.ensures.read in
-            let one = read_whole (λ it. gathered it.gatherer) (λ it. it.parts) g.R.Source.left g.R.Source.health g.R.Source.pulls
-            c.args.limits was read.0 c.read_part.new.source c.loop-index.counter c.read_part.new.sink c.loop-index.invariant.saved.sound
-            read.1 w.in_default.ensures.pulls w.in_default.field-0 read.2 in
-            more (record { came = read.0; fault = None }) c.loop-index.counter c.read_part.new.sink c.loop-index.faults.items
-            c.match-read_part.faults.items there still few c.loop-index.invariant.saved one.0 one.1
-            (ap (λ v. v.items) w.faults-is ∙ sym (append-nil c.loop-index.faults.items))
-      ];
+      saved =
+          let more = gathers_more g.R.Source.left g.R.Source.health g.R.Source.pulls c.args.limits c.args.readers.now c.loop-index.readers
+          (λ it. gathered it.gatherer) (λ it. it.parts) index was c.read_part.new.source in
+          elim c.match-read_part.branch [
+            | in-Err+in_ok-list_fault w ↦
+                let read = w.in-Err.ensures.read in
+                let listed = w.in_ok-list_fault.ensures.ok in
+                let one = read_faulty (λ it. gathered it.gatherer) (λ it. it.parts) g.R.Source.left g.R.Source.health g.R.Source.pulls
+                c.args.limits was read.0 c.read_part.new.source c.loop-index.counter c.read_part.new.sink c.loop-index.invariant.saved.sound
+                c.loop-index.invariant.saved.given c.loop-index.invariant.saved.gathers read.1 w.in-Err.ensures.pulls w.in-Err.fault listed.0 read.2 in
+                more (record { came = read.0; fault = Some w.in-Err.fault }) c.loop-index.counter c.read_part.new.sink c.loop-index.faults.items
+                c.match-read_part.faults.items there still few c.loop-index.invariant.saved one.0 one.1
+                (ap (λ v. v.items) w.faults-is ∙ listed.1)
+            | in_default w ↦
+                let read = w.in_default.ensures.read in
+                let one = read_whole (λ it. gathered it.gatherer) (λ it. it.parts) g.R.Source.left g.R.Source.health g.R.Source.pulls
+                c.args.limits was read.0 c.read_part.new.source c.loop-index.counter c.read_part.new.sink c.loop-index.invariant.saved.sound
+                read.1 w.in_default.ensures.pulls w.in_default.field-0 read.2 in
+                more (record { came = read.0; fault = None }) c.loop-index.counter c.read_part.new.sink c.loop-index.faults.items
+                c.match-read_part.faults.items there still few c.loop-index.invariant.saved one.0 one.1
+                (ap (λ v. v.items) w.faults-is ∙ sym (append-nil c.loop-index.faults.items))
+          ];
     }

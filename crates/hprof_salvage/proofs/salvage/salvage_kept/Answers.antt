@@ -1,4 +1,5 @@
 use Rattle.hprof_heap.specs.Heap.{heap_of}
+use Rattle.hprof_salvage.proofs.AsJoined.{as_joined}
 use Rattle.hprof_salvage.proofs.salvage.salvage_kept.Goals as goal
 
 pub returns-clause-salvages : goal.returns-clause-salvages
@@ -20,3 +21,11 @@ returns-clause-salvages g c =
       wrote = w.bytes;
       is_well = w.health;
     }
+
+pub returns-clause-joined : goal.returns-clause-joined
+returns-clause-joined g c = as_joined g.R.Source.left g.R.Source.health g.R.Source.pulls c.args.limits c.args.readers.now
+    c.read_through.new.readers g.W.Target.written g.W.Target.health c.args.target.now c.write_canonical.new.target
+    (record {
+      joined = record { parts = c.read_through.new.counter.parts; facts = c.count.result };
+      faults = c.read_through.new.faults;
+    }) (returns-clause-salvages g c)
