@@ -1,5 +1,5 @@
-//! Worked cases of the program's words that ask for something of an identifier or of all objects, or for a 1.0.1 dump, as tests through
-//! `run`. It has no code of its own.
+//! Worked cases of the program's words that ask for something of an identifier or of all objects, for a 1.0.1 dump, or for what can be
+//! saved of damaged parts, as tests through `run`. It has no code of its own.
 #![tactic(auto)]
 
 #[cfg(test)]
@@ -10,5 +10,7 @@ mod expecting;
 mod old_dumps;
 #[cfg(test)]
 mod running;
+#[cfg(test)]
+mod salvaging;
 #[cfg(test)]
 mod samples;

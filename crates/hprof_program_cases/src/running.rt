@@ -32,14 +32,19 @@ pub(crate) struct Ran {
     pub(crate) errors: Vec<u8>,
 }
 
-/// Runs the program on words behind its name, with nothing on standard input.
-pub(crate) fn outcome_of<F: Files>(alloc: Global, files: &F, words: &[&str]) -> Result<Ran, Fail> {
+/// The words behind the program's name.
+pub(crate) fn words_of(alloc: Global, words: &[&str]) -> Result<Vec<String>, Fail> {
     let mut list = Vec::new(alloc);
     list.push(String::from_str(alloc, "hprof")?)?;
     for word in words {
         list.push(String::from_str(alloc, word)?)?;
     }
-    let words = Ok(list.into_iter());
+    Ok(list)
+}
+
+/// Runs the program on words behind its name, with nothing on standard input.
+pub(crate) fn outcome_of<F: Files>(alloc: Global, files: &F, words: &[&str]) -> Result<Ran, Fail> {
+    let words = Ok(words_of(alloc, words)?.into_iter());
     let input: &[u8] = &[];
     let (mut output, mut errors) = (Vec::new(alloc), Vec::new(alloc));
     let status = run(alloc, files, words, input, Sheet(&mut output), &mut errors);

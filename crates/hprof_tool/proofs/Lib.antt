@@ -1,3 +1,4 @@
 pub mod Ends
 pub mod Making
 pub mod Files
+pub mod Saving

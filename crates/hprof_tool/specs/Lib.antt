@@ -1,3 +1,4 @@
 pub mod Program
+pub mod SalvagedFiles
 pub mod Status
 pub mod Words

@@ -17,6 +17,13 @@ pub(crate) enum Task<'a> {
         /// The names of the parts, in order.
         parts: Vec<&'a str>,
     },
+    /// To save what can be saved of the parts in files, in a new file.
+    Salvage {
+        /// The name of the new file.
+        out: &'a str,
+        /// The names of the parts, in order.
+        parts: Vec<&'a str>,
+    },
     /// To report what the parts in files have.
     Check {
         /// The names of the parts, in order.
@@ -113,6 +120,11 @@ fn command<'a>(alloc: Global) -> Result<Command<'a>, AllocError> {
             "join101",
             "Joins parts of a Java heap into one dump for tools that read JAVA PROFILE 1.0.1 alone",
         )?)?
+        .subcommand(making(
+            alloc,
+            "salvage",
+            "Saves what is whole in damaged parts of a Java heap, and says what is wrong with them",
+        )?)?
         .subcommand(reporting(alloc, "check", "Says how many facts the parts have")?)?
         .subcommand(reporting(
             alloc,
@@ -149,6 +161,7 @@ fn task_named<'a>(
     let id = words.get_str("id").unwrap_or("");
     let out = words.get_str("out").unwrap_or("");
     Ok(match name {
+        "salvage" => Task::Salvage { out, parts },
         "check" => Task::Check { parts },
         "histo" => Task::Histogram { parts },
         "object" => Task::Ask {

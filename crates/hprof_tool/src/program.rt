@@ -1,10 +1,12 @@
 //! The program: what its words ask for, over files and standard streams that the caller passes.
 
-ghost use Rattle.std.specs.Prelude.{◌≡◌, ◌≢◌, length};
+ghost use Rattle.std.specs.Prelude.{◌≡◌, ◌≢◌, length, IfOk};
 ghost use Rattle.hprof_engine.specs.Makes.{IsDump, IsMadeOf};
 ghost use Rattle.hprof_text.specs.Identifier.{IsIdText, id_value};
 ghost use Rattle.hprof_tool.specs.Program.{IsMadeOfStream, IsMadeInFile, IsMadeOfFiles};
+ghost use Rattle.hprof_tool.specs.SalvagedFiles.{IsSalvagedFile};
 ghost use Rattle.hprof_tool.specs.Words.{is_answer, is_new_file};
+ghost use Rattle.hprof_tool.specs.declared.program.salvaging.Written.{Written};
 
 use crate::command::{NewFile, Question, Task, task_of};
 use crate::status::Status;
@@ -14,6 +16,8 @@ use hprof_engine::{Dump, Product};
 use hprof_reports::{Check, HistogramReport, ObjectReport, PathReport};
 use hprof_text::parse_id;
 use joining::{join_stream, make_file, report_files};
+use refused::Refused;
+use salvaging::{Written, salvage_file, tell_faults};
 use std::alloc::Global;
 use std::env::Args;
 use std::io;
@@ -24,6 +28,7 @@ mod answers;
 mod joining;
 mod making;
 mod refused;
+mod salvaging;
 
 /// Joins the part on `input` to `output`.
 fn pass<I: Read + Drop, O: Write + Drop, E: Write>(
@@ -52,6 +57,43 @@ fn write_new<P: Product, F: Files, E: Write>(
     ensures understood { result ≢ Status.NotUnderstood }
 {
     answer_outcome(alloc, make_file(alloc, files, product, out, names), errors)
+}
+
+/// Saves what can be saved of parts in files in a new file, which it gives back, and then tells the faults of the parts on
+/// `output`.
+fn salvage_and_tell<F: Files, O: Write>(
+    alloc: Global,
+    files: &F,
+    out: &str,
+    names: &[&str],
+    output: &mut O,
+) -> Result<Written<F::File>, Refused>
+    ensures { IfOk result (λ written. IsSalvagedFile F.File.remaining F.File.contents (length names.now) written.salvaged written.writer) }
+{
+    let written = salvage_file(alloc, files, out, names)?;
+    tell_faults(&written.salvaged.faults, output)?;
+    Ok(written)
+}
+
+/// Saves what can be saved of parts in files in a new file, and tells the faults of the parts on `output`, one a line. Where a
+/// fault cannot be told, the new file stays.
+fn salvage<F: Files, O: Write, E: Write>(
+    alloc: Global,
+    files: &F,
+    out: &str,
+    names: &[&str],
+    output: &mut O,
+    errors: &mut E,
+) -> Status
+    ensures done { result ≡ Status.Done → (written : Written F.File)
+        × IsSalvagedFile F.File.remaining F.File.contents (length names.now) written.salvaged written.writer }
+    ensures understood { result ≢ Status.NotUnderstood }
+{
+    answer_outcome(
+        alloc,
+        salvage_and_tell(alloc, files, out, names, output),
+        errors,
+    )
 }
 
 /// Writes a report on parts in files to `output`.
@@ -124,8 +166,9 @@ fn list_of(alloc: Global, words: io::Result<Args>) -> io::Result<Vec<String>> {
 }
 
 /// Does what the words ask for: without a word behind the program's name it joins the part on `input` to `output`;
-/// `join OUT PART..` and `join101 OUT PART..` join parts in files to a new file; `check PART..`, `histo PART..`,
-/// `object ID PART..` and `path ID PART..` write a report on parts in files to `output`. Refusals are told on `errors`.
+/// `join OUT PART..` and `join101 OUT PART..` join parts in files to a new file; `salvage OUT PART..` saves in a new file what
+/// can be saved of parts in files, and tells their faults on `output`; `check PART..`, `histo PART..`, `object ID PART..` and
+/// `path ID PART..` write a report on parts in files to `output`. Refusals are told on `errors`.
 pub fn run<F: Files, I: Read + Drop, O: Write + Drop, E: Write>(
     alloc: Global,
     files: &F,
@@ -147,6 +190,9 @@ pub fn run<F: Files, I: Read + Drop, O: Write + Drop, E: Write>(
                 parts,
             },
         ) => make(alloc, files, product, out, &parts, errors),
+        Ok(Task::Salvage { out, parts }) => {
+            salvage(alloc, files, out, &parts, &mut output, errors)
+        }
         Ok(Task::Check { parts }) => report(alloc, files, &Check, &parts, output, errors),
         Ok(Task::Histogram { parts }) => {
             report(alloc, files, &HistogramReport, &parts, output, errors)

@@ -37,7 +37,7 @@ pub(crate) fn join_stream<I: Read + Drop, O: Write + Drop>(
 }
 
 /// Opens the parts in order.
-fn open_parts<F: Files>(
+pub(crate) fn open_parts<F: Files>(
     alloc: Global,
     files: &F,
     names: &[&str],

@@ -1,6 +1,6 @@
 //! Making something of parts into a writer, through a buffer.
 
-ghost use Rattle.std.specs.Prelude.{◌≡◌, List, [], ℕ, All, Option, Err, IsOk, OnOk, OnErr, IfOk, IfErr};
+ghost use Rattle.std.specs.Prelude.{◌≡◌, List, [], ℕ, All, Option, Ok, Err, OnOk, OnErr, IfOk, IfErr};
 ghost use Rattle.std.specs.Io.KnownBytes.{Keeps, append_known};
 ghost use Rattle.std.specs.Io.Buffered.{writer_buffer, writer_contents};
 ghost use Rattle.hprof_devices.specs.declared.health.Health.TheVariants.{Well};
@@ -17,7 +17,7 @@ use std::io::{BufWriter, Write};
 use std::mem;
 
 /// The number of bytes that are written at a time.
-const BUFFER_LEN: usize = 65_536;
+pub(crate) const BUFFER_LEN: usize = 65_536;
 
 /// What is written could not be.
 const WRITE_FAILED: ToolFault = ToolFault::Write(WriteFault::Failed);
@@ -31,11 +31,11 @@ struct Making<W> {
 }
 
 /// Ends the writing of what the engine answered: the buffer is flushed, and after a refusal it is left alone.
-fn end_of_writing<W: Write + Drop>(
-    made: Result<(), ToolFault>,
+pub(crate) fn end_of_writing<T: Drop, W: Write + Drop>(
+    made: Result<T, ToolFault>,
     buffered: &mut BufWriter<W>,
-) -> Result<(), ToolFault>
-    ensures done { OnOk result (IsOk made) }
+) -> Result<T, ToolFault>
+    ensures done { IfOk result (λ value. made ≡ Ok value) }
     ensures flushed { OnOk result (writer_buffer buffered.new ≡ []) }
     ensures bytes { Keeps (writer_contents W.contents buffered.old) (writer_contents W.contents buffered.new) }
     ensures failed { OnOk made (OnErr result (result ≡ Err WRITE_FAILED)) }
@@ -43,7 +43,10 @@ fn end_of_writing<W: Write + Drop>(
     ensures unchanged { OnErr made (buffered.new ≡ buffered.old) }
 {
     match made {
-        Ok(()) => buffered.flush().map_err(|_| WRITE_FAILED),
+        Ok(value) => match buffered.flush() {
+            Ok(()) => Ok(value),
+            Err(_) => Err(WRITE_FAILED),
+        },
         Err(fault) => Err(fault),
     }
 }

@@ -1,0 +1,6 @@
+pub mod SavedParts
+pub mod PartReads
+pub mod PartByFault
+pub mod Going
+pub mod WholeParts
+pub mod AsJoined

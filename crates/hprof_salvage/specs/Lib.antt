@@ -1,0 +1,4 @@
+pub mod Saved
+pub mod Sound
+pub mod Salvaging
+pub mod Through

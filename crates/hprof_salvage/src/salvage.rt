@@ -1,0 +1,92 @@
+//! Saving what can be saved of parts.
+
+ghost use Rattle.std.specs.Prelude.{◌≡◌, false, List, All, IfOk};
+ghost use Rattle.std.specs.Io.KnownBytes.{Appends};
+ghost use Rattle.hprof_devices.specs.declared.health.Health.TheVariants.{Well};
+ghost use Rattle.hprof_dump.specs.Dump.{canonical_dump};
+ghost use Rattle.hprof_heap.specs.Gathering.{Given, gathered, nothing_gathered, Gathers};
+ghost use Rattle.hprof_heap.specs.Heap.{heap_of};
+ghost use Rattle.hprof_salvage.specs.Salvaging.{Salvages};
+ghost use Rattle.hprof_salvage.specs.Sound.{IsAsJoined};
+ghost use Rattle.hprof_salvage.specs.Through.{TellsHeap, salvaged_in};
+
+use crate::counter::PartCounter;
+use crate::reading::read_through;
+use crate::salvaged::{Salvaged, SalvagedHeap};
+use hprof_devices::{Source, Target};
+use hprof_dump::write_canonical;
+use hprof_engine::{Joined, ToolFault};
+use hprof_heap::{Gatherer, Heap, Refusal};
+use hprof_stream::Limits;
+use std::alloc::Global;
+
+/// The heap of what was gathered, or why there is none.
+fn heap_of_all(gatherer: Gatherer) -> Result<Heap, ToolFault>
+    requires { (gathered gatherer).failed ≡ false }
+    ensures { (given : List Given) → Gathers nothing_gathered given (gathered gatherer) → TellsHeap given result }
+{
+    match gatherer.finish() {
+        Ok(heap) => Ok(heap),
+        Err(Refusal::NoParts) => Err(ToolFault::NoParts),
+        Err(Refusal::IdSizes) => Err(ToolFault::IdSizes),
+        Err(Refusal::Conflict(key)) => Err(ToolFault::Conflict(key)),
+        // No fault was answered but for want of memory, which ended the call.
+        Err(Refusal::Failed) => unreachable!(),
+    }
+}
+
+/// As [`salvage_to`], and hands back the heap that was written, so that a program that ends need not free it row by row.
+pub fn salvage_kept<R: Source, W: Target>(
+    alloc: Global,
+    readers: &mut [R],
+    target: &mut W,
+    limits: Limits,
+) -> Result<SalvagedHeap, ToolFault>
+    requires readers { All (λ reader. R.health reader ≡ Well) readers.old }
+    requires writer { W.health target.old ≡ Well }
+    ensures salvages { Salvages R.left R.health R.pulls limits readers.old readers.new W.written W.health target.old target.new
+        (salvaged_in result) }
+    ensures joined { IfOk result (λ kept. IsAsJoined R.left W.written readers.old target.old target.new kept.salvaged) }
+
+    // The heap that is handed back is the one whose dump was written.
+    ensures heap { IfOk result (λ kept. let heap = heap_of kept.heap in
+        Appends (W.written target.old) (W.written target.new) (canonical_dump heap.ids heap.millis heap.facts)) }
+{
+    let mut counter = PartCounter::new(alloc);
+    let mut faults = Vec::new(alloc);
+    read_through(alloc, readers, limits, &mut counter, &mut faults)?;
+    let PartCounter { gatherer, parts } = counter;
+    let heap = heap_of_all(gatherer)?;
+    if let Err(fault) = write_canonical(&heap, target) {
+        return Err(ToolFault::Write(fault));
+    }
+    let joined = Joined {
+        parts,
+        facts: heap.count(),
+    };
+    let salvaged = Salvaged { joined, faults };
+    Ok(SalvagedHeap { salvaged, heap })
+}
+
+/// Reads all parts, whatever their faults, and writes the canonical dump of the facts that stand in each before its first fault.
+///
+/// A part whose header is whole gives its size and its time, too, and those whose header is not whole are as if they were not
+/// there. Two sizes and a conflict are refused as where parts are joined. A part ends the call for want of memory alone.
+pub fn salvage_to<R: Source, W: Target>(
+    alloc: Global,
+    readers: &mut [R],
+    target: &mut W,
+    limits: Limits,
+) -> Result<Salvaged, ToolFault>
+    requires readers { All (λ reader. R.health reader ≡ Well) readers.old }
+    requires writer { W.health target.old ≡ Well }
+    ensures salvages { Salvages R.left R.health R.pulls limits readers.old readers.new W.written W.health target.old target.new result }
+
+    // Where no fault is listed, it did what `join_to` does.
+    ensures joined { IfOk result (λ salvaged. IsAsJoined R.left W.written readers.old target.old target.new salvaged) }
+{
+    match salvage_kept(alloc, readers, target, limits) {
+        Ok(kept) => Ok(kept.salvaged),
+        Err(fault) => Err(fault),
+    }
+}

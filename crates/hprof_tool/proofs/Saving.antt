@@ -1,0 +1,180 @@
+-- What saving what can be saved of parts tells, into a stream and of files.
+use Rattle.std.proofs.Common.{◌≡◌, ℕ, List, length, Option, Result, Ok, Err, refl, sym, ap, subst, ◌∙◌}
+use Rattle.std.specs.Prelude.{IfOk, IfErr, OnOk, OnErr}
+use Rattle.std.specs.Io.KnownBytes.{Appends, Keeps}
+use Rattle.std.proofs.KnownBytes.{Appends-kept}
+use Rattle.std.proofs.Math.Seq.{take-length}
+use Rattle.hprof_devices.specs.declared.device.Device.{Device}
+use Rattle.hprof_devices.specs.Device.{inner_of, health_of, pulls_of}
+use Rattle.hprof_devices.specs.declared.health.Health.{Health}
+use Rattle.hprof_devices.specs.declared.health.Health.TheVariants as healths
+use Rattle.hprof_devices.specs.declared.health.WriteFault.TheVariants as write_faults
+use Rattle.hprof_dump.specs.Dump.{canonical_dump}
+use Rattle.hprof_heap.specs.declared.standing.Refusal.{Refusal}
+use Rattle.hprof_engine.specs.declared.tool_fault.ToolFault.{ToolFault}
+use Rattle.hprof_engine.specs.declared.tool_fault.ToolFault.TheVariants as tool
+use Rattle.hprof_salvage.specs.declared.salvaged.Salvaged.{Salvaged}
+use Rattle.hprof_salvage.specs.Salvaging.{SavesAll, RefusesAll, StopsWriting, Salvages}
+use Rattle.hprof_tool.specs.declared.program.refused.Refused.{Refused}
+use Rattle.hprof_tool.specs.declared.program.refused.Refused.TheVariants as refusals
+use Rattle.hprof_tool.specs.Program.{usual_limits, refused_of, IsOfOpening}
+use Rattle.hprof_tool.specs.SalvagedFiles.{SalvagesStream, SalvagesBuffered, SalvagesFiles, IsSalvageRefusal}
+
+module _ {R : Type 0} (left : R → Option (List ℕ)) (health : R → Health) (pulls : R → ℕ) (old new : List R) where
+  -- what saving came to, of a stream that held this and was so, and holds that and is so
+  abbrev pub OfStream : (held : Option (List ℕ)) (was : Health) (holds : Option (List ℕ)) (is : Health) → Result Salvaged ToolFault → Type 0
+  OfStream held was holds is ended = Salvages left health pulls usual_limits old new {W = Option (List ℕ) × Health} (λ stream. stream.0)
+      (λ stream. stream.1) (held, was) (holds, is) ended
+
+  -- ---- a device that is taken apart
+
+  module _ {W : Type 0} (written : W → Option (List ℕ)) (well : W → Health) (before after : W) where
+    -- nothing was written
+    untouched : (refusal : Refusal) → RefusesAll left health pulls usual_limits old new written well before after refusal
+        → RefusesAll left health pulls usual_limits old new {W = Option (List ℕ) × Health} (λ stream. stream.0) (λ stream. stream.1)
+        (written before, well before) (written after, well after) refusal
+    untouched refusal is = record {
+      reads = is.reads;
+      through = is.through;
+      unwritten = ap (λ (w : W). (written w, well w)) is.unwritten;
+    }
+
+    -- what it holds, and its health
+    pub shown_saving : (ended : Result Salvaged ToolFault) → Salvages left health pulls usual_limits old new written well before after ended
+        → OfStream (written before) (well before) (written after) (well after) ended
+    shown_saving (Ok salvaged) is = record {
+      reads = is.reads;
+      heap = is.heap;
+      through = is.through;
+      listed = is.listed;
+      parts_count = is.parts_count;
+      facts_count = is.facts_count;
+      wrote = is.wrote;
+      is_well = is.is_well;
+    }
+    shown_saving (Err (tool.Part index fault)) is = (is.0, ap (λ (w : W). (written w, well w)) is.1)
+    shown_saving (Err tool.NoParts) is = untouched _ is
+    shown_saving (Err tool.IdSizes) is = untouched _ is
+    shown_saving (Err (tool.Conflict key)) is = untouched _ is
+    shown_saving (Err tool.DumpTooLong) is = absurd is
+    shown_saving (Err (tool.Write fault)) is = record {
+      reads = is.reads;
+      heap = is.heap;
+      through = is.through;
+      count = is.count;
+      wrote = is.wrote;
+      ill = is.ill;
+    }
+    shown_saving (Err tool.OutOfMemory) is = (is.0, ap (λ (w : W). (written w, well w)) is.1)
+
+  -- ---- a buffer that is flushed
+
+  module _ (held holds end : Option (List ℕ)) (was is : Health) (keeps : Keeps holds end) (salvaged : Salvaged)
+      (saves : OfStream held was holds is (Ok salvaged)) where
+    -- all was written, and what is held stays
+    kept_saving : OfStream held was end healths.Well (Ok salvaged)
+    kept_saving = record {
+      reads = saves.reads;
+      heap = saves.heap;
+      through = saves.through;
+      listed = saves.listed;
+      parts_count = saves.parts_count;
+      facts_count = saves.facts_count;
+      wrote = Appends-kept held holds end (canonical_dump saves.heap.ids saves.heap.millis saves.heap.facts) saves.wrote keeps;
+      is_well = refl;
+    }
+
+    -- all was written, and then the writer failed
+    failed_saving : OfStream held was end healths.Failed (Err (tool.Write write_faults.Failed))
+    failed_saving =
+        let dump : List ℕ = canonical_dump saves.heap.ids saves.heap.millis saves.heap.facts in
+        record {
+          reads = saves.reads;
+          heap = saves.heap;
+          through = saves.through;
+          count = length dump;
+          wrote = subst (Appends held end) (sym (take-length dump)) (Appends-kept held holds end dump saves.wrote keeps);
+          ill = refl;
+        }
+
+  module _ (held holds end : Option (List ℕ)) (was is : Health) where
+    -- what was saved, and then flushed
+    flushed_saving : (made outcome : Result Salvaged ToolFault) → OfStream held was holds is made → IfOk outcome (λ value. made ≡ Ok value)
+        → OnOk made (OnErr outcome (outcome ≡ Err (tool.Write write_faults.Failed))) → IfErr made (λ fault. outcome ≡ Err fault)
+        → Keeps holds end → OnErr made (end ≡ holds) → (last : Health) × OfStream held was end last outcome
+    flushed_saving (Ok salvaged) (Ok value) saves done failed refused keeps same = (
+      healths.Well,
+      subst (λ (o : Result Salvaged ToolFault). OfStream held was end healths.Well o) done
+          (kept_saving held holds end was is keeps salvaged saves),
+    )
+    flushed_saving (Ok salvaged) (Err fault) saves done failed refused keeps same = (
+      healths.Failed,
+      subst (λ (o : Result Salvaged ToolFault). OfStream held was end healths.Failed o) (sym failed)
+          (failed_saving held holds end was is keeps salvaged saves),
+    )
+    flushed_saving (Err fault) outcome saves done failed refused keeps same = (
+      is,
+      subst (λ (o : Result Salvaged ToolFault). OfStream held was end is o) (sym refused)
+          (subst (λ (h : Option (List ℕ)). OfStream held was h is (Err fault)) (sym same) saves),
+    )
+
+    -- the same of the stream that was there at first, and is at last
+    pub streamed_saving : (first last : Option (List ℕ)) (made outcome : Result Salvaged ToolFault) → held ≡ first → was ≡ healths.Well
+        → end ≡ last → OfStream held was holds is made → IfOk outcome (λ value. made ≡ Ok value)
+        → OnOk made (OnErr outcome (outcome ≡ Err (tool.Write write_faults.Failed))) → IfErr made (λ fault. outcome ≡ Err fault)
+        → Keeps holds end → OnErr made (end ≡ holds) → SalvagesStream left health pulls old new first last outcome
+    streamed_saving first last made outcome at_first well at_last saves done failed refused keeps same =
+        let it = flushed_saving made outcome saves done failed refused keeps same in (
+          it.0,
+          subst (λ (h : Option (List ℕ)). OfStream h healths.Well last it.0 outcome) at_first
+              (subst (λ (w : Health). OfStream held w last it.0 outcome) well
+              (subst (λ (h : Option (List ℕ)). OfStream held was h it.0 outcome) at_last it.1)),
+        )
+
+  -- ---- room for the buffer
+
+  pub buffered_saving : (held holds : Option (List ℕ)) (ended : Result Salvaged ToolFault)
+      → SalvagesStream left health pulls old new held holds ended → SalvagesBuffered left health pulls old new held holds ended
+  buffered_saving held holds (Ok salvaged) saves = saves
+  buffered_saving held holds (Err (tool.Part index fault)) saves = saves
+  buffered_saving held holds (Err tool.NoParts) saves = saves
+  buffered_saving held holds (Err tool.IdSizes) saves = saves
+  buffered_saving held holds (Err (tool.Conflict key)) saves = saves
+  buffered_saving held holds (Err tool.DumpTooLong) saves = saves
+  buffered_saving held holds (Err (tool.Write fault)) saves = saves
+  buffered_saving held holds (Err tool.OutOfMemory) saves = tt
+
+-- after a refusal the buffered writer holds what it held
+pub unchanged_saving : {W : Type 0} (contents : W → Option (List ℕ)) (made : Result Salvaged ToolFault) (now was : W) → OnErr made (now ≡ was)
+    → OnErr made (contents now ≡ contents was)
+unchanged_saving contents (Ok salvaged) now was same = tt
+unchanged_saving contents (Err fault) now was same = ap contents same
+
+-- ---- files
+
+module _ {F : Type 0} (remaining : F → Option (List ℕ)) (count : ℕ) where
+  -- a refusal to open is one of these refusals
+  pub opening_saves : (refused : Refused) → IsOfOpening count refused → IsSalvageRefusal remaining count refused
+  opening_saves (refusals.Engine fault) is = absurd is
+  opening_saves (refusals.Open index) is = is
+  opening_saves refusals.Create is = tt
+  opening_saves refusals.OutOfMemory is = tt
+
+  module _ (old new : List (Device F)) (opened : length old ≡ count) (held holds : Option (List ℕ)) where
+    -- what saving what can be saved of the files that were opened came to
+    pub files_saved : (ended : Result Salvaged ToolFault)
+        → SalvagesStream (λ part. remaining (inner_of part)) health_of pulls_of old new held holds ended
+        → SalvagesFiles remaining count held holds ended
+    files_saved ended saves = record { old = old; new = new; opened = opened; salvages = saves }
+
+    -- so does a refusal of the engine
+    pub engine_saves : (fault : ToolFault)
+        → SalvagesBuffered (λ part. remaining (inner_of part)) health_of pulls_of old new held holds (Err fault)
+        → IsSalvageRefusal remaining count (refused_of fault)
+    engine_saves (tool.Part index fault) saves = (held, holds, files_saved (Err (tool.Part index fault)) saves)
+    engine_saves tool.NoParts saves = (held, holds, files_saved (Err tool.NoParts) saves)
+    engine_saves tool.IdSizes saves = (held, holds, files_saved (Err tool.IdSizes) saves)
+    engine_saves (tool.Conflict key) saves = (held, holds, files_saved (Err (tool.Conflict key)) saves)
+    engine_saves tool.DumpTooLong saves = (held, holds, files_saved (Err tool.DumpTooLong) saves)
+    engine_saves (tool.Write fault) saves = (held, holds, files_saved (Err (tool.Write fault)) saves)
+    engine_saves tool.OutOfMemory saves = tt

@@ -1,0 +1,150 @@
+//! What can be saved of parts in files.
+
+ghost use Rattle.std.specs.Prelude.{◌≡◌, List, [], ℕ, All, Option, OnOk, IfOk, IfErr, length};
+ghost use Rattle.std.specs.Io.KnownBytes.{append_known};
+ghost use Rattle.std.specs.Io.Buffered.{writer_contents};
+ghost use Rattle.hprof_devices.specs.declared.health.Health.TheVariants.{Well};
+ghost use Rattle.hprof_devices.specs.Device.{inner_of, health_of};
+ghost use Rattle.hprof_salvage.specs.Salvaging.{Salvages};
+ghost use Rattle.hprof_tool.specs.Program.{usual_limits};
+ghost use Rattle.hprof_tool.specs.SalvagedFiles.{SalvagesStream, SalvagesBuffered, salvaged_with, IsSalvagedFile, IsSalvageRefusal};
+
+use crate::program::joining::open_parts;
+use crate::program::making::{BUFFER_LEN, end_of_writing};
+use crate::program::refused::{Refused, WRITE_FAILED};
+use hprof_devices::{Device, Source};
+use hprof_engine::ToolFault;
+use hprof_salvage::{FaultedPart, Salvaged, salvage_kept};
+use hprof_stream::Limits;
+use std::alloc::Global;
+use std::fs;
+use std::fs::File;
+use std::io::{BufWriter, Write};
+use std::mem;
+use std::rt::Files;
+
+/// What was saved, and what it was written to.
+#[derive(Drop)]
+pub(crate) struct Written<W> {
+    pub(crate) salvaged: Salvaged,
+    pub(crate) writer: W,
+}
+
+/// What saving came to, with the writer and the bytes that did not reach it.
+#[derive(Drop)]
+struct Saving<W> {
+    outcome: Result<Salvaged, ToolFault>,
+    writer: W,
+    unwritten: Vec<u8>,
+}
+
+/// Saves what can be saved of the readers' parts, without the heap, which need not be freed row by row, since the process ends.
+fn salvage<R: Source, W: Write + Drop>(
+    alloc: Global,
+    readers: &mut [R],
+    target: &mut Device<BufWriter<W>>,
+) -> Result<Salvaged, ToolFault>
+    requires readers { All (λ reader. R.health reader ≡ Well) readers.old }
+    requires writer { health_of target.old ≡ Well }
+    ensures { Salvages R.left R.health R.pulls usual_limits readers.old readers.new
+        (λ device. writer_contents W.contents (inner_of device)) health_of target.old target.new result }
+{
+    match salvage_kept(alloc, readers, target, Limits::usual()) {
+        Ok(kept) => {
+            mem::forget(kept.heap);
+            Ok(kept.salvaged)
+        }
+        Err(fault) => Err(fault),
+    }
+}
+
+/// Saves what can be saved of the readers' parts into a buffered writer, and flushes it. A buffer that is dropped would write
+/// once more what it holds, so it is taken apart.
+fn salvage_into<R: Source, W: Write + Drop>(
+    alloc: Global,
+    readers: &mut [R],
+    buffered: BufWriter<W>,
+) -> Saving<W>
+    requires { All (λ reader. R.health reader ≡ Well) readers.old }
+    ensures salvages { SalvagesStream R.left R.health R.pulls readers.old readers.new (writer_contents W.contents buffered)
+        (append_known (W.contents result.writer) result.unwritten.items) result.outcome }
+    ensures flushed { OnOk result.outcome (result.unwritten.items ≡ []) }
+{
+    let mut target = Device::new(buffered);
+    let saved = salvage(alloc, readers, &mut target);
+    let mut buffered = target.into_inner();
+    let outcome = end_of_writing(saved, &mut buffered);
+    let (writer, unwritten) = buffered.into_parts();
+    Saving {
+        outcome,
+        writer,
+        unwritten,
+    }
+}
+
+/// Saves what can be saved of the readers' parts into a writer, and gives the writer back.
+fn salvage_buffered<R: Source, W: Write + Drop>(
+    alloc: Global,
+    readers: &mut [R],
+    writer: W,
+) -> Result<Written<W>, ToolFault>
+    requires { All (λ reader. R.health reader ≡ Well) readers.old }
+    // What the writer holds is known where it is given back.
+    ensures { (holds : Option (List ℕ)) × SalvagesBuffered R.left R.health R.pulls readers.old readers.new (W.contents writer) holds
+        (salvaged_with result) × IfOk result (λ written. holds ≡ W.contents written.writer) }
+{
+    let Ok(buffered) = BufWriter::with_capacity(alloc, BUFFER_LEN, writer) else {
+        return Err(ToolFault::OutOfMemory);
+    };
+    let Saving {
+        outcome,
+        writer,
+        unwritten,
+    } = salvage_into(alloc, readers, buffered);
+    // To free this large block behind the rows would make the allocator go over all of them.
+    mem::forget(unwritten);
+    match outcome {
+        Ok(salvaged) => Ok(Written { salvaged, writer }),
+        Err(fault) => Err(fault),
+    }
+}
+
+/// Saves what can be saved of parts in files in a new file, which it gives back. After a refusal by the engine the new file is
+/// removed.
+pub(crate) fn salvage_file<F: Files>(
+    alloc: Global,
+    files: &F,
+    out: &str,
+    names: &[&str],
+) -> Result<Written<F::File>, Refused>
+    ensures ok { IfOk result (λ written. IsSalvagedFile F.File.remaining F.File.contents (length names.now) written.salvaged written.writer) }
+    ensures refused { IfErr result (IsSalvageRefusal F.File.remaining (length names.now)) }
+{
+    let mut parts = open_parts(alloc, files, names)?;
+    let Ok(file) = File::create_new(files, out) else {
+        return Err(Refused::Create);
+    };
+    match salvage_buffered(alloc, &mut parts, file) {
+        Ok(written) => Ok(written),
+        Err(fault) => {
+            // Where it cannot be removed, it stays.
+            let _ = fs::remove_file(files, out);
+            Err(Refused::from(fault))
+        }
+    }
+}
+
+/// Tells the faults of parts, one a line.
+pub(crate) fn tell_faults<O: Write>(faults: &[FaultedPart], output: &mut O) -> Result<(), Refused>
+    ensures { IfErr result (λ refused. refused ≡ WRITE_FAILED) }
+{
+    for fault in faults {
+        if writeln!(output, "{fault}").is_err() {
+            return Err(WRITE_FAILED);
+        }
+    }
+    if output.flush().is_err() {
+        return Err(WRITE_FAILED);
+    }
+    Ok(())
+}
