@@ -1,8 +1,7 @@
 -- What is found of an identifier, and what is said of it.
-use Rattle.std.proofs.Common.{◌≡◌, ℕ, List, Option, Some, None, refl}
+use Rattle.std.proofs.Common.{◌≡◌, ℕ, List, Option, Some, None}
 use Rattle.std.specs.Prelude.{IfNone, IfSome}
 use Rattle.std.specs.Option.{option_map}
-use Rattle.hprof_values.specs.declared.ids.IdSize.{IdSize}
 use Rattle.hprof_items.specs.FactValue.{FactValue}
 use Rattle.hprof_rows.specs.Facts.{Has}
 use Rattle.hprof_finding.specs.declared.class_row.ClassRow.{ClassRow}
@@ -11,12 +10,7 @@ use Rattle.hprof_finding.specs.ClassRow.{dump_of}
 use Rattle.hprof_finding.specs.Classes.{HasDump, HasNoDump}
 use Rattle.hprof_finding.specs.ObjectRow.{fact_of_object}
 use Rattle.hprof_finding.specs.Objects.{IsObject, HasNoObject}
-use Rattle.hprof_layouts.specs.declared.field_value.Fields.{Fields}
-use Rattle.hprof_layouts.specs.declared.field_value.Fields.TheVariants as variants
-use Rattle.hprof_layouts.specs.declared.field_value.FieldValue.{FieldValue}
-use Rattle.hprof_layouts.specs.Fields.{fields_value}
-use Rattle.hprof_naming.specs.Naming.{Naming}
-use Rattle.hprof_reports.specs.ObjectText.{IsClassFound, IsObjectFound, fields_text, why_no_fields}
+use Rattle.hprof_reports.specs.ObjectText.{IsClassFound, IsObjectFound}
 
 -- the class dump that a look-up found, if there is one
 pub class_is_found : (facts : List FactValue) (id : ℕ) (row : Option ClassRow) → IfSome row (λ r. HasDump facts (dump_of r))

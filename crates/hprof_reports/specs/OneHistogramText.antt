@@ -2,7 +2,6 @@
 use Rattle.std.proofs.Common.{◌≡◌, ℕ, List, sym, ap, ◌∙◌}
 use Rattle.hprof_values.specs.declared.ids.IdSize.{IdSize}
 use Rattle.hprof_items.specs.FactValue.{FactValue}
-use Rattle.hprof_histogram.specs.declared.row.Row.{Row}
 use Rattle.hprof_histogram.proofs.OneHistogram.{at_most_one}
 use Rattle.hprof_naming.specs.Naming.{Naming}
 use Rattle.hprof_naming.proofs.Namings.{one_naming}

@@ -1,5 +1,5 @@
 -- The report `path`: how far from the roots an identifier is, and by which path they lead there.
-use Rattle.std.specs.Prelude.{◌≡◌, ℕ, List, [], ◌∷◌, ◌++◌, map, Option, Some, None, codes}
+use Rattle.std.specs.Prelude.{◌≡◌, ℕ, List, [], ◌∷◌, ◌++◌, map, Option, Some, codes}
 use Rattle.std.specs.Fmt.{decimal}
 use Rattle.hprof_text.specs.Identifier.{id_digits}
 use Rattle.hprof_values.specs.declared.ids.IdSize.{IdSize}
