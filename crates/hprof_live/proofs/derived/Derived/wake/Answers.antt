@@ -1,0 +1,40 @@
+use Rattle.std.specs.Vec.Iter.{into_iter_items}
+use Rattle.std.proofs.Common.{◌≡◌, ℕ, List, [], ◌∷◌, refl, sym, subst, ◌∙◌, length, arith}
+use Rattle.hprof_finding.specs.HeapFacts.{facts_of, size_of}
+use Rattle.hprof_laying.proofs.Outlines.{no_elements}
+use Rattle.hprof_live.specs.declared.derived.Derived.{Derived}
+use Rattle.hprof_live.specs.Waiting.{waiting_of}
+use Rattle.hprof_live.proofs.WakingInstances.{LaysRest, laid_all, laid_next, laid_or_waited, taken_out}
+use Rattle.hprof_live.proofs.derived.Derived.wake.Goals as goal
+
+pub returns-in_default-clause-lays : goal.returns-in_default-clause-lays
+returns-in_default-clause-lays c = λ before layout is.
+    let ids = size_of c.args.heap.now in
+    let facts = facts_of c.args.heap.now in
+    let derived = c.args.self.now in
+    let class = c.args.class in
+    let new : Derived = record derived { waiting = c.take.new.self } in
+    let given : [] ≡ waiting_of derived.waiting class = sym c.in_default.ensures.none in
+    laid_all ids facts new before class [] (taken_out ids facts derived before class is c.take.new.self c.in_default.ensures.taken [] given)
+    (λ instance is_of. laid_or_waited ids facts derived before class is [] given instance is_of)
+
+pub loop-instance-init : goal.loop-instance-init
+loop-instance-init c = record {
+  keeps = refl;
+  hand = λ before layout is.
+      let ids = size_of c.args.heap.now in
+      let facts = facts_of c.args.heap.now in
+      let derived = c.args.self.now in
+      let class = c.args.class in
+      let list = waiting_of derived.waiting class in
+      let given : list ≡ into_iter_items c.into_iter-instance-iterator.result =
+      sym c.in-Some.ensures.some ∙ sym c.into_iter-instance-iterator.ensures.into_iter_gives.0 in
+      subst (LaysRest ids facts (record derived { waiting = c.take.new.self }) before class list) given
+      (taken_out ids facts derived before class is c.take.new.self c.in-Some.ensures.taken list refl);
+}
+
+pub loop-instance-preserved : goal.loop-instance-preserved
+loop-instance-preserved c = ?
+
+pub returns-clause-lays : goal.returns-clause-lays
+returns-clause-lays c = ?
