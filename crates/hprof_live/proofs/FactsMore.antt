@@ -10,6 +10,7 @@ use Rattle.hprof_items.specs.FactValue.{FactValue, Class, Instance, ObjArray}
 use Rattle.hprof_rows.specs.declared.key.Key.TheVariants as keys
 use Rattle.hprof_rows.specs.Facts.{Has}
 use Rattle.hprof_finding.specs.Classes.{ClassDump, HasDump, HasNoDump, fact_of_dump}
+use Rattle.hprof_finding.specs.Objects.{IsObject}
 use Rattle.hprof_laying.specs.declared.known.KnownLayouts.{KnownLayouts}
 use Rattle.hprof_laying.specs.Known.{AreWoken, HasDumpMore, HasLayout, Knows}
 use Rattle.hprof_laying.specs.Waking.{put}
@@ -19,6 +20,7 @@ use Rattle.hprof_laying.proofs.Wakings.{distinct_push, put-here, put-other}
 use Rattle.hprof_edges.specs.declared.edge.Edge.{Edge}
 use Rattle.hprof_edges.specs.Collecting.{PutBehind}
 use Rattle.hprof_edges.specs.DumpEdges.{IsClassEdge, IsEdgeToClass, IsElementEdge}
+use Rattle.hprof_edges.proofs.PutTogether.{put_nothing}
 use Rattle.hprof_edges.proofs.TableEdges.{GivesByClass}
 use Rattle.hprof_finding.proofs.ClassFacts.{dump_in}
 use Rattle.hprof_live.specs.declared.derived.Derived.{Derived}
@@ -27,6 +29,7 @@ use Rattle.hprof_live.specs.declared.waiting.WaitingInstances.{WaitingInstances}
 use Rattle.hprof_live.specs.Derived.{AddsFact, CanBeLaid, GivesSoFar, HasLaid, IsDerived, IsDeriving, IsEdgeSoFar, IsInstance, IsInstanceOf}
 use Rattle.hprof_live.specs.Derived.{stopped}
 use Rattle.hprof_live.specs.EdgeSet.{SetOf}
+use Rattle.hprof_live.specs.First.{NothingToDerive}
 use Rattle.hprof_live.specs.Waiting.{waiting_of}
 use Rattle.hprof_live.proofs.Deriving.{appended, stopped_more}
 use Rattle.hprof_live.proofs.EdgesSoFar.{with_fact}
@@ -117,6 +120,47 @@ module _ (ids : IdSize) (before : List FactValue) (fact : FactValue) (facts : Li
         layout = layout_was can.class can.layout;
       });
     }
+
+-- ---- a fact from which nothing is derived
+
+gives_none : (ids : IdSize) (facts : List FactValue) (laid : List ℕ) (fact : FactValue) (edge : Edge) → NothingToDerive fact
+    → GivesSoFar ids facts laid fact edge → ⊥
+gives_none ids facts laid (Instance id trace class bytes) edge nothing gives = nothing
+gives_none ids facts laid (ObjArray id trace class elements) edge nothing gives = nothing
+gives_none ids facts laid fact edge nothing gives = gives
+
+pub nothing_added : (ids : IdSize) (before : List FactValue) (fact : FactValue) (facts : List FactValue) → AddsFact before fact facts
+    → (derived : Derived) → NothingToDerive fact → IsDerived ids before derived → IsDerived ids facts derived
+nothing_added ids before fact facts adds derived nothing is =
+    derives_other ids before fact facts adds derived (λ dump e. subst NothingToDerive (sym e) nothing) is
+    (λ instance trace class bytes e. subst NothingToDerive (sym e) nothing) derived.set
+    (λ edges of. put_nothing edges (SetOf derived.set) (GivesSoFar ids facts is.laid fact) of
+    (λ edge gives. gives_none ids facts is.laid fact edge nothing gives))
+
+-- a fact that is neither a class dump nor an object dump
+pub neither : (fact : FactValue) → ((dump : ClassDump) → fact_of_dump dump ≡ fact → ⊥) → ((object : ℕ) → IsObject object fact → ⊥)
+    → NothingToDerive fact
+neither (Class id trace parent loader signers domain reserved1 reserved2 size constants statics fields) no_dump no_object =
+    no_dump (dump_in (Class id trace parent loader signers domain reserved1 reserved2 size constants statics fields)) refl
+neither (Instance id trace class bytes) no_dump no_object = no_object id refl
+neither (ObjArray id trace class elements) no_dump no_object = no_object id refl
+neither fact no_dump no_object = tt
+
+-- ---- an array of objects
+
+pub array_added : (ids : IdSize) (before facts : List FactValue) (id trace class : ℕ) (elements : List ℕ)
+    → AddsFact before (ObjArray id trace class elements) facts → (derived : Derived) → IsDerived ids before derived → (set : EdgeSet)
+    → ((edges : List Edge) → SetOf derived.set edges
+    → PutBehind (SetOf set) edges (λ edge. IsEdgeToClass id class edge ⊎ IsElementEdge id elements edge))
+    → IsDerived ids facts (record derived { set = set })
+array_added ids before facts id trace class elements adds derived is set puts =
+    derives_other ids before (ObjArray id trace class elements) facts adds derived (λ dump same. no_dump dump same) is
+    (λ instance other of bytes same. no_instance instance other of bytes same) set puts where
+  no_dump : (dump : ClassDump) → fact_of_dump dump ≡ ObjArray id trace class elements → ⊥
+  no_dump dump same = cc
+
+  no_instance : (instance other of : ℕ) (bytes : List ℕ) → Instance instance other of bytes ≡ ObjArray id trace class elements → ⊥
+  no_instance instance other of bytes same = cc
 
 -- ---- a class dump
 

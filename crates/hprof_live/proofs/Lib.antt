@@ -7,3 +7,4 @@ pub mod Deriving
 pub mod WakingInstances
 pub mod FactsMore
 pub mod Counted
+pub mod Referrers

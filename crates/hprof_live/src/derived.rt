@@ -186,7 +186,8 @@ impl Derived {
     {
         class_edges(row, &mut self.set)?;
         let woken = self.known.come(row, id_size(heap))?;
-        self.wake_all(heap, &woken)
+        self.wake_all(heap, &woken)?;
+        Ok(())
     }
 
     /// Takes an instance that is new to the heap.
@@ -205,10 +206,11 @@ impl Derived {
         edge_to_class(instance, class, &mut self.set)?;
         self.instances = self.instances.saturating_add(1);
         if self.known.knows(class) {
-            self.lay(ids, instance, class, bytes)
-        } else {
-            self.waiting.add(class, instance)
+            self.lay(ids, instance, class, bytes)?;
+            return Ok(());
         }
+        self.waiting.add(class, instance)?;
+        Ok(())
     }
 
     /// Takes an object dump that is new to the heap.
@@ -223,13 +225,19 @@ impl Derived {
                 class,
                 bytes,
                 ..
-            } => self.add_instance(ids, id, class, bytes),
+            } => {
+                self.add_instance(ids, id, class, bytes)?;
+                Ok(())
+            }
             ObjectRow::ObjArray {
                 id,
                 class,
                 elements,
                 ..
-            } => array_edges(id, class, elements, &mut self.set),
+            } => {
+                array_edges(id, class, elements, &mut self.set)?;
+                Ok(())
+            }
             // What is in an array of numbers refers to nothing.
             ObjectRow::PrimArray { .. } => Ok(()),
         }
@@ -243,10 +251,11 @@ impl Derived {
         ensures keeps { OnOk result (keeps_of self.new ≡ keeps_of self.old) }
     {
         if let Some(row) = to_class_row(fact) {
-            return self.add_class(heap, &row);
+            self.add_class(heap, &row)?;
+            return Ok(());
         }
         if let Some(row) = to_object_row(fact) {
-            return self.add_object(id_size(heap), &row);
+            self.add_object(id_size(heap), &row)?;
         }
         Ok(())
     }

@@ -1,5 +1,5 @@
 use Rattle.std.specs.Vec.Iter.{into_iter_items}
-use Rattle.std.proofs.Common.{◌≡◌, ℕ, List, [], ◌∷◌, refl, sym, subst, ◌∙◌, length, arith}
+use Rattle.std.proofs.Common.{◌≡◌, ℕ, List, [], ◌∷◌, ◌++◌, refl, sym, subst, ◌∙◌, length, arith}
 use Rattle.hprof_finding.specs.HeapFacts.{facts_of, size_of}
 use Rattle.hprof_laying.proofs.Outlines.{no_elements}
 use Rattle.hprof_live.specs.declared.derived.Derived.{Derived}
@@ -34,7 +34,32 @@ loop-instance-init c = record {
 }
 
 pub loop-instance-preserved : goal.loop-instance-preserved
-loop-instance-preserved c = ?
+loop-instance-preserved c = record {
+  keeps = c.in_ok-lay_waiting.ensures.keeps ∙ c.loop-instance.invariant.keeps;
+  hand = λ before layout is.
+      let ids = size_of c.args.heap.now in
+      let facts = facts_of c.args.heap.now in
+      let class = c.args.class in
+      let list = waiting_of c.args.self.now.waiting class in
+      let instance = c.in-Some-instance.instance in
+      let later = into_iter_items c.next.new.self in
+      let at = subst (LaysRest ids facts c.loop-instance.self before class list) c.in-Some-instance.ensures.steps.0
+      (c.loop-instance.invariant.hand before layout is) in
+      let first = at.rest_are instance (0, omega arith, refl) in
+      laid_next ids facts c.loop-instance.self before class c.lay_waiting.new.self list instance later at
+      (c.in_ok-lay_waiting.ensures.lays at.laid (before ++ list) class first.0 layout first.1 at.deriving_is);
+}
 
 pub returns-clause-lays : goal.returns-clause-lays
-returns-clause-lays c = ?
+returns-clause-lays c = λ before layout is.
+    let ids = size_of c.args.heap.now in
+    let facts = facts_of c.args.heap.now in
+    let class = c.args.class in
+    let list = waiting_of c.args.self.now.waiting class in
+    let len = c.loop-instance.instance-iterator.rest.ok.0 in
+    let ended = c.in-None.ensures.steps.0 in
+    let none : into_iter_items c.loop-instance.instance-iterator ≡ [] =
+    no_elements (into_iter_items c.loop-instance.instance-iterator) (omega arith) in
+    laid_all ids facts c.loop-instance.self before class list
+    (subst (LaysRest ids facts c.loop-instance.self before class list) none (c.loop-instance.invariant.hand before layout is))
+    (λ instance is_of. laid_or_waited ids facts c.args.self.now before class is list refl instance is_of)
