@@ -8,3 +8,4 @@ pub mod WakingInstances
 pub mod FactsMore
 pub mod Counted
 pub mod Referrers
+pub mod Outcomes

@@ -176,7 +176,10 @@ impl LiveHeap {
     {
         match self.gatherer.heap() {
             None => Ok(()),
-            Some(heap) => self.derived.add(heap, fact),
+            Some(heap) => {
+                self.derived.add(heap, fact)?;
+                Ok(())
+            }
         }
     }
 
@@ -222,7 +225,8 @@ impl Sink for LiveHeap {
         if self.failed {
             return Err(SinkFault::Failed);
         }
-        self.gatherer.begin_part(header)
+        self.gatherer.begin_part(header)?;
+        Ok(())
     }
 
     fn take(&mut self, fact: &Fact<'_>, spelled: &[u8]) -> Result<(), SinkFault> {
@@ -231,10 +235,13 @@ impl Sink for LiveHeap {
         }
         let new = self.lacks(fact);
         self.gatherer.take(fact, spelled)?;
-        if new && self.derive(fact).is_err() {
+        if !new {
+            return Ok(());
+        }
+        let Ok(()) = self.derive(fact) else {
             self.failed = true;
             return Err(SinkFault::OutOfMemory);
-        }
+        };
         Ok(())
     }
 }
