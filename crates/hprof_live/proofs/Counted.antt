@@ -103,8 +103,8 @@ module _ (ids : IdSize) (facts : List FactValue) (derived : Derived) (is : IsDer
     exact = waits_not_laid;
     number_is =
         let counted = without_count is.laid is.deriving_is.all is.deriving_is.all_once is.deriving_is.laid_once
-            (λ instance there. (let can = is.deriving_is.laid_are instance there in
-            (is.deriving_is.all_are instance).1 (can.class, can.is_of))) in
+        (λ instance there. (let can = is.deriving_is.laid_are instance there in
+        (is.deriving_is.all_are instance).1 (can.class, can.is_of))) in
         let laid = laid_exactly in
         let all = all_exactly in
         omega (arith, e, counted, laid, all);

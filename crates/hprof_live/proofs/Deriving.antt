@@ -47,63 +47,63 @@ stopped_more number new xs x is more = let counted = length-append xs (x ∷ [])
 -- ---- an instance is laid
 
 module _ (ids : IdSize) (facts : List FactValue) (derived : Derived) (laid gone : List ℕ) (is : IsDeriving ids facts derived laid gone)
-    where
-  module _ (instance trace class : ℕ) (bytes : List ℕ) (has : Has facts (Instance instance trace class bytes))
-      (layout : HasLayout facts class) (fresh : Contains laid instance → ⊥) (set : EdgeSet)
-      (put : (edges : List Edge) → SetOf derived.set edges
-      → PutBehind (SetOf set) edges (IsFieldEdge ids facts instance class bytes)) (references : Vec Reference Global) (cuts : ℕ)
-      (counted : cuts ≡ min (derived.cuts + 1) (2 ^ 64 - 1)) where
-    pub laid_one : IsDeriving ids facts (record derived { set = set; references = references; cuts = cuts }) (laid ++ instance ∷ []) gone
-    laid_one =
-        let fields = put is.given is.set_of in
-        record {
-          agree = is.agree;
-          knows = is.knows;
-          given = is.given ++ fields.more;
-          set_of = fields.holds_more;
-          given_are = appended is.given fields.more (IsEdgeSoFar ids facts laid) (IsFieldEdge ids facts instance class bytes)
-              (IsEdgeSoFar ids facts (laid ++ instance ∷ [])) is.given_are fields.exact
-              (with_fields ids facts is.agree laid instance trace class bytes has);
-          waits = is.waits;
-          waits_once = is.waits_once;
-          laid_are = λ other there. elim (Contains-push_cases laid instance other there) [
-            | inl was ↦ is.laid_are other was
-            | inr same ↦ subst (CanBeLaid facts) same (record {
-              class = class;
-              is_of = (bytes, record { trace = trace; has = has });
-              layout = layout;
-            })
-          ];
-          laid_once = distinct_push laid instance is.laid_once fresh;
-          cuts_are = stopped_more derived.cuts cuts laid instance is.cuts_are counted;
-          all = is.all;
-          all_are = is.all_are;
-          all_once = is.all_once;
-          instances_are = is.instances_are;
-        }
+  where
+    module _ (instance trace class : ℕ) (bytes : List ℕ) (has : Has facts (Instance instance trace class bytes))
+        (layout : HasLayout facts class) (fresh : Contains laid instance → ⊥) (set : EdgeSet)
+        (put : (edges : List Edge) → SetOf derived.set edges
+        → PutBehind (SetOf set) edges (IsFieldEdge ids facts instance class bytes)) (references : Vec Reference Global) (cuts : ℕ)
+        (counted : cuts ≡ min (derived.cuts + 1) (2 ^ 64 - 1)) where
+      pub laid_one : IsDeriving ids facts (record derived { set = set; references = references; cuts = cuts }) (laid ++ instance ∷ []) gone
+      laid_one =
+          let fields = put is.given is.set_of in
+          record {
+            agree = is.agree;
+            knows = is.knows;
+            given = is.given ++ fields.more;
+            set_of = fields.holds_more;
+            given_are = appended is.given fields.more (IsEdgeSoFar ids facts laid) (IsFieldEdge ids facts instance class bytes)
+                (IsEdgeSoFar ids facts (laid ++ instance ∷ [])) is.given_are fields.exact
+                (with_fields ids facts is.agree laid instance trace class bytes has);
+            waits = is.waits;
+            waits_once = is.waits_once;
+            laid_are = λ other there. elim (Contains-push_cases laid instance other there) [
+              | inl was ↦ is.laid_are other was
+              | inr same ↦ subst (CanBeLaid facts) same (record {
+                class = class;
+                is_of = (bytes, record { trace = trace; has = has });
+                layout = layout;
+              })
+            ];
+            laid_once = distinct_push laid instance is.laid_once fresh;
+            cuts_are = stopped_more derived.cuts cuts laid instance is.cuts_are counted;
+            all = is.all;
+            all_are = is.all_are;
+            all_once = is.all_once;
+            instances_are = is.instances_are;
+          }
 
-  -- it matters which no longer wait, not how they are listed
-  pub gone_so : (other : List ℕ) → ((instance : ℕ) → Contains other instance ↔ Contains gone instance)
-      → IsDeriving ids facts derived laid other
-  gone_so other same = record {
-    agree = is.agree;
-    knows = is.knows;
-    given = is.given;
-    set_of = is.set_of;
-    given_are = is.given_are;
-    waits = λ class instance. (
-      λ there. (let was = (is.waits class instance).0 there in (was.0, λ out. was.1 ((same instance).0 out))),
-      λ both. (is.waits class instance).1 (both.0, λ out. both.1 ((same instance).1 out)),
-    );
-    waits_once = is.waits_once;
-    laid_are = is.laid_are;
-    laid_once = is.laid_once;
-    cuts_are = is.cuts_are;
-    all = is.all;
-    all_are = is.all_are;
-    all_once = is.all_once;
-    instances_are = is.instances_are;
-  }
+    -- it matters which no longer wait, not how they are listed
+    pub gone_so : (other : List ℕ) → ((instance : ℕ) → Contains other instance ↔ Contains gone instance)
+        → IsDeriving ids facts derived laid other
+    gone_so other same = record {
+      agree = is.agree;
+      knows = is.knows;
+      given = is.given;
+      set_of = is.set_of;
+      given_are = is.given_are;
+      waits = λ class instance. (
+        λ there. (let was = (is.waits class instance).0 there in (was.0, λ out. was.1 ((same instance).0 out))),
+        λ both. (is.waits class instance).1 (both.0, λ out. both.1 ((same instance).1 out)),
+      );
+      waits_once = is.waits_once;
+      laid_are = is.laid_are;
+      laid_once = is.laid_once;
+      cuts_are = is.cuts_are;
+      all = is.all;
+      all_are = is.all_are;
+      all_once = is.all_once;
+      instances_are = is.instances_are;
+    }
 
 -- ---- a set with the same edges
 

@@ -127,8 +127,11 @@ module _ (ids : IdSize) (before : List FactValue) (fact : FactValue) (facts : Li
   gives_was : (edge : Edge) (other : FactValue) → Has before other → GivesSoFar ids facts laid other edge → GivesSoFar ids before laid other edge
   gives_was edge (Instance id trace class bytes) has (inl to_class) = inl to_class
   gives_was edge (Instance id trace class bytes) has (inr both) =
-      inr (both.0, field_was id class bytes edge
-      (class_had id trace class bytes (stays before fact facts adds (Instance id trace class bytes) has) both.0) both.1)
+      inr (
+        both.0,
+        field_was id class bytes edge
+            (class_had id trace class bytes (stays before fact facts adds (Instance id trace class bytes) has) both.0) both.1,
+      )
   gives_was edge (ObjArray id trace class elements) has gives = gives
   gives_was edge other has gives = absurd gives
 
@@ -186,11 +189,14 @@ module _ (ids : IdSize) (facts : List FactValue) (laid : List ℕ)
   gives_laid edge (Instance id trace class bytes) has (inl to_class) = inl to_class
   gives_laid edge (Instance id trace class bytes) has (inr by_field) =
       let values = by_field.reference.values_are in
-      inr (whole id (record {
-        class = class;
-        is_of = (bytes, record { trace = trace; has = has });
-        layout = (values.slots, values.known);
-      }), by_field)
+      inr (
+        whole id (record {
+          class = class;
+          is_of = (bytes, record { trace = trace; has = has });
+          layout = (values.slots, values.known);
+        }),
+        by_field,
+      )
   gives_laid edge (ObjArray id trace class elements) has gives = gives
   gives_laid edge fact has gives = absurd gives
 

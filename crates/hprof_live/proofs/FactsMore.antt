@@ -110,10 +110,13 @@ module _ (ids : IdSize) (before : List FactValue) (fact : FactValue) (facts : Li
     derives_other is no_instance set puts = record {
       laid = is.laid;
       deriving_is = derives_more is no_instance set (GivesSoFar ids facts is.laid fact) puts
-          (λ edge. (λ gives. inr gives, λ either. elim either [
-            | inl by_class ↦ absurd (no_class_edge edge by_class)
-            | inr gives ↦ gives
-          ])) derived.known (knows_still derived.known is.deriving_is.knows);
+          (λ edge. (
+            λ gives. inr gives,
+            λ either. elim either [
+              | inl by_class ↦ absurd (no_class_edge edge by_class)
+              | inr gives ↦ gives
+            ],
+          )) derived.known (knows_still derived.known is.deriving_is.knows);
       whole = λ instance can. is.whole instance (record {
         class = can.class;
         is_of = was_instance is no_instance instance can.class can.is_of;
@@ -156,11 +159,11 @@ pub array_added : (ids : IdSize) (before facts : List FactValue) (id trace class
 array_added ids before facts id trace class elements adds derived is set puts =
     derives_other ids before (ObjArray id trace class elements) facts adds derived (λ dump same. no_dump dump same) is
     (λ instance other of bytes same. no_instance instance other of bytes same) set puts where
-  no_dump : (dump : ClassDump) → fact_of_dump dump ≡ ObjArray id trace class elements → ⊥
-  no_dump dump same = cc
+      no_dump : (dump : ClassDump) → fact_of_dump dump ≡ ObjArray id trace class elements → ⊥
+      no_dump dump same = cc
 
-  no_instance : (instance other of : ℕ) (bytes : List ℕ) → Instance instance other of bytes ≡ ObjArray id trace class elements → ⊥
-  no_instance instance other of bytes same = cc
+      no_instance : (instance other of : ℕ) (bytes : List ℕ) → Instance instance other of bytes ≡ ObjArray id trace class elements → ⊥
+      no_instance instance other of bytes same = cc
 
 -- ---- a class dump
 

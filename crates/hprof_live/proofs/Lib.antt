@@ -9,3 +9,4 @@ pub mod FactsMore
 pub mod Counted
 pub mod Referrers
 pub mod Outcomes
+pub mod FirstFacts

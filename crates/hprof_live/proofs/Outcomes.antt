@@ -2,7 +2,7 @@
 use Rattle.std.specs.Prelude.{⊤}
 use Rattle.std.specs.Option.{option_map}
 use Rattle.std.specs.Result.{result_ok}
-use Rattle.std.proofs.Common.{◌≡◌, ℕ, Bool, true, false, not, cond, ◌||◌, List, [], Option, Some, None, Result, Ok, Err, Bor, refl, sym, ap, subst, ◌∙◌}
+use Rattle.std.proofs.Common.{◌≡◌, ℕ, Bool, true, false, not, cond, min, ◌||◌, List, [], Option, Some, None, Result, Ok, Err, Bor, refl, sym, ap, subst, ◌∙◌}
 use Rattle.std.proofs.Common.{inl, inr}
 use Rattle.hprof_values.specs.declared.ids.IdSize.{IdSize}
 use Rattle.hprof_items.specs.declared.header.Header.{Header}
@@ -26,8 +26,9 @@ use Rattle.hprof_live.specs.declared.derived.Derived.{Derived}
 use Rattle.hprof_live.specs.declared.live.Live.{Live}
 use Rattle.hprof_live.specs.declared.live.Live.TheVariants as lives
 use Rattle.hprof_live.specs.declared.live_heap.LiveHeap.{LiveHeap}
-use Rattle.hprof_live.specs.Derived.{AddsFact, IsDerived}
-use Rattle.hprof_live.specs.LiveHeap.{IsAnswer, IsDerivedOf, LacksFirst, LacksNothing, LendsHeap, outcome_of, seen_by}
+use Rattle.hprof_live.specs.Derived.{AddsFact, IsDerived, keeps_of}
+use Rattle.hprof_live.specs.LiveHeap.{BeginsLive, IsAnswer, IsCurrent, IsDerivedOf, LacksFirst, LacksNothing, LendsHeap, TakesLive}
+use Rattle.hprof_live.specs.LiveHeap.{outcome_of, seen_by}
 use Rattle.hprof_live.proofs.FactsMore.{nothing_added}
 
 -- ---- a fault
@@ -133,11 +134,10 @@ begun_on derived None None false header is = is header.ids
 begun_on derived (Some heap) conflict true header is = tt
 begun_on derived (Some heap) (Some key) false header is =
     elim (same_size heap.ids header.ids) as
-        (λ t. IsDerivedOf (unconflicted (Some (begun_heap (Some heap) header)) (Some key) (not t)) derived) [ true ↦ tt | false ↦ tt ]
+    (λ t. IsDerivedOf (unconflicted (Some (begun_heap (Some heap) header)) (Some key) (not t)) derived) [ true ↦ tt | false ↦ tt ]
 begun_on derived (Some heap) None false header is =
     elim (same_size heap.ids header.ids) as
-        (λ t. IsDerivedOf (unconflicted (Some (cond t (record heap { millis = (begun_heap (Some heap) header).millis }) heap)) None (not t))
-        derived) [ true ↦ is | false ↦ tt ]
+    (λ t. IsDerivedOf (unconflicted (Some (cond t (record heap { millis = min heap.millis header.millis }) heap)) None (not t)) derived) [ true ↦ is | false ↦ tt ]
 
 -- what a gatherer answers that has not failed
 unfailed : (g : Gathered) → g.failed ≡ false → answer_of g ≡ unconflicted g.heap g.conflict g.two_sizes
@@ -255,3 +255,87 @@ module _ (fact : FactValue) where
         (subst (λ (o : Result HeapValue Refusal). LacksFirst o fact) was lacks)
         (subst DerivesInto (now ∙ so) follows)
         (subst (λ (o : Result HeapValue Refusal). IsDerivedOf o derived) was is))
+
+-- ---- the live heap
+
+module _ (old : LiveHeap) (sound : old.failed ≡ false) where
+  current_was : IsCurrent old → IsDerivedOf (answer_of (gathered old.gatherer)) old.derived
+  current_was current = subst (λ (o : Result HeapValue Refusal). IsDerivedOf o old.derived) (sound_outcome old sound) current.derived
+
+  module _ (new : LiveHeap) (sound_new : new.failed ≡ false) where
+    current_now : IsDerivedOf (answer_of (gathered new.gatherer)) new.derived → IsCurrent new
+    current_now is = record {
+      derived = subst (λ (o : Result HeapValue Refusal). IsDerivedOf o new.derived) (sym (sound_outcome new sound_new)) is;
+    }
+
+    -- a part was begun
+    pub begins_live : (header : Header) → Begins (gathered old.gatherer) header (gathered new.gatherer) → new.derived ≡ old.derived
+        → BeginsLive old header new
+    begins_live header begins same = record {
+      begins = subst (λ (g : Gathered). Begins g header (seen_by new)) (sym (sound_seen old sound))
+          (subst (λ (g : Gathered). Begins (gathered old.gatherer) header g) (sym (sound_seen new sound_new)) begins);
+      goes_on = record {
+        current = λ current. current_now (subst (IsDerivedOf (answer_of (gathered new.gatherer))) (sym same)
+            (begins_on (gathered old.gatherer) (gathered new.gatherer) header old.derived begins (current_was current)));
+        keeps = ap keeps_of same;
+      };
+    }
+
+    module _ (fact : FactValue) (takes : Takes (gathered old.gatherer) fact (gathered new.gatherer)) where
+      takes_seen : Takes (seen_by old) fact (seen_by new)
+      takes_seen =
+          subst (λ (g : Gathered). Takes g fact (seen_by new)) (sym (sound_seen old sound))
+          (subst (λ (g : Gathered). Takes (gathered old.gatherer) fact g) (sym (sound_seen new sound_new)) takes)
+
+      -- nothing is derived from the fact
+      pub takes_live : LacksNothing (answer_of (gathered old.gatherer)) fact → new.derived ≡ old.derived → TakesLive old fact new
+      takes_live lacks same = record {
+        takes = takes_seen;
+        goes_on = record {
+          current = λ current. current_now (subst (IsDerivedOf (answer_of (gathered new.gatherer))) (sym same)
+              (takes_on fact old.derived (gathered old.gatherer) (gathered new.gatherer) takes lacks (current_was current)));
+          keeps = ap keeps_of same;
+        };
+      }
+
+      -- what there is to derive from it was derived
+      pub takes_first_live : LacksFirst (answer_of (gathered old.gatherer)) fact
+          → DerivesInto fact old.derived new.derived (answer_of (gathered new.gatherer)) → keeps_of new.derived ≡ keeps_of old.derived
+          → TakesLive old fact new
+      takes_first_live lacks derives keeps = record {
+        takes = takes_seen;
+        goes_on = record {
+          current = λ current. current_now (takes_first fact old.derived new.derived (gathered old.gatherer) (gathered new.gatherer) takes
+              lacks derives (current_was current));
+          keeps = keeps;
+        };
+      }
+
+-- ---- what is derived, of the same facts
+
+derived_so : (outcome : Result HeapValue Refusal) (derived other : Derived)
+    → ((ids : IdSize) (facts : List FactValue) → IsDerived ids facts derived → IsDerived ids facts other)
+    → IsDerivedOf outcome derived → IsDerivedOf outcome other
+derived_so (Ok heap) derived other all is = all heap.ids heap.facts is
+derived_so (Err refusals.NoParts) derived other all is = λ ids. all ids [] (is ids)
+derived_so (Err refusals.IdSizes) derived other all is = tt
+derived_so (Err (refusals.Conflict key)) derived other all is = tt
+derived_so (Err refusals.Failed) derived other all is = tt
+
+module _ (old : LiveHeap) (other : Derived) where
+  pub outcome_stays : outcome_of (record old { derived = other }) ≡ outcome_of old
+  unfolding outcome_of
+  outcome_stays = refl
+
+  pub current_stays : ((ids : IdSize) (facts : List FactValue) → IsDerived ids facts old.derived → IsDerived ids facts other)
+      → IsCurrent old → IsCurrent (record old { derived = other })
+  current_stays all current = record {
+    derived = subst (λ (o : Result HeapValue Refusal). IsDerivedOf o other) (sym outcome_stays)
+        (derived_so (outcome_of old) old.derived other all current.derived);
+  }
+
+-- what is derived is of the heap that is come to
+pub derived_of_heap : (live : LiveHeap) (heap : Heap) → Ok (heap_of heap) ≡ outcome_of live → IsCurrent live
+    → IsDerived (size_of heap) (facts_of heap) live.derived
+unfolding size_of facts_of
+derived_of_heap live heap e current = subst (λ (o : Result HeapValue Refusal). IsDerivedOf o live.derived) (sym e) current.derived

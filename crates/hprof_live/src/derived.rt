@@ -18,10 +18,10 @@ ghost use Rattle.hprof_live.specs.EdgeSet.{edges_in};
 ghost use Rattle.hprof_live.specs.Indexed.{IsIndexTo};
 ghost use Rattle.hprof_live.specs.Number.{IsNumberOf};
 
-use crate::edge_set::EdgeSet;
-use crate::waiting::WaitingInstances;
 use crate::by_target::{edges_to, sort_by_target};
+use crate::edge_set::EdgeSet;
 use crate::indexed::Index;
+use crate::waiting::WaitingInstances;
 use hprof_edges::{Edge, Watched, array_edges, class_edges, edge_to_class, field_edges};
 use hprof_finding::{
     ClassRow, ObjectRow, find_object, id_size, table_len, to_class_row, to_object_row,

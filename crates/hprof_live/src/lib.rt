@@ -6,6 +6,7 @@ mod derived;
 mod edge_set;
 mod first;
 mod indexed;
+pub mod laws;
 mod live;
 mod live_heap;
 mod waiting;

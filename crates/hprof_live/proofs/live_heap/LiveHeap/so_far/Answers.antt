@@ -1,4 +1,4 @@
-use Rattle.std.proofs.Common.{Err, sym, subst, ◌∙◌, ap, Result}
+use Rattle.std.proofs.Common.{Err, None, sym, subst, ◌∙◌, ap, Result}
 use Rattle.std.specs.Option.{option_map}
 use Rattle.std.specs.Result.{result_ok}
 use Rattle.hprof_rows.specs.HeapValue.{HeapValue}
@@ -24,7 +24,7 @@ returns-in-InConflict c =
 
 pub returns-in-Empty : goal.returns-in-Empty
 returns-in-Empty c =
-    subst (λ (o : Result HeapValue Refusal). LendsHeap o (lives.Is _)) (sym (sound_outcome c.args.self.now c.if-self.false))
+    subst (λ (o : Result HeapValue Refusal). LendsHeap o (lives.Is None)) (sym (sound_outcome c.args.self.now c.if-self.false))
     (nothing_lends _ c.in-Empty.ensures)
 
 pub returns-in-Clean : goal.returns-in-Clean
