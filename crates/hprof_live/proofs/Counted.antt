@@ -1,8 +1,7 @@
 -- How many instances there are.
 use Rattle.std.specs.Prelude.{◌↔◌, nat_eq, map}
 use Rattle.std.specs.List.{IsDistinct}
-use Rattle.std.specs.Set.{is_member}
-use Rattle.std.proofs.Common.{◌≡◌, ℕ, ◌+◌, ◌-◌, ◌^◌, ◌<◌, ◌≤◌, ◌==◌, true, List, [], ◌∷◌, length, Contains, refl, sym, ap, subst, ◌∙◌, inl, inr}
+use Rattle.std.proofs.Common.{◌≡◌, ℕ, ◌-◌, ◌^◌, ◌≤◌, true, List, [], ◌∷◌, length, Contains, refl, ap, subst, inl, inr}
 use Rattle.std.proofs.Common.{arith}
 use Rattle.std.proofs.lemmas.Bool.{eq-eqb, or_left, or_right}
 use Rattle.std.proofs.lemmas.List.{length-map}
@@ -15,7 +14,7 @@ use Rattle.hprof_rows.proofs.Picking.{picked}
 use Rattle.hprof_laying.specs.Known.{HasLayout}
 use Rattle.hprof_edges.proofs.PutTogether.{nothing_there}
 use Rattle.hprof_live.specs.declared.derived.Derived.{Derived}
-use Rattle.hprof_live.specs.Derived.{CanBeLaid, CannotBeLaid, IsDerived, IsInstance, stopped}
+use Rattle.hprof_live.specs.Derived.{CanBeLaid, CannotBeLaid, IsDerived, IsInstance}
 use Rattle.hprof_live.specs.Number.{IsNumberOf}
 use Rattle.hprof_live.proofs.Instances.{one_class}
 use Rattle.hprof_live.proofs.Members.{from_is_in, is_in, no_longer, without, without_are, without_count, without_once}

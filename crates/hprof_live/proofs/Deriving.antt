@@ -1,12 +1,11 @@
 -- What is derived, while instances are laid.
-use Rattle.std.specs.Prelude.{◌↔◌, ◌≢◌, nat_eq}
+use Rattle.std.specs.Prelude.{◌↔◌, nat_eq}
 use Rattle.std.specs.List.{IsDistinct}
-use Rattle.std.proofs.Common.{◌≡◌, ℕ, ◌+◌, ◌-◌, ◌^◌, ◌⊎◌, min, List, [], ◌∷◌, ◌++◌, length, Vec, Global, Contains, refl, sym, ap, subst, ◌∙◌}
+use Rattle.std.proofs.Common.{◌≡◌, ℕ, ◌+◌, ◌-◌, ◌^◌, ◌⊎◌, min, List, [], ◌∷◌, ◌++◌, length, Vec, Global, Contains, sym, subst}
 use Rattle.std.proofs.Common.{inl, inr, arith, length-append}
 use Rattle.std.proofs.lemmas.List.Elements.{Contains-append_cases, Contains-append_left, Contains-append_right, Contains-push_cases}
 use Rattle.hprof_values.specs.declared.ids.IdSize.{IdSize}
 use Rattle.hprof_items.specs.FactValue.{FactValue, Instance}
-use Rattle.hprof_rows.specs.Conflict.{IsConsistent}
 use Rattle.hprof_rows.specs.Facts.{Has}
 use Rattle.hprof_laying.specs.declared.reference.Reference.{Reference}
 use Rattle.hprof_laying.specs.Known.{HasLayout, Knows}
@@ -17,7 +16,7 @@ use Rattle.hprof_edges.specs.DumpEdges.{IsFieldEdge}
 use Rattle.hprof_edges.proofs.PutTogether.{nothing_there}
 use Rattle.hprof_live.specs.declared.derived.Derived.{Derived}
 use Rattle.hprof_live.specs.declared.edge_set.EdgeSet.{EdgeSet}
-use Rattle.hprof_live.specs.Derived.{CanBeLaid, GivenSoFar, IsDerived, IsDeriving, IsEdgeSoFar, IsInstance, stopped}
+use Rattle.hprof_live.specs.Derived.{CanBeLaid, IsDerived, IsDeriving, IsEdgeSoFar, stopped}
 use Rattle.hprof_live.specs.EdgeSet.{SetOf}
 use Rattle.hprof_live.specs.Waiting.{waiting_of}
 use Rattle.hprof_live.proofs.EdgesSoFar.{with_fields}

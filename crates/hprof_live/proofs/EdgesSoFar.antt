@@ -1,6 +1,6 @@
 -- Edges, where some instances are laid.
 use Rattle.std.specs.Prelude.{◌↔◌}
-use Rattle.std.proofs.Common.{◌≡◌, ℕ, ◌⊎◌, List, [], ◌∷◌, ◌++◌, Contains, refl, sym, subst, inl, inr}
+use Rattle.std.proofs.Common.{ℕ, ◌⊎◌, List, [], ◌∷◌, ◌++◌, Contains, sym, subst, inl, inr}
 use Rattle.std.proofs.lemmas.List.Elements.{Contains-push_cases, Contains-append_left, Contains-push}
 use Rattle.hprof_values.specs.declared.ids.IdSize.{IdSize}
 use Rattle.hprof_items.specs.FactValue.{FactValue, Instance, ObjArray}
@@ -13,8 +13,8 @@ use Rattle.hprof_edges.specs.declared.edge.Edge.{Edge}
 use Rattle.hprof_edges.specs.DumpEdges.{GivenByClass, GivenByObject, IsFieldEdge, IsObjectEdge}
 use Rattle.hprof_edges.specs.Edges.{IsEdge}
 use Rattle.hprof_edges.proofs.TableEdges.{GivesByClass, all_edges}
-use Rattle.hprof_live.specs.Derived.{AddsFact, CanBeLaid, GivenSoFar, GivesSoFar, IsEdgeSoFar}
-use Rattle.hprof_live.proofs.Instances.{agreed, is_there, known_was, one_class, one_instance, stays, was_or_is}
+use Rattle.hprof_live.specs.Derived.{AddsFact, CanBeLaid, GivesSoFar, IsEdgeSoFar}
+use Rattle.hprof_live.proofs.Instances.{is_there, known_was, one_class, one_instance, stays, was_or_is}
 
 -- ---- one instance more is laid
 

@@ -1,14 +1,13 @@
 -- What is derived when a fact is added.
 use Rattle.std.specs.Prelude.{◌↔◌, ◌≢◌, nat_eq}
 use Rattle.std.specs.List.{IsDistinct}
-use Rattle.std.proofs.Common.{◌≡◌, ℕ, ◌+◌, ◌-◌, ◌^◌, ◌⊎◌, min, List, [], ◌∷◌, ◌++◌, length, Contains, Some, refl, sym, ap, subst, ◌∙◌}
+use Rattle.std.proofs.Common.{◌≡◌, ℕ, ◌+◌, ◌-◌, ◌^◌, ◌⊎◌, min, List, [], ◌∷◌, ◌++◌, Contains, Some, refl, sym, ap, subst, ◌∙◌}
 use Rattle.std.proofs.Common.{inl, inr}
 use Rattle.std.proofs.lemmas.Bool.{cases_eq}
 use Rattle.std.proofs.lemmas.List.Elements.{Contains-append_left, Contains-push, Contains-push_cases}
 use Rattle.hprof_values.specs.declared.ids.IdSize.{IdSize}
 use Rattle.hprof_items.specs.FactValue.{FactValue, Class, Instance, ObjArray}
 use Rattle.hprof_rows.specs.declared.key.Key.TheVariants as keys
-use Rattle.hprof_rows.specs.Facts.{Has}
 use Rattle.hprof_finding.specs.Classes.{ClassDump, HasDump, HasNoDump, fact_of_dump}
 use Rattle.hprof_finding.specs.Objects.{IsObject}
 use Rattle.hprof_laying.specs.declared.known.KnownLayouts.{KnownLayouts}
@@ -26,8 +25,7 @@ use Rattle.hprof_finding.proofs.ClassFacts.{dump_in}
 use Rattle.hprof_live.specs.declared.derived.Derived.{Derived}
 use Rattle.hprof_live.specs.declared.edge_set.EdgeSet.{EdgeSet}
 use Rattle.hprof_live.specs.declared.waiting.WaitingInstances.{WaitingInstances}
-use Rattle.hprof_live.specs.Derived.{AddsFact, CanBeLaid, GivesSoFar, HasLaid, IsDerived, IsDeriving, IsEdgeSoFar, IsInstance, IsInstanceOf}
-use Rattle.hprof_live.specs.Derived.{stopped}
+use Rattle.hprof_live.specs.Derived.{AddsFact, GivesSoFar, HasLaid, IsDerived, IsDeriving, IsEdgeSoFar, IsInstance, IsInstanceOf}
 use Rattle.hprof_live.specs.EdgeSet.{SetOf}
 use Rattle.hprof_live.specs.First.{NothingToDerive}
 use Rattle.hprof_live.specs.Waiting.{waiting_of}

@@ -1,6 +1,6 @@
 -- Class dumps that are new to a heap.
 use Rattle.std.specs.Option.{is_some}
-use Rattle.std.proofs.Common.{◌≡◌, ℕ, Bool, true, false, not, List, Option, Some, None, IfNone, IfSome, refl, sym, ap, subst, ◌∙◌}
+use Rattle.std.proofs.Common.{◌≡◌, ℕ, Bool, true, false, not, List, Option, Some, None, IfNone, IfSome, sym, ap, subst, ◌∙◌}
 use Rattle.hprof_items.specs.FactValue.{FactValue}
 use Rattle.hprof_rows.specs.declared.key.Key.TheVariants as keys
 use Rattle.hprof_rows.specs.Facts.{Has}

@@ -1,7 +1,6 @@
 -- Instances, and the layouts of their classes, where facts agree.
-use Rattle.std.proofs.Common.{◌≡◌, ℕ, List, [], Some, refl, sym, ap, subst, ◌⊎◌, inl, inr}
+use Rattle.std.proofs.Common.{◌≡◌, ℕ, List, [], refl, ap, subst, ◌⊎◌, inl, inr}
 use Rattle.hprof_items.specs.FactValue.{FactValue, Instance}
-use Rattle.hprof_rows.specs.declared.key.Key.{Key}
 use Rattle.hprof_rows.specs.declared.key.Key.TheVariants as keys
 use Rattle.hprof_rows.specs.Conflict.{IsConsistent}
 use Rattle.hprof_rows.specs.Facts.{Has}
@@ -11,7 +10,7 @@ use Rattle.hprof_layouts.specs.Layout.{IsKnown, LayoutValue, IsLayout, Known, Mi
 use Rattle.hprof_layouts.proofs.Layouts.{at_least_one, at_most_one}
 use Rattle.hprof_layouts.proofs.MoreFacts.{known_stays}
 use Rattle.hprof_laying.specs.Known.{HasLayout}
-use Rattle.hprof_live.specs.Derived.{AddsFact, CanBeLaid, IsInstance, IsInstanceOf}
+use Rattle.hprof_live.specs.Derived.{AddsFact, CanBeLaid, IsInstanceOf}
 
 -- ---- one dump each
 

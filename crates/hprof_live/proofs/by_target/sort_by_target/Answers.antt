@@ -1,4 +1,4 @@
-use Rattle.std.proofs.Common.{sym, rules, of_calls}
+use Rattle.std.proofs.Common.{rules, of_calls}
 use Rattle.std.proofs.lemmas.Fn.{always_returns_same}
 use Rattle.std.proofs.lemmas.List.Filters.{dedup_is}
 use Rattle.std.proofs.lemmas.List.Kept.{IsStrictlySortedBy-dedup, Contains-dedup, Contains-from_dedup}

@@ -1,6 +1,5 @@
-use Rattle.std.proofs.Common.{◌≡◌, ◌++◌, ◌∷◌, [], true, false, sym, ◌∙◌, refl}
+use Rattle.std.proofs.Common.{◌≡◌, ◌++◌, ◌∷◌, [], true, false, sym, ◌∙◌}
 use Rattle.hprof_items.specs.FactValue.{Instance}
-use Rattle.hprof_laying.specs.Known.{HasLayout}
 use Rattle.hprof_live.proofs.Instances.{is_there}
 use Rattle.hprof_live.proofs.FactsMore.{instance_came, instance_laid, instance_waits, was_not_laid}
 use Rattle.hprof_live.proofs.derived.Derived.add_instance.Goals as goal

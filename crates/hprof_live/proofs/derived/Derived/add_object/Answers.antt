@@ -1,5 +1,5 @@
-use Rattle.std.proofs.Common.{List, subst}
-use Rattle.hprof_items.specs.FactValue.{FactValue, PrimArray}
+use Rattle.std.proofs.Common.{subst}
+use Rattle.hprof_items.specs.FactValue.{PrimArray}
 use Rattle.hprof_lists.specs.Lists.{identifiers_of}
 use Rattle.hprof_finding.specs.declared.object_row.ObjectRow.{ObjectRow}
 use Rattle.hprof_finding.specs.ObjectRow.{fact_of_object}

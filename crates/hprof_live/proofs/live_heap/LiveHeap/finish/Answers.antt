@@ -1,4 +1,4 @@
-use Rattle.std.proofs.Common.{◌≡◌, Bool, true, false, ◌||◌, refl, sym, ap, subst, ◌∙◌}
+use Rattle.std.proofs.Common.{◌≡◌, Bool, true, false, ◌||◌, sym, ap, subst, ◌∙◌}
 use Rattle.hprof_heap.specs.Gathering.{Gathered, Gathers, gathered, nothing_gathered}
 use Rattle.hprof_heap.proofs.Gathering.{gathered_stands}
 use Rattle.hprof_finding.specs.HeapFacts.{facts_of, size_of}

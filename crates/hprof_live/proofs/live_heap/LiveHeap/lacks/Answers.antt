@@ -1,4 +1,4 @@
-use Rattle.std.proofs.Common.{List, Ok, Result, sym, subst, ap, Some}
+use Rattle.std.proofs.Common.{List, Result, sym, subst}
 use Rattle.hprof_items.specs.FactValue.{FactValue, value_of}
 use Rattle.hprof_rows.specs.HeapValue.{HeapValue}
 use Rattle.hprof_rows.specs.Stating.{IsNewAmong}

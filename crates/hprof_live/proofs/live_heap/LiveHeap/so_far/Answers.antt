@@ -1,6 +1,4 @@
-use Rattle.std.proofs.Common.{Err, None, sym, subst, ◌∙◌, ap, Result}
-use Rattle.std.specs.Option.{option_map}
-use Rattle.std.specs.Result.{result_ok}
+use Rattle.std.proofs.Common.{None, sym, subst, Result}
 use Rattle.hprof_rows.specs.HeapValue.{HeapValue}
 use Rattle.hprof_heap.specs.declared.standing.Refusal.{Refusal}
 use Rattle.hprof_live.specs.declared.live.Live.TheVariants as lives
