@@ -11,3 +11,6 @@ pub mod OneObject
 pub mod HistogramText
 pub mod HistogramReporting
 pub mod OneHistogramText
+pub mod RefsText
+pub mod RefsReporting
+pub mod OneRefs

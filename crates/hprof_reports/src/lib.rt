@@ -13,6 +13,8 @@ mod lines;
 mod object;
 mod object_lines;
 mod object_parts;
+mod refs;
+mod refs_parts;
 mod shown;
 
 pub use check::write_check;
@@ -22,3 +24,5 @@ pub use histogram_report::write_histogram;
 pub use lines::{write_line, write_text};
 pub use object::write_object;
 pub use object_parts::{ObjectReport, object_to};
+pub use refs::write_refs;
+pub use refs_parts::{RefsReport, refs_to};

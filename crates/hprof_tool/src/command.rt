@@ -52,6 +52,8 @@ pub(crate) enum NewFile {
 pub(crate) enum Question {
     /// What its class and its object hold.
     Object,
+    /// What refers to it.
+    Refs,
 }
 
 /// The names of the parts, any number of them.
@@ -121,6 +123,11 @@ fn command<'a>(alloc: Global) -> Result<Command<'a>, AllocError> {
             alloc,
             "object",
             "Says what the class and the object of an identifier hold",
+        )?)?
+        .subcommand(asking(
+            alloc,
+            "refs",
+            "Says what refers to an identifier",
         )?)
 }
 
@@ -146,6 +153,11 @@ fn task_named<'a>(
         "histo" => Task::Histogram { parts },
         "object" => Task::Ask {
             question: Question::Object,
+            id,
+            parts,
+        },
+        "refs" => Task::Ask {
+            question: Question::Refs,
             id,
             parts,
         },
