@@ -14,3 +14,6 @@ pub mod OneHistogramText
 pub mod PathText
 pub mod PathReporting
 pub mod OnePath
+pub mod RefsText
+pub mod RefsReporting
+pub mod OneRefs

@@ -15,6 +15,8 @@ mod object_lines;
 mod object_parts;
 mod path;
 mod path_parts;
+mod refs;
+mod refs_parts;
 mod shown;
 
 pub use check::write_check;
@@ -26,3 +28,5 @@ pub use object::write_object;
 pub use object_parts::{ObjectReport, object_to};
 pub use path::write_path;
 pub use path_parts::{PathReport, path_to};
+pub use refs::write_refs;
+pub use refs_parts::{RefsReport, refs_to};

@@ -61,6 +61,8 @@ pub(crate) enum Question {
     Object,
     /// How far from the roots it is, and by which path.
     Path,
+    /// What refers to it.
+    Refs,
 }
 
 /// The names of the parts, any number of them.
@@ -140,6 +142,11 @@ fn command<'a>(alloc: Global) -> Result<Command<'a>, AllocError> {
             alloc,
             "path",
             "Says how few references lead to an identifier from a root, and by which path",
+        )?)?
+        .subcommand(asking(
+            alloc,
+            "refs",
+            "Says what refers to an identifier",
         )?)
 }
 
@@ -171,6 +178,11 @@ fn task_named<'a>(
         },
         "path" => Task::Ask {
             question: Question::Path,
+            id,
+            parts,
+        },
+        "refs" => Task::Ask {
+            question: Question::Refs,
             id,
             parts,
         },

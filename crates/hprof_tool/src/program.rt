@@ -13,7 +13,7 @@ use crate::status::Status;
 use answers::{answer_no_id, answer_no_words, answer_outcome, answer_words};
 use hprof_dump101::Dump101;
 use hprof_engine::{Dump, Product};
-use hprof_reports::{Check, HistogramReport, ObjectReport, PathReport};
+use hprof_reports::{Check, HistogramReport, ObjectReport, PathReport, RefsReport};
 use hprof_text::parse_id;
 use joining::{join_stream, make_file, report_files};
 use refused::Refused;
@@ -157,6 +157,7 @@ fn ask<F: Files, O: Write + Drop, E: Write>(
     match question {
         Question::Object => report(alloc, files, &ObjectReport { id }, names, output, errors),
         Question::Path => report(alloc, files, &PathReport { id }, names, output, errors),
+        Question::Refs => report(alloc, files, &RefsReport { id }, names, output, errors),
     }
 }
 
@@ -167,8 +168,8 @@ fn list_of(alloc: Global, words: io::Result<Args>) -> io::Result<Vec<String>> {
 
 /// Does what the words ask for: without a word behind the program's name it joins the part on `input` to `output`;
 /// `join OUT PART..` and `join101 OUT PART..` join parts in files to a new file; `salvage OUT PART..` saves in a new file what
-/// can be saved of parts in files, and tells their faults on `output`; `check PART..`, `histo PART..`, `object ID PART..` and
-/// `path ID PART..` write a report on parts in files to `output`. Refusals are told on `errors`.
+/// can be saved of parts in files, and tells their faults on `output`; `check PART..`, `histo PART..`, `object ID PART..`,
+/// `path ID PART..` and `refs ID PART..` write a report on parts in files to `output`. Refusals are told on `errors`.
 pub fn run<F: Files, I: Read + Drop, O: Write + Drop, E: Write>(
     alloc: Global,
     files: &F,

@@ -1,0 +1,12 @@
+pub mod Members
+pub mod EdgeSets
+pub mod ByTargetOrder
+pub mod Instances
+pub mod EdgesSoFar
+pub mod Deriving
+pub mod WakingInstances
+pub mod FactsMore
+pub mod Counted
+pub mod Referrers
+pub mod Outcomes
+pub mod FirstFacts

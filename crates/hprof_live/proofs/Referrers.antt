@@ -1,0 +1,64 @@
+-- The edges to an identifier that is watched.
+use Rattle.std.specs.Prelude.{◌↔◌}
+use Rattle.std.specs.List.Sorted.{IsStrictlySortedBy}
+use Rattle.std.proofs.Common.{◌≡◌, ℕ, true, List, Contains}
+use Rattle.hprof_values.specs.declared.ids.IdSize.{IdSize}
+use Rattle.hprof_items.specs.FactValue.{FactValue}
+use Rattle.hprof_edges.specs.declared.edge.Edge.{Edge}
+use Rattle.hprof_edges.specs.contracts.edge.EdgeOrd.TheImpl as edge_ord
+use Rattle.hprof_edges.specs.Edges.{AreReferrers, IsEdge}
+use Rattle.hprof_live.specs.declared.derived.Derived.{Derived}
+use Rattle.hprof_live.specs.declared.indexed.Index.{Index}
+use Rattle.hprof_live.specs.ByTarget.{IsByTarget}
+use Rattle.hprof_live.specs.Derived.{IsDerived, keeps_of}
+use Rattle.hprof_live.specs.EdgeSet.{edges_in}
+use Rattle.hprof_live.specs.Indexed.{IsIndexTo}
+use Rattle.hprof_live.proofs.EdgesSoFar.{all_so_far}
+
+module _ (ids : IdSize) (facts : List FactValue) where
+  -- an edge that is watched is kept exactly where it is one
+  pub kept_are : (derived : Derived) → IsDerived ids facts derived → (edge : Edge) → keeps_of derived edge ≡ true
+      → Contains (edges_in derived.set) edge ↔ IsEdge ids facts edge
+  kept_are derived is edge watched =
+      let deriving_is = is.deriving_is in
+      let all = all_so_far ids facts is.laid is.whole edge in (
+        λ there. all.0 ((deriving_is.given_are edge).0 ((deriving_is.set_of edge).0 there).0),
+        λ holds. (deriving_is.set_of edge).1 ((deriving_is.given_are edge).1 (all.1 holds), watched),
+      )
+
+  module _ (id : ℕ) where
+    pub referrers_are : (derived : Derived) → IsDerived ids facts derived → ((edge : Edge) → edge.to ≡ id → keeps_of derived edge ≡ true)
+        → (result : List Edge) → IsStrictlySortedBy (edge_ord.ghosts).cmp result
+        → ((edge : Edge) → Contains result edge ↔ (Contains (edges_in derived.set) edge × (edge.to ≡ id))) → AreReferrers ids facts id result
+    referrers_are derived is keeps result ascend exact = record {
+      ascend = ascend;
+      exact = λ edge. (
+        λ there. (
+            let both = (exact edge).0 there in
+            ((kept_are derived is edge (keeps edge both.1)).0 both.0, both.1)
+            ),
+        λ both. (exact edge).1 ((kept_are derived is edge (keeps edge both.1)).1 both.0, both.1),
+      );
+    }
+
+    pub index_is : (derived : Derived) → IsDerived ids facts derived → ((edge : Edge) → edge.to ≡ id → keeps_of derived edge ≡ true)
+        → (index : Index) → IsByTarget index.edges.items
+        → ((edge : Edge) → Contains index.edges.items edge ↔ Contains (edges_in derived.set) edge) → IsIndexTo ids facts id index
+    index_is derived is keeps index sorted same = record {
+      sorted = sorted;
+      exact = λ edge to. (
+        λ there. (kept_are derived is edge (keeps edge to)).0 ((same edge).0 there),
+        λ holds. (same edge).1 ((kept_are derived is edge (keeps edge to)).1 holds),
+      );
+    }
+
+    pub indexed_are : (index : Index) → IsIndexTo ids facts id index → (result : List Edge)
+        → IsStrictlySortedBy (edge_ord.ghosts).cmp result
+        → ((edge : Edge) → Contains result edge ↔ (Contains index.edges.items edge × (edge.to ≡ id))) → AreReferrers ids facts id result
+    indexed_are index is result ascend exact = record {
+      ascend = ascend;
+      exact = λ edge. (
+        λ there. (let both = (exact edge).0 there in ((is.exact edge both.1).0 both.0, both.1)),
+        λ both. (exact edge).1 ((is.exact edge both.1).1 both.0, both.1),
+      );
+    }

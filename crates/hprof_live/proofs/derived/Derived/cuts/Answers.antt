@@ -1,0 +1,10 @@
+use Rattle.std.proofs.Common.{arith}
+use Rattle.hprof_finding.specs.HeapFacts.{facts_of, size_of}
+use Rattle.hprof_live.proofs.Counted.{number_laid}
+use Rattle.hprof_live.proofs.derived.Derived.cuts.Goals as goal
+
+pub returns : goal.returns
+returns c = λ is.
+    let below = c.table_len-objects.type_inv in
+    number_laid (size_of c.args.heap.now) (facts_of c.args.heap.now) c.args.self.now is c.table_len-objects.result
+    c.table_len-objects.ensures (omega (arith, below))

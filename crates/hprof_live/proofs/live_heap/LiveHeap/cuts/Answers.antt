@@ -1,0 +1,15 @@
+use Rattle.std.proofs.Common.{[], Bor, Option, subst}
+use Rattle.hprof_heap.specs.declared.heap.Heap.{Heap}
+use Rattle.hprof_live.specs.declared.live.Live.TheVariants as lives
+use Rattle.hprof_live.specs.Derived.{CanBeLaid}
+use Rattle.hprof_live.specs.LiveHeap.{LendsHeap, outcome_of}
+use Rattle.hprof_live.specs.Number.{IsNumberOf}
+use Rattle.hprof_live.proofs.Counted.{no_number}
+use Rattle.hprof_live.proofs.Outcomes.{answer_of_none}
+use Rattle.hprof_live.proofs.live_heap.LiveHeap.cuts.Goals as goal
+
+pub returns-in-Is-None : goal.returns-in-Is-None
+returns-in-Is-None c = λ current.
+    answer_of_none (λ ids facts number. IsNumberOf (CanBeLaid facts) number) (outcome_of c.args.self.now) 0
+    (subst (λ (lent : Option (Bor Heap)). LendsHeap (outcome_of c.args.self.now) (lives.Is lent)) c.in-Is-None.field-0-is c.in-Is-None.ensures)
+    (λ ids. no_number (CanBeLaid []) (λ id can. absurd can.is_of.1.has))

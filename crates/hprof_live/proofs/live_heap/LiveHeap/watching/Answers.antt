@@ -1,0 +1,10 @@
+use Rattle.std.proofs.Common.{Bool, ap, ◌∙◌}
+use Rattle.std.proofs.lemmas.Bool.{eq-eqb}
+use Rattle.hprof_edges.specs.declared.edge.Edge.{Edge}
+use Rattle.hprof_live.proofs.live_heap.LiveHeap.watching.Goals as goal
+
+pub returns-clause-watches : goal.returns-clause-watches
+returns-clause-watches c = record {
+  current = c.watching_those.ensures.current;
+  keeps = λ edge to. ap (λ (keeps : Edge → Bool). keeps edge) c.watching_those.ensures.keeps ∙ eq-eqb edge.to c.args.id to;
+}

@@ -1,0 +1,25 @@
+-- The edges of a heap, by what they refer to.
+use Rattle.std.specs.Prelude.{◌≡◌, ◌↔◌, ℕ, List, Contains}
+use Rattle.hprof_values.specs.declared.ids.IdSize.{IdSize}
+use Rattle.hprof_items.specs.FactValue.{FactValue}
+use Rattle.hprof_rows.specs.HeapValue.{HeapValue}
+use Rattle.hprof_heap.specs.Heap.{heap_of}
+use Rattle.hprof_finding.specs.HeapFacts.{facts_of, size_of}
+use Rattle.hprof_edges.specs.declared.edge.Edge.{Edge}
+use Rattle.hprof_edges.specs.Edges.{IsEdge}
+use Rattle.hprof_live.specs.declared.indexed.Index.{Index}
+use Rattle.hprof_live.specs.declared.indexed.IndexedHeap.{IndexedHeap}
+use Rattle.hprof_live.specs.ByTarget.{IsByTarget}
+
+-- the index has the edges to that identifier, and no others to it
+pub record IsIndexTo (ids : IdSize) (facts : List FactValue) (id : ℕ) (index : Index) : Type 0 where
+  pub sorted : IsByTarget index.edges.items
+  pub exact : (edge : Edge) → edge.to ≡ id → Contains index.edges.items edge ↔ IsEdge ids facts edge
+
+-- the heap as a value
+abbrev pub indexed_heap : IndexedHeap → HeapValue
+indexed_heap found = heap_of found.heap
+
+-- the index beside the heap is of its facts
+abbrev pub ListsTo : IndexedHeap → ℕ → Type 0
+ListsTo found id = IsIndexTo (size_of found.heap) (facts_of found.heap) id found.index

@@ -1,0 +1,8 @@
+pub mod Number
+pub mod EdgeSet
+pub mod ByTarget
+pub mod Waiting
+pub mod Derived
+pub mod First
+pub mod Indexed
+pub mod LiveHeap

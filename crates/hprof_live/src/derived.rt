@@ -1,0 +1,262 @@
+//! What is derived from facts: known layouts, edges, and how many instances there are.
+
+ghost use Rattle.std.specs.Prelude.{◌≡◌, ◌++◌, ◌∷◌, ℕ, true, List, [], Contains, OnOk};
+ghost use Rattle.hprof_values.specs.declared.ids.IdSize.{IdSize};
+ghost use Rattle.hprof_items.specs.FactValue.{FactValue, Instance, value_of};
+ghost use Rattle.hprof_rows.specs.Facts.{Has};
+ghost use Rattle.hprof_finding.specs.HeapFacts.{facts_of, size_of};
+ghost use Rattle.hprof_finding.specs.ClassRow.{dump_of};
+ghost use Rattle.hprof_finding.specs.Classes.{fact_of_dump};
+ghost use Rattle.hprof_finding.specs.ObjectRow.{fact_of_object};
+ghost use Rattle.hprof_laying.specs.Known.{HasLayout};
+ghost use Rattle.hprof_edges.specs.declared.edge.Edge.{Edge};
+ghost use Rattle.hprof_edges.specs.Collecting.{is_watched};
+ghost use Rattle.hprof_edges.specs.Edges.{AreReferrers};
+ghost use Rattle.hprof_live.specs.ByTarget.{IsByTarget};
+ghost use Rattle.hprof_live.specs.Derived.{AddsFact, CanBeLaid, CannotBeLaid, HasLaid, IsDerived, IsDeriving, IsInstanceOf, keeps_of};
+ghost use Rattle.hprof_live.specs.EdgeSet.{edges_in};
+ghost use Rattle.hprof_live.specs.Indexed.{IsIndexTo};
+ghost use Rattle.hprof_live.specs.Number.{IsNumberOf};
+
+use crate::by_target::{edges_to, sort_by_target};
+use crate::edge_set::EdgeSet;
+use crate::indexed::Index;
+use crate::waiting::WaitingInstances;
+use hprof_edges::{Edge, Watched, array_edges, class_edges, edge_to_class, field_edges};
+use hprof_finding::{
+    ClassRow, ObjectRow, find_object, id_size, table_len, to_class_row, to_object_row,
+};
+use hprof_heap::{Heap, Table};
+use hprof_items::Fact;
+use hprof_laying::{KnownLayouts, Reference};
+use hprof_values::IdSize;
+use std::alloc::{AllocError, Global};
+
+/// What is derived from facts that come one by one.
+#[derive(Drop)]
+pub(crate) struct Derived {
+    known: KnownLayouts,
+    waiting: WaitingInstances,
+    set: EdgeSet,
+    references: Vec<Reference>,
+    instances: u64,
+    cuts: u64,
+}
+
+impl Derived {
+    /// What is derived from no facts. It takes no memory yet.
+    pub(crate) fn new(alloc: Global, watched: Watched) -> Derived
+        ensures derived { (ids : IdSize) → IsDerived ids [] result }
+        ensures keeps { keeps_of result ≡ is_watched watched }
+    {
+        Derived {
+            known: KnownLayouts::new(alloc),
+            waiting: WaitingInstances::new(alloc),
+            set: EdgeSet::new(alloc, watched),
+            references: Vec::new(alloc),
+            instances: 0,
+            cuts: 0,
+        }
+    }
+
+    /// How many instances were laid, where the heap is of the facts so far.
+    pub(crate) fn cuts(&self, heap: &Heap) -> u64
+        ensures { IsDerived (size_of heap.now) (facts_of heap.now) self.now → IsNumberOf (CanBeLaid (facts_of heap.now)) result }
+    {
+        // They are no more than the objects: that is told with their number.
+        let _objects = table_len(heap, Table::Objects);
+        self.cuts
+    }
+
+    /// How many instances wait, where the heap is of the facts so far.
+    pub(crate) fn unresolved(&self, heap: &Heap) -> u64
+        ensures { IsDerived (size_of heap.now) (facts_of heap.now) self.now → IsNumberOf (CannotBeLaid (facts_of heap.now)) result }
+    {
+        // They are no more than the objects: that is told with their number.
+        let _objects = table_len(heap, Table::Objects);
+        self.instances.saturating_sub(self.cuts)
+    }
+
+    /// Puts the edges in order by what they refer to.
+    pub(crate) fn sort_edges(&mut self)
+        ensures sorted { IsByTarget (edges_in self.new.set) }
+        ensures same { (ids : IdSize) (facts : List FactValue) → IsDerived ids facts self.old → IsDerived ids facts self.new }
+        ensures keeps { keeps_of self.new ≡ keeps_of self.old }
+    {
+        sort_by_target(&mut self.set.edges);
+    }
+
+    /// The edges to an identifier that is watched, where the edges are in order by what they refer to.
+    pub(crate) fn referrers(&self, id: u64) -> &[Edge]
+        ensures { (ids : IdSize) (facts : List FactValue) → IsByTarget (edges_in self.now.set) → IsDerived ids facts self.now
+            → ((edge : Edge) → edge.to ≡ id → keeps_of self.now edge ≡ true) → AreReferrers ids facts id result.now }
+    {
+        edges_to(&self.set.edges, id)
+    }
+
+    /// The edges, by what they refer to.
+    pub(crate) fn into_index(self) -> Index
+        ensures { (ids : IdSize) (facts : List FactValue) (id : ℕ) → IsDerived ids facts self
+            → ((edge : Edge) → edge.to ≡ id → keeps_of self edge ≡ true) → IsIndexTo ids facts id result }
+    {
+        let mut edges = self.set.edges;
+        sort_by_target(&mut edges);
+        Index { edges }
+    }
+
+    /// Lays the layout of its class over the bytes of an instance, and counts it: nothing else does.
+    fn lay(
+        &mut self,
+        ids: IdSize,
+        instance: u64,
+        class: u64,
+        bytes: &[u8],
+    ) -> Result<(), AllocError>
+        ensures lays { OnOk result ((facts : List FactValue) (laid gone : List ℕ) (trace : ℕ)
+            → Has facts (Instance instance trace class bytes.now) → HasLayout facts class → (Contains laid instance → ⊥)
+            → IsDeriving ids facts self.old laid gone → IsDeriving ids facts self.new (laid ++ instance ∷ []) gone) }
+        ensures keeps { OnOk result (keeps_of self.new ≡ keeps_of self.old) }
+    {
+        field_edges(
+            &self.known,
+            instance,
+            class,
+            bytes,
+            ids,
+            &mut self.references,
+            &mut self.set,
+        )?;
+        self.cuts = self.cuts.saturating_add(1);
+        Ok(())
+    }
+
+    /// Lays an instance that waited, which is looked up.
+    fn lay_waiting(&mut self, heap: &Heap, instance: u64) -> Result<(), AllocError>
+        ensures lays { OnOk result ((laid gone : List ℕ) (class : ℕ)
+            → IsInstanceOf (facts_of heap.now) instance class → HasLayout (facts_of heap.now) class
+            → (Contains laid instance → ⊥) → IsDeriving (size_of heap.now) (facts_of heap.now) self.old laid gone
+            → IsDeriving (size_of heap.now) (facts_of heap.now) self.new (laid ++ instance ∷ []) gone) }
+        ensures keeps { OnOk result (keeps_of self.new ≡ keeps_of self.old) }
+    {
+        match find_object(heap, instance) {
+            Some(ObjectRow::Instance { class, bytes, .. }) => {
+                self.lay(id_size(heap), instance, class, bytes)
+            }
+            // What waits is an instance.
+            _ => Ok(()),
+        }
+    }
+
+    /// Lays the instances that wait for a class, whose layout became known.
+    fn wake(&mut self, heap: &Heap, class: u64) -> Result<(), AllocError>
+        ensures lays { OnOk result ((laid : List ℕ) → HasLayout (facts_of heap.now) class
+            → IsDeriving (size_of heap.now) (facts_of heap.now) self.old laid laid
+            → HasLaid (size_of heap.now) (facts_of heap.now) self.new laid (class ∷ [])) }
+        ensures keeps { OnOk result (keeps_of self.new ≡ keeps_of self.old) }
+    {
+        let Some(waiting) = self.waiting.take(class) else {
+            return Ok(());
+        };
+        for instance in waiting {
+            self.lay_waiting(heap, instance)?;
+        }
+        Ok(())
+    }
+
+    /// Lays the instances that wait for classes whose layouts became known.
+    fn wake_all(&mut self, heap: &Heap, woken: &[u64]) -> Result<(), AllocError>
+        ensures lays { OnOk result ((laid : List ℕ)
+            → ((class : ℕ) → Contains woken.now class → HasLayout (facts_of heap.now) class)
+            → IsDeriving (size_of heap.now) (facts_of heap.now) self.old laid laid
+            → HasLaid (size_of heap.now) (facts_of heap.now) self.new laid woken.now) }
+        ensures keeps { OnOk result (keeps_of self.new ≡ keeps_of self.old) }
+    {
+        for class in woken {
+            self.wake(heap, *class)?;
+        }
+        Ok(())
+    }
+
+    /// Takes a class dump that is new to the heap.
+    fn add_class(&mut self, heap: &Heap, row: &ClassRow<'_>) -> Result<(), AllocError>
+        ensures adds { OnOk result ((before : List FactValue)
+            → AddsFact before (fact_of_dump (dump_of row.now)) (facts_of heap.now)
+            → IsDerived (size_of heap.now) before self.old → IsDerived (size_of heap.now) (facts_of heap.now) self.new) }
+        ensures keeps { OnOk result (keeps_of self.new ≡ keeps_of self.old) }
+    {
+        class_edges(row, &mut self.set)?;
+        let woken = self.known.come(row, id_size(heap))?;
+        self.wake_all(heap, &woken)?;
+        Ok(())
+    }
+
+    /// Takes an instance that is new to the heap.
+    fn add_instance(
+        &mut self,
+        ids: IdSize,
+        instance: u64,
+        class: u64,
+        bytes: &[u8],
+    ) -> Result<(), AllocError>
+        ensures adds { OnOk result ((before facts : List FactValue) (trace : ℕ)
+            → AddsFact before (Instance instance trace class bytes.now) facts
+            → IsDerived ids before self.old → IsDerived ids facts self.new) }
+        ensures keeps { OnOk result (keeps_of self.new ≡ keeps_of self.old) }
+    {
+        edge_to_class(instance, class, &mut self.set)?;
+        self.instances = self.instances.saturating_add(1);
+        if self.known.knows(class) {
+            self.lay(ids, instance, class, bytes)?;
+            return Ok(());
+        }
+        self.waiting.add(class, instance)?;
+        Ok(())
+    }
+
+    /// Takes an object dump that is new to the heap.
+    fn add_object(&mut self, ids: IdSize, row: &ObjectRow<'_>) -> Result<(), AllocError>
+        ensures adds { OnOk result ((before facts : List FactValue) → AddsFact before (fact_of_object row.now) facts
+            → IsDerived ids before self.old → IsDerived ids facts self.new) }
+        ensures keeps { OnOk result (keeps_of self.new ≡ keeps_of self.old) }
+    {
+        match *row {
+            ObjectRow::Instance {
+                id,
+                class,
+                bytes,
+                ..
+            } => {
+                self.add_instance(ids, id, class, bytes)?;
+                Ok(())
+            }
+            ObjectRow::ObjArray {
+                id,
+                class,
+                elements,
+                ..
+            } => {
+                array_edges(id, class, elements, &mut self.set)?;
+                Ok(())
+            }
+            // What is in an array of numbers refers to nothing.
+            ObjectRow::PrimArray { .. } => Ok(()),
+        }
+    }
+
+    /// Takes a fact that is new to the heap, which has it. Where memory is refused, nothing holds of what is derived.
+    pub(crate) fn add(&mut self, heap: &Heap, fact: &Fact<'_>) -> Result<(), AllocError>
+        ensures adds { OnOk result ((before : List FactValue)
+            → AddsFact before (value_of fact.now) (facts_of heap.now)
+            → IsDerived (size_of heap.now) before self.old → IsDerived (size_of heap.now) (facts_of heap.now) self.new) }
+        ensures keeps { OnOk result (keeps_of self.new ≡ keeps_of self.old) }
+    {
+        if let Some(row) = to_class_row(fact) {
+            self.add_class(heap, &row)?;
+            return Ok(());
+        }
+        if let Some(row) = to_object_row(fact) {
+            self.add_object(id_size(heap), &row)?;
+        }
+        Ok(())
+    }
+}

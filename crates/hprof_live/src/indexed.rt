@@ -1,0 +1,35 @@
+//! A heap, and what refers to what in it.
+
+ghost use Rattle.std.specs.Prelude.{List};
+ghost use Rattle.hprof_values.specs.declared.ids.IdSize.{IdSize};
+ghost use Rattle.hprof_items.specs.FactValue.{FactValue};
+ghost use Rattle.hprof_edges.specs.Edges.{AreReferrers};
+ghost use Rattle.hprof_live.specs.Indexed.{IsIndexTo};
+
+use crate::by_target::edges_to;
+use hprof_edges::Edge;
+use hprof_heap::Heap;
+
+/// The edges of a heap, by what they refer to.
+#[derive(Drop)]
+pub struct Index {
+    pub(crate) edges: Vec<Edge>,
+}
+
+impl Index {
+    /// The edges to an identifier, in order, each once; there are none to 0. They are lent, and found by halves.
+    pub fn referrers(&self, id: u64) -> &[Edge]
+        ensures { (ids : IdSize) (facts : List FactValue) → IsIndexTo ids facts id self.now → AreReferrers ids facts id result.now }
+    {
+        edges_to(&self.edges, id)
+    }
+}
+
+/// A heap, with an index of its edges.
+#[derive(Drop)]
+pub struct IndexedHeap {
+    /// The heap.
+    pub heap: Heap,
+    /// Its edges that were watched.
+    pub index: Index,
+}

@@ -1,0 +1,16 @@
+//! Layouts and references, kept while facts come: after every fact they are those of the facts so far.
+#![tactic(auto)]
+
+mod by_target;
+mod derived;
+mod edge_set;
+mod first;
+mod indexed;
+pub mod laws;
+mod live;
+mod live_heap;
+mod waiting;
+
+pub use indexed::{Index, IndexedHeap};
+pub use live::Live;
+pub use live_heap::LiveHeap;

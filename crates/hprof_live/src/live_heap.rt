@@ -1,0 +1,277 @@
+//! A heap with layouts and references, kept after each fact.
+
+ghost use Rattle.std.specs.Prelude.{◌≡◌, ℕ, List, [], true, false, Ok, IfOk, OnOk};
+ghost use Rattle.std.specs.Borrow.{sem};
+ghost use Rattle.hprof_items.specs.FactValue.{FactValue, value_of};
+ghost use Rattle.hprof_rows.specs.HeapValue.{HeapValue};
+ghost use Rattle.hprof_heap.specs.Gathering.{Given, Gathers, Tells, answer_of, gathered, nothing_gathered, seen_in};
+ghost use Rattle.hprof_layouts.specs.Layout.{IsLayout, layout_value};
+ghost use Rattle.hprof_edges.specs.Collecting.{is_watched};
+ghost use Rattle.hprof_edges.specs.Edges.{AreReferrers};
+ghost use Rattle.hprof_live.specs.ByTarget.{IsByTarget};
+ghost use Rattle.hprof_live.specs.EdgeSet.{edges_in};
+ghost use Rattle.hprof_live.specs.Number.{IsNumberOf};
+ghost use Rattle.hprof_live.specs.Derived.{AddsFact, CanBeLaid, CannotBeLaid, IsDerived, keeps_of};
+ghost use Rattle.hprof_live.specs.Indexed.{ListsTo, indexed_heap};
+
+use crate::derived::Derived;
+use crate::first::lacks;
+use crate::indexed::IndexedHeap;
+use crate::live::Live;
+use hprof_edges::{Edge, Watched};
+use hprof_heap::{Gather, Gatherer, Heap, Refusal, Standing};
+use hprof_items::{Fact, Header};
+use hprof_layouts::{Layout, layout};
+use hprof_stream::{Sink, SinkFault};
+use std::alloc::{AllocError, Global};
+
+/// Takes the headers and facts of any number of parts, and keeps the layouts of classes and the edges of the facts so far, in
+/// whatever order classes, superclasses and instances come. Each instance is laid once. A query is answered of the facts so
+/// far, before any part of no facts; where they do not agree, or two sizes of identifiers were begun, it is `InConflict`, and
+/// after a fault `Failed`, which comes first.
+#[derive(Drop)]
+pub struct LiveHeap {
+    gatherer: Gatherer,
+    derived: Derived,
+    failed: bool,
+}
+
+/// The layout of a class where there are no facts.
+fn layout_of_none(alloc: Global, class: u64) -> Layout
+    ensures { IsLayout [] class (layout_value result) }
+{
+    if class == 0 {
+        return Layout::Known(Vec::new(alloc));
+    }
+    Layout::Missing(class)
+}
+
+impl LiveHeap {
+    ghost use Rattle.hprof_live.specs.LiveHeap.{IsAnswer, IsCurrent, KeepsTo, LacksFirst, LacksNothing, LendsHeap, RestsAsItIs};
+    ghost use Rattle.hprof_live.specs.LiveHeap.{Watches, outcome_of, seen_by};
+
+    /// A live heap that was given nothing, and keeps the edges that are watched. It takes no memory yet.
+    fn watching_those(alloc: Global, watched: Watched) -> LiveHeap
+        ensures nothing { seen_by result ≡ nothing_gathered }
+        ensures current { IsCurrent result }
+        ensures keeps { keeps_of result.derived ≡ is_watched watched }
+    {
+        LiveHeap {
+            gatherer: Gatherer::new(alloc),
+            derived: Derived::new(alloc, watched),
+            failed: false,
+        }
+    }
+
+    /// A live heap that was given nothing. It takes no memory yet.
+    pub fn new(alloc: Global) -> LiveHeap
+        ensures nothing { seen_by result ≡ nothing_gathered }
+        ensures watches { (id : ℕ) → Watches result id }
+    {
+        LiveHeap::watching_those(alloc, Watched::All)
+    }
+
+    /// The same, but that of the edges those to one identifier alone are kept.
+    pub fn watching(alloc: Global, id: u64) -> LiveHeap
+        ensures nothing { seen_by result ≡ nothing_gathered }
+        ensures watches { Watches result id }
+    {
+        LiveHeap::watching_those(alloc, Watched::To(id))
+    }
+
+    /// The heap of the facts so far; None before any part.
+    fn so_far(&self) -> Live<Option<&Heap>>
+        ensures { LendsHeap (outcome_of self.now) result }
+    {
+        if self.failed {
+            return Live::Failed;
+        }
+        match self.gatherer.standing() {
+            Standing::Failed => Live::Failed,
+            Standing::InConflict => Live::InConflict,
+            Standing::Empty => Live::Is(None),
+            Standing::Clean => Live::Is(self.gatherer.heap()),
+        }
+    }
+
+    /// The layout of a class. The error is that memory was refused; asked again, it answers the same as before.
+    pub fn layout_now(&self, alloc: Global, class: u64) -> Result<Live<Layout>, AllocError>
+        ensures { IfOk result (IsAnswer (λ ids facts layout. IsLayout facts class (layout_value layout)) (outcome_of self.now)) }
+    {
+        match self.so_far() {
+            Live::Failed => Ok(Live::Failed),
+            Live::InConflict => Ok(Live::InConflict),
+            Live::Is(None) => Ok(Live::Is(layout_of_none(alloc, class))),
+            Live::Is(Some(heap)) => Ok(Live::Is(layout(alloc, heap, class)?)),
+        }
+    }
+
+    /// How many instances there are whose class has a known layout. Each of them was laid once.
+    pub fn cuts(&self) -> Live<u64>
+        ensures { IsCurrent self.now → IsAnswer (λ ids facts number. IsNumberOf (CanBeLaid facts) number) (outcome_of self.now) result }
+    {
+        match self.so_far() {
+            Live::Failed => Live::Failed,
+            Live::InConflict => Live::InConflict,
+            Live::Is(None) => Live::Is(0),
+            Live::Is(Some(heap)) => Live::Is(self.derived.cuts(heap)),
+        }
+    }
+
+    /// How many instances there are whose class has no known layout: it misses a class, or the superclasses run in a circle.
+    pub fn unresolved(&self) -> Live<u64>
+        ensures { IsCurrent self.now
+            → IsAnswer (λ ids facts number. IsNumberOf (CannotBeLaid facts) number) (outcome_of self.now) result }
+    {
+        match self.so_far() {
+            Live::Failed => Live::Failed,
+            Live::InConflict => Live::InConflict,
+            Live::Is(None) => Live::Is(0),
+            Live::Is(Some(heap)) => Live::Is(self.derived.unresolved(heap)),
+        }
+    }
+
+    /// The edges to an identifier, where the edges are in order by what they refer to.
+    fn lend_referrers(&self, id: u64) -> Live<&[Edge]>
+        ensures { Watches self.now id → IsByTarget (edges_in self.now.derived.set)
+            → IsAnswer (λ ids facts edges. AreReferrers ids facts id edges.now) (outcome_of self.now) result }
+    {
+        match self.so_far() {
+            Live::Failed => Live::Failed,
+            Live::InConflict => Live::InConflict,
+            Live::Is(_) => Live::Is(self.derived.referrers(id)),
+        }
+    }
+
+    /// The edges to an identifier that is watched, in order, each once; there are none to 0. They are lent, and no memory is
+    /// taken. Nothing that is told of the live heap changes.
+    pub fn referrers_now(&mut self, id: u64) -> Live<&[Edge]>
+        ensures* rests { sem 𝓛 (RestsAsItIs self.entry) }
+        ensures value { Watches self.old id
+            → IsAnswer (λ ids facts edges. AreReferrers ids facts id edges.now) (outcome_of self.old) result }
+    {
+        self.derived.sort_edges();
+        self.lend_referrers(id)
+    }
+
+    /// Whether the facts so far agree, and lack a fact from which something is derived, and any other with its key.
+    fn lacks(&self, fact: &Fact<'_>) -> bool
+        ensures lacks { result ≡ true → LacksFirst (answer_of (gathered self.now.gatherer)) (value_of fact.now) }
+        ensures has { result ≡ false → LacksNothing (answer_of (gathered self.now.gatherer)) (value_of fact.now) }
+    {
+        match self.gatherer.heap() {
+            None => false,
+            Some(heap) => lacks(heap, fact),
+        }
+    }
+
+    /// Derives what there is to derive from a fact that the gatherer took, and that was new to it.
+    fn derive(&mut self, fact: &Fact<'_>) -> Result<(), AllocError>
+        ensures derives { OnOk result ((before : List FactValue) (heap : HeapValue)
+            → answer_of (gathered self.old.gatherer) ≡ Ok heap → AddsFact before (value_of fact.now) heap.facts
+            → IsDerived heap.ids before self.old.derived → IsDerived heap.ids heap.facts self.new.derived) }
+        ensures keeps { OnOk result (keeps_of self.new.derived ≡ keeps_of self.old.derived) }
+        ensures gathered { gathered self.new.gatherer ≡ gathered self.old.gatherer }
+        ensures failed { self.new.failed ≡ self.old.failed }
+    {
+        match self.gatherer.heap() {
+            None => Ok(()),
+            Some(heap) => {
+                self.derived.add(heap, fact)?;
+                Ok(())
+            }
+        }
+    }
+
+    /// The heap of all facts that were given, with an index of its edges that were watched. A fault comes first, then no
+    /// parts, then two sizes, then a conflict. It takes no memory.
+    pub fn finish(self) -> Result<IndexedHeap, Refusal>
+        ensures answer { seen_in indexed_heap result ≡ outcome_of self }
+        ensures told { (parts : List Given) → Gathers nothing_gathered parts (seen_by self) → Tells parts (seen_in indexed_heap result) }
+        ensures listed { IfOk result (λ found. (id : ℕ) → Watches self id → ListsTo found id) }
+    {
+        let LiveHeap {
+            gatherer,
+            derived,
+            failed,
+        } = self;
+        if failed {
+            return Err(Refusal::Failed);
+        }
+        match gatherer.finish() {
+            Err(refusal) => Err(refusal),
+            Ok(heap) => Ok(IndexedHeap {
+                heap,
+                index: derived.into_index(),
+            }),
+        }
+    }
+}
+
+impl Sink for LiveHeap {
+    ghost use Rattle.hprof_live.specs.LiveHeap.{BeginsLive, RefusesLive, TakesLive, seen_by};
+
+    ghost begins = { BeginsLive };
+
+    ghost steps = { TakesLive };
+
+    ghost begun = { λ live. (seen_by live).begun };
+
+    ghost failed = { λ live. (seen_by live).failed };
+
+    ghost refuses = { RefusesLive };
+
+    fn begin_part(&mut self, header: Header) -> Result<(), SinkFault> {
+        if self.failed {
+            return Err(SinkFault::Failed);
+        }
+        self.gatherer.begin_part(header)?;
+        Ok(())
+    }
+
+    fn take(&mut self, fact: &Fact<'_>, spelled: &[u8]) -> Result<(), SinkFault> {
+        if self.failed {
+            return Err(SinkFault::Failed);
+        }
+        let new = self.lacks(fact);
+        self.gatherer.take(fact, spelled)?;
+        if !new {
+            return Ok(());
+        }
+        let Ok(()) = self.derive(fact) else {
+            self.failed = true;
+            return Err(SinkFault::OutOfMemory);
+        };
+        Ok(())
+    }
+}
+
+/// The heap, with an index of its edges that were watched.
+impl Gather for LiveHeap {
+    ghost use Rattle.hprof_live.specs.LiveHeap.{Watches, seen_by, watches_on};
+    ghost use Rattle.hprof_live.specs.Indexed.{ListsTo, indexed_heap};
+
+    ghost gathered = { seen_by };
+
+    ghost watches = { Watches };
+
+    ghost heap_in = { indexed_heap };
+
+    ghost lists = { ListsTo };
+
+    type Found = IndexedHeap;
+
+    fn finish(self) -> Result<IndexedHeap, Refusal> {
+        LiveHeap::finish(self)
+    }
+
+    ghost begins_parts = { λ old header new begins. begins.begins };
+
+    ghost takes_facts = { λ old fact new takes. takes.takes };
+
+    ghost refuses_facts = { λ old given fault new refuses. refuses };
+
+    ghost watches_on = { λ old header new begins id watches. watches_on old new begins.goes_on id watches };
+
+    ghost watches_still = { λ old fact new takes id watches. watches_on old new takes.goes_on id watches };
+}
