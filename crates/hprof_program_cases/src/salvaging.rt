@@ -11,8 +11,7 @@ use std::test::Fail;
 use std::{fs, io};
 
 /// A header, and a record that ends a heap dump but has a byte.
-const WRONG: &[u8] =
-    b"JAVA PROFILE 1.0.2\0\0\0\0\x04\0\0\0\0\0\0\0\x01\x2c\0\0\0\0\0\0\0\x01\0";
+const WRONG: &[u8] = b"JAVA PROFILE 1.0.2\0\0\0\0\x04\0\0\0\0\0\0\0\x01\x2c\0\0\0\0\0\0\0\x01\0";
 
 /// A header with identifiers of eight bytes.
 const WIDE: &[u8] = b"JAVA PROFILE 1.0.2\0\0\0\0\x08\0\0\0\0\0\0\0\x01";
@@ -51,7 +50,10 @@ fn nothing_is_told_of_parts_that_are_refused(rt: HostRuntime) -> Result<(), Fail
     for (words, line) in [
         (["salvage", out].as_slice(), "hprof: no parts\n"),
         (&["salvage", out, short], "hprof: no parts\n"),
-        (&["salvage", out, cut, wide], "hprof: identifier sizes differ\n"),
+        (
+            &["salvage", out, cut, wide],
+            "hprof: identifier sizes differ\n",
+        ),
     ] {
         expect_ran(&rt, rt.alloc(), words, 1, "", line)?;
         holds(&rt, !fs::exists(&rt, out)?);

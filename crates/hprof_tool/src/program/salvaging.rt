@@ -17,11 +17,10 @@ use hprof_engine::ToolFault;
 use hprof_salvage::{FaultedPart, Salvaged, salvage_kept};
 use hprof_stream::Limits;
 use std::alloc::Global;
-use std::fs;
 use std::fs::File;
 use std::io::{BufWriter, Write};
-use std::mem;
 use std::rt::Files;
+use std::{fs, mem};
 
 /// What was saved, and what it was written to.
 #[derive(Drop)]
