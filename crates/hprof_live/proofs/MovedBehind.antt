@@ -84,8 +84,8 @@ module _ (id : ℕ) (front back : List Edge) (others : (edge : Edge) → Contain
   apart : (one other : Edge) → Contains front one → Contains back other → same_edge other one ≡ false
   apart one other in_front in_back =
       false_from_ne_true (same_edge other one) (λ e.
-          let same = edge_same other one e in
-          others one in_front (ap (λ (edge : Edge). edge.to) (sym same) ∙ behind other in_back))
+      let same = edge_same other one e in
+      others one in_front (ap (λ (edge : Edge). edge.to) (sym same) ∙ behind other in_back))
 
   pub parts_once : dedup same_edge (front ++ back) ≡ front_once ++ back_once
   parts_once = dedup-parts same_edge front back apart
