@@ -1,6 +1,7 @@
 pub mod Members
 pub mod EdgeSets
 pub mod ByTargetOrder
+pub mod MovedBehind
 pub mod Instances
 pub mod EdgesSoFar
 pub mod Deriving

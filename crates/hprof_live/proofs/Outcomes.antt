@@ -21,6 +21,7 @@ use Rattle.hprof_heap.specs.Gathering.{standing_of_answer, unconflicted}
 use Rattle.hprof_heap.specs.Heap.{heap_of}
 use Rattle.hprof_finding.specs.HeapFacts.{facts_of, size_of}
 use Rattle.hprof_live.specs.declared.derived.Derived.{Derived}
+use Rattle.hprof_live.specs.declared.live.Live.{Live}
 use Rattle.hprof_live.specs.declared.live.Live.TheVariants as lives
 use Rattle.hprof_live.specs.declared.live_heap.LiveHeap.{LiveHeap}
 use Rattle.hprof_live.specs.Derived.{AddsFact, IsDerived, keeps_of}
@@ -101,15 +102,36 @@ is_lent (Err refusal) heap e = absurd cc
 
 -- ---- answers
 
--- what holds of what is derived from any facts is answered of those so far
-pub answer_is : {X : Type 0} (P : IdSize → List FactValue → X → Type 0) (outcome : Result HeapValue Refusal) (derived : Derived)
-    (lent : Option (Bor Heap)) (answer : X) → LendsHeap outcome (lives.Is lent) → IsDerivedOf outcome derived
-    → ((ids : IdSize) (facts : List FactValue) → IsDerived ids facts derived → P ids facts answer) → IsAnswer P outcome (lives.Is answer)
-answer_is P (Ok value) derived lent answer lends is all = all value.ids value.facts is
-answer_is P (Err refusals.NoParts) derived lent answer lends is all = λ ids. all ids [] (is ids)
-answer_is P (Err refusals.IdSizes) derived lent answer lends is all = lends
-answer_is P (Err (refusals.Conflict key)) derived lent answer lends is all = lends
-answer_is P (Err refusals.Failed) derived lent answer lends is all = lends
+-- what holds of any facts is answered of those so far
+pub answer_any : {X : Type 0} (P : IdSize → List FactValue → X → Type 0) (outcome : Result HeapValue Refusal) (lent : Option (Bor Heap))
+    (answer : X) → LendsHeap outcome (lives.Is lent) → ((ids : IdSize) (facts : List FactValue) → P ids facts answer)
+    → IsAnswer P outcome (lives.Is answer)
+answer_any P (Ok value) lent answer lends all = all value.ids value.facts
+answer_any P (Err refusals.NoParts) lent answer lends all = λ ids. all ids []
+answer_any P (Err refusals.IdSizes) lent answer lends all = lends
+answer_any P (Err (refusals.Conflict key)) lent answer lends all = lends
+answer_any P (Err refusals.Failed) lent answer lends all = lends
+
+-- what follows from an answer, where that is derived
+pub answer_so : {X : Type 0} (P Q : IdSize → List FactValue → X → Type 0) (outcome : Result HeapValue Refusal) (derived : Derived)
+    (answer : Live X) → IsAnswer P outcome answer → IsDerivedOf outcome derived
+    → ((ids : IdSize) (facts : List FactValue) (x : X) → IsDerived ids facts derived → P ids facts x → Q ids facts x)
+    → IsAnswer Q outcome answer
+answer_so P Q (Ok heap) derived (lives.Is x) holds is all = all heap.ids heap.facts x is holds
+answer_so P Q (Ok heap) derived lives.InConflict holds is all = holds
+answer_so P Q (Ok heap) derived lives.Failed holds is all = holds
+answer_so P Q (Err refusals.NoParts) derived (lives.Is x) holds is all = λ ids. all ids [] x (is ids) (holds ids)
+answer_so P Q (Err refusals.NoParts) derived lives.InConflict holds is all = holds
+answer_so P Q (Err refusals.NoParts) derived lives.Failed holds is all = holds
+answer_so P Q (Err refusals.IdSizes) derived (lives.Is x) holds is all = holds
+answer_so P Q (Err refusals.IdSizes) derived lives.InConflict holds is all = tt
+answer_so P Q (Err refusals.IdSizes) derived lives.Failed holds is all = holds
+answer_so P Q (Err (refusals.Conflict key)) derived (lives.Is x) holds is all = holds
+answer_so P Q (Err (refusals.Conflict key)) derived lives.InConflict holds is all = tt
+answer_so P Q (Err (refusals.Conflict key)) derived lives.Failed holds is all = holds
+answer_so P Q (Err refusals.Failed) derived (lives.Is x) holds is all = holds
+answer_so P Q (Err refusals.Failed) derived lives.InConflict holds is all = holds
+answer_so P Q (Err refusals.Failed) derived lives.Failed holds is all = tt
 
 -- before any part it is answered of no facts
 pub answer_of_none : {X : Type 0} (P : IdSize → List FactValue → X → Type 0) (outcome : Result HeapValue Refusal) (answer : X)

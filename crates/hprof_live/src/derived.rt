@@ -1,6 +1,6 @@
 //! What is derived from facts: known layouts, edges, and how many instances there are.
 
-ghost use Rattle.std.specs.Prelude.{◌≡◌, ◌++◌, ◌∷◌, ℕ, true, List, [], Contains, OnOk};
+ghost use Rattle.std.specs.Prelude.{◌≡◌, ◌≤◌, ◌++◌, ◌∷◌, ℕ, true, List, [], Contains, OnOk, drop, vec_len};
 ghost use Rattle.hprof_values.specs.declared.ids.IdSize.{IdSize};
 ghost use Rattle.hprof_items.specs.FactValue.{FactValue, Instance, value_of};
 ghost use Rattle.hprof_rows.specs.Facts.{Has};
@@ -12,13 +12,13 @@ ghost use Rattle.hprof_laying.specs.Known.{HasLayout};
 ghost use Rattle.hprof_edges.specs.declared.edge.Edge.{Edge};
 ghost use Rattle.hprof_edges.specs.Collecting.{is_watched};
 ghost use Rattle.hprof_edges.specs.Edges.{AreReferrers};
-ghost use Rattle.hprof_live.specs.ByTarget.{IsByTarget};
 ghost use Rattle.hprof_live.specs.Derived.{AddsFact, CanBeLaid, CannotBeLaid, HasLaid, IsDerived, IsDeriving, IsInstanceOf, keeps_of};
 ghost use Rattle.hprof_live.specs.EdgeSet.{edges_in};
 ghost use Rattle.hprof_live.specs.Indexed.{IsIndexTo};
 ghost use Rattle.hprof_live.specs.Number.{IsNumberOf};
 
-use crate::by_target::{edges_to, sort_by_target};
+use crate::behind::bring_behind;
+use crate::by_target::sort_by_target;
 use crate::edge_set::EdgeSet;
 use crate::indexed::Index;
 use crate::waiting::WaitingInstances;
@@ -77,21 +77,25 @@ impl Derived {
         self.instances.saturating_sub(self.cuts)
     }
 
-    /// Puts the edges in order by what they refer to.
-    pub(crate) fn sort_edges(&mut self)
-        ensures sorted { IsByTarget (edges_in self.new.set) }
+    /// Moves the edges to an identifier behind the others, in order, and says where they begin.
+    pub(crate) fn bring_behind(&mut self, id: u64) -> usize
+        ensures within { result ≤ vec_len self.new.set.edges }
+        ensures behind { (ids : IdSize) (facts : List FactValue) → IsDerived ids facts self.old
+            → ((edge : Edge) → edge.to ≡ id → keeps_of self.old edge ≡ true)
+            → AreReferrers ids facts id (drop result (edges_in self.new.set)) }
         ensures same { (ids : IdSize) (facts : List FactValue) → IsDerived ids facts self.old → IsDerived ids facts self.new }
         ensures keeps { keeps_of self.new ≡ keeps_of self.old }
     {
-        sort_by_target(&mut self.set.edges);
+        bring_behind(&mut self.set.edges, id)
     }
 
-    /// The edges to an identifier that is watched, where the edges are in order by what they refer to.
-    pub(crate) fn referrers(&self, id: u64) -> &[Edge]
-        ensures { (ids : IdSize) (facts : List FactValue) → IsByTarget (edges_in self.now.set) → IsDerived ids facts self.now
-            → ((edge : Edge) → edge.to ≡ id → keeps_of self.now edge ≡ true) → AreReferrers ids facts id result.now }
+    /// The edges from a place on.
+    pub(crate) fn edges_from(&self, start: usize) -> &[Edge]
+        requires { start ≤ vec_len self.now.set.edges }
+        ensures { result.now ≡ drop start (edges_in self.now.set) }
     {
-        edges_to(&self.set.edges, id)
+        let (_, edges) = self.set.edges.split_at(start);
+        edges
     }
 
     /// The edges, by what they refer to.

@@ -1,6 +1,7 @@
 //! Layouts and references, kept while facts come: after every fact they are those of the facts so far.
 #![tactic(auto)]
 
+mod behind;
 mod by_target;
 mod derived;
 mod edge_set;

@@ -1,6 +1,6 @@
 //! A heap with layouts and references, kept after each fact.
 
-ghost use Rattle.std.specs.Prelude.{◌≡◌, ℕ, List, [], true, false, Ok, IfOk, OnOk};
+ghost use Rattle.std.specs.Prelude.{◌≡◌, ◌≤◌, ℕ, List, [], true, false, Ok, IfOk, OnOk, drop, vec_len};
 ghost use Rattle.std.specs.Borrow.{sem};
 ghost use Rattle.hprof_items.specs.FactValue.{FactValue, value_of};
 ghost use Rattle.hprof_rows.specs.HeapValue.{HeapValue};
@@ -8,7 +8,6 @@ ghost use Rattle.hprof_heap.specs.Gathering.{Given, Gathers, Tells, answer_of, g
 ghost use Rattle.hprof_layouts.specs.Layout.{IsLayout, layout_value};
 ghost use Rattle.hprof_edges.specs.Collecting.{is_watched};
 ghost use Rattle.hprof_edges.specs.Edges.{AreReferrers};
-ghost use Rattle.hprof_live.specs.ByTarget.{IsByTarget};
 ghost use Rattle.hprof_live.specs.EdgeSet.{edges_in};
 ghost use Rattle.hprof_live.specs.Number.{IsNumberOf};
 ghost use Rattle.hprof_live.specs.Derived.{AddsFact, CanBeLaid, CannotBeLaid, IsDerived, keeps_of};
@@ -131,15 +130,15 @@ impl LiveHeap {
         }
     }
 
-    /// The edges to an identifier, where the edges are in order by what they refer to.
-    fn lend_referrers(&self, id: u64) -> Live<&[Edge]>
-        ensures { Watches self.now id → IsByTarget (edges_in self.now.derived.set)
-            → IsAnswer (λ ids facts edges. AreReferrers ids facts id edges.now) (outcome_of self.now) result }
+    /// The edges from a place on.
+    fn lend_edges(&self, start: usize) -> Live<&[Edge]>
+        requires { start ≤ vec_len self.now.derived.set.edges }
+        ensures { IsAnswer (λ ids facts edges. edges.now ≡ drop start (edges_in self.now.derived.set)) (outcome_of self.now) result }
     {
         match self.so_far() {
             Live::Failed => Live::Failed,
             Live::InConflict => Live::InConflict,
-            Live::Is(_) => Live::Is(self.derived.referrers(id)),
+            Live::Is(_) => Live::Is(self.derived.edges_from(start)),
         }
     }
 
@@ -150,8 +149,8 @@ impl LiveHeap {
         ensures value { Watches self.old id
             → IsAnswer (λ ids facts edges. AreReferrers ids facts id edges.now) (outcome_of self.old) result }
     {
-        self.derived.sort_edges();
-        self.lend_referrers(id)
+        let start = self.derived.bring_behind(id);
+        self.lend_edges(start)
     }
 
     /// Whether the facts so far agree, and lack a fact from which something is derived, and any other with its key.

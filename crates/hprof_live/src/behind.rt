@@ -1,0 +1,54 @@
+//! The edges to an identifier, moved behind the others.
+
+ghost use Rattle.std.specs.Prelude.{◌≡◌, ◌≢◌, ◌↔◌, ◌≤◌, ◌<◌, ℕ, Contains, drop, slice_index_or, take, vec_len};
+ghost use Rattle.std.specs.List.Sorted.{IsPermutation, IsSorted, IsStrictlySortedBy};
+ghost use Rattle.hprof_edges.specs.declared.edge.Edge.{Edge};
+ghost use Rattle.hprof_edges.specs.contracts.edge.EdgeOrd.TheImpl as edge_ord;
+
+use hprof_edges::Edge;
+
+/// Moves the edges to an identifier behind the others, in one pass, and says how many others there are.
+fn move_behind(edges: &mut Vec<Edge>, id: u64) -> usize
+    ensures within { result ≤ vec_len edges.new }
+    ensures moved { IsPermutation edges.old.items edges.new.items }
+    ensures others { (place : ℕ) (d : Edge) → place < result → (slice_index_or edges.new.items place d).to ≢ id }
+    ensures behind { (place : ℕ) (d : Edge) → result ≤ place → place < vec_len edges.new
+        → (slice_index_or edges.new.items place d).to ≡ id }
+{
+    let mut others = 0;
+    let mut end = edges.len();
+    while others < end {
+        if edges[others].to == id {
+            end -= 1;
+            edges.swap(others, end);
+        } else {
+            others += 1;
+        }
+    }
+    others
+}
+
+/// Puts the edges from a place on in order.
+fn sort_from(edges: &mut Vec<Edge>, start: usize)
+    requires { start ≤ vec_len edges.old }
+    ensures len { vec_len edges.new ≡ vec_len edges.old }
+    ensures before { take start edges.new.items ≡ take start edges.old.items }
+    ensures moved { IsPermutation (drop start edges.old.items) (drop start edges.new.items) }
+    ensures sorted { IsSorted (edge_ord.ghosts).cmp (drop start edges.new.items) }
+{
+    edges[start..].sort_unstable();
+}
+
+/// Moves the edges to an identifier behind the others, in order, and says where they begin. Each is kept once. It takes no
+/// memory.
+pub(crate) fn bring_behind(edges: &mut Vec<Edge>, id: u64) -> usize
+    ensures within { result ≤ vec_len edges.new }
+    ensures ascend { IsStrictlySortedBy (edge_ord.ghosts).cmp (drop result edges.new.items) }
+    ensures exact { (edge : Edge) → Contains (drop result edges.new.items) edge ↔ (Contains edges.old.items edge × (edge.to ≡ id)) }
+    ensures same { (edge : Edge) → Contains edges.new.items edge ↔ Contains edges.old.items edge }
+{
+    let start = move_behind(edges, id);
+    sort_from(edges, start);
+    edges.dedup();
+    edges.partition_point(|edge| edge.to != id)
+}
