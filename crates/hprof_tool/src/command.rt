@@ -143,11 +143,7 @@ fn command<'a>(alloc: Global) -> Result<Command<'a>, AllocError> {
             "path",
             "Says how few references lead to an identifier from a root, and by which path",
         )?)?
-        .subcommand(asking(
-            alloc,
-            "refs",
-            "Says what refers to an identifier",
-        )?)
+        .subcommand(asking(alloc, "refs", "Says what refers to an identifier")?)
 }
 
 /// The names of the parts that were given to a command.
