@@ -45,6 +45,9 @@ fn late_classes(rt: HostRuntime) -> Result<(), Fail> {
         fields,
     )?;
     expect_report(&rt, alloc, &["object", "64", one, two, three, names], class)?;
+    for (id, refs) in [("c9", "c8 field 1\n"), ("63", "64 super 0\n"), ("c8", "")] {
+        expect_report(&rt, alloc, &["refs", id, one, two, three, names], refs)?;
+    }
     // An identifier may be wider than those of the parts.
     expect_report(
         &rt,
@@ -95,7 +98,7 @@ fn words_that_are_no_identifiers(rt: HostRuntime) -> Result<(), Fail> {
 
 #[test]
 fn reports_that_are_refused(rt: HostRuntime) -> Result<(), Fail> {
-    for words in [["object", "1"].as_slice(), &["path", "1"], &["histo"]] {
+    for words in [["object", "1"].as_slice(), &["path", "1"], &["refs", "1"], &["histo"]] {
         expect_ran(&rt, rt.alloc(), words, 1, "", "hprof: no parts\n")?;
     }
     let (asked, all) = (["object", "1", "/no such part"], ["histo", "/no such part"]);

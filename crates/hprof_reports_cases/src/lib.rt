@@ -13,6 +13,8 @@ mod names;
 #[cfg(test)]
 mod objects;
 #[cfg(test)]
+mod referring;
+#[cfg(test)]
 mod samples;
 #[cfg(test)]
 mod writers;

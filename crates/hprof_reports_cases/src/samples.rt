@@ -1,4 +1,4 @@
-//! Parts, and the report `object` on them.
+//! Parts, and the reports `object` and `refs` on them.
 
 ghost use Rattle.std.specs.Prelude.{◌≡◌, All, IfOk};
 ghost use Rattle.hprof_devices.specs.declared.health.Health.TheVariants.{Well};
@@ -8,7 +8,7 @@ use crate::expecting::{equal_at, equal_text};
 use hprof_devices::Device;
 use hprof_engine::read_heap;
 use hprof_heap::{Gatherer, Heap};
-use hprof_reports::object_to;
+use hprof_reports::{object_to, refs_to};
 use hprof_stream::Limits;
 use std::alloc::{AllocError, Global};
 use std::process::Abort;
@@ -97,6 +97,22 @@ pub(crate) fn expect_object(
     let mut readers = reader_of(alloc, part)?;
     let mut target = Device::new(Vec::new(alloc));
     let answer = object_to(alloc, &mut readers, id, &mut target, Limits::usual());
+    equal_at(rt, id, answer, Ok(()));
+    let bytes = target.into_inner();
+    equal_text(rt, &bytes, report)
+}
+
+/// Checks that this is the report on what refers to an identifier in the part.
+pub(crate) fn expect_refs(
+    rt: &impl Abort,
+    alloc: Global,
+    part: &[u8],
+    id: u64,
+    report: &str,
+) -> Result<(), Fail> {
+    let mut readers = reader_of(alloc, part)?;
+    let mut target = Device::new(Vec::new(alloc));
+    let answer = refs_to(alloc, &mut readers, id, &mut target, Limits::usual());
     equal_at(rt, id, answer, Ok(()));
     let bytes = target.into_inner();
     equal_text(rt, &bytes, report)
