@@ -98,7 +98,12 @@ fn words_that_are_no_identifiers(rt: HostRuntime) -> Result<(), Fail> {
 
 #[test]
 fn reports_that_are_refused(rt: HostRuntime) -> Result<(), Fail> {
-    for words in [["object", "1"].as_slice(), &["path", "1"], &["refs", "1"], &["histo"]] {
+    for words in [
+        ["object", "1"].as_slice(),
+        &["path", "1"],
+        &["refs", "1"],
+        &["histo"],
+    ] {
         expect_ran(&rt, rt.alloc(), words, 1, "", "hprof: no parts\n")?;
     }
     let (asked, all) = (["object", "1", "/no such part"], ["histo", "/no such part"]);

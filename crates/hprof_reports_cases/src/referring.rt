@@ -1,9 +1,7 @@
 //! The report `refs`: what refers to an identifier.
 
 use crate::expecting::equal;
-use crate::samples::{
-    CLASS_99, CLASS_100, INSTANCE_200, expect_refs, part_of, reader_of,
-};
+use crate::samples::{CLASS_99, CLASS_100, INSTANCE_200, expect_refs, part_of, reader_of};
 use hprof_devices::Device;
 use hprof_engine::ToolFault;
 use hprof_heap::Key;
@@ -37,8 +35,7 @@ fn late_classes(rt: HostRuntime) -> Result<(), Fail> {
 }
 
 /// An array of class 0 with elements 16, 16 and 0.
-const OBJECTS_16: &[u8] =
-    b"\x22\0\0\0\x10\0\0\0\x01\0\0\0\x03\0\0\0\0\0\0\0\x10\0\0\0\x10\0\0\0\0";
+const OBJECTS_16: &[u8] = b"\x22\0\0\0\x10\0\0\0\x01\0\0\0\x03\0\0\0\0\0\0\0\x10\0\0\0\x10\0\0\0\0";
 
 #[test]
 fn elements(rt: HostRuntime) -> Result<(), Fail> {
@@ -78,13 +75,7 @@ fn parts_that_do_not_agree(rt: HostRuntime) -> Result<(), Fail> {
     let part = part_of(rt.alloc(), &[], &[INSTANCE_200, EMPTY_200])?;
     let mut readers = reader_of(rt.alloc(), &part)?;
     let mut target = Device::new(Vec::new(rt.alloc()));
-    let answer = refs_to(
-        rt.alloc(),
-        &mut readers,
-        100,
-        &mut target,
-        Limits::usual(),
-    );
+    let answer = refs_to(rt.alloc(), &mut readers, 100, &mut target, Limits::usual());
     equal(&rt, answer, Err(ToolFault::Conflict(Key::Object(200))));
     equal(&rt, target.into_inner().len(), 0);
     Ok(())
