@@ -53,6 +53,7 @@ LATE = [
 
 
 REPORTS = [["histo"], ["object", "c8"], ["object", "64"], ["object", "c9"], ["object", "ca"], ["path", "63"], ["path", "c9"], ["path", "ca"]]
+REPORTS += [["refs", "63"], ["refs", "c8"], ["refs", "c9"]]
 
 
 def passed_over(length):
@@ -86,12 +87,16 @@ def main():
         short, long = folder / "short", folder / "long"
         short.write_bytes(HEADER + passed_over(100_000))
         long.write_bytes(HEADER + passed_over(10_000_000))
+        cut = folder / "cut"
+        cut.write_bytes(two.read_bytes()[:60])
         late = [folder / f"late{index}" for index in range(len(LATE))]
         for path, part in zip(late, LATE):
             path.write_bytes(part)
         cases = {
             "join": ["join", out, one, two],
             "conflict": ["join", out, one, one, two.with_name("three")],
+            "join101": ["join101", out, one, two],
+            "salvage": ["salvage", out, one, cut, two],
             "check": ["check", one, two],
             **{" ".join(words): [*words, *late] for words in REPORTS},
             "passed over, 100,000 bytes": ["join", out, short],

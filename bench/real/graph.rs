@@ -215,7 +215,7 @@ pub fn path(heap: &Heap, id: u64) -> Option<Vec<u64>> {
     level.sort_unstable();
     level.dedup();
     found.extend(level.iter().map(|root| (*root, 0)));
-    while !level.is_empty() && !found.contains_key(&id) {
+    while !level.is_empty() {
         let mut next = Vec::new();
         for from in &level {
             let mut put = |edge: Edge| {
