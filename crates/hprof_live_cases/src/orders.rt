@@ -47,8 +47,10 @@ fn order_of(alloc: Global, seed: u64) -> Result<Vec<usize>, Fail> {
     for place in 0..FACTS {
         order.push(place)?;
         random = next_random(random);
-        let other = (random >> 33) as usize % order.len();
-        order.swap(place, other);
+        let other = (random >> 33) as usize % FACTS;
+        if place < order.len() && other < order.len() {
+            order.swap(place, other);
+        }
     }
     Ok(order)
 }
