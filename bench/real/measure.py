@@ -3,7 +3,7 @@
 
 For each collector and size: `hprof join` takes the dump; joined again it gives the same bytes; cut into five parts with
 all records and sub-records in any order, some repeated, it gives the same bytes; and the plain program writes the same.
-So it is with `join101`; with `salvage` too, which also takes the dump cut short at some places, and prints where. Each report of
+So it is with `join101`; with `salvage` too, which also takes the dump cut short at 20 random places, and prints where. Each report of
 the dump, of its canonical dump and of the five parts prints what the plain program does, for those that ask for an identifier with
 some ten classes, instances and arrays of either kind each; `path` and `refs` are asked of fewer. Then it runs both programs in
 turn and prints the fastest times, the peak memories and the ratios.
@@ -17,6 +17,7 @@ part of the gate. 1,000 megabytes take about 6 GB of memory and 10 GB of disk.
 import argparse
 import filecmp
 import os
+import random
 import shutil
 import subprocess
 import sys
@@ -57,8 +58,8 @@ REPORTS = ["check", "histo"]
 # Those that ask for an identifier, and of about how many of each kind.
 ASKING = {"object": 10, "path": 3, "refs": 3}
 COMMANDS = [*JOINS, *REPORTS, *ASKING]
-# How much is left of a dump where it is cut short.
-FRONTS = [0.00001, 0.1, 0.5, 0.9, 0.99999]
+# How much is left of a dump where it is cut short: 20 random shares, the same in each run.
+FRONTS = [random.Random(place).random() for place in range(20)]
 
 
 def check_same(one, other, what):
