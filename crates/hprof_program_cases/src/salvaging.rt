@@ -6,6 +6,7 @@ use crate::samples::NAMES;
 use hprof_tool::run;
 use std::alloc::Global;
 use std::io::Write;
+use std::process::Abort;
 use std::rt::Files;
 use std::test::Fail;
 use std::{fs, io};
@@ -39,6 +40,19 @@ fn salvage(rt: HostRuntime) -> Result<(), Fail> {
     Ok(())
 }
 
+/// Checks that the program tells a refusal and nothing else, and that no output is left.
+fn expect_refused<F: Files + Abort>(
+    rt: &F,
+    alloc: Global,
+    words: &[&str],
+    out: &str,
+    line: &str,
+) -> Result<(), Fail> {
+    expect_ran(rt, alloc, words, 1, "", line)?;
+    holds(rt, !fs::exists(rt, out)?);
+    Ok(())
+}
+
 #[test]
 fn nothing_is_told_of_parts_that_are_refused(rt: HostRuntime) -> Result<(), Fail> {
     let short = written(&rt, "refused-short", b"JAVA ")?;
@@ -47,17 +61,11 @@ fn nothing_is_told_of_parts_that_are_refused(rt: HostRuntime) -> Result<(), Fail
     let out = written(&rt, "refused-out", &[])?;
     let [short, cut, wide, out] = [&short, &cut, &wide, &out].map(|path| path.as_str());
     fs::remove_file(&rt, out)?;
-    for (words, line) in [
-        (["salvage", out].as_slice(), "hprof: no parts\n"),
-        (&["salvage", out, short], "hprof: no parts\n"),
-        (
-            &["salvage", out, cut, wide],
-            "hprof: identifier sizes differ\n",
-        ),
-    ] {
-        expect_ran(&rt, rt.alloc(), words, 1, "", line)?;
-        holds(&rt, !fs::exists(&rt, out)?);
-    }
+    let (alloc, none) = (rt.alloc(), "hprof: no parts\n");
+    expect_refused(&rt, alloc, &["salvage", out], out, none)?;
+    expect_refused(&rt, alloc, &["salvage", out, short], out, none)?;
+    let sizes = "hprof: identifier sizes differ\n";
+    expect_refused(&rt, alloc, &["salvage", out, cut, wide], out, sizes)?;
     Ok(())
 }
 
