@@ -4,3 +4,4 @@ pub mod PartByFault
 pub mod Going
 pub mod WholeParts
 pub mod AsJoined
+pub mod OneAnswer

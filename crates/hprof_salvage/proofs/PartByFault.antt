@@ -5,6 +5,7 @@ use Rattle.std.specs.Io.KnownBytes.{Consumes, IsAtEnd}
 use Rattle.hprof_items.specs.declared.header.Header.{Header}
 use Rattle.hprof_items.specs.FactValue.{FactValue}
 use Rattle.hprof_devices.specs.declared.health.Health.{Health}
+use Rattle.hprof_stream.specs.Reader.{IsReadingFault}
 use Rattle.hprof_stream.specs.declared.limits.Limits.{Limits}
 use Rattle.hprof_stream.specs.declared.part_fault.PartFault.{PartFault}
 use Rattle.hprof_stream.specs.declared.part_fault.PartFault.TheVariants as faults
@@ -18,7 +19,7 @@ use Rattle.hprof_heap.specs.Gathering.{Gathered, Given, nothing_gathered, Begins
 use Rattle.hprof_engine.specs.Joining.{IsPartFault}
 use Rattle.hprof_engine.proofs.Gathered.{Run-shown, Run-sound}
 use Rattle.hprof_engine.proofs.PartFaults.{fault_of_came, of_part}
-use Rattle.hprof_salvage.specs.Salvaging.{is_want_of_memory, IsReadSo}
+use Rattle.hprof_salvage.specs.Salvaging.{EndsPart, is_want_of_memory, IsReadSo}
 use Rattle.hprof_salvage.proofs.SavedParts.{counted_with, whole_states, handled_all}
 
 -- a part that was read to its end came whole
@@ -118,6 +119,20 @@ module _ {G : Type 0} (gathered : G → Gathered) (parts : G → ℕ) where
       ran_over faults.ReadsExceeded other why reads = reads.1
       ran_over faults.BytesExceeded other why reads = reads.1
 
+      -- how reading it ended: no gatherer that was not refused memory fails
+      ended_so : (fault : PartFault) → is_want_of_memory fault ≡ false
+          → IsPartFault left health pulls limits earlier was came is fault → IsReadingFault left health pulls limits was came is fault
+          → EndsPart left health pulls limits was came is (Some fault)
+      ended_so (faults.Sink sinks.OutOfMemory) other why reading = absurd cc
+      ended_so (faults.Sink sinks.Failed) other why reading = absurd why
+      ended_so (faults.Malformed at reason) other why reading = (reading, other)
+      ended_so (faults.ItemTooLong at) other why reading = (reading, other)
+      ended_so faults.OutOfMemory other why reading = absurd cc
+      ended_so faults.Failed other why reading = absurd why
+      ended_so faults.Read other why reading = (reading, other)
+      ended_so faults.ReadsExceeded other why reading = (reading, other)
+      ended_so faults.BytesExceeded other why reading = (reading, other)
+
       -- a part with a fault that is no want of memory
       pub read_faulty : Consumes (left was) (left is) came → pulls is ≤ pulls was + limits.max_reads → (fault : PartFault)
           → is_want_of_memory fault ≡ false
@@ -130,7 +145,7 @@ module _ {G : Type 0} (gathered : G → Gathered) (parts : G → ℕ) where
             record {
               consumed = consumed;
               spared = spared;
-              ends = (reads.0, other);
+              ends = ended_so fault other why reads.0;
               whole = λ bytes told. of_part left health pulls limits earlier was bytes came is fault told consumed why;
             },
             takes_saved limits.max_item (take limits.max_bytes came) old new over.0 over.1.handed sound over.1.states over.1.ran,

@@ -20,6 +20,12 @@ pub fn salvage_of_sound_parts_is_joining()
         → SavesTo limits.max_item parts answer → JoinsTo parts answer }
 {}
 
+/// What is saved of parts comes to one thing, by the bytes that were handled: one heap, one least conflict, two sizes, or no part.
+pub fn what_is_saved_comes_to_one_thing()
+    ensures { (longest : ℕ) (parts : List (List ℕ)) (one other : Result HeapValue Refusal) → SavesTo longest parts one
+        → SavesTo longest parts other → one ≡ other }
+{}
+
 /// What is saved of a part stands in it before its first fault; where it has none it is all that the part states.
 pub fn what_is_saved_stands_before_the_fault()
     ensures faulty { (longest : ℕ) (bytes : List ℕ) (header : Option Header) (facts : List FactValue) (fault : PartFault)

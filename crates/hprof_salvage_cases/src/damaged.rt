@@ -6,6 +6,7 @@ use crate::samples::{
 };
 use hprof_engine::Joined;
 use hprof_items::Reason;
+use hprof_salvage::laws;
 use std::test::Fail;
 
 #[test]
@@ -20,7 +21,10 @@ fn salvage_of_a_cut_part(rt: HostRuntime) -> Result<(), Fail> {
         joined,
         &[truncated(0, 84)],
         &dump,
-    )
+    )?;
+    laws::what_is_saved_stands_before_the_fault();
+    laws::what_is_saved_comes_to_one_thing();
+    Ok(())
 }
 
 #[test]

@@ -8,7 +8,8 @@ pub use hprof_engine::laws::{
 };
 pub use hprof_reports::laws::one_check;
 pub use hprof_salvage::laws::{
-    salvage_of_sound_parts_is_joining, what_is_saved_stands_before_the_fault,
+    salvage_of_sound_parts_is_joining, what_is_saved_comes_to_one_thing,
+    what_is_saved_stands_before_the_fault,
 };
 pub use hprof_stream::laws::{
     a_longer_input, a_smaller_limit, no_fault_exactly_in_the_grammar, one_first_fault,
