@@ -29,7 +29,7 @@ fn check_waiting(
 }
 
 // That the instance was laid.
-fn check_laid(rt: &impl Abort, alloc: Global, live: &mut LiveHeap) -> Result<(), Fail> {
+pub(crate) fn check_laid(rt: &impl Abort, alloc: Global, live: &mut LiveHeap) -> Result<(), Fail> {
     let to_class = [edge(200, Via::Class, 0, 100)];
     let by_field = [edge(200, Via::Field, 1, 201)];
     let to_parent = [edge(100, Via::Parent, 0, 99)];
@@ -64,6 +64,13 @@ fn lower_class<'a>() -> Result<Fact<'a>, Fail> {
 
 fn upper_class<'a>() -> Result<Fact<'a>, Fail> {
     Ok(class_of(99, 0, BYTE).ok_or("no class")?)
+}
+
+// Gives all three, instance first.
+pub(crate) fn give_instance_first(alloc: Global, live: &mut LiveHeap) -> Result<(), Fail> {
+    give(alloc, live, &instance_of(200, 100, BYTES))?;
+    give(alloc, live, &lower_class()?)?;
+    give(alloc, live, &upper_class()?)
 }
 
 // A live heap of all three, instance first; it is looked at after each.
