@@ -46,7 +46,7 @@ fn layout_of_none(alloc: Global, class: u64) -> Layout
 }
 
 impl LiveHeap {
-    ghost use Rattle.hprof_live.specs.LiveHeap.{IsAnswer, IsCurrent, KeepsTo, LacksFirst, LacksNothing, LendsHeap, RestsAsItIs};
+    ghost use Rattle.hprof_live.specs.LiveHeap.{IsAnswer, IsCurrent, KeepsOnly, LacksFirst, LacksNothing, LendsHeap, RestsAsItIs};
     ghost use Rattle.hprof_live.specs.LiveHeap.{Watches, outcome_of, seen_by};
 
     /// A live heap that was given nothing, and keeps the edges that are watched. It takes no memory yet.
@@ -74,6 +74,7 @@ impl LiveHeap {
     pub fn watching(alloc: Global, id: u64) -> LiveHeap
         ensures nothing { seen_by result ≡ nothing_gathered }
         ensures watches { Watches result id }
+        ensures only { KeepsOnly result id }
     {
         LiveHeap::watching_those(alloc, Watched::To(id))
     }
