@@ -6,6 +6,7 @@ use hprof_heap::Heap;
 use hprof_laying::{KnownLayouts, Reference};
 use hprof_walks::Graph;
 use std::alloc::AllocError;
+use std::mem::swap;
 
 /// The edges of a heap, with what is used again for each node.
 #[derive(Drop)]
@@ -26,7 +27,7 @@ impl<'h> Graph for HeapGraph<'h> {
 
     ghost stands = { λ graph. Knows (size_of graph.heap.now) (facts_of graph.heap.now) graph.known };
 
-    fn push_targets(&mut self, from: u64, targets: &mut Vec<u64>) -> Result<(), AllocError> {
+    fn targets_of(&mut self, from: u64, targets: &mut Vec<u64>) -> Result<(), AllocError> {
         self.targets.list.clear();
         known_edges(
             self.heap,
@@ -35,7 +36,7 @@ impl<'h> Graph for HeapGraph<'h> {
             &mut self.references,
             &mut self.targets,
         )?;
-        targets.extend_from_slice(&self.targets.list)?;
+        swap(&mut self.targets.list, targets);
         Ok(())
     }
 }

@@ -4,7 +4,7 @@ ghost use Rattle.std.specs.Prelude.{◌≡◌, ◌↔◌, ℕ, IfOk, Contains};
 ghost use Rattle.hprof_finding.specs.HeapFacts.{facts_of};
 ghost use Rattle.hprof_reach.specs.Reaching.{IsRooted, root_id};
 
-use hprof_finding::table_facts;
+use hprof_finding::{table_facts, table_len};
 use hprof_heap::{Heap, Table};
 use hprof_items::Fact;
 use hprof_values::Root;
@@ -31,7 +31,7 @@ fn root_id(root: Root) -> u64
 pub(crate) fn starts_of(alloc: Global, heap: &Heap) -> Result<Vec<u64>, AllocError>
     ensures { IfOk result (λ starts. (id : ℕ) → Contains starts.items id ↔ IsRooted (facts_of heap.now) id) }
 {
-    let mut starts = Vec::new(alloc);
+    let mut starts = Vec::with_capacity(alloc, table_len(heap, Table::Roots))?;
     for fact in table_facts(heap, Table::Roots) {
         if let Fact::Root(root) = fact {
             starts.push(root_id(root))?;

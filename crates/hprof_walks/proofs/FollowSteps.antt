@@ -5,7 +5,6 @@ use Rattle.std.specs.List.Sorted.{IsStrictlyIncreasing}
 use Rattle.std.proofs.lemmas.Cmp.{nat_eq_equiv}
 use Rattle.std.proofs.lemmas.List.{get_or-map, length-map, take_more}
 use Rattle.std.proofs.lemmas.Map.Views.{list_any-from_Contains, Contains-from_any}
-use Rattle.indexmap.specs.IndexSet.{insert_key}
 use Rattle.hprof_walks.specs.declared.arrival.Arrival.{Arrival}
 use Rattle.hprof_walks.specs.Trail.{Order, Follows}
 use Rattle.hprof_walks.proofs.Ascending.{less_far, number_of}
@@ -115,7 +114,7 @@ module _ (nodes : List ℕ) (old now : Order) (arrivals : List Arrival) (index b
         subst (Follows nodes old new) (sym one_more) (follows_on nodes old now (take index arrivals) (arrival_at arrivals index)
         followed.follows new number inside is fresh above found before_it)
 
-    pub visited : new.found ≡ insert_key nat_eq now.found number
+    pub visited : new.found ≡ (if list_any (nat_eq number) now.found then now.found else now.found ++ number ∷ [])
         → new.before ≡ (if list_any (nat_eq number) now.found then now.before else now.before ++ (arrival_at arrivals index).from ∷ [])
         → Followed nodes old new arrivals (index + 1) number
     visited found before_it = record {

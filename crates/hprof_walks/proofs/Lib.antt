@@ -16,3 +16,4 @@ pub mod FirstLevel
 pub mod OneMoreLevel
 pub mod Told
 pub mod Few
+pub mod Noting

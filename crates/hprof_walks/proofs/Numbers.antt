@@ -24,7 +24,7 @@ same_position p q xs same =
     let prefix = same_prefix (λ x. not (p x)) (λ x. not (q x)) xs (λ k below. ap not (same k below)) in
     λ i. cond (nat_lt (prefix i) (length xs)) (Some (prefix i)) None
 
-no_position : (p : ℕ → Bool) (xs : List ℕ) → ((k : ℕ) → k < length xs → p (slice_index xs k) ≡ false) → position p xs ≡ None
+pub no_position : (p : ℕ → Bool) (xs : List ℕ) → ((k : ℕ) → k < length xs → p (slice_index xs k) ≡ false) → position p xs ≡ None
 no_position p xs none =
     let prefix = same_prefix (λ x. not (p x)) (λ x. true) xs (λ k below. ap not (none k below)) ∙ whole_prefix xs in
     let never : nat_lt (length xs) (length xs) ≡ false = grind arith in

@@ -16,7 +16,7 @@ use Rattle.hprof_walks.proofs.Searched.{Places, IsSearched, at_distance, ways_ba
 use Rattle.hprof_walks.proofs.Searchings.{places_of}
 
 abbrev kept_order : Search → Order
-kept_order search = record { found = search.found.keys; before = search.before.items }
+kept_order search = record { found = search.found.items; before = search.before.items }
 
 abbrev kept_places : Search → Places
 kept_places search = places_of search.nodes.items (kept_order search) search.levels.items
@@ -25,7 +25,7 @@ same_ways : (search : Search) (count place : ℕ) → ways_back (kept_places sea
 unfolding ways_back way_back
 same_ways search zero place = refl
 same_ways search (suc count) place =
-    ap (λ (ns : List ℕ). node_in search.nodes.items search.found.keys place ∷ ns)
+    ap (λ (ns : List ℕ). node_in search.nodes.items search.found.items place ∷ ns)
     (same_ways search count (slice_index search.before.items place))
 
 -- a test that finds no place passes nowhere
@@ -33,22 +33,22 @@ position_none : (p : ℕ → Bool) (xs : List ℕ) → position p xs ≡ None �
 position_none p xs none k below = fails_before_first p xs k 0 (let outside : length xs ≤ position_or_len p xs = grind (arith, common_steps) in omega arith)
 
 module _ (Starts : ℕ → Type 0) (Steps : ℕ → ℕ → Type 0) (search : Search) (level : ℕ)
-    (searched : IsSearched Starts Steps (kept_places search) (length search.found.keys) (length search.found.keys) level) where
+    (searched : IsSearched Starts Steps (kept_places search) (length search.found.items) (length search.found.items) level) where
   abbrev node_at : ℕ → ℕ
-  node_at place = node_in search.nodes.items search.found.keys place
+  node_at place = node_in search.nodes.items search.found.items place
 
   nowhere : (node : ℕ) → place_of search node ≡ None → (count : ℕ) → Reaches Starts Steps count node → ⊥
   unfolding place_of
   nowhere node none count reaches =
-      let at = found_all Starts Steps (kept_places search) (length search.found.keys) level searched count node reaches in
-      let fails = position_none (λ number. slice_index search.nodes.items number == node) search.found.keys none at.place at.below in
+      let at = found_all Starts Steps (kept_places search) (length search.found.items) level searched count node reaches in
+      let fails = position_none (λ number. slice_index search.nodes.items number == node) search.found.items none at.place at.below in
       let passes = eq-eqb (node_at at.place) node at.is in
       absurd (cc)
 
-  stands : (node place : ℕ) → place_of search node ≡ Some place → (place < length search.found.keys) × (node_at place ≡ node)
+  stands : (node place : ℕ) → place_of search node ≡ Some place → (place < length search.found.items) × (node_at place ≡ node)
   unfolding place_of
   stands node place some =
-      let is = position-Some (λ number. slice_index search.nodes.items number == node) search.found.keys place 0 some in
+      let is = position-Some (λ number. slice_index search.nodes.items number == node) search.found.items place 0 some in
       (is.0, eqb-true (node_at place) node is.1)
 
   tells_distance : (node : ℕ) (place : Option ℕ) → place_of search node ≡ place
@@ -57,7 +57,7 @@ module _ (Starts : ℕ → Type 0) (Steps : ℕ → ℕ → Type 0) (search : Se
   tells_distance node (Some place) some =
       let at = stands node place some in
       subst (λ (n : ℕ). IsDistance Starts Steps n (level_in search.levels.items place)) at.1
-      (at_distance Starts Steps (kept_places search) (length search.found.keys) (length search.found.keys) level searched place at.0)
+      (at_distance Starts Steps (kept_places search) (length search.found.items) (length search.found.items) level searched place at.0)
 
   tells_path : (node : ℕ) (place : Option ℕ) → place_of search node ≡ place
       → IsPath Starts Steps node (option_map (λ (p : ℕ). reverse (way_back search (level_in search.levels.items p) p)) place)
@@ -65,7 +65,7 @@ module _ (Starts : ℕ → Type 0) (Steps : ℕ → ℕ → Type 0) (search : Se
   tells_path node (Some place) some =
       let at = stands node place some in
       let deep = level_in search.levels.items place in
-      let way = goes_back Starts Steps (kept_places search) (length search.found.keys) level searched deep place at.0 refl in
+      let way = goes_back Starts Steps (kept_places search) (length search.found.items) level searched deep place at.0 refl in
       let same = same_ways search deep place ∙ sym (reverse-reverse (way_back search deep place)) in (
         deep,
         subst (λ (n : ℕ). IsWayBack Starts Steps deep n (reverse (reverse (way_back search deep place)))) at.1

@@ -12,12 +12,12 @@ way_left search (suc count) place = way_back search count (slice_index search.be
 
 module _ (search : Search) where
   way_on : (count place : ℕ)
-      → way_back search count place ≡ node_in search.nodes.items search.found.keys place ∷ way_left search count place
+      → way_back search count place ≡ node_in search.nodes.items search.found.items place ∷ way_left search count place
   unfolding way_back
   way_on zero place = refl
   way_on (suc count) place = refl
 
-  pub went_none : (left level place node : ℕ) (nodes : List ℕ) → left ≡ level → node ≡ node_in search.nodes.items search.found.keys place
+  pub went_none : (left level place node : ℕ) (nodes : List ℕ) → left ≡ level → node ≡ node_in search.nodes.items search.found.items place
       → nodes ≡ node ∷ [] → nodes ++ way_left search left place ≡ way_back search level place
   went_none left level place node nodes all is one =
       ap (λ (n : ℕ). nodes ++ way_left search n place) all
@@ -25,7 +25,7 @@ module _ (search : Search) where
 
   -- going back by one place more
   pub went_on : (left rest place next node : ℕ) (nodes more way : List ℕ) → left ≡ suc rest → next ≡ slice_index search.before.items place
-      → node ≡ node_in search.nodes.items search.found.keys next → more ≡ nodes ++ node ∷ []
+      → node ≡ node_in search.nodes.items search.found.items next → more ≡ nodes ++ node ∷ []
       → nodes ++ way_left search left place ≡ way → more ++ way_left search rest next ≡ way
   went_on left rest place next node nodes more way count back is pushed before =
       ap (λ (ns : List ℕ). ns ++ way_left search rest next) pushed

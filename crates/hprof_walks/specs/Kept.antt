@@ -11,9 +11,15 @@ node_in nodes found place = slice_index nodes (slice_index found place)
 abbrev pub level_in : List ℕ → ℕ → ℕ
 level_in levels place = count_by (λ begin. nat_le begin place) levels
 
--- the nodes ascend, each one that was found has its number, and was found from one that was found
-pub record IsWhole (nodes found before : List ℕ) : Type 0 where
+-- of the number of each node that was found its place is noted
+abbrev pub NotesPlaces : List ℕ → List ℕ → Type 0
+NotesPlaces found places = (place : ℕ) → place < length found → slice_index places (slice_index found place) ≡ place
+
+-- the nodes ascend, each one that was found has its number, its place is noted, and it was found from one that was found
+pub record IsWhole (nodes found before places : List ℕ) : Type 0 where
   pub ascend : IsStrictlyIncreasing nodes
   pub numbers : (place : ℕ) → place < length found → slice_index found place < length nodes
+  pub noted : NotesPlaces found places
+  pub as_many : length places ≡ length nodes
   pub paired : length before ≡ length found
   pub back : (place : ℕ) → place < length before → slice_index before place < length found

@@ -8,13 +8,13 @@ use Rattle.hprof_walks.specs.Walks.{HasDistance, IsPath}
 
 -- the place in the order of the search where a node was found
 unfoldable pub place_of : Search → ℕ → Option ℕ
-place_of search node = position (λ number. slice_index search.nodes.items number == node) search.found.keys
+place_of search node = position (λ number. slice_index search.nodes.items number == node) search.found.items
 
 -- from a place so many times back to where its node was found from
 unfoldable pub way_back : Search → ℕ → ℕ → List ℕ
-way_back search zero place = node_in search.nodes.items search.found.keys place ∷ []
+way_back search zero place = node_in search.nodes.items search.found.items place ∷ []
 way_back search (suc count) place =
-    node_in search.nodes.items search.found.keys place ∷ way_back search count (slice_index search.before.items place)
+    node_in search.nodes.items search.found.items place ∷ way_back search count (slice_index search.before.items place)
 
 -- the distance that a search tells of a node
 unfoldable pub distance_in : Search → ℕ → Option ℕ

@@ -10,7 +10,7 @@ pub record Order : Type 0 where
   pub before : List ℕ
 
 abbrev pub order_of : Trail → Order
-order_of trail = record { found = trail.found.keys; before = trail.before.items }
+order_of trail = record { found = trail.found.items; before = trail.before.items }
 
 -- each node that was found has its number, and stands there once
 pub record IsTrail (nodes : List ℕ) (order : Order) : Type 0 where

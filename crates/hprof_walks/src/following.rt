@@ -1,9 +1,9 @@
 //! Arrivals are followed to nodes that were not found before.
 
-ghost use Rattle.std.specs.Prelude.{◌≡◌, ◌++◌, ◌∷◌, [], OnOk, if◌then◌else◌, map, nat_eq};
+ghost use Rattle.std.specs.Prelude.{◌≡◌, ◌<◌, ◌++◌, ◌∷◌, [], OnOk, if◌then◌else◌, length, map, nat_eq};
 ghost use Rattle.std.specs.List.{list_any};
 ghost use Rattle.std.specs.List.Sorted.{IsStrictlyIncreasing};
-ghost use Rattle.indexmap.specs.IndexSet.{insert_key};
+ghost use Rattle.hprof_walks.specs.Kept.{NotesPlaces};
 ghost use Rattle.hprof_walks.specs.Trail.{Follows, IsTrail, order_of};
 
 use crate::arrival::Arrival;
@@ -11,13 +11,30 @@ use crate::galloping::gallop;
 use crate::trail::Trail;
 use std::alloc::AllocError;
 
+/// Whether a node, by its number, was found.
+fn was_found(trail: &Trail, number: usize) -> bool
+    requires within { number < length trail.now.places.items }
+    requires noted { NotesPlaces trail.now.found.items trail.now.places.items }
+    ensures { result ≡ list_any (nat_eq number) trail.now.found.items }
+{
+    let place = trail.places[number];
+    place < trail.found.len() && trail.found[place] == number
+}
+
 /// Puts a node, by its number, at the end of a trail, with the place that it was found from, if it was not found before.
 fn visit(trail: &mut Trail, number: usize, from: usize) -> Result<(), AllocError>
-    ensures found { OnOk result (trail.new.found.keys ≡ insert_key nat_eq trail.old.found.keys number) }
-    ensures before { OnOk result (trail.new.before.items ≡ (if list_any (nat_eq number) trail.old.found.keys
+    requires within { number < length trail.old.places.items }
+    requires noted { NotesPlaces trail.old.found.items trail.old.places.items }
+    ensures found { OnOk result (trail.new.found.items ≡ (if list_any (nat_eq number) trail.old.found.items
+        then trail.old.found.items else trail.old.found.items ++ number ∷ [])) }
+    ensures before { OnOk result (trail.new.before.items ≡ (if list_any (nat_eq number) trail.old.found.items
         then trail.old.before.items else trail.old.before.items ++ from ∷ [])) }
+    ensures noted { OnOk result (NotesPlaces trail.new.found.items trail.new.places.items) }
+    ensures as_many { OnOk result (length trail.new.places.items ≡ length trail.old.places.items) }
 {
-    if trail.found.insert(number)? {
+    if !was_found(trail, number) {
+        trail.places[number] = trail.found.len();
+        trail.found.push(number)?;
         trail.before.push(from)?;
     }
     Ok(())
@@ -33,7 +50,11 @@ pub(crate) fn follow(
     requires nodes { IsStrictlyIncreasing nodes.now }
     requires arrivals { IsStrictlyIncreasing (map (λ arrival. arrival.to) arrivals.now) }
     requires trail { IsTrail nodes.now (order_of trail.old) }
-    ensures { OnOk result (Follows nodes.now (order_of trail.old) (order_of trail.new) arrivals.now) }
+    requires noted { NotesPlaces trail.old.found.items trail.old.places.items }
+    requires as_many { length trail.old.places.items ≡ length nodes.now }
+    ensures follows { OnOk result (Follows nodes.now (order_of trail.old) (order_of trail.new) arrivals.now) }
+    ensures noted { OnOk result (NotesPlaces trail.new.found.items trail.new.places.items) }
+    ensures as_many { OnOk result (length trail.new.places.items ≡ length nodes.now) }
 {
     let mut number = 0;
     for arrival in arrivals {

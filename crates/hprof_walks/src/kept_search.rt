@@ -1,6 +1,5 @@
 //! What a search keeps, and tells.
 
-use indexmap::IndexSet;
 use std::alloc::{AllocError, Global};
 
 /// A search by levels that was made: of each node how many steps lead to it from a start, and by which path.
@@ -9,12 +8,14 @@ pub struct Search {
     /// All nodes, in ascending order.
     pub(crate) nodes: Vec<u64>,
     /// The nodes that were found, in the order of the search: of each its number, which is its place among all nodes.
-    pub(crate) found: IndexSet<usize>,
+    pub(crate) found: Vec<usize>,
     /// Of each of them the place in this order of the node that it was found from; of a start, any.
     pub(crate) before: Vec<usize>,
+    /// Of each number the place in this order where its node was found; of one that was not, any where another stands.
+    pub(crate) places: Vec<usize>,
     /// Where in this order each level begins, but for the first; the last one is empty.
     pub(crate) levels: Vec<usize>,
-    ghost whole: { IsWhole nodes.items found.keys before.items },
+    ghost whole: { IsWhole nodes.items found.items before.items places.items },
     ghost levels_ascend: { IsNonDecreasing levels.items },
 }
 
@@ -22,18 +23,33 @@ ghost use Rattle.std.specs.List.Sorted.{IsNonDecreasing};
 ghost use Rattle.hprof_walks.specs.Kept.{IsWhole};
 
 impl Search {
-    ghost use Rattle.std.specs.Prelude.{◌≡◌, ◌<◌, IfOk, IfSome, length, slice_index};
+    ghost use Rattle.std.specs.Prelude.{◌≡◌, ◌<◌, IfOk, IfSome, length, nat_eq, slice_index};
+    ghost use Rattle.std.specs.List.{position};
     ghost use Rattle.std.specs.Option.{option_map};
     ghost use Rattle.hprof_walks.specs.Kept.{level_in, node_in};
     ghost use Rattle.hprof_walks.specs.Search.{distance_in, path_in, place_of};
 
+    /// The place in the order of the search where the node of a number was found.
+    fn place_of_number(&self, number: usize) -> Option<usize>
+        requires { number < length self.now.nodes.items }
+        ensures place { result ≡ position (nat_eq number) self.now.found.items }
+        ensures within { IfSome result (λ place. place < length self.now.found.items) }
+    {
+        let place = self.places[number];
+        if place < self.found.len() && self.found[place] == number {
+            Some(place)
+        } else {
+            None
+        }
+    }
+
     /// The place in the order of the search where a node was found.
     fn place(&self, node: u64) -> Option<usize>
         ensures place { result ≡ place_of self.now node }
-        ensures within { IfSome result (λ place. place < length self.now.found.keys) }
+        ensures within { IfSome result (λ place. place < length self.now.found.items) }
     {
         let number = self.nodes.binary_search(&node).ok()?;
-        self.found.get_index_of(&number)
+        self.place_of_number(number)
     }
 
     /// The level of a place.
@@ -45,17 +61,17 @@ impl Search {
 
     /// The node that was found at a place.
     fn node(&self, place: usize) -> u64
-        requires { place < length self.now.found.keys }
-        ensures { result ≡ node_in self.now.nodes.items self.now.found.keys place }
+        requires { place < length self.now.found.items }
+        ensures { result ≡ node_in self.now.nodes.items self.now.found.items place }
     {
-        self.nodes[self.found.as_slice()[place]]
+        self.nodes[self.found[place]]
     }
 
     /// The place that the node at a place was found from.
     fn step_back(&self, place: usize) -> usize
-        requires { place < length self.now.found.keys }
+        requires { place < length self.now.found.items }
         ensures before { result ≡ slice_index self.now.before.items place }
-        ensures within { result < length self.now.found.keys }
+        ensures within { result < length self.now.found.items }
     {
         self.before[place]
     }

@@ -40,8 +40,7 @@ pub(crate) fn lead_on<G: Graph>(
 {
     arrivals.clear();
     for place in begin..found.len() {
-        targets.clear();
-        graph.push_targets(nodes[found[place]], targets)?;
+        graph.targets_of(nodes[found[place]], targets)?;
         push_arrivals(arrivals, targets, place)?;
     }
     Ok(())

@@ -11,7 +11,6 @@ use crate::graph::Graph;
 use crate::kept_search::Search;
 use crate::leading::{lead_on, push_arrivals};
 use crate::trail::Trail;
-use indexmap::IndexSet;
 use std::alloc::{AllocError, Global};
 
 /// Goes from the starts that are nodes along the edges of a graph that lead to nodes, level by level. The nodes are given in
@@ -28,10 +27,7 @@ pub fn search<G: Graph>(
     ensures { IfOk result (IsSearch (λ node. Contains nodes.items node × Contains starts.now node)
         (λ from to. G.leads graph.old from to × Contains nodes.items to)) }
 {
-    let mut trail = Trail {
-        found: IndexSet::new(alloc),
-        before: Vec::new(alloc),
-    };
+    let mut trail = Trail::new(alloc, nodes.len())?;
     let mut levels = Vec::new(alloc);
     let mut targets = Vec::new(alloc);
     let mut arrivals = Vec::new(alloc);
@@ -44,7 +40,7 @@ pub fn search<G: Graph>(
         lead_on(
             graph,
             &nodes,
-            trail.found.as_slice(),
+            &trail.found,
             begin,
             &mut targets,
             &mut arrivals,
@@ -58,6 +54,7 @@ pub fn search<G: Graph>(
         nodes,
         found: trail.found,
         before: trail.before,
+        places: trail.places,
         levels,
     })
 }

@@ -16,7 +16,8 @@ impl Graph for Edges<'_> {
 
     ghost stands = { λ graph. ⊤ };
 
-    fn push_targets(&mut self, from: u64, targets: &mut Vec<u64>) -> Result<(), AllocError> {
+    fn targets_of(&mut self, from: u64, targets: &mut Vec<u64>) -> Result<(), AllocError> {
+        targets.clear();
         for edge in self.edges {
             if edge.0 == from {
                 targets.push(edge.1)?;

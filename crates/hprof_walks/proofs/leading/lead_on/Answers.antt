@@ -1,5 +1,4 @@
-use Rattle.std.proofs.Common.{◌≡◌, ◌++◌, ◌+◌, ℕ, List, map, length, ◌∙◌, ap, sym, subst, refl, arith, slice_index}
-use Rattle.hprof_walks.specs.declared.arrival.Arrival.{Arrival}
+use Rattle.std.proofs.Common.{◌≡◌, ◌↔◌, ◌+◌, ℕ, List, Contains, length, sym, subst, refl, arith, slice_index}
 use Rattle.hprof_walks.specs.Arrivals.{AreArrivals}
 use Rattle.hprof_walks.proofs.LedArrivals.{leads_more}
 use Rattle.hprof_walks.proofs.leading.lead_on.Goals as goal
@@ -7,23 +6,19 @@ use Rattle.hprof_walks.proofs.leading.lead_on.Goals as goal
 pub loop-place-preserved : goal.loop-place-preserved
 loop-place-preserved g c =
     let place = c.loop-place.place in
-    let given = c.in_ok-push_targets.ensures.ok in
-    let stays = c.in_ok-push_targets.ensures.stays in
+    let stays = c.in_ok-targets_of.ensures.stays in
     let was = c.loop-place.invariant in
-    let targets : c.deref.result.now ≡ given.0 =
-    c.deref.ensures.value ∙ given.1 ∙ ap (λ (ns : List ℕ). ns ++ given.0) c.clear-in-loop-place.ensures.items in
-    let pushed : c.push_arrivals.new.arrivals.items
-    ≡ c.loop-place.arrivals.items ++ map {B = Arrival} (λ (to : ℕ). record { to = to; from = place }) given.0 =
-    c.in_ok-push_arrivals.ensures
-    ∙ ap (λ (ns : List ℕ). c.loop-place.arrivals.items ++ map {B = Arrival} (λ (to : ℕ). record { to = to; from = place }) ns) targets in
     let node = slice_index c.args.nodes.now (slice_index c.args.found.now place) in
+    let given = subst (λ (targets : List ℕ). (to : ℕ) → Contains targets to ↔ g.G.Graph.leads c.loop-place.graph node to)
+    (sym c.deref.ensures.value) c.in_ok-targets_of.ensures.ok in
     let on = c.loop-place.auto.place in (
-      subst (AreArrivals (g.G.Graph.leads c.args.graph.now) c.args.nodes.now c.args.found.now c.args.begin (place + 1)) (sym pushed)
+      subst (AreArrivals (g.G.Graph.leads c.args.graph.now) c.args.nodes.now c.args.found.now c.args.begin (place + 1))
+          (sym c.in_ok-push_arrivals.ensures)
           (leads_more (g.G.Graph.leads c.args.graph.now) c.args.nodes.now c.args.found.now c.args.begin place (place + 1)
-          c.loop-place.arrivals.items given.0 refl on
-          (λ to. (λ has. (was.1 node to).0 ((given.2 to).0 has), λ leads. (given.2 to).1 ((was.1 node to).1 leads))) was.0),
+          c.loop-place.arrivals.items c.deref.result.now refl on
+          (λ to. (λ has. (was.1 node to).0 ((given to).0 has), λ leads. (given to).1 ((was.1 node to).1 leads))) was.0),
       λ other to. (λ leads. (was.1 other to).0 ((stays other to).0 leads), λ leads. (stays other to).1 ((was.1 other to).1 leads)),
-      c.in_ok-push_targets.ensures.stands,
+      c.in_ok-targets_of.ensures.stands,
     )
 
 pub returns-clause-ok : goal.returns-clause-ok

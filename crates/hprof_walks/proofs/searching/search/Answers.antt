@@ -16,26 +16,27 @@ loop-begin-init g c =
     let Leads = g.G.Graph.leads c.args.graph.now in
     let nodes = c.args.nodes.items in
     let starts = c.args.starts.now in
-    let old : Order = record { found = c.new.result.keys; before = c.new-2.result.items } in
+    let old : Order = order_of c.in_ok-trail.trail in
+    let none : length old.found ≡ 0 = ap (length {A = ℕ}) c.in_ok-trail.ensures.found in
     let new : Order = order_of c.follow.new.trail in
     let all = c.push_arrivals.new.arrivals.items in
     let least = c.keep_least.new.arrivals.items in
     let are : all ≡ map (arrive 0) starts =
     c.in_ok-push_arrivals.ensures ∙ ap (λ (arrivals : List Arrival). arrivals ++ map (arrive 0) starts) c.new-arrivals.ensures.items in
     let follows = subst₂ (λ (ns : List ℕ) (arrivals : List Arrival). Follows ns old new arrivals)
-    c.deref.ensures.value c.deref-2.ensures.value c.in_ok-follow.ensures in
-    let first = searching_first Leads nodes starts c.requires.ascend old new all least c.new.ensures.len are c.keep_least.ensures follows in (
-      subst (λ (levels : List ℕ). IsSearching Leads nodes starts new levels 0) (sym c.new-levels.ensures.items) first,
-      λ node to. (λ leads. leads, λ leads. leads),
-      c.requires.stands,
-    )
+    c.deref.ensures.value c.deref-2.ensures.value c.in_ok-follow.ensures.follows in
+    let first = searching_first Leads nodes starts c.requires.ascend old new all least none are c.keep_least.ensures follows in record {
+      searching = subst (λ (levels : List ℕ). IsSearching Leads nodes starts new levels 0) (sym c.new-levels.ensures.items) first;
+      stays = λ node to. (λ leads. leads, λ leads. leads);
+      stands = c.requires.stands;
+      noted = c.in_ok-follow.ensures.noted;
+      as_many = c.in_ok-follow.ensures.as_many ∙ ap (length {A = ℕ}) c.deref.ensures.value;
+    }
 
 pub loop-begin-smaller : goal.loop-begin-smaller
 loop-begin-smaller g c =
-    let few = few_found c.args.nodes.items (order_of c.loop-begin.trail) c.loop-begin.invariant.0.trail in
+    let few = few_found c.args.nodes.items (order_of c.loop-begin.trail) c.loop-begin.invariant.searching.trail in
     let test = c.loop-begin-test.true in
-    let one = c.len.ensures.len in
-    let two = c.len-end.ensures.len in
     let less : length c.args.nodes.items - c.len-end.result < length c.args.nodes.items - c.loop-begin.begin = omega arith in
     less
 
@@ -52,19 +53,21 @@ loop-begin-preserved g c =
     let begin = c.loop-begin.begin in
     let levels = c.loop-begin.levels.items in
     let led = subst₂ (λ (ns found : List ℕ). AreArrivals (g.G.Graph.leads c.loop-begin.graph) ns found begin (length found) all)
-    c.deref-in-loop-begin.ensures.value c.as_slice.ensures.keys c.in_ok-lead_on.ensures.ok in
-    let are = leads_same (g.G.Graph.leads c.loop-begin.graph) Leads was.1 nodes old.found begin (length old.found) all led in
+    c.deref-in-loop-begin.ensures.value c.deref-in-loop-begin-2.ensures.value c.in_ok-lead_on.ensures.ok in
+    let are = leads_same (g.G.Graph.leads c.loop-begin.graph) Leads was.stays nodes old.found begin (length old.found) all led in
     let follows = subst₂ (λ (ns : List ℕ) (arrivals : List Arrival). Follows ns old new arrivals)
-    c.deref-in-loop-begin-2.ensures.value c.deref-in-loop-begin-3.ensures.value c.in_ok-follow-2.ensures in
-    let more = searching_more Leads nodes starts c.requires.ascend old new levels begin all least was.0 are c.keep_least-in-loop-begin.ensures follows in
-    let end : length old.found ≡ c.len-end.result = sym c.len-end.ensures.len in
+    c.deref-in-loop-begin-3.ensures.value c.deref-in-loop-begin-4.ensures.value c.in_ok-follow-2.ensures.follows in
+    let more = searching_more Leads nodes starts c.requires.ascend old new levels begin all least was.searching are c.keep_least-in-loop-begin.ensures follows in
+    let end : length old.found ≡ c.len-end.result = let e = c.len-end.ensures in omega arith in
     let pushed : levels ++ length old.found ∷ [] ≡ c.push.new.self.items =
     ap (λ (n : ℕ). levels ++ n ∷ []) end ∙ sym c.in_ok-push.ensures.items in
-    let stays = c.in_ok-lead_on.ensures.stays in (
-      subst₂ (IsSearching Leads nodes starts new) pushed end more,
-      λ node to. (λ leads. (was.1 node to).0 ((stays node to).0 leads), λ leads. (stays node to).1 ((was.1 node to).1 leads)),
-      c.in_ok-lead_on.ensures.stands,
-    )
+    let stays = c.in_ok-lead_on.ensures.stays in record {
+      searching = subst₂ (IsSearching Leads nodes starts new) pushed end more;
+      stays = λ node to. (λ leads. (was.stays node to).0 ((stays node to).0 leads), λ leads. (stays node to).1 ((was.stays node to).1 leads));
+      stands = c.in_ok-lead_on.ensures.stands;
+      noted = c.in_ok-follow-2.ensures.noted;
+      as_many = c.in_ok-follow-2.ensures.as_many ∙ ap (length {A = ℕ}) c.deref-in-loop-begin-3.ensures.value;
+    }
 
 pub returns : goal.returns
 returns g c =
@@ -73,9 +76,8 @@ returns g c =
     let starts = c.args.starts.now in
     let order : Order = order_of c.loop-begin.trail in
     let levels = c.loop-begin.levels.items in
-    let was = c.loop-begin.invariant.0 in
+    let was = c.loop-begin.invariant.searching in
     let test = c.loop-begin-test.false in
-    let one = c.len.ensures.len in
     let within = was.searched.within in
     let end : c.loop-begin.begin ≡ length order.found = omega arith in
     let P : ℕ → Type 0 = λ begin. IsSearched (StartsIn nodes starts) (StepsIn Leads nodes) (places_of nodes order levels) begin

@@ -8,7 +8,7 @@ unfolding place_of
 returns-in_err-number-clause-place c =
     let whole = c.args.self.now.whole in
     let search = rw (c.deref.ensures.value) at c.binary_search.ensures.position in
-    c.from_residual.ensures ∙ sym (no_place c.args.self.now.nodes.items c.args.self.now.found.keys c.args.node whole.ascend whole.numbers
+    c.from_residual.ensures ∙ sym (no_place c.args.self.now.nodes.items c.args.self.now.found.items c.args.node whole.ascend whole.numbers
     c.binary_search.result search c.in_err-number.ensures.value)
 
 pub returns-clause-place : goal.returns-clause-place
@@ -16,5 +16,5 @@ unfolding place_of
 returns-clause-place c =
     let whole = c.args.self.now.whole in
     let search = rw (c.deref.ensures.value) at c.binary_search.ensures.position in
-    c.get_index_of.ensures.index ∙ same_place c.args.self.now.nodes.items c.args.self.now.found.keys c.args.node whole.ascend whole.numbers
+    c.place_of_number.ensures.place ∙ same_place c.args.self.now.nodes.items c.args.self.now.found.items c.args.node whole.ascend whole.numbers
     c.binary_search.result c.in_ok-number.number search c.in_ok-number.ensures.value

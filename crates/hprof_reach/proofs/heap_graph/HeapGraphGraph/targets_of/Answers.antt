@@ -1,0 +1,11 @@
+use Rattle.std.proofs.Common.{[], ap, ◌∙◌}
+use Rattle.hprof_finding.specs.HeapFacts.{facts_of, size_of}
+use Rattle.hprof_reach.proofs.TargetLists.{led_to}
+use Rattle.hprof_reach.proofs.heap_graph.HeapGraphGraph.targets_of.Goals as goal
+
+pub returns-clause-ok : goal.returns-clause-ok
+returns-clause-ok c =
+    let graph = c.args.self.now in
+    let put = c.in_ok-known_edges.ensures.holds [] c.requires c.clear.ensures.items in
+    led_to (size_of graph.heap.now) (facts_of graph.heap.now) c.args.from put.more c.swap.new.y.items
+    (ap (λ (list : _). list.items) c.swap.ensures.y_after ∙ put.holds_more) put.exact
