@@ -1,14 +1,11 @@
 -- Of each number that was found its place is noted.
-use Rattle.std.proofs.Common.{◌≡◌, ℕ, ◌+◌, ◌<◌, ◌≤◌, ◌==◌, Bool, true, false, List, [], ◌∷◌, ◌++◌, length, slice_index, set, nat_eq, nat_lt, cond, position, Some, None, inl, inr, refl, sym, ap, ◌∙◌, arith, eqb-true, eq-eqb, ne_eqb}
+use Rattle.std.proofs.Common.{◌≡◌, ℕ, ◌<◌, ◌≤◌, ◌==◌, Bool, true, false, List, length, slice_index, nat_eq, nat_lt, cond, position, Some, None, refl, sym, ap, ◌∙◌, arith, eqb-true, eq-eqb, ne_eqb}
 use Rattle.std.specs.List.{list_any}
 use Rattle.std.proofs.lemmas.Cmp.{nat_eq_equiv}
-use Rattle.std.proofs.lemmas.List.{get_or-set_same, get_or-set_other}
 use Rattle.std.proofs.lemmas.List.Sums.{position_or_len_is}
 use Rattle.std.proofs.lemmas.Map.Views.{list_any-from_Contains, Contains-from_any}
 use Rattle.hprof_walks.specs.Kept.{NotesPlaces}
 use Rattle.hprof_walks.proofs.Ascending.{number_of, has_number}
-use Rattle.hprof_walks.proofs.FollowedArrivals.{push_keeps, push_last, push_long}
-use Rattle.hprof_walks.proofs.NextLevel.{splits}
 use Rattle.hprof_walks.proofs.Numbers.{no_position}
 
 module _ (found places : List ℕ) (noted : NotesPlaces found places) (number : ℕ) where
@@ -57,22 +54,3 @@ module _ (found places : List ℕ) (noted : NotesPlaces found places) (number : 
       → position (nat_eq number) found ≡ None
   no_place other = no_position (nat_eq number) found (λ place below.
       ne_eqb number (slice_index found place) (λ same. nowhere other place below (sym same)))
-
-  -- one that was not found is put behind the others, and its place noted
-  pub noted_more : (more : List ℕ) → number < length places → list_any (nat_eq number) found ≡ false → more ≡ found ++ number ∷ []
-      → NotesPlaces more (set places number (length found))
-  noted_more more within absent pushed place below =
-      let long = push_long found more number pushed in
-      elim (splits place (length found)) [
-        | inl before ↦
-            let same = push_keeps found more number pushed place before in
-            let other : slice_index found place ≡ number → ⊥ = λ is.
-            let there = list_any-from_Contains nat_eq_equiv number found (has_number found number place before is) in
-            absurd (cc) in
-            ap (slice_index (set places number (length found))) same
-            ∙ get_or-set_other places number (slice_index found place) (length found) 0 other ∙ noted place before
-        | inr last ↦
-            let end : place ≡ length found = omega arith in
-            let same = push_last found more number pushed place end in
-            ap (slice_index (set places number (length found))) same ∙ get_or-set_same places number (length found) 0 within ∙ sym end
-      ]

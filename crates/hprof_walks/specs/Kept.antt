@@ -11,7 +11,7 @@ node_in nodes found place = slice_index nodes (slice_index found place)
 abbrev pub level_in : List ℕ → ℕ → ℕ
 level_in levels place = count_by (λ begin. nat_le begin place) levels
 
--- of the number of each node that was found its place is noted
+-- of the number of each node that was found its place is noted; of other numbers, any
 abbrev pub NotesPlaces : List ℕ → List ℕ → Type 0
 NotesPlaces found places = (place : ℕ) → place < length found → slice_index places (slice_index found place) ≡ place
 

@@ -11,7 +11,7 @@ use crate::galloping::gallop;
 use crate::trail::Trail;
 use std::alloc::AllocError;
 
-/// Whether a node, by its number, was found.
+/// Whether a node, by its number, was found: then it stands at the place that is noted of it.
 fn was_found(trail: &Trail, number: usize) -> bool
     requires within { number < length trail.now.places.items }
     requires noted { NotesPlaces trail.now.found.items trail.now.places.items }

@@ -11,7 +11,7 @@ pub struct Search {
     pub(crate) found: Vec<usize>,
     /// Of each of them the place in this order of the node that it was found from; of a start, any.
     pub(crate) before: Vec<usize>,
-    /// Of each number the place in this order where its node was found; of one that was not, any where another stands.
+    /// Of each number the place in this order where its node was found; of one that was not, any.
     pub(crate) places: Vec<usize>,
     /// Where in this order each level begins, but for the first; the last one is empty.
     pub(crate) levels: Vec<usize>,

@@ -11,7 +11,7 @@ pub(crate) struct Trail {
     pub(crate) found: Vec<usize>,
     /// The place in this order of the node that each was found from; of a start, any.
     pub(crate) before: Vec<usize>,
-    /// Of each number the place in this order where its node was found; of one that was not, any where another stands.
+    /// Of each number the place in this order where its node was found; of one that was not, any.
     pub(crate) places: Vec<usize>,
 }
 

@@ -1,4 +1,4 @@
-use Rattle.std.proofs.Common.{◌≡◌, ◌<◌, ◌≤◌, ◌∙◌, Bool, false, nat_lt, length, slice_index, sym, ap, arith}
+use Rattle.std.proofs.Common.{◌≡◌, ◌<◌, ◌≤◌, ◌∙◌, false, nat_lt, length, slice_index, sym, arith}
 use Rattle.std.proofs.lemmas.Grind.{get_or_default_zero}
 use Rattle.hprof_walks.proofs.Noting.{found_by, not_found_by}
 use Rattle.hprof_walks.proofs.following.was_found.Goals as goal
