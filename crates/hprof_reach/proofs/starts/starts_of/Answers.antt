@@ -11,8 +11,8 @@ use Rattle.hprof_reach.proofs.TableNodes.{GivesRoot, IsGiven, gives_no_root, giv
 use Rattle.hprof_reach.proofs.TableNodes.{no_root, one_more, rooted, same_given}
 use Rattle.hprof_reach.proofs.starts.starts_of.Goals as goal
 
-pub loop-fact-preserved-in-Continue-1 : goal.loop-fact-preserved-in-Continue-1
-loop-fact-preserved-in-Continue-1 c =
+pub loop-fact-preserved-in-Continue-branch-2 : goal.loop-fact-preserved-in-Continue-branch-2
+loop-fact-preserved-in-Continue-branch-2 c =
     let fact = value_of c.in-Some.fact in
     let before = c.loop-fact.starts.items in
     gone_over_one GivesRoot [] before c.push.new.self.items (facts_of_table tables.Roots (facts_of c.args.heap.now))
