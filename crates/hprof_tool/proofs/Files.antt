@@ -1,6 +1,8 @@
 -- What is made of files.
-use Rattle.std.proofs.Common.{◌≡◌, ℕ, List, [], ◌∷◌, length, Option, Some, Result, Ok, Err, sym, ap, subst, ◌∙◌}
-use Rattle.std.specs.Prelude.{IfErr, IsErrAnd}
+use Rattle.std.proofs.Common.{◌≡◌, ℕ, zero, suc, List, [], ◌∷◌, ◌++◌, ◌+◌, ◌<◌, length, get_or, take, add-one, Option, Some, Result, Ok, Err, sym, ap, subst, ◌∙◌}
+use Rattle.std.specs.Prelude.{IfErr, IsErrAnd, slice_get}
+use Rattle.std.specs.Borrow.{Bor}
+use Rattle.std.proofs.lemmas.Option.{slice_get-get_or}
 use Rattle.hprof_devices.specs.declared.device.Device.{Device}
 use Rattle.hprof_devices.specs.Device.{inner_of}
 use Rattle.hprof_tool.specs.declared.program.refused.Refused.{Refused}
@@ -9,47 +11,91 @@ use Rattle.hprof_engine.specs.declared.tool_fault.ToolFault.{ToolFault}
 use Rattle.hprof_engine.specs.declared.tool_fault.ToolFault.TheVariants as tool
 use Rattle.hprof_engine.specs.Joining.{Tell}
 use Rattle.hprof_engine.specs.Makes.{Making}
+use Rattle.hprof_tool.specs.Folder.{Answered, AreOpened, CannotOpenAt}
 use Rattle.hprof_tool.specs.Program.{IsRefusal, IsFilesRefusal}
-use Rattle.hprof_tool.specs.Program.{IsReportRefusal, IsOfOpening, refused_of}
+use Rattle.hprof_tool.specs.Program.{IsReportRefusal, IsOfOpening, IsOfMaking}
+
+-- one more file is opened
+pub opened_more : {F : Type 0} (answered : Answered F) (names : List (Bor (List ℕ))) (index : ℕ) (name : Bor (List ℕ))
+    (parts : List (Device F)) (part : Device F) → slice_get names index ≡ Some name → AreOpened answered (take index names) parts
+    → answered.IsOpened name.now (inner_of part) → AreOpened answered (take (suc index) names) (parts ++ part ∷ [])
+opened_more answered [] index name parts part at opened is = absurd cc
+opened_more answered (first ∷ names) zero name [] part at opened is =
+    let same : first ≡ name = cc in (subst (λ (n : Bor (List ℕ)). answered.IsOpened n.now (inner_of part)) (sym same) is, tt)
+opened_more answered (first ∷ names) zero name (other ∷ parts) part at opened is = absurd opened
+opened_more answered (first ∷ names) (suc index) name [] part at opened is = absurd opened
+opened_more answered (first ∷ names) (suc index) name (other ∷ parts) part at opened is =
+    (opened.0, opened_more answered names index name parts part at opened.1 is)
+
+-- the same, of the name that stands at that place
+pub opened_at : {F : Type 0} (answered : Answered F) (names : List (Bor (List ℕ))) (index : ℕ) (default : Bor (List ℕ))
+    (parts : List (Device F)) (part : Device F) (file : F) → index < length names → answered.IsOpened (get_or names index default).now file
+    → inner_of part ≡ file → AreOpened answered (take index names) parts → AreOpened answered (take (index + 1) names) (parts ++ part ∷ [])
+opened_at {F} answered names index default parts part file within is inner opened =
+    subst (λ (n : ℕ). AreOpened answered (take n names) (parts ++ part ∷ [])) (sym (add-one index))
+    (opened_more answered names index (get_or names index default) parts part (slice_get-get_or names index default within) opened
+    (subst (λ (f : F). answered.IsOpened (get_or names index default).now f) (sym inner) is))
+
+-- the file of the name that stands at that place could not be opened
+pub cannot_open : {F : Type 0} (answered : Answered F) (names : List (Bor (List ℕ))) (index : ℕ) (default : Bor (List ℕ))
+    (parts : List (Device F)) → index < length names → answered.CannotOpen (get_or names index default).now
+    → AreOpened answered (take index names) parts → CannotOpenAt answered names index
+cannot_open answered names index default parts within fails opened = record {
+  name = get_or names index default;
+  at = slice_get-get_or names index default within;
+  fails = fails;
+  before = parts;
+  opened = opened;
+}
 
 -- opening answers no refusal of the engine
-pub not_of_engine : (count : ℕ) (refused : Refused) (fault : ToolFault) → IsOfOpening count refused → refused ≡ refusals.Engine fault → ⊥
-not_of_engine count (refusals.Engine known) fault is same = is
-not_of_engine count (refusals.Open index) fault is same = cc
-not_of_engine count refusals.Create fault is same = cc
-not_of_engine count refusals.OutOfMemory fault is same = cc
+pub not_of_engine : {F : Type 0} (answered : Answered F) (names : List (Bor (List ℕ))) (refused : Refused) (fault : ToolFault)
+    → IsOfOpening answered names refused → refused ≡ refusals.Engine fault → ⊥
+not_of_engine answered names (refusals.Engine known) fault is same = is
+not_of_engine answered names (refusals.Open index) fault is same = cc
+not_of_engine answered names refusals.Create fault is same = cc
+not_of_engine answered names refusals.OutOfMemory fault is same = cc
 
-module _ {F : Type 0} (making : Making) (remaining : F → Option (List ℕ)) (count : ℕ) where
-  -- a refusal to open is one of these refusals, and not one of the engine
-  pub of_opening : (refused : Refused) → IsOfOpening count refused → IsFilesRefusal making remaining count refused
-  of_opening (refusals.Engine fault) is = absurd is
-  of_opening (refusals.Open index) is = is
-  of_opening refusals.Create is = tt
-  of_opening refusals.OutOfMemory is = tt
+module _ {F : Type 0} (making : Making) (answered : Answered F) (remaining : F → Option (List ℕ)) (names : List (Bor (List ℕ))) where
+  -- a refusal to open is one to report
+  pub opening_reports : (refused : Refused) → IsOfOpening answered names refused → IsReportRefusal making answered remaining names refused
+  opening_reports (refusals.Engine fault) is = absurd is
+  opening_reports (refusals.Open index) is = is
+  opening_reports refusals.Create is = absurd is
+  opening_reports refusals.OutOfMemory is = tt
 
-  -- a refusal to make something of the files that were opened is one of these refusals
-  module _ (parts : List (Device F)) (opened : length parts ≡ count) where
-    abbrev Says : ToolFault → Type 0
-    Says fault = (told : List (List ℕ)) → Tell (λ part. remaining (inner_of part)) parts told → IsRefusal making (refused_of fault) told
+  -- and one to make something in a file
+  pub of_opening : (out : List ℕ) (refused : Refused) → IsOfOpening answered names refused
+      → IsFilesRefusal making answered remaining names out refused
+  of_opening out (refusals.Engine fault) is = absurd is
+  of_opening out (refusals.Open index) is = is
+  of_opening out refusals.Create is = absurd is
+  of_opening out refusals.OutOfMemory is = tt
 
-    pub of_making : (fault : ToolFault) → Says fault → IsFilesRefusal making remaining count (refused_of fault)
-    of_making (tool.Part index fault) says = record { parts = parts; opened = opened; holds = says }
-    of_making tool.NoParts says = record { parts = parts; opened = opened; holds = says }
-    of_making tool.IdSizes says = record { parts = parts; opened = opened; holds = says }
-    of_making (tool.Conflict key) says = record { parts = parts; opened = opened; holds = says }
-    of_making tool.DumpTooLong says = record { parts = parts; opened = opened; holds = says }
-    of_making (tool.Write fault) says = record { parts = parts; opened = opened; holds = says }
-    of_making tool.OutOfMemory says = tt
+  -- a refusal to make something of the files that were opened is one to report
+  module _ (parts : List (Device F)) (opened : AreOpened answered names parts) where
+    abbrev Says : Refused → Type 0
+    Says refused = (told : List (List ℕ)) → Tell (λ part. remaining (inner_of part)) parts told → IsRefusal making refused told
 
-    -- and to report on them
-    pub of_reporting : (fault : ToolFault) → Says fault → IsReportRefusal making remaining count (refused_of fault)
-    of_reporting (tool.Part index fault) says = record { parts = parts; opened = opened; holds = says }
-    of_reporting tool.NoParts says = record { parts = parts; opened = opened; holds = says }
-    of_reporting tool.IdSizes says = record { parts = parts; opened = opened; holds = says }
-    of_reporting (tool.Conflict key) says = record { parts = parts; opened = opened; holds = says }
-    of_reporting tool.DumpTooLong says = record { parts = parts; opened = opened; holds = says }
-    of_reporting (tool.Write fault) says = record { parts = parts; opened = opened; holds = says }
-    of_reporting tool.OutOfMemory says = tt
+    pub of_reporting : (refused : Refused) → IsOfMaking refused → Says refused → IsReportRefusal making answered remaining names refused
+    of_reporting (refusals.Engine (tool.Part index fault)) kind says = record { parts = parts; opened = opened; holds = says }
+    of_reporting (refusals.Engine tool.NoParts) kind says = record { parts = parts; opened = opened; holds = says }
+    of_reporting (refusals.Engine tool.IdSizes) kind says = record { parts = parts; opened = opened; holds = says }
+    of_reporting (refusals.Engine (tool.Conflict key)) kind says = record { parts = parts; opened = opened; holds = says }
+    of_reporting (refusals.Engine tool.DumpTooLong) kind says = record { parts = parts; opened = opened; holds = says }
+    of_reporting (refusals.Engine (tool.Write fault)) kind says = record { parts = parts; opened = opened; holds = says }
+    of_reporting (refusals.Engine tool.OutOfMemory) kind says = absurd kind
+    of_reporting (refusals.Open index) kind says = absurd kind
+    of_reporting refusals.Create kind says = absurd kind
+    of_reporting refusals.OutOfMemory kind says = tt
+
+    -- and where the new file was removed, one to make something in it
+    pub of_making : (out : List ℕ) (refused : Refused) → IsOfMaking refused → Says refused → answered.IsRemoved out
+        → IsFilesRefusal making answered remaining names out refused
+    of_making out (refusals.Engine fault) kind says removed = (of_reporting (refusals.Engine fault) kind says, removed)
+    of_making out (refusals.Open index) kind says removed = absurd kind
+    of_making out refusals.Create kind says removed = absurd kind
+    of_making out refusals.OutOfMemory kind says removed = tt
 
 -- a stream that is the only part tells it
 pub one_told : {F : Type 0} (remaining : F → Option (List ℕ)) (parts : List (Device F)) (device : Device F) (input : F) (part : List ℕ)

@@ -2,3 +2,5 @@ pub mod Ends
 pub mod Making
 pub mod Files
 pub mod Saving
+pub mod Streams
+pub mod Telling

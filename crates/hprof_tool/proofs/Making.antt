@@ -19,9 +19,9 @@ use Rattle.hprof_rows.specs.HeapValue.{HeapValue}
 use Rattle.hprof_heap.specs.Gathering.{Given}
 use Rattle.hprof_engine.specs.declared.tool_fault.ToolFault.{ToolFault}
 use Rattle.hprof_engine.specs.declared.tool_fault.ToolFault.TheVariants as tool
-use Rattle.hprof_engine.specs.Joining.{Tell, IsPartFault, RefusesPart, fault_of}
+use Rattle.hprof_engine.specs.Joining.{Tell, IsPartFault, RefusesPart, IsBeforeWriting, fault_of}
 use Rattle.hprof_engine.specs.Makes.{Making, Makes, making_of}
-use Rattle.hprof_tool.specs.Program.{IsPartRefusal, IsFirstAnswer, IsRefusal, MakesStream, usual_limits, refused_of, with_buffer}
+use Rattle.hprof_tool.specs.Program.{IsPartRefusal, IsFirstAnswer, IsRefusal, MakesStream, usual_limits, refused_of}
 
 -- no reader tells no part
 no_parts_told : {R : Type 0} (left : R → Option (List ℕ)) (readers : List R) (parts : List (List ℕ)) → readers ≡ []
@@ -82,7 +82,7 @@ module _ {R : Type 0} (left : R → Option (List ℕ)) (health : R → Health) (
   module _ {W : Type 0} (written : W → Option (List ℕ)) (well : W → Health) (IsText : List PartSummary → HeapValue → List ℕ → Type 0)
       (TooLong : HeapValue → Type 0) (TakesRoom : ℕ → Type 0) (TakesMemory : Type 0) (before after : W) where
     pub refusal : (fault : ToolFault)
-        → Makes left health pulls written well usual_limits (with_buffer (making_of IsText TooLong TakesRoom TakesMemory)) old new before after
+        → Makes left health pulls written well usual_limits (making_of IsText TooLong TakesRoom TakesMemory) old new before after
         (Some fault) → (parts : List (List ℕ)) → Tell left old parts → IsRefusal (making_of IsText TooLong TakesRoom TakesMemory) (refused_of fault) parts
     refusal (tool.Part index fault) m parts told = part_refusal left health pulls parts old new index fault
         (m.reads.part index fault refl parts told)
@@ -98,7 +98,7 @@ module _ {R : Type 0} (left : R → Option (List ℕ)) (health : R → Health) (
   pub refused_by : (IsText : List PartSummary → HeapValue → List ℕ → Type 0) (TooLong : HeapValue → Type 0) (TakesRoom : ℕ → Type 0) (TakesMemory : Type 0)
       (held holds : Option (List ℕ)) (end : Health) (fault : ToolFault)
       → Makes {W = Option (List ℕ) × Health} left health pulls (λ s. s.0) (λ s. s.1) usual_limits
-      (with_buffer (making_of IsText TooLong TakesRoom TakesMemory)) old new (held, healths.Well) (holds, end) (Some fault)
+      (making_of IsText TooLong TakesRoom TakesMemory) old new (held, healths.Well) (holds, end) (Some fault)
       → (parts : List (List ℕ)) → Tell left old parts → IsRefusal (making_of IsText TooLong TakesRoom TakesMemory) (refused_of fault) parts
   refused_by IsText TooLong TakesRoom TakesMemory held holds end fault m parts told =
       refusal {W = Option (List ℕ) × Health} (λ s. s.0) (λ s. s.1) IsText TooLong TakesRoom TakesMemory (held, healths.Well) (holds, end)
@@ -213,49 +213,27 @@ module _ {R : Type 0} (left : R → Option (List ℕ)) (health : R → Health) (
               making old new (held, was) (h, it.0) (fault_of outcome)) at_last it.1)),
         )
 
-  -- ---- room for the buffer
-
-  module _ (making : Making) (held holds : Option (List ℕ)) where
-    pub buffered : (ended : Option ToolFault) → MakesStream left health pulls making old new held holds ended
-        → MakesStream left health pulls (with_buffer making) old new held holds ended
-    buffered ended m = (
-      m.0,
-      record {
-        reads = m.1.reads;
-        ok = m.1.ok;
-        unwritten = m.1.unwritten;
-        too_long = m.1.too_long;
-        write = m.1.write;
-        memory = λ e. elim (m.1.memory e) [ inl none ↦ inl (tt, none.1, none.2) | inr all ↦ inr all ];
-        no_other = m.1.no_other;
-      },
-    )
-
--- there was no room for the buffer
-pub no_room : {R : Type 0} (left : R → Option (List ℕ)) (health : R → Health) (pulls : R → ℕ) (making : Making) (readers : List R)
-    (held : Option (List ℕ)) → MakesStream left health pulls (with_buffer making) readers readers held held (Some tool.OutOfMemory)
-no_room left health pulls making readers held = (
-  healths.Well,
-  record {
-    reads = record {
-      no_parts = λ had. absurd (had refl);
-      id_sizes = λ e. absurd cc;
-      conflict = λ key e. absurd cc;
-      part = λ index why e. absurd cc;
-      accepted = λ all. absurd all;
-      read_out = λ k below. absurd (omega (arith, below));
-    };
-    ok = λ e. absurd cc;
-    unwritten = λ none. absurd none;
-    too_long = λ e. absurd cc;
-    write = λ fault e. absurd cc;
-    memory = λ e. inl (tt, refl, refl);
-    no_other = λ parts ids millis facts told state are_well is_well unhindered. absurd (unhindered tt);
-  },
-)
+  -- the same stream, told by what is equal
+  pub same_stream : (making : Making) (held held' holds holds' : Option (List ℕ)) (ended ended' : Option ToolFault) → held ≡ held'
+      → holds ≡ holds' → ended ≡ ended' → MakesStream left health pulls making old new held holds ended
+      → MakesStream left health pulls making old new held' holds' ended'
+  same_stream making held held' holds holds' ended ended' first last end m =
+      subst (λ (h : Option (List ℕ)). MakesStream left health pulls making old new h holds' ended') first
+      (subst (λ (h : Option (List ℕ)). MakesStream left health pulls making old new held h ended') last
+      (subst (λ (e : Option ToolFault). MakesStream left health pulls making old new held holds e) end m))
 
 -- after a refusal the buffered writer holds what it held
 pub unchanged : {W : Type 0} (contents : W → Option (List ℕ)) (made : Result (Unit {0}) ToolFault) (now was : W) → OnErr made (now ≡ was)
     → OnErr made (contents now ≡ contents was)
 unchanged contents (Ok done) now was same = tt
 unchanged contents (Err fault) now was same = ap contents same
+
+-- after a refusal before writing it is the very writer that it was
+pub untouched : {A : Type 0} (first was now : A) (made outcome : Result (Unit {0}) ToolFault)
+    → OnOk made (OnErr outcome (outcome ≡ Err (tool.Write write_faults.Failed))) → IfErr made (λ fault. outcome ≡ Err fault)
+    → OnErr made (now ≡ was) → (IsBeforeWriting (fault_of made) → was ≡ first) → IsBeforeWriting (fault_of outcome) → now ≡ first
+untouched first was now (Ok u) (Ok done) failed refused same before none = absurd none
+untouched first was now (Ok u) (Err fault) failed refused same before none =
+    let one : fault ≡ tool.Write write_faults.Failed = cc in absurd (subst (λ (f : ToolFault). IsBeforeWriting (Some f)) one none)
+untouched first was now (Err fault) outcome failed refused same before none =
+    same ∙ before (subst (λ (o : Result (Unit {0}) ToolFault). IsBeforeWriting (fault_of o)) refused none)

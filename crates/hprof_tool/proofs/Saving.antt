@@ -1,6 +1,7 @@
 -- What saving what can be saved of parts tells, into a stream and of files.
 use Rattle.std.proofs.Common.{◌≡◌, ℕ, List, length, Option, Result, Ok, Err, refl, sym, ap, subst}
 use Rattle.std.specs.Prelude.{IfOk, IfErr, OnOk, OnErr}
+use Rattle.std.specs.Borrow.{Bor}
 use Rattle.std.specs.Io.KnownBytes.{Appends, Keeps}
 use Rattle.std.proofs.KnownBytes.{Appends-kept}
 use Rattle.std.proofs.Math.Seq.{take-length}
@@ -15,6 +16,7 @@ use Rattle.hprof_engine.specs.declared.tool_fault.ToolFault.{ToolFault}
 use Rattle.hprof_engine.specs.declared.tool_fault.ToolFault.TheVariants as tool
 use Rattle.hprof_salvage.specs.declared.salvaged.Salvaged.{Salvaged}
 use Rattle.hprof_salvage.specs.Salvaging.{RefusesAll, Salvages}
+use Rattle.hprof_tool.specs.Folder.{Answered, AreOpened}
 use Rattle.hprof_tool.specs.declared.program.refused.Refused.{Refused}
 use Rattle.hprof_tool.specs.declared.program.refused.Refused.TheVariants as refusals
 use Rattle.hprof_tool.specs.Program.{usual_limits, refused_of, IsOfOpening}
@@ -152,29 +154,29 @@ unchanged_saving contents (Err fault) now was same = ap contents same
 
 -- ---- files
 
-module _ {F : Type 0} (remaining : F → Option (List ℕ)) (count : ℕ) where
+module _ {F : Type 0} (answered : Answered F) (remaining : F → Option (List ℕ)) (names : List (Bor (List ℕ))) (out : List ℕ) where
   -- a refusal to open is one of these refusals
-  pub opening_saves : (refused : Refused) → IsOfOpening count refused → IsSalvageRefusal remaining count refused
+  pub opening_saves : (refused : Refused) → IsOfOpening answered names refused → IsSalvageRefusal answered remaining names out refused
   opening_saves (refusals.Engine fault) is = absurd is
   opening_saves (refusals.Open index) is = is
-  opening_saves refusals.Create is = tt
+  opening_saves refusals.Create is = absurd is
   opening_saves refusals.OutOfMemory is = tt
 
-  module _ (old new : List (Device F)) (opened : length old ≡ count) (held holds : Option (List ℕ)) where
+  module _ (old new : List (Device F)) (opened : AreOpened answered names old) (held holds : Option (List ℕ)) where
     -- what saving what can be saved of the files that were opened came to
     pub files_saved : (ended : Result Salvaged ToolFault)
         → SalvagesStream (λ part. remaining (inner_of part)) health_of pulls_of old new held holds ended
-        → SalvagesFiles remaining count held holds ended
+        → SalvagesFiles answered remaining names held holds ended
     files_saved ended saves = record { old = old; new = new; opened = opened; salvages = saves }
 
-    -- so does a refusal of the engine
+    -- so does a refusal of the engine, where the new file was removed
     pub engine_saves : (fault : ToolFault)
         → SalvagesBuffered (λ part. remaining (inner_of part)) health_of pulls_of old new held holds (Err fault)
-        → IsSalvageRefusal remaining count (refused_of fault)
-    engine_saves (tool.Part index fault) saves = (held, holds, files_saved (Err (tool.Part index fault)) saves)
-    engine_saves tool.NoParts saves = (held, holds, files_saved (Err tool.NoParts) saves)
-    engine_saves tool.IdSizes saves = (held, holds, files_saved (Err tool.IdSizes) saves)
-    engine_saves (tool.Conflict key) saves = (held, holds, files_saved (Err (tool.Conflict key)) saves)
-    engine_saves tool.DumpTooLong saves = (held, holds, files_saved (Err tool.DumpTooLong) saves)
-    engine_saves (tool.Write fault) saves = (held, holds, files_saved (Err (tool.Write fault)) saves)
-    engine_saves tool.OutOfMemory saves = tt
+        → answered.IsRemoved out → IsSalvageRefusal answered remaining names out (refused_of fault)
+    engine_saves (tool.Part index fault) saves removed = (held, holds, files_saved (Err (tool.Part index fault)) saves, removed)
+    engine_saves tool.NoParts saves removed = (held, holds, files_saved (Err tool.NoParts) saves, removed)
+    engine_saves tool.IdSizes saves removed = (held, holds, files_saved (Err tool.IdSizes) saves, removed)
+    engine_saves (tool.Conflict key) saves removed = (held, holds, files_saved (Err (tool.Conflict key)) saves, removed)
+    engine_saves tool.DumpTooLong saves removed = (held, holds, files_saved (Err tool.DumpTooLong) saves, removed)
+    engine_saves (tool.Write fault) saves removed = (held, holds, files_saved (Err (tool.Write fault)) saves, removed)
+    engine_saves tool.OutOfMemory saves removed = tt

@@ -1,5 +1,6 @@
 -- What the program's calls come to.
-use Rattle.std.specs.Prelude.{◌≡◌, ◌≢◌, ℕ, ◌<◌, List, [], ◌∷◌, ◌++◌, length, Option, Some, ⊤, codes, decimal}
+use Rattle.std.specs.Prelude.{◌≡◌, ◌≢◌, ℕ, List, [], ◌∷◌, ◌++◌, length, Option, Some, ⊤, codes, decimal}
+use Rattle.std.specs.Borrow.{Bor}
 use Rattle.std.specs.List.{AllByRecursion}
 use Rattle.clap.specs.declared.error.ErrorKind.{ErrorKind}
 use Rattle.clap.specs.declared.error.ErrorKind.TheVariants as kinds
@@ -13,6 +14,7 @@ use Rattle.hprof_rows.specs.HeapValue.{HeapValue}
 use Rattle.hprof_heap.specs.State.{HaveTwoSizes}
 use Rattle.hprof_engine.specs.declared.tool_fault.ToolFault.{ToolFault}
 use Rattle.hprof_engine.specs.declared.tool_fault.ToolFault.TheVariants as tool
+use Rattle.hprof_tool.specs.Folder.{Answered, AreOpened, CannotOpenAt}
 use Rattle.hprof_tool.specs.declared.program.refused.Refused.{Refused}
 use Rattle.hprof_tool.specs.declared.program.refused.Refused.TheVariants as refusals
 use Rattle.hprof_tool.specs.declared.status.Status.{Status}
@@ -59,11 +61,12 @@ IsRefusal making (refusals.Open index) parts = ⊥
 IsRefusal making refusals.Create parts = ⊥
 IsRefusal making refusals.OutOfMemory parts = ⊤
 
--- as many files were opened as parts, and this holds of what they tell
---   remaining: what a file has left to tell
-pub record OfParts {F : Type 0} (remaining : F → Option (List ℕ)) (count : ℕ) (Holds : List (List ℕ) → Type 0) : Type 0 where
+-- the files of these names were opened, and this holds of what they tell
+--   answered: what came of the names;  remaining: what a file has left to tell
+pub record OfParts {F : Type 0} (answered : Answered F) (remaining : F → Option (List ℕ)) (names : List (Bor (List ℕ)))
+    (Holds : List (List ℕ) → Type 0) : Type 0 where
   pub parts : List (Device F)
-  pub opened : length parts ≡ count
+  pub opened : AreOpened answered names parts
   pub holds : (told : List (List ℕ)) → Tell (λ part. remaining (inner_of part)) parts told → Holds told
 
 -- what is made of the part that a stream gave, where it told one, was written to another
@@ -74,29 +77,33 @@ abbrev pub IsMadeOfStream : {I O : Type 0} → (IsMade : List (List ℕ) → Lis
 IsMadeOfStream IsMade remaining contents input old new =
     (part : List ℕ) → remaining input ≡ Some part → WritesAll IsMade (part ∷ []) (contents old) (contents new)
 
--- what is made of so many files was written to a stream
-abbrev pub IsMadeOfFiles : {F O : Type 0} → (IsMade : List (List ℕ) → List ℕ → Type 0) → (F → Option (List ℕ)) → (O → Option (List ℕ)) → ℕ
-    → O → O → Type 0
-IsMadeOfFiles IsMade remaining contents count old new =
-    OfParts remaining count (λ parts. WritesAll IsMade parts (contents old) (contents new))
+-- what is made of the files of these names was written to a stream
+abbrev pub IsMadeOfFiles : {F O : Type 0} → (IsMade : List (List ℕ) → List ℕ → Type 0) → Answered F → (F → Option (List ℕ))
+    → (O → Option (List ℕ)) → List (Bor (List ℕ)) → O → O → Type 0
+IsMadeOfFiles IsMade answered remaining contents names old new =
+    OfParts answered remaining names (λ parts. WritesAll IsMade parts (contents old) (contents new))
 
--- what is made of so many files was written to one that had been created, and this it is now
-abbrev pub IsMadeInFile : {F : Type 0} → (IsMade : List (List ℕ) → List ℕ → Type 0) → (F → Option (List ℕ)) → (F → Option (List ℕ)) → ℕ
-    → F → Type 0
-IsMadeInFile {F} IsMade remaining contents count new = (old : F) × IsMadeOfFiles IsMade remaining contents count old new
+-- what is made of the files of these names was written to the one of that name, to what it held as it was created, and this it is now
+abbrev pub IsMadeInFile : {F : Type 0} → (IsMade : List (List ℕ) → List ℕ → Type 0) → Answered F → (F → Option (List ℕ))
+    → (F → Option (List ℕ)) → List (Bor (List ℕ)) → List ℕ → F → Type 0
+IsMadeInFile {F} IsMade answered remaining contents names out new =
+    (old : F) × answered.IsCreated out old × IsMadeOfFiles IsMade answered remaining contents names old new
 
--- what a refusal to make something of so many files, in a new one, says
-abbrev pub IsFilesRefusal : {F : Type 0} → Making → (F → Option (List ℕ)) → ℕ → Refused → Type 0
-IsFilesRefusal making remaining count (refusals.Engine tool.OutOfMemory) = ⊥
-IsFilesRefusal making remaining count (refusals.Engine fault) = OfParts remaining count (IsRefusal making (refusals.Engine fault))
-IsFilesRefusal making remaining count (refusals.Open index) = index < count
-IsFilesRefusal making remaining count refusals.Create = ⊤
-IsFilesRefusal making remaining count refusals.OutOfMemory = ⊤
+-- what a refusal to report on the files of these names says
+abbrev pub IsReportRefusal : {F : Type 0} → Making → Answered F → (F → Option (List ℕ)) → List (Bor (List ℕ)) → Refused → Type 0
+IsReportRefusal making answered remaining names (refusals.Engine tool.OutOfMemory) = ⊥
+IsReportRefusal making answered remaining names (refusals.Engine fault) =
+    OfParts answered remaining names (IsRefusal making (refusals.Engine fault))
+IsReportRefusal making answered remaining names (refusals.Open index) = CannotOpenAt answered names index
+IsReportRefusal making answered remaining names refusals.Create = ⊥
+IsReportRefusal making answered remaining names refusals.OutOfMemory = ⊤
 
--- what a refusal to report on so many files says
-abbrev pub IsReportRefusal : {F : Type 0} → Making → (F → Option (List ℕ)) → ℕ → Refused → Type 0
-IsReportRefusal making remaining count refusals.Create = ⊥
-IsReportRefusal making remaining count other = IsFilesRefusal making remaining count other
+-- what a refusal to make something of them, in a new file of that name, says: behind one of the engine it was tried to remove the file
+abbrev pub IsFilesRefusal : {F : Type 0} → Making → Answered F → (F → Option (List ℕ)) → List (Bor (List ℕ)) → List ℕ → Refused → Type 0
+IsFilesRefusal making answered remaining names out refusals.Create = answered.CannotCreate out
+IsFilesRefusal making answered remaining names out (refusals.Engine fault) =
+    IsReportRefusal making answered remaining names (refusals.Engine fault) × answered.IsRemoved out
+IsFilesRefusal making answered remaining names out other = IsReportRefusal making answered remaining names other
 
 -- how the program refuses what the engine refuses: want of memory is the program's own
 abbrev pub refused_of : ToolFault → Refused
@@ -117,11 +124,11 @@ IsOfMaking (refusals.Engine fault) = ⊤
 IsOfMaking refusals.OutOfMemory = ⊤
 IsOfMaking other = ⊥
 
--- one of so many files could not be opened, or there was no memory
-abbrev pub IsOfOpening : ℕ → Refused → Type 0
-IsOfOpening count (refusals.Open index) = index < count
-IsOfOpening count refusals.OutOfMemory = ⊤
-IsOfOpening count other = ⊥
+-- the first of these files that could not be opened is told, or there was no memory
+abbrev pub IsOfOpening : {F : Type 0} → Answered F → List (Bor (List ℕ)) → Refused → Type 0
+IsOfOpening answered names (refusals.Open index) = CannotOpenAt answered names index
+IsOfOpening answered names refusals.OutOfMemory = ⊤
+IsOfOpening answered names other = ⊥
 
 -- as `Makes` with the usual limits, for a stream whose health nothing tells
 --   held, holds: what the stream and the buffer before it hold, before and afterwards, where the stream tells
@@ -130,10 +137,6 @@ abbrev pub MakesStream : {R : Type 0} → (R → Option (List ℕ)) → (R → H
 MakesStream left health pulls making old new held holds ended = (end : Health)
     × Makes {W = Option (List ℕ) × Health} left health pulls (λ stream. stream.0) (λ stream. stream.1) usual_limits making old new
     (held, healths.Well) (holds, end) ended
-
--- a making whose call takes room for a buffer first
-abbrev pub with_buffer : Making → Making
-with_buffer making = record making { TakesRoom = λ parts. ⊤ }
 
 -- the status of words that ask for help, or are not understood, by the kind that clap tells
 abbrev pub IsStatusOfWords : ErrorKind → Status → Type 0

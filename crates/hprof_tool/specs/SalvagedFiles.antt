@@ -1,5 +1,6 @@
 -- What saving what can be saved of files comes to.
-use Rattle.std.specs.Prelude.{◌≡◌, ℕ, ◌<◌, List, length, Option, Result, Ok, Err, ⊤}
+use Rattle.std.specs.Prelude.{◌≡◌, ℕ, List, Option, Result, Ok, Err, ⊤}
+use Rattle.std.specs.Borrow.{Bor}
 use Rattle.hprof_devices.specs.declared.device.Device.{Device}
 use Rattle.hprof_devices.specs.Device.{inner_of, health_of, pulls_of}
 use Rattle.hprof_devices.specs.declared.health.Health.{Health}
@@ -11,6 +12,7 @@ use Rattle.hprof_salvage.specs.Salvaging.{Salvages}
 use Rattle.hprof_tool.specs.declared.program.refused.Refused.{Refused}
 use Rattle.hprof_tool.specs.declared.program.refused.Refused.TheVariants as refusals
 use Rattle.hprof_tool.specs.declared.program.salvaging.Written.{Written}
+use Rattle.hprof_tool.specs.Folder.{Answered, AreOpened, CannotOpenAt}
 use Rattle.hprof_tool.specs.Program.{usual_limits}
 
 -- as `Salvages` with the usual limits, for a stream whose health nothing tells
@@ -32,27 +34,30 @@ abbrev pub salvaged_with : {W : Type 0} → Result (Written W) ToolFault → Res
 salvaged_with (Ok written) = Ok written.salvaged
 salvaged_with (Err fault) = Err fault
 
--- so many files were opened, and saving what can be saved of them, to a stream that held this before and that afterwards, came to
--- that
---   remaining: what a file has left to tell
-pub record SalvagesFiles {F : Type 0} (remaining : F → Option (List ℕ)) (count : ℕ) (held holds : Option (List ℕ))
-    (ended : Result Salvaged ToolFault) : Type 0 where
+-- the files of these names were opened, and saving what can be saved of them, to a stream that held this before and that afterwards,
+-- came to that
+--   answered: what came of the names;  remaining: what a file has left to tell
+pub record SalvagesFiles {F : Type 0} (answered : Answered F) (remaining : F → Option (List ℕ)) (names : List (Bor (List ℕ)))
+    (held holds : Option (List ℕ)) (ended : Result Salvaged ToolFault) : Type 0 where
   pub old : List (Device F)
   pub new : List (Device F)
-  pub opened : length old ≡ count
+  pub opened : AreOpened answered names old
   pub salvages : SalvagesStream (λ part. remaining (inner_of part)) health_of pulls_of old new held holds ended
 
--- what is saved of so many files was written to one that had been created, and this it is now
+-- what is saved of the files of these names was written to the one of that name, to what it held as it was created, and this it is now
 --   contents: what a file tells that it holds
-abbrev pub IsSalvagedFile : {F : Type 0} → (remaining contents : F → Option (List ℕ)) → ℕ → Salvaged → F → Type 0
-IsSalvagedFile {F} remaining contents count salvaged new =
-    (old : F) × SalvagesFiles remaining count (contents old) (contents new) (Ok salvaged)
+abbrev pub IsSalvagedFile : {F : Type 0} → Answered F → (remaining contents : F → Option (List ℕ)) → List (Bor (List ℕ)) → List ℕ
+    → Salvaged → F → Type 0
+IsSalvagedFile {F} answered remaining contents names out salvaged new = (old : F) × answered.IsCreated out old
+    × SalvagesFiles answered remaining names (contents old) (contents new) (Ok salvaged)
 
--- what a refusal to save what can be saved of so many files says
-abbrev pub IsSalvageRefusal : {F : Type 0} → (F → Option (List ℕ)) → ℕ → Refused → Type 0
-IsSalvageRefusal remaining count (refusals.Engine tool.OutOfMemory) = ⊥
-IsSalvageRefusal remaining count (refusals.Engine fault) =
-    (held : Option (List ℕ)) × (holds : Option (List ℕ)) × SalvagesFiles remaining count held holds (Err fault)
-IsSalvageRefusal remaining count (refusals.Open index) = index < count
-IsSalvageRefusal remaining count refusals.Create = ⊤
-IsSalvageRefusal remaining count refusals.OutOfMemory = ⊤
+-- what a refusal to save what can be saved of the files of these names, in a new one of that name, says: behind one of the engine it was tried to
+-- remove the new file
+abbrev pub IsSalvageRefusal : {F : Type 0} → Answered F → (F → Option (List ℕ)) → List (Bor (List ℕ)) → List ℕ → Refused → Type 0
+IsSalvageRefusal answered remaining names out (refusals.Engine tool.OutOfMemory) = ⊥
+IsSalvageRefusal answered remaining names out (refusals.Engine fault) =
+    (held : Option (List ℕ)) × (holds : Option (List ℕ)) × SalvagesFiles answered remaining names held holds (Err fault)
+    × answered.IsRemoved out
+IsSalvageRefusal answered remaining names out (refusals.Open index) = CannotOpenAt answered names index
+IsSalvageRefusal answered remaining names out refusals.Create = answered.CannotCreate out
+IsSalvageRefusal answered remaining names out refusals.OutOfMemory = ⊤

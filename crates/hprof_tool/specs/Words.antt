@@ -1,8 +1,8 @@
 -- What words ask for.
-use Rattle.std.specs.Prelude.{ℕ, List}
+use Rattle.std.specs.Prelude.{ℕ, List, ⊤}
 use Rattle.hprof_stream.specs.declared.summary.PartSummary.{PartSummary}
 use Rattle.hprof_rows.specs.HeapValue.{HeapValue}
-use Rattle.hprof_engine.specs.Makes.{IsDumpText}
+use Rattle.hprof_engine.specs.Makes.{Making, IsDumpText, making_of}
 use Rattle.hprof_dump101.specs.Joining101.{IsDump101Text}
 use Rattle.hprof_reports.specs.ObjectReporting.{IsObjectReport}
 use Rattle.hprof_reports.specs.PathReporting.{IsPathReport}
@@ -22,3 +22,7 @@ abbrev pub is_answer : Question → ℕ → List PartSummary → HeapValue → L
 is_answer questions.Object = IsObjectReport
 is_answer questions.Path = IsPathReport
 is_answer questions.Refs = IsRefsReport
+
+-- each of these takes memory while it is written, and is never too long
+abbrev pub answer_making : Question → ℕ → Making
+answer_making question id = making_of (is_answer question id) (λ heap. ⊥) (λ parts. ⊥) ⊤

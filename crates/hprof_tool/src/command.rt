@@ -1,5 +1,8 @@
 //! The words of the command line.
 
+ghost use Rattle.std.specs.Prelude.{IfOk};
+ghost use Rattle.hprof_tool.specs.Tasks.{AsksFor};
+
 use clap::{Arg, ArgAction, ArgMatches, Command, Error};
 use std::alloc::{AllocError, Global};
 
@@ -155,11 +158,9 @@ fn parts_of<'a>(alloc: Global, matches: &ArgMatches<'a>) -> Result<Vec<&'a str>,
 
 /// What a command of that name, which is one of the program's, asks for with these words. The words were understood, so a word
 /// that is required is there.
-fn task_named<'a>(
-    alloc: Global,
-    name: &str,
-    words: &ArgMatches<'a>,
-) -> Result<Task<'a>, AllocError> {
+fn task_named<'a>(alloc: Global, name: &str, words: &ArgMatches<'a>) -> Result<Task<'a>, AllocError>
+    ensures { IfOk result (AsksFor name.now) }
+{
     let parts = parts_of(alloc, words)?;
     let id = words.get_str("id").unwrap_or("");
     let out = words.get_str("out").unwrap_or("");

@@ -1,16 +1,21 @@
 //! The program: what its words ask for, over files and standard streams that the caller passes.
 
-ghost use Rattle.std.specs.Prelude.{◌≡◌, ◌≢◌, length, IfOk};
-ghost use Rattle.hprof_engine.specs.Makes.{IsDump, IsMadeOf};
+ghost use Rattle.std.specs.Prelude.{◌≡◌, ◌≢◌, ℕ, List, Some, IfOk, IfErr};
+ghost use Rattle.std.specs.Io.KnownBytes.{Appends};
+ghost use Rattle.hprof_engine.specs.Makes.{IsDump, IsMadeOf, making_of};
 ghost use Rattle.hprof_text.specs.Identifier.{IsIdText, id_value};
 ghost use Rattle.hprof_tool.specs.Program.{IsMadeOfStream, IsMadeInFile, IsMadeOfFiles};
 ghost use Rattle.hprof_tool.specs.SalvagedFiles.{IsSalvagedFile};
-ghost use Rattle.hprof_tool.specs.Words.{is_answer, is_new_file};
+ghost use Rattle.hprof_tool.specs.Streams.{RefusesStream, RefusesReport};
+ghost use Rattle.hprof_tool.specs.Tasks.{DoesTask, RefusesTask};
+ghost use Rattle.hprof_tool.specs.Telling.{TellsFaults, IsOfTelling, EndsTelling, RefusesSalvage};
+ghost use Rattle.hprof_tool.specs.Words.{is_answer, answer_making, is_new_file};
 ghost use Rattle.hprof_tool.specs.declared.program.salvaging.Written.{Written};
 
 use crate::command::{NewFile, Question, Task, task_of};
 use crate::status::Status;
-use answers::{answer_no_id, answer_no_words, answer_outcome, answer_words};
+use answers::{Ended, answer_no_id, answer_no_words, answer_outcome, answer_stream, answer_words};
+use folder::Folder;
 use hprof_dump101::Dump101;
 use hprof_engine::{Dump, Product};
 use hprof_reports::{Check, HistogramReport, ObjectReport, PathReport, RefsReport};
@@ -25,26 +30,30 @@ use std::io::{Read, Write};
 use std::rt::Files;
 
 mod answers;
+mod folder;
 mod joining;
 mod making;
 mod refused;
 mod salvaging;
 
-/// Joins the part on `input` to `output`.
+/// Joins the part on `input` to `output`, which it gives back.
 fn pass<I: Read + Drop, O: Write + Drop, E: Write>(
     alloc: Global,
     input: I,
     output: O,
     errors: &mut E,
-) -> Status
-    ensures done { result ≡ Status.Done → (written : O) × IsMadeOfStream IsDump I.remaining O.contents input output written }
-    ensures understood { result ≢ Status.NotUnderstood }
+) -> Ended<O>
+    ensures done { result.status ≡ Status.Done → (written : O) × (result.output ≡ Some written)
+        × IsMadeOfStream IsDump I.remaining O.contents input output written }
+    ensures refused { result.status ≡ Status.Refused → (why : Refused)
+        × RefusesStream I.remaining O.contents input output why result.output }
+    ensures understood { result.status ≢ Status.NotUnderstood }
 {
-    answer_outcome(alloc, join_stream(alloc, input, output), errors)
+    answer_stream(alloc, join_stream(alloc, input, output), errors)
 }
 
 /// Writes what is made of parts in files to a new file.
-fn write_new<P: Product, F: Files, E: Write>(
+fn write_new<P: Product, F: Folder, E: Write>(
     alloc: Global,
     files: &F,
     product: &P,
@@ -53,31 +62,51 @@ fn write_new<P: Product, F: Files, E: Write>(
     errors: &mut E,
 ) -> Status
     ensures done { result ≡ Status.Done → (written : F.File)
-        × IsMadeInFile (IsMadeOf (P.is_text product.now)) F.File.remaining F.File.contents (length names.now) written }
+        × IsMadeInFile (IsMadeOf (P.is_text product.now)) (F.answered files.now) F.File.remaining F.File.contents names.now out.now written }
     ensures understood { result ≢ Status.NotUnderstood }
 {
     answer_outcome(alloc, make_file(alloc, files, product, out, names), errors)
 }
 
+/// Ends with a refusal to tell the faults of parts: where there was no memory for it, the new file is removed.
+fn end_telling<F: Folder>(files: &F, out: &str, why: Refused) -> Refused
+    requires { IsOfTelling why }
+    ensures { EndsTelling ((F.answered files.now).IsRemoved out.now) result }
+{
+    match why {
+        Refused::OutOfMemory => {
+            files.remove_out(out);
+            Refused::OutOfMemory
+        }
+        why => why,
+    }
+}
+
 /// Saves what can be saved of parts in files in a new file, which it gives back, and then tells the faults of the parts on
-/// `output`.
-fn salvage_and_tell<F: Files, O: Write>(
+/// `output`. Where a fault cannot be told, the new file stays; where there is no memory for it, the file is removed.
+fn salvage_and_tell<F: Folder, O: Write>(
     alloc: Global,
     files: &F,
     out: &str,
     names: &[&str],
     output: &mut O,
 ) -> Result<Written<F::File>, Refused>
-    ensures { IfOk result (λ written. IsSalvagedFile F.File.remaining F.File.contents (length names.now) written.salvaged written.writer) }
+    ensures saved { IfOk result (λ written. IsSalvagedFile (F.answered files.now) F.File.remaining F.File.contents names.now out.now
+        written.salvaged written.writer) }
+    ensures told { IfOk result (λ written. (text : List ℕ) × TellsFaults written.salvaged.faults.items text
+        × Appends (O.contents output.old) (O.contents output.new) text) }
+    ensures refused { IfErr result (RefusesSalvage (F.answered files.now) F.File.remaining F.File.contents names.now out.now
+        output.old output.new) }
 {
     let written = salvage_file(alloc, files, out, names)?;
-    tell_faults(&written.salvaged.faults, output)?;
-    Ok(written)
+    match tell_faults(alloc, &written.salvaged.faults, output) {
+        Ok(()) => Ok(written),
+        Err(why) => Err(end_telling(files, out, why)),
+    }
 }
 
-/// Saves what can be saved of parts in files in a new file, and tells the faults of the parts on `output`, one a line. Where a
-/// fault cannot be told, the new file stays.
-fn salvage<F: Files, O: Write, E: Write>(
+/// Saves what can be saved of parts in files in a new file, and tells the faults of the parts on `output`, one a line.
+fn salvage<F: Folder, O: Write, E: Write>(
     alloc: Global,
     files: &F,
     out: &str,
@@ -86,7 +115,11 @@ fn salvage<F: Files, O: Write, E: Write>(
     errors: &mut E,
 ) -> Status
     ensures done { result ≡ Status.Done → (written : Written F.File)
-        × IsSalvagedFile F.File.remaining F.File.contents (length names.now) written.salvaged written.writer }
+        × (IsSalvagedFile (F.answered files.now) F.File.remaining F.File.contents names.now out.now written.salvaged written.writer
+        × ((text : List ℕ) × TellsFaults written.salvaged.faults.items text
+        × Appends (O.contents output.old) (O.contents output.new) text)) }
+    ensures refused { result ≡ Status.Refused → (why : Refused) × RefusesSalvage (F.answered files.now) F.File.remaining
+        F.File.contents names.now out.now output.old output.new why }
     ensures understood { result ≢ Status.NotUnderstood }
 {
     answer_outcome(
@@ -96,20 +129,23 @@ fn salvage<F: Files, O: Write, E: Write>(
     )
 }
 
-/// Writes a report on parts in files to `output`.
-fn report<P: Product, F: Files, O: Write + Drop, E: Write>(
+/// Writes a report on parts in files to `output`, which it gives back.
+fn report<P: Product, F: Folder, O: Write + Drop, E: Write>(
     alloc: Global,
     files: &F,
     report: &P,
     names: &[&str],
     output: O,
     errors: &mut E,
-) -> Status
-    ensures done { result ≡ Status.Done → (written : O)
-        × IsMadeOfFiles (IsMadeOf (P.is_text report.now)) F.File.remaining O.contents (length names.now) output written }
-    ensures understood { result ≢ Status.NotUnderstood }
+) -> Ended<O>
+    ensures done { result.status ≡ Status.Done → (written : O) × (result.output ≡ Some written)
+        × IsMadeOfFiles (IsMadeOf (P.is_text report.now)) (F.answered files.now) F.File.remaining O.contents names.now output written }
+    ensures refused { result.status ≡ Status.Refused → (why : Refused) × RefusesReport
+        (making_of (P.is_text report.now) (P.is_too_long report.now) P.Kept.takes_room (P.takes_memory report.now))
+        (F.answered files.now) F.File.remaining O.contents names.now output why result.output }
+    ensures understood { result.status ≢ Status.NotUnderstood }
 {
-    answer_outcome(
+    answer_stream(
         alloc,
         report_files(alloc, files, report, names, output),
         errors,
@@ -117,7 +153,7 @@ fn report<P: Product, F: Files, O: Write + Drop, E: Write>(
 }
 
 /// Makes what is asked for of parts in files, in a new file.
-fn make<F: Files, E: Write>(
+fn make<F: Folder, E: Write>(
     alloc: Global,
     files: &F,
     product: NewFile,
@@ -126,7 +162,7 @@ fn make<F: Files, E: Write>(
     errors: &mut E,
 ) -> Status
     ensures done { result ≡ Status.Done → (written : F.File)
-        × IsMadeInFile (IsMadeOf (is_new_file product)) F.File.remaining F.File.contents (length names.now) written }
+        × IsMadeInFile (IsMadeOf (is_new_file product)) (F.answered files.now) F.File.remaining F.File.contents names.now out.now written }
     ensures understood { result ≢ Status.NotUnderstood }
 {
     match product {
@@ -135,9 +171,9 @@ fn make<F: Files, E: Write>(
     }
 }
 
-/// Writes the report that is asked for on an identifier to `output`. An identifier that is none is told before any part is
-/// opened.
-fn ask<F: Files, O: Write + Drop, E: Write>(
+/// Writes the report that is asked for on an identifier to `output`, which it gives back. An identifier that is none is told before
+/// any part is opened.
+fn ask<F: Folder, O: Write + Drop, E: Write>(
     alloc: Global,
     files: &F,
     question: Question,
@@ -145,14 +181,21 @@ fn ask<F: Files, O: Write + Drop, E: Write>(
     names: &[&str],
     output: O,
     errors: &mut E,
-) -> Status
-    ensures done { result ≡ Status.Done → IsIdText id.now × ((written : O)
-        × IsMadeOfFiles (IsMadeOf (is_answer question (id_value id.now))) F.File.remaining O.contents (length names.now) output written) }
-    ensures understood { IsIdText id.now → result ≢ Status.NotUnderstood }
-    ensures no_id { ¬ (IsIdText id.now) → result ≡ Status.NotUnderstood }
+) -> Ended<O>
+    ensures done { result.status ≡ Status.Done → IsIdText id.now × ((written : O) × (result.output ≡ Some written)
+        × IsMadeOfFiles (IsMadeOf (is_answer question (id_value id.now))) (F.answered files.now) F.File.remaining O.contents names.now
+        output written) }
+    ensures refused { result.status ≡ Status.Refused → IsIdText id.now × ((why : Refused)
+        × RefusesReport (answer_making question (id_value id.now)) (F.answered files.now) F.File.remaining O.contents names.now
+        output why result.output) }
+    ensures understood { IsIdText id.now → result.status ≢ Status.NotUnderstood }
+    ensures no_id { ¬ (IsIdText id.now) → (result.status ≡ Status.NotUnderstood) × (result.output ≡ Some output) }
 {
     let Some(id) = parse_id(id) else {
-        return answer_no_id(errors);
+        return Ended {
+            status: answer_no_id(errors),
+            output: Some(output),
+        };
     };
     match question {
         Question::Object => report(alloc, files, &ObjectReport { id }, names, output, errors),
@@ -164,6 +207,47 @@ fn ask<F: Files, O: Write + Drop, E: Write>(
 /// The words as a list.
 fn list_of(alloc: Global, words: io::Result<Args>) -> io::Result<Vec<String>> {
     Ok(words?.collect(alloc)?)
+}
+
+/// Does what a task asks for. It gives `output` back, which is gone where there was no memory for the buffer before it.
+fn perform<F: Folder, I: Read + Drop, O: Write + Drop, E: Write>(
+    alloc: Global,
+    files: &F,
+    task: Task<'_>,
+    input: I,
+    mut output: O,
+    errors: &mut E,
+) -> Ended<O>
+    ensures done { result.status ≡ Status.Done → (after : O) × (result.output ≡ Some after) × DoesTask (F.answered files.now)
+        F.File.remaining F.File.contents I.remaining O.contents task.entry input output after }
+    ensures refused { result.status ≡ Status.Refused → (why : Refused) × RefusesTask (F.answered files.now)
+        F.File.remaining F.File.contents I.remaining O.contents task.entry input output why result.output }
+    ensures understood { result.status ≡ Status.NotUnderstood → result.output ≡ Some output }
+{
+    match task {
+        Task::Pass => pass(alloc, input, output, errors),
+        Task::Make {
+            product,
+            out,
+            parts,
+        } => Ended {
+            status: make(alloc, files, product, out, &parts, errors),
+            output: Some(output),
+        },
+        Task::Salvage { out, parts } => Ended {
+            status: salvage(alloc, files, out, &parts, &mut output, errors),
+            output: Some(output),
+        },
+        Task::Check { parts } => report(alloc, files, &Check, &parts, output, errors),
+        Task::Histogram { parts } => {
+            report(alloc, files, &HistogramReport, &parts, output, errors)
+        }
+        Task::Ask {
+            question,
+            id,
+            parts,
+        } => ask(alloc, files, question, id, &parts, output, errors),
+    }
 }
 
 /// Does what the words ask for: without a word behind the program's name it joins the part on `input` to `output`;
@@ -183,28 +267,7 @@ pub fn run<F: Files, I: Read + Drop, O: Write + Drop, E: Write>(
         Err(error) => return answer_no_words(alloc, &error, errors),
     };
     match task_of(alloc, &words) {
-        Ok(Task::Pass) => pass(alloc, input, output, errors),
-        Ok(
-            Task::Make {
-                product,
-                out,
-                parts,
-            },
-        ) => make(alloc, files, product, out, &parts, errors),
-        Ok(Task::Salvage { out, parts }) => {
-            salvage(alloc, files, out, &parts, &mut output, errors)
-        }
-        Ok(Task::Check { parts }) => report(alloc, files, &Check, &parts, output, errors),
-        Ok(Task::Histogram { parts }) => {
-            report(alloc, files, &HistogramReport, &parts, output, errors)
-        }
-        Ok(
-            Task::Ask {
-                question,
-                id,
-                parts,
-            },
-        ) => ask(alloc, files, question, id, &parts, output, errors),
+        Ok(task) => perform(alloc, files, task, input, output, errors).status,
         Err(error) => answer_words(alloc, &error, &mut output, errors),
     }
 }

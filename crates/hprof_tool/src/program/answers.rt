@@ -1,18 +1,25 @@
 //! What the program tells beside the dump, and the status that it ends with.
 
-ghost use Rattle.std.specs.Prelude.{◌≡◌, ◌≢◌, MatchResult};
+ghost use Rattle.std.specs.Prelude.{◌≡◌, ◌≢◌, Some, MatchResult};
 ghost use Rattle.std.specs.IoError.{error_kind};
 ghost use Rattle.std.specs.declared.io.ErrorKind.TheVariants.{OutOfMemory};
 ghost use Rattle.clap.specs.Values.{kind_of};
 ghost use Rattle.hprof_tool.specs.Program.{IsStatusOfWords};
 
-use crate::program::refused::{Refused, WRITE_FAILED};
+use crate::program::refused::{Refused, Stopped, WRITE_FAILED};
 use crate::status::Status;
 use clap::Error;
 use clap::error::ErrorKind;
 use std::alloc::Global;
 use std::io;
 use std::io::Write;
+
+/// How a task ended that writes to a stream, and the stream, which is gone where there was no memory for the buffer before it.
+#[derive(Drop)]
+pub(crate) struct Ended<O> {
+    pub(crate) status: Status,
+    pub(crate) output: Option<O>,
+}
 
 /// Says in one line why the program refused. A text that finds no memory is that there is none.
 fn refuse<E: Write>(alloc: Global, refused: &Refused, errors: &mut E) -> Status
@@ -36,6 +43,27 @@ pub(crate) fn answer_outcome<T: Drop, E: Write>(
     match outcome {
         Ok(_) => Status::Done,
         Err(refused) => refuse(alloc, &refused, errors),
+    }
+}
+
+/// Ends a task that writes to a stream.
+pub(crate) fn answer_stream<O, E: Write>(
+    alloc: Global,
+    outcome: Result<O, Stopped<O>>,
+    errors: &mut E,
+) -> Ended<O>
+    ensures status { MatchResult outcome (λ _. result.status ≡ Status.Done) (λ _. result.status ≡ Status.Refused) }
+    ensures output { MatchResult outcome (λ written. result.output ≡ Some written) (λ stopped. result.output ≡ stopped.writer) }
+{
+    match outcome {
+        Ok(written) => Ended {
+            status: Status::Done,
+            output: Some(written),
+        },
+        Err(Stopped { why, writer }) => Ended {
+            status: refuse(alloc, &why, errors),
+            output: writer,
+        },
     }
 }
 

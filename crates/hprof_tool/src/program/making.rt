@@ -1,14 +1,16 @@
 //! Making something of parts into a writer, through a buffer.
 
-ghost use Rattle.std.specs.Prelude.{◌≡◌, List, [], ℕ, All, Option, Ok, Err, OnOk, OnErr, IfOk, IfErr};
+ghost use Rattle.std.specs.Prelude.{◌≡◌, [], All, None, Ok, Err, OnOk, OnErr, IfOk, IfErr};
 ghost use Rattle.std.specs.Io.KnownBytes.{Keeps, append_known};
-ghost use Rattle.std.specs.Io.Buffered.{writer_buffer, writer_contents};
+ghost use Rattle.std.specs.Io.Buffered.{writer_buffer, writer_contents, writer_inner};
 ghost use Rattle.hprof_devices.specs.declared.health.Health.TheVariants.{Well};
-ghost use Rattle.hprof_engine.specs.Joining.{fault_of};
+ghost use Rattle.hprof_engine.specs.Joining.{fault_of, IsBeforeWriting};
 ghost use Rattle.hprof_devices.specs.Device.{inner_of, health_of};
 ghost use Rattle.hprof_engine.specs.Makes.{Makes, making_of};
-ghost use Rattle.hprof_tool.specs.Program.{MakesStream, usual_limits, with_buffer};
+ghost use Rattle.hprof_tool.specs.Program.{MakesStream, usual_limits};
+ghost use Rattle.hprof_tool.specs.Streams.{StopsStream};
 
+use crate::program::refused::{Refused, Stopped};
 use hprof_devices::{Device, Source, WriteFault};
 use hprof_engine::{Product, ToolFault, make_to};
 use hprof_stream::Limits;
@@ -88,6 +90,7 @@ fn make_into<P: Product, R: Source, W: Write + Drop>(
         readers.old readers.new (writer_contents W.contents buffered)
         (append_known (W.contents result.writer) result.unwritten.items) (fault_of result.outcome) }
     ensures flushed { OnOk result.outcome (result.unwritten.items ≡ []) }
+    ensures untouched { IsBeforeWriting (fault_of result.outcome) → result.writer ≡ writer_inner buffered }
 {
     let mut target = Device::new(buffered);
     let made = make(alloc, product, readers, &mut target);
@@ -107,15 +110,20 @@ pub(crate) fn make_buffered<P: Product, R: Source, W: Write + Drop>(
     product: &P,
     readers: &mut [R],
     writer: W,
-) -> Result<W, ToolFault>
+) -> Result<W, Stopped<W>>
     requires { All (λ reader. R.health reader ≡ Well) readers.old }
-    // What the writer holds is known where it is given back.
-    ensures { (holds : Option (List ℕ)) × MakesStream R.left R.health R.pulls (with_buffer
-        (making_of (P.is_text product.now) (P.is_too_long product.now) P.Kept.takes_room (P.takes_memory product.now)))
-        readers.old readers.new (W.contents writer) holds (fault_of result) × IfOk result (λ written. holds ≡ W.contents written) }
+    ensures ok { IfOk result (λ written. MakesStream R.left R.health R.pulls
+        (making_of (P.is_text product.now) (P.is_too_long product.now) P.Kept.takes_room (P.takes_memory product.now))
+        readers.old readers.new (W.contents writer) (W.contents written) None) }
+    ensures stops { IfErr result (λ stopped. StopsStream R.left R.health R.pulls
+        (making_of (P.is_text product.now) (P.is_too_long product.now) P.Kept.takes_room (P.takes_memory product.now))
+        readers.old readers.new W.contents writer stopped.why stopped.writer) }
 {
     let Ok(buffered) = BufWriter::with_capacity(alloc, BUFFER_LEN, writer) else {
-        return Err(ToolFault::OutOfMemory);
+        return Err(Stopped {
+            why: Refused::OutOfMemory,
+            writer: None,
+        });
     };
     let Making {
         outcome,
@@ -126,6 +134,9 @@ pub(crate) fn make_buffered<P: Product, R: Source, W: Write + Drop>(
     mem::forget(unwritten);
     match outcome {
         Ok(()) => Ok(writer),
-        Err(fault) => Err(fault),
+        Err(fault) => Err(Stopped {
+            why: Refused::from(fault),
+            writer: Some(writer),
+        }),
     }
 }

@@ -20,6 +20,14 @@ pub(crate) enum Refused {
     OutOfMemory,
 }
 
+/// Why something that is written to a stream was refused, and the stream, which is gone where there was no memory for the buffer
+/// before it.
+#[derive(Drop)]
+pub(crate) struct Stopped<W> {
+    pub(crate) why: Refused,
+    pub(crate) writer: Option<W>,
+}
+
 /// What is written could not be.
 pub(crate) const WRITE_FAILED: Refused = Refused::Engine(ToolFault::Write(WriteFault::Failed));
 

@@ -1,14 +1,17 @@
 //! What can be saved of parts in files.
 
-ghost use Rattle.std.specs.Prelude.{◌≡◌, List, [], ℕ, All, Option, OnOk, IfOk, IfErr, length};
-ghost use Rattle.std.specs.Io.KnownBytes.{append_known};
+ghost use Rattle.std.specs.Prelude.{◌≡◌, List, [], ◌∷◌, ◌++◌, ℕ, All, Option, OnOk, IfOk, IfErr};
+ghost use Rattle.std.specs.Io.KnownBytes.{Appends, append_known};
 ghost use Rattle.std.specs.Io.Buffered.{writer_contents};
 ghost use Rattle.hprof_devices.specs.declared.health.Health.TheVariants.{Well};
 ghost use Rattle.hprof_devices.specs.Device.{inner_of, health_of};
+ghost use Rattle.hprof_engine.specs.FaultText.{IsFaultText};
 ghost use Rattle.hprof_salvage.specs.Salvaging.{Salvages};
 ghost use Rattle.hprof_tool.specs.Program.{usual_limits};
 ghost use Rattle.hprof_tool.specs.SalvagedFiles.{SalvagesStream, SalvagesBuffered, salvaged_with, IsSalvagedFile, IsSalvageRefusal};
+ghost use Rattle.hprof_tool.specs.Telling.{TellsFaults, IsOfTelling, line_end};
 
+use crate::program::folder::Folder;
 use crate::program::joining::open_parts;
 use crate::program::making::{BUFFER_LEN, end_of_writing};
 use crate::program::refused::{Refused, WRITE_FAILED};
@@ -17,10 +20,8 @@ use hprof_engine::ToolFault;
 use hprof_salvage::{FaultedPart, Salvaged, salvage_kept};
 use hprof_stream::Limits;
 use std::alloc::Global;
-use std::fs::File;
 use std::io::{BufWriter, Write};
-use std::rt::Files;
-use std::{fs, mem};
+use std::mem;
 
 /// What was saved, and what it was written to.
 #[derive(Drop)]
@@ -110,37 +111,57 @@ fn salvage_buffered<R: Source, W: Write + Drop>(
 
 /// Saves what can be saved of parts in files in a new file, which it gives back. After a refusal by the engine the new file is
 /// removed.
-pub(crate) fn salvage_file<F: Files>(
+pub(crate) fn salvage_file<F: Folder>(
     alloc: Global,
     files: &F,
     out: &str,
     names: &[&str],
 ) -> Result<Written<F::File>, Refused>
-    ensures ok { IfOk result (λ written. IsSalvagedFile F.File.remaining F.File.contents (length names.now) written.salvaged written.writer) }
-    ensures refused { IfErr result (IsSalvageRefusal F.File.remaining (length names.now)) }
+    ensures ok { IfOk result (λ written. IsSalvagedFile (F.answered files.now) F.File.remaining F.File.contents names.now out.now
+        written.salvaged written.writer) }
+    ensures refused { IfErr result (IsSalvageRefusal (F.answered files.now) F.File.remaining names.now out.now) }
 {
     let mut parts = open_parts(alloc, files, names)?;
-    let Ok(file) = File::create_new(files, out) else {
+    let Ok(file) = files.create_out(out) else {
         return Err(Refused::Create);
     };
     match salvage_buffered(alloc, &mut parts, file) {
         Ok(written) => Ok(written),
         Err(fault) => {
-            // Where it cannot be removed, it stays.
-            let _ = fs::remove_file(files, out);
+            files.remove_out(out);
             Err(Refused::from(fault))
         }
     }
 }
 
+/// Tells the fault of a part in a line, as it is told where the part is refused.
+fn tell_fault<O: Write>(alloc: Global, fault: FaultedPart, output: &mut O) -> Result<(), Refused>
+    ensures told { OnOk result ((line : List ℕ) × IsFaultText (ToolFault.Part fault.index fault.fault) line
+        × Appends (O.contents output.old) (O.contents output.new) (line ++ line_end ∷ [])) }
+    ensures kind { IfErr result IsOfTelling }
+{
+    let FaultedPart { index, fault } = fault;
+    let Ok(line) = (ToolFault::Part { index, fault }).text(alloc) else {
+        return Err(Refused::OutOfMemory);
+    };
+    if writeln!(output, "{line}").is_err() {
+        return Err(WRITE_FAILED);
+    }
+    Ok(())
+}
+
 /// Tells the faults of parts, one a line.
-pub(crate) fn tell_faults<O: Write>(faults: &[FaultedPart], output: &mut O) -> Result<(), Refused>
-    ensures { IfErr result (λ refused. refused ≡ WRITE_FAILED) }
+pub(crate) fn tell_faults<O: Write>(
+    alloc: Global,
+    faults: &[FaultedPart],
+    output: &mut O,
+) -> Result<(), Refused>
+    ensures told { OnOk result ((text : List ℕ) × TellsFaults faults.now text
+        × Appends (O.contents output.old) (O.contents output.new) text) }
+    ensures kind { IfErr result IsOfTelling }
 {
     for fault in faults {
-        if writeln!(output, "{fault}").is_err() {
-            return Err(WRITE_FAILED);
-        }
+        tell_fault(alloc, *fault, output)?;
     }
     if output.flush().is_err() {
         return Err(WRITE_FAILED);

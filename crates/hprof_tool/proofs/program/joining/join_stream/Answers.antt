@@ -1,27 +1,34 @@
-use Rattle.std.proofs.Common.{◌≡◌, ℕ, List, [], ◌∷◌, ◌++◌, Option, refl, sym, ap, subst, ◌∙◌}
-use Rattle.std.specs.Io.KnownBytes.{Appends}
+use Rattle.std.proofs.Common.{◌≡◌, ℕ, List, [], ◌∷◌, ◌++◌, Option, Some, refl, ap, ◌∙◌}
 use Rattle.hprof_devices.specs.declared.device.Device.{Device}
-use Rattle.hprof_engine.specs.Makes.{IsDumpText, dump_making}
-use Rattle.hprof_tool.specs.Program.{IsRefusal}
-use Rattle.hprof_tool.specs.declared.program.refused.Refused.{Refused}
+use Rattle.hprof_engine.specs.Makes.{IsDumpText, IsDump}
+use Rattle.hprof_tool.specs.Streams.{IsFrontOfStream}
+use Rattle.hprof_tool.proofs.Ends.{if_ok_more, if_err_more}
 use Rattle.hprof_tool.proofs.Files.{one_told}
-use Rattle.hprof_tool.proofs.Making.{refused_by}
+use Rattle.hprof_tool.proofs.Streams.{stream_refusal, stream_kind, stream_left}
 use Rattle.hprof_tool.proofs.program.joining.join_stream.Goals as goal
 
-pub returns-in-Ok-clause-ok : goal.returns-in-Ok-clause-ok
-returns-in-Ok-clause-ok g c = λ part told.
-    let e = c.in-Ok.ensures in
-    let one : c.deref_mut.result.now ≡ c.new.result ∷ [] = c.deref_mut.ensures.value ∙ c.in_ok-push.ensures.items
+pub returns-clause-ok : goal.returns-clause-ok
+returns-clause-ok g c =
+    let one : c.deref_mut.result.now ≡ c.new.result ∷ [] = c.deref_mut.ensures.value ∙ c.in-Ok.ensures.items
     ∙ ap (λ (ds : List (Device g.row.I.Denot)). ds ++ c.new.result ∷ []) c.new-part.ensures.items in
-    let told_by = one_told g.I.Read.remaining c.deref_mut.result.now c.new.result c.args.input part one c.new.ensures.inner told in
-    let all = (e.1.1.ok refl).1 (part ∷ []) told_by in
-    (all.0, all.1, subst (λ (holds : Option (List ℕ)). Appends (g.O.Write.contents c.args.output) holds all.0) e.2 all.2)
+    if_ok_more _ _ c.make_buffered.result
+    (λ written makes part told. (makes.1.ok refl).1 (part ∷ []) (one_told g.I.Read.remaining c.deref_mut.result.now c.new.result
+    c.args.input part one c.new.ensures.inner told)) c.make_buffered.ensures.ok
+
+pub returns-clause-kind : goal.returns-clause-kind
+returns-clause-kind g c = if_err_more _ _ c.make_buffered.result
+    (λ stopped stops. stream_kind _ _ _ _ _ IsDumpText (λ heap. ⊥) (λ parts. ⊥) ⊥ _ _ stopped.why stopped.writer stops)
+    c.make_buffered.ensures.stops
 
 pub returns-clause-refused : goal.returns-clause-refused
-returns-clause-refused g c = λ part told.
-    let e = c.in-Err.ensures in
-    let one : c.deref_mut.result.now ≡ c.new.result ∷ [] = c.deref_mut.ensures.value ∙ c.in_ok-push.ensures.items
+returns-clause-refused g c =
+    let one : c.deref_mut.result.now ≡ c.new.result ∷ [] = c.deref_mut.ensures.value ∙ c.in-Ok.ensures.items
     ∙ ap (λ (ds : List (Device g.row.I.Denot)). ds ++ c.new.result ∷ []) c.new-part.ensures.items in
-    let told_by = one_told g.I.Read.remaining c.deref_mut.result.now c.new.result c.args.input part one c.new.ensures.inner told in
-    subst (λ (r : Refused). IsRefusal dump_making r (part ∷ [])) (sym c.from.ensures)
-    (refused_by _ _ _ c.deref_mut.result.now _ IsDumpText (λ heap. ⊥) (λ parts. ⊥) ⊥ _ _ e.1.0 c.in-Err.fault e.1.1 (part ∷ []) told_by)
+    let told_by = λ (part : List ℕ) (told : g.I.Read.remaining c.args.input ≡ Some part). one_told g.I.Read.remaining c.deref_mut.result.now
+    c.new.result c.args.input part one c.new.ensures.inner told in
+    if_err_more _ _ c.make_buffered.result (λ stopped stops. (
+      λ part told. stream_refusal _ _ _ _ _ IsDumpText (λ heap. ⊥) (λ parts. ⊥) ⊥ _ _ stopped.why stopped.writer stops (part ∷ [])
+          (told_by part told),
+      stream_left _ _ _ _ _ IsDumpText (λ heap. ⊥) (λ parts. ⊥) ⊥ _ _ (IsFrontOfStream IsDump g.I.Read.remaining c.args.input)
+          (λ held holds writes part told. writes (part ∷ []) (told_by part told)) stopped.why stopped.writer stops,
+    )) c.make_buffered.ensures.stops

@@ -1,10 +1,26 @@
-use Rattle.std.proofs.Common.{length, sym, ap, subst, ◌∙◌}
-use Rattle.hprof_engine.specs.Makes.{making_of}
-use Rattle.hprof_tool.specs.Program.{IsReportRefusal}
-use Rattle.hprof_tool.specs.declared.program.refused.Refused.{Refused}
-use Rattle.hprof_tool.proofs.Files.{of_reporting}
-use Rattle.hprof_tool.proofs.Making.{refused_by}
+use Rattle.std.proofs.Common.{List, ℕ, Option, length, refl, sym, ap, subst, ◌∙◌}
+use Rattle.hprof_devices.specs.declared.device.Device.{Device}
+use Rattle.hprof_devices.specs.Device.{inner_of, health_of, pulls_of}
+use Rattle.hprof_engine.specs.Makes.{IsMadeOf, making_of}
+use Rattle.hprof_tool.specs.Folder.{AreOpened}
+use Rattle.hprof_tool.specs.Streams.{IsFrontOfFiles}
+use Rattle.hprof_tool.proofs.Ends.{if_ok_more, if_err_more}
+use Rattle.hprof_tool.proofs.Files.{opening_reports, of_reporting}
+use Rattle.hprof_tool.proofs.Streams.{stream_refusal, stream_kind, stream_no_parts, stream_left, kept_at_opening}
 use Rattle.hprof_tool.proofs.program.joining.report_files.Goals as goal
+
+pub returns-clause-ok : goal.returns-clause-ok
+returns-clause-ok g c =
+    let answered = g.F.Folder.answered c.args.files.now in
+    let opened = subst (λ (parts : List (Device _)). AreOpened answered c.args.names.now parts) (sym c.deref_mut.ensures.value)
+    c.in-Ok.ensures.opened in
+    if_ok_more _ _ c.make_buffered.result
+    (λ written makes. record { parts = c.deref_mut.result.now; opened = opened; holds = (makes.1.ok refl).1 }) c.make_buffered.ensures.ok
+
+pub returns-clause-no_parts : goal.returns-clause-no_parts
+returns-clause-no_parts g c = if_err_more _ _ c.make_buffered.result
+    (λ stopped stops same. sym c.in-Ok.ensures.count ∙ ap length (sym c.deref_mut.ensures.value)
+    ∙ stream_no_parts _ _ _ _ _ _ _ _ _ _ _ stopped.why stopped.writer stops same) c.make_buffered.ensures.stops
 
 pub returns-clause-refused : goal.returns-clause-refused
 returns-clause-refused g c =
@@ -12,10 +28,26 @@ returns-clause-refused g c =
     let too_long = g.P.Product.is_too_long c.args.report.now in
     let room = g.P.Kept.Summaries.takes_room in
     let memory = g.P.Product.takes_memory c.args.report.now in
-    let e = c.in-Err.ensures in
-    let opened = ap length c.deref_mut.ensures.value ∙ c.in_ok-parts.ensures.count in
-    subst (λ (r : Refused). IsReportRefusal (making_of is_text too_long room memory) g.F.File.Read.remaining (length c.args.names.now) r)
-    (sym c.from.ensures)
-    (of_reporting (making_of is_text too_long room memory) g.F.File.Read.remaining (length c.args.names.now) c.deref_mut.result.now opened
-    c.in-Err.fault (λ told tell. refused_by _ _ _ c.deref_mut.result.now _ is_text too_long room memory _ _ e.1.0 c.in-Err.fault e.1.1
-    told tell))
+    let answered = g.F.Folder.answered c.args.files.now in
+    let left = g.F.File.Read.remaining in
+    let parts = c.deref_mut.result.now in
+    let opened = subst (λ (parts : List (Device _)). AreOpened answered c.args.names.now parts) (sym c.deref_mut.ensures.value)
+    c.in-Ok.ensures.opened in
+    if_err_more _ _ c.make_buffered.result (λ stopped stops. (
+      of_reporting (making_of is_text too_long room memory) answered left c.args.names.now parts opened stopped.why
+          (stream_kind _ _ _ _ _ is_text too_long room memory _ _ stopped.why stopped.writer stops)
+          (stream_refusal _ _ _ _ _ is_text too_long room memory _ _ stopped.why stopped.writer stops),
+      stream_left _ _ _ _ _ is_text too_long room memory _ _ (IsFrontOfFiles (IsMadeOf is_text) answered left c.args.names.now)
+          (λ held holds writes. record { parts = parts; opened = opened; holds = writes }) stopped.why stopped.writer stops,
+    )) c.make_buffered.ensures.stops
+
+pub returns-in-Err-clause-refused : goal.returns-in-Err-clause-refused
+returns-in-Err-clause-refused g c =
+    let is_text = g.P.Product.is_text c.args.report.now in
+    let making = making_of is_text (g.P.Product.is_too_long c.args.report.now) g.P.Kept.Summaries.takes_room
+    (g.P.Product.takes_memory c.args.report.now) in
+    let answered = g.F.Folder.answered c.args.files.now in (
+      opening_reports making answered g.F.File.Read.remaining c.args.names.now c.in-Err.why c.in-Err.ensures.kind,
+      kept_at_opening g.O.Write.contents (IsFrontOfFiles (IsMadeOf is_text) answered g.F.File.Read.remaining c.args.names.now) answered
+          c.args.names.now c.in-Err.why c.args.output c.in-Err.ensures.kind,
+    )

@@ -1,28 +1,44 @@
-use Rattle.std.proofs.Common.{Some}
+use Rattle.std.proofs.Common.{◌≡◌, ◌∙◌, refl, sym, subst, ap, Result}
 use Rattle.std.specs.Io.KnownBytes.{append_known}
 use Rattle.std.specs.Io.Buffered.{writer_contents}
+use Rattle.hprof_engine.specs.declared.tool_fault.ToolFault.{ToolFault}
+use Rattle.hprof_engine.specs.Joining.{IsBeforeWriting, fault_of}
 use Rattle.hprof_engine.specs.Makes.{making_of}
-use Rattle.hprof_tool.proofs.Making.{no_room, buffered, none_added}
+use Rattle.hprof_tool.proofs.Making.{none_added, same_stream}
 use Rattle.hprof_tool.proofs.program.making.make_buffered.Goals as goal
 
-pub returns-in_default : goal.returns-in_default
-returns-in_default g c = (
-  g.W.Write.contents c.args.writer,
-  no_room g.R.Source.left g.R.Source.health g.R.Source.pulls
-      (making_of (g.P.Product.is_text c.args.product.now) (g.P.Product.is_too_long c.args.product.now) g.P.Kept.Summaries.takes_room
-      (g.P.Product.takes_memory c.args.product.now)) c.args.readers.now (g.W.Write.contents c.args.writer),
-  tt,
-)
-
-pub returns-in-Err : goal.returns-in-Err
-returns-in-Err g c =
+pub returns-in-Ok-outcome-clause-ok : goal.returns-in-Ok-outcome-clause-ok
+returns-in-Ok-outcome-clause-ok g c =
+    let contents = g.W.Write.contents in
     let made = c.make_into-outcome in
     let making = making_of (g.P.Product.is_text c.args.product.now) (g.P.Product.is_too_long c.args.product.now)
     g.P.Kept.Summaries.takes_room (g.P.Product.takes_memory c.args.product.now) in
-    let holds = append_known (g.W.Write.contents made.result.writer) made.result.unwritten.items in
-    let m = buffered g.R.Source.left g.R.Source.health g.R.Source.pulls c.args.readers.now made.new.readers making
-    (writer_contents g.W.Write.contents c.in-Ok.buffered) holds (Some c.in-Err.fault) (rw c.in-Err.is at made.ensures.makes) in (
-      holds,
-      rw (c.in-Ok.ensures.inner, c.in-Ok.ensures.empty, none_added (g.W.Write.contents c.args.writer)) at m,
-      tt,
-    )
+    let empty : writer_contents contents c.in-Ok.buffered ≡ contents c.args.writer =
+    rw (c.in-Ok.ensures.inner, c.in-Ok.ensures.empty, none_added (contents c.args.writer)) in
+    let flushed = rw c.in-Ok-outcome.is at made.ensures.flushed in
+    let whole : append_known (contents made.result.writer) made.result.unwritten.items ≡ contents made.result.writer =
+    rw (flushed, none_added (contents made.result.writer)) in
+    same_stream g.R.Source.left g.R.Source.health g.R.Source.pulls c.args.readers.now made.new.readers making _ _ _ _ _ _ empty whole
+    (ap fault_of c.in-Ok-outcome.is) made.ensures.makes
+
+pub returns-in-Err : goal.returns-in-Err
+returns-in-Err g c =
+    let contents = g.W.Write.contents in
+    let made = c.make_into-outcome in
+    let making = making_of (g.P.Product.is_text c.args.product.now) (g.P.Product.is_too_long c.args.product.now)
+    g.P.Kept.Summaries.takes_room (g.P.Product.takes_memory c.args.product.now) in
+    let empty : writer_contents contents c.in-Ok.buffered ≡ contents c.args.writer =
+    rw (c.in-Ok.ensures.inner, c.in-Ok.ensures.empty, none_added (contents c.args.writer)) in
+    record {
+      ok = tt;
+      stops = record {
+        fault = c.in-Err.fault;
+        is = c.from.ensures;
+        unwritten = made.result.unwritten.items;
+        makes = same_stream g.R.Source.left g.R.Source.health g.R.Source.pulls c.args.readers.now made.new.readers making _ _ _ _ _ _ empty
+            refl (ap fault_of c.in-Err.is) made.ensures.makes;
+        untouched = λ none.
+            made.ensures.untouched (subst (λ (o : Result (Unit {0}) ToolFault). IsBeforeWriting (fault_of o)) (sym c.in-Err.is) none)
+            ∙ c.in-Ok.ensures.inner;
+      };
+    }

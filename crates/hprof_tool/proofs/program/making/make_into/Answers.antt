@@ -1,10 +1,10 @@
-use Rattle.std.proofs.Common.{ap}
+use Rattle.std.proofs.Common.{ap, ◌∙◌}
 use Rattle.std.specs.Io.KnownBytes.{append_known}
-use Rattle.std.specs.Io.Buffered.{writer_contents}
+use Rattle.std.specs.Io.Buffered.{writer_contents, writer_inner}
 use Rattle.hprof_devices.specs.Device.{inner_of, health_of}
 use Rattle.hprof_engine.specs.Joining.{fault_of}
 use Rattle.hprof_engine.specs.Makes.{making_of}
-use Rattle.hprof_tool.proofs.Making.{shown, streamed, unchanged}
+use Rattle.hprof_tool.proofs.Making.{shown, streamed, unchanged, untouched}
 use Rattle.hprof_tool.proofs.program.making.make_into.Goals as goal
 
 pub returns-clause-makes : goal.returns-clause-makes
@@ -26,3 +26,10 @@ returns-clause-makes g c =
     (contents c.args.buffered) (append_known (g.W.Write.contents c.into_parts-writer.result.0) c.into_parts-writer.result.1.items)
     made end.result (ap contents c.new-target.ensures.inner) c.new-target.ensures.health
     (rw (c.into_parts-writer.ensures.inner, c.into_parts-writer.ensures.buffer)) m end.ensures.failed end.ensures.refused kept same
+
+pub returns-clause-untouched : goal.returns-clause-untouched
+returns-clause-untouched g c = λ none.
+    let end = c.end_of_writing-outcome in
+    c.into_parts-writer.ensures.inner ∙ ap writer_inner (untouched c.args.buffered c.into_inner-buffered.result end.new.buffered
+    c.make-made.result end.result end.ensures.failed end.ensures.refused end.ensures.unchanged
+    (λ made. c.into_inner-buffered.ensures ∙ ap inner_of (c.make-made.ensures.unwritten made) ∙ c.new-target.ensures.inner) none)

@@ -1,0 +1,11 @@
+use Rattle.std.proofs.Common.{refl, List, subst}
+use Rattle.std.specs.Borrow.{Bor}
+use Rattle.hprof_tool.specs.SalvagedFiles.{IsSalvagedFile}
+use Rattle.hprof_tool.proofs.program.perform.Goals as goal
+
+pub returns-in-Salvage-clause-done : goal.returns-in-Salvage-clause-done
+returns-in-Salvage-clause-done g c = λ done.
+    let it = c.salvage.ensures.done done in
+    let saved = subst (λ (names : List (Bor (List _))). IsSalvagedFile (g.F.Folder.answered c.args.files.now) g.F.File.Read.remaining
+    g.F.File.Write.contents names c.in-Salvage.out.now it.0.salvaged it.0.writer) c.deref-in-Salvage.ensures.value it.1.0 in
+    (c.salvage.new.output, refl, rw c.in-Salvage.is (it.0.salvaged, (it.0.writer, saved), it.1.1))

@@ -1,0 +1,60 @@
+-- What a task comes to.
+use Rattle.std.specs.Prelude.{◌≡◌, ◌≢◌, ℕ, List, Option, Some, codes}
+use Rattle.std.specs.Io.KnownBytes.{Appends}
+use Rattle.hprof_text.specs.Identifier.{IsIdText, id_value}
+use Rattle.hprof_engine.specs.Makes.{IsDump, IsMadeOf}
+use Rattle.hprof_reports.specs.Checking.{IsCheckText, check_making}
+use Rattle.hprof_reports.specs.HistogramReporting.{IsHistogramReport, histogram_making}
+use Rattle.hprof_salvage.specs.declared.salvaged.Salvaged.{Salvaged}
+use Rattle.hprof_tool.specs.declared.command.NewFile.TheVariants as files
+use Rattle.hprof_tool.specs.declared.command.Question.TheVariants as questions
+use Rattle.hprof_tool.specs.declared.command.Task.{Task}
+use Rattle.hprof_tool.specs.declared.command.Task.TheVariants as tasks
+use Rattle.hprof_tool.specs.declared.program.refused.Refused.{Refused}
+use Rattle.hprof_tool.specs.Folder.{Answered}
+use Rattle.hprof_tool.specs.Program.{IsMadeOfStream, IsMadeOfFiles, IsMadeInFile}
+use Rattle.hprof_tool.specs.SalvagedFiles.{IsSalvagedFile}
+use Rattle.hprof_tool.specs.Streams.{RefusesStream, RefusesReport}
+use Rattle.hprof_tool.specs.Telling.{TellsFaults, RefusesSalvage}
+use Rattle.hprof_tool.specs.Words.{is_answer, is_new_file, answer_making}
+
+-- the word asks for the task; all that is none of these words asks for the canonical dump, and of all the words that the program has
+-- this is `join` alone
+abbrev pub AsksFor : List ℕ → Task → Type 0
+AsksFor word tasks.Pass = ⊥
+AsksFor word (tasks.Salvage out parts) = word ≡ codes "salvage"
+AsksFor word (tasks.Check parts) = word ≡ codes "check"
+AsksFor word (tasks.Histogram parts) = word ≡ codes "histo"
+AsksFor word (tasks.Ask questions.Object id parts) = word ≡ codes "object"
+AsksFor word (tasks.Ask questions.Path id parts) = word ≡ codes "path"
+AsksFor word (tasks.Ask questions.Refs id parts) = word ≡ codes "refs"
+AsksFor word (tasks.Make files.Dump101 out parts) = word ≡ codes "join101"
+AsksFor word (tasks.Make files.Dump out parts) = (word ≢ codes "salvage") × (word ≢ codes "check") × (word ≢ codes "histo")
+    × (word ≢ codes "object") × (word ≢ codes "path") × (word ≢ codes "refs") × (word ≢ codes "join101")
+
+-- answered: what came of the names of files
+-- tells, holds: what a file has left to tell, and what one tells that it holds;  left, contents: the same of the streams
+module _ {F I O : Type 0} (answered : Answered F) (tells holds : F → Option (List ℕ)) (left : I → Option (List ℕ)) (contents : O → Option (List ℕ)) where
+  -- the task is done, and the stream that it may have written to is that now
+  abbrev pub DoesTask : Task → (input : I) → (old new : O) → Type 0
+  DoesTask tasks.Pass input old new = IsMadeOfStream IsDump left contents input old new
+  DoesTask (tasks.Make product out parts) input old new =
+      ((written : F) × IsMadeInFile (IsMadeOf (is_new_file product)) answered tells holds parts.items out.now written) × (new ≡ old)
+  DoesTask (tasks.Salvage out parts) input old new = (salvaged : Salvaged)
+      × ((file : F) × IsSalvagedFile answered tells holds parts.items out.now salvaged file)
+      × ((text : List ℕ) × TellsFaults salvaged.faults.items text × Appends (contents old) (contents new) text)
+  DoesTask (tasks.Check parts) input old new = IsMadeOfFiles (IsMadeOf IsCheckText) answered tells contents parts.items old new
+  DoesTask (tasks.Histogram parts) input old new = IsMadeOfFiles (IsMadeOf IsHistogramReport) answered tells contents parts.items old new
+  DoesTask (tasks.Ask question id parts) input old new =
+      IsIdText id.now × IsMadeOfFiles (IsMadeOf (is_answer question (id_value id.now))) answered tells contents parts.items old new
+
+  -- the task is refused, and so much is left of the stream
+  abbrev pub RefusesTask : Task → (input : I) → (old : O) → Refused → (new : Option O) → Type 0
+  RefusesTask tasks.Pass input old why new = RefusesStream left contents input old why new
+  RefusesTask (tasks.Make product out parts) input old why new = new ≡ Some old
+  RefusesTask (tasks.Salvage out parts) input old why new =
+      (after : O) × (new ≡ Some after) × RefusesSalvage answered tells holds parts.items out.now old after why
+  RefusesTask (tasks.Check parts) input old why new = RefusesReport check_making answered tells contents parts.items old why new
+  RefusesTask (tasks.Histogram parts) input old why new = RefusesReport histogram_making answered tells contents parts.items old why new
+  RefusesTask (tasks.Ask question id parts) input old why new =
+      IsIdText id.now × RefusesReport (answer_making question (id_value id.now)) answered tells contents parts.items old why new

@@ -1,0 +1,47 @@
+-- What is told of the faults of parts.
+use Rattle.std.specs.Prelude.{◌≡◌, ◌⊎◌, ℕ, List, [], ◌∷◌, ◌++◌, Option, ⊤}
+use Rattle.std.specs.Borrow.{Bor}
+use Rattle.hprof_devices.specs.declared.health.WriteFault.TheVariants as write_faults
+use Rattle.hprof_engine.specs.declared.tool_fault.ToolFault.TheVariants as tool
+use Rattle.hprof_engine.specs.FaultText.{IsFaultText}
+use Rattle.hprof_salvage.specs.declared.salvaged.FaultedPart.{FaultedPart}
+use Rattle.hprof_salvage.specs.declared.salvaged.Salvaged.{Salvaged}
+use Rattle.hprof_tool.specs.declared.program.refused.Refused.{Refused}
+use Rattle.hprof_tool.specs.declared.program.refused.Refused.TheVariants as refusals
+use Rattle.hprof_tool.specs.Folder.{Answered}
+use Rattle.hprof_tool.specs.SalvagedFiles.{IsSalvagedFile, IsSalvageRefusal}
+
+-- the end of a line
+abbrev pub line_end : ℕ
+line_end = 10
+
+-- the text tells these faults in order, each in one line, as a refusal of the part for it is told
+abbrev pub TellsFaults : List FaultedPart → List ℕ → Type 0
+TellsFaults [] text = text ≡ []
+TellsFaults (fault ∷ faults) text = (line : List ℕ) × (rest : List ℕ) × IsFaultText (tool.Part fault.index fault.fault) line
+    × (text ≡ line ++ line_end ∷ rest) × TellsFaults faults rest
+
+-- the faults of parts could not be told, or there was no memory for a line
+abbrev pub IsOfTelling : Refused → Type 0
+IsOfTelling (refusals.Engine (tool.Write write_faults.Failed)) = ⊤
+IsOfTelling refusals.OutOfMemory = ⊤
+IsOfTelling other = ⊥
+
+-- so it was with a new file, which was removed again where there was no memory
+abbrev pub EndsTelling : (IsRemoved : Type 0) → Refused → Type 0
+EndsTelling IsRemoved (refusals.Engine (tool.Write write_faults.Failed)) = ⊤
+EndsTelling IsRemoved refusals.OutOfMemory = IsRemoved
+EndsTelling IsRemoved other = ⊥
+
+module _ {F : Type 0} (answered : Answered F) (remaining contents : F → Option (List ℕ)) (names : List (Bor (List ℕ))) (out : List ℕ) where
+  -- what is saved of the files of these names was written to a new one, and then a fault could not be told
+  pub record CannotTell (why : Refused) : Type 0 where
+    pub salvaged : Salvaged
+    pub file : F
+    pub saved : IsSalvagedFile answered remaining contents names out salvaged file
+    pub ends : EndsTelling (answered.IsRemoved out) why
+
+  -- what a refusal to save what can be saved of them and to tell their faults says: nothing is told where nothing was saved
+  --   old, new: the stream on which the faults are told
+  abbrev pub RefusesSalvage : {O : Type 0} → (old new : O) → Refused → Type 0
+  RefusesSalvage old new why = (IsSalvageRefusal answered remaining names out why × (new ≡ old)) ⊎ CannotTell why

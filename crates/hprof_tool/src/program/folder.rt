@@ -1,0 +1,51 @@
+//! The files of the program.
+
+ghost use Rattle.std.specs.Prelude.{ℕ, List, IfOk, OnErr};
+ghost use Rattle.hprof_tool.specs.Folder.{Answered, nothing_told};
+
+use std::fs::File;
+use std::io::{Read, Write};
+use std::rt::Files;
+use std::{fs, io};
+
+/// Where the program finds its files. What it makes of them is proved of whatever a folder may tell of the files that it gives,
+/// so of the very files that were opened and created by these names, and of no others.
+pub(crate) trait Folder {
+    /// An open file.
+    type File: Read + Write + Drop;
+
+    // What came of the calls by names.
+    ghost answered: { Self → Answered Self.File };
+
+    /// Opens the file of a part.
+    fn open_part(&self, name: &str) -> io::Result<Self::File>
+        ensures opened { IfOk result ((answered self.now).IsOpened name.now) }
+        ensures fails { OnErr result ((answered self.now).CannotOpen name.now) };
+
+    /// Creates a new file, where there is none.
+    fn create_out(&self, name: &str) -> io::Result<Self::File>
+        ensures created { IfOk result ((answered self.now).IsCreated name.now) }
+        ensures fails { OnErr result ((answered self.now).CannotCreate name.now) };
+
+    /// Removes a file. Where it cannot be removed, it stays.
+    fn remove_out(&self, name: &str)
+        ensures { (answered self.now).IsRemoved name.now };
+}
+
+impl<F: Files> Folder for F {
+    type File = F::File;
+
+    ghost answered = { λ _. nothing_told };
+
+    fn open_part(&self, name: &str) -> io::Result<F::File> {
+        File::open(self, name)
+    }
+
+    fn create_out(&self, name: &str) -> io::Result<F::File> {
+        File::create_new(self, name)
+    }
+
+    fn remove_out(&self, name: &str) {
+        let _ = fs::remove_file(self, name);
+    }
+}
