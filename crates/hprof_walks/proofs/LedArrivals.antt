@@ -4,7 +4,7 @@ use Rattle.std.proofs.lemmas.List.{get_or-map, length-map}
 use Rattle.std.proofs.lemmas.List.Elements.{Contains-append_left, Contains-append_right, Contains-append_cases, Contains-get_or}
 use Rattle.hprof_walks.specs.declared.arrival.Arrival.{Arrival}
 use Rattle.hprof_walks.specs.Kept.{node_in}
-use Rattle.hprof_walks.specs.Arrivals.{AreArrivals}
+use Rattle.hprof_walks.specs.Arrivals.{AddsArrivals, AreArrivals}
 use Rattle.hprof_walks.proofs.NextLevel.{splits}
 
 module _ (place : ℕ) where
@@ -32,29 +32,37 @@ module _ (Leads : ℕ → ℕ → Type 0) (nodes found : List ℕ) (begin : ℕ)
     all = λ place to on below leads. absurd (omega arith);
   }
 
-  pub leads_more : (place next : ℕ) (arrivals : List Arrival) (targets : List ℕ) → next ≡ place + 1 → begin ≤ place
+  pub leads_more : (place next : ℕ) (arrivals more : List Arrival) (targets : List ℕ) → next ≡ place + 1 → begin ≤ place
       → ((to : ℕ) → Contains targets to ↔ Leads (node_in nodes found place) to)
-      → AreArrivals Leads nodes found begin place arrivals
-      → AreArrivals Leads nodes found begin next (arrivals ++ map (λ to. record { to = to; from = place }) targets)
-  leads_more place next arrivals targets one on same are = record {
-    from_there = λ arrival has. elim (Contains-append_cases arrivals (map (arrive place) targets) arrival has) [
+      → AreArrivals Leads nodes found begin place arrivals → AddsArrivals arrivals more targets place
+      → AreArrivals Leads nodes found begin next more
+  leads_more place next arrivals more targets one on same are adds = record {
+    from_there = λ arrival has. elim (adds.among arrival has) [
       | inl first ↦
           let there = are.from_there arrival first in
           let below = there.1 in
           (there.0, omega arith, there.2)
       | inr last ↦
-          let there = arrives place targets arrival last in
-          let from = there.0 in
-          let leads = (same arrival.to).0 there.1 in
-          (omega arith, omega arith, subst (λ (p : ℕ). Leads (node_in nodes found p) arrival.to) (sym there.0) leads)
+          let from = last.0 in
+          let leads = (same arrival.to).0 last.1 in
+          (omega arith, omega arith, subst (λ (p : ℕ). Leads (node_in nodes found p) arrival.to) (sym last.0) leads)
     ];
     all = λ other to on below leads. elim (splits other place) [
-      | inl before ↦ Contains-append_left arrivals (map (arrive place) targets) _ (are.all other to on before leads)
+      | inl before ↦
+          let first = are.all other to on before leads in
+          (first.0, adds.kept first.0 first.1, first.2, first.3)
       | inr after ↦
           let here : place ≡ other = omega arith in
           let has = (same to).1 (subst (λ (p : ℕ). Leads (node_in nodes found p) to) (sym here) leads) in
-          let P : ℕ → Type 0 = λ p. Contains (arrivals ++ map (arrive place) targets) (record { to = to; from = p }) in
-          subst P here (Contains-append_right arrivals (map (arrive place) targets) _ (has_arrive place targets to has))
+          let first = adds.all to has in (
+            first.0,
+            first.1,
+            first.2,
+            elim (adds.among first.0 first.1) [
+              | inl early ↦ let less = (are.from_there first.0 early).1 in omega arith
+              | inr last ↦ let from = last.0 in omega arith
+            ],
+          )
     ];
   }
 

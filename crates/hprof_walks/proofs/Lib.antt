@@ -17,3 +17,4 @@ pub mod OneMoreLevel
 pub mod Told
 pub mod Few
 pub mod Noting
+pub mod AddedArrivals

@@ -50,18 +50,21 @@ module _ (Leads : ℕ → ℕ → Type 0) (nodes starts : List ℕ) (ascend : Is
   least_from : (place other : ℕ) → middle ≤ place → place < length new.found → begin ≤ other → other < middle
       → Leads (node_in nodes old.found other) (node_in nodes new.found place) → slice_index new.before place ≤ other
   least_from place other on below late within leads =
-      let first = leasts.first _ (are.all other (node_in nodes new.found place) late within leads) in
-      let same = one_arrival least first.0 (arrival_of place) leasts.ascend first.1 (came place on below) first.2 in
+      let led = are.all other (node_in nodes new.found place) late within leads in
+      let first = leasts.first led.0 led.1 in
+      let same = one_arrival least first.0 (arrival_of place) leasts.ascend first.1 (came place on below) (first.2 ∙ led.2) in
       let from = ap (λ (arrival : Arrival). arrival.from) same in
       let less = first.3 in
+      let less_still = led.3 in
       omega arith
 
   found : (place node : ℕ) → begin ≤ place → place < middle → StepsIn Leads nodes (node_in nodes old.found place) node
       → IsAt (places_of nodes new more) (length new.found) node
   found place node late within step =
-      let first = leasts.first _ (are.all place node late within step.0) in
-      let at = follows.all first.0 first.1 (subst (Contains nodes) (sym first.2) step.1) in
-      record { place = at.0; below = at.1; is = at.2 ∙ first.2 }
+      let led = are.all place node late within step.0 in
+      let first = leasts.first led.0 led.1 in
+      let at = follows.all first.0 first.1 (subst (Contains nodes) (sym (first.2 ∙ led.2)) step.1) in
+      record { place = at.0; below = at.1; is = at.2 ∙ first.2 ∙ led.2 }
 
   far : (place : ℕ) → middle ≤ place → level_in more place ≡ suc (length levels)
   far place on =

@@ -9,7 +9,7 @@ use crate::arrival::keep_least;
 use crate::following::follow;
 use crate::graph::Graph;
 use crate::kept_search::Search;
-use crate::leading::{lead_on, push_arrivals};
+use crate::leading::{REMEMBERED, lead_on, push_arrivals};
 use crate::trail::Trail;
 use std::alloc::{AllocError, Global};
 
@@ -30,6 +30,7 @@ pub fn search<G: Graph>(
     let mut trail = Trail::new(alloc, nodes.len())?;
     let mut levels = Vec::new(alloc);
     let mut targets = Vec::new(alloc);
+    let mut lately = vec![in alloc; 0; REMEMBERED as usize]?;
     let mut arrivals = Vec::new(alloc);
     push_arrivals(&mut arrivals, starts, 0)?;
     keep_least(&mut arrivals);
@@ -43,6 +44,7 @@ pub fn search<G: Graph>(
             &trail.found,
             begin,
             &mut targets,
+            &mut lately,
             &mut arrivals,
         )?;
         keep_least(&mut arrivals);

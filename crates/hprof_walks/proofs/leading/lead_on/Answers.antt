@@ -5,21 +5,21 @@ use Rattle.hprof_walks.proofs.leading.lead_on.Goals as goal
 
 pub loop-place-preserved : goal.loop-place-preserved
 loop-place-preserved g c =
+    let Leads = g.G.Graph.leads c.args.graph.now in
     let place = c.loop-place.place in
     let stays = c.in_ok-targets_of.ensures.stays in
     let was = c.loop-place.invariant in
     let node = slice_index c.args.nodes.now (slice_index c.args.found.now place) in
     let given = subst (λ (targets : List ℕ). (to : ℕ) → Contains targets to ↔ g.G.Graph.leads c.loop-place.graph node to)
-    (sym c.deref.ensures.value) c.in_ok-targets_of.ensures.ok in
-    let on = c.loop-place.auto.place in (
-      subst (AreArrivals (g.G.Graph.leads c.args.graph.now) c.args.nodes.now c.args.found.now c.args.begin (place + 1))
-          (sym c.in_ok-push_arrivals.ensures)
-          (leads_more (g.G.Graph.leads c.args.graph.now) c.args.nodes.now c.args.found.now c.args.begin place (place + 1)
-          c.loop-place.arrivals.items c.deref.result.now refl on
-          (λ to. (λ has. (was.1 node to).0 ((given to).0 has), λ leads. (given to).1 ((was.1 node to).1 leads))) was.0),
-      λ other to. (λ leads. (was.1 other to).0 ((stays other to).0 leads), λ leads. (stays other to).1 ((was.1 other to).1 leads)),
-      c.in_ok-targets_of.ensures.stands,
-    )
+    (sym c.deref.ensures.value) c.in_ok-targets_of.ensures.ok in record {
+      are = leads_more Leads c.args.nodes.now c.args.found.now c.args.begin place (place + 1) c.loop-place.arrivals.items
+          c.add_arrivals.new.arrivals.items c.deref.result.now refl c.loop-place.auto.place
+          (λ to. (λ has. (was.stays node to).0 ((given to).0 has), λ leads. (given to).1 ((was.stays node to).1 leads))) was.are
+          c.in_ok-add_arrivals.ensures.adds;
+      lately = c.in_ok-add_arrivals.ensures.lately;
+      stays = λ other to. (λ leads. (was.stays other to).0 ((stays other to).0 leads), λ leads. (stays other to).1 ((was.stays other to).1 leads));
+      stands = c.in_ok-targets_of.ensures.stands;
+    }
 
 pub returns-clause-ok : goal.returns-clause-ok
 returns-clause-ok g c =
@@ -29,4 +29,4 @@ returns-clause-ok g c =
     let near = auto.place-end begin in
     let same : c.loop-place.place ≡ length c.args.found.now = omega arith in
     subst (λ (end : ℕ). AreArrivals (g.G.Graph.leads c.args.graph.now) c.args.nodes.now c.args.found.now c.args.begin end c.loop-place.arrivals.items)
-    same c.loop-place.invariant.0
+    same c.loop-place.invariant.are

@@ -30,6 +30,7 @@ loop-begin-init g c =
       stays = λ node to. (λ leads. leads, λ leads. leads);
       stands = c.requires.stands;
       noted = c.in_ok-follow.ensures.noted;
+      lately = c.in_ok-lately.ensures.len;
       as_many = c.in_ok-follow.ensures.as_many ∙ ap (length {A = ℕ}) c.deref.ensures.value;
     }
 
@@ -66,6 +67,7 @@ loop-begin-preserved g c =
       stays = λ node to. (λ leads. (was.stays node to).0 ((stays node to).0 leads), λ leads. (stays node to).1 ((was.stays node to).1 leads));
       stands = c.in_ok-lead_on.ensures.stands;
       noted = c.in_ok-follow-2.ensures.noted;
+      lately = c.in_ok-lead_on.ensures.lately;
       as_many = c.in_ok-follow-2.ensures.as_many ∙ ap (length {A = ℕ}) c.deref-in-loop-begin-3.ensures.value;
     }
 

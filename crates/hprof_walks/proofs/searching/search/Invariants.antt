@@ -10,6 +10,7 @@ invariant-loop-begin g l = record {
   stays : (node to : ℕ) → g.G.Graph.leads l.graph node to ↔ g.G.Graph.leads l.initial.graph node to;
   stands : g.G.Graph.stands l.graph;
   noted : NotesPlaces l.trail.found.items l.trail.places.items;
+  lately : length l.lately.items ≡ 4093;
   as_many : length l.trail.places.items ≡ length l.nodes.items;
 }
 
