@@ -18,7 +18,7 @@ use Rattle.hprof_histogram.specs.declared.row.Kind.{Kind}
 use Rattle.hprof_histogram.specs.declared.counted.Counted.{Counted}
 use Rattle.hprof_histogram.specs.declared.counted_kinds.CountedKinds.{CountedKinds}
 use Rattle.hprof_histogram.specs.Histogram.{kind_of, is_kind, same_kind, of_kind, size_of_object}
-use Rattle.hprof_histogram.specs.CountedKinds.{HasRoom, IsTally, both, counted_in, counted_of, nothing, one_of}
+use Rattle.hprof_histogram.specs.CountedKinds.{FitsCounts, IsTally, both, counted_in, counted_of, nothing, one_of}
 use Rattle.hprof_histogram.proofs.Tallies.{both_nothing, same_itself}
 
 -- ---- sums
@@ -36,7 +36,7 @@ both_assoc these those more =
     λ i. record { count = count i; bytes = bytes i }
 
 -- what has room together has room alone
-room_alone : (these those all : Counted) → both these those ≡ all → HasRoom all → HasRoom these
+room_alone : (these those all : Counted) → both these those ≡ all → FitsCounts all → FitsCounts these
 room_alone these those all e room =
     let count : these.count + those.count ≡ all.count = ap (λ (c : Counted). c.count) e in
     let bytes : these.bytes + those.bytes ≡ all.bytes = ap (λ (c : Counted). c.bytes) e in
@@ -122,15 +122,15 @@ tally_ends ids all left tally none to kind =
 -- ---- room
 
 -- what was counted so far has room
-pub room_so_far : (ids : IdSize) (all left : List FactValue) (tally : CountedKinds) → ((kind : Kind) → HasRoom (counted_of ids kind all))
-    → IsTallyTo ids all tally left → (kind : Kind) → HasRoom (counted_in tally kind)
+pub room_so_far : (ids : IdSize) (all left : List FactValue) (tally : CountedKinds) → ((kind : Kind) → FitsCounts (counted_of ids kind all))
+    → IsTallyTo ids all tally left → (kind : Kind) → FitsCounts (counted_in tally kind)
 room_so_far ids all left tally room to kind = room_alone _ _ _ (to kind) (room kind)
 
 -- so has one object more
 pub room_for_one : (ids : IdSize) (all rest : List FactValue) (tally : CountedKinds) (fact : FactValue) (own : Kind) (size : ℕ)
     → kind_of fact ≡ Some own → size ≡ size_of_object ids fact
-    → ((kind : Kind) → HasRoom (counted_of ids kind all)) → IsTallyTo ids all tally (fact ∷ rest)
-    → HasRoom (both (counted_in tally own) (one_of size))
+    → ((kind : Kind) → FitsCounts (counted_of ids kind all)) → IsTallyTo ids all tally (fact ∷ rest)
+    → FitsCounts (both (counted_in tally own) (one_of size))
 room_for_one ids all rest tally fact own size is sized room to =
     let before = counted_in tally own in
     let more : counted_of ids own (fact ∷ rest) ≡ both (one_of size) (counted_of ids own rest) =
@@ -186,7 +186,7 @@ same_of_kind kind (Class id trace parent loader signers domain reserved1 reserve
 -- fewer than 2^64 objects have room
 pub room_of_all : (ids : IdSize) (facts : List FactValue) (objects : ℕ) → AllFit ids facts
     → objects ≡ length (facts_of_table tables.Objects facts) → objects < 2 ^ 64
-    → (kind : Kind) → HasRoom (counted_of ids kind (facts_of_table tables.Objects facts))
+    → (kind : Kind) → FitsCounts (counted_of ids kind (facts_of_table tables.Objects facts))
 room_of_all ids facts objects fit counted few kind =
     let table = facts_of_table tables.Objects facts in
     let of_this : FactValue → Bool = λ fact. is_kind kind (kind_of fact) in

@@ -9,7 +9,7 @@ use Rattle.hprof_histogram.specs.declared.row.Kind.TheVariants.{Class, Prim}
 use Rattle.hprof_histogram.specs.declared.counted.Counted.{Counted}
 use Rattle.hprof_histogram.specs.declared.counted_kinds.CountedKinds.{CountedKinds}
 use Rattle.hprof_histogram.specs.Histogram.{same_kind}
-use Rattle.hprof_histogram.specs.CountedKinds.{HasRoom, both, counted_in, kept_of, nothing}
+use Rattle.hprof_histogram.specs.CountedKinds.{FitsCounts, both, counted_in, kept_of, nothing}
 
 pub both_nothing : (counted : Counted) → both counted nothing ≡ counted
 both_nothing counted =
@@ -19,13 +19,13 @@ both_nothing counted =
 
 -- what is kept of the class that came last has room for the last ones
 pub run_fits : (tally : CountedKinds) (kept : Counted) → Some kept ≡ get nat_cmp tally.classes tally.class
-    → HasRoom (counted_in tally (Class tally.class)) → HasRoom (both kept tally.run)
+    → FitsCounts (counted_in tally (Class tally.class)) → FitsCounts (both kept tally.run)
 run_fits tally kept found room =
     let is : counted_in tally (Class tally.class) ≡ both kept tally.run =
     cond-true (tally.class == tally.class) (both (kept_of tally.classes tally.class) tally.run) (kept_of tally.classes tally.class)
     (eq-eqb tally.class tally.class refl)
     ∙ ap (λ (o : Option Counted). both (unwrap_or o nothing) tally.run) (sym found) in
-    subst HasRoom is room
+    subst FitsCounts is room
 
 pub same_itself : (kind : Kind) → same_kind kind kind ≡ true
 same_itself (Class class) = eq-eqb class class refl

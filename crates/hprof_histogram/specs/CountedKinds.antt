@@ -27,7 +27,7 @@ abbrev pub one_of : ℕ → Counted
 one_of size = record { count = 1; bytes = size }
 
 -- numbers that have room where they are kept
-pub record HasRoom (counted : Counted) : Type 0 where
+pub record FitsCounts (counted : Counted) : Type 0 where
   pub count : counted.count < 2 ^ 64
   pub bytes : counted.bytes < 2 ^ 128
 

@@ -9,7 +9,7 @@ pub(crate) struct Counted {
 
 impl Counted {
     ghost use Rattle.std.specs.Prelude.{◌≡◌};
-    ghost use Rattle.hprof_histogram.specs.CountedKinds.{HasRoom, both, nothing, one_of};
+    ghost use Rattle.hprof_histogram.specs.CountedKinds.{FitsCounts, both, nothing, one_of};
 
     /// No objects.
     pub(crate) fn nothing() -> Counted
@@ -20,7 +20,7 @@ impl Counted {
 
     /// These, and one more of that size.
     pub(crate) fn with(self, size: u128) -> Counted
-        requires { HasRoom (both self (one_of size)) }
+        requires { FitsCounts (both self (one_of size)) }
         ensures { result ≡ both self (one_of size) }
     {
         Counted {
@@ -31,7 +31,7 @@ impl Counted {
 
     /// These and those.
     pub(crate) fn plus(self, other: Counted) -> Counted
-        requires { HasRoom (both self other) }
+        requires { FitsCounts (both self other) }
         ensures { result ≡ both self other }
     {
         Counted {

@@ -28,7 +28,7 @@ impl CountedKinds {
     ghost use Rattle.hprof_histogram.specs.declared.row.Kind.{Kind};
     ghost use Rattle.hprof_histogram.specs.declared.row.Kind.TheVariants as kinds;
     ghost use Rattle.hprof_histogram.specs.Histogram.{same_kind};
-    ghost use Rattle.hprof_histogram.specs.CountedKinds.{HasRoom, both, counted_in, nothing, one_of};
+    ghost use Rattle.hprof_histogram.specs.CountedKinds.{FitsCounts, both, counted_in, nothing, one_of};
 
     /// Nothing was counted.
     pub(crate) fn new(alloc: Global) -> CountedKinds
@@ -44,7 +44,7 @@ impl CountedKinds {
 
     /// Counts what came last into the map.
     pub(crate) fn close_run(&mut self) -> Result<(), AllocError>
-        requires { (kind : Kind) → HasRoom (counted_in self.old kind) }
+        requires { (kind : Kind) → FitsCounts (counted_in self.old kind) }
         ensures same { OnOk result ((kind : Kind) → counted_in self.new kind ≡ counted_in self.old kind) }
         ensures closed { OnOk result (self.new.run ≡ nothing) }
     {
@@ -60,8 +60,8 @@ impl CountedKinds {
 
     /// Counts an object of a class.
     fn count_class(&mut self, class: u64, size: u128) -> Result<(), AllocError>
-        requires all { (kind : Kind) → HasRoom (counted_in self.old kind) }
-        requires one { HasRoom (both (counted_in self.old (kinds.Class class)) (one_of size)) }
+        requires all { (kind : Kind) → FitsCounts (counted_in self.old kind) }
+        requires one { FitsCounts (both (counted_in self.old (kinds.Class class)) (one_of size)) }
         ensures { OnOk result ((kind : Kind) → counted_in self.new kind
             ≡ cond (same_kind kind (kinds.Class class)) (both (counted_in self.old kind) (one_of size)) (counted_in self.old kind)) }
     {
@@ -75,7 +75,7 @@ impl CountedKinds {
 
     /// Counts an array of a type.
     fn count_type(&mut self, elem: Basic, size: u128)
-        requires { HasRoom (both (counted_in self.old (kinds.Prim elem)) (one_of size)) }
+        requires { FitsCounts (both (counted_in self.old (kinds.Prim elem)) (one_of size)) }
         ensures { (kind : Kind) → counted_in self.new kind
             ≡ cond (same_kind kind (kinds.Prim elem)) (both (counted_in self.old kind) (one_of size)) (counted_in self.old kind) }
     {
@@ -85,8 +85,8 @@ impl CountedKinds {
 
     /// Counts an object.
     pub(crate) fn count(&mut self, kind: Kind, size: u128) -> Result<(), AllocError>
-        requires all { (other : Kind) → HasRoom (counted_in self.old other) }
-        requires one { HasRoom (both (counted_in self.old kind) (one_of size)) }
+        requires all { (other : Kind) → FitsCounts (counted_in self.old other) }
+        requires one { FitsCounts (both (counted_in self.old kind) (one_of size)) }
         ensures { OnOk result ((other : Kind) → counted_in self.new other
             ≡ cond (same_kind other kind) (both (counted_in self.old other) (one_of size)) (counted_in self.old other)) }
     {

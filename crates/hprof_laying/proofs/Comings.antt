@@ -11,7 +11,7 @@ use Rattle.hprof_laying.specs.declared.own_fields.OwnLayout.{OwnLayout}
 use Rattle.hprof_laying.specs.declared.plan.Plan.{Plan}
 use Rattle.hprof_laying.specs.Known.{AreWoken, HasDumpMore, HasLayout, Knows, plan_of, waiting_below}
 use Rattle.hprof_laying.specs.OwnFields.{IsOwn}
-use Rattle.hprof_laying.specs.Waking.{IsReady, IsWaking, PlansStand, Wakes, Woke, put}
+use Rattle.hprof_laying.specs.Waking.{CanWake, IsWaking, PlansStand, Wakes, Woke, put}
 use Rattle.hprof_laying.proofs.KnownPlans.{known_ready, knows_standing, not_both, standing_knows}
 use Rattle.hprof_laying.proofs.Outlines.{known_zero}
 use Rattle.hprof_laying.proofs.Wakings.{stands_open, stands_waiting, stands_zero, woke_none}
@@ -64,7 +64,7 @@ module _ (ids : IdSize) (facts more : List FactValue) (known : KnownLayouts) (kn
     }
 
     -- but where that has no known layout
-    pub waits_then : (IsReady (plan_of other) dump.parent → ⊥) → IsWaking ids more (plan_of known) other [] []
+    pub waits_then : (CanWake (plan_of other) dump.parent → ⊥) → IsWaking ids more (plan_of known) other [] []
     waits_then unready = record {
       standing = stands_open ids more (plan_of other) (waiting_below other) (dump.parent ∷ []) stands_then dump.parent refl unready;
       woke = wakes_then.woke;

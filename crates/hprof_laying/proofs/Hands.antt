@@ -14,7 +14,7 @@ use Rattle.hprof_laying.specs.declared.plan.Outline.{Outline}
 use Rattle.hprof_laying.specs.declared.plan.Plan.{Plan}
 use Rattle.hprof_laying.specs.Known.{plan_of, waiting_below}
 use Rattle.hprof_laying.specs.Plan.{IsOutline, plan_below}
-use Rattle.hprof_laying.specs.Waking.{IsReady, IsWaking, PlansStand, Wakes, Woke, put}
+use Rattle.hprof_laying.specs.Waking.{CanWake, IsWaking, PlansStand, Wakes, Woke, put}
 use Rattle.hprof_laying.proofs.Wakings.{first_unplanned, put-put, put-same, stands_without, stands_woken, woke_more}
 
 module _ (ids : IdSize) (facts : List FactValue) (before : ℕ → Option Plan) (class : ℕ) (pending old : List ℕ) where
@@ -98,7 +98,7 @@ module _ (ids : IdSize) (facts : List FactValue) (before : ℕ → Option Plan) 
 -- the class at a place of the list is the next that is still to be woken below
 pub wakes_next : (ids : IdSize) (facts : List FactValue) (before : ℕ → Option Plan) (known : KnownLayouts) (woken : List ℕ)
     (place class : ℕ) → place < length woken → class ≡ get_or woken place class → IsWaking ids facts before known woken (drop place woken)
-    → IsReady (plan_of known) class × IsWaking ids facts before known woken (class ∷ drop (place + 1) woken)
+    → CanWake (plan_of known) class × IsWaking ids facts before known woken (class ∷ drop (place + 1) woken)
 wakes_next ids facts before known woken place class within is waking =
     let next : drop place woken ≡ class ∷ drop (place + 1) woken =
     drop_from woken place class within ∙ ap (λ (c : ℕ). c ∷ drop (place + 1) woken) (sym is) in

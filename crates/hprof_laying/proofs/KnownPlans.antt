@@ -14,7 +14,7 @@ use Rattle.hprof_laying.specs.declared.known.KnownLayouts.{KnownLayouts}
 use Rattle.hprof_laying.specs.declared.known.Waiting.{Waiting}
 use Rattle.hprof_laying.specs.declared.plan.Plan.{Plan}
 use Rattle.hprof_laying.specs.Known.{HasLayout, HasPlan, IsOnceEach, IsWaiting, Knows, Waits, plan_of, waiting_below}
-use Rattle.hprof_laying.specs.Waking.{IsPlanned, IsReady, PlansStand}
+use Rattle.hprof_laying.specs.Waking.{IsPlanned, CanWake, PlansStand}
 use Rattle.hprof_laying.proofs.MoreDumps.{known_stays, plan_stays, waiting_stays}
 use Rattle.hprof_laying.proofs.ReferenceSets.{nothing_there}
 use Rattle.hprof_laying.proofs.Outlines.{one_known, known_zero, known_below, plan_known}
@@ -102,13 +102,13 @@ standing_knows ids facts known stands = record {
 
 module _ (ids : IdSize) (facts : List FactValue) (known : KnownLayouts) (knows : Knows ids facts known) where
   -- a class is ready when its layout is known
-  pub known_ready : (class : ℕ) → HasLayout facts class → IsReady (plan_of known) class
+  pub known_ready : (class : ℕ) → HasLayout facts class → CanWake (plan_of known) class
   known_ready class layout = elim (cases_eq class 0) [
     | inl zero_is ↦ inl zero_is
     | inr other ↦ let has = knows.planned class layout.0 other layout.1 in inr (has.plan, has.found)
   ]
 
-  pub ready_known : (class : ℕ) → IsReady (plan_of known) class → HasLayout facts class
+  pub ready_known : (class : ℕ) → CanWake (plan_of known) class → HasLayout facts class
   ready_known class (inl zero_is) = subst (HasLayout facts) (sym zero_is) ([], known_zero facts)
   ready_known class (inr planned) = (knows.only class planned.0 planned.1).1
 
@@ -155,15 +155,15 @@ module _ (ids : IdSize) (facts : List FactValue) (known : KnownLayouts) (knows :
         (knows.waits superclass waiting there).1 (subst (HasLayout facts) (sym e) ([], known_zero facts))
 
 -- a class is ready where the map has a plan, or where it is 0
-pub ready_by : (plans : ℕ → Option Plan) (class : ℕ) (t : Bool) → class ≢ 0 → t ≡ is_some (plans class) → IsTrue t ↔ IsReady plans class
+pub ready_by : (plans : ℕ → Option Plan) (class : ℕ) (t : Bool) → class ≢ 0 → t ≡ is_some (plans class) → IsTrue t ↔ CanWake plans class
 ready_by plans class t not_zero e = (there, back) where
-  there : IsTrue t → IsReady plans class
+  there : IsTrue t → CanWake plans class
   there yes_it_is = elim (look (plans class)) [
     | There plan is ↦ inr (plan, is)
     | Nowhere is ↦ let clash : true ≡ false = sym yes_it_is ∙ e ∙ ap is_some is in absurd cc
   ]
 
-  back : IsReady plans class → IsTrue t
+  back : CanWake plans class → IsTrue t
   back (inl zero_is) = absurd (not_zero zero_is)
   back (inr planned) = e ∙ ap is_some planned.1
 

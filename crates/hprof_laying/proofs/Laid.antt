@@ -18,7 +18,7 @@ use Rattle.hprof_laying.specs.declared.reference.Reference.{Reference}
 use Rattle.hprof_laying.specs.Known.{HasLayout, HasPlan, Knows, plan_of, waiting_below}
 use Rattle.hprof_laying.specs.OwnFields.{IsOwn, references_in}
 use Rattle.hprof_laying.specs.Plan.{IsFirstJump, IsOutline, most, outline_at}
-use Rattle.hprof_laying.specs.Waking.{IsReady}
+use Rattle.hprof_laying.specs.Waking.{CanWake}
 use Rattle.hprof_laying.specs.References.{AreReferences}
 use Rattle.hprof_laying.proofs.KnownPlans.{There, Nowhere, known_ready, knows_standing, look, not_both, one_plan}
 use Rattle.hprof_laying.proofs.Outlines.{one_known}
@@ -238,7 +238,7 @@ module _ (ids : IdSize) (facts : List FactValue) (known : KnownLayouts) (knows :
           (no_references ids facts class bytes (λ values has. unknown_class e other (has.slots, has.known)))
     ]
   ] where
-    by_ready : IsReady (plan_of known) class → AreReferences ids facts class bytes references
+    by_ready : CanWake (plan_of known) class → AreReferences ids facts class bytes references
     by_ready ready =
         let layout = ready_outline ids facts (plan_of known) (waiting_below known) [] (knows_standing ids facts known knows) class ready in
         let width = layout.outline_are.width_is in

@@ -23,7 +23,7 @@ use Rattle.hprof_laying.specs.declared.plan.Plan.{Plan}
 use Rattle.hprof_laying.specs.Known.{HasDumpMore, HasPlan, IsOnceEach, IsWaiting, Waits}
 use Rattle.hprof_laying.specs.OwnFields.{IsOwn}
 use Rattle.hprof_laying.specs.Plan.{IsOutline, IsPlan, outline_at, plan_below}
-use Rattle.hprof_laying.specs.Waking.{IsPlanned, IsReady, PlansStand, Woke, put}
+use Rattle.hprof_laying.specs.Waking.{IsPlanned, CanWake, PlansStand, Woke, put}
 use Rattle.hprof_laying.proofs.KnownPlans.{There, Nowhere, look, not_both}
 use Rattle.hprof_laying.proofs.MoreDumps.{plan_stays, waiting_stays}
 use Rattle.hprof_laying.proofs.Outlines.{known_zero, outline_is, plan_is, plan_known}
@@ -108,7 +108,7 @@ module _ (ids : IdSize) (facts : List FactValue) (plans : ℕ → Option Plan) (
     pub known : IsKnown facts class slots
     pub outline_are : IsOutline ids facts slots (outline_at class (plans class))
 
-  pub ready_outline : (class : ℕ) → IsReady plans class → HasOutline class
+  pub ready_outline : (class : ℕ) → CanWake plans class → HasOutline class
   ready_outline class (inl zero_is) =
       let none : plans class ≡ None = ap plans zero_is ∙ no_plan_of_zero in
       record {
@@ -146,7 +146,7 @@ module _ (ids : IdSize) (facts : List FactValue) (plans : ℕ → Option Plan) (
   }
 
   -- nor a class that is not ready
-  pub stands_open : (class : ℕ) → pending ≡ class ∷ [] → (IsReady plans class → ⊥) → PlansStand ids facts plans waits []
+  pub stands_open : (class : ℕ) → pending ≡ class ∷ [] → (CanWake plans class → ⊥) → PlansStand ids facts plans waits []
   stands_open class e unready = record {
     each = stands.each;
     plans_are = stands.plans_are;
@@ -157,7 +157,7 @@ module _ (ids : IdSize) (facts : List FactValue) (plans : ℕ → Option Plan) (
       | inr is ↦ inr is
       | inl some ↦
           let same : class ≡ superclass = one_there class superclass (subst (λ (l : List ℕ). Contains l superclass) e some) in
-          let not_ready : IsReady plans superclass → ⊥ = subst (λ (s : ℕ). IsReady plans s → ⊥) same unready in
+          let not_ready : CanWake plans superclass → ⊥ = subst (λ (s : ℕ). CanWake plans s → ⊥) same unready in
           inr (
             λ is_zero. not_ready (inl is_zero),
             elim (look (plans superclass)) [

@@ -20,8 +20,8 @@ abbrev pub IsPlanned : (ℕ → Option Plan) → ℕ → Type 0
 IsPlanned plans class = (plan : Plan) × (plans class ≡ Some plan)
 
 -- the class needs no plan, or there is one
-abbrev pub IsReady : (ℕ → Option Plan) → ℕ → Type 0
-IsReady plans class = (class ≡ 0) ⊎ IsPlanned plans class
+abbrev pub CanWake : (ℕ → Option Plan) → ℕ → Type 0
+CanWake plans class = (class ≡ 0) ⊎ IsPlanned plans class
 
 -- plans and what waits, where those are still to be woken that wait for some classes
 pub record PlansStand (ids : IdSize) (facts : List FactValue) (plans : ℕ → Option Plan) (waits : ℕ → List Waiting) (pending : List ℕ)

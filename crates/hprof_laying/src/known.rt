@@ -11,7 +11,7 @@ ghost use Rattle.hprof_laying.specs.declared.plan.Plan.{Plan};
 ghost use Rattle.hprof_laying.specs.Plan.{outline_at};
 ghost use Rattle.hprof_laying.specs.Known.{AreWoken, HasDumpMore, HasLayout, Knows, plan_of, waiting_below};
 ghost use Rattle.hprof_laying.specs.References.{AreReferences};
-ghost use Rattle.hprof_laying.specs.Waking.{IsReady, IsWaking, Wakes, number_waiting, put};
+ghost use Rattle.hprof_laying.specs.Waking.{CanWake, IsWaking, Wakes, number_waiting, put};
 
 use crate::own_fields::{OwnLayout, own_fields};
 use crate::plan::{Jump, Outline, Plan};
@@ -54,7 +54,7 @@ impl KnownLayouts {
     /// Whether the layout of the class is known.
     pub fn knows(&self, class: u64) -> bool
         ensures known { (ids : IdSize) (facts : List FactValue) → Knows ids facts self.now → IsTrue result ↔ HasLayout facts class }
-        ensures ready { IsTrue result ↔ IsReady (plan_of self.now) class }
+        ensures ready { IsTrue result ↔ CanWake (plan_of self.now) class }
     {
         class == 0 || self.plans.contains_key(&class)
     }
@@ -112,7 +112,7 @@ impl KnownLayouts {
     /// Makes plans of the classes that wait for a class that has one, and puts them behind other classes.
     fn wake_below(&mut self, class: u64, woken: &mut Vec<u64>) -> Result<(), AllocError>
         ensures ok { OnOk result ((ids : IdSize) (facts : List FactValue) (before : ℕ → Option Plan) (pending : List ℕ)
-            → IsReady (plan_of self.old) class → IsWaking ids facts before self.old woken.old.items (class ∷ pending)
+            → CanWake (plan_of self.old) class → IsWaking ids facts before self.old woken.old.items (class ∷ pending)
             → Wakes ids facts before self.new woken.old.items woken.new.items pending) }
         ensures counted { OnOk result (number_waiting self.new + vec_len woken.new ≡ number_waiting self.old + vec_len woken.old) }
     {

@@ -91,12 +91,12 @@ pub record Watches (live : LiveHeap) (id : ℕ) : Type 0 where
   pub keeps : KeepsTo live id
 
 -- it goes on to be current, and to keep what it keeps
-pub record GoesOn (old new : LiveHeap) : Type 0 where
+pub record StaysCurrent (old new : LiveHeap) : Type 0 where
   pub current : IsCurrent old → IsCurrent new
   pub keeps : keeps_of new.derived ≡ keeps_of old.derived
 
 -- so what is watched stays watched
-pub watches_on : (old new : LiveHeap) → GoesOn old new → (id : ℕ) → Watches old id → Watches new id
+pub watches_on : (old new : LiveHeap) → StaysCurrent old new → (id : ℕ) → Watches old id → Watches new id
 watches_on old new goes_on id watches = record {
   current = goes_on.current watches.current;
   keeps = λ edge to. ap (λ (keeps : Edge → Bool). keeps edge) goes_on.keeps ∙ watches.keeps edge to;
@@ -105,7 +105,7 @@ watches_on old new goes_on id watches = record {
 -- nothing that is told of it changes
 pub record StaysAsItIs (old new : LiveHeap) : Type 0 where
   pub seen : seen_by new ≡ seen_by old
-  pub goes_on : GoesOn old new
+  pub goes_on : StaysCurrent old new
 
 abbrev pub RestsAsItIs : MutBor LiveHeap → Fml
 RestsAsItIs live = Rests the_row live (StaysAsItIs live.now)
@@ -114,11 +114,11 @@ RestsAsItIs live = Rests the_row live (StaysAsItIs live.now)
 
 pub record BeginsLive (old : LiveHeap) (header : Header) (new : LiveHeap) : Type 0 where
   pub begins : Begins (seen_by old) header (seen_by new)
-  pub goes_on : GoesOn old new
+  pub goes_on : StaysCurrent old new
 
 pub record TakesLive (old : LiveHeap) (fact : FactValue) (new : LiveHeap) : Type 0 where
   pub takes : Takes (seen_by old) fact (seen_by new)
-  pub goes_on : GoesOn old new
+  pub goes_on : StaysCurrent old new
 
 -- one that has not failed answers no fault but want of memory, and that only for a fact that is new to its heap
 abbrev pub RefusesLive : LiveHeap → List FactValue → SinkFault → LiveHeap → Type 0

@@ -12,7 +12,7 @@ use Rattle.hprof_stream.specs.ItemValue.{ItemValue, with_fact, bare}
 use Rattle.hprof_stream.specs.ItemValue as items
 use Rattle.hprof_stream.specs.declared.progress.Progress.{Progress}
 use Rattle.hprof_stream.specs.Item.{place_behind, begun_at}
-use Rattle.hprof_stream.specs.ItemStep.{facts_of, place_after, Stands, is_end_item}
+use Rattle.hprof_stream.specs.ItemStep.{facts_stated, place_after, Stands, is_end_item}
 use Rattle.hprof_stream.specs.Progress.{place_of, advanced, IsCounted, IsNext}
 use Rattle.hprof_stream.specs.Walking.{told_by}
 
@@ -97,7 +97,7 @@ count_next (Some h) (suc room) items.Skipped n progress stands = absurd stands
 count_next (Some h) (suc room) (items.Sub fact) n progress stands = omega arith
 
 -- how many facts, and whether it ends a heap dump
-pub facts_next : (item : ItemValue) (n : ℕ) (progress : Progress) → (advanced progress item n).facts ≡ progress.facts + length (facts_of item)
+pub facts_next : (item : ItemValue) (n : ℕ) (progress : Progress) → (advanced progress item n).facts ≡ progress.facts + length (facts_stated item)
 facts_next (items.Header h) n progress = omega arith
 facts_next (items.Fact fact) n progress = omega arith
 facts_next (items.Dump len) n progress = omega arith

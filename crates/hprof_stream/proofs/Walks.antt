@@ -26,7 +26,7 @@ use Rattle.hprof_stream.specs.declared.progress.Progress.{Progress}
 use Rattle.hprof_stream.specs.Part.{Stated, all_bytes, all_facts, is_end}
 use Rattle.hprof_stream.specs.Item.{Place, Within, place_in, place_behind, header_before, IsItem, is_header, is_fact, is_dump_end}
 use Rattle.hprof_stream.specs.Item.{is_dump, is_sub, is_skipped, none, more, item_at}
-use Rattle.hprof_stream.specs.ItemStep.{facts_of, place_after, Stands, is_end_item, IsOfPlace, ItemLists}
+use Rattle.hprof_stream.specs.ItemStep.{facts_stated, place_after, Stands, is_end_item, IsOfPlace, ItemLists}
 use Rattle.hprof_stream.specs.Progress.{place_of, advanced, IsCounted, IsNext}
 use Rattle.hprof_stream.specs.Run.{Run, became, FitsBegun, ListsHaveBegun, SpellsBegun}
 use Rattle.hprof_stream.specs.Walking.{Gives, GivesFit, GivesSome, IsBegun, told_by, Walks, Refuses, Stops}
@@ -41,7 +41,7 @@ module _ {S : Type 0} (begins : S → Header → S → Type 0) (steps : S → Fa
   -- what is handed on is a run
   run_next : (header : Option Header) (room : ℕ) (item : ItemValue) (n : ℕ) (progress : Progress) (old new : S)
       → progress.header ≡ header → Stands (place_behind header room) item → Gives begins steps old item new
-      → Run begins steps old (became header (advanced progress item n).header) (facts_of item) new
+      → Run begins steps old (became header (advanced progress item n).header) (facts_stated item) new
   run_next None room (items.Header h) n progress old new e stands gives = (new, gives, refl)
   run_next None room (items.Fact fact) n progress old new e stands gives = absurd stands
   run_next None room (items.Dump len) n progress old new e stands gives = absurd stands
@@ -64,18 +64,18 @@ module _ {S : Type 0} (begins : S → Header → S → Type 0) (steps : S → Fa
   -- one item is walked over
   pub Walks-item : (longest : ℕ) (from : Progress) (bytes : List ℕ) (old new : S) (item : ItemValue) (n : ℕ) → IsBytes bytes
       → from.room ≤ longest_body
-      → item_at longest (place_of from) bytes ≡ Whole (record { next = place_after (place_of from) item n; facts = facts_of item }) n
+      → item_at longest (place_of from) bytes ≡ Whole (record { next = place_after (place_of from) item n; facts = facts_stated item }) n
       → IsOfPlace (place_of from) bytes item → Gives begins steps old item new
       → Walks begins steps longest from bytes old (advanced from item n) (drop n bytes) new × (0 < n) × (n ≤ length bytes)
   Walks-item longest from bytes old new item n are small e of gives =
       let place = place_of from in
       let to : Progress = advanced from item n in
-      let read = item_found longest place bytes (record { next = place_after place item n; facts = facts_of item }) n
+      let read = item_found longest place bytes (record { next = place_after place item n; facts = facts_stated item }) n
       (room_behind from.header from.room small) are e in
-      let one : Stated = record { bytes = take n bytes; facts = facts_of item } in
+      let one : Stated = record { bytes = take n bytes; facts = facts_stated item } in
       let is : IsItem longest place one (place_of to) = subst (IsItem longest place one) (next_place from item n of.0) read.2 in
       let end : is_end one ≡ is_end_item item = ap (λ (b : ℕ). b == 0x2c) (first_taken n bytes read.1 read.0) ∙ sym of.1 in
-      let ran : Run begins steps old (became from.header to.header) (facts_of item) new =
+      let ran : Run begins steps old (became from.header to.header) (facts_stated item) new =
       run_next from.header from.room item n from old new refl of.0 gives in (
         record {
           items = one ∷ [];
@@ -84,10 +84,10 @@ module _ {S : Type 0} (begins : S → Header → S → Type 0) (steps : S → Fa
           same_limits = limits_next item n from;
           offset = omega (arith, offset_next item n from, length-take-le n bytes read.0, ap length (append-nil (take n bytes)));
           record_count = omega (arith, count_next from.header from.room item n from of.0);
-          fact_count = omega (arith, facts_next item n from, ap length (append-nil (facts_of item)));
+          fact_count = omega (arith, facts_next item n from, ap length (append-nil (facts_stated item)));
           has_end = end_next item n from ∙ ap (λ (b : Bool). from.ended || b) (sym end ∙ sym (or-false (is_end one)));
           ran = subst (λ (f : List FactValue). Run begins steps old (became from.header to.header) f new)
-              (sym (append-nil (facts_of item))) ran;
+              (sym (append-nil (facts_stated item))) ran;
         },
         read.1,
         read.0,
@@ -200,7 +200,7 @@ sub_room longest from one to header room (is_skipped skipped empty) e = absurd c
 -- what was read at a place
 abbrev pub IsReadAt : ℕ → Progress → List ℕ → ItemValue → ℕ → Type 0
 IsReadAt longest from bytes item n = item_at longest (place_of from) bytes
-    ≡ Whole (record { next = place_after (place_of from) item n; facts = facts_of item }) n
+    ≡ Whole (record { next = place_after (place_of from) item n; facts = facts_stated item }) n
 
 -- it may be handed to the sink
 fact_fits : (longest : ℕ) (place next : Place) (header : Header) (bytes given : List ℕ) (fact : Fact) (begun : Option IdSize)
@@ -257,7 +257,7 @@ dumped_item longest from one to fact header (suc room) (is_sub {header = h} {fac
 dumped_item longest from one to fact header (suc room) (is_skipped skipped empty) facts e = absurd cc
 
 fit_at : (longest : ℕ) (header : Option Header) (room : ℕ) (bytes : List ℕ) (next : Place) (item : ItemValue) (begun : Option IdSize)
-    → IsItem longest (place_behind header room) (record { bytes = bytes; facts = facts_of item }) next
+    → IsItem longest (place_behind header room) (record { bytes = bytes; facts = facts_stated item }) next
     → Stands (place_behind header room) item → ItemLists header item
     → IsBegun header begun → GivesFit begun item bytes
 fit_at longest header room bytes next (items.Header h) begun is stands lists with = tt
@@ -281,14 +281,14 @@ fit_at longest (Some h) (suc room) bytes next (items.Sub fact) begun is stands l
 pub read_within : (longest : ℕ) (from : Progress) (bytes : List ℕ) (item : ItemValue) (n : ℕ) → IsBytes bytes → from.room ≤ longest_body
     → IsReadAt longest from bytes item n → n ≤ length bytes
 read_within longest from bytes item n are small e =
-    (item_found longest (place_of from) bytes (record { next = place_after (place_of from) item n; facts = facts_of item }) n
+    (item_found longest (place_of from) bytes (record { next = place_after (place_of from) item n; facts = facts_stated item }) n
     (room_behind from.header from.room small) are e).0
 
 pub given_fits : (longest : ℕ) (from : Progress) (bytes : List ℕ) (item : ItemValue) (n : ℕ) (begun : Option IdSize) → IsBytes bytes
     → from.room ≤ longest_body → IsReadAt longest from bytes item n
     → IsOfPlace (place_of from) bytes item → ItemLists from.header item → IsBegun from.header begun → GivesFit begun item (take n bytes)
 given_fits longest from bytes item n begun are small e of lists with =
-    let read = item_found longest (place_of from) bytes (record { next = place_after (place_of from) item n; facts = facts_of item }) n
+    let read = item_found longest (place_of from) bytes (record { next = place_after (place_of from) item n; facts = facts_stated item }) n
     (room_behind from.header from.room small) are e in
     fit_at longest from.header from.room (take n bytes) (place_after (place_of from) item n) item begun read.2 of.0 lists with
 
@@ -315,7 +315,7 @@ told_next (Some h) (suc room) items.Skipped n stands = absurd stands
 told_next (Some h) (suc room) (items.Sub fact) n stands = header_in h (suc room - n)
 
 given_none : (header : Option Header) (room : ℕ) (item : ItemValue) → Stands (place_behind header room) item → GivesSome item
-    → facts_of item ≡ [] → header ≡ None
+    → facts_stated item ≡ [] → header ≡ None
 given_none None room item stands some nothing = refl
 given_none (Some h) zero (items.Header other) stands some nothing = absurd stands
 given_none (Some h) (suc room) (items.Header other) stands some nothing = absurd stands
@@ -329,14 +329,14 @@ given_none (Some h) room (items.Sub fact) stands some nothing = absurd cc
 pub Stops-refused : {S : Type 0} (refuses : S → List FactValue → SinkFault → S → Type 0) (failed : S → Bool) (from : Progress)
     (bytes : List ℕ) (item : ItemValue) (n : ℕ) (old new : S) (fault : SinkFault)
     → IsBytes bytes → from.room ≤ longest_body → IsReadAt from.limits.max_item from bytes item n → IsOfPlace (place_of from) bytes item
-    → GivesSome item → Refuses refuses failed old (facts_of item) fault new
+    → GivesSome item → Refuses refuses failed old (facts_stated item) fault new
     → Stops refuses failed from bytes old (faults.Sink fault) (told_by from.header item) new
 Stops-refused refuses failed from bytes item n old new fault are small e of some refused =
     let place = place_of from in
     let next = place_after place item n in
-    let read = item_found from.limits.max_item place bytes (record { next = next; facts = facts_of item }) n
+    let read = item_found from.limits.max_item place bytes (record { next = next; facts = facts_stated item }) n
     (room_behind from.header from.room small) are e in (
-      record { bytes = take n bytes; facts = facts_of item },
+      record { bytes = take n bytes; facts = facts_stated item },
       next,
       drop n bytes,
       read.2,
@@ -349,7 +349,7 @@ Stops-refused refuses failed from bytes item n old new fault are small e of some
 -- and counted
 next_at : (longest : ℕ) (header : Option Header) (room n : ℕ) (bytes : List ℕ) (next : Place) (item : ItemValue) (progress : Progress)
     → progress.room ≡ room → 0 < n → length bytes ≡ n
-    → IsItem longest (place_behind header room) (record { bytes = bytes; facts = facts_of item }) next
+    → IsItem longest (place_behind header room) (record { bytes = bytes; facts = facts_stated item }) next
     → Stands (place_behind header room) item → IsNext progress item n
 next_at longest header room n bytes next (items.Header h) progress e some len is stands = some
 next_at longest header room n bytes next (items.Fact fact) progress e some len is stands = some
@@ -366,7 +366,7 @@ pub next_counted : (longest : ℕ) (from : Progress) (bytes : List ℕ) (item : 
     → from.room ≤ longest_body → IsReadAt longest from bytes item n
     → IsOfPlace (place_of from) bytes item → IsCounted from (length bytes) → IsCounted from n × IsNext from item n
 next_counted longest from bytes item n are small e of counted =
-    let read = item_found longest (place_of from) bytes (record { next = place_after (place_of from) item n; facts = facts_of item }) n
+    let read = item_found longest (place_of from) bytes (record { next = place_after (place_of from) item n; facts = facts_stated item }) n
     (room_behind from.header from.room small) are e in (
       IsCounted-less from (length bytes) n counted read.0,
       next_at longest from.header from.room n (take n bytes) (place_after (place_of from) item n) item from refl read.1

@@ -9,10 +9,10 @@ use Rattle.hprof_stream.specs.ItemValue as items
 use Rattle.hprof_stream.specs.Item.{Place, Start, Between, Within, place_in, Found}
 
 -- the facts that it states
-abbrev pub facts_of : ItemValue → List FactValue
-facts_of (items.Fact fact) = value_of fact ∷ []
-facts_of (items.Sub fact) = value_of fact ∷ []
-facts_of _ = []
+abbrev pub facts_stated : ItemValue → List FactValue
+facts_stated (items.Fact fact) = value_of fact ∷ []
+facts_stated (items.Sub fact) = value_of fact ∷ []
+facts_stated _ = []
 
 -- the place that it leads to from another, by so many bytes
 abbrev pub place_after : Place → ItemValue → ℕ → Place
@@ -23,7 +23,7 @@ place_after place item n = place
 
 -- the step is what was found
 abbrev pub IsFound : Place → Step ItemValue → Step Found → Type 0
-IsFound place (steps.Whole item n) found = found ≡ steps.Whole (record { next = place_after place item n; facts = facts_of item }) n
+IsFound place (steps.Whole item n) found = found ≡ steps.Whole (record { next = place_after place item n; facts = facts_stated item }) n
 IsFound place steps.Short found = found ≡ steps.Short
 IsFound place steps.TooLong found = found ≡ steps.TooLong
 IsFound place (steps.Fault reason) found = found ≡ steps.Fault reason

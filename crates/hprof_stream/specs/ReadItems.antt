@@ -5,13 +5,13 @@ use Rattle.hprof_stream.specs.ItemValue.{ItemValue}
 use Rattle.hprof_stream.specs.declared.progress.Progress.{Progress}
 use Rattle.hprof_stream.specs.Part.{Stated, all_bytes, all_facts, is_end}
 use Rattle.hprof_stream.specs.Item.{IsItem, AreItems, records_begun}
-use Rattle.hprof_stream.specs.ItemStep.{facts_of, place_after, Stands, is_end_item}
+use Rattle.hprof_stream.specs.ItemStep.{facts_stated, place_after, Stands, is_end_item}
 use Rattle.hprof_stream.specs.Progress.{place_of, advanced}
 
 -- the item of these bytes and facts that comes next was read as this one
 pub record IsReadAs (longest : ℕ) (from : Progress) (one : Stated) (item : ItemValue) : Type 0 where
   pub is : IsItem longest (place_of from) one (place_after (place_of from) item (length one.bytes))
-  pub has_facts : one.facts ≡ facts_of item
+  pub has_facts : one.facts ≡ facts_stated item
   pub stands : Stands (place_of from) item
   pub ends : is_end_item item ≡ is_end one
 

@@ -4,7 +4,7 @@ ghost use Rattle.std.specs.Prelude.{◌≡◌, ℕ, ◌+◌, ◌≤◌, length, 
 ghost use Rattle.hprof_items.specs.declared.step.Step.TheVariants.{Whole};
 ghost use Rattle.hprof_stream.specs.Item.{item_at};
 ghost use Rattle.hprof_stream.specs.ItemValue.{with_fact, bare, step_with};
-ghost use Rattle.hprof_stream.specs.ItemStep.{IsFound, IfRead, IsOfPlace, ItemLists, facts_of};
+ghost use Rattle.hprof_stream.specs.ItemStep.{IsFound, IfRead, IsOfPlace, ItemLists, facts_stated};
 ghost use Rattle.hprof_items.specs.declared.header.Header.{Header};
 ghost use Rattle.hprof_items.specs.Spelling.{longest_body};
 ghost use Rattle.hprof_values.specs.Ids.{IsBytes};
@@ -175,7 +175,7 @@ fn give<S: Sink>(
     ensures begun { OnOk result ((header : Option Header) → IsBegun header (S.begun sink.old)
         → IsBegun (told_by header (with_fact item.now fact.now)) (S.begun sink.new)) }
     ensures refused { IfErr result (λ fault. GivesSome (with_fact item.now fact.now)
-        × Refuses S.refuses S.failed sink.old (facts_of (with_fact item.now fact.now)) fault sink.new) }
+        × Refuses S.refuses S.failed sink.old (facts_stated (with_fact item.now fact.now)) fault sink.new) }
 {
     match item {
         Item::Header(header) => sink.begin_part(*header),

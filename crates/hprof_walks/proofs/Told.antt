@@ -8,7 +8,7 @@ use Rattle.std.proofs.lemmas.List.Quantifiers.{position-Some}
 use Rattle.std.proofs.lemmas.List.Sums.{fails_before_first}
 use Rattle.hprof_walks.specs.declared.kept_search.Search.{Search}
 use Rattle.hprof_walks.specs.Kept.{node_in, level_in}
-use Rattle.hprof_walks.specs.Search.{IsSearch, place_of, way_back, distance_in, path_in}
+use Rattle.hprof_walks.specs.Search.{IsSearch, place_where_found, way_back, distance_in, path_in}
 use Rattle.hprof_walks.specs.Trail.{Order}
 use Rattle.hprof_walks.specs.Walks.{Reaches, IsDistance, HasDistance, IsWayBack, IsPath}
 use Rattle.hprof_walks.proofs.Ending.{found_all, goes_back}
@@ -37,21 +37,21 @@ module _ (Starts : ℕ → Type 0) (Steps : ℕ → ℕ → Type 0) (search : Se
   abbrev node_at : ℕ → ℕ
   node_at place = node_in search.nodes.items search.found.items place
 
-  nowhere : (node : ℕ) → place_of search node ≡ None → (count : ℕ) → Reaches Starts Steps count node → ⊥
-  unfolding place_of
+  nowhere : (node : ℕ) → place_where_found search node ≡ None → (count : ℕ) → Reaches Starts Steps count node → ⊥
+  unfolding place_where_found
   nowhere node none count reaches =
       let at = found_all Starts Steps (kept_places search) (length search.found.items) level searched count node reaches in
       let fails = position_none (λ number. slice_index search.nodes.items number == node) search.found.items none at.place at.below in
       let passes = eq-eqb (node_at at.place) node at.is in
       absurd (cc)
 
-  stands : (node place : ℕ) → place_of search node ≡ Some place → (place < length search.found.items) × (node_at place ≡ node)
-  unfolding place_of
+  stands : (node place : ℕ) → place_where_found search node ≡ Some place → (place < length search.found.items) × (node_at place ≡ node)
+  unfolding place_where_found
   stands node place some =
       let is = position-Some (λ number. slice_index search.nodes.items number == node) search.found.items place 0 some in
       (is.0, eqb-true (node_at place) node is.1)
 
-  tells_distance : (node : ℕ) (place : Option ℕ) → place_of search node ≡ place
+  tells_distance : (node : ℕ) (place : Option ℕ) → place_where_found search node ≡ place
       → HasDistance Starts Steps node (option_map (level_in search.levels.items) place)
   tells_distance node None none = nowhere node none
   tells_distance node (Some place) some =
@@ -59,7 +59,7 @@ module _ (Starts : ℕ → Type 0) (Steps : ℕ → ℕ → Type 0) (search : Se
       subst (λ (n : ℕ). IsDistance Starts Steps n (level_in search.levels.items place)) at.1
       (at_distance Starts Steps (kept_places search) (length search.found.items) (length search.found.items) level searched place at.0)
 
-  tells_path : (node : ℕ) (place : Option ℕ) → place_of search node ≡ place
+  tells_path : (node : ℕ) (place : Option ℕ) → place_where_found search node ≡ place
       → IsPath Starts Steps node (option_map (λ (p : ℕ). reverse (way_back search (level_in search.levels.items p) p)) place)
   tells_path node None none = nowhere node none
   tells_path node (Some place) some =
@@ -75,6 +75,6 @@ module _ (Starts : ℕ → Type 0) (Steps : ℕ → ℕ → Type 0) (search : Se
   pub tells : IsSearch Starts Steps search
   unfolding distance_in path_in
   tells = record {
-    distance = λ node. tells_distance node (place_of search node) refl;
-    path = λ node. tells_path node (place_of search node) refl;
+    distance = λ node. tells_distance node (place_where_found search node) refl;
+    path = λ node. tells_path node (place_where_found search node) refl;
   }

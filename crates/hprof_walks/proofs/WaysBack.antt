@@ -3,7 +3,7 @@ use Rattle.std.proofs.Common.{◌≡◌, ℕ, zero, suc, List, [], ◌∷◌, �
 use Rattle.std.specs.Option.{option_map}
 use Rattle.hprof_walks.specs.declared.kept_search.Search.{Search}
 use Rattle.hprof_walks.specs.Kept.{node_in, level_in}
-use Rattle.hprof_walks.specs.Search.{way_back, path_in, place_of}
+use Rattle.hprof_walks.specs.Search.{way_back, path_in, place_where_found}
 
 -- what is left of the way behind the place
 abbrev pub way_left : Search → ℕ → ℕ → List ℕ
@@ -37,7 +37,7 @@ module _ (search : Search) where
       ∙ before
 
   -- the whole way
-  pub went_all : (node level found place left : ℕ) (nodes path : List ℕ) → left ≡ 0 → Some found ≡ place_of search node
+  pub went_all : (node level found place left : ℕ) (nodes path : List ℕ) → left ≡ 0 → Some found ≡ place_where_found search node
       → level ≡ level_in search.levels.items found
       → nodes ++ way_left search left place ≡ way_back search level found → path ≡ reverse nodes → Some path ≡ path_in search node
   unfolding path_in

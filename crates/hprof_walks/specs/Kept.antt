@@ -16,7 +16,7 @@ abbrev pub NotesPlaces : List ℕ → List ℕ → Type 0
 NotesPlaces found places = (place : ℕ) → place < length found → slice_index places (slice_index found place) ≡ place
 
 -- the nodes ascend, each one that was found has its number, its place is noted, and it was found from one that was found
-pub record IsWhole (nodes found before places : List ℕ) : Type 0 where
+pub record IsNoted (nodes found before places : List ℕ) : Type 0 where
   pub ascend : IsStrictlyIncreasing nodes
   pub numbers : (place : ℕ) → place < length found → slice_index found place < length nodes
   pub noted : NotesPlaces found places

@@ -7,8 +7,8 @@ use Rattle.hprof_walks.specs.Kept.{node_in, level_in}
 use Rattle.hprof_walks.specs.Walks.{HasDistance, IsPath}
 
 -- the place in the order of the search where a node was found
-unfoldable pub place_of : Search → ℕ → Option ℕ
-place_of search node = position (λ number. slice_index search.nodes.items number == node) search.found.items
+unfoldable pub place_where_found : Search → ℕ → Option ℕ
+place_where_found search node = position (λ number. slice_index search.nodes.items number == node) search.found.items
 
 -- from a place so many times back to where its node was found from
 unfoldable pub way_back : Search → ℕ → ℕ → List ℕ
@@ -18,11 +18,11 @@ way_back search (suc count) place =
 
 -- the distance that a search tells of a node
 unfoldable pub distance_in : Search → ℕ → Option ℕ
-distance_in search node = option_map (level_in search.levels.items) (place_of search node)
+distance_in search node = option_map (level_in search.levels.items) (place_where_found search node)
 
 -- the path that a search tells of a node
 unfoldable pub path_in : Search → ℕ → Option (List ℕ)
-path_in search node = option_map (λ place. reverse (way_back search (level_in search.levels.items place) place)) (place_of search node)
+path_in search node = option_map (λ place. reverse (way_back search (level_in search.levels.items place) place)) (place_where_found search node)
 
 -- what the search tells of each node is its distance and its path
 pub record IsSearch (Starts : ℕ → Type 0) (Steps : ℕ → ℕ → Type 0) (search : Search) : Type 0 where

@@ -15,19 +15,19 @@ pub struct Search {
     pub(crate) places: Vec<usize>,
     /// Where in this order each level begins, but for the first; the last one is empty.
     pub(crate) levels: Vec<usize>,
-    ghost whole: { IsWhole nodes.items found.items before.items places.items },
+    ghost whole: { IsNoted nodes.items found.items before.items places.items },
     ghost levels_ascend: { IsNonDecreasing levels.items },
 }
 
 ghost use Rattle.std.specs.List.Sorted.{IsNonDecreasing};
-ghost use Rattle.hprof_walks.specs.Kept.{IsWhole};
+ghost use Rattle.hprof_walks.specs.Kept.{IsNoted};
 
 impl Search {
     ghost use Rattle.std.specs.Prelude.{◌≡◌, ◌<◌, IfOk, IfSome, length, nat_eq, slice_index};
     ghost use Rattle.std.specs.List.{position};
     ghost use Rattle.std.specs.Option.{option_map};
     ghost use Rattle.hprof_walks.specs.Kept.{level_in, node_in};
-    ghost use Rattle.hprof_walks.specs.Search.{distance_in, path_in, place_of};
+    ghost use Rattle.hprof_walks.specs.Search.{distance_in, path_in, place_where_found};
 
     /// The place in the order of the search where the node of a number was found.
     fn place_of_number(&self, number: usize) -> Option<usize>
@@ -45,7 +45,7 @@ impl Search {
 
     /// The place in the order of the search where a node was found.
     fn place(&self, node: u64) -> Option<usize>
-        ensures place { result ≡ place_of self.now node }
+        ensures place { result ≡ place_where_found self.now node }
         ensures within { IfSome result (λ place. place < length self.now.found.items) }
     {
         let number = self.nodes.binary_search(&node).ok()?;

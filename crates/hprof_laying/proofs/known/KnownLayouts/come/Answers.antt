@@ -3,7 +3,7 @@ use Rattle.hprof_items.specs.FactValue.{FactValue}
 use Rattle.hprof_finding.specs.Classes.{HasNoDump}
 use Rattle.hprof_finding.specs.ClassRow.{dump_of}
 use Rattle.hprof_laying.specs.Known.{AreWoken, HasDumpMore, Knows, plan_of}
-use Rattle.hprof_laying.specs.Waking.{IsReady, IsWaking}
+use Rattle.hprof_laying.specs.Waking.{CanWake, IsWaking}
 use Rattle.hprof_laying.proofs.Comings.{are_woken, waits_then, wakes_first, wakes_then, waking_ends, zero_comes}
 use Rattle.hprof_laying.proofs.Wakings.{woke_none}
 use Rattle.hprof_laying.proofs.known.KnownLayouts.come.Goals as goal
@@ -33,7 +33,7 @@ waking_is_over c facts more knows new are =
     let none = c.new-woken.ensures.items in
     elim c.if-knows.branch [
       | then-knows+in_ok-wake_below+in_ok-wake_all w ↦
-          let ready : IsReady (plan_of other) c.args.row.now.parent = c.knows.ensures.ready.0 w.if-knows.true in
+          let ready : CanWake (plan_of other) c.args.row.now.parent = c.knows.ensures.ready.0 w.if-knows.true in
           let wakes = wakes_then ids facts more known knows dump new are other c.in_ok-own.own c.in_ok-own.ensures c.if-row-eq0.false
           c.in_ok-wait.ensures.plans c.in_ok-wait.ensures.waits in
           let below = w.in_ok-wake_below.ensures.ok ids more before [] ready
@@ -42,7 +42,7 @@ waking_is_over c facts more knows new are =
           let all = w.in_ok-wake_all.ensures ids more before first in
           rw (w.self-is, w.woken-is) all
       | else-knows w ↦
-          let unready : IsReady (plan_of other) c.args.row.now.parent → ⊥ = λ ready.
+          let unready : CanWake (plan_of other) c.args.row.now.parent → ⊥ = λ ready.
           let clash : true ≡ false = sym (c.knows.ensures.ready.1 ready) ∙ w.if-knows.false in cc in
           let waits = waits_then ids facts more known knows dump new are other c.in_ok-own.own c.in_ok-own.ensures c.if-row-eq0.false
           c.in_ok-wait.ensures.plans c.in_ok-wait.ensures.waits unready in
