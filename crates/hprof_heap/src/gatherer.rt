@@ -163,6 +163,7 @@ impl Sink for Gatherer {
         Ok(())
     }
 
+    #[inline(always)]
     fn take(&mut self, fact: &Fact<'_>, spelled: &[u8]) -> Result<(), SinkFault> {
         if self.failed {
             return Err(SinkFault::Failed);

@@ -162,6 +162,7 @@ impl Heap {
     }
 
     /// The class with that identifier.
+    #[inline(always)]
     pub fn class(&self, id: u64) -> Option<Fact<'_>>
         ensures value { option_map value_of result ≡ find (has_key (keys.Class id)) (heap_of self.now).facts }
         ensures lists { IfSome result (ListsHave (heap_of self.now).ids) }
@@ -171,6 +172,7 @@ impl Heap {
     }
 
     /// The instance or the array with that identifier.
+    #[inline(always)]
     pub fn object(&self, id: u64) -> Option<Fact<'_>>
         ensures value { option_map value_of result ≡ find (has_key (keys.Object id)) (heap_of self.now).facts }
         ensures lists { IfSome result (ListsHave (heap_of self.now).ids) }

@@ -44,6 +44,7 @@ fn instance_fields(bytes: &[u8], ids: IdSize) -> InstanceFront
 
 /// Reads an instance, and puts it in the place of the fact.
 #[tactic(auto, unfolding(crate::specs::SubRecord::instance_at))]
+#[inline(always)]
 pub(crate) fn read_instance<'a>(
     item: &BoundedBytes<'a>,
     ids: IdSize,
@@ -98,6 +99,7 @@ fn obj_array_fields(bytes: &[u8], ids: IdSize) -> ObjArrayFront
 
 /// Reads an array of objects, and puts it in the place of the fact.
 #[tactic(auto, unfolding(crate::specs::SubRecord::obj_array_at))]
+#[inline(always)]
 pub(crate) fn read_obj_array<'a>(
     item: &BoundedBytes<'a>,
     ids: IdSize,
@@ -153,6 +155,7 @@ fn prim_array_fields(bytes: &[u8], ids: IdSize) -> PrimArrayFront
 }
 
 /// The type of an array's elements, by its code.
+#[inline(always)]
 fn element_type(code: u8) -> Result<Basic, Stop>
     ensures { result ≡ element_type (basic_of_code code) }
 {
@@ -164,6 +167,7 @@ fn element_type(code: u8) -> Result<Basic, Stop>
 
 /// Reads an array of numbers or truth values, and puts it in the place of the fact.
 #[tactic(auto, unfolding(crate::specs::SubRecord::prim_array_at))]
+#[inline(always)]
 pub(crate) fn read_prim_array<'a>(
     item: &BoundedBytes<'a>,
     ids: IdSize,

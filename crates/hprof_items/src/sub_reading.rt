@@ -40,6 +40,7 @@ fn read_behind<'a>(
 }
 
 /// The tag at the front.
+#[inline(always)]
 pub(crate) fn read_tag(item: &BoundedBytes<'_>) -> Result<SubTag, Stop>
     ensures { result ≡ tag_at (bounds_of item.now) item.now.bytes.now }
 {
@@ -69,6 +70,7 @@ fn read_item<'a>(item: &BoundedBytes<'a>, ids: IdSize, fact: &mut Fact<'a>) -> R
 /// Reads the sub-record at the front of what a record has left, `room` bytes, no longer than `longest`, as [`read_sub`]
 /// does, and puts what it states in the place of the fact. It answers where the sub-record ends. Where it stops, what
 /// stands in that place is of no account.
+#[inline(always)]
 pub fn read_sub_into<'a>(
     bytes: &'a [u8],
     room: u32,
@@ -99,6 +101,7 @@ pub fn read_sub_into<'a>(
 /// Reads the sub-record at the front of what a record has left, `room` bytes, no longer than `longest`: field by field
 /// from the left, each ends within the record, then within the longest, then it is there, then it is right. Where there
 /// are no bytes, more are needed. The bytes of an instance and the elements of an array are not looked at.
+#[inline(always)]
 pub fn read_sub(bytes: &[u8], room: u32, longest: u32, ids: IdSize) -> Step<Fact<'_>>
     requires { 1 ≤ room }
     // Which step it is.

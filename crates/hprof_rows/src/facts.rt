@@ -40,6 +40,7 @@ impl<'a> Iterator for Facts<'a> {
 
     ghost remaining = { item_count facts_left };
 
+    #[inline(always)]
     fn next(&mut self) -> Option<Fact<'a>> {
         next_fact(&mut self.rows, self.ids)
     }

@@ -8,6 +8,7 @@ use hprof_items::{Fact, Step, read_sub};
 use hprof_values::IdSize;
 
 /// The fact that the bytes of a sub-record spell.
+#[inline(always)]
 pub fn spelled_fact(bytes: &[u8], ids: IdSize) -> Fact<'_>
     requires { (fact : FactValue) × Spells ids fact bytes.now }
     ensures fact { (fact : FactValue) → Spells ids fact bytes.now → value_of result ≡ fact }

@@ -153,6 +153,7 @@ fn next_root<'a>(roots: &mut btree_set::Iter<'a, Root>) -> Option<Fact<'a>>
 }
 
 /// The first class or object.
+#[inline(always)]
 fn next_spelled<'a>(rows: &mut BytesRows<'a>, ids: IdSize) -> Option<Fact<'a>>
     requires { AreSpelled ids (byte_rows_left rows.old) }
     ensures first { YieldsFirstBy value_of (λ rows. spelled_facts ids (byte_rows_left rows)) rows.old result rows.new }

@@ -107,6 +107,7 @@ pub(crate) fn record_item<'a>(
 
 /// The item within a heap dump that has so many bytes left. The fact that it states is put in the place of the fact.
 #[tactic(auto, unfolding(crate::specs::Item::item_at))]
+#[inline(always)]
 pub(crate) fn sub_item<'a>(
     header: &Header,
     room: u32,

@@ -54,6 +54,7 @@ impl Progress {
     }
 
     /// The item at the front. The fact that it states is put in the place of the fact.
+    #[inline(always)]
     fn item<'a>(&self, bytes: &'a [u8], fact: &mut Fact<'a>) -> Step<Item>
         ensures found { IsFound (place_of self.now) (step_with result fact.new)
             (item_at self.now.limits.max_item (place_of self.now) bytes.now) }
@@ -80,6 +81,7 @@ impl Progress {
     }
 
     /// Counts an item that was read.
+    #[inline(always)]
     pub(crate) fn advance(&mut self, item: &Item, len: usize)
         requires counted { IsCounted self.old len }
         requires next { IsNext self.old (bare item.now) len }
@@ -113,6 +115,7 @@ impl Progress {
 
     /// Steps over the item at the front of the bytes and hands it to the sink, and answers how many bytes it has.
     /// None where it needs more bytes than there are.
+    #[inline(always)]
     pub(crate) fn step<S: Sink>(
         &mut self,
         bytes: &[u8],
@@ -164,6 +167,7 @@ impl Progress {
 }
 
 /// Hands an item, which has these bytes and states the fact, to the sink.
+#[inline(always)]
 fn give<S: Sink>(
     item: &Item,
     fact: &Fact<'_>,

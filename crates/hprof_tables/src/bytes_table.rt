@@ -28,6 +28,7 @@ pub(crate) struct Span {
 const MOST_DOUBLED: usize = 33_554_432;
 
 /// Puts bytes behind others. Where there is no room left for them, more is had than they need, for those that follow.
+#[inline(always)]
 fn append(bytes: &mut Vec<u8>, others: &[u8]) -> Result<(), AllocError>
     ensures ok { IfOk result (λ _. bytes.new.items ≡ bytes.old.items ++ others.now) }
     ensures err { OnErr result (bytes.new.items ≡ bytes.old.items) }
@@ -74,6 +75,7 @@ impl Visit<Span> for StatedBytes<'_> {
         }
     }
 
+    #[inline(always)]
     fn make(self, room: &mut Vec<u8>) -> Result<Span, AllocError> {
         let start = room.len();
         append(room, self.bytes)?;
@@ -137,6 +139,7 @@ impl BytesTable {
     }
 
     /// States bytes under a key. A key that is there takes no memory, and keeps its row.
+    #[inline(always)]
     pub fn state(&mut self, key: u64, bytes: &[u8]) -> Result<Stated, AllocError>
         ensures ok { IfOk result (λ stated. States the_bytes (byte_rows self.old) key bytes.now stated (byte_rows self.new)) }
         ensures err { OnErr result (byte_rows self.new ≡ byte_rows self.old) }
@@ -158,6 +161,7 @@ impl BytesTable {
     }
 
     /// The bytes under a key.
+    #[inline(always)]
     pub fn get(&self, key: u64) -> Option<&[u8]>
         ensures { option_copied result ≡ lookup (is_at (nat_cmp key)) (byte_rows self.now) }
     {

@@ -72,6 +72,7 @@ impl<V> SortedTable<V> {
     }
 
     /// Whether the key is above each key of the run.
+    #[inline(always)]
     fn is_above(&self, key: u64) -> bool
         ensures { IsTrue result ↔ (end_of self.now.run.items ≤ key) }
     {
@@ -82,6 +83,7 @@ impl<V> SortedTable<V> {
     }
 
     /// The row under a key in the run.
+    #[inline(always)]
     fn get_in_run(&self, key: u64) -> Option<&V>
         ensures { option_copied result ≡ row_at key self.now.run.items }
     {
@@ -92,6 +94,7 @@ impl<V> SortedTable<V> {
     }
 
     /// The row under a key.
+    #[inline(always)]
     pub(crate) fn get(&self, key: u64) -> Option<&V>
         ensures { option_copied result ≡ row_at key (entries_of self.now) }
     {
@@ -105,6 +108,7 @@ impl<V> SortedTable<V> {
     }
 
     /// Makes a row at the end of the run.
+    #[inline(always)]
     fn make_at_end<T: Visit<V> + Drop>(
         &mut self,
         key: u64,
@@ -127,6 +131,7 @@ impl<V> SortedTable<V> {
     }
 
     /// Asks the row under a key, or makes one where there is none.
+    #[inline(always)]
     pub(crate) fn visit<T: Visit<V> + Drop>(
         &mut self,
         key: u64,

@@ -16,6 +16,7 @@ impl IdSize {
     ghost use Rattle.hprof_values.specs.Ids.{width_of};
 
     /// The number of bytes, 4 or 8.
+    #[inline(always)]
     pub fn width(self) -> usize
         ensures { result ≡ width_of self }
     {

@@ -10,6 +10,7 @@ use crate::ids::IdSize;
 use byteorder::{BigEndian, ByteOrder};
 
 /// The identifier at the front.
+#[inline(always)]
 pub fn id_at(bytes: &[u8], ids: IdSize) -> u64
     requires { width_of ids ≤ length bytes.now }
     ensures { result ≡ big_number (width_of ids) bytes.now }
@@ -21,6 +22,7 @@ pub fn id_at(bytes: &[u8], ids: IdSize) -> u64
 }
 
 /// The identifier at the front, and what follows it.
+#[inline(always)]
 pub fn split_id(bytes: &[u8], ids: IdSize) -> (u64, &[u8])
     requires { width_of ids ≤ length bytes.now }
     ensures id { result.0 ≡ big_number (width_of ids) bytes.now }
@@ -33,6 +35,7 @@ pub fn split_id(bytes: &[u8], ids: IdSize) -> (u64, &[u8])
 }
 
 /// The number of four bytes at the front, and what follows it.
+#[inline(always)]
 pub fn split_u32(bytes: &[u8]) -> (u32, &[u8])
     requires { 4 ≤ length bytes.now }
     ensures number { result.0 ≡ big_number 4 bytes.now }
@@ -44,6 +47,7 @@ pub fn split_u32(bytes: &[u8]) -> (u32, &[u8])
 }
 
 /// The byte at the front.
+#[inline(always)]
 pub fn byte_at(bytes: &[u8]) -> u8
     requires { 1 ≤ length bytes.now }
     ensures { result ≡ big_number 1 bytes.now }
@@ -52,6 +56,7 @@ pub fn byte_at(bytes: &[u8]) -> u8
 }
 
 /// The number of bytes of so many identifiers.
+#[inline(always)]
 pub fn ids_len(count: u32, ids: IdSize) -> usize
     ensures len { result ≡ count * width_of ids }
     ensures below { result < 2 ^ 36 }
@@ -63,6 +68,7 @@ pub fn ids_len(count: u32, ids: IdSize) -> usize
 }
 
 /// The number of bytes of so many values of a type.
+#[inline(always)]
 pub fn values_len(count: u32, basic: Basic, ids: IdSize) -> usize
     ensures len { result ≡ count * width_of_basic ids basic }
     ensures below { result < 2 ^ 36 }

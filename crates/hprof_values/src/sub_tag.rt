@@ -59,6 +59,7 @@ impl SubTag {
     }
 
     /// What the byte stands for. A sub-record with any other tag is refused.
+    #[inline(always)]
     pub fn from_code(code: u8) -> Option<SubTag>
         ensures exact { result ≡ tag_of_code code }
         ensures both { (tag : SubTag) → (result ≡ Some tag) ↔ (code ≡ code_of_tag tag) }

@@ -124,6 +124,7 @@ impl Heap {
     }
 
     /// States an instance or an array, which is spelled by these bytes.
+    #[inline(always)]
     fn state_object(&mut self, id: u64, fact: &Fact<'_>, bytes: &[u8]) -> Result<Stated, AllocError>
         requires order { order_of (value_of fact.now) ≡ 9 ∷ id ∷ [] }
         requires fits { Fits (heap_of self.old).ids (value_of fact.now) }
@@ -137,6 +138,7 @@ impl Heap {
 
     /// States a fact; the bytes are those of the sub-record that spells it, if it is one of a heap dump. One that is
     /// there takes no memory; where memory is refused, nothing changes.
+    #[inline(always)]
     pub(crate) fn state(&mut self, fact: &Fact<'_>, bytes: &[u8]) -> Result<Stated, AllocError>
         requires fits { Fits (heap_of self.old).ids (value_of fact.now) }
         requires lists { ListsHave (heap_of self.old).ids fact.now }
