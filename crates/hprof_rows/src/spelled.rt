@@ -4,7 +4,7 @@ ghost use Rattle.std.specs.Prelude.{◌≡◌};
 ghost use Rattle.hprof_items.specs.FactValue.{FactValue, ListsHave, value_of};
 ghost use Rattle.hprof_rows.specs.Spelled.{Spells};
 
-use hprof_items::{Fact, Step, read_sub};
+use hprof_items::{Fact, read_sub_into};
 use hprof_values::IdSize;
 
 /// The fact that the bytes of a sub-record spell.
@@ -15,8 +15,9 @@ pub fn spelled_fact(bytes: &[u8], ids: IdSize) -> Fact<'_>
     ensures lists { ListsHave ids result }
 {
     let len = bytes.len() as u32;
-    match read_sub(bytes, len, len, ids) {
-        Step::Whole(fact, _) => fact,
-        Step::Short | Step::TooLong | Step::Fault(_) => unreachable!(),
+    let mut fact = Fact::End { thread: 0 };
+    match read_sub_into(bytes, len, len, ids, &mut fact) {
+        Ok(_) => fact,
+        Err(_) => unreachable!(),
     }
 }

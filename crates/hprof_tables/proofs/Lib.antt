@@ -1,4 +1,5 @@
 pub mod SortedRows
+pub mod GapRuns
 pub mod SortedTable
 pub mod Spans
 pub mod SideBySide

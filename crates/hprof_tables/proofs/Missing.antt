@@ -9,9 +9,9 @@ use Rattle.std.proofs.lemmas.List.{append-nil, append_assoc}
 use Rattle.std.proofs.lemmas.Map.Lookups.{exact_unsigned}
 use Rattle.hprof_tables.specs.Relation.{contents_of}
 use Rattle.hprof_tables.specs.SideBySide.{AreMissing, LacksOne, only_other}
-use Rattle.hprof_tables.specs.SortedRows.{row_at, IsAscending}
+use Rattle.hprof_tables.specs.SortedRows.{row_at, IsAscending, AreKeys}
 use Rattle.hprof_tables.proofs.SideBySide.{behind, below_first, greater_from}
-use Rattle.hprof_tables.proofs.SortedRows.{AllKeys, AllKeys-weaker, ascending_cons, ascending_head, ascending_tail, less_from, row_at-here}
+use Rattle.hprof_tables.proofs.SortedRows.{AreKeys-weaker, ascending_cons, ascending_head, ascending_tail, less_from, row_at-here}
 use Rattle.hprof_tables.proofs.SortedRows.{row_at-past, row_at-none}
 
 neither : (found : Option (List ℕ)) → only_other found None ≡ None
@@ -20,17 +20,17 @@ neither (Some content) = refl
 
 -- rows in order of which none is found up to a key are above it
 above : (bound : ℕ) (rows : List (ℕ × List ℕ)) → IsAscending rows → ((key : ℕ) → key ≤ bound → row_at key rows ≡ None)
-    → AllKeys (λ key. bound < key) rows
+    → AreKeys (λ key. bound < key) rows
 above bound [] up none = tt
 above bound (row ∷ rows) up none = elim (cases_lt bound row.0) [
-  | inl lt ↦ (lt, AllKeys-weaker (λ key. row.0 < key) (λ key. bound < key) rows (λ key h. omega arith) (ascending_head row rows up))
+  | inl lt ↦ (lt, AreKeys-weaker (λ key. row.0 < key) (λ key. bound < key) rows (λ key h. omega arith) (ascending_head row rows up))
   | inr le ↦ let e : None ≡ Some row.1 = sym (none row.0 le) ∙ row_at-here row.0 row rows refl in absurd cc
 ]
 
 -- none is found up to the first key among those behind it
 none_up_to : (key : ℕ) (row : ℕ × List ℕ) (rows : List (ℕ × List ℕ)) → IsAscending (row ∷ rows) → key ≤ row.0 → row_at key rows ≡ None
 none_up_to key row rows up le =
-    row_at-none key rows (AllKeys-weaker (λ k. row.0 < k) (λ k. key ≢ k) rows (λ k h e. omega arith) (ascending_head row rows up))
+    row_at-none key rows (AreKeys-weaker (λ k. row.0 < k) (λ k. key ≢ k) rows (λ k h e. omega arith) (ascending_head row rows up))
 
 -- ---- what only the others have
 

@@ -8,7 +8,7 @@ use Rattle.std.proofs.lemmas.Bool.{cases_order}
 use Rattle.std.proofs.lemmas.Map.Lookups.{exact_unsigned}
 use Rattle.hprof_tables.specs.SideBySide.{DifferAt, IsFirstDifference}
 use Rattle.hprof_tables.specs.SortedRows.{row_at, IsAscending}
-use Rattle.hprof_tables.proofs.SortedRows.{AllKeys-weaker, ascending_head, ascending_tail, less_from, row_at-here, row_at-past, row_at-none}
+use Rattle.hprof_tables.proofs.SortedRows.{AreKeys-weaker, ascending_head, ascending_tail, less_from, row_at-here, row_at-past, row_at-none}
 
 -- a row that was taken, and those behind it
 abbrev pub behind : {R : Type 0} → (R → List ℕ) → Option (ℕ × R) → List (ℕ × List ℕ) → List (ℕ × List ℕ)
@@ -36,7 +36,7 @@ pub below_first : (key : ℕ) (row : ℕ × List ℕ) (rows : List (ℕ × List 
 below_first key row rows up lt =
     row_at-none key (row ∷ rows) (
       (λ e. omega arith),
-      AllKeys-weaker (λ k. row.0 < k) (λ k. key ≢ k) rows (λ k h e. omega arith)
+      AreKeys-weaker (λ k. row.0 < k) (λ k. key ≢ k) rows (λ k h e. omega arith)
           (ascending_head row rows up),
     )
 
@@ -102,7 +102,7 @@ skip_other row rows other others up lt =
 
 -- nor does one that both have
 pub no_more : (row : ℕ × List ℕ) (rows : List (ℕ × List ℕ)) → IsAscending (row ∷ rows) → row_at row.0 rows ≡ None
-no_more row rows up = row_at-none row.0 rows (AllKeys-weaker (λ k. row.0 < k) (λ k. row.0 ≢ k) rows (λ k h e. omega arith)
+no_more row rows up = row_at-none row.0 rows (AreKeys-weaker (λ k. row.0 < k) (λ k. row.0 ≢ k) rows (λ k h e. omega arith)
     (ascending_head row rows up))
 
 skip_both : (row : ℕ × List ℕ) (rows : List (ℕ × List ℕ)) (other : ℕ × List ℕ) (others : List (ℕ × List ℕ)) → IsAscending (row ∷ rows)

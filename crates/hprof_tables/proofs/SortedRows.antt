@@ -12,7 +12,7 @@ use Rattle.std.specs.BTreeMap.{is_at, insert_entry}
 use Rattle.std.specs.Cmp.{unsigned_tied, nat_cmp_is}
 use Rattle.std.proofs.lemmas.Bool.{ne_eqb, eq-eqb, ltb-true, ltb-false, cases_order, cond_both}
 use Rattle.std.proofs.lemmas.Map.Keys.{sorted_head, sorted_tail}
-use Rattle.hprof_tables.specs.SortedRows.{row_at, IsAscending, Misses, end_of, merged}
+use Rattle.hprof_tables.specs.SortedRows.{row_at, IsAscending, Misses, end_of, merged, AreKeys}
 
 pub less_from : (key other : ℕ) → nat_cmp key other ≡ Less → key < other
 less_from key other e = elim (cases_order key other) [
@@ -36,31 +36,24 @@ is_none (Some row) e = cc
 module _ {V : Type 0} where
   -- ---- each key of a list of rows
 
-  abbrev pub AllKeys : (ℕ → Type 0) → List (ℕ × V) → Type 0
-  AllKeys P rows = AllByRecursion P (keys_of rows)
-
-  pub AllKeys-weaker : (P Q : ℕ → Type 0) (rows : List (ℕ × V)) → ((key : ℕ) → P key → Q key) → AllKeys P rows → AllKeys Q rows
-  AllKeys-weaker P Q [] more all = tt
-  AllKeys-weaker P Q (row ∷ rows) more all = (more row.0 all.0, AllKeys-weaker P Q rows more all.1)
-
-  pub AllKeys-append : (P : ℕ → Type 0) (rows : List (ℕ × V)) (row : ℕ × V) → AllKeys P rows → P row.0 → AllKeys P (rows ++ row ∷ [])
-  AllKeys-append P [] row all last = (last, tt)
-  AllKeys-append P (first ∷ rows) row all last = (all.0, AllKeys-append P rows row all.1 last)
+  pub AreKeys-weaker : (P Q : ℕ → Type 0) (rows : List (ℕ × V)) → ((key : ℕ) → P key → Q key) → AreKeys P rows → AreKeys Q rows
+  AreKeys-weaker P Q [] more all = tt
+  AreKeys-weaker P Q (row ∷ rows) more all = (more row.0 all.0, AreKeys-weaker P Q rows more all.1)
 
   -- ---- ascending
 
-  pub ascending_head : (row : ℕ × V) (rows : List (ℕ × V)) → IsAscending (row ∷ rows) → AllKeys (λ key. row.0 < key) rows
+  pub ascending_head : (row : ℕ × V) (rows : List (ℕ × V)) → IsAscending (row ∷ rows) → AreKeys (λ key. row.0 < key) rows
   ascending_head row rows up =
-      AllKeys-weaker (λ key. nat_cmp row.0 key ≡ Less) (λ key. row.0 < key) rows (less_from row.0)
+      AreKeys-weaker (λ key. nat_cmp row.0 key ≡ Less) (λ key. row.0 < key) rows (less_from row.0)
       (sorted_head nat_cmp row.0 (keys_of rows) up)
 
   pub ascending_tail : (row : ℕ × V) (rows : List (ℕ × V)) → IsAscending (row ∷ rows) → IsAscending rows
   ascending_tail row rows up = sorted_tail nat_cmp row.0 (keys_of rows) up
 
-  pub ascending_cons : (row : ℕ × V) (rows : List (ℕ × V)) → AllKeys (λ key. row.0 < key) rows → IsAscending rows → IsAscending (row ∷ rows)
+  pub ascending_cons : (row : ℕ × V) (rows : List (ℕ × V)) → AreKeys (λ key. row.0 < key) rows → IsAscending rows → IsAscending (row ∷ rows)
   unfolding IsStrictlySortedBy
   ascending_cons row rows above up =
-      (AllKeys-weaker (λ key. row.0 < key) (λ key. nat_cmp row.0 key ≡ Less) rows (λ key lt. sym (nat_cmp_is row.0 key Less lt)) above, up)
+      (AreKeys-weaker (λ key. row.0 < key) (λ key. nat_cmp row.0 key ≡ Less) rows (λ key lt. sym (nat_cmp_is row.0 key Less lt)) above, up)
 
   -- ---- looking up
 
@@ -77,7 +70,7 @@ module _ {V : Type 0} where
       row_at-cons key row rows ∙ ap (λ (t : Bool). cond t (Some row.1) (row_at key rows)) (ne_eqb key row.0 other)
 
   -- no key of the rows is this one
-  pub row_at-none : (key : ℕ) (rows : List (ℕ × V)) → AllKeys (λ other. key ≢ other) rows → row_at key rows ≡ None
+  pub row_at-none : (key : ℕ) (rows : List (ℕ × V)) → AreKeys (λ other. key ≢ other) rows → row_at key rows ≡ None
   row_at-none key [] others = refl
   row_at-none key (row ∷ rows) others = row_at-past key row rows others.0 ∙ row_at-none key rows others.1
 
@@ -89,12 +82,11 @@ module _ {V : Type 0} where
 
   -- ---- one list after another
 
-  pub row_at-append : (key : ℕ) (rows : List (ℕ × V)) (row : ℕ × V)
-      → row_at key (rows ++ row ∷ []) ≡ option_or (row_at key rows) (row_at key (row ∷ []))
-  row_at-append key [] row = refl
-  row_at-append key (first ∷ rows) row =
-      ap (λ (found : Option V). cond (is_at (nat_cmp key) first.0) (Some first.1) found) (row_at-append key rows row)
-      ∙ or_found (is_at (nat_cmp key) first.0) first.1 (row_at key rows) (row_at key (row ∷ []))
+  pub row_at-append : (key : ℕ) (rows others : List (ℕ × V)) → row_at key (rows ++ others) ≡ option_or (row_at key rows) (row_at key others)
+  row_at-append key [] others = refl
+  row_at-append key (first ∷ rows) others =
+      ap (λ (found : Option V). cond (is_at (nat_cmp key) first.0) (Some first.1) found) (row_at-append key rows others)
+      ∙ or_found (is_at (nat_cmp key) first.0) first.1 (row_at key rows) (row_at key others)
 
   pub end_of-append : (rows : List (ℕ × V)) (row : ℕ × V) → end_of (rows ++ row ∷ []) ≡ row.0 + 1
   end_of-append [] row = refl
@@ -102,7 +94,7 @@ module _ {V : Type 0} where
   end_of-append (first ∷ next ∷ rows) row = end_of-append (next ∷ rows) row
 
   -- each key is below the end
-  pub below_end : (rows : List (ℕ × V)) → IsAscending rows → AllKeys (λ key. key < end_of rows) rows
+  pub below_end : (rows : List (ℕ × V)) → IsAscending rows → AreKeys (λ key. key < end_of rows) rows
   below_end [] up = tt
   below_end (row ∷ []) up = (omega arith, tt)
   below_end (row ∷ next ∷ rows) up =
@@ -111,17 +103,10 @@ module _ {V : Type 0} where
       let le : next.0 < end_of (next ∷ rows) = rest.0 in
       (omega arith, rest)
 
-  pub ascending-append : (rows : List (ℕ × V)) (row : ℕ × V) → IsAscending rows → AllKeys (λ key. key < row.0) rows
-      → IsAscending (rows ++ row ∷ [])
-  ascending-append [] row up below = ascending_cons row [] tt up
-  ascending-append (first ∷ rows) row up below =
-      ascending_cons first (rows ++ row ∷ []) (AllKeys-append (λ key. first.0 < key) rows row (ascending_head first rows up) below.0)
-      (ascending-append rows row (ascending_tail first rows up) below.1)
-
   -- ---- putting in
 
-  pub insert-all : (P : ℕ → Type 0) (rows : List (ℕ × V)) (key : ℕ) (row : V) → AllKeys P rows → P key
-      → AllKeys P (insert_entry nat_cmp rows key row)
+  pub insert-all : (P : ℕ → Type 0) (rows : List (ℕ × V)) (key : ℕ) (row : V) → AreKeys P rows → P key
+      → AreKeys P (insert_entry nat_cmp rows key row)
   insert-all P [] key row all new = (new, tt)
   insert-all P (first ∷ rows) key row all new = elim (cases_order key first.0) [
     | inl same ↦ rw (← nat_cmp_is key first.0 Equal same) (all.0, all.1)
@@ -140,7 +125,7 @@ module _ {V : Type 0} where
         | inl same ↦ rw (← nat_cmp_is key first.0 Equal same) (ascending_cons (first.0, row) rows above rest)
         | inr apart ↦ elim apart [
           | inl lt ↦ rw (← nat_cmp_is key first.0 Less lt) (ascending_cons (key, row) (first ∷ rows)
-              (lt, AllKeys-weaker (λ k. first.0 < k) (λ k. key < k) rows (λ k h. omega arith) above) up)
+              (lt, AreKeys-weaker (λ k. first.0 < k) (λ k. key < k) rows (λ k h. omega arith) above) up)
           | inr gt ↦ rw (← nat_cmp_is key first.0 Greater gt) (ascending_cons first (insert_entry nat_cmp rows key row)
               (insert-all (λ k. first.0 < k) rows key row above gt) (insert-ascending rows key row rest))
         ]
@@ -185,15 +170,15 @@ module _ {V : Type 0} where
 
   -- ---- two lists as one
 
-  merged-all : (P : ℕ → Type 0) (rows others : List (ℕ × V)) → AllKeys P rows → AllKeys P others → AllKeys P (merged rows others)
+  merged-all : (P : ℕ → Type 0) (rows others : List (ℕ × V)) → AreKeys P rows → AreKeys P others → AreKeys P (merged rows others)
   merged-all P [] others all more = more
   merged-all P (row ∷ rows) [] all more = (all.0, merged-all P rows [] all.1 tt)
   merged-all P (row ∷ rows) (other ∷ others) all more =
-      cond_both (ltb row.0 other.0) (row ∷ merged rows (other ∷ others)) (other ∷ merged (row ∷ rows) others) (AllKeys P)
+      cond_both (ltb row.0 other.0) (row ∷ merged rows (other ∷ others)) (other ∷ merged (row ∷ rows) others) (AreKeys P)
       (λ _. (all.0, merged-all P rows (other ∷ others) all.1 more))
       (λ _. (more.0, merged-all P (row ∷ rows) others all more.1))
 
-  pub merged-row : (key : ℕ) (rows others : List (ℕ × V)) → AllKeys (Misses rows) others
+  pub merged-row : (key : ℕ) (rows others : List (ℕ × V)) → AreKeys (Misses rows) others
       → row_at key (merged rows others) ≡ option_or (row_at key rows) (row_at key others)
   merged-row key [] others missed = refl
   merged-row key (row ∷ rows) [] missed =
@@ -204,7 +189,7 @@ module _ {V : Type 0} where
       (λ (l : List (ℕ × V)). row_at key l ≡ option_or (row_at key (row ∷ rows)) (row_at key (other ∷ others)))
       (λ _.
       ap (λ (found : Option V). cond (is_at (nat_cmp key) row.0) (Some row.1) found)
-      (merged-row key rows (other ∷ others) (AllKeys-weaker (Misses (row ∷ rows)) (Misses rows) (other ∷ others)
+      (merged-row key rows (other ∷ others) (AreKeys-weaker (Misses (row ∷ rows)) (Misses rows) (other ∷ others)
       (λ k. Misses-tail k row rows) missed))
       ∙ or_found (is_at (nat_cmp key) row.0) row.1 (row_at key rows) (row_at key (other ∷ others)))
       (λ _. elim (cases_order key other.0) [
@@ -220,7 +205,7 @@ module _ {V : Type 0} where
             ∙ ap (option_or (row_at key (row ∷ rows))) (sym (row_at-past key other others past))
       ])
 
-  pub merged-ascending : (rows others : List (ℕ × V)) → IsAscending rows → IsAscending others → AllKeys (Misses rows) others
+  pub merged-ascending : (rows others : List (ℕ × V)) → IsAscending rows → IsAscending others → AreKeys (Misses rows) others
       → IsAscending (merged rows others)
   merged-ascending [] others up more missed = more
   merged-ascending (row ∷ rows) [] up more missed =
@@ -235,11 +220,11 @@ module _ {V : Type 0} where
       ascending_cons row (merged rows (other ∷ others))
       (merged-all (λ k. row.0 < k) rows (other ∷ others) above (
         lt,
-        AllKeys-weaker (λ k. other.0 < k) (λ k. row.0 < k) others
+        AreKeys-weaker (λ k. other.0 < k) (λ k. row.0 < k) others
             (λ k h. omega arith) above_other,
       ))
       (merged-ascending rows (other ∷ others) (ascending_tail row rows up) more
-      (AllKeys-weaker (Misses (row ∷ rows)) (Misses rows) (other ∷ others) (λ k. Misses-tail k row rows) missed)))
+      (AreKeys-weaker (Misses (row ∷ rows)) (Misses rows) (other ∷ others) (λ k. Misses-tail k row rows) missed)))
       (λ e.
       let le : other.0 ≤ row.0 = ltb-false row.0 other.0 e in
       let apart : other.0 ≢ row.0 = Misses-head other.0 row rows missed.0 in
@@ -247,7 +232,7 @@ module _ {V : Type 0} where
       ascending_cons other (merged (row ∷ rows) others)
       (merged-all (λ k. other.0 < k) (row ∷ rows) others (
         lt,
-        AllKeys-weaker (λ k. row.0 < k) (λ k. other.0 < k) rows
+        AreKeys-weaker (λ k. row.0 < k) (λ k. other.0 < k) rows
             (λ k h. omega arith) above,
       ) above_other)
       (merged-ascending (row ∷ rows) others up (ascending_tail other others more) missed.1))

@@ -5,9 +5,9 @@ use Rattle.std.specs.Prelude.{is_some}
 use Rattle.std.specs.List.{AllByRecursion}
 use Rattle.std.specs.Option.{option_or}
 use Rattle.std.proofs.lemmas.Bool.{cases_order}
-use Rattle.hprof_tables.specs.SortedRows.{row_at, IsAscending, IsTable, Misses, end_of, merged}
+use Rattle.hprof_tables.specs.SortedRows.{row_at, IsAscending, IsTable, Misses, merged, AreKeys}
 use Rattle.hprof_tables.specs.Union.{AreApart, AreUnion}
-use Rattle.hprof_tables.proofs.SortedRows.{AllKeys, AllKeys-weaker, ascending_head, ascending_tail, below_end, is_none, row_at-here}
+use Rattle.hprof_tables.proofs.SortedRows.{AreKeys-weaker, ascending_head, ascending_tail, is_none, row_at-here}
 use Rattle.hprof_tables.proofs.SortedRows.{row_at-past, merged-row, merged-ascending}
 use Rattle.hprof_tables.proofs.SortedTable.{table-row, table-ascending, table-in_run, table-below}
 
@@ -39,7 +39,7 @@ module _ {V : Type 0} where
   ]
 
   -- the first list misses each key of the second
-  pub apart_all : (rows others : List (ℕ × V)) → AreApart rows others → AllKeys (Misses rows) others
+  pub apart_all : (rows others : List (ℕ × V)) → AreApart rows others → AreKeys (Misses rows) others
   apart_all rows [] apart = tt
   apart_all rows (other ∷ others) apart = (missed (apart other.0), apart_all rows others (apart_tail rows other others apart))
     where
@@ -54,27 +54,27 @@ module _ {V : Type 0} where
 
   -- ---- each key of a list
 
-  AllKeys-two : (P Q R : ℕ → Type 0) (rows : List (ℕ × V)) → ((key : ℕ) → P key → Q key → R key) → AllKeys P rows → AllKeys Q rows
-      → AllKeys R rows
-  AllKeys-two P Q R [] more one two = tt
-  AllKeys-two P Q R (row ∷ rows) more one two = (more row.0 one.0 two.0, AllKeys-two P Q R rows more one.1 two.1)
+  AreKeys-two : (P Q R : ℕ → Type 0) (rows : List (ℕ × V)) → ((key : ℕ) → P key → Q key → R key) → AreKeys P rows → AreKeys Q rows
+      → AreKeys R rows
+  AreKeys-two P Q R [] more one two = tt
+  AreKeys-two P Q R (row ∷ rows) more one two = (more row.0 one.0 two.0, AreKeys-two P Q R rows more one.1 two.1)
 
   -- a row is found
   abbrev IsThere : List (ℕ × V) → ℕ → Type 0
   IsThere rows key = (row : V) × (row_at key rows ≡ Some row)
 
   -- each key of a list finds a row there
-  all_found : (rows : List (ℕ × V)) → IsAscending rows → AllKeys (IsThere rows) rows
+  all_found : (rows : List (ℕ × V)) → IsAscending rows → AreKeys (IsThere rows) rows
   all_found [] up = tt
   all_found (row ∷ rows) up = (
     (row.1, row_at-here row.0 row rows refl),
-    AllKeys-two (λ key. row.0 < key) (IsThere rows) (IsThere (row ∷ rows)) rows
+    AreKeys-two (λ key. row.0 < key) (IsThere rows) (IsThere (row ∷ rows)) rows
         (λ key lt there. let past : key ≢ row.0 = λ e. omega arith in (there.0, row_at-past key row rows past ∙ there.1))
         (ascending_head row rows up) (all_found rows (ascending_tail row rows up)),
   )
 
   -- and what holds of each key holds of one that is found
-  key_found : (P : ℕ → Type 0) (rows : List (ℕ × V)) (key : ℕ) → AllKeys P rows → IsThere rows key → P key
+  key_found : (P : ℕ → Type 0) (rows : List (ℕ × V)) (key : ℕ) → AreKeys P rows → IsThere rows key → P key
   key_found P [] key all there = absurd (found-none there.0 (sym there.1))
   key_found P (row ∷ rows) key all there = elim (cases_order key row.0) [
     | inl here ↦ subst P (sym here) all.0
@@ -84,11 +84,6 @@ module _ {V : Type 0} where
   ]
 
   -- ---- the run with more rows
-
-  end-below : (bound : ℕ) (rows : List (ℕ × V)) → AllKeys (λ key. key < bound) rows → end_of rows ≤ bound
-  end-below bound [] below = omega arith
-  end-below bound (row ∷ []) below = let lt : row.0 < bound = below.0 in omega arith
-  end-below bound (row ∷ next ∷ rows) below = end-below bound (next ∷ rows) below.1
 
   module _ (run below fresh : List (ℕ × V)) (sound : IsTable run below) (up : IsAscending fresh)
       (apart : AreApart (merged run below) fresh) where
@@ -112,33 +107,18 @@ module _ {V : Type 0} where
     all_ascends : IsAscending (merged run fresh)
     all_ascends = merged-ascending run fresh sound.run_ascends up (apart_all run fresh apart_run)
 
-    end_later : end_of run ≤ end_of (merged run fresh)
-    end_later =
-        end-below (end_of (merged run fresh)) run
-        (AllKeys-weaker (IsThere run) (λ key. key < end_of (merged run fresh)) run
-        (λ key there. key_found (λ k. k < end_of (merged run fresh)) (merged run fresh) key (below_end (merged run fresh) all_ascends)
-        (there.0, all_row key ∙ ap (λ (found : Option V). option_or found (row_at key fresh)) there.1))
-        (all_found run sound.run_ascends))
-
-    missed_below : (key : ℕ) → (key < end_of run) × Misses run key → IsThere below key
-        → (key < end_of (merged run fresh)) × Misses (merged run fresh) key
-    missed_below key is there =
-        let none : row_at key run ≡ None = is_none (row_at key run) is.1 in
-        let lt : key < end_of run = is.0 in
-        let le = end_later in (
-          omega arith,
-          ap is_some (all_row key ∙ ap (λ (found : Option V). option_or found (row_at key fresh)) none
-              ∙ not_fresh key (there.0, table-below key run below sound none ∙ there.1)),
-        )
+    missed_below : (key : ℕ) → Misses run key → IsThere below key → Misses (merged run fresh) key
+    missed_below key missed there =
+        let none : row_at key run ≡ None = is_none (row_at key run) missed in
+        ap is_some (all_row key ∙ ap (λ (found : Option V). option_or found (row_at key fresh)) none
+        ∙ not_fresh key (there.0, table-below key run below sound none ∙ there.1))
 
     pub merge_sound : IsTable (merged run fresh) below
     merge_sound = record {
       run_ascends = all_ascends;
-      below_ascends = sound.below_ascends;
-      are_below =
-          AllKeys-two (λ key. (key < end_of run) × Misses run key) (IsThere below)
-          (λ key. (key < end_of (merged run fresh)) × Misses (merged run fresh) key) below missed_below sound.are_below
-          (all_found below sound.below_ascends);
+      far_ascends = sound.far_ascends;
+      are_apart = AreKeys-two (Misses run) (IsThere below) (Misses (merged run fresh)) below missed_below sound.are_apart
+          (all_found below sound.far_ascends);
     }
 
     -- at a key two of the three have nothing

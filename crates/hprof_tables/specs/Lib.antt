@@ -1,5 +1,6 @@
 pub mod SortedRows
 pub mod Union
+pub mod GapRun
 pub mod SortedTable
 pub mod Relation
 pub mod Spans

@@ -1,5 +1,5 @@
 -- Rows in order of key: one list of them, two lists as one, and what a sorted table keeps of its two.
-use Rattle.std.specs.Prelude.{◌≡◌, ◌+◌, ◌<◌, ◌↔◌, ◌⊎◌, ℕ, length, nat_lt, false, List, [], ◌∷◌, Option, Some, None, Result, Ok, Err, ⊤}
+use Rattle.std.specs.Prelude.{◌≡◌, ◌+◌, ◌<◌, ◌≤◌, ◌↔◌, ◌⊎◌, ℕ, length, nat_lt, false, List, [], ◌∷◌, Option, Some, None, Result, Ok, Err, ⊤}
 use Rattle.std.specs.Prelude.{is_some, if◌then◌else◌}
 use Rattle.std.specs.Coded.{le_prop}
 use Rattle.std.specs.List.{AllByRecursion}
@@ -17,6 +17,14 @@ module _ {V : Type 0} where
   -- the keys of the rows ascend, so that none comes twice
   abbrev pub IsAscending : List (ℕ × V) → Type 0
   IsAscending rows = IsStrictlySortedBy nat_cmp (keys_of rows)
+
+  -- the keys of the rows have this property
+  abbrev pub AreKeys : (ℕ → Type 0) → List (ℕ × V) → Type 0
+  AreKeys P rows = AllByRecursion P (keys_of rows)
+
+  -- it has at most one proof
+  pub IsAscending-prop : (rows : List (ℕ × V)) → IsProp (IsAscending rows)
+  IsAscending-prop rows = IsStrictlySortedBy-prop nat_cmp (keys_of rows)
 
   -- a row and what comes of the rest of its list, among others: those of lesser keys come before it
   abbrev pub put_among : ℕ × V → (List (ℕ × V) → List (ℕ × V)) → List (ℕ × V) → List (ℕ × V)
@@ -49,19 +57,23 @@ module _ {V : Type 0} where
   abbrev pub Misses : List (ℕ × V) → ℕ → Type 0
   Misses rows key = is_some (row_at key rows) ≡ false
 
-  -- each key of the map is below the run's end, and the run has it not
-  abbrev pub AreBelow : List (ℕ × V) → List (ℕ × V) → Type 0
-  AreBelow run below = AllByRecursion (λ key. (key < end_of run) × Misses run key) (keys_of below)
-
-  -- what a sorted table keeps of its run and its map
-  pub record IsTable (run below : List (ℕ × V)) : Type 0 where
+  -- what a sorted table keeps of its run and its map: no key has a row in both
+  pub record IsTable (run far : List (ℕ × V)) : Type 0 where
     pub run_ascends : IsAscending run
-    pub below_ascends : IsAscending below
-    pub are_below : AreBelow run below
+    pub far_ascends : IsAscending far
+    pub are_apart : AreKeys (Misses run) far
 
   -- it has at most one proof
-  pub IsTable-prop : (run below : List (ℕ × V)) → IsProp (IsTable run below)
-  IsTable-prop run below = hlevel (props, le_prop, IsStrictlySortedBy-prop)
+  pub IsTable-prop : (run far : List (ℕ × V)) → IsProp (IsTable run far)
+  IsTable-prop run far = hlevel (props, le_prop, IsStrictlySortedBy-prop)
+
+  -- the rows have none of these keys, from one to another
+  abbrev pub IsClear : List (ℕ × V) → (from to : ℕ) → Type 0
+  IsClear rows from to = (key : ℕ) → from ≤ key → key ≤ to → Misses rows key
+
+  -- it has at most one proof
+  pub IsClear-prop : (rows : List (ℕ × V)) (from to : ℕ) → IsProp (IsClear rows from to)
+  IsClear-prop rows from to = hlevel (props, le_prop)
 
 module _ {V A : Type 0} (answers : V → A → Type 0) (makes : V → Type 0) where
   -- what a visit of a key does: at a new key a row is added; else nothing changes, and the row that is there was asked

@@ -129,7 +129,7 @@ impl BytesTable {
     /// A table with no rows. It takes no memory yet.
     pub fn new(alloc: Global) -> Self
         ensures none { byte_rows result ≡ [] }
-        ensures no_room { (vec_capacity result.rows.run ≡ 0) × (vec_capacity result.bytes ≡ 0) }
+        ensures no_room { (vec_capacity result.rows.run.low ≡ 0) × (vec_capacity result.rows.run.high ≡ 0) × (vec_capacity result.bytes ≡ 0) }
     {
         BytesTable {
             rows: SortedTable::new(alloc),

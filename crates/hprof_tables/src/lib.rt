@@ -2,7 +2,9 @@
 #![tactic(auto)]
 
 mod bytes_table;
+mod clear;
 mod content;
+mod gap_run;
 mod merging;
 mod relation;
 mod rows;

@@ -91,7 +91,7 @@ impl<V: Content + Drop> Relation<V> {
     /// A table with no rows. It takes no memory yet.
     pub fn new(alloc: Global) -> Self
         ensures none { rows_of result ≡ [] }
-        ensures no_room { vec_capacity result.rows.run ≡ 0 }
+        ensures no_room { (vec_capacity result.rows.run.low ≡ 0) × (vec_capacity result.rows.run.high ≡ 0) }
     {
         Relation {
             rows: SortedTable::new(alloc),

@@ -1,13 +1,17 @@
-//! A table of rows by key, which takes rows in ascending order of key at the cost of a push.
+//! A table of rows by key, which takes rows that come near one another at the cost of a push.
 
 ghost use Rattle.std.specs.Prelude.{◌≡◌, ◌+◌, ◌↔◌, ◌≤◌, ◌⊎◌, ℕ, List, [], length, IsTrue, IfOk, IfSome, OnErr, None, ◌<◌, vec_len};
-ghost use Rattle.std.specs.Prelude.{vec_capacity};
+ghost use Rattle.std.specs.Prelude.{vec_capacity, true, false, is_some, slice_get};
 ghost use Rattle.std.specs.Ordering.{nat_cmp};
 ghost use Rattle.std.specs.BTreeMap.{insert_entry};
-ghost use Rattle.std.specs.Option.{option_copied};
-ghost use Rattle.hprof_tables.specs.SortedRows.{IsTable, IsTable-prop, IsAscending, IsListOfBoth, LeavesUnmade, row_at, end_of, Visits};
+ghost use Rattle.std.specs.Option.{option_copied, option_map};
+ghost use Rattle.hprof_tables.specs.SortedRows.{IsTable, IsTable-prop, IsClear, IsClear-prop, IsAscending, IsListOfBoth, LeavesUnmade, Misses};
+ghost use Rattle.hprof_tables.specs.SortedRows.{row_at, Visits};
+ghost use Rattle.hprof_tables.specs.GapRun.{IsGapAt, run_rows};
 ghost use Rattle.hprof_tables.specs.Union.{AreApart, AreUnion};
 
+use crate::clear::Clear;
+use crate::gap_run::GapRun;
 use crate::merging::merge_into;
 use std::alloc::{AllocError, Global};
 use std::collections::btree_map::Entry;
@@ -49,12 +53,15 @@ pub(crate) trait Visit<V> {
         ensures room { grows room.old room.new };
 }
 
-/// Rows by key. The run has each row whose key was above all keys that were there; the others stand in the map.
+/// Rows by key. Those that come near one another stand in the run; the others stand in the map. No key has a row in both.
 #[derive(Drop)]
 pub(crate) struct SortedTable<V> {
-    run: Vec<(u64, V)>,
-    below: BTreeMap<u64, V>,
-    ghost sound: { IsTable run.items below.entries } by { IsTable-prop run.items below.entries },
+    run: GapRun<V>,
+    far: BTreeMap<u64, V>,
+    // Of these keys the map has no row, so that it is not asked.
+    clear: Clear,
+    ghost sound: { IsTable (run_rows run) far.entries } by { IsTable-prop (run_rows run) far.entries },
+    ghost no_row: { IsClear far.entries clear.from clear.to } by { IsClear-prop far.entries clear.from clear.to },
 }
 
 impl<V> SortedTable<V> {
@@ -63,33 +70,12 @@ impl<V> SortedTable<V> {
     /// A table with no rows. It takes no memory yet.
     pub(crate) fn new(alloc: Global) -> Self
         ensures none { entries_of result ≡ [] }
-        ensures no_room { vec_capacity result.run ≡ 0 }
+        ensures no_room { (vec_capacity result.run.low ≡ 0) × (vec_capacity result.run.high ≡ 0) }
     {
         SortedTable {
-            run: Vec::new(alloc),
-            below: BTreeMap::new(alloc),
-        }
-    }
-
-    /// Whether the key is above each key of the run.
-    #[inline(always)]
-    fn is_above(&self, key: u64) -> bool
-        ensures { IsTrue result ↔ (end_of self.now.run.items ≤ key) }
-    {
-        match self.run.last() {
-            None => true,
-            Some(row) => row.0 < key,
-        }
-    }
-
-    /// The row under a key in the run.
-    #[inline(always)]
-    fn get_in_run(&self, key: u64) -> Option<&V>
-        ensures { option_copied result ≡ row_at key self.now.run.items }
-    {
-        match self.run.binary_search_by_key(&key, |row| row.0) {
-            Ok(place) => Some(&self.run[place].1),
-            Err(_) => None,
+            run: GapRun::new(alloc),
+            far: BTreeMap::new(alloc),
+            clear: Clear::all(),
         }
     }
 
@@ -98,18 +84,33 @@ impl<V> SortedTable<V> {
     pub(crate) fn get(&self, key: u64) -> Option<&V>
         ensures { option_copied result ≡ row_at key (entries_of self.now) }
     {
-        if self.is_above(key) {
-            return None;
-        }
-        match self.get_in_run(key) {
+        match self.run.get(key) {
             Some(row) => Some(row),
-            None => self.below.get(&key),
+            None => self.far.get(&key),
         }
     }
 
-    /// Makes a row at the end of the run.
+    /// Whether the map has no row under a key. For which keys round it there is none either is noted.
     #[inline(always)]
-    fn make_at_end<T: Visit<V> + Drop>(
+    fn clears(&mut self, key: u64) -> bool
+        ensures none { result ≡ true → Misses self.new.far.entries key }
+        ensures some { result ≡ false → is_some (row_at key self.new.far.entries) ≡ true }
+        ensures run { self.new.run ≡ self.old.run }
+        ensures far { self.new.far ≡ self.old.far }
+    {
+        if self.clear.has(key) {
+            return true;
+        }
+        if self.far.contains_key(&key) {
+            return false;
+        }
+        self.clear = Clear::round(&self.far, key);
+        true
+    }
+
+    /// Makes a row in the run, where the gap is at the place of its key.
+    #[inline(always)]
+    fn make_at_gap<T: Visit<V> + Drop>(
         &mut self,
         key: u64,
         visitor: T,
@@ -117,17 +118,42 @@ impl<V> SortedTable<V> {
     ) -> Result<(), AllocError>
     where
         V: Drop,
-        requires { end_of self.old.run.items ≤ key }
+        requires gap { IsGapAt self.old.run key }
+        requires none { Misses self.old.far.entries key }
         ensures ok { IfOk result (λ _. (row : V) × T.makes visitor (T.held room.old) row (T.held room.new)
             × (entries_of self.new ≡ insert_entry nat_cmp (entries_of self.old) key row)) }
         ensures err { OnErr result (entries_of self.new ≡ entries_of self.old) }
         ensures kept { OnErr result (T.held room.new ≡ T.held room.old) }
-        ensures full { OnErr result ((vec_capacity self.old.run ≤ vec_len self.old.run) ⊎ T.refuses visitor room.old) }
+        ensures full { OnErr result ((vec_capacity self.old.run.low ≤ vec_len self.old.run.low) ⊎ T.refuses visitor room.old) }
     {
-        self.run.reserve(1)?;
+        self.run.make_room()?;
         let row = visitor.make(room)?;
-        self.run.push((key, row))?;
+        self.run.put(key, row);
         Ok(())
+    }
+
+    /// Asks the row under a key in the map, or makes one there where there is none. The run has no row of the key.
+    fn visit_far<T: Visit<V> + Drop>(
+        &mut self,
+        key: u64,
+        visitor: T,
+        room: &mut T::Room,
+    ) -> Result<Option<T::Answer>, AllocError>
+    where
+        V: Drop,
+        requires { Misses (run_rows self.old.run) key }
+        ensures ok { IfOk result (λ answer. Visits (T.answers visitor (T.held room.old)) (λ row.
+            T.makes visitor (T.held room.old) row (T.held room.new))
+            (entries_of self.old) key answer (entries_of self.new)) }
+        ensures err { OnErr result (entries_of self.new ≡ entries_of self.old) }
+        ensures absent { OnErr result (row_at key (entries_of self.old) ≡ None) }
+        ensures kept { LeavesUnmade result (T.held room.old) (T.held room.new) }
+        ensures same_room { IfOk result (λ answer. IfSome answer (λ _. room.new ≡ room.old)) }
+    {
+        let clear = self.clear.beside(key, self.run.reaches_above(key));
+        let answer = visit_map(&mut self.far, key, visitor, room)?;
+        self.clear = clear;
+        Ok(answer)
     }
 
     /// Asks the row under a key, or makes one where there is none.
@@ -149,13 +175,16 @@ impl<V> SortedTable<V> {
         ensures kept { LeavesUnmade result (T.held room.old) (T.held room.new) }
         ensures same_room { IfOk result (λ answer. IfSome answer (λ _. room.new ≡ room.old)) }
     {
-        if self.is_above(key) {
-            self.make_at_end(key, visitor, room)?;
+        if !self.clears(key) {
+            return self.visit_far(key, visitor, room);
+        }
+        if self.run.takes(key)? {
+            self.make_at_gap(key, visitor, room)?;
             return Ok(None);
         }
-        match self.get_in_run(key) {
+        match self.run.get(key) {
             Some(row) => Ok(Some(visitor.ask(row, room))),
-            None => visit_map(&mut self.below, key, visitor, room),
+            None => self.visit_far(key, visitor, room),
         }
     }
 
@@ -174,11 +203,17 @@ impl<V> SortedTable<V> {
         if fresh.is_empty() {
             return Ok(());
         }
+        self.run.close()?;
         let mut all = Vec::new(alloc);
         all.reserve_exact(self.run.len() + fresh.len())?;
-        let SortedTable { run, below } = mem::replace(self, SortedTable::new(alloc));
-        merge_into(run, fresh, &mut all);
-        *self = SortedTable { run: all, below };
+        let SortedTable { run, far, clear } = mem::replace(self, SortedTable::new(alloc));
+        let GapRun { low, .. } = run;
+        merge_into(low, fresh, &mut all);
+        *self = SortedTable {
+            run: GapRun::of(alloc, all),
+            far,
+            clear,
+        };
         Ok(())
     }
 
@@ -186,20 +221,21 @@ impl<V> SortedTable<V> {
     pub(crate) fn len(&self) -> usize
         ensures { result ≡ length (entries_of self.now) }
     {
-        self.run.len() + self.below.len()
+        self.run.len() + self.far.len()
     }
 
     /// The rows, in order of key.
     pub(crate) fn iter(&self) -> Entries<'_, V>
         ensures all { entries_left result ≡ entries_of self.now }
-        ensures both { IsListOfBoth self.now.run.items self.now.below.entries (entries_of self.now) }
+        ensures both { IsListOfBoth (run_rows self.now.run) self.now.far.entries (entries_of self.now) }
     {
-        let mut below = self.below.iter();
-        let first = below.next();
+        let mut far = self.far.iter();
+        let first = far.next();
         Entries {
-            run: self.run.as_slice(),
+            low: self.run.low.as_slice(),
+            high: self.run.high.as_slice(),
             first,
-            below,
+            far,
         }
     }
 }
@@ -232,24 +268,41 @@ fn visit_map<V: Drop, T: Visit<V> + Drop>(
 /// The rows of a table with their keys, in order of key.
 #[derive(Drop)]
 pub(crate) struct Entries<'a, V> {
-    run: &'a [(u64, V)],
+    low: &'a [(u64, V)],
+    high: &'a [(u64, V)],
     first: Option<(&'a u64, &'a V)>,
-    below: btree_map::Iter<'a, u64, V>,
+    far: btree_map::Iter<'a, u64, V>,
 }
 
 impl<'a, V> Entries<'a, V> {
     ghost use Rattle.std.specs.Iterator.{YieldsFirstBy};
+    ghost use Rattle.hprof_tables.specs.SortedTable.{run_left};
 
     /// Takes the first row of the run.
     #[inline(always)]
     fn next_of_run(&mut self) -> Option<(u64, &'a V)>
-        ensures run { YieldsFirstBy (λ row. (row.0, row.1.now)) (λ entries. entries.run.now) self.old result self.new }
+        ensures run { YieldsFirstBy (λ row. (row.0, row.1.now)) run_left self.old result self.new }
         ensures first { self.new.first ≡ self.old.first }
-        ensures below { self.new.below ≡ self.old.below }
+        ensures far { self.new.far ≡ self.old.far }
     {
-        let (row, rest) = self.run.split_first()?;
-        self.run = rest;
+        if let Some((row, rest)) = self.low.split_first() {
+            self.low = rest;
+            return Some((row.0, &row.1));
+        }
+        let (row, rest) = self.high.split_last()?;
+        self.high = rest;
         Some((row.0, &row.1))
+    }
+
+    /// The first key of the run.
+    #[inline(always)]
+    fn key_of_run(&self) -> Option<u64>
+        ensures { result ≡ option_map (λ row. row.0) (slice_get (run_left self.now) 0) }
+    {
+        match self.low.first() {
+            Some(row) => Some(row.0),
+            None => self.high.last().map(|row| row.0),
+        }
     }
 }
 
@@ -268,10 +321,10 @@ impl<'a, V> Iterator for Entries<'a, V> {
         let Some((key, row)) = self.first else {
             return self.next_of_run();
         };
-        match self.run.first() {
-            Some(other) if other.0 < *key => self.next_of_run(),
+        match self.key_of_run() {
+            Some(other) if other < *key => self.next_of_run(),
             _ => {
-                self.first = self.below.next();
+                self.first = self.far.next();
                 Some((*key, row))
             }
         }

@@ -6,7 +6,7 @@ use Rattle.hprof_rows.proofs.spelled.spelled_fact.Goals as goal
 pub returns-clause-fact : goal.returns-clause-fact
 returns-clause-fact c = λ fact spells.
     let len = sym (ap length spells.spelled) in
-    (c.in-Whole.ensures.only fact [] spells.fits (spells.spelled ∙ sym (append-nil (dump_bytes c.args.ids fact)))
+    (c.in-Ok.ensures.only fact [] spells.fits (spells.spelled ∙ sym (append-nil (dump_bytes c.args.ids fact)))
     (omega (arith, len)) (omega (arith, len))).0
 
 pub returns-clause-lists : goal.returns-clause-lists

@@ -1,0 +1,217 @@
+//! Rows in order of key with a gap among them, at which rows that come near one another are put.
+
+ghost use Rattle.std.specs.Prelude.{◌≡◌, ◌+◌, ◌↔◌, ◌++◌, ◌<◌, ◌≤◌, ◌⊎◌, ℕ, List, [], length, reverse, true, false, IsTrue, IfOk, OnOk};
+ghost use Rattle.std.specs.Prelude.{OnErr, vec_len, vec_capacity};
+ghost use Rattle.std.specs.Option.{option_copied};
+ghost use Rattle.std.specs.Ordering.{nat_cmp};
+ghost use Rattle.std.specs.BTreeMap.{insert_entry};
+ghost use Rattle.hprof_tables.specs.SortedRows.{AreKeys, IsAscending, IsAscending-prop, end_of, row_at};
+
+use std::alloc::{AllocError, Global};
+
+/// A place is near the gap where fewer rows than these lie between.
+const NEAR: usize = 32;
+
+/// Rows in order of key, in two vectors with a gap between them. Those below the gap ascend; those above it descend, so that the
+/// rows next to the gap are the last of both. The gap lies where a row was put last.
+#[derive(Drop)]
+pub(crate) struct GapRun<V> {
+    pub(crate) low: Vec<(u64, V)>,
+    pub(crate) high: Vec<(u64, V)>,
+    ghost sound: { IsAscending (low.items ++ reverse high.items) } by { IsAscending-prop (low.items ++ reverse high.items) },
+}
+
+impl<V> GapRun<V> {
+    ghost use Rattle.hprof_tables.specs.GapRun.{IsGapAt, LacksEnd, run_rows};
+
+    /// No rows. It takes no memory yet.
+    pub(crate) fn new(alloc: Global) -> Self
+        ensures none { run_rows result ≡ [] }
+        ensures no_room { (vec_capacity result.low ≡ 0) × (vec_capacity result.high ≡ 0) }
+    {
+        GapRun {
+            low: Vec::new(alloc),
+            high: Vec::new(alloc),
+        }
+    }
+
+    /// Those rows, with the gap above all of them.
+    pub(crate) fn of(alloc: Global, rows: Vec<(u64, V)>) -> Self
+        requires { IsAscending rows.items }
+        ensures { run_rows result ≡ rows.items }
+    {
+        GapRun {
+            low: rows,
+            high: Vec::new(alloc),
+        }
+    }
+
+    /// The number of rows.
+    #[inline(always)]
+    pub(crate) fn len(&self) -> usize
+        ensures { result ≡ length (run_rows self.now) }
+    {
+        self.low.len() + self.high.len()
+    }
+
+    /// Whether all rows below the gap have keys below that one.
+    #[inline(always)]
+    fn ends_below(&self, key: u64) -> bool
+        ensures { IsTrue result ↔ (end_of self.now.low.items ≤ key) }
+    {
+        match self.low.last() {
+            None => true,
+            Some(row) => row.0 < key,
+        }
+    }
+
+    /// Whether a row below the gap has a key above that one.
+    #[inline(always)]
+    pub(crate) fn reaches_above(&self, key: u64) -> bool
+        ensures { IsTrue result ↔ (key + 1 < end_of self.now.low.items) }
+    {
+        match self.low.last() {
+            None => false,
+            Some(row) => key < row.0,
+        }
+    }
+
+    /// Whether a row above the gap has that key or one below it.
+    #[inline(always)]
+    fn reaches_below(&self, key: u64) -> bool
+        ensures { IsTrue result ↔ ((0 < end_of self.now.high.items) × (end_of self.now.high.items ≤ key + 1)) }
+    {
+        match self.high.last() {
+            None => false,
+            Some(row) => row.0 <= key,
+        }
+    }
+
+    /// Whether the place of a key is near the gap.
+    #[inline(always)]
+    fn is_near(&self, key: u64) -> bool {
+        let far_below = match self.low.len().checked_sub(NEAR) {
+            None => false,
+            Some(place) => key < self.low[place].0,
+        };
+        let far_above = match self.high.len().checked_sub(NEAR) {
+            None => false,
+            Some(place) => self.high[place].0 < key,
+        };
+        !far_below && !far_above
+    }
+
+    /// Moves the rows with keys above that one over the gap. Where memory is refused, some of them were moved.
+    fn lower(&mut self, key: u64) -> Result<(), AllocError>
+        ensures same { run_rows self.new ≡ run_rows self.old }
+        ensures ok { OnOk result (end_of self.new.low.items ≤ key + 1) }
+        ensures moved { (self.new ≡ self.old) ⊎ (key + 1 < end_of self.old.low.items) }
+        ensures err { OnErr result (key + 1 < end_of self.old.low.items) }
+    {
+        while self.reaches_above(key) {
+            self.high.reserve(1)?;
+            if let Some(row) = self.low.pop() {
+                self.high.push_reserved(row);
+            }
+        }
+        Ok(())
+    }
+
+    /// Moves the rows with that key or one below it over the gap. Where memory is refused, some of them were moved.
+    fn raise(&mut self, key: u64) -> Result<(), AllocError>
+        ensures same { run_rows self.new ≡ run_rows self.old }
+        ensures ok { OnOk result (AreKeys (λ other. key < other) self.new.high.items) }
+        ensures low { end_of self.old.low.items ≤ key + 1 → end_of self.new.low.items ≤ key + 1 }
+        ensures moved { (self.new ≡ self.old) ⊎ (0 < length self.old.high.items) }
+        ensures err { OnErr result (0 < length self.old.high.items) }
+    {
+        while self.reaches_below(key) {
+            self.low.reserve(1)?;
+            if let Some(row) = self.high.pop() {
+                self.low.push_reserved(row);
+            }
+        }
+        Ok(())
+    }
+
+    /// Brings the gap to the place of a key, if that is near and there is no row of it. The rows stay as they are, also where memory
+    /// is refused.
+    #[inline(always)]
+    pub(crate) fn takes(&mut self, key: u64) -> Result<bool, AllocError>
+        ensures same { run_rows self.new ≡ run_rows self.old }
+        ensures gap { IfOk result (λ takes. takes ≡ true → IsGapAt self.new key) }
+        ensures full { OnErr result (LacksEnd self.old key) }
+        ensures room { LacksEnd self.old key ⊎ (self.new ≡ self.old) }
+    {
+        if !self.is_near(key) {
+            return Ok(false);
+        }
+        self.lower(key)?;
+        self.raise(key)?;
+        Ok(self.ends_below(key))
+    }
+
+    /// Makes room for a row at the gap.
+    #[inline(always)]
+    pub(crate) fn make_room(&mut self) -> Result<(), AllocError>
+        ensures same { run_rows self.new ≡ run_rows self.old }
+        ensures gap { (key : ℕ) → IsGapAt self.old key → IsGapAt self.new key }
+        ensures ok { OnOk result (vec_len self.new.low < vec_capacity self.new.low) }
+        ensures err { OnErr result (vec_capacity self.old.low ≤ vec_len self.old.low) }
+    {
+        self.low.reserve(1)?;
+        Ok(())
+    }
+
+    /// Puts a row at the gap, which is at the place of its key. There is room for it.
+    #[inline(always)]
+    pub(crate) fn put(&mut self, key: u64, row: V)
+        requires gap { IsGapAt self.old key }
+        requires room { vec_len self.old.low < vec_capacity self.old.low }
+        ensures { run_rows self.new ≡ insert_entry nat_cmp (run_rows self.old) key row }
+    {
+        self.low.push_reserved((key, row));
+    }
+
+    /// The row under a key below the gap.
+    fn get_low(&self, key: u64) -> Option<&V>
+        ensures { option_copied result ≡ row_at key self.now.low.items }
+    {
+        match self.low.binary_search_by_key(&key, |row| row.0) {
+            Ok(place) => Some(&self.low[place].1),
+            Err(_) => None,
+        }
+    }
+
+    /// The row under a key above the gap.
+    fn get_high(&self, key: u64) -> Option<&V>
+        ensures { option_copied result ≡ row_at key (reverse self.now.high.items) }
+    {
+        match self.high.binary_search_by(|row| key.cmp(&row.0)) {
+            Ok(place) => Some(&self.high[place].1),
+            Err(_) => None,
+        }
+    }
+
+    /// The row under a key.
+    pub(crate) fn get(&self, key: u64) -> Option<&V>
+        ensures { option_copied result ≡ row_at key (run_rows self.now) }
+    {
+        match self.get_low(key) {
+            Some(row) => Some(row),
+            None => self.get_high(key),
+        }
+    }
+
+    /// Brings the gap above all rows. Where memory is refused, nothing changes.
+    pub(crate) fn close(&mut self) -> Result<(), AllocError>
+        ensures same { run_rows self.new ≡ run_rows self.old }
+        ensures ok { OnOk result (self.new.low.items ≡ run_rows self.old) }
+    {
+        self.low.reserve_exact(self.high.len())?;
+        while let Some(row) = self.high.pop() {
+            self.low.push_reserved(row);
+        }
+        Ok(())
+    }
+}
