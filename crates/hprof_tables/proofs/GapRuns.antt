@@ -21,7 +21,7 @@ use Rattle.std.proofs.lemmas.Map.Lookups.{exact_unsigned}
 use Rattle.std.proofs.lemmas.Option.{slice_get_read, slice_get_within}
 use Rattle.std.proofs.Math.ListN.{get_or-map}
 use Rattle.hprof_tables.specs.SortedRows.{row_at, AreKeys, IsAscending, end_of}
-use Rattle.hprof_tables.proofs.SortedRows.{AreKeys-weaker, ascending_cons, ascending_head, ascending_tail, below_end, end_of-append}
+use Rattle.hprof_tables.proofs.SortedRows.{AreKeys-weaker, ascending_cons, ascending_head, ascending_tail, below_end}
 use Rattle.hprof_tables.proofs.SortedRows.{row_at-append, row_at-here, row_at-none}
 
 -- no rows ascend
@@ -144,6 +144,15 @@ module _ {V : Type 0} where
       ∙ sym (put_at_gap key row low (reverse high) (all_below key low (reverse high) up le)
       (AreKeys-reverse (λ other. key < other) high above))
 
+  -- there is no row of the key
+  pub gap_missed : (key : ℕ) (low high : List (ℕ × V)) → IsAscending (low ++ reverse high) → end_of low ≤ key
+      → AreKeys (λ other. key < other) high → row_at key (low ++ reverse high) ≡ None
+  gap_missed key low high up le above =
+      row_at-none key (low ++ reverse high) (AreKeys-join (λ other. key ≢ other) low (reverse high)
+      (AreKeys-weaker (λ other. other < key) (λ other. key ≢ other) low (λ other lt same. omega arith) (all_below key low (reverse high) up le))
+      (AreKeys-reverse (λ other. key ≢ other) high
+      (AreKeys-weaker (λ other. key < other) (λ other. key ≢ other) high (λ other lt same. omega arith) above)))
+
   -- ---- the search by halves
 
   rising : (rows : List (ℕ × V)) (i j : ℕ) (d : ℕ × V) → IsAscending rows → i < j → j < length rows
@@ -201,7 +210,7 @@ module _ {V : Type 0} where
 
   -- ---- the same of rows that descend
 
-  key_at : (P : ℕ → Type 0) (rows : List (ℕ × V)) (k : ℕ) (d : ℕ × V) → AreKeys P rows → k < length rows → P (get_or rows k d).0
+  pub key_at : (P : ℕ → Type 0) (rows : List (ℕ × V)) (k : ℕ) (d : ℕ × V) → AreKeys P rows → k < length rows → P (get_or rows k d).0
   key_at P [] k d all lt = absurd (omega arith)
   key_at P (row ∷ rows) zero d all lt = all.0
   key_at P (row ∷ rows) (suc k) d all lt = key_at P rows k d all.1 (omega arith)

@@ -1,26 +1,14 @@
 -- A sorted table: what is found in it, where a row goes, and what a visit of a key does.
-use Rattle.std.proofs.Common.{◌≡◌, ◌<◌, ◌≤◌, ◌+◌, ◌-◌, ◌⊎◌, zero, suc, get_or, Result, Ok, Err, ◌++◌, ◌≢◌, ℕ, Bool, true, false, cond, eqb}
-use Rattle.std.proofs.Common.{List, [], ◌∷◌, length, Option, Some, None, refl, sym, ap, subst, ◌∙◌, inl, inr, arith}
-use Rattle.std.specs.Prelude.{is_some, IfOk, OnErr, slice_get}
-use Rattle.std.specs.declared.cmp.Ordering.TheVariants.{Less, Equal, Greater}
-use Rattle.std.specs.List.{HoldsAt}
-use Rattle.std.specs.List.Sorted.{IsNonDecreasingBy, IsPartitionPoint}
-use Rattle.std.specs.Map.{keys_of}
+use Rattle.std.proofs.Common.{◌≡◌, ◌<◌, ◌≤◌, ◌⊎◌, Result, Ok, Err, ◌≢◌, ℕ, Bool, true, false, cond, eqb}
+use Rattle.std.proofs.Common.{List, [], ◌∷◌, Option, Some, None, refl, sym, ap, subst, ◌∙◌, inl, inr, arith}
+use Rattle.std.specs.Prelude.{is_some, IfOk, OnErr}
 use Rattle.std.specs.Option.{option_or}
-use Rattle.std.specs.Ordering.{nat_cmp, is_lt, ordering_index}
+use Rattle.std.specs.Ordering.{nat_cmp}
 use Rattle.std.specs.BTreeMap.{insert_entry}
-use Rattle.std.specs.Cmp.{nat_cmp_total, nat_cmp_is}
-use Rattle.std.proofs.lemmas.Bool.{eqb-true, cases_lt, cases_order}
-use Rattle.std.proofs.lemmas.Cmp.{eq_by_cmp_equiv}
-use Rattle.std.proofs.lemmas.List.Sorted.{searchable_from_sorted}
-use Rattle.std.proofs.lemmas.Map.Entries.{length-keys_of, lookup_from_place}
-use Rattle.std.proofs.lemmas.Option.{slice_get_read, slice_get_within}
-use Rattle.std.proofs.Math.ListN.{get_or-map}
-use Rattle.std.proofs.lemmas.Map.Keys.{below_from_sorted, IsDistinct-from_sorted}
-use Rattle.std.proofs.lemmas.Map.Lookups.{exact_unsigned}
-use Rattle.hprof_tables.specs.SortedRows.{row_at, IsAscending, Misses, IsTable, IsListOfBoth, Visits, end_of, merged, AreKeys}
-use Rattle.hprof_tables.proofs.SortedRows.{is_none, AreKeys-weaker, ascending_head, ascending_tail, row_at-cons, row_at-here}
-use Rattle.hprof_tables.proofs.SortedRows.{row_at-past, row_at-none, row_at-append, end_of-append, below_end, ascending-append, insert-all}
+use Rattle.std.proofs.lemmas.Bool.{eqb-true, cases_lt, cases_order, le-ltb, lt-ltb, ne_eqb}
+use Rattle.hprof_tables.specs.SortedRows.{row_at, IsAscending, Misses, IsTable, IsListOfBoth, Visits, merged, AreKeys, IsClear, Precedes}
+use Rattle.hprof_tables.proofs.SortedRows.{is_none, AreKeys-weaker, ascending_head, ascending_tail, row_at-here}
+use Rattle.hprof_tables.proofs.SortedRows.{row_at-past, row_at-none, insert-all, Misses-head, Misses-tail}
 use Rattle.hprof_tables.proofs.SortedRows.{insert-ascending, insert-row, merged-row, merged-ascending, merged-length}
 
 -- what holds holds at an error
@@ -177,11 +165,30 @@ module _ {V : Type 0} where
       ∙ or_first (eqb sought key) row (row_at sought run) (row_at sought below)
       ∙ sym (insert-row sought (merged run below) key row ∙ ap (cond (eqb sought key) (Some row)) (table-row sought run below sound)))
 
-  -- the table misses what both do
+  -- the table has no row of a key that both miss
   pub table-missed : (key : ℕ) (run below : List (ℕ × V)) → IsTable run below → Misses run key → Misses below key
       → row_at key (merged run below) ≡ None
   table-missed key run below sound gone missed =
       table-below key run below sound (is_none (row_at key run) gone) ∙ is_none (row_at key below) missed
+
+  some_row : (found : Option V) → is_some found ≡ true → (row : V) × (found ≡ Some row)
+  some_row None e = absurd cc
+  some_row (Some row) e = (row, refl)
+
+  -- the run misses what the map has
+  pub missed_there : (key : ℕ) (run below : List (ℕ × V)) → IsTable run below → is_some (row_at key below) ≡ true → Misses run key
+  missed_there key run below sound there =
+      let found = some_row (row_at key below) there in
+      found_key (Misses run) key found.0 below sound.are_apart found.1
+
+  -- and the table has it
+  pub table-there : (key : ℕ) (run below : List (ℕ × V)) → IsTable run below → is_some (row_at key below) ≡ true
+      → row_at key (merged run below) ≡ None → ⊥
+  table-there key run below sound there none =
+      let gone = is_none (row_at key run) (missed_there key run below sound there) in
+      let both : row_at key below ≡ None = sym (table-below key run below sound gone) ∙ none in
+      let t = sym there ∙ ap is_some both in
+      cc
 
   -- ---- a row in the map
 
@@ -248,3 +255,38 @@ module _ {V : Type 0} where
   tried_below-sound answers makes run below after key (Ok answer) sound none v kept =
       visit_below-sound answers makes run below after key answer sound none v
   tried_below-sound answers makes run below after key (Err e) sound none v kept = subst (IsTable run) (sym kept) sound
+
+  -- a map of which a key was visited has none of the keys that it had not, but for that one
+  pub still_clear : {A : Type 0} (answers : V → A → Type 0) (makes : V → Type 0) (far after : List (ℕ × V)) (key : ℕ) (answer : Option A)
+      (from to less more : ℕ) → Visits answers makes far key answer after → IsClear far from to
+      → ((other : ℕ) → less ≤ other → other ≤ more → (from ≤ other) × (other ≤ to) × (other ≢ key)) → IsClear after less more
+  still_clear answers makes far after key None from to less more v clear within = λ other low high.
+      let is = within other low high in
+      subst (λ (l : List (ℕ × V)). Misses l other) (sym v.1.2) (still_missed far key v.1.0 other (clear other is.0 is.1) is.2)
+  still_clear answers makes far after key (Some answer) from to less more v clear within = λ other low high.
+      let is = within other low high in
+      subst (λ (l : List (ℕ × V)). Misses l other) (sym v.0) (clear other is.0 is.1)
+
+  -- ---- the rows, one after the other
+
+  -- where the run's first row comes first, it is the first of both
+  pub run_first : (rows : List (ℕ × V)) (row first : ℕ × V) (rest : List (ℕ × V)) → Precedes (row ∷ rows) first.0
+      → merged (row ∷ rows) (first ∷ rest) ≡ row ∷ merged rows (first ∷ rest)
+  run_first rows row first rest lt = rw (lt-ltb row.0 first.0 lt) refl
+
+  -- and else the map's is
+  pub far_first : (run : List (ℕ × V)) (first : ℕ × V) (rest : List (ℕ × V)) → (Precedes run first.0 → ⊥)
+      → merged run (first ∷ rest) ≡ first ∷ merged run rest
+  far_first [] first rest not = refl
+  far_first (row ∷ rows) first rest not = elim (cases_lt row.0 first.0) [
+    | inl lt ↦ absurd (not lt)
+    | inr le ↦ rw (le-ltb row.0 first.0 le) refl
+  ]
+
+  -- ---- what is found at a key, of a table that is that one
+
+  pub absent : (key : ℕ) (run below rows others : List (ℕ × V)) → IsTable run below → rows ≡ run → others ≡ below
+      → row_at key rows ≡ None → Misses others key → row_at key (merged run below) ≡ None
+  absent key run below rows others sound e e_other none missed =
+      table-missed key run below sound (ap is_some (ap (row_at key) (sym e) ∙ none))
+      (subst (λ (l : List (ℕ × V)). Misses l key) e_other missed)

@@ -1,5 +1,5 @@
 -- Rows whose keys are new, taken into the run of a table.
-use Rattle.std.proofs.Common.{◌≡◌, ◌≢◌, ◌<◌, ◌≤◌, ◌⊎◌, ℕ, List, [], ◌∷◌, length, Option, Some, None, refl, sym, ap, subst, ◌∙◌, inl, inr}
+use Rattle.std.proofs.Common.{◌≡◌, ◌≢◌, ◌<◌, ◌⊎◌, ℕ, List, [], ◌∷◌, length, Option, Some, None, refl, sym, ap, subst, ◌∙◌, inl, inr}
 use Rattle.std.proofs.Common.{arith}
 use Rattle.std.specs.Prelude.{is_some}
 use Rattle.std.specs.List.{AllByRecursion}
@@ -7,7 +7,7 @@ use Rattle.std.specs.Option.{option_or}
 use Rattle.std.proofs.lemmas.Bool.{cases_order}
 use Rattle.hprof_tables.specs.SortedRows.{row_at, IsAscending, IsTable, Misses, merged, AreKeys}
 use Rattle.hprof_tables.specs.Union.{AreApart, AreUnion}
-use Rattle.hprof_tables.proofs.SortedRows.{AreKeys-weaker, ascending_head, ascending_tail, is_none, row_at-here}
+use Rattle.hprof_tables.proofs.SortedRows.{ascending_head, ascending_tail, is_none, row_at-here}
 use Rattle.hprof_tables.proofs.SortedRows.{row_at-past, merged-row, merged-ascending}
 use Rattle.hprof_tables.proofs.SortedTable.{table-row, table-ascending, table-in_run, table-below}
 

@@ -53,6 +53,11 @@ module _ {V : Type 0} where
   end_of (row ∷ []) = row.0 + 1
   end_of (row ∷ next ∷ rows) = end_of (next ∷ rows)
 
+  -- the first of the rows has a key below this one
+  abbrev pub Precedes : List (ℕ × V) → ℕ → Type 0
+  Precedes [] key = ⊥
+  Precedes (row ∷ rows) key = row.0 < key
+
   -- none of the rows has this key
   abbrev pub Misses : List (ℕ × V) → ℕ → Type 0
   Misses rows key = is_some (row_at key rows) ≡ false

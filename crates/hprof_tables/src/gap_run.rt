@@ -19,10 +19,12 @@ pub(crate) struct GapRun<V> {
     pub(crate) low: Vec<(u64, V)>,
     pub(crate) high: Vec<(u64, V)>,
     ghost sound: { IsAscending (low.items ++ reverse high.items) } by { IsAscending-prop (low.items ++ reverse high.items) },
+    // Those above the gap have room below it.
+    ghost room: { vec_len low + vec_len high ≤ vec_capacity low },
 }
 
 impl<V> GapRun<V> {
-    ghost use Rattle.hprof_tables.specs.GapRun.{IsGapAt, LacksEnd, run_rows};
+    ghost use Rattle.hprof_tables.specs.GapRun.{HasRoomForOne, IsGapAt, LacksEnd, run_rows};
 
     /// No rows. It takes no memory yet.
     pub(crate) fn new(alloc: Global) -> Self
@@ -87,18 +89,26 @@ impl<V> GapRun<V> {
         }
     }
 
-    /// Whether the place of a key is near the gap.
+    /// Whether the place of a key lies far below the gap.
     #[inline(always)]
-    fn is_near(&self, key: u64) -> bool {
-        let far_below = match self.low.len().checked_sub(NEAR) {
+    fn is_far_below(&self, key: u64) -> bool
+        ensures { result ≡ true → key < end_of self.now.low.items }
+    {
+        match self.low.len().checked_sub(NEAR) {
             None => false,
             Some(place) => key < self.low[place].0,
-        };
-        let far_above = match self.high.len().checked_sub(NEAR) {
+        }
+    }
+
+    /// Whether the place of a key lies far above the gap.
+    #[inline(always)]
+    fn is_far_above(&self, key: u64) -> bool
+        ensures { result ≡ true → 0 < length self.now.high.items }
+    {
+        match self.high.len().checked_sub(NEAR) {
             None => false,
             Some(place) => self.high[place].0 < key,
-        };
-        !far_below && !far_above
+        }
     }
 
     /// Moves the rows with keys above that one over the gap. Where memory is refused, some of them were moved.
@@ -117,38 +127,34 @@ impl<V> GapRun<V> {
         Ok(())
     }
 
-    /// Moves the rows with that key or one below it over the gap. Where memory is refused, some of them were moved.
-    fn raise(&mut self, key: u64) -> Result<(), AllocError>
+    /// Moves the rows with that key or one below it over the gap.
+    fn raise(&mut self, key: u64)
         ensures same { run_rows self.new ≡ run_rows self.old }
-        ensures ok { OnOk result (AreKeys (λ other. key < other) self.new.high.items) }
+        ensures high { AreKeys (λ other. key < other) self.new.high.items }
         ensures low { end_of self.old.low.items ≤ key + 1 → end_of self.new.low.items ≤ key + 1 }
         ensures moved { (self.new ≡ self.old) ⊎ (0 < length self.old.high.items) }
-        ensures err { OnErr result (0 < length self.old.high.items) }
     {
         while self.reaches_below(key) {
-            self.low.reserve(1)?;
             if let Some(row) = self.high.pop() {
                 self.low.push_reserved(row);
             }
         }
-        Ok(())
     }
 
-    /// Brings the gap to the place of a key, if that is near and there is no row of it. The rows stay as they are, also where memory
-    /// is refused.
+    /// Brings the gap to the place of a key, if that is near and there is no row of it, and says whether it is there now. Where memory
+    /// is refused, it is not. The rows stay as they are.
     #[inline(always)]
-    pub(crate) fn takes(&mut self, key: u64) -> Result<bool, AllocError>
+    pub(crate) fn takes(&mut self, key: u64) -> bool
         ensures same { run_rows self.new ≡ run_rows self.old }
-        ensures gap { IfOk result (λ takes. takes ≡ true → IsGapAt self.new key) }
-        ensures full { OnErr result (LacksEnd self.old key) }
-        ensures room { LacksEnd self.old key ⊎ (self.new ≡ self.old) }
+        ensures gap { result ≡ true → IsGapAt self.new key }
+        ensures not { result ≡ false → LacksEnd self.old key }
+        ensures moved { (self.new ≡ self.old) ⊎ LacksEnd self.old key }
     {
-        if !self.is_near(key) {
-            return Ok(false);
+        if self.is_far_below(key) || self.is_far_above(key) || self.lower(key).is_err() {
+            return false;
         }
-        self.lower(key)?;
-        self.raise(key)?;
-        Ok(self.ends_below(key))
+        self.raise(key);
+        self.ends_below(key)
     }
 
     /// Makes room for a row at the gap.
@@ -156,10 +162,10 @@ impl<V> GapRun<V> {
     pub(crate) fn make_room(&mut self) -> Result<(), AllocError>
         ensures same { run_rows self.new ≡ run_rows self.old }
         ensures gap { (key : ℕ) → IsGapAt self.old key → IsGapAt self.new key }
-        ensures ok { OnOk result (vec_len self.new.low < vec_capacity self.new.low) }
-        ensures err { OnErr result (vec_capacity self.old.low ≤ vec_len self.old.low) }
+        ensures ok { OnOk result (HasRoomForOne self.new) }
+        ensures full { (key : ℕ) → OnErr result (LacksEnd self.old key) }
     {
-        self.low.reserve(1)?;
+        self.low.reserve(self.high.len() + 1)?;
         Ok(())
     }
 
@@ -167,7 +173,7 @@ impl<V> GapRun<V> {
     #[inline(always)]
     pub(crate) fn put(&mut self, key: u64, row: V)
         requires gap { IsGapAt self.old key }
-        requires room { vec_len self.old.low < vec_capacity self.old.low }
+        requires room { HasRoomForOne self.old }
         ensures { run_rows self.new ≡ insert_entry nat_cmp (run_rows self.old) key row }
     {
         self.low.push_reserved((key, row));
@@ -203,15 +209,16 @@ impl<V> GapRun<V> {
         }
     }
 
-    /// Brings the gap above all rows. Where memory is refused, nothing changes.
-    pub(crate) fn close(&mut self) -> Result<(), AllocError>
-        ensures same { run_rows self.new ≡ run_rows self.old }
-        ensures ok { OnOk result (self.new.low.items ≡ run_rows self.old) }
+    /// The rows.
+    pub(crate) fn into_rows(self) -> Vec<(u64, V)>
+    where
+        V: Drop,
+        ensures { result.items ≡ run_rows self }
     {
-        self.low.reserve_exact(self.high.len())?;
-        while let Some(row) = self.high.pop() {
-            self.low.push_reserved(row);
+        let GapRun { mut low, mut high } = self;
+        while let Some(row) = high.pop() {
+            low.push_reserved(row);
         }
-        Ok(())
+        low
     }
 }

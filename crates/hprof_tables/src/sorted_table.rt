@@ -1,12 +1,12 @@
 //! A table of rows by key, which takes rows that come near one another at the cost of a push.
 
 ghost use Rattle.std.specs.Prelude.{◌≡◌, ◌+◌, ◌↔◌, ◌≤◌, ◌⊎◌, ℕ, List, [], length, IsTrue, IfOk, IfSome, OnErr, None, ◌<◌, vec_len};
-ghost use Rattle.std.specs.Prelude.{vec_capacity, true, false, is_some, slice_get};
+ghost use Rattle.std.specs.Prelude.{vec_capacity, true, false, is_some};
 ghost use Rattle.std.specs.Ordering.{nat_cmp};
 ghost use Rattle.std.specs.BTreeMap.{insert_entry};
-ghost use Rattle.std.specs.Option.{option_copied, option_map};
+ghost use Rattle.std.specs.Option.{option_copied};
 ghost use Rattle.hprof_tables.specs.SortedRows.{IsTable, IsTable-prop, IsClear, IsClear-prop, IsAscending, IsListOfBoth, LeavesUnmade, Misses};
-ghost use Rattle.hprof_tables.specs.SortedRows.{row_at, Visits};
+ghost use Rattle.hprof_tables.specs.SortedRows.{Precedes, row_at, Visits};
 ghost use Rattle.hprof_tables.specs.GapRun.{IsGapAt, run_rows};
 ghost use Rattle.hprof_tables.specs.Union.{AreApart, AreUnion};
 
@@ -124,7 +124,7 @@ impl<V> SortedTable<V> {
             × (entries_of self.new ≡ insert_entry nat_cmp (entries_of self.old) key row)) }
         ensures err { OnErr result (entries_of self.new ≡ entries_of self.old) }
         ensures kept { OnErr result (T.held room.new ≡ T.held room.old) }
-        ensures full { OnErr result ((vec_capacity self.old.run.low ≤ vec_len self.old.run.low) ⊎ T.refuses visitor room.old) }
+        ensures full { OnErr result (LacksRoom self.old key ⊎ T.refuses visitor room.old) }
     {
         self.run.make_room()?;
         let row = visitor.make(room)?;
@@ -178,7 +178,7 @@ impl<V> SortedTable<V> {
         if !self.clears(key) {
             return self.visit_far(key, visitor, room);
         }
-        if self.run.takes(key)? {
+        if self.run.takes(key) {
             self.make_at_gap(key, visitor, room)?;
             return Ok(None);
         }
@@ -203,12 +203,10 @@ impl<V> SortedTable<V> {
         if fresh.is_empty() {
             return Ok(());
         }
-        self.run.close()?;
         let mut all = Vec::new(alloc);
         all.reserve_exact(self.run.len() + fresh.len())?;
         let SortedTable { run, far, clear } = mem::replace(self, SortedTable::new(alloc));
-        let GapRun { low, .. } = run;
-        merge_into(low, fresh, &mut all);
+        merge_into(run.into_rows(), fresh, &mut all);
         *self = SortedTable {
             run: GapRun::of(alloc, all),
             far,
@@ -294,14 +292,17 @@ impl<'a, V> Entries<'a, V> {
         Some((row.0, &row.1))
     }
 
-    /// The first key of the run.
+    /// Whether the first row of the run has a key below that one.
     #[inline(always)]
-    fn key_of_run(&self) -> Option<u64>
-        ensures { result ≡ option_map (λ row. row.0) (slice_get (run_left self.now) 0) }
+    fn run_precedes(&self, key: u64) -> bool
+        ensures { IsTrue result ↔ Precedes (run_left self.now) key }
     {
-        match self.low.first() {
-            Some(row) => Some(row.0),
-            None => self.high.last().map(|row| row.0),
+        if let Some(row) = self.low.first() {
+            return row.0 < key;
+        }
+        match self.high.last() {
+            None => false,
+            Some(row) => row.0 < key,
         }
     }
 }
@@ -321,12 +322,10 @@ impl<'a, V> Iterator for Entries<'a, V> {
         let Some((key, row)) = self.first else {
             return self.next_of_run();
         };
-        match self.key_of_run() {
-            Some(other) if other < *key => self.next_of_run(),
-            _ => {
-                self.first = self.far.next();
-                Some((*key, row))
-            }
+        if self.run_precedes(*key) {
+            return self.next_of_run();
         }
+        self.first = self.far.next();
+        Some((*key, row))
     }
 }

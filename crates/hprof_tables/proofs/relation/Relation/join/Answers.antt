@@ -1,6 +1,5 @@
 use Rattle.std.proofs.Common.{ap, sym, subst}
 use Rattle.std.proofs.lemmas.Result.{IfOk-weaker, on_err_weaker}
-use Rattle.hprof_tables.specs.declared.relation.Relation.{Relation}
 use Rattle.hprof_tables.specs.declared.sorted_table.SortedTable.{SortedTable}
 use Rattle.hprof_tables.specs.Relation.{contents_of, rows_of}
 use Rattle.hprof_tables.specs.SideBySide.{AreMissing}
