@@ -3,6 +3,7 @@
 
 mod bytes_table;
 mod content;
+mod hinted_map;
 mod merging;
 mod relation;
 mod rows;
@@ -11,5 +12,6 @@ mod sorted_table;
 
 pub use bytes_table::{BytesRows, BytesTable};
 pub use content::{Content, Statement};
+pub use hinted_map::HintedMap;
 pub use relation::{Relation, Stated};
 pub use rows::Rows;
