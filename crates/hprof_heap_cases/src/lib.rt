@@ -10,6 +10,8 @@ mod expecting;
 #[cfg(test)]
 mod gathering;
 #[cfg(test)]
+mod hinted_maps;
+#[cfg(test)]
 mod joining;
 #[cfg(test)]
 mod lent_facts;

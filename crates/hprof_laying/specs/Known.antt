@@ -4,6 +4,7 @@ use Rattle.std.specs.List.{IsDistinct}
 use Rattle.std.specs.Option.{option_map_or}
 use Rattle.std.specs.Ordering.{nat_cmp}
 use Rattle.std.specs.BTreeMap.{get}
+use Rattle.hprof_tables.specs.HintedMap.{value_in}
 use Rattle.hprof_values.specs.declared.ids.IdSize.{IdSize}
 use Rattle.hprof_items.specs.FactValue.{FactValue}
 use Rattle.hprof_finding.specs.Classes.{ClassDump, HasDump}
@@ -27,7 +28,7 @@ HasDumpMore facts row more = (dump : ClassDump) → HasDump more dump ↔ (HasDu
 
 -- what is kept of a class whose layout is known
 abbrev pub plan_of : KnownLayouts → ℕ → Option Plan
-plan_of known class = get nat_cmp known.plans class
+plan_of known class = value_in known.plans class
 
 -- the classes that wait for their superclass
 abbrev pub waiting_below : KnownLayouts → ℕ → List Waiting

@@ -17,6 +17,7 @@ use crate::own_fields::{OwnLayout, own_fields};
 use crate::plan::{Jump, Outline, Plan};
 use crate::reference::Reference;
 use hprof_finding::ClassRow;
+use hprof_tables::HintedMap;
 use hprof_values::IdSize;
 use std::alloc::{AllocError, Global};
 use std::collections::BTreeMap;
@@ -35,7 +36,7 @@ struct Waiting {
 #[derive(Drop)]
 pub struct KnownLayouts {
     alloc: Global,
-    plans: BTreeMap<u64, Plan>,
+    plans: HintedMap<Plan>,
     waiting: BTreeMap<u64, Vec<Waiting>>,
 }
 
@@ -46,7 +47,7 @@ impl KnownLayouts {
     {
         KnownLayouts {
             alloc,
-            plans: BTreeMap::new(alloc),
+            plans: HintedMap::new(alloc),
             waiting: BTreeMap::new(alloc),
         }
     }
@@ -56,14 +57,14 @@ impl KnownLayouts {
         ensures known { (ids : IdSize) (facts : List FactValue) → Knows ids facts self.now → IsTrue result ↔ HasLayout facts class }
         ensures ready { IsTrue result ↔ CanWake (plan_of self.now) class }
     {
-        class == 0 || self.plans.contains_key(&class)
+        class == 0 || self.plans.contains_key(class)
     }
 
     /// The outline of the layout of a class that has a plan, or of no slots.
     fn outline(&self, class: u64) -> Outline
         ensures { result ≡ outline_at class (plan_of self.now class) }
     {
-        match self.plans.get(&class) {
+        match self.plans.get(class) {
             None => Outline {
                 width: 0,
                 first: None,
@@ -149,7 +150,7 @@ impl KnownLayouts {
         ensures none { IfNone result ((plan : Plan) → plan_of self.now jump.class ≡ Some plan → 0 < plan.own.width
             → jump.offset + plan.own.width ≤ room → ⊥) }
     {
-        let plan = self.plans.get(&jump.class)?;
+        let plan = self.plans.get(jump.class)?;
         let end = jump.offset.checked_add(plan.own.width)?;
         if plan.own.width == 0 || room < end {
             return None;

@@ -9,3 +9,4 @@ pub mod Contents
 pub mod Taking
 pub mod Missing
 pub mod SameTables
+pub mod Places

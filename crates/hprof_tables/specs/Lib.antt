@@ -7,3 +7,5 @@ pub mod Spans
 pub mod BytesTable
 pub mod SideBySide
 pub mod Rows
+pub mod Places
+pub mod HintedMap

@@ -5,6 +5,7 @@ mod bytes_table;
 mod clear;
 mod content;
 mod gap_run;
+mod hinted_map;
 mod merging;
 mod relation;
 mod rows;
@@ -13,5 +14,6 @@ mod sorted_table;
 
 pub use bytes_table::{BytesRows, BytesTable};
 pub use content::{Content, Statement};
+pub use hinted_map::HintedMap;
 pub use relation::{Relation, Stated};
 pub use rows::Rows;

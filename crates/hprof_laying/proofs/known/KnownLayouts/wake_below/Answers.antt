@@ -1,14 +1,15 @@
-use Rattle.std.specs.BTreeMap.{get, is_at}
-use Rattle.std.specs.Ordering.{nat_cmp}
+use Rattle.std.specs.Prelude.{◌==◌, if◌then◌else◌}
 use Rattle.std.specs.Vec.Iter.{into_iter_items}
-use Rattle.std.proofs.Common.{◌≡◌, ℕ, ◌∷◌, cond, List, [], length, Some, refl, sym, ap, subst, ◌∙◌, arith}
+use Rattle.std.proofs.Math.Path.{fun_ext}
+use Rattle.std.proofs.Common.{◌≡◌, ℕ, ◌∷◌, List, [], length, Some, refl, sym, ap, subst, ◌∙◌, arith}
+use Rattle.hprof_tables.specs.HintedMap.{value_in}
 use Rattle.hprof_laying.specs.declared.known.KnownLayouts.{KnownLayouts}
 use Rattle.hprof_laying.specs.declared.known.Waiting.{Waiting}
 use Rattle.hprof_laying.specs.declared.plan.Plan.{Plan}
-use Rattle.hprof_laying.specs.Plan.{IsOutline, plan_below}
+use Rattle.hprof_laying.specs.Plan.{IsOutline}
 use Rattle.hprof_laying.specs.Known.{plan_of, waiting_below}
 use Rattle.hprof_laying.proofs.Hands.{InHand, hand_begins, hand_ends, hand_more, none_in_hand}
-use Rattle.hprof_laying.proofs.Maps.{counted-taken, get-updated, list_in, waiting-same, waiting-taken}
+use Rattle.hprof_laying.proofs.Maps.{counted-taken, list_in, waiting-same, waiting-taken}
 use Rattle.hprof_laying.proofs.Outlines.{no_elements}
 use Rattle.hprof_laying.proofs.Wakings.{put-here, ready_outline}
 use Rattle.hprof_laying.proofs.known.KnownLayouts.wake_below.Goals as goal
@@ -45,10 +46,9 @@ loop-below-preserved c =
     let steps = c.in-Some-2.ensures.steps in
     let first : Waiting = c.in-Some-2.field-0 in
     let later = into_iter_items c.next.new.self in
-    let plans = get-updated c.loop-below.self.plans c.insert.new.self first.class (Some (plan_below c.outline-outline.result first.own))
-    (subst (λ (p : Plan). (at : ℕ) → get nat_cmp c.insert.new.self at
-    ≡ cond (is_at (nat_cmp first.class) at) (Some p) (get nat_cmp c.loop-below.self.plans at)) c.below.ensures
-    c.in_ok-insert.ensures.updates.0) in
+    let plans = fun_ext (λ at.
+    subst (λ (p : Plan). value_in c.insert.new.self at ≡ (if first.class == at then Some p else plan_of c.loop-below.self at))
+    c.below.ensures (c.in_ok-insert.ensures.ok at)) in
     let lengths = ap (λ (l : List Waiting). length l) steps.0 in
     let pushed = c.in_ok-push.ensures.len in
     let counted = was.counted in
@@ -60,10 +60,10 @@ loop-below-preserved c =
           waking.standing c.args.class ready in
           let outline : IsOutline ids facts above.slots c.outline-outline.result =
           subst (IsOutline ids facts above.slots) (sym c.outline-outline.ensures) above.outline_are in
-          subst (λ (l : List ℕ). InHand ids facts before c.args.class pending c.args.woken.now.items (get nat_cmp c.insert.new.self)
+          subst (λ (l : List ℕ). InHand ids facts before c.args.class pending c.args.woken.now.items (value_in c.insert.new.self)
           (waiting_below c.loop-below.self) l later) (sym c.in_ok-push.ensures.items)
           (hand_more ids facts before c.args.class pending c.args.woken.now.items (plan_of c.loop-below.self)
-          (get nat_cmp c.insert.new.self) (waiting_below c.loop-below.self) c.loop-below.woken.items (into_iter_items c.loop-below.below-iterator) later first above.slots
+          (value_in c.insert.new.self) (waiting_below c.loop-below.self) c.loop-below.woken.items (into_iter_items c.loop-below.below-iterator) later first above.slots
           c.outline-outline.result above.known outline (was.hand ids facts before pending ready waking) steps.0 plans);
     }
 
