@@ -16,14 +16,16 @@ use hprof_heap::Heap;
 use hprof_items::Fact;
 
 /// The fact with the key of a class.
-fn class_fact(heap: &Heap, class: u64) -> Option<Fact<'_>>
+#[inline(always)]
+fn class_fact<'a>(heap: &'a Heap, class: u64, near: &mut usize) -> Option<Fact<'a>>
     ensures value { option_map value_of result ≡ find (has_key (keys.Class class)) (facts_of heap.now) }
     ensures lists { IfSome result (ListsHave (size_of heap.now)) }
 {
-    heap.class(class)
+    heap.class_near(class, near)
 }
 
 /// The row of a fact that is a class dump; there is none of another fact.
+#[inline(always)]
 pub fn to_class_row<'a>(fact: &Fact<'a>) -> Option<ClassRow<'a>>
     ensures found { IfSome result (λ row. fact_of_dump (dump_of row) ≡ value_of fact.now) }
     ensures none { IfNone result ((dump : ClassDump) → fact_of_dump dump ≢ value_of fact.now) }
@@ -72,9 +74,24 @@ pub fn find_class(heap: &Heap, class: u64) -> Option<ClassRow<'_>>
         → dump_of row ≡ dump) }
     ensures none { IfNone result (HasNoDump (facts_of heap.now) class) }
 {
+    find_class_near(heap, class, &mut 0)
+}
+
+/// The dump of a class, as `find_class` finds it, which is looked for near a place. Where it is found is noted there, so that classes that
+/// are asked for in order of their identifiers are found one behind the other.
+#[inline(always)]
+pub fn find_class_near<'a>(heap: &'a Heap, class: u64, near: &mut usize) -> Option<ClassRow<'a>>
+    ensures found { IfSome result (λ row. HasDump (facts_of heap.now) (dump_of row)) }
+    ensures id { IfSome result (λ row. row.id ≡ class) }
+    ensures lists { IfSome result (ClassListsHave (size_of heap.now)) }
+    // It is the only one.
+    ensures only { IfSome result (λ row. (dump : ClassDump) → HasDump (facts_of heap.now) dump → dump.id ≡ class
+        → dump_of row ≡ dump) }
+    ensures none { IfNone result (HasNoDump (facts_of heap.now) class) }
+{
     // Facts of a heap agree: that is told with the size.
     let _ids = id_size(heap);
-    let fact = class_fact(heap, class)?;
+    let fact = class_fact(heap, class, near)?;
     let Some(row) = to_class_row(&fact) else {
         // A fact with the key of a class is its dump.
         unreachable!();

@@ -13,6 +13,7 @@ use hprof_heap::{Facts, Heap, Table};
 use hprof_values::IdSize;
 
 /// The size of a heap's identifiers.
+#[inline(always)]
 pub fn id_size(heap: &Heap) -> IdSize
     ensures value { result ≡ size_of heap.now }
     // What holds of the facts of every heap.

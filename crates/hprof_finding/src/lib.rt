@@ -9,8 +9,8 @@ mod object_row;
 mod objects;
 
 pub use class_row::ClassRow;
-pub use classes::{find_class, to_class_row};
+pub use classes::{find_class, find_class_near, to_class_row};
 pub use heap_facts::{class_name, id_size, table_facts, table_len};
 pub use names::find_name;
 pub use object_row::ObjectRow;
-pub use objects::{find_object, to_object_row};
+pub use objects::{find_object, find_object_near, to_object_row};

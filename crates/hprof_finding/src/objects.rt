@@ -17,14 +17,16 @@ use hprof_heap::Heap;
 use hprof_items::Fact;
 
 /// The fact with the key of an object.
-fn object_fact(heap: &Heap, object: u64) -> Option<Fact<'_>>
+#[inline(always)]
+fn object_fact<'a>(heap: &'a Heap, object: u64, near: &mut usize) -> Option<Fact<'a>>
     ensures value { option_map value_of result ≡ find (has_key (keys.Object object)) (facts_of heap.now) }
     ensures lists { IfSome result (ListsHave (size_of heap.now)) }
 {
-    heap.object(object)
+    heap.object_near(object, near)
 }
 
 /// The row of a fact that is an object dump; there is none of another fact.
+#[inline(always)]
 pub fn to_object_row<'a>(fact: &Fact<'a>) -> Option<ObjectRow<'a>>
     ensures found { IfSome result (λ row. fact_of_object row ≡ value_of fact.now) }
     ensures none { IfNone result ((object : ℕ) → IsObject object (value_of fact.now) → ⊥) }
@@ -79,9 +81,23 @@ pub fn find_object(heap: &Heap, object: u64) -> Option<ObjectRow<'_>>
         → fact_of_object row ≡ fact) }
     ensures none { IfNone result (HasNoObject (facts_of heap.now) object) }
 {
+    find_object_near(heap, object, &mut 0)
+}
+
+/// The dump of an object, as `find_object` finds it, which is looked for near a place, as a class is by `find_class_near`.
+#[inline(always)]
+pub fn find_object_near<'a>(heap: &'a Heap, object: u64, near: &mut usize) -> Option<ObjectRow<'a>>
+    ensures found { IfSome result (λ row. Has (facts_of heap.now) (fact_of_object row)) }
+    ensures id { IfSome result (λ row. IsObject object (fact_of_object row)) }
+    ensures lists { IfSome result (ElementsHave (size_of heap.now)) }
+    // It is the only one.
+    ensures only { IfSome result (λ row. (fact : FactValue) → Has (facts_of heap.now) fact → IsObject object fact
+        → fact_of_object row ≡ fact) }
+    ensures none { IfNone result (HasNoObject (facts_of heap.now) object) }
+{
     // Facts of a heap agree: that is told with the size.
     let _ids = id_size(heap);
-    let fact = object_fact(heap, object)?;
+    let fact = object_fact(heap, object, near)?;
     let Some(row) = to_object_row(&fact) else {
         // A fact with the key of an object is its dump.
         unreachable!();

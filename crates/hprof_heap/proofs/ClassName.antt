@@ -11,9 +11,9 @@ use Rattle.hprof_rows.specs.Facts.{Has}
 use Rattle.hprof_rows.specs.Tables.{stands_in, joined}
 use Rattle.hprof_rows.specs.HeapRows.{HeapRows, AreHeap, heap_of_rows, load_facts, tables_of}
 use Rattle.hprof_rows.specs.Order.{order_of}
-use Rattle.hprof_tables.specs.SortedRows.{IsAscending}
+use Rattle.hprof_tables.specs.SortedRows.{AreKeys, IsAscending}
 use Rattle.hprof_rows.proofs.HeapRows.{table_facts}
-use Rattle.hprof_tables.proofs.SortedRows.{AllKeys, ascending_head, ascending_tail}
+use Rattle.hprof_tables.proofs.SortedRows.{ascending_head, ascending_tail}
 use Rattle.hprof_rows.proofs.ReadBack.{has_joined}
 
 -- ---- two loads that are one
@@ -28,7 +28,7 @@ class_in fact = 0
 -- ---- the first load
 
 -- the serial of a load is the key of a row
-has_serial : (P : ℕ → Type 0) (rows : List (ℕ × LoadRow)) (serial class trace name : ℕ) → AllKeys P rows
+has_serial : (P : ℕ → Type 0) (rows : List (ℕ × LoadRow)) (serial class trace name : ℕ) → AreKeys P rows
     → Has (load_facts rows) (Load serial class trace name) → P serial
 has_serial P [] serial class trace name all has = absurd has
 has_serial P (row ∷ rows) serial class trace name all (inl e) =

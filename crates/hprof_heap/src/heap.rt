@@ -167,7 +167,17 @@ impl Heap {
         ensures value { option_map value_of result ≡ find (has_key (keys.Class id)) (heap_of self.now).facts }
         ensures lists { IfSome result (ListsHave (heap_of self.now).ids) }
     {
-        let bytes = self.classes.get(id)?;
+        self.class_near(id, &mut 0)
+    }
+
+    /// The class with that identifier, which is looked for near a place. Where it is found is noted there, so that classes that are asked for
+    /// in order of their identifiers are found one behind the other.
+    #[inline(always)]
+    pub fn class_near(&self, id: u64, near: &mut usize) -> Option<Fact<'_>>
+        ensures value { option_map value_of result ≡ find (has_key (keys.Class id)) (heap_of self.now).facts }
+        ensures lists { IfSome result (ListsHave (heap_of self.now).ids) }
+    {
+        let bytes = self.classes.get_near(id, near)?;
         Some(spelled_fact(bytes, self.ids))
     }
 
@@ -177,7 +187,16 @@ impl Heap {
         ensures value { option_map value_of result ≡ find (has_key (keys.Object id)) (heap_of self.now).facts }
         ensures lists { IfSome result (ListsHave (heap_of self.now).ids) }
     {
-        let bytes = self.objects.get(id)?;
+        self.object_near(id, &mut 0)
+    }
+
+    /// The instance or the array with that identifier, which is looked for near a place, as a class is by `class_near`.
+    #[inline(always)]
+    pub fn object_near(&self, id: u64, near: &mut usize) -> Option<Fact<'_>>
+        ensures value { option_map value_of result ≡ find (has_key (keys.Object id)) (heap_of self.now).facts }
+        ensures lists { IfSome result (ListsHave (heap_of self.now).ids) }
+    {
+        let bytes = self.objects.get_near(id, near)?;
         Some(spelled_fact(bytes, self.ids))
     }
 

@@ -11,9 +11,9 @@ use Rattle.hprof_values.specs.declared.ids.IdSize.{IdSize}
 use Rattle.hprof_items.specs.FactValue.{FactValue}
 use Rattle.hprof_tables.specs.Spans.{the_bytes}
 use Rattle.hprof_tables.specs.Relation.{contents_of}
-use Rattle.hprof_tables.specs.SortedRows.{row_at, IsAscending}
+use Rattle.hprof_tables.specs.SortedRows.{AreKeys, row_at, IsAscending}
 use Rattle.hprof_tables.specs.Union.{AreUnion}
-use Rattle.hprof_tables.proofs.SortedRows.{AllKeys, ascending_cons, ascending_head, ascending_tail, row_at-here, row_at-past}
+use Rattle.hprof_tables.proofs.SortedRows.{ascending_cons, ascending_head, ascending_tail, row_at-here, row_at-past}
 use Rattle.hprof_tables.proofs.Unions.{union_rows}
 use Rattle.hprof_rows.specs.Content.{facts_of_rows, IsRight, AreRight}
 use Rattle.hprof_rows.specs.Facts.{Has, SameFacts}
@@ -68,7 +68,7 @@ module _ (ids : IdSize) (table : ℕ) (fact : ℕ → List ℕ → FactValue) wh
     is_there : row_at key rows ≡ Some content
     states : of ≡ fact key content
 
-  above : (bound : ℕ) (rows : List (ℕ × List ℕ)) (key : ℕ) (content : List ℕ) → AllKeys (λ k. bound < k) rows
+  above : (bound : ℕ) (rows : List (ℕ × List ℕ)) (key : ℕ) (content : List ℕ) → AreKeys (λ k. bound < k) rows
       → row_at key rows ≡ Some content → bound < key
   above bound [] key content all e = absurd cc
   above bound (row ∷ rows) key content all e = elim (cases_order key row.0) [
@@ -95,7 +95,7 @@ module _ (ids : IdSize) (table : ℕ) (fact : ℕ → List ℕ → FactValue) wh
       ascending_cons row rows (keys rows right.1 ordered.0) (ascending_of rows right.1 ordered.1)
     where
       keys : (those : List (ℕ × List ℕ)) → Right those → AllByRecursion (IsBefore (fact row.0 row.1)) (stated those)
-          → AllKeys (λ key. row.0 < key) those
+          → AreKeys (λ key. row.0 < key) those
       keys [] those before = tt
       keys (one ∷ those) right_too before = (
         ltb-true row.0 one.0
@@ -108,7 +108,7 @@ module _ (ids : IdSize) (table : ℕ) (fact : ℕ → List ℕ → FactValue) wh
   ordered_of (row ∷ rows) right up =
       (before rows right.1 (ascending_head row rows up), ordered_of rows right.1 (ascending_tail row rows up))
     where
-      before : (those : List (ℕ × List ℕ)) → Right those → AllKeys (λ key. row.0 < key) those
+      before : (those : List (ℕ × List ℕ)) → Right those → AreKeys (λ key. row.0 < key) those
           → AllByRecursion (IsBefore (fact row.0 row.1)) (stated those)
       before [] those lt = tt
       before (one ∷ those) right_too lt = (

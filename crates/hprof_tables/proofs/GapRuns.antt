@@ -13,7 +13,7 @@ use Rattle.std.specs.BTreeMap.{insert_entry}
 use Rattle.std.specs.Cmp.{nat_cmp_total, nat_cmp_is}
 use Rattle.std.proofs.lemmas.Bool.{cases_lt, cases_order}
 use Rattle.std.proofs.lemmas.Cmp.{eq_by_cmp_equiv}
-use Rattle.std.proofs.lemmas.List.{append_assoc, reverse-append, reverse-reverse}
+use Rattle.std.proofs.lemmas.List.{append_assoc, get_or_append_left, get_or_default, reverse-append, reverse-reverse}
 use Rattle.std.proofs.lemmas.List.Sorted.{searchable_from_sorted}
 use Rattle.std.proofs.lemmas.Map.Entries.{length-keys_of, lookup_from_place}
 use Rattle.std.proofs.lemmas.Map.Keys.{below_from_sorted, IsDistinct-from_sorted}
@@ -195,7 +195,14 @@ module _ {V : Type 0} where
       row_at-none key rows (apart_at (λ row. nat_cmp row.0 key) rows others key place e
       (λ row same. sym (nat_cmp_is row.0 key Equal (sym same))) split)
 
-  -- it found a row
+  -- a row that stands at a place is found
+  pub row_at_place : (rows : List (ℕ × V)) (place : ℕ) (row : ℕ × V) → IsAscending rows → place < length rows → row ≡ get_or rows place row
+      → row_at row.0 rows ≡ Some row.1
+  row_at_place rows place row up lt here =
+      let there : slice_get rows place ≡ Some row = slice_get_read rows (length rows) place row refl lt here in
+      lookup_from_place (eq_by_cmp_equiv nat_cmp_total) rows place row.0 row.1 (IsDistinct-from_sorted nat_cmp (keys_of rows) up) there
+
+  -- the search found a row
   pub found_at : (rows others : List (ℕ × V)) (key place : ℕ) (row : ℕ × V) → others ≡ rows → IsAscending rows → place < length others
       → row ≡ get_or rows place row → HoldsAt (λ row. nat_cmp row.0 key ≡ Equal) others place
       → row_at key rows ≡ Some row.1
@@ -204,9 +211,34 @@ module _ {V : Type 0} where
       subst (λ (r : ℕ × V). nat_cmp r.0 key ≡ Equal) (sym here)
       (subst (λ (l : List (ℕ × V)). nat_cmp (get_or l place row).0 key ≡ Equal) e (holds row)) in
       let within : place < length rows = subst (λ (l : List (ℕ × V)). place < length l) e lt in
-      let there : slice_get rows place ≡ Some row = slice_get_read rows (length rows) place row refl within here in
-      subst (λ (k : ℕ). row_at k rows ≡ Some row.1) (exact_unsigned row.0 key same)
-      (lookup_from_place (eq_by_cmp_equiv nat_cmp_total) rows place row.0 row.1 (IsDistinct-from_sorted nat_cmp (keys_of rows) up) there)
+      subst (λ (k : ℕ). row_at k rows ≡ Some row.1) (exact_unsigned row.0 key same) (row_at_place rows place row up within here)
+
+  pub not_falling : (rows : List (ℕ × V)) (i j : ℕ) (c d : ℕ × V) → IsAscending rows → i ≤ j → j < length rows
+      → (get_or rows i c).0 ≤ (get_or rows j d).0
+  not_falling rows i j c d up le lt =
+      subst (λ (r : ℕ × V). r.0 ≤ (get_or rows j d).0) (sym (get_or_default rows i c d (omega arith))) (elim (cases_lt i j) [
+        | inl less ↦ let h = rising rows i j d up less lt in omega arith
+        | inr more ↦ let same : i ≡ j = omega arith in subst (λ (k : ℕ). (get_or rows i d).0 ≤ (get_or rows k d).0) same (omega arith)
+      ])
+
+  -- a key between those of two rows that are next to one another has no row
+  pub none_between : (low upper : List (ℕ × V)) (key place : ℕ) (row : ℕ × V) → IsAscending (low ++ upper) → place < length low
+      → row ≡ get_or low place row → key < row.0
+      → ((other : ℕ) (d : ℕ × V) → other < place → (get_or low other d).0 < key) → row_at key (low ++ upper) ≡ None
+  none_between low upper key place row up lt here below above =
+      row_at-none key (low ++ upper) (apart_keys (low ++ upper) key (λ k d within same. apart k d within same (cases_lt k place)))
+    where
+      apart : (k : ℕ) (d : ℕ × V) → k < length (low ++ upper) → key ≡ (get_or (low ++ upper) k d).0 → (k < place) ⊎ (place ≤ k) → ⊥
+      apart k d within same (inl before) =
+          let at : get_or (low ++ upper) k d ≡ get_or low k d = get_or_append_left low upper d k (omega arith) in
+          let less = above k d before in
+          let e : key ≡ (get_or low k d).0 = same ∙ ap (λ (r : ℕ × V). r.0) at in
+          omega arith
+      apart k d within same (inr after) =
+          let at : get_or (low ++ upper) place row ≡ get_or low place row = get_or_append_left low upper row place lt in
+          let le = not_falling (low ++ upper) place k row d up after within in
+          let e : row.0 ≡ (get_or (low ++ upper) place row).0 = ap (λ (r : ℕ × V). r.0) (here ∙ sym at) in
+          omega arith
 
   -- ---- the same of rows that descend
 

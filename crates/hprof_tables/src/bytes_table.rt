@@ -161,11 +161,19 @@ impl BytesTable {
     }
 
     /// The bytes under a key.
-    #[inline(always)]
     pub fn get(&self, key: u64) -> Option<&[u8]>
         ensures { option_copied result ≡ lookup (is_at (nat_cmp key)) (byte_rows self.now) }
     {
-        let span = self.rows.get(key)?;
+        self.get_near(key, &mut 0)
+    }
+
+    /// The bytes under a key, which are looked for near a place. Where they are found is noted there, so that keys that come in order are
+    /// found one behind the other.
+    #[inline(always)]
+    pub fn get_near(&self, key: u64, near: &mut usize) -> Option<&[u8]>
+        ensures { option_copied result ≡ lookup (is_at (nat_cmp key)) (byte_rows self.now) }
+    {
+        let span = self.rows.get_near(key, near)?;
         Some(&self.bytes[span.start..span.end])
     }
 

@@ -1,7 +1,7 @@
 //! Rows in order of key with a gap among them, at which rows that come near one another are put.
 
 ghost use Rattle.std.specs.Prelude.{◌≡◌, ◌+◌, ◌↔◌, ◌++◌, ◌<◌, ◌≤◌, ◌⊎◌, ℕ, List, [], length, reverse, true, false, IsTrue, IfOk, OnOk};
-ghost use Rattle.std.specs.Prelude.{OnErr, vec_len, vec_capacity};
+ghost use Rattle.std.specs.Prelude.{OnErr, slice_index_or, vec_len, vec_capacity};
 ghost use Rattle.std.specs.Option.{option_copied};
 ghost use Rattle.std.specs.Ordering.{nat_cmp};
 ghost use Rattle.std.specs.BTreeMap.{insert_entry};
@@ -206,6 +206,55 @@ impl<V> GapRun<V> {
         match self.get_low(key) {
             Some(row) => Some(row),
             None => self.get_high(key),
+        }
+    }
+
+    /// A place below the gap at which a key may stand, or in front of which it lies: looked for from a place on, by doubled steps and then
+    /// by halves, and among all where it lies before that place. It is a guess.
+    #[inline(always)]
+    fn guess(&self, key: u64, near: usize) -> usize {
+        let rows = self.low.as_slice();
+        let mut from = near.min(rows.len());
+        if from > 0 && key <= rows[from - 1].0 {
+            from = 0;
+        }
+        let mut step = 1;
+        while step < rows.len() - from && rows[from + step].0 < key {
+            from += step;
+            step *= 2;
+        }
+        let to = rows.len().min(from.saturating_add(step).saturating_add(1));
+        from + rows[from..to].partition_point(|row| row.0 < key)
+    }
+
+    /// The row under a key, as `get` answers it. It is looked for near a place, and where it lies is noted there.
+    #[inline(always)]
+    pub(crate) fn get_near(&self, key: u64, near: &mut usize) -> Option<&V>
+        ensures { option_copied result ≡ row_at key (run_rows self.now) }
+    {
+        let place = self.guess(key, *near);
+        *near = place;
+        let Some(row) = self.low.get(place) else {
+            return self.get(key);
+        };
+        if row.0 == key {
+            return Some(&row.1);
+        }
+        if key < row.0 && self.lies_behind(key, place) {
+            return None;
+        }
+        self.get(key)
+    }
+
+    /// Whether the key is above that of the row before a place.
+    #[inline(always)]
+    fn lies_behind(&self, key: u64, place: usize) -> bool
+        requires { place < length self.now.low.items }
+        ensures { result ≡ true → (other : ℕ) (row : ℕ × V) → other < place → (slice_index_or self.now.low.items other row).0 < key }
+    {
+        match place.checked_sub(1) {
+            None => true,
+            Some(before) => self.low[before].0 < key,
         }
     }
 

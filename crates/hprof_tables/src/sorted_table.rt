@@ -79,6 +79,17 @@ impl<V> SortedTable<V> {
         }
     }
 
+    /// The row under a key in the map.
+    #[inline(always)]
+    fn get_far(&self, key: u64) -> Option<&V>
+        ensures { option_copied result ≡ row_at key self.now.far.entries }
+    {
+        if self.clear.has(key) {
+            return None;
+        }
+        self.far.get(&key)
+    }
+
     /// The row under a key.
     #[inline(always)]
     pub(crate) fn get(&self, key: u64) -> Option<&V>
@@ -86,7 +97,18 @@ impl<V> SortedTable<V> {
     {
         match self.run.get(key) {
             Some(row) => Some(row),
-            None => self.far.get(&key),
+            None => self.get_far(key),
+        }
+    }
+
+    /// The row under a key, which is looked for near a place of the run. Where it lies is noted there.
+    #[inline(always)]
+    pub(crate) fn get_near(&self, key: u64, near: &mut usize) -> Option<&V>
+        ensures { option_copied result ≡ row_at key (entries_of self.now) }
+    {
+        match self.run.get_near(key, near) {
+            Some(row) => Some(row),
+            None => self.get_far(key),
         }
     }
 

@@ -3,8 +3,8 @@ use Rattle.hprof_finding.proofs.objects.object_fact.Goals as goal
 
 pub returns-clause-value : goal.returns-clause-value
 unfolding facts_of
-returns-clause-value c = c.object.ensures.value
+returns-clause-value c = c.object_near.ensures.value
 
 pub returns-clause-lists : goal.returns-clause-lists
 unfolding size_of
-returns-clause-lists c = c.object.ensures.lists
+returns-clause-lists c = c.object_near.ensures.lists

@@ -11,4 +11,4 @@ returns-in-Some g c =
 pub returns-in-None : goal.returns-in-None
 returns-in-None g c =
     let table = c.args.self.now in
-    c.get-in-None.ensures.value ∙ sym (table-below c.args.key (run_rows table.run) table.far.entries table.sound (sym c.in-None.ensures))
+    c.get_far.ensures ∙ sym (table-below c.args.key (run_rows table.run) table.far.entries table.sound (sym c.in-None.ensures))

@@ -7,7 +7,7 @@ use Rattle.hprof_rows.proofs.Picking.{found}
 use Rattle.hprof_finding.specs.HeapFacts.{facts_of}
 use Rattle.hprof_finding.specs.ObjectRow.{fact_of_object}
 use Rattle.hprof_finding.proofs.ObjectFacts.{IsOnlyObject, none_found, object_found}
-use Rattle.hprof_finding.proofs.objects.find_object.Goals as goal
+use Rattle.hprof_finding.proofs.objects.find_object_near.Goals as goal
 
 pub returns-in_err-fact-clause-none : goal.returns-in_err-fact-clause-none
 returns-in_err-fact-clause-none c =

@@ -3,7 +3,7 @@ use Rattle.std.specs.Option.{option_copied, option_map}
 use Rattle.hprof_tables.specs.Spans.{lying}
 use Rattle.hprof_tables.specs.SortedTable.{entries_of}
 use Rattle.hprof_tables.proofs.Spans.{row_lying, within_found}
-use Rattle.hprof_tables.proofs.bytes_table.BytesTable.get.Goals as goal
+use Rattle.hprof_tables.proofs.bytes_table.BytesTable.get_near.Goals as goal
 
 pub returns-in_err-span : goal.returns-in_err-span
 returns-in_err-span c =

@@ -8,7 +8,7 @@ use Rattle.hprof_finding.specs.HeapFacts.{facts_of}
 use Rattle.hprof_finding.specs.Classes.{fact_of_dump}
 use Rattle.hprof_finding.specs.ClassRow.{dump_of}
 use Rattle.hprof_finding.proofs.ClassFacts.{none_found, key_is_dump, key_dump, one_dump_each}
-use Rattle.hprof_finding.proofs.classes.find_class.Goals as goal
+use Rattle.hprof_finding.proofs.classes.find_class_near.Goals as goal
 
 pub returns-in_err-fact-clause-none : goal.returns-in_err-fact-clause-none
 returns-in_err-fact-clause-none c =

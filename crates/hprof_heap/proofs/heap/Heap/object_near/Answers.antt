@@ -9,7 +9,7 @@ use Rattle.hprof_rows.specs.Key.{has_key}
 use Rattle.hprof_tables.specs.BytesTable.{byte_rows}
 use Rattle.hprof_rows.proofs.HeapRows.{look_up_row, found_fits, row_spells}
 use Rattle.hprof_rows.proofs.RowFacts.{right_found}
-use Rattle.hprof_heap.proofs.heap.Heap.object.Goals as goal
+use Rattle.hprof_heap.proofs.heap.Heap.object_near.Goals as goal
 
 pub returns-in_err-bytes-clause-value : goal.returns-in_err-bytes-clause-value
 returns-in_err-bytes-clause-value c =
