@@ -11,16 +11,37 @@ ghost use Rattle.hprof_edges.specs.Edges.{IsEdge};
 use crate::collect::Collect;
 use crate::of_identifier::put_of_class;
 use crate::of_object::object_edges;
-use hprof_finding::{find_object, id_size};
+use hprof_finding::{find_object_near, id_size};
 use hprof_heap::Heap;
 use hprof_laying::{KnownLayouts, Reference};
 use std::alloc::AllocError;
+
+/// Where a class dump and an object dump were found last: near it the next ones are looked for. Whatever these places are, the same is
+/// found.
+#[derive(Clone, Copy, Debug, PartialEq, Eq)]
+pub struct Near {
+    /// The place of the class dump.
+    pub class: usize,
+    /// The place of the object dump.
+    pub object: usize,
+}
+
+impl Near {
+    /// The first places.
+    pub fn start() -> Near {
+        Near {
+            class: 0,
+            object: 0,
+        }
+    }
+}
 
 /// Puts the edges that the object dump of an identifier gives, if there is one.
 fn put_of_known_object<C: Collect>(
     heap: &Heap,
     known: &KnownLayouts,
     id: u64,
+    near: &mut usize,
     references: &mut Vec<Reference>,
     into: &mut C,
 ) -> Result<(), AllocError>
@@ -28,7 +49,7 @@ fn put_of_known_object<C: Collect>(
         → PutBehind (C.holds into.new) edges (λ edge. (edge.from ≡ id) × GivenByObject (size_of heap.now) (facts_of heap.now) edge)) }
     ensures keeps { OnOk result (C.keeps into.new ≡ C.keeps into.old) }
 {
-    let Some(row) = find_object(heap, id) else {
+    let Some(row) = find_object_near(heap, id, near) else {
         return Ok(());
     };
     object_edges(known, &row, id_size(heap), references, into)?;
@@ -36,12 +57,13 @@ fn put_of_known_object<C: Collect>(
 }
 
 /// Puts all edges from an identifier into what collects them, where the layouts of the heap's classes are known. Its class dump
-/// and its object dump are looked up. The references are room that is used again. Where memory is refused, nothing holds of
-/// what collects them.
+/// and its object dump are looked up, near where the last ones were found. The references are room that is used again. Where memory
+/// is refused, nothing holds of what collects them.
 pub fn known_edges<C: Collect>(
     heap: &Heap,
     known: &KnownLayouts,
     id: u64,
+    near: &mut Near,
     references: &mut Vec<Reference>,
     into: &mut C,
 ) -> Result<(), AllocError>
@@ -49,7 +71,7 @@ pub fn known_edges<C: Collect>(
         → PutBehind (C.holds into.new) edges (λ edge. IsEdge (size_of heap.now) (facts_of heap.now) edge × (edge.from ≡ id))) }
     ensures keeps { OnOk result (C.keeps into.new ≡ C.keeps into.old) }
 {
-    put_of_class(heap, id, into)?;
-    put_of_known_object(heap, known, id, references, into)?;
+    put_of_class(heap, id, &mut near.class, into)?;
+    put_of_known_object(heap, known, id, &mut near.object, references, into)?;
     Ok(())
 }

@@ -14,18 +14,23 @@ use crate::of_class::class_edges;
 use crate::of_object::{array_edges, edge_to_class};
 use crate::putting::put_values;
 use crate::sorting::sort_edges;
-use hprof_finding::{ObjectRow, find_class, find_object, id_size};
+use hprof_finding::{ObjectRow, find_class_near, find_object, id_size};
 use hprof_heap::Heap;
 use hprof_layouts::{Fields, fields};
 use std::alloc::{AllocError, Global};
 
 /// Puts the edges that the class dump of an identifier gives, if there is one.
-pub(crate) fn put_of_class<C: Collect>(heap: &Heap, id: u64, into: &mut C) -> Result<(), AllocError>
+pub(crate) fn put_of_class<C: Collect>(
+    heap: &Heap,
+    id: u64,
+    near: &mut usize,
+    into: &mut C,
+) -> Result<(), AllocError>
     ensures holds { OnOk result ((edges : List Edge) → C.holds into.old edges
         → PutBehind (C.holds into.new) edges (λ edge. (edge.from ≡ id) × GivenByClass (facts_of heap.now) edge)) }
     ensures keeps { OnOk result (C.keeps into.new ≡ C.keeps into.old) }
 {
-    let Some(row) = find_class(heap, id) else {
+    let Some(row) = find_class_near(heap, id, near) else {
         return Ok(());
     };
     class_edges(&row, into)?;
@@ -91,7 +96,7 @@ pub fn edges_of(alloc: Global, heap: &Heap, id: u64) -> Result<Vec<Edge>, AllocE
     ensures { IfOk result (λ edges. AreEdgesFrom (size_of heap.now) (facts_of heap.now) id edges.items) }
 {
     let mut list = EdgeList::new(alloc, Watched::All);
-    put_of_class(heap, id, &mut list)?;
+    put_of_class(heap, id, &mut 0, &mut list)?;
     put_of_object(alloc, heap, id, &mut list)?;
     let mut edges = list.into_edges();
     sort_edges(&mut edges);

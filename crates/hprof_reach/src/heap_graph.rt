@@ -1,7 +1,7 @@
 //! A heap as a graph.
 
 use crate::targets::Targets;
-use hprof_edges::known_edges;
+use hprof_edges::{Near, known_edges};
 use hprof_heap::Heap;
 use hprof_laying::{KnownLayouts, Reference};
 use hprof_walks::Graph;
@@ -14,6 +14,8 @@ pub(crate) struct HeapGraph<'h> {
     pub(crate) heap: &'h Heap,
     /// The known layouts of its classes.
     pub(crate) known: KnownLayouts,
+    /// Where the last dumps were found.
+    pub(crate) near: Near,
     pub(crate) references: Vec<Reference>,
     pub(crate) targets: Targets,
 }
@@ -33,6 +35,7 @@ impl<'h> Graph for HeapGraph<'h> {
             self.heap,
             &self.known,
             from,
+            &mut self.near,
             &mut self.references,
             &mut self.targets,
         )?;

@@ -11,6 +11,7 @@ use crate::heap_graph::HeapGraph;
 use crate::nodes::nodes_of;
 use crate::starts::starts_of;
 use crate::targets::Targets;
+use hprof_edges::Near;
 use hprof_heap::Heap;
 use hprof_laying::known_layouts;
 use hprof_walks::{Search, search};
@@ -49,6 +50,7 @@ pub fn reach_of(alloc: Global, heap: &Heap) -> Result<Reach, AllocError>
     let mut graph = HeapGraph {
         heap,
         known,
+        near: Near::start(),
         references: Vec::new(alloc),
         targets: Targets {
             list: Vec::new(alloc),
