@@ -19,6 +19,7 @@ use hprof_values::IdSize;
 use std::alloc::AllocError;
 
 /// Puts the edge of an instance or of an array of objects to its class; there is none to class 0.
+#[inline(always)]
 pub fn edge_to_class<C: Collect>(object: u64, class: u64, into: &mut C) -> Result<(), AllocError>
     ensures holds { OnOk result ((edges : List Edge) → C.holds into.old edges
         → PutBehind (C.holds into.new) edges (IsEdgeToClass object class)) }

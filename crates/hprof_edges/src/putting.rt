@@ -16,6 +16,7 @@ use hprof_values::Basic;
 use std::alloc::AllocError;
 
 /// Puts an edge, unless it refers to nothing.
+#[inline(always)]
 pub(crate) fn put_edge<C: Collect>(edge: Edge, into: &mut C) -> Result<(), AllocError>
     ensures holds { OnOk result ((edges : List Edge) → C.holds into.old edges → C.holds into.new (edges ++ unless_zero edge)) }
     ensures keeps { OnOk result (C.keeps into.new ≡ C.keeps into.old) }
@@ -137,6 +138,7 @@ pub(crate) fn put_values<C: Collect>(
 }
 
 /// Puts the edges of an instance by what its fields refer to.
+#[inline(always)]
 pub(crate) fn put_references<C: Collect>(
     instance: u64,
     references: &[Reference],

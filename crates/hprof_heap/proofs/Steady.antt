@@ -1,18 +1,14 @@
 -- What a gatherer's heap and the size that was begun last keep.
-use Rattle.std.proofs.Common.{◌≡◌, Bool, true, false, Option, Some, Result, Ok, Err, refl, sym, ap, subst, ◌∙◌}
+use Rattle.std.proofs.Common.{◌≡◌, Bool, true, false, Option, Some, Result, Ok, Err, sym, ap, subst, ◌∙◌}
 use Rattle.std.specs.Prelude.{IfOk, OnErr}
-use Rattle.std.proofs.lemmas.Result.{IfOk-at_ok}
 use Rattle.hprof_values.specs.declared.ids.IdSize.{IdSize}
 use Rattle.hprof_items.specs.FactValue.{FactValue}
-use Rattle.hprof_heap.specs.declared.gatherer.Gatherer.{Gatherer}
 use Rattle.hprof_heap.specs.declared.heap.Heap.{Heap}
 use Rattle.hprof_tables.specs.declared.relation.Stated.{Stated}
 use Rattle.hprof_tables.specs.declared.relation.Stated.TheVariants.{New, Same, Differs}
 use Rattle.hprof_rows.specs.HeapValue.{HeapValue}
-use Rattle.hprof_heap.specs.Heap.{heap_of}
 use Rattle.hprof_heap.specs.Steady.{IsSteady}
 use Rattle.hprof_rows.specs.Stating.{StatesInto}
-use Rattle.hprof_heap.specs.Gathering.{gathered, Takes, mark_after}
 
 -- stating a fact keeps the size
 pub states_ids : {E : Type 0} (r : Result Stated E) (heap new : HeapValue) (fact : FactValue)
@@ -29,23 +25,3 @@ steady_after old heap new begun true steady e same = tt
 steady_after old heap new begun false steady e same =
     let begun-is : begun ≡ Some heap.ids = subst (λ (o : Option Heap). IsSteady o begun false) e steady in
     begun-is ∙ ap (λ (ids : IdSize). Some ids) (sym same)
-
--- what the heap took the gatherer took
-pub took : {E : Type 0} (r : Result Stated E) (got stated : Stated) (old : Gatherer) (heap new : Heap) (fact : FactValue)
-    → old.failed ≡ false → old.two_sizes ≡ false → old.heap ≡ Some heap → r ≡ Ok got → got ≡ stated
-    → IfOk r (λ s. StatesInto (heap_of heap) fact s (heap_of new))
-    → Takes (gathered old) fact (record (gathered old) { heap = Some (heap_of new); conflict = mark_after stated old.conflict fact })
-took r got stated old heap new fact well one there e f ok = record {
-  was_sound = well;
-  sound = well;
-  begun = refl;
-  two_sizes = refl;
-  taken = rw (one, there) (
-    stated,
-    (
-      IfOk-at_ok (λ (s : Stated). StatesInto (heap_of heap) fact s (heap_of new)) (e
-          ∙ ap (λ (s : Stated). Ok s) f) ok,
-      refl,
-    ),
-  );
-}

@@ -114,6 +114,21 @@ pub record Takes (old : Gathered) (fact : FactValue) (new : Gathered) : Type 0 w
   pub two_sizes : new.two_sizes ≡ old.two_sizes
   pub taken : TakesHeap old.two_sizes old.heap old.conflict fact new.heap new.conflict
 
+-- what stating a fact did to the heap and the mark, while one size was begun
+pub record IsStated (old : Gathered) (fact : FactValue) (stated : Stated) (new : Gathered) : Type 0 where
+  pub one_size : old.two_sizes ≡ false
+  pub before : HeapValue
+  pub after : HeapValue
+  pub had : old.heap ≡ Some before
+  pub has : new.heap ≡ Some after
+  pub states : StatesInto before fact stated after
+  pub mark : new.conflict ≡ mark_after stated old.conflict fact
+
+-- what a fact came to: nothing where two sizes were begun, else it was stated
+abbrev pub ComesTo : Gathered → FactValue → Option Stated → Gathered → Type 0
+ComesTo old fact None new = old.two_sizes ≡ true
+ComesTo old fact (Some stated) new = IsStated old fact stated new
+
 -- ---- the answers
 
 -- the heap in what was answered, as a value

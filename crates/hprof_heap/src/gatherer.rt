@@ -1,6 +1,6 @@
 //! The sink that unites the facts of parts.
 
-ghost use Rattle.std.specs.Prelude.{◌≡◌, List, Some};
+ghost use Rattle.std.specs.Prelude.{◌≡◌, [], ◌∷◌, List, Some, Err, true, false, IfErr, IfOk, OnOk};
 ghost use Rattle.std.specs.Option.{option_map};
 ghost use Rattle.std.specs.Result.{result_ok};
 ghost use Rattle.hprof_items.specs.FactValue.{value_of};
@@ -31,7 +31,9 @@ pub struct Gatherer {
 
 impl Gatherer {
     ghost use Rattle.hprof_heap.specs.Gathering.{Gathered, Given, gathered, nothing_gathered, seen_heap, Gathers, Tells, answer_of};
-    ghost use Rattle.hprof_heap.specs.Gathering.{standing_of_answer, marked};
+    ghost use Rattle.hprof_heap.specs.Gathering.{ComesTo, LacksRow, Takes, standing_of_answer, marked};
+    ghost use Rattle.hprof_stream.specs.Run.{FitsBegun, ListsHaveBegun, SpellsBegun};
+    ghost use Rattle.hprof_stream.specs.declared.sink.SinkFault.TheVariants.{OutOfMemory};
     ghost use Rattle.hprof_heap.specs.Heap.{heap_of};
 
     /// A gatherer that was given nothing. It takes no memory yet.
@@ -49,6 +51,7 @@ impl Gatherer {
     }
 
     /// How it stands.
+    #[inline(always)]
     pub fn standing(&self) -> Standing
         ensures { result ≡ standing_of_answer (answer_of (gathered self.now)) }
     {
@@ -65,6 +68,7 @@ impl Gatherer {
     }
 
     /// The heap of the facts so far, where it is clean.
+    #[inline(always)]
     pub fn heap(&self) -> Option<&Heap>
         ensures { option_map (λ heap. heap_of heap.now) result ≡ result_ok (answer_of (gathered self.now)) }
     {
@@ -96,6 +100,42 @@ impl Gatherer {
             (Some(_), Some(key)) => Err(Refusal::Conflict(key)),
             (Some(heap), None) => Ok(heap),
         }
+    }
+
+    /// Takes a fact as `take` does, with the same faults, and tells what stating it into the heap came to. That is None where
+    /// two sizes were begun: then no fact is looked at.
+    #[inline(always)]
+    pub fn state(&mut self, fact: &Fact<'_>, spelled: &[u8]) -> Result<Option<Stated>, SinkFault>
+        requires fits { FitsBegun (gathered self.old).begun (value_of fact.now) }
+        requires lists { ListsHaveBegun (gathered self.old).begun fact.now }
+        requires spelled { SpellsBegun (gathered self.old).begun (value_of fact.now) spelled.now }
+        ensures steps { OnOk result (Takes (gathered self.old) (value_of fact.now) (gathered self.new)) }
+        ensures stated { IfOk result (λ stated. ComesTo (gathered self.old) (value_of fact.now) stated (gathered self.new)) }
+        ensures begun { OnOk result ((gathered self.new).begun ≡ (gathered self.old).begun) }
+        ensures well { OnOk result (((gathered self.old).failed ≡ false) × ((gathered self.new).failed ≡ false)) }
+        // A gatherer that has not failed answers no fault but want of memory, and that only for a fact that is new to its heap.
+        ensures err { IfErr result (λ fault. ((gathered self.old).failed ≡ false → (fault ≡ OutOfMemory)
+            × LacksRow (gathered self.old) (value_of fact.now ∷ [])) × ((gathered self.new).failed ≡ true)) }
+        ensures failed { (gathered self.old).failed ≡ true → result ≡ Err SinkFault.Failed }
+    {
+        if self.failed {
+            return Err(SinkFault::Failed);
+        }
+        if self.two_sizes {
+            return Ok(None);
+        }
+        let Some(heap) = &mut self.heap else {
+            // A part was begun, so there is a heap.
+            unreachable!()
+        };
+        let Ok(stated) = heap.state(fact, spelled) else {
+            self.failed = true;
+            return Err(SinkFault::OutOfMemory);
+        };
+        if let Stated::Differs = stated {
+            self.mark(fact);
+        }
+        Ok(Some(stated))
     }
 
     /// Marks the key of a fact that differs from the one that is there.
@@ -165,26 +205,7 @@ impl Sink for Gatherer {
 
     #[inline(always)]
     fn take(&mut self, fact: &Fact<'_>, spelled: &[u8]) -> Result<(), SinkFault> {
-        if self.failed {
-            return Err(SinkFault::Failed);
-        }
-        if self.two_sizes {
-            return Ok(());
-        }
-        let Some(heap) = &mut self.heap else {
-            // A part was begun, so there is a heap.
-            unreachable!()
-        };
-        let Ok(stated) = heap.state(fact, spelled) else {
-            self.failed = true;
-            return Err(SinkFault::OutOfMemory);
-        };
-        match stated {
-            Stated::New | Stated::Same => Ok(()),
-            Stated::Differs => {
-                self.mark(fact);
-                Ok(())
-            }
-        }
+        self.state(fact, spelled)?;
+        Ok(())
     }
 }

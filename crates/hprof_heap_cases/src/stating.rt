@@ -6,9 +6,9 @@ ghost use Rattle.hprof_heap.specs.Gathering.{gathered};
 use crate::expecting::equal;
 use crate::samples::{begun, state_each, state_record, state_sub};
 use hprof_heap::{Gatherer, Heap, Key, Refusal, Standing, Table};
-use hprof_items::{Fact, IdSize};
+use hprof_items::{Fact, Header, IdSize, Step, Version, read_sub};
 use hprof_lists::IdList;
-use hprof_stream::SinkFault;
+use hprof_stream::{Sink, SinkFault};
 use hprof_tables::Stated;
 use std::alloc::Global;
 use std::process::Abort;
@@ -156,5 +156,55 @@ fn sub_records_that_differ(rt: HostRuntime) -> Result<(), Fail> {
     for other in [longer, array] {
         check_conflict(&rt, rt.alloc(), instance, other, Key::Object(7))?;
     }
+    Ok(())
+}
+
+// That stating the sub-record comes to that, and how the gatherer stands behind it.
+fn check_stated(
+    rt: &impl Abort,
+    gatherer: &mut Gatherer,
+    ids: IdSize,
+    bytes: &[u8],
+    stated: Option<Stated>,
+    standing: Standing,
+) -> Result<(), Fail>
+    requires { (gathered gatherer.old).begun ≡ Some ids }
+    ensures { OnOk result ((gathered gatherer.new).begun ≡ Some ids) }
+{
+    let Step::Whole(fact, len) = read_sub(bytes, u32::MAX, u32::MAX, ids) else {
+        return Err(Fail::from("no sub-record"));
+    };
+    let (spelled, _) = bytes.split_at(len);
+    equal(rt, gatherer.state(&fact, spelled)?, stated);
+    equal(rt, gatherer.standing(), standing);
+    Ok(())
+}
+
+// An instance that is new, is there, differs; and with two sizes begun, whatever it is.
+#[test]
+fn what_stating_comes_to(rt: HostRuntime) -> Result<(), Fail> {
+    let ids = IdSize::Four;
+    let mut gatherer = begun(rt.alloc(), ids, 5)?;
+    let instance = b"\x21\0\0\0\x07\0\0\0\x01\0\0\0\x02\0\0\0\x03abc";
+    let other = b"\x21\0\0\0\x07\0\0\0\x01\0\0\0\x03\0\0\0\x03abc";
+    let clean = Standing::Clean;
+    check_stated(&rt, &mut gatherer, ids, instance, Some(Stated::New), clean)?;
+    check_stated(&rt, &mut gatherer, ids, instance, Some(Stated::Same), clean)?;
+    let conflict = Standing::InConflict;
+    check_stated(
+        &rt,
+        &mut gatherer,
+        ids,
+        other,
+        Some(Stated::Differs),
+        conflict,
+    )?;
+    gatherer.begin_part(Header {
+        version: Version::V102,
+        ids: IdSize::Eight,
+        millis: 5,
+    })?;
+    let wide = b"\x21\0\0\0\0\0\0\0\x08\0\0\0\x01\0\0\0\0\0\0\0\x02\0\0\0\0";
+    check_stated(&rt, &mut gatherer, IdSize::Eight, wide, None, conflict)?;
     Ok(())
 }

@@ -1,15 +1,17 @@
 -- What is derived when a fact is added.
-use Rattle.std.specs.Prelude.{◌↔◌, ◌≢◌, nat_eq}
+use Rattle.std.specs.Prelude.{◌↔◌, ◌≢◌, nat_eq, ⊤}
 use Rattle.std.specs.List.{IsDistinct}
-use Rattle.std.proofs.Common.{◌≡◌, ℕ, ◌+◌, ◌-◌, ◌^◌, ◌⊎◌, min, List, [], ◌∷◌, ◌++◌, Contains, Some, refl, sym, ap, subst, ◌∙◌}
+use Rattle.std.proofs.Common.{◌≡◌, ℕ, ◌+◌, ◌-◌, ◌^◌, ◌⊎◌, min, List, [], ◌∷◌, ◌++◌, Bor, Contains, Some, refl, sym, ap, subst, ◌∙◌}
 use Rattle.std.proofs.Common.{inl, inr}
 use Rattle.std.proofs.lemmas.Bool.{cases_eq}
 use Rattle.std.proofs.lemmas.List.Elements.{Contains-append_left, Contains-push, Contains-push_cases}
 use Rattle.hprof_values.specs.declared.ids.IdSize.{IdSize}
-use Rattle.hprof_items.specs.FactValue.{FactValue, Class, Instance, ObjArray}
+use Rattle.hprof_lists.specs.declared.lists.ids.IdList.{IdList}
+use Rattle.hprof_items.specs.declared.fact.Fact.{Fact}
+use Rattle.hprof_items.specs.declared.fact.Fact.TheVariants as facts
+use Rattle.hprof_items.specs.FactValue.{FactValue, Class, Instance, ObjArray, value_of}
 use Rattle.hprof_rows.specs.declared.key.Key.TheVariants as keys
 use Rattle.hprof_finding.specs.Classes.{ClassDump, HasDump, HasNoDump, fact_of_dump}
-use Rattle.hprof_finding.specs.Objects.{IsObject}
 use Rattle.hprof_laying.specs.declared.known.KnownLayouts.{KnownLayouts}
 use Rattle.hprof_laying.specs.Known.{AreWoken, HasDumpMore, HasLayout, Knows}
 use Rattle.hprof_laying.specs.Waking.{put}
@@ -27,7 +29,6 @@ use Rattle.hprof_live.specs.declared.edge_set.EdgeSet.{EdgeSet}
 use Rattle.hprof_live.specs.declared.waiting.WaitingInstances.{WaitingInstances}
 use Rattle.hprof_live.specs.Derived.{AddsFact, GivesSoFar, HasLaid, IsDerived, IsDeriving, IsEdgeSoFar, IsInstance, IsInstanceOf}
 use Rattle.hprof_live.specs.EdgeSet.{SetOf}
-use Rattle.hprof_live.specs.First.{NothingToDerive}
 use Rattle.hprof_live.specs.Waiting.{waiting_of}
 use Rattle.hprof_live.proofs.Deriving.{appended, stopped_more}
 use Rattle.hprof_live.proofs.EdgesSoFar.{with_fact}
@@ -124,6 +125,13 @@ module _ (ids : IdSize) (before : List FactValue) (fact : FactValue) (facts : Li
 
 -- ---- a fact from which nothing is derived
 
+-- it is no class dump, no instance and no array of objects
+abbrev pub NothingToDerive : FactValue → Type 0
+NothingToDerive (Class id trace parent loader signers domain reserved1 reserved2 size constants statics fields) = ⊥
+NothingToDerive (Instance id trace class bytes) = ⊥
+NothingToDerive (ObjArray id trace class elements) = ⊥
+NothingToDerive fact = ⊤
+
 gives_none : (ids : IdSize) (facts : List FactValue) (laid : List ℕ) (fact : FactValue) (edge : Edge) → NothingToDerive fact
     → GivesSoFar ids facts laid fact edge → ⊥
 gives_none ids facts laid (Instance id trace class bytes) edge nothing gives = nothing
@@ -138,14 +146,15 @@ nothing_added ids before fact facts adds derived nothing is =
     (λ edges of. put_nothing edges (SetOf derived.set) (GivesSoFar ids facts is.laid fact) of
     (λ edge gives. gives_none ids facts is.laid fact edge nothing gives))
 
--- a fact that is neither a class dump nor an object dump
-pub neither : (fact : FactValue) → ((dump : ClassDump) → fact_of_dump dump ≡ fact → ⊥) → ((object : ℕ) → IsObject object fact → ⊥)
-    → NothingToDerive fact
-neither (Class id trace parent loader signers domain reserved1 reserved2 size constants statics fields) no_dump no_object =
-    no_dump (dump_in (Class id trace parent loader signers domain reserved1 reserved2 size constants statics fields)) refl
-neither (Instance id trace class bytes) no_dump no_object = no_object id refl
-neither (ObjArray id trace class elements) no_dump no_object = no_object id refl
-neither fact no_dump no_object = tt
+-- a fact that is no class dump, no instance and no array of objects
+pub neither : (fact : Fact) → ((dump : ClassDump) → fact_of_dump dump ≡ value_of fact → ⊥)
+    → ((id trace class : ℕ) (bytes : Bor (List ℕ)) → fact ≡ facts.Instance id trace class bytes → ⊥)
+    → ((id trace class : ℕ) (elements : IdList) → fact ≡ facts.ObjArray id trace class elements → ⊥) → NothingToDerive (value_of fact)
+neither (facts.Class id trace parent loader signers domain reserved1 reserved2 size constants statics fields) no_dump no_instance no_array =
+    no_dump (dump_in (value_of (facts.Class id trace parent loader signers domain reserved1 reserved2 size constants statics fields))) refl
+neither (facts.Instance id trace class bytes) no_dump no_instance no_array = no_instance id trace class bytes refl
+neither (facts.ObjArray id trace class elements) no_dump no_instance no_array = no_array id trace class elements refl
+neither fact no_dump no_instance no_array = tt
 
 -- ---- an array of objects
 

@@ -10,4 +10,3 @@ pub mod FactsMore
 pub mod Counted
 pub mod Referrers
 pub mod Outcomes
-pub mod FirstFacts

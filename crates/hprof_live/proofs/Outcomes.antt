@@ -1,14 +1,15 @@
 -- What a live heap comes to, as headers and facts are given.
+use Rattle.std.specs.Prelude.{◌≢◌}
 use Rattle.std.specs.Option.{option_map}
 use Rattle.std.specs.Result.{result_ok}
-use Rattle.std.proofs.Common.{◌≡◌, Bool, true, false, not, cond, min, ◌||◌, List, [], Option, Some, None, Result, Ok, Err, Bor, refl, sym, ap, subst, ◌∙◌}
+use Rattle.std.proofs.Common.{◌≡◌, Bool, true, false, not, cond, min, ◌||◌, List, [], Option, Some, None, Result, Ok, Err, Bor, refl, sym, ap, subst}
 use Rattle.hprof_values.specs.declared.ids.IdSize.{IdSize}
 use Rattle.hprof_items.specs.declared.header.Header.{Header}
 use Rattle.hprof_items.specs.FactValue.{FactValue}
 use Rattle.hprof_rows.specs.declared.key.Key.{Key}
 use Rattle.hprof_rows.specs.HeapValue.{HeapValue}
 use Rattle.hprof_rows.specs.Key.{key_of}
-use Rattle.hprof_rows.specs.Stating.{Adds, IsNewAmong, StatesInto}
+use Rattle.hprof_rows.specs.Stating.{Adds, StatesInto}
 use Rattle.hprof_rows.proofs.Order.{order_agrees}
 use Rattle.hprof_tables.specs.declared.relation.Stated.{Stated}
 use Rattle.hprof_tables.specs.declared.relation.Stated.TheVariants.{New, Same, Differs}
@@ -16,7 +17,7 @@ use Rattle.hprof_heap.specs.declared.heap.Heap.{Heap}
 use Rattle.hprof_heap.specs.declared.standing.Refusal.{Refusal}
 use Rattle.hprof_heap.specs.declared.standing.Refusal.TheVariants as refusals
 use Rattle.hprof_heap.specs.declared.standing.Standing.TheVariants as standings
-use Rattle.hprof_heap.specs.Gathering.{Begins, Gathered, Takes, TakesHeap, answer_of, begun_heap, gathered, has_other_size, mark_after, marked, same_size}
+use Rattle.hprof_heap.specs.Gathering.{Begins, ComesTo, Gathered, IsStated, Takes, TakesHeap, answer_of, begun_heap, gathered, has_other_size, mark_after, marked, same_size}
 use Rattle.hprof_heap.specs.Gathering.{standing_of_answer, unconflicted}
 use Rattle.hprof_heap.specs.Heap.{heap_of}
 use Rattle.hprof_finding.specs.HeapFacts.{facts_of, size_of}
@@ -25,9 +26,8 @@ use Rattle.hprof_live.specs.declared.live.Live.{Live}
 use Rattle.hprof_live.specs.declared.live.Live.TheVariants as lives
 use Rattle.hprof_live.specs.declared.live_heap.LiveHeap.{LiveHeap}
 use Rattle.hprof_live.specs.Derived.{AddsFact, IsDerived, keeps_of}
-use Rattle.hprof_live.specs.LiveHeap.{BeginsLive, IsAnswer, IsCurrent, IsDerivedOf, LacksFirst, LacksNothing, LendsHeap, TakesLive}
+use Rattle.hprof_live.specs.LiveHeap.{BeginsLive, IsAnswer, IsCurrent, IsDerivedOf, LendsHeap, TakesLive}
 use Rattle.hprof_live.specs.LiveHeap.{outcome_of, seen_by}
-use Rattle.hprof_live.proofs.FactsMore.{nothing_added}
 
 -- ---- a fault
 
@@ -191,89 +191,70 @@ module _ (fact : FactValue) where
   in_conflict derived heap (Some least) key e =
       subst (λ (k : Option Key). IsDerivedOf (unconflicted (Some heap) (marked (Some least) k) false) derived) (sym e) tt
 
-  -- ---- nothing is derived from it
+  -- what is derived follows the facts of this heap
+  abbrev pub DerivesInto : Derived → Derived → Result HeapValue Refusal → Type 0
+  DerivesInto derived other outcome = (before : List FactValue) (heap : HeapValue) → outcome ≡ Ok heap → AddsFact before fact heap.facts
+      → IsDerived heap.ids before derived → IsDerived heap.ids heap.facts other
 
-  module _ (derived : Derived) where
-    stays_derived : (heap new : HeapValue) (mark : Option Key) → Adds heap fact new → LacksNothing (unconflicted (Some heap) mark false) fact
-        → IsDerivedOf (unconflicted (Some heap) mark false) derived → IsDerivedOf (unconflicted (Some new) mark false) derived
-    stays_derived heap new (Some key) adds lacks is = tt
-    stays_derived heap new None adds lacks is =
-        let more = adds_fact heap new adds in
-        subst (λ (ids : IdSize). IsDerived ids new.facts derived) (sym adds.ids)
-        (nothing_added heap.ids heap.facts fact new.facts more derived (lacks more.new) is)
+  -- ---- the gatherer took it, and it came to that
 
-    passed_by : (heap new : HeapValue) (stated : Stated) (mark : Option Key) → StatesInto heap fact stated new
-        → LacksNothing (unconflicted (Some heap) mark false) fact → IsDerivedOf (unconflicted (Some heap) mark false) derived
-        → IsDerivedOf (unconflicted (Some new) (mark_after stated mark fact) false) derived
-    passed_by heap new New mark states lacks is = stays_derived heap new mark states lacks is
-    passed_by heap new Same mark states lacks is =
-        subst (λ (h : HeapValue). IsDerivedOf (unconflicted (Some h) mark false) derived) (sym states.1) is
-    passed_by heap new Differs mark states lacks is = in_conflict derived new mark states.0.one_key.key states.0.one_key.key_of_other
+  module _ (old new : Gathered) (takes : Takes old fact new) where
+    -- with two sizes begun nothing changed
+    untouched : (two : Bool) (heap after : Option HeapValue) (mark more : Option Key) → two ≡ true → TakesHeap two heap mark fact after more
+        → (after ≡ heap) × (more ≡ mark)
+    untouched true heap after mark more e same = same
+    untouched false heap after mark more e same = absurd cc
 
-    taken_by : (two : Bool) (old new : Option HeapValue) (mark after : Option Key) → TakesHeap two old mark fact new after
-        → LacksNothing (unconflicted old mark two) fact → IsDerivedOf (unconflicted old mark two) derived
-        → IsDerivedOf (unconflicted new after two) derived
-    taken_by true old new mark after takes lacks is =
-        subst (λ (h : Option HeapValue). IsDerivedOf (unconflicted h after true) derived) (sym takes.0)
-        (subst (λ (k : Option Key). IsDerivedOf (unconflicted old k true) derived) (sym takes.1) is)
-    taken_by false None new mark after takes lacks is = absurd takes
-    taken_by false (Some heap) None mark after takes lacks is = absurd takes
-    taken_by false (Some heap) (Some new) mark after takes lacks is =
-        subst (λ (k : Option Key). IsDerivedOf (unconflicted (Some new) k false) derived) (sym takes.1.1)
-        (passed_by heap new takes.0 mark takes.1.0 lacks is)
-
-    pub takes_on : (old new : Gathered) → Takes old fact new → LacksNothing (answer_of old) fact → IsDerivedOf (answer_of old) derived
-        → IsDerivedOf (answer_of new) derived
-    takes_on old new takes lacks is =
+    outcome_untouched : old.two_sizes ≡ true → answer_of new ≡ answer_of old
+    outcome_untouched two =
         let was = unfailed old takes.was_sound in
-        subst (λ (o : Result HeapValue Refusal). IsDerivedOf o derived) (sym (unfailed new takes.sound))
-        (subst (λ (t : Bool). IsDerivedOf (unconflicted new.heap new.conflict t) derived) (sym takes.two_sizes)
-        (taken_by old.two_sizes old.heap new.heap old.conflict new.conflict takes.taken
-        (subst (λ (o : Result HeapValue Refusal). LacksNothing o fact) was lacks)
-        (subst (λ (o : Result HeapValue Refusal). IsDerivedOf o derived) was is)))
+        let is = unfailed new takes.sound in
+        let same = untouched old.two_sizes old.heap new.heap old.conflict new.conflict two takes.taken in
+        let sizes = takes.two_sizes in
+        cc
 
-  -- ---- it is new, and what there is to derive from it was derived
+    module _ (stated : Stated) (is_stated : IsStated old fact stated new) where
+      outcome_was : answer_of old ≡ unconflicted (Some is_stated.before) old.conflict false
+      outcome_was = let was = unfailed old takes.was_sound in cc
 
-  module _ (derived other : Derived) where
-    -- what is derived follows the facts of this heap
-    abbrev pub DerivesInto : Result HeapValue Refusal → Type 0
-    DerivesInto outcome = (before : List FactValue) (heap : HeapValue) → outcome ≡ Ok heap → AddsFact before fact heap.facts
-        → IsDerived heap.ids before derived → IsDerived heap.ids heap.facts other
+      outcome_is : answer_of new ≡ unconflicted (Some is_stated.after) (mark_after stated old.conflict fact) false
+      outcome_is = let is = unfailed new takes.sound in let sizes = takes.two_sizes in cc
 
-    derived_from : (heap new : HeapValue) (stated : Stated) → StatesInto heap fact stated new → IsNewAmong heap.facts fact
-        → DerivesInto (unconflicted (Some new) (mark_after stated None fact) false) → IsDerivedOf (unconflicted (Some heap) None false) derived
-        → IsDerivedOf (unconflicted (Some new) (mark_after stated None fact) false) other
-    derived_from heap new New states lacks follows is =
-        follows heap.facts new refl (adds_fact heap new states)
-        (subst (λ (ids : IdSize). IsDerived ids heap.facts derived) (sym states.ids) is)
-    derived_from heap new Same states lacks follows is = absurd (lacks.absent states.0)
-    derived_from heap new Differs states lacks follows is = absurd (lacks.is_new states.0.other states.0.has_other states.0.one_key)
+    -- it was not new
+    module _ (derived : Derived) where
+      passed_by : (heap after : HeapValue) (stated : Stated) (mark : Option Key) → StatesInto heap fact stated after → stated ≢ New
+          → IsDerivedOf (unconflicted (Some heap) mark false) derived
+          → IsDerivedOf (unconflicted (Some after) (mark_after stated mark fact) false) derived
+      passed_by heap after New mark states no_new is = absurd (no_new refl)
+      passed_by heap after Same mark states no_new is =
+          subst (λ (h : HeapValue). IsDerivedOf (unconflicted (Some h) mark false) derived) (sym states.1) is
+      passed_by heap after Differs mark states no_new is = in_conflict derived after mark states.0.one_key.key states.0.one_key.key_of_other
 
-    taken_from : (two : Bool) (old new : Option HeapValue) (mark after : Option Key) → TakesHeap two old mark fact new after
-        → LacksFirst (unconflicted old mark two) fact → DerivesInto (unconflicted new after two) → IsDerivedOf (unconflicted old mark two) derived
-        → IsDerivedOf (unconflicted new after two) other
-    taken_from true None new mark after takes lacks follows is = absurd lacks
-    taken_from true (Some heap) new mark after takes lacks follows is = absurd lacks
-    taken_from false None new mark after takes lacks follows is = absurd takes
-    taken_from false (Some heap) None mark after takes lacks follows is = absurd takes
-    taken_from false (Some heap) (Some new) (Some key) after takes lacks follows is = absurd lacks
-    taken_from false (Some heap) (Some new) None after takes lacks follows is =
-        subst (λ (k : Option Key). IsDerivedOf (unconflicted (Some new) k false) other) (sym takes.1.1)
-        (derived_from heap new takes.0 takes.1.0 lacks
-        (subst (λ (k : Option Key). DerivesInto (unconflicted (Some new) k false)) takes.1.1 follows) is)
+      pub takes_on : (came : Option Stated) → ComesTo old fact came new → came ≢ Some New → IsDerivedOf (answer_of old) derived
+          → IsDerivedOf (answer_of new) derived
+      takes_on None two no_new is = subst (λ (o : Result HeapValue Refusal). IsDerivedOf o derived) (sym (outcome_untouched two)) is
+      takes_on (Some stated) is_stated no_new is =
+          subst (λ (o : Result HeapValue Refusal). IsDerivedOf o derived) (sym (outcome_is stated is_stated))
+          (passed_by is_stated.before is_stated.after stated old.conflict is_stated.states (λ e. no_new (ap (λ (s : Stated). Some s) e))
+          (subst (λ (o : Result HeapValue Refusal). IsDerivedOf o derived) (outcome_was stated is_stated) is))
 
-    pub takes_first : (old new : Gathered) → Takes old fact new → LacksFirst (answer_of old) fact → DerivesInto (answer_of new)
-        → IsDerivedOf (answer_of old) derived → IsDerivedOf (answer_of new) other
-    takes_first old new takes lacks follows is =
-        let was = unfailed old takes.was_sound in
-        let now = unfailed new takes.sound in
-        let so : unconflicted new.heap new.conflict new.two_sizes ≡ unconflicted new.heap new.conflict old.two_sizes =
-        ap (unconflicted new.heap new.conflict) takes.two_sizes in
-        subst (λ (o : Result HeapValue Refusal). IsDerivedOf o other) (sym (now ∙ so))
-        (taken_from old.two_sizes old.heap new.heap old.conflict new.conflict takes.taken
-        (subst (λ (o : Result HeapValue Refusal). LacksFirst o fact) was lacks)
-        (subst DerivesInto (now ∙ so) follows)
-        (subst (λ (o : Result HeapValue Refusal). IsDerivedOf o derived) was is))
+    -- it was new, and what there is to derive from it was derived
+    module _ (derived other : Derived) where
+      derived_from : (heap after : HeapValue) (mark : Option Key) → Adds heap fact after
+          → DerivesInto derived other (unconflicted (Some after) mark false) → IsDerivedOf (unconflicted (Some heap) mark false) derived
+          → IsDerivedOf (unconflicted (Some after) mark false) other
+      derived_from heap after (Some key) adds follows is = tt
+      derived_from heap after None adds follows is =
+          follows heap.facts after refl (adds_fact heap after adds)
+          (subst (λ (ids : IdSize). IsDerived ids heap.facts derived) (sym adds.ids) is)
+
+      pub takes_first : IsStated old fact New new → DerivesInto derived other (answer_of new) → IsDerivedOf (answer_of old) derived
+          → IsDerivedOf (answer_of new) other
+      takes_first is_stated follows is =
+          subst (λ (o : Result HeapValue Refusal). IsDerivedOf o other) (sym (outcome_is New is_stated))
+          (derived_from is_stated.before is_stated.after old.conflict is_stated.states
+          (subst (DerivesInto derived other) (outcome_is New is_stated) follows)
+          (subst (λ (o : Result HeapValue Refusal). IsDerivedOf o derived) (outcome_was New is_stated) is))
 
 -- ---- the live heap
 
@@ -306,26 +287,27 @@ module _ (old : LiveHeap) (sound : old.failed ≡ false) where
           subst (λ (g : Gathered). Takes g fact (seen_by new)) (sym (sound_seen old sound))
           (subst (λ (g : Gathered). Takes (gathered old.gatherer) fact g) (sym (sound_seen new sound_new)) takes)
 
-      -- nothing is derived from the fact
-      pub takes_live : LacksNothing (answer_of (gathered old.gatherer)) fact → new.derived ≡ old.derived → TakesLive old fact new
-      takes_live lacks same = record {
+      -- it was not new
+      pub takes_live : (came : Option Stated) → ComesTo (gathered old.gatherer) fact came (gathered new.gatherer) → came ≢ Some New
+          → new.derived ≡ old.derived → TakesLive old fact new
+      takes_live came comes no_new same = record {
         takes = takes_seen;
         goes_on = record {
           current = λ current. current_now (subst (IsDerivedOf (answer_of (gathered new.gatherer))) (sym same)
-              (takes_on fact old.derived (gathered old.gatherer) (gathered new.gatherer) takes lacks (current_was current)));
+              (takes_on fact (gathered old.gatherer) (gathered new.gatherer) takes old.derived came comes no_new (current_was current)));
           keeps = ap keeps_of same;
         };
       }
 
-      -- what there is to derive from it was derived
-      pub takes_first_live : LacksFirst (answer_of (gathered old.gatherer)) fact
+      -- it was new, and what there is to derive from it was derived
+      pub takes_first_live : IsStated (gathered old.gatherer) fact New (gathered new.gatherer)
           → DerivesInto fact old.derived new.derived (answer_of (gathered new.gatherer)) → keeps_of new.derived ≡ keeps_of old.derived
           → TakesLive old fact new
-      takes_first_live lacks derives keeps = record {
+      takes_first_live is_stated derives keeps = record {
         takes = takes_seen;
         goes_on = record {
-          current = λ current. current_now (takes_first fact old.derived new.derived (gathered old.gatherer) (gathered new.gatherer) takes
-              lacks derives (current_was current));
+          current = λ current. current_now (takes_first fact (gathered old.gatherer) (gathered new.gatherer) takes old.derived new.derived
+              is_stated derives (current_was current));
           keeps = keeps;
         };
       }

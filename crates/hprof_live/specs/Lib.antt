@@ -3,6 +3,5 @@ pub mod EdgeSet
 pub mod ByTarget
 pub mod Waiting
 pub mod Derived
-pub mod First
 pub mod Indexed
 pub mod LiveHeap

@@ -7,7 +7,6 @@ use Rattle.hprof_values.specs.declared.ids.IdSize.{IdSize}
 use Rattle.hprof_items.specs.declared.header.Header.{Header}
 use Rattle.hprof_items.specs.FactValue.{FactValue}
 use Rattle.hprof_rows.specs.HeapValue.{HeapValue}
-use Rattle.hprof_rows.specs.Stating.{IsNewAmong}
 use Rattle.hprof_stream.specs.declared.sink.SinkFault.{SinkFault}
 use Rattle.hprof_stream.specs.declared.sink.SinkFault.TheVariants.{OutOfMemory}
 use Rattle.hprof_heap.specs.declared.heap.Heap.{Heap}
@@ -22,7 +21,6 @@ use Rattle.hprof_live.specs.declared.live.Live.TheVariants as lives
 use Rattle.hprof_live.specs.declared.live_heap.LiveHeap.{LiveHeap}
 use Rattle.hprof_live.specs.contracts.live_heap.LiveHeap.{the_row}
 use Rattle.hprof_live.specs.Derived.{IsDerived, keeps_of}
-use Rattle.hprof_live.specs.First.{NothingToDerive}
 
 -- what it has gathered so far; a fault is its own, or its gatherer's
 abbrev pub seen_by : LiveHeap → Gathered
@@ -51,18 +49,6 @@ LendsHeap (Err refusals.IdSizes) lives.InConflict = ⊤
 LendsHeap (Err (refusals.Conflict key)) lives.InConflict = ⊤
 LendsHeap (Err refusals.Failed) lives.Failed = ⊤
 LendsHeap outcome answer = ⊥
-
--- ---- a fact
-
--- the heap so far has no fact with its key, nor the fact; there is a heap
-abbrev pub LacksFirst : Result HeapValue Refusal → FactValue → Type 0
-LacksFirst (Ok heap) fact = IsNewAmong heap.facts fact
-LacksFirst (Err refusal) fact = ⊥
-
--- where the fact is new to the heap so far, nothing is derived from it
-abbrev pub LacksNothing : Result HeapValue Refusal → FactValue → Type 0
-LacksNothing (Ok heap) fact = IsNewAmong heap.facts fact → NothingToDerive fact
-LacksNothing (Err refusal) fact = ⊤
 
 -- ---- what stands
 

@@ -7,7 +7,6 @@ ghost use Rattle.hprof_rows.specs.Facts.{Has};
 ghost use Rattle.hprof_finding.specs.HeapFacts.{facts_of, size_of};
 ghost use Rattle.hprof_finding.specs.ClassRow.{dump_of};
 ghost use Rattle.hprof_finding.specs.Classes.{fact_of_dump};
-ghost use Rattle.hprof_finding.specs.ObjectRow.{fact_of_object};
 ghost use Rattle.hprof_laying.specs.Known.{HasLayout};
 ghost use Rattle.hprof_edges.specs.declared.edge.Edge.{Edge};
 ghost use Rattle.hprof_edges.specs.Collecting.{is_watched};
@@ -23,9 +22,7 @@ use crate::edge_set::EdgeSet;
 use crate::indexed::Index;
 use crate::waiting::WaitingInstances;
 use hprof_edges::{Edge, Watched, array_edges, class_edges, edge_to_class, field_edges};
-use hprof_finding::{
-    ClassRow, ObjectRow, find_object, id_size, table_len, to_class_row, to_object_row,
-};
+use hprof_finding::{ClassRow, ObjectRow, find_object, id_size, table_len, to_class_row};
 use hprof_heap::{Heap, Table};
 use hprof_items::Fact;
 use hprof_laying::{KnownLayouts, Reference};
@@ -109,6 +106,7 @@ impl Derived {
     }
 
     /// Lays the layout of its class over the bytes of an instance, and counts it: nothing else does.
+    #[inline(always)]
     fn lay(
         &mut self,
         ids: IdSize,
@@ -195,6 +193,7 @@ impl Derived {
     }
 
     /// Takes an instance that is new to the heap.
+    #[inline(always)]
     fn add_instance(
         &mut self,
         ids: IdSize,
@@ -217,23 +216,25 @@ impl Derived {
         Ok(())
     }
 
-    /// Takes an object dump that is new to the heap.
-    fn add_object(&mut self, ids: IdSize, row: &ObjectRow<'_>) -> Result<(), AllocError>
-        ensures adds { OnOk result ((before facts : List FactValue) → AddsFact before (fact_of_object row.now) facts
-            → IsDerived ids before self.old → IsDerived ids facts self.new) }
+    /// Takes a fact that is new to the heap, which has it. Where memory is refused, nothing holds of what is derived.
+    #[inline(always)]
+    pub(crate) fn add(&mut self, heap: &Heap, fact: &Fact<'_>) -> Result<(), AllocError>
+        ensures adds { OnOk result ((before : List FactValue)
+            → AddsFact before (value_of fact.now) (facts_of heap.now)
+            → IsDerived (size_of heap.now) before self.old → IsDerived (size_of heap.now) (facts_of heap.now) self.new) }
         ensures keeps { OnOk result (keeps_of self.new ≡ keeps_of self.old) }
     {
-        match *row {
-            ObjectRow::Instance {
+        match *fact {
+            Fact::Instance {
                 id,
                 class,
                 bytes,
                 ..
             } => {
-                self.add_instance(ids, id, class, bytes)?;
+                self.add_instance(id_size(heap), id, class, bytes)?;
                 Ok(())
             }
-            ObjectRow::ObjArray {
+            Fact::ObjArray {
                 id,
                 class,
                 elements,
@@ -243,24 +244,13 @@ impl Derived {
                 Ok(())
             }
             // What is in an array of numbers refers to nothing.
-            ObjectRow::PrimArray { .. } => Ok(()),
+            Fact::PrimArray { .. } => Ok(()),
+            _ => {
+                if let Some(row) = to_class_row(fact) {
+                    self.add_class(heap, &row)?;
+                }
+                Ok(())
+            }
         }
-    }
-
-    /// Takes a fact that is new to the heap, which has it. Where memory is refused, nothing holds of what is derived.
-    pub(crate) fn add(&mut self, heap: &Heap, fact: &Fact<'_>) -> Result<(), AllocError>
-        ensures adds { OnOk result ((before : List FactValue)
-            → AddsFact before (value_of fact.now) (facts_of heap.now)
-            → IsDerived (size_of heap.now) before self.old → IsDerived (size_of heap.now) (facts_of heap.now) self.new) }
-        ensures keeps { OnOk result (keeps_of self.new ≡ keeps_of self.old) }
-    {
-        if let Some(row) = to_class_row(fact) {
-            self.add_class(heap, &row)?;
-            return Ok(());
-        }
-        if let Some(row) = to_object_row(fact) {
-            self.add_object(id_size(heap), &row)?;
-        }
-        Ok(())
     }
 }

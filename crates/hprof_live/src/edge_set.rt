@@ -29,6 +29,7 @@ impl EdgeSet {
     }
 
     /// Whether such an edge is watched.
+    #[inline(always)]
     fn watches(&self, edge: Edge) -> bool
         ensures { result ≡ is_watched (watched_in self.now) edge }
     {
@@ -48,6 +49,7 @@ impl Collect for EdgeSet {
 
     ghost keeps = { λ set. is_watched (watched_in set) };
 
+    #[inline(always)]
     fn put(&mut self, edge: Edge) -> Result<(), AllocError> {
         if self.watches(edge) {
             self.edges.push(edge)?;

@@ -5,7 +5,6 @@ mod behind;
 mod by_target;
 mod derived;
 mod edge_set;
-mod first;
 mod indexed;
 pub mod laws;
 mod live;

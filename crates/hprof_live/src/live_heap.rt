@@ -14,11 +14,10 @@ ghost use Rattle.hprof_live.specs.Derived.{AddsFact, CanBeLaid, CannotBeLaid, Is
 ghost use Rattle.hprof_live.specs.Indexed.{ListsTo, indexed_heap};
 
 use crate::derived::Derived;
-use crate::first::lacks;
 use crate::indexed::IndexedHeap;
 use crate::live::Live;
 use hprof_edges::{Edge, Watched};
-use hprof_heap::{Gather, Gatherer, Heap, Refusal, Standing};
+use hprof_heap::{Gather, Gatherer, Heap, Refusal, Standing, Stated};
 use hprof_items::{Fact, Header};
 use hprof_layouts::{Layout, layout};
 use hprof_stream::{Sink, SinkFault};
@@ -46,7 +45,7 @@ fn layout_of_none(alloc: Global, class: u64) -> Layout
 }
 
 impl LiveHeap {
-    ghost use Rattle.hprof_live.specs.LiveHeap.{IsAnswer, IsCurrent, KeepsOnly, LacksFirst, LacksNothing, LendsHeap, RestsAsItIs};
+    ghost use Rattle.hprof_live.specs.LiveHeap.{IsAnswer, IsCurrent, KeepsOnly, LendsHeap, RestsAsItIs};
     ghost use Rattle.hprof_live.specs.LiveHeap.{Watches, outcome_of, seen_by};
 
     /// A live heap that was given nothing, and keeps the edges that are watched. It takes no memory yet.
@@ -154,18 +153,8 @@ impl LiveHeap {
         self.lend_edges(start)
     }
 
-    /// Whether the facts so far agree, and lack a fact from which something is derived, and any other with its key.
-    fn lacks(&self, fact: &Fact<'_>) -> bool
-        ensures lacks { result ≡ true → LacksFirst (answer_of (gathered self.now.gatherer)) (value_of fact.now) }
-        ensures has { result ≡ false → LacksNothing (answer_of (gathered self.now.gatherer)) (value_of fact.now) }
-    {
-        match self.gatherer.heap() {
-            None => false,
-            Some(heap) => lacks(heap, fact),
-        }
-    }
-
     /// Derives what there is to derive from a fact that the gatherer took, and that was new to it.
+    #[inline(always)]
     fn derive(&mut self, fact: &Fact<'_>) -> Result<(), AllocError>
         ensures derives { OnOk result ((before : List FactValue) (heap : HeapValue)
             → answer_of (gathered self.old.gatherer) ≡ Ok heap → AddsFact before (value_of fact.now) heap.facts
@@ -229,20 +218,24 @@ impl Sink for LiveHeap {
         Ok(())
     }
 
+    #[inline(always)]
     fn take(&mut self, fact: &Fact<'_>, spelled: &[u8]) -> Result<(), SinkFault> {
         if self.failed {
             return Err(SinkFault::Failed);
         }
-        let new = self.lacks(fact);
-        self.gatherer.take(fact, spelled)?;
-        if !new {
+        let Some(stated) = self.gatherer.state(fact, spelled)? else {
             return Ok(());
-        }
-        let Ok(()) = self.derive(fact) else {
-            self.failed = true;
-            return Err(SinkFault::OutOfMemory);
         };
-        Ok(())
+        match stated {
+            Stated::Same | Stated::Differs => Ok(()),
+            Stated::New => {
+                let Ok(()) = self.derive(fact) else {
+                    self.failed = true;
+                    return Err(SinkFault::OutOfMemory);
+                };
+                Ok(())
+            }
+        }
     }
 }
 

@@ -1,16 +1,9 @@
-use Rattle.std.specs.Prelude.{◌↔◌, ◌≢◌}
-use Rattle.std.specs.List.{dedup}
-use Rattle.std.specs.List.Sorted.{IsPartitionPoint, IsPartitionedBy, IsStrictlySortedBy}
-use Rattle.std.proofs.Common.{◌≡◌, ◌≤◌, ◌++◌, List, Contains, drop, false, length, refl, rules, of_calls, subst, sym, ap, take, true, ◌∙◌, arith}
+use Rattle.std.specs.List.Sorted.{IsPartitionPoint, IsPartitionedBy}
+use Rattle.std.proofs.Common.{◌≡◌, ◌≤◌, List, false, length, rules, of_calls, subst, sym, true, arith}
 use Rattle.std.proofs.lemmas.Fn.{always_returns_same}
-use Rattle.std.proofs.lemmas.List.{take-append-drop}
 use Rattle.std.proofs.lemmas.List.Filters.{dedup_is}
-use Rattle.std.proofs.lemmas.List.Sorted.{Contains-permutation, IsPermutation-sym}
 use Rattle.hprof_edges.specs.declared.edge.Edge.{Edge}
-use Rattle.hprof_edges.specs.declared.edge.Via.TheVariants as vias
-use Rattle.hprof_edges.specs.contracts.edge.EdgeOrd.TheImpl as edge_ord
-use Rattle.hprof_edges.specs.contracts.edge.EdgePartialEq.TheImpl as edge_eq
-use Rattle.hprof_live.proofs.MovedBehind.{IsBrought, back_behind, brought, front_others, to_other}
+use Rattle.hprof_live.proofs.MovedBehind.{IsBrought, brought, to_other}
 use Rattle.hprof_live.proofs.behind.bring_behind.Goals as goal
 
 -- what the edges are, step by step

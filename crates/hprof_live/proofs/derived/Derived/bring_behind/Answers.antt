@@ -1,5 +1,4 @@
 use Rattle.std.proofs.Common.{drop, refl}
-use Rattle.hprof_live.specs.EdgeSet.{edges_in}
 use Rattle.hprof_live.proofs.Deriving.{same_set}
 use Rattle.hprof_live.proofs.EdgeSets.{set_sorted}
 use Rattle.hprof_live.proofs.Referrers.{referrers_are}
