@@ -1,12 +1,11 @@
 -- A number is found.
-use Rattle.std.proofs.Common.{◌≡◌, ◌⊎◌, ◌<◌, ◌+◌, ℕ, Bool, true, false, not, cond, List, [], ◌∷◌, ◌++◌, Contains, length, slice_index, slice_set, set, get_or, count_by, inl, inr, refl, sym, ap, subst, ◌∙◌, arith, add-zero, length-append}
+use Rattle.std.proofs.Common.{◌≡◌, ◌⊎◌, ◌<◌, ◌+◌, ℕ, Bool, true, false, not, cond, List, [], ◌∷◌, ◌++◌, Contains, length, slice_index, slice_set, get_or, count_by, inl, inr, refl, sym, ap, subst, ◌∙◌, arith, add-zero, length-append}
 use Rattle.std.proofs.Math.ListN.{length-set}
 use Rattle.std.proofs.lemmas.List.{get_or-set_same, get_or-set_other}
 use Rattle.std.proofs.lemmas.List.Elements.{Contains-push, Contains-push_cases, Contains-append_left}
 use Rattle.std.proofs.lemmas.List.Sums.{sum_by-set}
 use Rattle.std.proofs.lemmas.Bool.{cases_order}
 use Rattle.hprof_walks.specs.Finds.{Finds, Follows, Arrives, is_found}
-use Rattle.hprof_walks.proofs.Followed.{follows_none, splits, true_or_false}
 
 one_or_other : (one other : ℕ) → (one ≡ other) ⊎ (one ≡ other → ⊥)
 one_or_other one other = elim (cases_order one other) [

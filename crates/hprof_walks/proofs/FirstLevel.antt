@@ -1,10 +1,10 @@
 -- The first level: the starts that are nodes.
-use Rattle.std.proofs.Common.{◌≡◌, ◌↔◌, ◌<◌, ◌≤◌, ℕ, zero, suc, true, false, List, Contains, length, slice_index, None, inl, inr, refl, sym, ap, subst, ◌∙◌, arith}
+use Rattle.std.proofs.Common.{◌≡◌, ◌↔◌, ◌<◌, ◌≤◌, ℕ, zero, suc, true, false, List, Contains, length, slice_index, None, refl, ◌∙◌, arith}
 use Rattle.hprof_walks.specs.Finds.{Finds, Follows, LeadsTo, is_found}
 use Rattle.hprof_walks.specs.Walks.{Reaches, IsDistance}
 use Rattle.hprof_walks.proofs.Ascending.{has_number}
 use Rattle.hprof_walks.proofs.Followed.{found_within}
-use Rattle.hprof_walks.proofs.Levels.{StartsIn, StepsIn, IsNear, IsSearched}
+use Rattle.hprof_walks.proofs.Levels.{StartsIn, StepsIn, IsSearched}
 
 module _ (Leads : ℕ → ℕ → Type 0) (nodes starts : List ℕ) (old new : Finds) (none : (number : ℕ) → is_found old number ≡ false)
     (many : length old.found ≡ length nodes) (follows : Follows (LeadsTo nodes None starts) old new) where

@@ -1,9 +1,9 @@
 -- What was found by a search up to a level, by numbers.
-use Rattle.std.proofs.Common.{◌≡◌, ◌⊎◌, ◌↔◌, ◌<◌, ◌≤◌, ℕ, zero, suc, Bool, true, false, List, [], Contains, length, slice_index, inl, inr, refl, sym, ap, subst, ◌∙◌, arith}
+use Rattle.std.proofs.Common.{◌≡◌, ◌⊎◌, ◌↔◌, ◌<◌, ◌≤◌, ℕ, zero, suc, Bool, true, false, List, Contains, length, slice_index, inl, inr, refl, sym, subst, subst₂, ◌∙◌, arith}
 use Rattle.std.specs.List.Sorted.{IsStrictlyIncreasing}
-use Rattle.hprof_walks.specs.Finds.{Finds, Follows, IsLeastLed, LeadsOn, is_found}
+use Rattle.hprof_walks.specs.Finds.{Finds, Follows, LeadsOn, is_found}
 use Rattle.hprof_walks.specs.Walks.{Reaches, IsDistance, IsLeastBefore}
-use Rattle.hprof_walks.proofs.Ascending.{not_less_far, one_place, number_of, has_number}
+use Rattle.hprof_walks.proofs.Ascending.{not_less_far, number_of, has_number}
 use Rattle.hprof_walks.proofs.Followed.{found_within, splits, true_or_false}
 use Rattle.hprof_walks.proofs.OneWalk.{same_distance}
 
@@ -42,6 +42,29 @@ module _ (Leads : ℕ → ℕ → Type 0) (nodes starts : List ℕ) where
         × IsDistance (StartsIn nodes starts) (StepsIn Leads nodes) (slice_index nodes number) level
     pub last_all : (number : ℕ) → number < length nodes
         → IsDistance (StartsIn nodes starts) (StepsIn Leads nodes) (slice_index nodes number) level → Contains last number
+
+  -- the next level does not matter
+  searched_with : (finds : Finds) (next last : List ℕ) (level : ℕ) → IsSearched finds last level
+      → IsSearched (record { found = finds.found; before = finds.before; next = next }) last level
+  searched_with finds next last level searched = record {
+    as_many = searched.as_many;
+    near = λ number found.
+        let near = searched.near number found in
+        record { count = near.count; near = near.near; distance = near.distance; from = from_with number near.count near.from };
+    complete = searched.complete;
+    last_near = searched.last_near;
+    last_all = searched.last_all;
+  } where
+    from_with : (number count : ℕ) → IsFrom finds number count
+        → IsFrom (record { found = finds.found; before = finds.before; next = next }) number count
+    from_with number zero from = from
+    from_with number (suc count) from = from
+
+  pub searched_still : (old new : Finds) (last : List ℕ) (level : ℕ) → new.found ≡ old.found → new.before ≡ old.before
+      → IsSearched old last level → IsSearched new last level
+  searched_still old new last level found before searched =
+      subst₂ (λ (fs : List Bool) (bs : List ℕ). IsSearched (record { found = fs; before = bs; next = new.next }) last level)
+      (sym found) (sym before) (searched_with old new.next last level searched)
 
   -- what is reached is a node
   pub reached_is_node : (count node : ℕ) → Reaches (StartsIn nodes starts) (StepsIn Leads nodes) count node → Contains nodes node

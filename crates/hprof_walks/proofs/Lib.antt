@@ -9,3 +9,4 @@ pub mod FirstLevel
 pub mod Placed
 pub mod Told
 pub mod Targets
+pub mod Counts

@@ -1,6 +1,7 @@
 -- Targets are followed, one after another, and so are the numbers of a level.
-use Rattle.std.proofs.Common.{◌≡◌, ◌⊎◌, ◌↔◌, ◌<◌, ◌≤◌, ◌+◌, ℕ, List, [], ◌∷◌, ◌++◌, Contains, Option, Some, None, get_or, length, slice_index, take, unwrap_or, inl, inr, refl, sym, ap, subst, ◌∙◌, arith}
+use Rattle.std.proofs.Common.{◌≡◌, ◌⊎◌, ◌↔◌, ◌<◌, ◌+◌, ℕ, List, [], ◌∷◌, ◌++◌, Contains, Option, Some, None, length, slice_index, take, length-take, get_or-take, unwrap_or, inl, inr, sym, ap, subst, ◌∙◌, arith}
 use Rattle.std.specs.List.Sorted.{IsStrictlyIncreasing, IsNonDecreasing}
+use Rattle.std.proofs.lemmas.List.{take_more}
 use Rattle.std.proofs.lemmas.List.Elements.{Contains-push, Contains-push_cases, Contains-append_left}
 use Rattle.hprof_walks.specs.Finds.{Finds, Follows, Arrives, LeadsOn, LeadsTo}
 use Rattle.hprof_walks.specs.Kept.{number_in}
@@ -29,14 +30,17 @@ module _ (nodes : List ℕ) (from : Option ℕ) (targets : List ℕ) (index targ
     (follows : Follows (LeadsTo nodes from (take index targets)) old middle) where
   -- a target that is no node leads nowhere
   pub to_none : number_in nodes target ≡ None → Follows (LeadsTo nodes from (take (index + 1) targets)) old middle
-  to_none none = follows_same (LeadsTo nodes from (take index targets)) (LeadsTo nodes from (take (index + 1) targets)) old middle
-  (λ one other within. (
-    λ led. (led.0, is_taken targets index below target (slice_index nodes other) is (inl led.1)),
-    λ led. (led.0, elim (was_taken targets index below target (slice_index nodes other) is led.1) [
-      | inl was ↦ was
-      | inr same ↦ absurd (nowhere nodes target none other (omega arith) (sym same))
-    ]),
-  )) follows
+  to_none none =
+      let First : ℕ → ℕ → Type 0 = LeadsTo nodes from (take index targets) in
+      let Same : ℕ → ℕ → Type 0 = LeadsTo nodes from (take (index + 1) targets) in
+      let more = follows.as_many in
+      follows_same First Same old middle (λ one other within. (
+        λ led. (led.0, is_taken targets index below target (slice_index nodes other) is (inl led.1)),
+        λ led. (led.0, elim (was_taken targets index below target (slice_index nodes other) is led.1) [
+          | inl was ↦ was
+          | inr same ↦ absurd (nowhere nodes target none other (omega arith) (sym same))
+        ]),
+      )) follows
 
   pub to_number : (ascend : IsStrictlyIncreasing nodes) (number : ℕ) (new : Finds) → number_in nodes target ≡ Some number
       → Follows (Arrives (unwrap_or from number) number) middle new → Follows (LeadsTo nodes from (take (index + 1) targets)) old new

@@ -1,11 +1,10 @@
 -- The way back from a number that was found.
-use Rattle.std.proofs.Common.{◌≡◌, ◌⊎◌, ◌<◌, ◌≤◌, ◌==◌, ◌-◌, ℕ, zero, suc, Bool, true, false, cond, List, [], ◌∷◌, ◌++◌, Contains, length, map, slice_index, inl, inr, refl, sym, ap, subst, ◌∙◌, arith, append_assoc, append-nil, eq-eqb, ne_eqb}
+use Rattle.std.proofs.Common.{◌≡◌, ◌<◌, ◌≤◌, ◌==◌, ℕ, zero, suc, Bool, true, cond, List, [], ◌∷◌, ◌++◌, length, map, slice_index, inl, inr, refl, sym, ap, subst, ◌∙◌, arith, append_assoc, append-nil, eq-eqb, ne_eqb}
 use Rattle.hprof_walks.specs.Finds.{Finds, is_found}
 use Rattle.hprof_walks.specs.Kept.{way_back}
-use Rattle.hprof_walks.specs.Walks.{Reaches, IsDistance, IsLeastBefore, IsWayBack}
+use Rattle.hprof_walks.specs.Walks.{Reaches, IsDistance, IsWayBack}
 use Rattle.hprof_walks.proofs.Ascending.{number_of}
-use Rattle.hprof_walks.proofs.Followed.{found_within}
-use Rattle.hprof_walks.proofs.Levels.{StartsIn, StepsIn, IsFrom, IsNear, IsSearched, reached_is_node, stepped}
+use Rattle.hprof_walks.proofs.Levels.{StartsIn, StepsIn, IsFrom, IsSearched, reached_is_node, stepped}
 use Rattle.hprof_walks.proofs.OneWalk.{same_distance}
 
 -- what is left of the way behind a number

@@ -1,4 +1,4 @@
-use Rattle.std.proofs.Common.{◌≡◌, ◌∙◌, ℕ, List, Some, map, reverse, slice_index, sym, ap}
+use Rattle.std.proofs.Common.{◌∙◌, ℕ, Some, map, reverse, slice_index, sym, ap}
 use Rattle.std.specs.Option.{option_map}
 use Rattle.hprof_walks.specs.Search.{path_in, way_in}
 use Rattle.hprof_walks.proofs.kept_search.Search.path.Goals as goal
