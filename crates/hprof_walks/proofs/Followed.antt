@@ -106,8 +106,10 @@ module _ (First Then : ℕ → ℕ → Type 0) (old middle new : Finds) (first :
       let many = first.as_many in
       let more = second.as_many in record {
         as_many = second.as_many ∙ first.as_many;
-        stays = λ number found. (stays_too number found,
-            (second.stays number (first.stays number found).0).1 ∙ (first.stays number found).1);
+        stays = λ number found. (
+          stays_too number found,
+          (second.stays number (first.stays number found).0).1 ∙ (first.stays number found).1,
+        );
         came = came_too;
         all = λ from number below led. elim led [
           | inl early ↦ (second.stays number (first.all from number below early)).0

@@ -99,9 +99,11 @@ module _ (Leads : ℕ → ℕ → Type 0) (nodes starts : List ℕ) where
         let many = searched.as_many in
         let more = follows.as_many in
         let within = found_within new number found in
-        let before = searched.last_near _ is.led.0 in
-        (slice_index nodes (slice_index new.before number), before.1.reaches,
-            (is.led.1, has_number nodes (slice_index nodes number) number (omega arith) refl))
+        let before = searched.last_near _ is.led.0 in (
+          slice_index nodes (slice_index new.before number),
+          before.1.reaches,
+          (is.led.1, has_number nodes (slice_index nodes number) number (omega arith) refl),
+        )
 
     came_distance : (number : ℕ) → is_found old number ≡ false → is_found new number ≡ true → Distance number (suc level)
     came_distance number not_found found =
@@ -124,20 +126,22 @@ module _ (Leads : ℕ → ℕ → Type 0) (nodes starts : List ℕ) where
         let early = searched.complete before level at.0 (omega arith) at.1.reaches in
         let many = searched.as_many in
         let more = follows.as_many in
-        let within = found_within new number found in
-        ((follows.stays before early).0, record {
-          distance = at.1;
-          steps = (is.led.1, has_number nodes (slice_index nodes number) number (omega arith) refl);
-          least = λ other distance steps.
-              let there = number_of nodes other (reached_is_node level other distance.reaches) in
-              let in_last = searched.last_all there.0 there.1 (subst (λ (n : ℕ). IsDistance (StartsIn nodes starts) (StepsIn Leads nodes) n level)
-              (sym there.2) distance) in
-              let leads = subst (λ (n : ℕ). Leads n (slice_index nodes number)) (sym there.2) steps.0 in
-              let less = is.least there.0 (in_last, leads) in
-              let up = not_less_far nodes ascend before there.0 less there.1 in
-              let same = there.2 in
-              omega arith;
-        })
+        let within = found_within new number found in (
+          (follows.stays before early).0,
+          record {
+            distance = at.1;
+            steps = (is.led.1, has_number nodes (slice_index nodes number) number (omega arith) refl);
+            least = λ other distance steps.
+                let there = number_of nodes other (reached_is_node level other distance.reaches) in
+                let in_last = searched.last_all there.0 there.1 (subst (λ (n : ℕ). IsDistance (StartsIn nodes starts) (StepsIn Leads nodes) n level)
+                (sym there.2) distance) in
+                let leads = subst (λ (n : ℕ). Leads n (slice_index nodes number)) (sym there.2) steps.0 in
+                let less = is.least there.0 (in_last, leads) in
+                let up = not_less_far nodes ascend before there.0 less there.1 in
+                let same = there.2 in
+                omega arith;
+          },
+        )
 
     -- where a number that was found came from stays
     from_stays : (number count : ℕ) → is_found old number ≡ true → IsFrom old number count → IsFrom new number count
@@ -154,11 +158,11 @@ module _ (Leads : ℕ → ℕ → Type 0) (nodes starts : List ℕ) where
           let close = near.near in
           record { count = near.count; near = omega arith; distance = near.distance; from = from_stays number near.count was near.from }
       | inr not ↦ record {
-          count = suc level;
-          near = omega arith;
-          distance = came_distance number not found;
-          from = came_from number not found;
-        }
+        count = suc level;
+        near = omega arith;
+        distance = came_distance number not found;
+        from = came_from number not found;
+      }
     ]
 
     complete_more : (number count : ℕ) → number < length nodes → count ≤ suc level

@@ -36,10 +36,13 @@ module _ (nodes : List ℕ) (from : Option ℕ) (targets : List ℕ) (index targ
       let more = follows.as_many in
       follows_same First Same old middle (λ one other within. (
         λ led. (led.0, is_taken targets index below target (slice_index nodes other) is (inl led.1)),
-        λ led. (led.0, elim (was_taken targets index below target (slice_index nodes other) is led.1) [
-          | inl was ↦ was
-          | inr same ↦ absurd (nowhere nodes target none other (omega arith) (sym same))
-        ]),
+        λ led. (
+          led.0,
+          elim (was_taken targets index below target (slice_index nodes other) is led.1) [
+            | inl was ↦ was
+            | inr same ↦ absurd (nowhere nodes target none other (omega arith) (sym same))
+          ],
+        ),
       )) follows
 
   pub to_number : (ascend : IsStrictlyIncreasing nodes) (number : ℕ) (new : Finds) → number_in nodes target ≡ Some number

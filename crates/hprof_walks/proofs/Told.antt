@@ -26,6 +26,7 @@ module _ (search : Search) where
     found_at : (at : ℕ) (b : Bool) → get_or search.found.items at false ≡ b → then_some b at ≡ Some number → (at ≡ number) × (get_or search.found.items at false ≡ true)
     found_at at true is same = (cc, is)
     found_at at false is same = absurd (cc)
+
     by : (place : Option ℕ) → number_in search.nodes.items node ≡ place
         → option_and_then (λ at. then_some (get_or search.found.items at false) at) place ≡ Some number
         → (number < length search.nodes.items) × (slice_index search.nodes.items number ≡ node) × (is_found (kept_finds search) number ≡ true)

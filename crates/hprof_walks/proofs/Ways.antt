@@ -127,8 +127,7 @@ module _ (Leads : ℕ → ℕ → Type 0) (nodes starts : List ℕ) (finds : Fin
       let before = slice_index finds.before number in
       let way = way_on finds.before (suc most) number ∙ ap (λ (ns : List ℕ). number ∷ ns)
       (left_on finds.before most number (one_farther number count distance from)) in
-      let on = goes_back count most before (omega arith) from.0 from.1.distance in
-      (
+      let on = goes_back count most before (omega arith) from.0 from.1.distance in (
         ap (length {A = ℕ}) way ∙ ap suc on.0,
         (
           distance,

@@ -31,12 +31,7 @@ fn shift_for(range: u64, parts: u64) -> u32
 }
 
 // Of each part the first number whose node is in it or behind it; and how many nodes there are.
-fn firsts_of(
-    alloc: Global,
-    nodes: &[u64],
-    least: u64,
-    shift: u32,
-) -> Result<Vec<usize>, AllocError>
+fn firsts_of(alloc: Global, nodes: &[u64], least: u64, shift: u32) -> Result<Vec<usize>, AllocError>
     requires { shift < 64 }
 {
     let mut firsts = Vec::new(alloc);
