@@ -1,11 +1,14 @@
 //! Hints where a node stands in a list of nodes that ascend. Nothing rests on them but how soon it is found.
 
-ghost use Rattle.std.specs.Prelude.{◌<◌, ◌≤◌, length};
+ghost use Rattle.std.specs.Prelude.{◌+◌, ◌<◌, ◌≤◌, length};
 
 use std::alloc::{AllocError, Global};
 
-// About so many nodes are in a part.
-const NODES_OF_A_PART: usize = 8;
+// There is a part for each so many nodes.
+const NODES_OF_A_PART: usize = 2;
+
+// A part of no more nodes than this is gone over from its first.
+const FEW: usize = 24;
 
 /// The range of the nodes in equal parts, and where each part begins.
 #[derive(Drop)]
@@ -13,8 +16,9 @@ pub(crate) struct Hints {
     least: u64,
     /// A part is as wide as two to this power.
     shift: u32,
-    /// Of each part the first number whose node is in it or behind it; and how many nodes there are.
-    firsts: Vec<usize>,
+    /// Of each part the first number whose node is in it or behind it, and how many nodes there are; but none is greater than
+    /// fits.
+    firsts: Vec<u32>,
     ghost shifts: { shift < 64 },
 }
 
@@ -30,19 +34,49 @@ fn shift_for(range: u64, parts: u64) -> u32
     63
 }
 
-// Of each part the first number whose node is in it or behind it; and how many nodes there are.
-fn firsts_of(alloc: Global, nodes: &[u64], least: u64, shift: u32) -> Result<Vec<usize>, AllocError>
-    requires { shift < 64 }
+// A number, or the greatest that fits.
+fn cut_off(number: usize) -> u32 {
+    u32::try_from(number).unwrap_or(u32::MAX)
+}
+
+// Of each part the first number whose node is in it or behind it, and how many nodes there are.
+fn firsts_of(
+    alloc: Global,
+    nodes: &[u64],
+    least: u64,
+    shift: u32,
+    parts: usize,
+) -> Result<Vec<u32>, AllocError>
+    requires shift { shift < 64 }
+    requires parts { parts ≤ length nodes.now + 1 }
 {
-    let mut firsts = Vec::new(alloc);
+    let mut firsts = Vec::with_capacity(alloc, parts + 1)?;
     for (number, node) in nodes.iter().enumerate() {
         let part = (node.saturating_sub(least) >> shift) as usize;
-        if firsts.len() <= part && part < nodes.len() {
-            firsts.resize(part + 1, number)?;
+        if firsts.len() <= part && part < parts {
+            firsts.resize(part + 1, cut_off(number))?;
         }
     }
-    firsts.push(nodes.len())?;
+    firsts.push(cut_off(nodes.len()))?;
     Ok(firsts)
+}
+
+// The first place in a part of a node that is not below that one; or else where the part ends.
+#[inline(always)]
+fn place_in(nodes: &[u64], low: usize, high: usize, node: u64) -> usize
+    requires order { low ≤ high }
+    requires within { high ≤ length nodes.now }
+    ensures { result ≤ high }
+{
+    if FEW < high - low {
+        return low + nodes[low..high].partition_point(|other| *other < node);
+    }
+    for place in low..high {
+        if node <= nodes[place] {
+            return place;
+        }
+    }
+    high
 }
 
 impl Hints {
@@ -50,12 +84,12 @@ impl Hints {
     pub(crate) fn new(alloc: Global, nodes: &[u64]) -> Result<Hints, AllocError> {
         let least = nodes.first().copied().unwrap_or(0);
         let greatest = nodes.last().copied().unwrap_or(0);
-        let parts = (nodes.len() / NODES_OF_A_PART) as u64 + 1;
-        let shift = shift_for(greatest.saturating_sub(least), parts);
+        let parts = nodes.len() / NODES_OF_A_PART + 1;
+        let shift = shift_for(greatest.saturating_sub(least), parts as u64);
         Ok(Hints {
             least,
             shift,
-            firsts: firsts_of(alloc, nodes, least, shift)?,
+            firsts: firsts_of(alloc, nodes, least, shift, parts)?,
         })
     }
 
@@ -71,11 +105,11 @@ impl Hints {
         if self.firsts.len().saturating_sub(1) <= part {
             return nodes.len();
         }
-        let low = self.firsts[part];
-        let high = self.firsts[part + 1];
+        let low = self.firsts[part] as usize;
+        let high = self.firsts[part + 1] as usize;
         if high < low || nodes.len() < high {
             return nodes.len();
         }
-        low + nodes[low..high].partition_point(|other| *other < node)
+        place_in(nodes, low, high, node)
     }
 }
