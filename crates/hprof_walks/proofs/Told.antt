@@ -1,80 +1,94 @@
 -- What a search tells where it has come to its end.
-use Rattle.std.proofs.Common.{◌≡◌, ℕ, zero, suc, ◌<◌, ◌≤◌, ◌==◌, Bool, false, List, ◌∷◌, length, reverse, slice_index, position, Option, Some, None, refl, sym, ap, subst, ◌∙◌, arith, eqb-true, eq-eqb}
-use Rattle.std.specs.List.{position_or_len}
+use Rattle.std.proofs.Common.{◌≡◌, ◌<◌, ◌-◌, ℕ, Bool, true, false, List, [], Option, Some, None, option_and_then, length, map, reverse, slice_index, get_or, refl, sym, ap, subst, ◌∙◌, arith}
+use Rattle.std.specs.Bool.{then_some}
+use Rattle.std.specs.List.Sorted.{IsStrictlyIncreasing}
 use Rattle.std.specs.Option.{option_map}
-use Rattle.std.proofs.lemmas.Grind.{common_steps}
 use Rattle.std.proofs.lemmas.List.{reverse-reverse}
-use Rattle.std.proofs.lemmas.List.Quantifiers.{position-Some}
-use Rattle.std.proofs.lemmas.List.Sums.{fails_before_first}
 use Rattle.hprof_walks.specs.declared.kept_search.Search.{Search}
-use Rattle.hprof_walks.specs.Kept.{node_in, level_in}
-use Rattle.hprof_walks.specs.Search.{IsSearch, place_where_found, way_back, distance_in, path_in}
-use Rattle.hprof_walks.specs.Trail.{Order}
+use Rattle.hprof_walks.specs.Finds.{Finds, is_found}
+use Rattle.hprof_walks.specs.Kept.{number_in}
+use Rattle.hprof_walks.specs.Numbers.{items_in}
+use Rattle.hprof_walks.specs.Search.{IsSearch, found_in, way_in, distance_in, path_in}
 use Rattle.hprof_walks.specs.Walks.{Reaches, IsDistance, HasDistance, IsWayBack, IsPath}
-use Rattle.hprof_walks.proofs.Ending.{found_all, goes_back}
-use Rattle.hprof_walks.proofs.Searched.{Places, IsSearched, at_distance, ways_back}
-use Rattle.hprof_walks.proofs.Searchings.{places_of}
+use Rattle.hprof_walks.proofs.Ascending.{one_place}
+use Rattle.hprof_walks.proofs.Levels.{StartsIn, StepsIn, IsSearched}
+use Rattle.hprof_walks.proofs.Placed.{nowhere, stands}
+use Rattle.hprof_walks.proofs.Ways.{found_all, goes_back}
 
-abbrev kept_order : Search → Order
-kept_order search = record { found = search.found.items; before = search.before.items }
+abbrev pub kept_finds : Search → Finds
+kept_finds search = record { found = search.found.items; before = items_in search.before; next = [] }
 
-abbrev kept_places : Search → Places
-kept_places search = places_of search.nodes.items (kept_order search) search.levels.items
+module _ (search : Search) where
+  found_stands : (node number : ℕ) → found_in search node ≡ Some number
+      → (number < length search.nodes.items) × (slice_index search.nodes.items number ≡ node) × (is_found (kept_finds search) number ≡ true)
+  unfolding found_in
+  found_stands node number some = by (number_in search.nodes.items node) refl some where
+    found_at : (at : ℕ) (b : Bool) → get_or search.found.items at false ≡ b → then_some b at ≡ Some number → (at ≡ number) × (get_or search.found.items at false ≡ true)
+    found_at at true is same = (cc, is)
+    found_at at false is same = absurd (cc)
 
-same_ways : (search : Search) (count place : ℕ) → ways_back (kept_places search) count place ≡ way_back search count place
-unfolding ways_back way_back
-same_ways search zero place = refl
-same_ways search (suc count) place =
-    ap (λ (ns : List ℕ). node_in search.nodes.items search.found.items place ∷ ns)
-    (same_ways search count (slice_index search.before.items place))
+    by : (place : Option ℕ) → number_in search.nodes.items node ≡ place
+        → option_and_then (λ at. then_some (get_or search.found.items at false) at) place ≡ Some number
+        → (number < length search.nodes.items) × (slice_index search.nodes.items number ≡ node) × (is_found (kept_finds search) number ≡ true)
+    by None is same = absurd (cc)
+    by (Some at) is same =
+        let there = stands search.nodes.items node at is in
+        let found = found_at at (get_or search.found.items at false) refl same in
+        let P : ℕ → Type 0 = λ n. (n < length search.nodes.items) × (slice_index search.nodes.items n ≡ node) × (is_found (kept_finds search) n ≡ true) in
+        subst P found.0 (there.0, there.1, found.1)
 
--- a test that finds no place passes nowhere
-position_none : (p : ℕ → Bool) (xs : List ℕ) → position p xs ≡ None → (k : ℕ) → k < length xs → p (slice_index xs k) ≡ false
-position_none p xs none k below = fails_before_first p xs k 0 (let outside : length xs ≤ position_or_len p xs = grind (arith, common_steps) in omega arith)
+  not_found : (node number : ℕ) → IsStrictlyIncreasing search.nodes.items → found_in search node ≡ None → number < length search.nodes.items
+      → slice_index search.nodes.items number ≡ node → is_found (kept_finds search) number ≡ true → ⊥
+  unfolding found_in
+  not_found node number ascend none below stands_there found = by (number_in search.nodes.items node) refl none where
+    by : (place : Option ℕ) → number_in search.nodes.items node ≡ place
+        → option_and_then (λ at. then_some (get_or search.found.items at false) at) place ≡ None → ⊥
+    by None is same = nowhere search.nodes.items node is number below stands_there
+    by (Some at) is same =
+        let there = stands search.nodes.items node at is in
+        let e = one_place search.nodes.items ascend at number there.0 below (there.1 ∙ sym stands_there) in
+        let passes : get_or search.found.items at false ≡ true = ap (λ (n : ℕ). get_or search.found.items n false) e ∙ found in
+        let wrong : Some at ≡ None = ap (λ (b : Bool). then_some b at) (sym passes) ∙ same in
+        absurd (cc)
 
-module _ (Starts : ℕ → Type 0) (Steps : ℕ → ℕ → Type 0) (search : Search) (level : ℕ)
-    (searched : IsSearched Starts Steps (kept_places search) (length search.found.items) (length search.found.items) level) where
-  abbrev node_at : ℕ → ℕ
-  node_at place = node_in search.nodes.items search.found.items place
+module _ (Leads : ℕ → ℕ → Type 0) (starts : List ℕ) (search : Search) (ascend : IsStrictlyIncreasing search.nodes.items)
+    (searched : IsSearched Leads search.nodes.items starts (kept_finds search) [] search.levels) where
+  unreached : (node : ℕ) → found_in search node ≡ None → (count : ℕ)
+      → Reaches (StartsIn search.nodes.items starts) (StepsIn Leads search.nodes.items) count node → ⊥
+  unreached node none count reaches =
+      let at = found_all Leads search.nodes.items starts (kept_finds search) search.levels searched count node reaches in
+      not_found search node at.0 ascend none at.1 at.2 at.3
 
-  nowhere : (node : ℕ) → place_where_found search node ≡ None → (count : ℕ) → Reaches Starts Steps count node → ⊥
-  unfolding place_where_found
-  nowhere node none count reaches =
-      let at = found_all Starts Steps (kept_places search) (length search.found.items) level searched count node reaches in
-      let fails = position_none (λ number. slice_index search.nodes.items number == node) search.found.items none at.place at.below in
-      let passes = eq-eqb (node_at at.place) node at.is in
-      absurd (cc)
+  tells_distance : (node : ℕ) (number : Option ℕ) → found_in search node ≡ number
+      → HasDistance (StartsIn search.nodes.items starts) (StepsIn Leads search.nodes.items) node
+      (option_map (λ n. length (way_in search n) - 1) number)
+  tells_distance node None none = unreached node none
+  tells_distance node (Some number) some =
+      let at = found_stands search node number some in
+      let near = searched.near number at.2 in
+      let way = goes_back Leads search.nodes.items starts (kept_finds search) search.levels searched near.count search.levels number
+      near.near at.2 near.distance in
+      let long = way.0 in
+      let same : near.count ≡ length (way_in search number) - 1 = omega arith in
+      subst (λ (count : ℕ). IsDistance (StartsIn search.nodes.items starts) (StepsIn Leads search.nodes.items) node count) same
+      (subst (λ (n : ℕ). IsDistance (StartsIn search.nodes.items starts) (StepsIn Leads search.nodes.items) n near.count) at.1 near.distance)
 
-  stands : (node place : ℕ) → place_where_found search node ≡ Some place → (place < length search.found.items) × (node_at place ≡ node)
-  unfolding place_where_found
-  stands node place some =
-      let is = position-Some (λ number. slice_index search.nodes.items number == node) search.found.items place 0 some in
-      (is.0, eqb-true (node_at place) node is.1)
+  tells_path : (node : ℕ) (number : Option ℕ) → found_in search node ≡ number
+      → IsPath (StartsIn search.nodes.items starts) (StepsIn Leads search.nodes.items) node
+      (option_map (λ n. reverse (map (slice_index search.nodes.items) (way_in search n))) number)
+  tells_path node None none = unreached node none
+  tells_path node (Some number) some =
+      let at = found_stands search node number some in
+      let near = searched.near number at.2 in
+      let way = goes_back Leads search.nodes.items starts (kept_finds search) search.levels searched near.count search.levels number
+      near.near at.2 near.distance in
+      let nodes = map (slice_index search.nodes.items) (way_in search number) in
+      let Way : ℕ → List ℕ → Type 0 = IsWayBack (StartsIn search.nodes.items starts) (StepsIn Leads search.nodes.items) near.count in
+      (near.count, subst (Way node) (sym (reverse-reverse nodes)) (subst (λ (n : ℕ). Way n nodes) at.1 way.1))
 
-  tells_distance : (node : ℕ) (place : Option ℕ) → place_where_found search node ≡ place
-      → HasDistance Starts Steps node (option_map (level_in search.levels.items) place)
-  tells_distance node None none = nowhere node none
-  tells_distance node (Some place) some =
-      let at = stands node place some in
-      subst (λ (n : ℕ). IsDistance Starts Steps n (level_in search.levels.items place)) at.1
-      (at_distance Starts Steps (kept_places search) (length search.found.items) (length search.found.items) level searched place at.0)
-
-  tells_path : (node : ℕ) (place : Option ℕ) → place_where_found search node ≡ place
-      → IsPath Starts Steps node (option_map (λ (p : ℕ). reverse (way_back search (level_in search.levels.items p) p)) place)
-  tells_path node None none = nowhere node none
-  tells_path node (Some place) some =
-      let at = stands node place some in
-      let deep = level_in search.levels.items place in
-      let way = goes_back Starts Steps (kept_places search) (length search.found.items) level searched deep place at.0 refl in
-      let same = same_ways search deep place ∙ sym (reverse-reverse (way_back search deep place)) in (
-        deep,
-        subst (λ (n : ℕ). IsWayBack Starts Steps deep n (reverse (reverse (way_back search deep place)))) at.1
-            (subst (IsWayBack Starts Steps deep (node_at place)) same way),
-      )
-
-  pub tells : IsSearch Starts Steps search
+  pub tells : IsSearch (StartsIn search.nodes.items starts) (StepsIn Leads search.nodes.items) search
   unfolding distance_in path_in
   tells = record {
-    distance = λ node. tells_distance node (place_where_found search node) refl;
-    path = λ node. tells_path node (place_where_found search node) refl;
+    distance = λ node. tells_distance node (found_in search node) refl;
+    path = λ node. tells_path node (found_in search node) refl;
   }

@@ -1,25 +1,25 @@
--- Nodes in the order in which they were found: of each its number, which is its place among all nodes.
-use Rattle.std.specs.Prelude.{◌<◌, ◌≡◌, ℕ, List, nat_le, length, slice_index}
-use Rattle.std.specs.List.{count_by}
+-- What is kept of each node, by its number, which is its place among all nodes.
+use Rattle.std.specs.Prelude.{◌<◌, ◌≡◌, ◌==◌, ℕ, zero, suc, Bool, List, [], ◌∷◌, Option, if◌then◌else◌, length, slice_index}
+use Rattle.std.specs.List.{position}
 use Rattle.std.specs.List.Sorted.{IsStrictlyIncreasing}
 
--- the node that was found at a place
-abbrev pub node_in : List ℕ → List ℕ → ℕ → ℕ
-node_in nodes found place = slice_index nodes (slice_index found place)
+-- the number of a node; none of what is no node
+abbrev pub number_in : List ℕ → ℕ → Option ℕ
+number_in nodes node = position (λ other. other == node) nodes
 
--- the level of a place: how many levels begin at or before it, but for the first
-abbrev pub level_in : List ℕ → ℕ → ℕ
-level_in levels place = count_by (λ begin. nat_le begin place) levels
+-- each number was found from one that is there
+abbrev pub LeadsBack : List ℕ → Type 0
+LeadsBack before = (number : ℕ) → number < length before → slice_index before number < length before
 
--- of the number of each node that was found its place is noted; of other numbers, any
-abbrev pub NotesPlaces : List ℕ → List ℕ → Type 0
-NotesPlaces found places = (place : ℕ) → place < length found → slice_index places (slice_index found place) ≡ place
+-- from a number back to the one that it was found from, and so on to one that was found from none, so many times at most
+unfoldable pub way_back : List ℕ → ℕ → ℕ → List ℕ
+way_back before zero number = number ∷ []
+way_back before (suc most) number =
+    number ∷ (if slice_index before number == number then [] else way_back before most (slice_index before number))
 
--- the nodes ascend, each one that was found has its number, its place is noted, and it was found from one that was found
-pub record IsNoted (nodes found before places : List ℕ) : Type 0 where
+-- the nodes ascend, of each it is kept whether it was found, and from which
+pub record IsKept (nodes : List ℕ) (found : List Bool) (before : List ℕ) : Type 0 where
   pub ascend : IsStrictlyIncreasing nodes
-  pub numbers : (place : ℕ) → place < length found → slice_index found place < length nodes
-  pub noted : NotesPlaces found places
-  pub as_many : length places ≡ length nodes
-  pub paired : length before ≡ length found
-  pub back : (place : ℕ) → place < length before → slice_index before place < length found
+  pub as_many : length found ≡ length nodes
+  pub paired : length before ≡ length nodes
+  pub back : LeadsBack before

@@ -1,5 +1,5 @@
 pub mod Walks
 pub mod Kept
+pub mod Numbers
+pub mod Finds
 pub mod Search
-pub mod Arrivals
-pub mod Trail

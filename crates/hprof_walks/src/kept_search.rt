@@ -1,79 +1,63 @@
 //! What a search keeps, and tells.
 
+use crate::numbered::find;
+use crate::numbers::Numbers;
 use std::alloc::{AllocError, Global};
 
 /// A search by levels that was made: of each node how many steps lead to it from a start, and by which path.
 #[derive(Drop)]
 pub struct Search {
-    /// All nodes, in ascending order.
+    /// All nodes, in ascending order. The number of a node is its place here.
     pub(crate) nodes: Vec<u64>,
-    /// The nodes that were found, in the order of the search: of each its number, which is its place among all nodes.
-    pub(crate) found: Vec<usize>,
-    /// Of each of them the place in this order of the node that it was found from; of a start, any.
-    pub(crate) before: Vec<usize>,
-    /// Of each number the place in this order where its node was found; of one that was not, any.
-    pub(crate) places: Vec<usize>,
-    /// Where in this order each level begins, but for the first; the last one is empty.
-    pub(crate) levels: Vec<usize>,
-    ghost whole: { IsNoted nodes.items found.items before.items places.items },
-    ghost levels_ascend: { IsNonDecreasing levels.items },
+    /// Of each number whether its node was found.
+    pub(crate) found: Vec<bool>,
+    /// Of each number that was found the one that it was found from; of a start, its own.
+    pub(crate) before: Numbers,
+    /// How many levels there were.
+    pub(crate) levels: usize,
+    ghost whole: { IsKept nodes.items found.items (items_in before) },
 }
 
-ghost use Rattle.std.specs.List.Sorted.{IsNonDecreasing};
-ghost use Rattle.hprof_walks.specs.Kept.{IsNoted};
+ghost use Rattle.hprof_walks.specs.Kept.{IsKept};
+ghost use Rattle.hprof_walks.specs.Numbers.{items_in};
 
 impl Search {
-    ghost use Rattle.std.specs.Prelude.{◌≡◌, ◌<◌, IfOk, IfSome, length, nat_eq, slice_index};
-    ghost use Rattle.std.specs.List.{position};
+    ghost use Rattle.std.specs.Prelude.{◌≡◌, ◌<◌, IfOk, IfSome, length, map, slice_index};
     ghost use Rattle.std.specs.Option.{option_map};
-    ghost use Rattle.hprof_walks.specs.Kept.{level_in, node_in};
-    ghost use Rattle.hprof_walks.specs.Search.{distance_in, path_in, place_where_found};
+    ghost use Rattle.hprof_walks.specs.Kept.{way_back};
+    ghost use Rattle.hprof_walks.specs.Search.{distance_in, found_in, path_in};
 
-    /// The place in the order of the search where the node of a number was found.
-    fn place_of_number(&self, number: usize) -> Option<usize>
-        requires { number < length self.now.nodes.items }
-        ensures place { result ≡ position (nat_eq number) self.now.found.items }
-        ensures within { IfSome result (λ place. place < length self.now.found.items) }
+    // The number of a node, if it was found.
+    fn found_number(&self, node: u64) -> Option<usize>
+        ensures number { result ≡ found_in self.now node }
+        ensures within { IfSome result (λ number. number < length self.now.nodes.items) }
     {
-        let place = self.places[number];
-        if place < self.found.len() && self.found[place] == number {
-            Some(place)
+        let number = find(&self.nodes, node)?;
+        if self.found[number] {
+            Some(number)
         } else {
             None
         }
     }
 
-    /// The place in the order of the search where a node was found.
-    fn place(&self, node: u64) -> Option<usize>
-        ensures place { result ≡ place_where_found self.now node }
-        ensures within { IfSome result (λ place. place < length self.now.found.items) }
+    // The nodes from a number back to a start.
+    fn way_back(&self, alloc: Global, found: usize) -> Result<Vec<u64>, AllocError>
+        requires { found < length self.now.nodes.items }
+        ensures { IfOk result (λ nodes. nodes.items
+            ≡ map (slice_index self.now.nodes.items) (way_back (items_in self.now.before) self.now.levels found)) }
     {
-        let number = self.nodes.binary_search(&node).ok()?;
-        self.place_of_number(number)
-    }
-
-    /// The level of a place.
-    fn level(&self, place: usize) -> usize
-        ensures { result ≡ level_in self.now.levels.items place }
-    {
-        self.levels.partition_point(|begin| *begin <= place)
-    }
-
-    /// The node that was found at a place.
-    fn node(&self, place: usize) -> u64
-        requires { place < length self.now.found.items }
-        ensures { result ≡ node_in self.now.nodes.items self.now.found.items place }
-    {
-        self.nodes[self.found[place]]
-    }
-
-    /// The place that the node at a place was found from.
-    fn step_back(&self, place: usize) -> usize
-        requires { place < length self.now.found.items }
-        ensures before { result ≡ slice_index self.now.before.items place }
-        ensures within { result < length self.now.found.items }
-    {
-        self.before[place]
+        let mut number = found;
+        let mut nodes = Vec::new(alloc);
+        nodes.push(self.nodes[number])?;
+        for _ in 0..self.levels {
+            let before = self.before.get(number);
+            if before == number {
+                return Ok(nodes);
+            }
+            number = before;
+            nodes.push(self.nodes[number])?;
+        }
+        Ok(nodes)
     }
 
     /// The least number of steps that lead to a node from a start; none where no start leads there, as to what is no node.
@@ -81,8 +65,15 @@ impl Search {
     pub fn distance(&self, node: u64) -> Option<u64>
         ensures { result ≡ distance_in self.now node }
     {
-        let place = self.place(node)?;
-        Some(self.level(place) as u64)
+        let mut number = self.found_number(node)?;
+        for steps in 0..self.levels {
+            let before = self.before.get(number);
+            if before == number {
+                return Some(steps as u64);
+            }
+            number = before;
+        }
+        Some(self.levels as u64)
     }
 
     /// The path to a node, from a start; none where no start leads there, as to what is no node. From its end each node
@@ -90,16 +81,10 @@ impl Search {
     pub fn path(&self, alloc: Global, node: u64) -> Result<Option<Vec<u64>>, AllocError>
         ensures { IfOk result (λ path. option_map (λ nodes. nodes.items) path ≡ path_in self.now node) }
     {
-        let Some(found) = self.place(node) else {
+        let Some(found) = self.found_number(node) else {
             return Ok(None);
         };
-        let mut place = found;
-        let mut nodes = Vec::new(alloc);
-        nodes.push(self.node(place))?;
-        for _ in 0..self.level(found) {
-            place = self.step_back(place);
-            nodes.push(self.node(place))?;
-        }
+        let mut nodes = self.way_back(alloc, found)?;
         nodes.reverse();
         Ok(Some(nodes))
     }

@@ -1,13 +1,14 @@
 //! A search by levels over any graph: how few steps lead to each node from a start, and by which path.
 #![tactic(auto)]
 
-mod arrival;
 mod following;
-mod galloping;
 mod graph;
+mod hints;
 mod kept_search;
 pub mod laws;
 mod leading;
+mod numbered;
+mod numbers;
 mod searching;
 mod trail;
 

@@ -2,14 +2,13 @@
 
 ghost use Rattle.std.specs.Prelude.{IfOk, Contains};
 ghost use Rattle.std.specs.List.Sorted.{IsStrictlyIncreasing};
-ghost use Rattle.hprof_walks.specs.Trail.{IsTrail, Follows};
 ghost use Rattle.hprof_walks.specs.Search.{IsSearch};
 
-use crate::arrival::keep_least;
 use crate::following::follow;
 use crate::graph::Graph;
 use crate::kept_search::Search;
-use crate::leading::{lead_on, push_arrivals};
+use crate::leading::lead_on;
+use crate::numbered::Numbered;
 use crate::trail::Trail;
 use std::alloc::{AllocError, Global};
 
@@ -28,33 +27,21 @@ pub fn search<G: Graph>(
         (λ from to. G.leads graph.old from to × Contains nodes.items to)) }
 {
     let mut trail = Trail::new(alloc, nodes.len())?;
-    let mut levels = Vec::new(alloc);
+    let numbered = Numbered::new(alloc, nodes)?;
     let mut targets = Vec::new(alloc);
-    let mut arrivals = Vec::new(alloc);
-    push_arrivals(&mut arrivals, starts, 0)?;
-    keep_least(&mut arrivals);
-    follow(&nodes, &mut trail, &arrivals)?;
-    let mut begin = 0;
-    while begin < trail.found.len() {
-        let end = trail.found.len();
-        lead_on(
-            graph,
-            &nodes,
-            &trail.found,
-            begin,
-            &mut targets,
-            &mut arrivals,
-        )?;
-        keep_least(&mut arrivals);
-        follow(&nodes, &mut trail, &arrivals)?;
-        levels.push(end)?;
-        begin = end;
+    let mut level = Vec::new(alloc);
+    follow(&numbered, None, starts, &mut trail)?;
+    trail.take_next(&mut level);
+    let mut levels = 0;
+    while !level.is_empty() {
+        lead_on(graph, &numbered, &level, &mut targets, &mut trail)?;
+        trail.take_next(&mut level);
+        levels += 1;
     }
     Ok(Search {
-        nodes,
+        nodes: numbered.nodes,
         found: trail.found,
         before: trail.before,
-        places: trail.places,
         levels,
     })
 }

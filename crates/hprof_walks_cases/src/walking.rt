@@ -1,6 +1,7 @@
 //! Searches.
 
 use crate::cases::{Case, check};
+use std::alloc::Global;
 use std::test::*;
 
 #[test]
@@ -95,6 +96,101 @@ fn long_chain(rt: HostRuntime) -> Result<(), Fail> {
         edges: &edges,
         distances: &[(2_000, Some(1_999)), (2_001, None)],
         paths: &[(2_000, &nodes)],
+    };
+    check(&rt, alloc, &case)
+}
+
+#[test]
+fn targets_beyond(rt: HostRuntime) -> Result<(), Fail> {
+    // Starts and targets below the least node, above the greatest, and between two.
+    let case = Case {
+        nodes: &[10, 20, 30],
+        starts: &[5, 10, 15, 31],
+        edges: &[
+            (10, 0),
+            (10, 9),
+            (10, 25),
+            (10, 30),
+            (10, 31),
+            (10, u64::MAX),
+            (25, 20),
+            (30, 21),
+        ],
+        distances: &[
+            (0, None),
+            (9, None),
+            (10, Some(0)),
+            (20, None),
+            (25, None),
+            (30, Some(1)),
+            (31, None),
+            (u64::MAX, None),
+        ],
+        paths: &[(10, &[10]), (30, &[10, 30])],
+    };
+    check(&rt, rt.alloc(), &case)
+}
+
+// An edge from each node to the next.
+fn chain(alloc: Global, nodes: &[u64]) -> Result<Vec<(u64, u64)>, Fail> {
+    let mut edges = Vec::new(alloc);
+    for place in 1..nodes.len() {
+        edges.push((nodes[place - 1], nodes[place]))?;
+    }
+    Ok(edges)
+}
+
+#[test]
+fn one_far_node(rt: HostRuntime) -> Result<(), Fail> {
+    // Nodes close together, and the last at the other end of all numbers.
+    let alloc = rt.alloc();
+    let mut nodes = Vec::new(alloc);
+    for node in 1..=300u64 {
+        nodes.push(node)?;
+    }
+    nodes.push(u64::MAX)?;
+    let mut edges = chain(alloc, &nodes)?;
+    edges.push((u64::MAX, 301))?;
+    edges.push((300, 0))?;
+    let case = Case {
+        nodes: &nodes,
+        starts: &[1],
+        edges: &edges,
+        distances: &[
+            (0, None),
+            (301, None),
+            (u64::MAX - 1, None),
+            (u64::MAX, Some(300)),
+        ],
+        paths: &[(u64::MAX, &nodes)],
+    };
+    check(&rt, alloc, &case)
+}
+
+#[test]
+fn clusters(rt: HostRuntime) -> Result<(), Fail> {
+    // Nodes close together, in places far apart.
+    let alloc = rt.alloc();
+    let mut nodes = Vec::new(alloc);
+    for begin in [1, 1 << 20, 1 << 40, u64::MAX - 99] {
+        for step in 0..100 {
+            nodes.push(begin.saturating_add(step))?;
+        }
+    }
+    let mut edges = chain(alloc, &nodes)?;
+    edges.push((1, 101))?;
+    edges.push((1, (1 << 40) - 1))?;
+    let case = Case {
+        nodes: &nodes,
+        starts: &[1],
+        edges: &edges,
+        distances: &[
+            (1, Some(0)),
+            (101, None),
+            ((1 << 40) - 1, None),
+            (u64::MAX, Some(399)),
+        ],
+        paths: &[(1, &[1]), (u64::MAX, &nodes)],
     };
     check(&rt, alloc, &case)
 }

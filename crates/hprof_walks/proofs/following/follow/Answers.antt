@@ -1,41 +1,30 @@
-use Rattle.std.proofs.Common.{◌+◌, ◌∙◌, sym, subst, arith}
+use Rattle.std.proofs.Common.{◌≡◌, ◌+◌, ◌∙◌, ℕ, Some, None, slice_index, refl, sym, subst, take}
 use Rattle.hprof_walks.specs.declared.trail.Trail.{Trail}
-use Rattle.hprof_walks.specs.Trail.{order_of, Order}
-use Rattle.hprof_walks.proofs.FollowSteps.{skipped, visited}
-use Rattle.hprof_walks.proofs.following.follow.Invariants.{Following}
+use Rattle.hprof_walks.specs.Finds.{Follows, LeadsTo, Arrives, finds_of}
+use Rattle.hprof_walks.specs.Kept.{number_in}
+use Rattle.hprof_walks.proofs.Targets.{to_none, to_number}
 use Rattle.hprof_walks.proofs.following.follow.Goals as goal
-use Rattle.hprof_walks.proofs.following.follow.Goals.{then-number-nodes+then-nodes-number+in_ok-visit, else-number-nodes, else-number-nodes-via-then-number-nodes+else-nodes-number, else-number-nodes-via-else-number-nodes}
+use Rattle.hprof_walks.proofs.following.follow.Goals.{in-Some+in_ok-arrive, in_default}
 
-pub loop-arrival-preserved : goal.loop-arrival-preserved
-loop-arrival-preserved c =
-    let nodes = c.args.nodes.now in
-    let old : Order = order_of c.args.trail.now in
-    let now : Order = order_of c.loop-arrival.trail in
-    let arrivals = c.args.arrivals.now in
-    let index = c.loop-arrival.arrival-index in
-    let number = c.gallop-number.result in
-    let answer = c.gallop-number.ensures in
-    let was = c.loop-arrival.invariant in
-    let P : Trail → Type 0 = λ trail. Following nodes old trail arrivals (index + 1) number in
-    elim c.if-number-nodes.branch [
-      | then-number-nodes+then-nodes-number+in_ok-visit w ↦
-          subst P (sym w.trail-is) (record {
-            followed = visited nodes old now arrivals index c.loop-arrival.number number c.requires.nodes c.requires.arrivals
-                c.loop-arrival-test.true was.followed answer.within answer.less answer.not_less
-                (order_of w.visit.new.trail) w.if-number-nodes.true w.if-nodes-number.true
-                w.in_ok-visit.ensures.found w.in_ok-visit.ensures.before;
-            noted = w.in_ok-visit.ensures.noted;
-            as_many = w.in_ok-visit.ensures.as_many ∙ was.as_many;
-          })
-      | else-number-nodes w ↦
-          let skip = skipped nodes old now arrivals index c.loop-arrival.number number c.requires.nodes c.requires.arrivals
-          c.loop-arrival-test.true was.followed answer.within answer.less answer.not_less in
-          subst P (sym w.trail-is) (record {
-            followed = elim w.else-number-nodes.branch [
-              | else-number-nodes-via-then-number-nodes+else-nodes-number w' ↦ skip (λ inside is. w'.if-nodes-number.false is)
-              | else-number-nodes-via-else-number-nodes w' ↦ skip (λ inside is. let outside = w'.if-number-nodes.false in omega arith)
-            ];
-            noted = was.noted;
-            as_many = was.as_many;
-          })
+pub loop-target-preserved : goal.loop-target-preserved
+loop-target-preserved c =
+    let nodes = c.args.numbered.now.nodes.items in
+    let from = c.args.from in
+    let targets = c.args.targets.now in
+    let index = c.loop-target.target-index in
+    let target = slice_index targets index in
+    let old = finds_of c.args.trail.now in
+    let middle = finds_of c.loop-target.trail in
+    let P : Trail → Type 0 = λ trail. Follows (LeadsTo nodes from (take (index + 1) targets)) old (finds_of trail) in
+    elim c.match-number_of.branch [
+      | in-Some+in_ok-arrive w ↦
+          let number = w.in-Some.number in
+          let some : number_in nodes target ≡ Some number = sym c.number_of.ensures ∙ w.in-Some.is in
+          let arrives = subst (λ (one : ℕ). Follows (Arrives one number) middle (finds_of w.arrive.new.self)) w.unwrap_or.ensures w.in_ok-arrive.ensures in
+          subst P (sym w.trail-is) (to_number nodes from targets index target c.loop-target-test.true refl old middle c.requires.as_many
+          c.loop-target.invariant c.args.numbered.now.ascend number (finds_of w.arrive.new.self) some arrives)
+      | in_default w ↦
+          let none : number_in nodes target ≡ None = sym c.number_of.ensures ∙ w.in_default.is in
+          subst P (sym w.trail-is) (to_none nodes from targets index target c.loop-target-test.true refl old middle c.requires.as_many
+          c.loop-target.invariant none)
     ]

@@ -1,32 +1,28 @@
-use Rattle.std.proofs.Common.{◌≡◌, ◌↔◌, ◌+◌, ℕ, List, Contains, length, sym, subst, refl, arith, slice_index}
-use Rattle.hprof_walks.specs.Arrivals.{AreArrivals}
-use Rattle.hprof_walks.proofs.LedArrivals.{leads_more}
+use Rattle.std.proofs.Common.{◌≡◌, ◌↔◌, ◌∙◌, ℕ, List, Some, Contains, slice_index, subst, refl}
+use Rattle.std.proofs.lemmas.Grind.{get_or_default_zero}
+use Rattle.hprof_walks.specs.Finds.{Follows, LeadsTo, finds_of}
+use Rattle.hprof_walks.proofs.Targets.{led_more}
 use Rattle.hprof_walks.proofs.leading.lead_on.Goals as goal
 
-pub loop-place-preserved : goal.loop-place-preserved
-loop-place-preserved g c =
-    let place = c.loop-place.place in
+pub loop-number-preserved : goal.loop-number-preserved
+loop-number-preserved g c =
+    let Leads = g.G.Graph.leads c.args.graph.now in
+    let nodes = c.args.numbered.now.nodes.items in
+    let level = c.args.level.now in
+    let index = c.loop-number.number-index in
+    let number = slice_index level index in
+    let was = c.loop-number.invariant in
     let stays = c.in_ok-targets_of.ensures.stays in
-    let was = c.loop-place.invariant in
-    let node = slice_index c.args.nodes.now (slice_index c.args.found.now place) in
-    let given = subst (λ (targets : List ℕ). (to : ℕ) → Contains targets to ↔ g.G.Graph.leads c.loop-place.graph node to)
-    (sym c.deref.ensures.value) c.in_ok-targets_of.ensures.ok in
-    let on = c.loop-place.auto.place in (
-      subst (AreArrivals (g.G.Graph.leads c.args.graph.now) c.args.nodes.now c.args.found.now c.args.begin (place + 1))
-          (sym c.in_ok-push_arrivals.ensures)
-          (leads_more (g.G.Graph.leads c.args.graph.now) c.args.nodes.now c.args.found.now c.args.begin place (place + 1)
-          c.loop-place.arrivals.items c.deref.result.now refl on
-          (λ to. (λ has. (was.1 node to).0 ((given to).0 has), λ leads. (given to).1 ((was.1 node to).1 leads))) was.0),
-      λ other to. (λ leads. (was.1 other to).0 ((stays other to).0 leads), λ leads. (stays other to).1 ((was.1 other to).1 leads)),
-      c.in_ok-targets_of.ensures.stands,
-    )
-
-pub returns-clause-ok : goal.returns-clause-ok
-returns-clause-ok g c =
-    let test = c.loop-place-test.false in
-    let begin = c.requires.begin in
-    let auto = c.loop-place.auto in
-    let near = auto.place-end begin in
-    let same : c.loop-place.place ≡ length c.args.found.now = omega arith in
-    subst (λ (end : ℕ). AreArrivals (g.G.Graph.leads c.args.graph.now) c.args.nodes.now c.args.found.now c.args.begin end c.loop-place.arrivals.items)
-    same c.loop-place.invariant.0
+    let given = c.in_ok-targets_of.ensures.ok in
+    let targets = c.targets_of.new.targets.items in
+    let node = c.index.result.now in
+    let is : node ≡ slice_index nodes number = c.index.ensures ∙ get_or_default_zero nodes number node (c.requires.within index 0 c.loop-number-test.true) in
+    let leads = subst (λ (n : ℕ). (to : ℕ) → Contains targets to ↔ Leads n to) is
+    (λ to. (λ has. (was.stays node to).0 ((given to).0 has), λ leads. (given to).1 ((was.stays node to).1 leads))) in
+    let more = subst (λ (ts : List ℕ). Follows (LeadsTo nodes (Some number) ts) (finds_of c.loop-number.trail) (finds_of c.follow.new.trail))
+    c.deref.ensures.value c.in_ok-follow.ensures in record {
+      follows = led_more Leads nodes level targets index number (finds_of c.args.trail.now) (finds_of c.loop-number.trail)
+          (finds_of c.follow.new.trail) c.loop-number-test.true refl c.requires.ascend leads was.follows more;
+      stays = λ node to. (λ leads. (was.stays node to).0 ((stays node to).0 leads), λ leads. (stays node to).1 ((was.stays node to).1 leads));
+      stands = c.in_ok-targets_of.ensures.stands;
+    }

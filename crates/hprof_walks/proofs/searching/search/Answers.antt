@@ -1,85 +1,93 @@
-use Rattle.std.proofs.Common.{◌≡◌, ◌<◌, ◌-◌, ◌++◌, ◌∷◌, [], ℕ, List, length, map, ◌∙◌, ap, sym, subst, subst₂, arith}
-use Rattle.hprof_walks.specs.declared.arrival.Arrival.{Arrival}
-use Rattle.hprof_walks.specs.Arrivals.{AreArrivals}
-use Rattle.hprof_walks.specs.Trail.{Order, Follows, order_of}
-use Rattle.hprof_walks.proofs.Few.{few_found}
-use Rattle.hprof_walks.proofs.FirstLevel.{searching_first}
-use Rattle.hprof_walks.proofs.LedArrivals.{arrive, leads_same}
-use Rattle.hprof_walks.proofs.OneMoreLevel.{searching_more}
-use Rattle.hprof_walks.proofs.Searched.{IsSearched}
-use Rattle.hprof_walks.proofs.Searchings.{IsSearching, StartsIn, StepsIn, places_of}
+use Rattle.std.proofs.Common.{◌≡◌, ◌<◌, ◌+◌, ◌∙◌, ℕ, suc, Bool, false, not, List, [], None, count_by, get_or, length, refl, ap, sym, subst, arith, eqb-true, vec_len}
+use Rattle.std.proofs.lemmas.List.{length-replicate}
+use Rattle.std.proofs.lemmas.List.Elements.{Contains-get_or}
+use Rattle.hprof_walks.specs.Finds.{Finds, Follows, LeadsOn, LeadsTo, finds_of, is_found}
+use Rattle.hprof_walks.proofs.Counts.{came_next, few_left, few_first, none_found, none_there, some_there}
+use Rattle.hprof_walks.proofs.FirstLevel.{searched_first}
+use Rattle.hprof_walks.proofs.Followed.{follows_same}
+use Rattle.hprof_walks.proofs.Levels.{IsSearched, searched_more, searched_still}
 use Rattle.hprof_walks.proofs.Told.{tells}
 use Rattle.hprof_walks.proofs.searching.search.Goals as goal
 
-pub loop-begin-init : goal.loop-begin-init
-loop-begin-init g c =
+pub loop-graph-init : goal.loop-graph-init
+loop-graph-init g c =
     let Leads = g.G.Graph.leads c.args.graph.now in
-    let nodes = c.args.nodes.items in
+    let nodes = c.in_ok-numbered.numbered.nodes.items in
     let starts = c.args.starts.now in
-    let old : Order = order_of c.in_ok-trail.trail in
-    let none : length old.found ≡ 0 = ap (length {A = ℕ}) c.in_ok-trail.ensures.found in
-    let new : Order = order_of c.follow.new.trail in
-    let all = c.push_arrivals.new.arrivals.items in
-    let least = c.keep_least.new.arrivals.items in
-    let are : all ≡ map (arrive 0) starts =
-    c.in_ok-push_arrivals.ensures ∙ ap (λ (arrivals : List Arrival). arrivals ++ map (arrive 0) starts) c.new-arrivals.ensures.items in
-    let follows = subst₂ (λ (ns : List ℕ) (arrivals : List Arrival). Follows ns old new arrivals)
-    c.deref.ensures.value c.deref-2.ensures.value c.in_ok-follow.ensures.follows in
-    let first = searching_first Leads nodes starts c.requires.ascend old new all least none are c.keep_least.ensures follows in record {
-      searching = subst (λ (levels : List ℕ). IsSearching Leads nodes starts new levels 0) (sym c.new-levels.ensures.items) first;
+    let old = finds_of c.in_ok-trail.trail in
+    let middle = finds_of c.follow.new.trail in
+    let new = finds_of c.take_next.new.self in
+    let level = c.take_next.new.level.items in
+    let empty : (number : ℕ) → is_found old number ≡ false =
+    λ number. ap (λ (fs : List Bool). get_or fs number false) c.in_ok-trail.ensures.found ∙ none_found c.len.result number in
+    let many : length old.found ≡ length nodes = ap (length {A = Bool}) c.in_ok-trail.ensures.found ∙ length-replicate c.len.result false
+    ∙ (let e = c.len.ensures in let same : length nodes ≡ length c.args.nodes.items = ap (length {A = ℕ}) c.in_ok-numbered.ensures in omega arith) in
+    let follows = c.in_ok-follow.ensures in
+    let came = came_next (LeadsTo nodes None starts) old middle follows c.in_ok-trail.ensures.next level c.take_next.ensures.same in
+    let first = searched_first Leads nodes starts old middle empty many follows level came in
+    let found : new.found ≡ middle.found = rw c.take_next.ensures.found in
+    let before : new.before ≡ middle.before = rw c.take_next.ensures.before in
+    let few = few_first (LeadsTo nodes None starts) old middle follows c.in_ok-trail.ensures.next level c.take_next.ensures.as_many in
+    let same : count_by not new.found ≡ count_by not middle.found = ap (count_by not) found in record {
+      searched = searched_still Leads nodes starts middle new level 0 found before first;
+      ascend = c.take_next.ensures.ascend;
+      none = c.take_next.ensures.none;
+      few = omega arith;
       stays = λ node to. (λ leads. leads, λ leads. leads);
       stands = c.requires.stands;
-      noted = c.in_ok-follow.ensures.noted;
-      as_many = c.in_ok-follow.ensures.as_many ∙ ap (length {A = ℕ}) c.deref.ensures.value;
     }
 
-pub loop-begin-smaller : goal.loop-begin-smaller
-loop-begin-smaller g c =
-    let few = few_found c.args.nodes.items (order_of c.loop-begin.trail) c.loop-begin.invariant.searching.trail in
-    let test = c.loop-begin-test.true in
-    let less : length c.args.nodes.items - c.len-end.result < length c.args.nodes.items - c.loop-begin.begin = omega arith in
-    less
+pub lead_on-requires-clause-within : goal.lead_on-requires-clause-within
+lead_on-requires-clause-within g c = rw c.deref.ensures.value (λ number d below.
+    let level = c.loop-graph.level.items in
+    (c.loop-graph.invariant.searched.last_near (get_or level number d) (Contains-get_or level number d below)).0)
 
-pub loop-begin-preserved : goal.loop-begin-preserved
-loop-begin-preserved g c =
+pub loop-graph-preserved : goal.loop-graph-preserved
+loop-graph-preserved g c =
     let Leads = g.G.Graph.leads c.args.graph.now in
-    let nodes = c.args.nodes.items in
+    let nodes = c.in_ok-numbered.numbered.nodes.items in
     let starts = c.args.starts.now in
-    let was = c.loop-begin.invariant in
-    let old : Order = order_of c.loop-begin.trail in
-    let new : Order = order_of c.follow-in-loop-begin.new.trail in
-    let all = c.lead_on.new.arrivals.items in
-    let least = c.keep_least-in-loop-begin.new.arrivals.items in
-    let begin = c.loop-begin.begin in
-    let levels = c.loop-begin.levels.items in
-    let led = subst₂ (λ (ns found : List ℕ). AreArrivals (g.G.Graph.leads c.loop-begin.graph) ns found begin (length found) all)
-    c.deref-in-loop-begin.ensures.value c.deref-in-loop-begin-2.ensures.value c.in_ok-lead_on.ensures.ok in
-    let are = leads_same (g.G.Graph.leads c.loop-begin.graph) Leads was.stays nodes old.found begin (length old.found) all led in
-    let follows = subst₂ (λ (ns : List ℕ) (arrivals : List Arrival). Follows ns old new arrivals)
-    c.deref-in-loop-begin-3.ensures.value c.deref-in-loop-begin-4.ensures.value c.in_ok-follow-2.ensures.follows in
-    let more = searching_more Leads nodes starts c.requires.ascend old new levels begin all least was.searching are c.keep_least-in-loop-begin.ensures follows in
-    let end : length old.found ≡ c.len-end.result = let e = c.len-end.ensures in omega arith in
-    let pushed : levels ++ length old.found ∷ [] ≡ c.push.new.self.items =
-    ap (λ (n : ℕ). levels ++ n ∷ []) end ∙ sym c.in_ok-push.ensures.items in
-    let stays = c.in_ok-lead_on.ensures.stays in record {
-      searching = subst₂ (IsSearching Leads nodes starts new) pushed end more;
+    let was = c.loop-graph.invariant in
+    let old = finds_of c.loop-graph.trail in
+    let middle = finds_of c.lead_on.new.trail in
+    let new = finds_of c.take_next-in-loop-graph.new.self in
+    let last = c.loop-graph.level.items in
+    let level = c.take_next-in-loop-graph.new.level.items in
+    let taken = c.take_next-in-loop-graph.ensures in
+    let stays = c.in_ok-lead_on.ensures.stays in
+    let led = subst (λ (ns : List ℕ). Follows (LeadsOn (g.G.Graph.leads c.loop-graph.graph) nodes ns) old middle)
+    c.deref.ensures.value c.in_ok-lead_on.ensures.ok in
+    let follows = follows_same (LeadsOn (g.G.Graph.leads c.loop-graph.graph) nodes last) (LeadsOn Leads nodes last) old middle
+    (λ from to below. (λ on. (on.0, (was.stays _ _).0 on.1), λ on. (on.0, (was.stays _ _).1 on.1))) led in
+    let came = came_next (LeadsOn Leads nodes last) old middle follows was.none level taken.same in
+    let more = searched_more Leads nodes starts c.in_ok-numbered.numbered.ascend old middle last c.loop-graph.levels was.searched follows level came in
+    let found : new.found ≡ middle.found = rw taken.found in
+    let before : new.before ≡ middle.before = rw taken.before in
+    let left = few_left (LeadsOn Leads nodes last) old middle follows was.none level taken.as_many in
+    let same : count_by not new.found ≡ count_by not middle.found = ap (count_by not) found in
+    let few = was.few in
+    let one : suc c.loop-graph.levels ≡ c.loop-graph.levels + 1 = omega arith in
+    let some : 0 < length last =
+    some_there last (vec_len c.loop-graph.level) (omega (arith, c.loop-graph.level.ok.0)) (sym c.is_empty.ensures ∙ c.loop-graph-test.true) in record {
+      searched = subst (IsSearched Leads nodes starts new level) one (searched_still Leads nodes starts middle new level (suc c.loop-graph.levels) found before more);
+      ascend = taken.ascend;
+      none = taken.none;
+      few = omega arith;
       stays = λ node to. (λ leads. (was.stays node to).0 ((stays node to).0 leads), λ leads. (stays node to).1 ((was.stays node to).1 leads));
       stands = c.in_ok-lead_on.ensures.stands;
-      noted = c.in_ok-follow-2.ensures.noted;
-      as_many = c.in_ok-follow-2.ensures.as_many ∙ ap (length {A = ℕ}) c.deref-in-loop-begin-3.ensures.value;
     }
 
 pub returns : goal.returns
 returns g c =
     let Leads = g.G.Graph.leads c.args.graph.now in
-    let nodes = c.args.nodes.items in
     let starts = c.args.starts.now in
-    let order : Order = order_of c.loop-begin.trail in
-    let levels = c.loop-begin.levels.items in
-    let was = c.loop-begin.invariant.searching in
-    let test = c.loop-begin-test.false in
-    let within = was.searched.within in
-    let end : c.loop-begin.begin ≡ length order.found = omega arith in
-    let P : ℕ → Type 0 = λ begin. IsSearched (StartsIn nodes starts) (StepsIn Leads nodes) (places_of nodes order levels) begin
-    (length order.found) (length levels) in
-    tells (StartsIn nodes starts) (StepsIn Leads nodes) _ (length levels) (subst P end was.searched)
+    let nodes = c.in_ok-numbered.numbered.nodes.items in
+    let finds = finds_of c.loop-graph.trail in
+    let kept : Finds = record { found = finds.found; before = finds.before; next = [] } in
+    let level = c.loop-graph.level.items in
+    let was = c.loop-graph.invariant.searched in
+    let empty : level ≡ [] = none_there level
+    (let none = eqb-true (vec_len c.loop-graph.level) 0 (sym c.is_empty.ensures ∙ c.loop-graph-test.false) in omega (arith, c.loop-graph.level.ok.0)) in
+    let last = subst (λ (ns : List ℕ). IsSearched Leads nodes starts finds ns c.loop-graph.levels) empty was in
+    let searched = searched_still Leads nodes starts finds kept [] c.loop-graph.levels refl refl last in
+    rw (← c.in_ok-numbered.ensures) (tells Leads starts _ c.in_ok-numbered.numbered.ascend searched)

@@ -1,17 +1,18 @@
-use Rattle.std.proofs.Common.{◌≡◌, ◌↔◌, ◌-◌, ℕ, length}
-use Rattle.hprof_walks.specs.Kept.{NotesPlaces}
-use Rattle.hprof_walks.specs.Trail.{order_of}
-use Rattle.hprof_walks.proofs.Searchings.{IsSearching}
+use Rattle.std.proofs.Common.{◌≡◌, ◌+◌, ◌-◌, ◌≤◌, ◌↔◌, ℕ, [], not, count_by, length}
+use Rattle.std.specs.List.Sorted.{IsNonDecreasing}
+use Rattle.hprof_walks.specs.Finds.{finds_of}
+use Rattle.hprof_walks.proofs.Levels.{IsSearched}
 use Rattle.hprof_walks.proofs.searching.search.Given as goal
 
-abbrev pub invariant-loop-begin : goal.invariant-loop-begin
-invariant-loop-begin g l = record {
-  searching : IsSearching (g.G.Graph.leads l.initial.graph) l.nodes.items l.starts (order_of l.trail) l.levels.items l.begin;
+abbrev pub invariant-loop-graph : goal.invariant-loop-graph
+invariant-loop-graph g l = record {
+  searched : IsSearched (g.G.Graph.leads l.initial.graph) l.numbered.nodes.items l.starts (finds_of l.trail) l.level.items l.levels;
+  ascend : IsNonDecreasing l.level.items;
+  none : l.trail.next.items ≡ [];
+  few : l.levels + (count_by not l.trail.found.items + length l.level.items) ≤ length l.numbered.nodes.items;
   stays : (node to : ℕ) → g.G.Graph.leads l.graph node to ↔ g.G.Graph.leads l.initial.graph node to;
   stands : g.G.Graph.stands l.graph;
-  noted : NotesPlaces l.trail.found.items l.trail.places.items;
-  as_many : length l.trail.places.items ≡ length l.nodes.items;
 }
 
-abbrev pub decreases-loop-begin : goal.decreases-loop-begin
-decreases-loop-begin g l = length l.nodes.items - l.begin
+abbrev pub decreases-loop-graph : goal.decreases-loop-graph
+decreases-loop-graph g l = length l.numbered.nodes.items - l.levels

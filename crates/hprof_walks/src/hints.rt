@@ -1,0 +1,115 @@
+//! Hints where a node stands in a list of nodes that ascend. Nothing rests on them but how soon it is found.
+
+ghost use Rattle.std.specs.Prelude.{◌+◌, ◌<◌, ◌≤◌, length};
+
+use std::alloc::{AllocError, Global};
+
+// There is a part for each so many nodes.
+const NODES_OF_A_PART: usize = 2;
+
+// A part of no more nodes than this is gone over from its first.
+const FEW: usize = 24;
+
+/// The range of the nodes in equal parts, and where each part begins.
+#[derive(Drop)]
+pub(crate) struct Hints {
+    least: u64,
+    /// A part is as wide as two to this power.
+    shift: u32,
+    /// Of each part the first number whose node is in it or behind it, and how many nodes there are; but none is greater than
+    /// fits.
+    firsts: Vec<u32>,
+    ghost shifts: { shift < 64 },
+}
+
+// The least power of two by which the range is cut into so many parts, or fewer.
+fn shift_for(range: u64, parts: u64) -> u32
+    ensures { result < 64 }
+{
+    for shift in 0..63 {
+        if range >> shift < parts {
+            return shift;
+        }
+    }
+    63
+}
+
+// A number, or the greatest that fits.
+fn cut_off(number: usize) -> u32 {
+    u32::try_from(number).unwrap_or(u32::MAX)
+}
+
+// Of each part the first number whose node is in it or behind it, and how many nodes there are.
+fn firsts_of(
+    alloc: Global,
+    nodes: &[u64],
+    least: u64,
+    shift: u32,
+    parts: usize,
+) -> Result<Vec<u32>, AllocError>
+    requires shift { shift < 64 }
+    requires parts { parts ≤ length nodes.now + 1 }
+{
+    let mut firsts = Vec::with_capacity(alloc, parts + 1)?;
+    for (number, node) in nodes.iter().enumerate() {
+        let part = (node.saturating_sub(least) >> shift) as usize;
+        if firsts.len() <= part && part < parts {
+            firsts.resize(part + 1, cut_off(number))?;
+        }
+    }
+    firsts.push(cut_off(nodes.len()))?;
+    Ok(firsts)
+}
+
+// The first place in a part of a node that is not below that one; or else where the part ends.
+#[inline(always)]
+fn place_in(nodes: &[u64], low: usize, high: usize, node: u64) -> usize
+    requires order { low ≤ high }
+    requires within { high ≤ length nodes.now }
+    ensures { result ≤ high }
+{
+    if FEW < high - low {
+        return low + nodes[low..high].partition_point(|other| *other < node);
+    }
+    for place in low..high {
+        if node <= nodes[place] {
+            return place;
+        }
+    }
+    high
+}
+
+impl Hints {
+    /// The hints for nodes that ascend. The error is that memory was refused.
+    pub(crate) fn new(alloc: Global, nodes: &[u64]) -> Result<Hints, AllocError> {
+        let least = nodes.first().copied().unwrap_or(0);
+        let greatest = nodes.last().copied().unwrap_or(0);
+        let parts = nodes.len() / NODES_OF_A_PART + 1;
+        let shift = shift_for(greatest.saturating_sub(least), parts as u64);
+        Ok(Hints {
+            least,
+            shift,
+            firsts: firsts_of(alloc, nodes, least, shift, parts)?,
+        })
+    }
+
+    /// Where the node stands, if the hints lead there, or else would stand. It may be told wrong.
+    #[inline(always)]
+    pub(crate) fn place(&self, nodes: &[u64], node: u64) -> usize
+        ensures { result ≤ length nodes.now }
+    {
+        let Some(beyond) = node.checked_sub(self.least) else {
+            return 0;
+        };
+        let part = (beyond >> self.shift) as usize;
+        if self.firsts.len().saturating_sub(1) <= part {
+            return nodes.len();
+        }
+        let low = self.firsts[part] as usize;
+        let high = self.firsts[part + 1] as usize;
+        if high < low || nodes.len() < high {
+            return nodes.len();
+        }
+        place_in(nodes, low, high, node)
+    }
+}

@@ -1,0 +1,68 @@
+//! Nodes and their numbers: the number of a node is its place among all nodes.
+
+ghost use Rattle.std.specs.Prelude.{◌≡◌, ◌-◌, ◌<◌, ◌≤◌, ◌↔◌, ℕ, IfOk, IsTrue, length, slice_index};
+ghost use Rattle.std.specs.List.Sorted.{IsStrictlyIncreasing};
+ghost use Rattle.hprof_walks.specs.Kept.{number_in};
+
+use crate::hints::Hints;
+use std::alloc::{AllocError, Global};
+
+/// Nodes in ascending order, and hints where they stand.
+#[derive(Drop)]
+pub(crate) struct Numbered {
+    pub(crate) nodes: Vec<u64>,
+    hints: Hints,
+    ghost ascend: { IsStrictlyIncreasing nodes.items },
+}
+
+/// The number of a node, found by halves; none of what is no node.
+pub(crate) fn find(nodes: &[u64], node: u64) -> Option<usize>
+    requires { IsStrictlyIncreasing nodes.now }
+    ensures { result ≡ number_in nodes.now node }
+{
+    nodes.binary_search(&node).ok()
+}
+
+// Whether the node stands at that place.
+#[inline(always)]
+fn stands_at(nodes: &[u64], place: usize, node: u64) -> bool
+    ensures { IsTrue result ↔ (place < length nodes.now) × (slice_index nodes.now place ≡ node) }
+{
+    place < nodes.len() && nodes[place] == node
+}
+
+// Whether the node is none, and would stand at that place.
+#[inline(always)]
+fn is_missing_at(nodes: &[u64], place: usize, node: u64) -> bool
+    requires within { place ≤ length nodes.now }
+    ensures before { IsTrue result → 0 < place → slice_index nodes.now (place - 1) < node }
+    ensures behind { IsTrue result → place < length nodes.now → node < slice_index nodes.now place }
+{
+    (place == 0 || nodes[place - 1] < node) && (place == nodes.len() || node < nodes[place])
+}
+
+impl Numbered {
+    /// Nodes in ascending order, by their numbers. The error is that memory was refused.
+    pub(crate) fn new(alloc: Global, nodes: Vec<u64>) -> Result<Numbered, AllocError>
+        requires { IsStrictlyIncreasing nodes.items }
+        ensures { IfOk result (λ numbered. numbered.nodes.items ≡ nodes.items) }
+    {
+        let hints = Hints::new(alloc, &nodes)?;
+        Ok(Numbered { nodes, hints })
+    }
+
+    /// The number of a node; none of what is no node. Where the hints do not lead there, it is found by halves.
+    #[inline(always)]
+    pub(crate) fn number_of(&self, node: u64) -> Option<usize>
+        ensures { result ≡ number_in self.now.nodes.items node }
+    {
+        let place = self.hints.place(&self.nodes, node);
+        if stands_at(&self.nodes, place, node) {
+            Some(place)
+        } else if is_missing_at(&self.nodes, place, node) {
+            None
+        } else {
+            find(&self.nodes, node)
+        }
+    }
+}
