@@ -157,6 +157,20 @@ impl<V> GapRun<V> {
         self.ends_below(key)
     }
 
+    /// Moves the gap towards the place of a key that is far from it, by no more rows than make a place near. The rows stay as they are.
+    pub(crate) fn approach(&mut self, key: u64)
+        ensures { run_rows self.new ≡ run_rows self.old }
+    {
+        if self.is_far_below(key) {
+            let bound = self.low[self.low.len().saturating_sub(NEAR)].0;
+            // Where memory is refused, it stays where it is.
+            let _ = self.lower(bound);
+        } else if self.is_far_above(key) {
+            let bound = self.high[self.high.len().saturating_sub(NEAR)].0;
+            self.raise(bound);
+        }
+    }
+
     /// Makes room for a row at the gap.
     #[inline(always)]
     pub(crate) fn make_room(&mut self) -> Result<(), AllocError>

@@ -206,7 +206,10 @@ impl<V> SortedTable<V> {
         }
         match self.run.get(key) {
             Some(row) => Ok(Some(visitor.ask(row, room))),
-            None => self.visit_far(key, visitor, room),
+            None => {
+                self.run.approach(key);
+                self.visit_far(key, visitor, room)
+            }
         }
     }
 
