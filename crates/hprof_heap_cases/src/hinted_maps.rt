@@ -7,6 +7,7 @@ use std::test::*;
 
 // Two keys that leave their hints in one slot.
 const FIRST: u64 = 2;
+
 const SECOND: u64 = 46_370;
 
 #[test]

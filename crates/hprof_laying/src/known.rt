@@ -53,6 +53,7 @@ impl KnownLayouts {
     }
 
     /// Whether the layout of the class is known.
+    #[inline(always)]
     pub fn knows(&self, class: u64) -> bool
         ensures known { (ids : IdSize) (facts : List FactValue) → Knows ids facts self.now → IsTrue result ↔ HasLayout facts class }
         ensures ready { IsTrue result ↔ CanWake (plan_of self.now) class }
@@ -61,6 +62,7 @@ impl KnownLayouts {
     }
 
     /// The outline of the layout of a class that has a plan, or of no slots.
+    #[inline(always)]
     fn outline(&self, class: u64) -> Outline
         ensures { result ≡ outline_at class (plan_of self.now class) }
     {
@@ -143,6 +145,7 @@ impl KnownLayouts {
     }
 
     /// The plan of the class that a jump goes to, where its own fields lie within so many bytes.
+    #[inline(always)]
     fn landing(&self, jump: Jump, room: usize) -> Option<&Plan>
         ensures plan { IfSome result (λ plan. plan_of self.now jump.class ≡ Some plan.now) }
         ensures some { IfSome result (λ plan. 0 < plan.now.own.width) }

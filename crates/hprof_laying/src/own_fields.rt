@@ -66,6 +66,7 @@ pub(crate) fn own_fields(
 }
 
 /// The identifier behind so many bytes. There is none where the bytes do not reach so far.
+#[inline(always)]
 fn id_behind(bytes: &[u8], offset: usize, ids: IdSize) -> Option<u64>
     ensures { SomeIff result (offset + width_of ids ≤ length bytes.now) (big_number (width_of ids) (drop offset bytes.now)) }
 {
@@ -79,6 +80,7 @@ fn id_behind(bytes: &[u8], offset: usize, ids: IdSize) -> Option<u64>
 impl OwnLayout {
     /// Puts what the own fields refer to behind other references. The bytes begin with their values, and so many fields
     /// stand before them.
+    #[inline(always)]
     pub(crate) fn push_references(
         &self,
         bytes: &[u8],

@@ -39,6 +39,7 @@ pub(crate) struct Plan {
 
 impl Jump {
     /// The same class from own fields of so many bytes on that stand before.
+    #[inline(always)]
     fn behind(self, own: &OwnLayout) -> Jump
         ensures { result ≡ jump_behind own.now self }
     {
@@ -63,6 +64,7 @@ impl Plan {
     }
 
     /// What the classes below the class need.
+    #[inline(always)]
     pub(crate) fn outline(&self, class: u64) -> Outline
         ensures { result ≡ outline_of class self.now }
     {
