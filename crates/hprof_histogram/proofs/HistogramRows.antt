@@ -1,17 +1,15 @@
 -- The rows of what was counted are a histogram.
-use Rattle.std.proofs.Common.{◌≡◌, ℕ, ◌<◌, ◌==◌, Bool, true, false, cond, List, [], ◌∷◌, Option, Some, None, Ok, length, get_or, refl, sym, ap, subst, ◌∙◌, inl, inr, arith, unwrap_or}
-use Rattle.std.specs.BTreeMap.{IsOrdered, get, is_at}
-use Rattle.std.specs.List.{All, filter}
+use Rattle.std.proofs.Common.{◌≡◌, ℕ, ◌<◌, Bool, true, false, cond, List, [], ◌∷◌, Option, Some, None, Ok, length, get_or, refl, sym, ap, subst, ◌∙◌, inl, inr, arith, unwrap_or}
+use Rattle.std.specs.Prelude.{nat_eq}
+use Rattle.std.specs.List.{All, IsDistinct, filter}
 use Rattle.std.specs.List.Sorted.{IsPermutation, IsStrictlySortedBy}
-use Rattle.std.specs.Ordering.{is_eq, nat_cmp}
-use Rattle.std.specs.declared.cmp.Ordering.{Ordering}
-use Rattle.std.specs.declared.cmp.Ordering.TheVariants.{Less, Equal, Greater}
 use Rattle.std.proofs.lemmas.Bool.{both_ways, eqb-true, lt-ltb, ltb-true}
-use Rattle.std.proofs.lemmas.Cmp.{nat_cmp_total}
+use Rattle.std.proofs.lemmas.Cmp.{nat_eq_equiv}
 use Rattle.std.proofs.lemmas.List.Elements.{All-append, All-contains, All-filter, All-from_get_or, All-map, All-weaker, filter_passes}
 use Rattle.std.proofs.lemmas.List.Sorted.{Contains-permutation, IsPermutation-sym}
-use Rattle.std.proofs.lemmas.Map.Entries.{btree_map_get_place, place_from_lookup}
+use Rattle.std.proofs.lemmas.Map.Entries.{lookup_from_place, place_from_lookup}
 use Rattle.std.proofs.lemmas.Option.{slice_get-get_or}
+use Rattle.hprof_tables.specs.HintedMap.{keys_in, rows_in, value_in}
 use Rattle.hprof_values.specs.declared.ids.IdSize.{IdSize}
 use Rattle.hprof_values.specs.declared.basic.Basic.{Basic}
 use Rattle.hprof_values.specs.declared.basic.Basic.TheVariants as basics
@@ -25,22 +23,13 @@ use Rattle.hprof_histogram.specs.declared.row.Row.{Row}
 use Rattle.hprof_histogram.specs.declared.counted.Counted.{Counted}
 use Rattle.hprof_histogram.specs.declared.counted_kinds.CountedKinds.{CountedKinds}
 use Rattle.hprof_histogram.specs.Histogram.{kind_of, is_kind, of_kind, row_cmp, CountsKind, IsHistogram}
-use Rattle.hprof_histogram.specs.CountedKinds.{IsTally, both, counted_in, nothing, kept_of, type_of, row_of, has_objects, class_rows}
+use Rattle.hprof_histogram.specs.CountedKinds.{IsTally, counted_in, nothing, kept_of, type_of, row_of, has_objects, class_rows}
 use Rattle.hprof_histogram.specs.CountedKinds.{type_rows, element_types}
 use Rattle.hprof_histogram.proofs.CandidateRows.{candidates}
 use Rattle.hprof_histogram.proofs.Members.{IsIn, Contains-from_in, in_back, in_filter, in_from_slice_get, in_front, in_map}
-use Rattle.hprof_histogram.proofs.RowOrder.{tied_numbers}
-use Rattle.hprof_histogram.proofs.Tallies.{both_nothing, same_itself}
+use Rattle.hprof_histogram.proofs.Tallies.{same_itself}
 
 -- ---- facts
-
--- where neither class is before the other they are one
-same_class : (class other : ℕ) → is_at (nat_cmp class) other ≡ true → class ≡ other
-same_class class other e = eqb-true class other (tied_numbers class other (tied (nat_cmp class other) e)) where
-  tied : (order : Ordering) → is_eq order ≡ true → order ≡ Equal
-  tied Less e = cc
-  tied Equal e = refl
-  tied Greater e = cc
 
 -- the elements of an array that has a spelling are of one of the eight types
 element_listed : (elem : Basic) → element_type (Some elem) ≡ Ok elem → IsIn elem element_types
@@ -78,36 +67,28 @@ some_counted kind (first ∷ facts) fact has is = by_test (λ later. some_counte
 
 -- ---- what a row says
 
-module _ (tally : CountedKinds) (closed : tally.run ≡ nothing) (ordered : IsOrdered nat_cmp tally.classes) where
-  -- nothing is left beside the map
-  class_counted : (class : ℕ) → counted_in tally (Class class) ≡ kept_of tally.classes class
-  class_counted class = by_test (tally.class == class) where
-    by_test : (b : Bool) → cond b (both (kept_of tally.classes class) tally.run) (kept_of tally.classes class)
-        ≡ kept_of tally.classes class
-    by_test true = ap (both (kept_of tally.classes class)) closed ∙ both_nothing (kept_of tally.classes class)
-    by_test false = refl
-
+module _ (tally : CountedKinds) (apart : IsDistinct nat_eq (keys_in tally.classes)) where
   -- the row says what the tally has of its kind
   abbrev IsOfTally : Row → Type 0
   IsOfTally row = row ≡ row_of row.kind (counted_in tally row.kind)
 
   class_row_of_tally : (class : ℕ) (counted : Counted) → kept_of tally.classes class ≡ counted → IsOfTally (row_of (Class class) counted)
-  class_row_of_tally class counted kept = ap (row_of (Class class)) (sym kept ∙ sym (class_counted class))
+  class_row_of_tally class counted kept = ap (row_of (Class class)) (sym kept)
 
-  entries_kept : All (λ (entry : ℕ × Counted). kept_of tally.classes entry.0 ≡ entry.1) tally.classes.entries
-  entries_kept = All-from_get_or (λ (entry : ℕ × Counted). kept_of tally.classes entry.0 ≡ entry.1) tally.classes.entries (0, nothing) (λ place lt.
-      let entry : ℕ × Counted = get_or tally.classes.entries place (0, nothing) in
-      let found : get nat_cmp tally.classes entry.0 ≡ Some entry.1 =
-      btree_map_get_place nat_cmp_total tally.classes place entry.0 entry.1 ordered
-      (slice_get-get_or tally.classes.entries place (0, nothing) lt) in
+  entries_kept : All (λ (entry : ℕ × Counted). kept_of tally.classes entry.0 ≡ entry.1) (rows_in tally.classes)
+  entries_kept = All-from_get_or (λ (entry : ℕ × Counted). kept_of tally.classes entry.0 ≡ entry.1) (rows_in tally.classes) (0, nothing) (λ place lt.
+      let entry : ℕ × Counted = get_or (rows_in tally.classes) place (0, nothing) in
+      let found : value_in tally.classes entry.0 ≡ Some entry.1 =
+      lookup_from_place nat_eq_equiv (rows_in tally.classes) place entry.0 entry.1 apart
+      (slice_get-get_or (rows_in tally.classes) place (0, nothing) lt) in
       ap (λ (o : Option Counted). unwrap_or o nothing) found)
 
-  candidates_of_tally : All IsOfTally (candidates tally.classes.entries tally.types)
+  candidates_of_tally : All IsOfTally (candidates (rows_in tally.classes) tally.types)
   candidates_of_tally =
-      All-append IsOfTally (class_rows tally.classes.entries) (type_rows tally.types element_types)
-      (All-map IsOfTally (λ (entry : ℕ × Counted). row_of (Class entry.0) entry.1) tally.classes.entries
+      All-append IsOfTally (class_rows (rows_in tally.classes)) (type_rows tally.types element_types)
+      (All-map IsOfTally (λ (entry : ℕ × Counted). row_of (Class entry.0) entry.1) (rows_in tally.classes)
       (All-weaker (λ (entry : ℕ × Counted). kept_of tally.classes entry.0 ≡ entry.1) (λ entry. IsOfTally (row_of (Class entry.0) entry.1))
-      (λ entry kept. class_row_of_tally entry.0 entry.1 kept) tally.classes.entries entries_kept))
+      (λ entry kept. class_row_of_tally entry.0 entry.1 kept) (rows_in tally.classes) entries_kept))
       (All-map IsOfTally (λ (elem : Basic). row_of (Prim elem) (type_of tally.types elem)) element_types
       (All-from_get_or (λ elem. IsOfTally (row_of (Prim elem) (type_of tally.types elem))) element_types basics.Array (λ place lt. refl)))
 
@@ -128,43 +109,43 @@ module _ (tally : CountedKinds) (closed : tally.run ≡ nothing) (ordered : IsOr
       pub is_of : row.kind ≡ kind
 
     class_row : (class : ℕ) → 0 < (counted_in tally (Class class)).count
-        → HasRow (filter has_objects (candidates tally.classes.entries tally.types)) (Class class)
-    class_row class some = found (get nat_cmp tally.classes class) refl where
-      found : (o : Option Counted) → get nat_cmp tally.classes class ≡ o
-          → HasRow (filter has_objects (candidates tally.classes.entries tally.types)) (Class class)
+        → HasRow (filter has_objects (candidates (rows_in tally.classes) tally.types)) (Class class)
+    class_row class some = found (value_in tally.classes class) refl where
+      found : (o : Option Counted) → value_in tally.classes class ≡ o
+          → HasRow (filter has_objects (candidates (rows_in tally.classes) tally.types)) (Class class)
       found None e =
           let none : counted_in tally (Class class) ≡ nothing =
-          class_counted class ∙ ap (λ (o : Option Counted). unwrap_or o nothing) e in
+          ap (λ (o : Option Counted). unwrap_or o nothing) e in
           absurd (omega (arith, some, ap (λ (c : Counted). c.count) none))
       found (Some counted) e =
-          let at = place_from_lookup (is_at (nat_cmp class)) tally.classes.entries counted e in
+          let at = place_from_lookup (nat_eq class) (rows_in tally.classes) counted e in
           let here : counted_in tally (Class class) ≡ counted =
-          class_counted class ∙ ap (λ (o : Option Counted). unwrap_or o nothing) e in
+          ap (λ (o : Option Counted). unwrap_or o nothing) e in
           let row = row_of (Class at.1) counted in
           let passes : has_objects row ≡ true = lt-ltb 0 counted.count (omega (arith, some, ap (λ (c : Counted). c.count) here)) in
-          let in_rows = in_front (class_rows tally.classes.entries) (type_rows tally.types element_types) row
-          (in_map (λ (entry : ℕ × Counted). row_of (Class entry.0) entry.1) tally.classes.entries (at.1, counted)
-          (in_from_slice_get tally.classes.entries at.0 (at.1, counted) at.2)) in
+          let in_rows = in_front (class_rows (rows_in tally.classes)) (type_rows tally.types element_types) row
+          (in_map (λ (entry : ℕ × Counted). row_of (Class entry.0) entry.1) (rows_in tally.classes) (at.1, counted)
+          (in_from_slice_get (rows_in tally.classes) at.0 (at.1, counted) at.2)) in
           record {
             row = row;
-            has = in_filter has_objects (candidates tally.classes.entries tally.types) row passes in_rows;
-            is_of = ap Class (sym (same_class class at.1 at.3));
+            has = in_filter has_objects (candidates (rows_in tally.classes) tally.types) row passes in_rows;
+            is_of = ap Class (sym (eqb-true class at.1 at.3));
           }
 
     type_row : (elem : Basic) → IsIn elem element_types → 0 < (counted_in tally (Prim elem)).count
-        → HasRow (filter has_objects (candidates tally.classes.entries tally.types)) (Prim elem)
+        → HasRow (filter has_objects (candidates (rows_in tally.classes) tally.types)) (Prim elem)
     type_row elem has some =
         let row = row_of (Prim elem) (type_of tally.types elem) in
-        let in_rows = in_back (class_rows tally.classes.entries) (type_rows tally.types element_types) row
+        let in_rows = in_back (class_rows (rows_in tally.classes)) (type_rows tally.types element_types) row
         (in_map (λ (e : Basic). row_of (Prim e) (type_of tally.types e)) element_types elem has) in
         record {
           row = row;
-          has = in_filter has_objects (candidates tally.classes.entries tally.types) row (lt-ltb 0 row.count some) in_rows;
+          has = in_filter has_objects (candidates (rows_in tally.classes) tally.types) row (lt-ltb 0 row.count some) in_rows;
           is_of = refl;
         }
 
     kind_row : AllFit ids facts → (fact : FactValue) (kind : Kind) → Has facts fact → kind_of fact ≡ Some kind
-        → HasRow (filter has_objects (candidates tally.classes.entries tally.types)) kind
+        → HasRow (filter has_objects (candidates (rows_in tally.classes) tally.types)) kind
     kind_row fit fact (Class class) has own =
         class_row class (omega (arith, some_counted (Class class) facts fact has own, ap (λ (c : Counted). c.count) (is (Class class))))
     kind_row fit fact (Prim elem) has own =
@@ -173,10 +154,10 @@ module _ (tally : CountedKinds) (closed : tally.run ≡ nothing) (ordered : IsOr
 
     -- so those that have objects are a histogram, once they are in order
     pub rows_are_histogram : AllFit ids facts → (rows : List Row)
-        → IsPermutation (filter has_objects (candidates tally.classes.entries tally.types)) rows → IsStrictlySortedBy row_cmp rows
+        → IsPermutation (filter has_objects (candidates (rows_in tally.classes) tally.types)) rows → IsStrictlySortedBy row_cmp rows
         → IsHistogram ids facts rows
     rows_are_histogram fit rows moved sorted =
-        let all = candidates tally.classes.entries tally.types in
+        let all = candidates (rows_in tally.classes) tally.types in
         let before = filter has_objects all in
         record {
           ascend = sorted;

@@ -1,7 +1,7 @@
 -- What was counted.
-use Rattle.std.specs.Prelude.{◌==◌, ◌<◌, ◌+◌, ◌^◌, ◌≡◌, ℕ, List, [], ◌∷◌, Bool, nat_lt, cond, length, sum_by, unwrap_or, map, slice_index_or}
-use Rattle.std.specs.BTreeMap.{BTreeMap, get}
-use Rattle.std.specs.Ordering.{nat_cmp}
+use Rattle.std.specs.Prelude.{◌<◌, ◌+◌, ◌^◌, ◌≡◌, ℕ, List, [], ◌∷◌, Bool, nat_lt, length, sum_by, unwrap_or, map, slice_index_or}
+use Rattle.hprof_tables.specs.declared.hinted_map.HintedMap.{HintedMap}
+use Rattle.hprof_tables.specs.HintedMap.{value_in}
 use Rattle.hprof_values.specs.declared.ids.IdSize.{IdSize}
 use Rattle.hprof_values.specs.declared.basic.Basic.{Basic}
 use Rattle.hprof_values.specs.declared.basic.Basic.TheVariants as basics
@@ -37,8 +37,8 @@ counted_of ids kind facts =
     record { count = length (of_kind kind facts); bytes = sum_by (size_of_object ids) (of_kind kind facts) }
 
 -- what is kept of a class
-abbrev pub kept_of : BTreeMap ℕ Counted → ℕ → Counted
-kept_of classes class = unwrap_or (get nat_cmp classes class) nothing
+abbrev pub kept_of : HintedMap Counted → ℕ → Counted
+kept_of classes class = unwrap_or (value_in classes class) nothing
 
 -- what is kept of a type
 abbrev pub type_of : List Counted → Basic → Counted
@@ -46,8 +46,7 @@ type_of types elem = slice_index_or types (code_of_basic elem) nothing
 
 -- what a tally has of a kind
 abbrev pub counted_in : CountedKinds → Kind → Counted
-counted_in tally (Class class) =
-    cond (tally.class == class) (both (kept_of tally.classes class) tally.run) (kept_of tally.classes class)
+counted_in tally (Class class) = kept_of tally.classes class
 counted_in tally (Prim elem) = type_of tally.types elem
 
 -- the tally has the objects among these facts, of each kind

@@ -19,6 +19,7 @@ impl Counted {
     }
 
     /// These, and one more of that size.
+    #[inline(always)]
     pub(crate) fn with(self, size: u128) -> Counted
         requires { FitsCounts (both self (one_of size)) }
         ensures { result ≡ both self (one_of size) }
@@ -26,17 +27,6 @@ impl Counted {
         Counted {
             count: self.count + 1,
             bytes: self.bytes + size,
-        }
-    }
-
-    /// These and those.
-    pub(crate) fn plus(self, other: Counted) -> Counted
-        requires { FitsCounts (both self other) }
-        ensures { result ≡ both self other }
-    {
-        Counted {
-            count: self.count + other.count,
-            bytes: self.bytes + other.bytes,
         }
     }
 }

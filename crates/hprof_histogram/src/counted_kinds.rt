@@ -2,23 +2,18 @@
 
 use crate::counted::Counted;
 use crate::row::Kind;
+use hprof_tables::HintedMap;
 use hprof_values::Basic;
 use std::alloc::{AllocError, Global};
-use std::collections::BTreeMap;
 
 /// How many types there are, with those that no code stands for.
 pub(crate) const TYPES: usize = 12;
 
-/// How many objects of each kind were counted. Objects of one class often come one after the other, so what came last is
-/// kept beside the map.
+/// How many objects of each kind were counted.
 #[derive(Drop)]
 pub(crate) struct CountedKinds {
-    /// What was counted of each class, but for the last ones.
-    pub(crate) classes: BTreeMap<u64, Counted>,
-    /// The class that came last.
-    pub(crate) class: u64,
-    /// What was counted of it since another one came.
-    pub(crate) run: Counted,
+    /// What was counted of each class.
+    pub(crate) classes: HintedMap<Counted>,
     /// What was counted of each type, by its code.
     pub(crate) types: [Counted; TYPES],
 }
@@ -35,45 +30,36 @@ impl CountedKinds {
         ensures { (kind : Kind) → counted_in result kind ≡ nothing }
     {
         CountedKinds {
-            classes: BTreeMap::new(alloc),
-            class: 0,
-            run: Counted::nothing(),
+            classes: HintedMap::new(alloc),
             types: [Counted::nothing(); TYPES],
         }
     }
 
-    /// Counts what came last into the map.
-    pub(crate) fn close_run(&mut self) -> Result<(), AllocError>
-        requires { (kind : Kind) → FitsCounts (counted_in self.old kind) }
-        ensures same { OnOk result ((kind : Kind) → counted_in self.new kind ≡ counted_in self.old kind) }
-        ensures closed { OnOk result (self.new.run ≡ nothing) }
+    /// What was counted of a class.
+    #[inline(always)]
+    fn of_class(&self, class: u64) -> Counted
+        ensures { result ≡ counted_in self.now (kinds.Class class) }
     {
-        match self.classes.get_mut(&self.class) {
-            Some(kept) => *kept = kept.plus(self.run),
-            None => {
-                self.classes.insert(self.class, self.run)?;
-            }
+        match self.classes.get(class) {
+            None => Counted::nothing(),
+            Some(counted) => *counted,
         }
-        self.run = Counted::nothing();
-        Ok(())
     }
 
     /// Counts an object of a class.
+    #[inline(always)]
     fn count_class(&mut self, class: u64, size: u128) -> Result<(), AllocError>
-        requires all { (kind : Kind) → FitsCounts (counted_in self.old kind) }
-        requires one { FitsCounts (both (counted_in self.old (kinds.Class class)) (one_of size)) }
+        requires { FitsCounts (both (counted_in self.old (kinds.Class class)) (one_of size)) }
         ensures { OnOk result ((kind : Kind) → counted_in self.new kind
             ≡ cond (same_kind kind (kinds.Class class)) (both (counted_in self.old kind) (one_of size)) (counted_in self.old kind)) }
     {
-        if class != self.class {
-            self.close_run()?;
-            self.class = class;
-        }
-        self.run = self.run.with(size);
+        let counted = self.of_class(class).with(size);
+        self.classes.insert(class, counted)?;
         Ok(())
     }
 
     /// Counts an array of a type.
+    #[inline(always)]
     fn count_type(&mut self, elem: Basic, size: u128)
         requires { FitsCounts (both (counted_in self.old (kinds.Prim elem)) (one_of size)) }
         ensures { (kind : Kind) → counted_in self.new kind
@@ -84,9 +70,9 @@ impl CountedKinds {
     }
 
     /// Counts an object.
+    #[inline(always)]
     pub(crate) fn count(&mut self, kind: Kind, size: u128) -> Result<(), AllocError>
-        requires all { (other : Kind) → FitsCounts (counted_in self.old other) }
-        requires one { FitsCounts (both (counted_in self.old kind) (one_of size)) }
+        requires { FitsCounts (both (counted_in self.old kind) (one_of size)) }
         ensures { OnOk result ((other : Kind) → counted_in self.new other
             ≡ cond (same_kind other kind) (both (counted_in self.old other) (one_of size)) (counted_in self.old other)) }
     {

@@ -5,7 +5,7 @@ ghost use Rattle.std.specs.Option.{option_map};
 ghost use Rattle.hprof_items.specs.FactValue.{value_of};
 ghost use Rattle.hprof_finding.specs.HeapFacts.{facts_of, size_of};
 ghost use Rattle.hprof_histogram.specs.Histogram.{kind_of, size_of_object};
-ghost use Rattle.hprof_histogram.specs.CountedKinds.{IsTally, nothing};
+ghost use Rattle.hprof_histogram.specs.CountedKinds.{IsTally};
 
 use crate::counted_kinds::CountedKinds;
 use crate::row::Kind;
@@ -16,6 +16,7 @@ use hprof_values::IdSize;
 use std::alloc::{AllocError, Global};
 
 /// How many bytes these are.
+#[inline(always)]
 fn size_of_bytes(bytes: &[u8]) -> u128
     ensures { result ≡ length bytes.now }
 {
@@ -23,6 +24,7 @@ fn size_of_bytes(bytes: &[u8]) -> u128
 }
 
 /// The kind of an object, and how many bytes it has.
+#[inline(always)]
 fn object_of(fact: &Fact<'_>, ids: IdSize) -> Option<(Kind, u128)>
     ensures kind { option_map (λ object. object.0) result ≡ kind_of (value_of fact.now) }
     ensures size { IfSome result (λ object. object.1 ≡ size_of_object ids (value_of fact.now)) }
@@ -42,10 +44,9 @@ fn object_of(fact: &Fact<'_>, ids: IdSize) -> Option<(Kind, u128)>
     }
 }
 
-/// Counts the objects of a heap. Nothing is left beside the map.
+/// Counts the objects of a heap.
 pub(crate) fn count_objects(alloc: Global, heap: &Heap) -> Result<CountedKinds, AllocError>
-    ensures all { IfOk result (IsTally (size_of heap.now) (facts_of heap.now)) }
-    ensures closed { IfOk result (λ tally. tally.run ≡ nothing) }
+    ensures { IfOk result (IsTally (size_of heap.now) (facts_of heap.now)) }
 {
     let ids = id_size(heap);
     // How many objects there are fits a number: that is told with their count.
@@ -56,6 +57,5 @@ pub(crate) fn count_objects(alloc: Global, heap: &Heap) -> Result<CountedKinds, 
             tally.count(kind, size)?;
         }
     }
-    tally.close_run()?;
     Ok(tally)
 }

@@ -1,17 +1,16 @@
 //! The rows of what was counted.
 
-ghost use Rattle.std.specs.Prelude.{◌≡◌, ◌++◌, ◌∷◌, [], OnOk, IfOk};
-ghost use Rattle.std.specs.BTreeMap.{IsOrdered};
-ghost use Rattle.std.specs.List.{filter};
-ghost use Rattle.std.specs.Ordering.{nat_cmp};
+ghost use Rattle.std.specs.Prelude.{◌≡◌, ◌++◌, ◌∷◌, [], OnOk, IfOk, nat_eq};
+ghost use Rattle.std.specs.List.{IsDistinct, filter};
+ghost use Rattle.hprof_tables.specs.HintedMap.{keys_in, rows_in};
 ghost use Rattle.hprof_histogram.specs.CountedKinds.{class_rows, element_types, has_objects, row_of, type_rows};
 
 use crate::counted::Counted;
 use crate::counted_kinds::{CountedKinds, TYPES};
 use crate::row::{Kind, Row};
+use hprof_tables::HintedMap;
 use hprof_values::Basic;
 use std::alloc::{AllocError, Global};
-use std::collections::BTreeMap;
 
 /// The types that elements of arrays may have, by their codes.
 const ELEMENT_TYPES: [Basic; 8] = [
@@ -37,11 +36,11 @@ fn push_row(rows: &mut Vec<Row>, kind: Kind, counted: Counted) -> Result<(), All
 }
 
 /// Puts the rows of classes behind others.
-fn push_classes(rows: &mut Vec<Row>, classes: &BTreeMap<u64, Counted>) -> Result<(), AllocError>
-    ensures { OnOk result (rows.new.items ≡ rows.old.items ++ filter has_objects (class_rows classes.now.entries)) }
+fn push_classes(rows: &mut Vec<Row>, classes: &HintedMap<Counted>) -> Result<(), AllocError>
+    ensures { OnOk result (rows.new.items ≡ rows.old.items ++ filter has_objects (class_rows (rows_in classes.now))) }
 {
-    for (class, counted) in classes {
-        push_row(rows, Kind::Class(*class), *counted)?;
+    for row in classes.rows() {
+        push_row(rows, Kind::Class(row.0), row.1)?;
     }
     Ok(())
 }
@@ -58,11 +57,13 @@ fn push_types(rows: &mut Vec<Row>, types: &[Counted; TYPES]) -> Result<(), Alloc
 
 /// The rows of what was counted: those of classes, and then those of types.
 pub(crate) fn rows_of(alloc: Global, tally: &CountedKinds) -> Result<Vec<Row>, AllocError>
-    ensures rows { IfOk result (λ rows. rows.items ≡ filter has_objects (class_rows tally.now.classes.entries)
+    ensures rows { IfOk result (λ rows. rows.items ≡ filter has_objects (class_rows (rows_in tally.now.classes))
         ++ filter has_objects (type_rows tally.now.types element_types)) }
-    ensures ordered { IsOrdered nat_cmp tally.now.classes }
+    ensures apart { IsDistinct nat_eq (keys_in tally.now.classes) }
 {
     let most = tally.classes.len() + ELEMENT_TYPES.len();
+    // Each class stands there once: that is told with the rows.
+    let _classes = tally.classes.rows();
     let mut rows = Vec::with_capacity(alloc, most)?;
     push_classes(&mut rows, &tally.classes)?;
     push_types(&mut rows, &tally.types)?;

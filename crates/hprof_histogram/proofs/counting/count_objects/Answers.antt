@@ -5,20 +5,12 @@ use Rattle.hprof_rows.specs.FactsLeft.{facts_left}
 use Rattle.hprof_rows.specs.Tables.{facts_of_table}
 use Rattle.hprof_finding.specs.HeapFacts.{facts_of, size_of}
 use Rattle.hprof_histogram.specs.Histogram.{size_of_object}
-use Rattle.hprof_histogram.proofs.FactCounts.{IsTallyTo, tally_counts, tally_ends, tally_of_all, room_so_far}
+use Rattle.hprof_histogram.proofs.FactCounts.{IsTallyTo, tally_counts, tally_ends, tally_of_all}
 use Rattle.hprof_histogram.proofs.FactCounts.{room_for_one, room_of_all}
 use Rattle.hprof_histogram.proofs.counting.count_objects.Goals as goal
 
-pub count-requires-clause-all : goal.count-requires-clause-all
-count-requires-clause-all c =
-    let ids = size_of c.args.heap.now in
-    let facts = facts_of c.args.heap.now in
-    let few : c.table_len-objects.result < 2 ^ 64 = omega arith in
-    room_so_far ids (facts_of_table tables.Objects facts) (facts_left c.loop-fact.fact-iterator) c.loop-fact.tally
-    (room_of_all ids facts c.table_len-objects.result c.id_size-ids.ensures.fit c.table_len-objects.ensures few) c.loop-fact.invariant
-
-pub count-requires-clause-one : goal.count-requires-clause-one
-count-requires-clause-one c =
+pub count-requires : goal.count-requires
+count-requires c =
     let ids = size_of c.args.heap.now in
     let facts = facts_of c.args.heap.now in
     let fact = value_of c.in-Some.fact in
@@ -40,20 +32,10 @@ loop-fact-preserved-in-Continue-1 c =
     c.in_ok-count.ensures
     (subst (IsTallyTo ids all c.loop-fact.tally) c.in-Some.ensures.steps.0 c.loop-fact.invariant)
 
-pub close_run-requires : goal.close_run-requires
-close_run-requires c =
+pub returns : goal.returns
+returns c =
     let ids = size_of c.args.heap.now in
     let facts = facts_of c.args.heap.now in
-    let few : c.table_len-objects.result < 2 ^ 64 = omega arith in
-    room_so_far ids (facts_of_table tables.Objects facts) (facts_left c.loop-fact.fact-iterator) c.loop-fact.tally
-    (room_of_all ids facts c.table_len-objects.result c.id_size-ids.ensures.fit c.table_len-objects.ensures few) c.loop-fact.invariant
-
-pub returns-clause-all : goal.returns-clause-all
-returns-clause-all c =
-    let ids = size_of c.args.heap.now in
-    let facts = facts_of c.args.heap.now in
-    λ kind. c.in_ok-close_run.ensures.same kind
-    ∙ tally_of_all ids facts c.loop-fact.tally
+    tally_of_all ids facts c.loop-fact.tally
     (tally_ends ids (facts_of_table tables.Objects facts) (facts_left c.loop-fact.fact-iterator) c.loop-fact.tally
     c.in-None.ensures.steps.0.0 c.loop-fact.invariant)
-    kind

@@ -2,6 +2,7 @@ use Rattle.std.proofs.Common.{◌≡◌, sym, subst, ◌∙◌}
 use Rattle.std.specs.List.{IsDistinct, filter}
 use Rattle.std.specs.List.Sorted.{IsPermutation}
 use Rattle.std.proofs.lemmas.List.Elements.{filter-append}
+use Rattle.hprof_tables.specs.HintedMap.{rows_in}
 use Rattle.hprof_finding.specs.HeapFacts.{facts_of, size_of}
 use Rattle.hprof_histogram.specs.CountedKinds.{class_rows, element_types, has_objects, type_rows}
 use Rattle.hprof_histogram.proofs.CandidateRows.{candidates, rows_apart}
@@ -12,18 +13,18 @@ use Rattle.hprof_histogram.proofs.making.histogram.Goals as goal
 pub sort_rows-requires : goal.sort_rows-requires
 sort_rows-requires c =
     let tally = c.in_ok-tally.tally in
-    let same : c.in_ok-rows.rows.items ≡ filter has_objects (candidates tally.classes.entries tally.types) =
+    let same : c.in_ok-rows.rows.items ≡ filter has_objects (candidates (rows_in tally.classes) tally.types) =
     c.in_ok-rows.ensures.rows
-    ∙ sym (filter-append has_objects (class_rows tally.classes.entries) (type_rows tally.types element_types)) in
-    subst (IsDistinct same_row_kind) (sym same) (rows_apart tally.classes.entries tally.types c.in_ok-rows.ensures.ordered)
+    ∙ sym (filter-append has_objects (class_rows (rows_in tally.classes)) (type_rows tally.types element_types)) in
+    subst (IsDistinct same_row_kind) (sym same) (rows_apart (rows_in tally.classes) tally.types c.in_ok-rows.ensures.apart)
 
 pub returns : goal.returns
 returns c =
     let tally = c.in_ok-tally.tally in
     let after = c.sort_rows.new.rows.items in
-    let same : c.in_ok-rows.rows.items ≡ filter has_objects (candidates tally.classes.entries tally.types) =
+    let same : c.in_ok-rows.rows.items ≡ filter has_objects (candidates (rows_in tally.classes) tally.types) =
     c.in_ok-rows.ensures.rows
-    ∙ sym (filter-append has_objects (class_rows tally.classes.entries) (type_rows tally.types element_types)) in
-    rows_are_histogram tally c.in_ok-tally.ensures.closed c.in_ok-rows.ensures.ordered (size_of c.args.heap.now) (facts_of c.args.heap.now)
-    c.in_ok-tally.ensures.all c.id_size-ids.ensures.fit after
+    ∙ sym (filter-append has_objects (class_rows (rows_in tally.classes)) (type_rows tally.types element_types)) in
+    rows_are_histogram tally c.in_ok-rows.ensures.apart (size_of c.args.heap.now) (facts_of c.args.heap.now)
+    c.in_ok-tally.ensures c.id_size-ids.ensures.fit after
     (subst (λ before. IsPermutation before after) same c.sort_rows.ensures.same) c.sort_rows.ensures.ascend
