@@ -125,9 +125,9 @@ pub record IsStated (old : Gathered) (fact : FactValue) (stated : Stated) (new :
   pub mark : new.conflict ≡ mark_after stated old.conflict fact
 
 -- what a fact came to: nothing where two sizes were begun, else it was stated
-abbrev pub ComesTo : Gathered → FactValue → Option Stated → Gathered → Type 0
-ComesTo old fact None new = old.two_sizes ≡ true
-ComesTo old fact (Some stated) new = IsStated old fact stated new
+abbrev pub TellsStated : Gathered → FactValue → Option Stated → Gathered → Type 0
+TellsStated old fact None new = old.two_sizes ≡ true
+TellsStated old fact (Some stated) new = IsStated old fact stated new
 
 -- ---- the answers
 

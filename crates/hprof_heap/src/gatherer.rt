@@ -31,7 +31,7 @@ pub struct Gatherer {
 
 impl Gatherer {
     ghost use Rattle.hprof_heap.specs.Gathering.{Gathered, Given, gathered, nothing_gathered, seen_heap, Gathers, Tells, answer_of};
-    ghost use Rattle.hprof_heap.specs.Gathering.{ComesTo, LacksRow, Takes, standing_of_answer, marked};
+    ghost use Rattle.hprof_heap.specs.Gathering.{TellsStated, LacksRow, Takes, standing_of_answer, marked};
     ghost use Rattle.hprof_stream.specs.Run.{FitsBegun, ListsHaveBegun, SpellsBegun};
     ghost use Rattle.hprof_stream.specs.declared.sink.SinkFault.TheVariants.{OutOfMemory};
     ghost use Rattle.hprof_heap.specs.Heap.{heap_of};
@@ -110,7 +110,7 @@ impl Gatherer {
         requires lists { ListsHaveBegun (gathered self.old).begun fact.now }
         requires spelled { SpellsBegun (gathered self.old).begun (value_of fact.now) spelled.now }
         ensures steps { OnOk result (Takes (gathered self.old) (value_of fact.now) (gathered self.new)) }
-        ensures stated { IfOk result (λ stated. ComesTo (gathered self.old) (value_of fact.now) stated (gathered self.new)) }
+        ensures stated { IfOk result (λ stated. TellsStated (gathered self.old) (value_of fact.now) stated (gathered self.new)) }
         ensures begun { OnOk result ((gathered self.new).begun ≡ (gathered self.old).begun) }
         ensures well { OnOk result (((gathered self.old).failed ≡ false) × ((gathered self.new).failed ≡ false)) }
         // A gatherer that has not failed answers no fault but want of memory, and that only for a fact that is new to its heap.

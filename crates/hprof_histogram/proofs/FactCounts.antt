@@ -17,7 +17,7 @@ use Rattle.hprof_rows.specs.Tables.{facts_of_table}
 use Rattle.hprof_histogram.specs.declared.row.Kind.{Kind}
 use Rattle.hprof_histogram.specs.declared.counted.Counted.{Counted}
 use Rattle.hprof_histogram.specs.declared.counted_kinds.CountedKinds.{CountedKinds}
-use Rattle.hprof_histogram.specs.Histogram.{kind_of, is_kind, same_kind, of_kind, size_of_object}
+use Rattle.hprof_histogram.specs.Histogram.{object_kind, is_kind, same_kind, of_kind, size_of_object}
 use Rattle.hprof_histogram.specs.CountedKinds.{FitsCounts, IsTally, both, counted_in, counted_of, nothing, one_of}
 use Rattle.hprof_histogram.proofs.Tallies.{both_nothing, same_itself}
 
@@ -57,26 +57,26 @@ counted_first ids fact objects =
     let bytes = sum_by-cons (size_of_object ids) fact objects in
     λ i. record { count = count i; bytes = bytes i }
 
-kept_first : (kind : Kind) (fact : FactValue) (facts : List FactValue) → is_kind kind (kind_of fact) ≡ true
+kept_first : (kind : Kind) (fact : FactValue) (facts : List FactValue) → is_kind kind (object_kind fact) ≡ true
     → of_kind kind (fact ∷ facts) ≡ fact ∷ of_kind kind facts
 kept_first kind fact facts e = ap (λ (b : Bool). cond b (fact ∷ of_kind kind facts) (of_kind kind facts)) e
 
-left_out : (kind : Kind) (fact : FactValue) (facts : List FactValue) → is_kind kind (kind_of fact) ≡ false
+left_out : (kind : Kind) (fact : FactValue) (facts : List FactValue) → is_kind kind (object_kind fact) ≡ false
     → of_kind kind (fact ∷ facts) ≡ of_kind kind facts
 left_out kind fact facts e = ap (λ (b : Bool). cond b (fact ∷ of_kind kind facts) (of_kind kind facts)) e
 
 -- a fact that is an object, and others
-counted_more : (ids : IdSize) (kind own : Kind) (fact : FactValue) (facts : List FactValue) → kind_of fact ≡ Some own
+counted_more : (ids : IdSize) (kind own : Kind) (fact : FactValue) (facts : List FactValue) → object_kind fact ≡ Some own
     → counted_of ids kind (fact ∷ facts)
     ≡ cond (same_kind kind own) (both (one_of (size_of_object ids fact)) (counted_of ids kind facts)) (counted_of ids kind facts)
 counted_more ids kind own fact facts is = by_test (same_kind kind own) (ap (is_kind kind) is) where
-  by_test : (b : Bool) → is_kind kind (kind_of fact) ≡ b → counted_of ids kind (fact ∷ facts)
+  by_test : (b : Bool) → is_kind kind (object_kind fact) ≡ b → counted_of ids kind (fact ∷ facts)
       ≡ cond b (both (one_of (size_of_object ids fact)) (counted_of ids kind facts)) (counted_of ids kind facts)
   by_test true e = ap (counted_list ids) (kept_first kind fact facts e) ∙ counted_first ids fact (of_kind kind facts)
   by_test false e = ap (counted_list ids) (left_out kind fact facts e)
 
 -- one that is none, and others
-counted_other : (ids : IdSize) (kind : Kind) (fact : FactValue) (facts : List FactValue) → kind_of fact ≡ None
+counted_other : (ids : IdSize) (kind : Kind) (fact : FactValue) (facts : List FactValue) → object_kind fact ≡ None
     → counted_of ids kind (fact ∷ facts) ≡ counted_of ids kind facts
 counted_other ids kind fact facts none = ap (counted_list ids) (left_out kind fact facts (ap (is_kind kind) none))
 
@@ -92,7 +92,7 @@ tally_begins ids all left tally new e kind =
     ap (λ (c : Counted). both c (counted_of ids kind left)) (new kind) ∙ nothing_both (counted_of ids kind left) ∙ ap (counted_of ids kind) e
 
 pub tally_counts : (ids : IdSize) (all rest : List FactValue) (tally after : CountedKinds) (fact : FactValue) (own : Kind) (size : ℕ)
-    → kind_of fact ≡ Some own → size ≡ size_of_object ids fact
+    → object_kind fact ≡ Some own → size ≡ size_of_object ids fact
     → ((kind : Kind) → counted_in after kind
     ≡ cond (same_kind kind own) (both (counted_in tally kind) (one_of size)) (counted_in tally kind))
     → IsTallyTo ids all tally (fact ∷ rest) → IsTallyTo ids all after rest
@@ -110,7 +110,7 @@ tally_counts ids all rest tally after fact own size is sized counts to kind =
       by_test false more is =
           ap (λ (c : Counted). both c (counted_of ids kind rest)) is ∙ ap (both (counted_in tally kind)) (sym more)
 
-pub tally_passes : (ids : IdSize) (all rest : List FactValue) (tally : CountedKinds) (fact : FactValue) → kind_of fact ≡ None
+pub tally_passes : (ids : IdSize) (all rest : List FactValue) (tally : CountedKinds) (fact : FactValue) → object_kind fact ≡ None
     → IsTallyTo ids all tally (fact ∷ rest) → IsTallyTo ids all tally rest
 tally_passes ids all rest tally fact none to kind = ap (both (counted_in tally kind)) (sym (counted_other ids kind fact rest none)) ∙ to kind
 
@@ -128,7 +128,7 @@ room_so_far ids all left tally room to kind = room_alone _ _ _ (to kind) (room k
 
 -- so has one object more
 pub room_for_one : (ids : IdSize) (all rest : List FactValue) (tally : CountedKinds) (fact : FactValue) (own : Kind) (size : ℕ)
-    → kind_of fact ≡ Some own → size ≡ size_of_object ids fact
+    → object_kind fact ≡ Some own → size ≡ size_of_object ids fact
     → ((kind : Kind) → FitsCounts (counted_of ids kind all)) → IsTallyTo ids all tally (fact ∷ rest)
     → FitsCounts (both (counted_in tally own) (one_of size))
 room_for_one ids all rest tally fact own size is sized room to =
@@ -146,7 +146,7 @@ room_for_one ids all rest tally fact own size is sized room to =
 -- a fact of the table that may be of the kind
 kept_too : (kind : Kind) (fact : FactValue) (facts : List FactValue) → of_kind kind (facts_of_table tables.Objects facts) ≡ of_kind kind facts
     → of_kind kind (fact ∷ facts_of_table tables.Objects facts) ≡ of_kind kind (fact ∷ facts)
-kept_too kind fact facts e = ap (λ (l : List FactValue). cond (is_kind kind (kind_of fact)) (fact ∷ l) l) e
+kept_too kind fact facts e = ap (λ (l : List FactValue). cond (is_kind kind (object_kind fact)) (fact ∷ l) l) e
 
 elements_within : (ids : IdSize) (elements : ℕ) → elements < 256 ^ 4 → elements * width_of ids ≤ 2 ^ 36
 elements_within sizes.Four elements few = omega arith
@@ -189,7 +189,7 @@ pub room_of_all : (ids : IdSize) (facts : List FactValue) (objects : ℕ) → Al
     → (kind : Kind) → FitsCounts (counted_of ids kind (facts_of_table tables.Objects facts))
 room_of_all ids facts objects fit counted few kind =
     let table = facts_of_table tables.Objects facts in
-    let of_this : FactValue → Bool = λ fact. is_kind kind (kind_of fact) in
+    let of_this : FactValue → Bool = λ fact. is_kind kind (object_kind fact) in
     let count : length (of_kind kind table) < 2 ^ 64 = omega (arith, length-filter of_this table, count_by-le-length of_this table) in
     let small = All-from_recursion (λ fact. size_of_object ids fact ≤ 2 ^ 36) facts (all_within ids facts fit) in
     let few_bytes = sum_by-le (size_of_object ids) (2 ^ 36) (of_kind kind facts)

@@ -22,7 +22,7 @@ use Rattle.hprof_histogram.specs.declared.row.Kind.TheVariants.{Class, Prim}
 use Rattle.hprof_histogram.specs.declared.row.Row.{Row}
 use Rattle.hprof_histogram.specs.declared.counted.Counted.{Counted}
 use Rattle.hprof_histogram.specs.declared.counted_kinds.CountedKinds.{CountedKinds}
-use Rattle.hprof_histogram.specs.Histogram.{kind_of, is_kind, of_kind, row_cmp, CountsKind, IsHistogram}
+use Rattle.hprof_histogram.specs.Histogram.{object_kind, is_kind, of_kind, row_cmp, CountsKind, IsHistogram}
 use Rattle.hprof_histogram.specs.CountedKinds.{IsTally, counted_in, nothing, kept_of, type_of, row_of, has_objects, class_rows}
 use Rattle.hprof_histogram.specs.CountedKinds.{type_rows, element_types}
 use Rattle.hprof_histogram.proofs.CandidateRows.{candidates}
@@ -44,24 +44,24 @@ element_listed basics.Short e = inr (inr (inr (inr (inr (inl refl)))))
 element_listed basics.Int e = inr (inr (inr (inr (inr (inr (inl refl))))))
 element_listed basics.Long e = inr (inr (inr (inr (inr (inr (inr (inl refl)))))))
 
-type_listed : (ids : IdSize) (fact : FactValue) (elem : Basic) → Fits ids fact → kind_of fact ≡ Some (Prim elem) → IsIn elem element_types
+type_listed : (ids : IdSize) (fact : FactValue) (elem : Basic) → Fits ids fact → object_kind fact ≡ Some (Prim elem) → IsIn elem element_types
 type_listed ids (PrimArray id trace own bytes) elem fits e =
     let same : own ≡ elem = cc in subst (λ (b : Basic). IsIn b element_types) same (element_listed own fits.0.3)
 type_listed ids _ elem fits e = absurd cc
 
 -- an object is counted
-pub some_counted : (kind : Kind) (facts : List FactValue) (fact : FactValue) → Has facts fact → kind_of fact ≡ Some kind
+pub some_counted : (kind : Kind) (facts : List FactValue) (fact : FactValue) → Has facts fact → object_kind fact ≡ Some kind
     → 0 < length (of_kind kind facts)
 some_counted kind [] fact has is = absurd has
-some_counted kind (first ∷ facts) fact has is = by_test (λ later. some_counted kind facts fact later is) (is_kind kind (kind_of first)) refl where
-  by_test : (Has facts fact → 0 < length (of_kind kind facts)) → (b : Bool) → is_kind kind (kind_of first) ≡ b
+some_counted kind (first ∷ facts) fact has is = by_test (λ later. some_counted kind facts fact later is) (is_kind kind (object_kind first)) refl where
+  by_test : (Has facts fact → 0 < length (of_kind kind facts)) → (b : Bool) → is_kind kind (object_kind first) ≡ b
       → 0 < length (cond b (first ∷ of_kind kind facts) (of_kind kind facts))
   by_test later true e = omega arith
   by_test later false e = elim has [
     | inl same ↦
-        let own : is_kind kind (kind_of first) ≡ true =
-        ap (λ (f : FactValue). is_kind kind (kind_of f)) (sym same) ∙ ap (is_kind kind) is ∙ same_itself kind in
-        absurd (both_ways (is_kind kind (kind_of first)) e own)
+        let own : is_kind kind (object_kind first) ≡ true =
+        ap (λ (f : FactValue). is_kind kind (object_kind f)) (sym same) ∙ ap (is_kind kind) is ∙ same_itself kind in
+        absurd (both_ways (is_kind kind (object_kind first)) e own)
     | inr rest ↦ later rest
   ]
 
@@ -144,7 +144,7 @@ module _ (tally : CountedKinds) (apart : IsDistinct nat_eq (keys_in tally.classe
           is_of = refl;
         }
 
-    kind_row : AllFit ids facts → (fact : FactValue) (kind : Kind) → Has facts fact → kind_of fact ≡ Some kind
+    kind_row : AllFit ids facts → (fact : FactValue) (kind : Kind) → Has facts fact → object_kind fact ≡ Some kind
         → HasRow (filter has_objects (candidates (rows_in tally.classes) tally.types)) kind
     kind_row fit fact (Class class) has own =
         class_row class (omega (arith, some_counted (Class class) facts fact has own, ap (λ (c : Counted). c.count) (is (Class class))))

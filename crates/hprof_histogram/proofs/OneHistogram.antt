@@ -11,7 +11,7 @@ use Rattle.hprof_rows.specs.Facts.{Has}
 use Rattle.hprof_histogram.specs.declared.row.Kind.{Kind}
 use Rattle.hprof_histogram.specs.declared.row.Kind.TheVariants.{Class, Prim}
 use Rattle.hprof_histogram.specs.declared.row.Row.{Row}
-use Rattle.hprof_histogram.specs.Histogram.{kind_of, size_of_object, is_kind, same_kind, of_kind, CountsKind, IsHistogram}
+use Rattle.hprof_histogram.specs.Histogram.{object_kind, size_of_object, is_kind, same_kind, of_kind, CountsKind, IsHistogram}
 use Rattle.hprof_histogram.proofs.Members.{IsIn, in_from_Contains, Contains-from_in, one_sorted}
 use Rattle.hprof_histogram.proofs.RowOrder.{row_cmp_total}
 
@@ -33,15 +33,15 @@ is_of_kind kind (Some other) e = ap Some (sym (one_kind kind other e))
 pub record HasOf (facts : List FactValue) (kind : Kind) : Type 0 where
   pub fact : FactValue
   pub has : Has facts fact
-  pub is : kind_of fact ≡ Some kind
+  pub is : object_kind fact ≡ Some kind
 
 -- there is one where some are counted
 pub some_of_kind : (facts : List FactValue) (kind : Kind) → 0 < length (of_kind kind facts) → HasOf facts kind
 some_of_kind [] kind some = absurd (omega arith)
-some_of_kind (fact ∷ facts) kind some = at_first (some_of_kind facts kind) (is_kind kind (kind_of fact)) refl where
-  at_first : (0 < length (of_kind kind facts) → HasOf facts kind) → (b : Bool) → is_kind kind (kind_of fact) ≡ b
+some_of_kind (fact ∷ facts) kind some = at_first (some_of_kind facts kind) (is_kind kind (object_kind fact)) refl where
+  at_first : (0 < length (of_kind kind facts) → HasOf facts kind) → (b : Bool) → is_kind kind (object_kind fact) ≡ b
       → HasOf (fact ∷ facts) kind
-  at_first later true e = record { fact = fact; has = inl refl; is = is_of_kind kind (kind_of fact) e }
+  at_first later true e = record { fact = fact; has = inl refl; is = is_of_kind kind (object_kind fact) e }
   at_first later false e =
       let others : of_kind kind (fact ∷ facts) ≡ of_kind kind facts =
       ap (λ (b : Bool). cond b (fact ∷ of_kind kind facts) (of_kind kind facts)) e in

@@ -12,7 +12,7 @@ use Rattle.hprof_items.specs.FactValue.{FactValue}
 use Rattle.hprof_rows.specs.Facts.{Has}
 use Rattle.hprof_histogram.specs.declared.row.Kind.{Kind}
 use Rattle.hprof_histogram.specs.declared.row.Row.{Row}
-use Rattle.hprof_histogram.specs.Histogram.{kind_of, kind_cmp, of_kind, row_cmp, CountsKind, IsHistogram}
+use Rattle.hprof_histogram.specs.Histogram.{object_kind, kind_cmp, of_kind, row_cmp, CountsKind, IsHistogram}
 use Rattle.hprof_histogram.specs.CountedKinds.{counted_of, row_of}
 use Rattle.hprof_histogram.proofs.HistogramRows.{some_counted}
 use Rattle.hprof_histogram.proofs.Members.{IsIn, all_in, in_from_Contains, Contains-from_in}
@@ -139,10 +139,10 @@ module _ (ids : IdSize) (facts : List FactValue) where
     pub rows : List Row
     pub ascend : IsStrictlySortedBy row_cmp rows
     pub counts : (row : Row) → IsIn row rows → CountsKind ids facts row
-    pub all : (fact : FactValue) (kind : Kind) → Has some fact → kind_of fact ≡ Some kind → IsIn (row_for kind) rows
+    pub all : (fact : FactValue) (kind : Kind) → Has some fact → object_kind fact ≡ Some kind → IsIn (row_for kind) rows
 
   -- a fact that is an object, and others
-  object_more : (fact : FactValue) (own : Kind) (some : List FactValue) → kind_of fact ≡ Some own → Has facts fact → RowsFor some
+  object_more : (fact : FactValue) (own : Kind) (some : List FactValue) → object_kind fact ≡ Some own → Has facts fact → RowsFor some
       → RowsFor (fact ∷ some)
   object_more fact own some is here before =
       let more = join_one row_cmp row_cmp_total one_tied (row_for own) before.rows before.ascend in
@@ -155,7 +155,7 @@ module _ (ids : IdSize) (facts : List FactValue) where
         ];
         all = λ other kind has of. elim has [
           | inl same ↦
-              let kinds : Some own ≡ Some kind = sym is ∙ ap kind_of (sym same) ∙ of in
+              let kinds : Some own ≡ Some kind = sym is ∙ ap object_kind (sym same) ∙ of in
               let one : own ≡ kind = cc in
               subst (λ (k : Kind). IsIn (row_for k) more.all) one more.has
           | inr later ↦ more.keeps (row_for kind) (before.all other kind later of)
@@ -163,13 +163,13 @@ module _ (ids : IdSize) (facts : List FactValue) where
       }
 
   -- one that is none, and others
-  other_more : (fact : FactValue) (some : List FactValue) → kind_of fact ≡ None → RowsFor some → RowsFor (fact ∷ some)
+  other_more : (fact : FactValue) (some : List FactValue) → object_kind fact ≡ None → RowsFor some → RowsFor (fact ∷ some)
   other_more fact some none before = record {
     rows = before.rows;
     ascend = before.ascend;
     counts = before.counts;
     all = λ other kind has of. elim has [
-      | inl same ↦ let is_none : kind_of other ≡ None = ap kind_of same ∙ none in absurd cc
+      | inl same ↦ let is_none : object_kind other ≡ None = ap object_kind same ∙ none in absurd cc
       | inr later ↦ before.all other kind later of
     ];
   }
@@ -183,8 +183,8 @@ module _ (ids : IdSize) (facts : List FactValue) where
     counts = λ row has. absurd has;
     all = λ fact kind has of. absurd has;
   }
-  rows_for (fact ∷ some) among = by_kind (rows_for some (λ other has. among other (inr has))) (kind_of fact) refl where
-    by_kind : RowsFor some → (o : Option Kind) → kind_of fact ≡ o → RowsFor (fact ∷ some)
+  rows_for (fact ∷ some) among = by_kind (rows_for some (λ other has. among other (inr has))) (object_kind fact) refl where
+    by_kind : RowsFor some → (o : Option Kind) → object_kind fact ≡ o → RowsFor (fact ∷ some)
     by_kind before None e = other_more fact some e before
     by_kind before (Some own) e = object_more fact own some e (among fact (inl refl)) before
 

@@ -15,11 +15,11 @@ use Rattle.hprof_histogram.specs.declared.row.Kind.TheVariants.{Class, Prim}
 use Rattle.hprof_histogram.specs.declared.row.Row.{Row}
 
 -- the kind of an object: its class, or for an array of numbers or truth values their type
-abbrev pub kind_of : FactValue → Option Kind
-kind_of (Instance id trace class bytes) = Some (Class class)
-kind_of (ObjArray id trace class elements) = Some (Class class)
-kind_of (PrimArray id trace elem bytes) = Some (Prim elem)
-kind_of fact = None
+abbrev pub object_kind : FactValue → Option Kind
+object_kind (Instance id trace class bytes) = Some (Class class)
+object_kind (ObjArray id trace class elements) = Some (Class class)
+object_kind (PrimArray id trace elem bytes) = Some (Prim elem)
+object_kind fact = None
 
 -- how many bytes the fields or the elements of an object have
 abbrev pub size_of_object : IdSize → FactValue → ℕ
@@ -40,7 +40,7 @@ is_kind kind (Some other) = same_kind kind other
 
 -- the objects of a kind
 abbrev pub of_kind : Kind → List FactValue → List FactValue
-of_kind kind facts = filter (λ fact. is_kind kind (kind_of fact)) facts
+of_kind kind facts = filter (λ fact. is_kind kind (object_kind fact)) facts
 
 -- classes by their identifiers, and then types by their codes
 abbrev pub kind_cmp : Kind → Kind → Ordering
@@ -64,5 +64,5 @@ pub record CountsKind (ids : IdSize) (facts : List FactValue) (row : Row) : Type
 pub record IsHistogram (ids : IdSize) (facts : List FactValue) (rows : List Row) : Type 0 where
   pub ascend : IsStrictlySortedBy row_cmp rows
   pub counts : (row : Row) → Contains rows row → CountsKind ids facts row
-  pub all : (fact : FactValue) (kind : Kind) → Has facts fact → kind_of fact ≡ Some kind
+  pub all : (fact : FactValue) (kind : Kind) → Has facts fact → object_kind fact ≡ Some kind
       → (row : Row) × Contains rows row × (row.kind ≡ kind)

@@ -4,7 +4,7 @@ ghost use Rattle.std.specs.Prelude.{◌≡◌, length, IfOk, IfSome};
 ghost use Rattle.std.specs.Option.{option_map};
 ghost use Rattle.hprof_items.specs.FactValue.{value_of};
 ghost use Rattle.hprof_finding.specs.HeapFacts.{facts_of, size_of};
-ghost use Rattle.hprof_histogram.specs.Histogram.{kind_of, size_of_object};
+ghost use Rattle.hprof_histogram.specs.Histogram.{object_kind, size_of_object};
 ghost use Rattle.hprof_histogram.specs.CountedKinds.{IsTally};
 
 use crate::counted_kinds::CountedKinds;
@@ -26,7 +26,7 @@ fn size_of_bytes(bytes: &[u8]) -> u128
 /// The kind of an object, and how many bytes it has.
 #[inline(always)]
 fn object_of(fact: &Fact<'_>, ids: IdSize) -> Option<(Kind, u128)>
-    ensures kind { option_map (λ object. object.0) result ≡ kind_of (value_of fact.now) }
+    ensures kind { option_map (λ object. object.0) result ≡ object_kind (value_of fact.now) }
     ensures size { IfSome result (λ object. object.1 ≡ size_of_object ids (value_of fact.now)) }
 {
     match *fact {

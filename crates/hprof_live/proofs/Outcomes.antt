@@ -17,7 +17,7 @@ use Rattle.hprof_heap.specs.declared.heap.Heap.{Heap}
 use Rattle.hprof_heap.specs.declared.standing.Refusal.{Refusal}
 use Rattle.hprof_heap.specs.declared.standing.Refusal.TheVariants as refusals
 use Rattle.hprof_heap.specs.declared.standing.Standing.TheVariants as standings
-use Rattle.hprof_heap.specs.Gathering.{Begins, ComesTo, Gathered, IsStated, Takes, TakesHeap, answer_of, begun_heap, gathered, has_other_size, mark_after, marked, same_size}
+use Rattle.hprof_heap.specs.Gathering.{Begins, TellsStated, Gathered, IsStated, Takes, TakesHeap, answer_of, begun_heap, gathered, has_other_size, mark_after, marked, same_size}
 use Rattle.hprof_heap.specs.Gathering.{standing_of_answer, unconflicted}
 use Rattle.hprof_heap.specs.Heap.{heap_of}
 use Rattle.hprof_finding.specs.HeapFacts.{facts_of, size_of}
@@ -230,7 +230,7 @@ module _ (fact : FactValue) where
           subst (λ (h : HeapValue). IsDerivedOf (unconflicted (Some h) mark false) derived) (sym states.1) is
       passed_by heap after Differs mark states no_new is = in_conflict derived after mark states.0.one_key.key states.0.one_key.key_of_other
 
-      pub takes_on : (came : Option Stated) → ComesTo old fact came new → came ≢ Some New → IsDerivedOf (answer_of old) derived
+      pub takes_on : (came : Option Stated) → TellsStated old fact came new → came ≢ Some New → IsDerivedOf (answer_of old) derived
           → IsDerivedOf (answer_of new) derived
       takes_on None two no_new is = subst (λ (o : Result HeapValue Refusal). IsDerivedOf o derived) (sym (outcome_untouched two)) is
       takes_on (Some stated) is_stated no_new is =
@@ -288,7 +288,7 @@ module _ (old : LiveHeap) (sound : old.failed ≡ false) where
           (subst (λ (g : Gathered). Takes (gathered old.gatherer) fact g) (sym (sound_seen new sound_new)) takes)
 
       -- it was not new
-      pub takes_live : (came : Option Stated) → ComesTo (gathered old.gatherer) fact came (gathered new.gatherer) → came ≢ Some New
+      pub takes_live : (came : Option Stated) → TellsStated (gathered old.gatherer) fact came (gathered new.gatherer) → came ≢ Some New
           → new.derived ≡ old.derived → TakesLive old fact new
       takes_live came comes no_new same = record {
         takes = takes_seen;

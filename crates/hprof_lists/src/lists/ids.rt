@@ -111,6 +111,7 @@ impl<'a> Iterator for Ids<'a> {
 
     ghost remaining = { item_count identifiers_left };
 
+    #[inline(always)]
     fn next(&mut self) -> Option<u64> {
         if self.rest.is_empty() {
             return None;

@@ -2,7 +2,7 @@ use Rattle.std.proofs.Common.{◌≡◌, Option, Some, refl, sym, ap, subst, ◌
 use Rattle.hprof_items.specs.FactValue.{value_of}
 use Rattle.hprof_tables.specs.declared.relation.Stated.{Stated}
 use Rattle.hprof_tables.specs.declared.relation.Stated.TheVariants.{New}
-use Rattle.hprof_heap.specs.Gathering.{ComesTo, Gathered, IsStated, Takes, answer_of, gathered}
+use Rattle.hprof_heap.specs.Gathering.{TellsStated, Gathered, IsStated, Takes, answer_of, gathered}
 use Rattle.hprof_live.proofs.Outcomes.{takes_first_live, takes_live}
 use Rattle.hprof_live.proofs.live_heap.LiveHeapSink.take.Goals as goal
 
@@ -27,6 +27,6 @@ returns-in-Ok-clause-steps c =
     takes_first_live c.args.self.now c.if-self.false c.derive.new.self (c.in-Ok.ensures.failed ∙ c.if-self.false) fact
     (subst (λ (g : Gathered). Takes old fact g) (sym same) c.in_ok-stated.ensures.steps)
     (subst (λ (g : Gathered). IsStated old fact New g) (sym same)
-    (subst (λ (o : Option Stated). ComesTo old fact o (gathered c.state.new.self)) came c.in_ok-stated.ensures.stated))
+    (subst (λ (o : Option Stated). TellsStated old fact o (gathered c.state.new.self)) came c.in_ok-stated.ensures.stated))
     (λ before heap outcome adds is. c.in-Ok.ensures.derives before heap (sym (ap answer_of same) ∙ outcome) adds is)
     c.in-Ok.ensures.keeps
