@@ -39,7 +39,7 @@ pub struct HintedMap<V> {
     rows: Vec<(u64, V)>,
     /// The place of each key among the rows.
     places: BTreeMap<u64, usize>,
-    /// In each slot the place of the last key that came with it. There is none while there is no row.
+    /// In each slot the place of the last key that came with it. There is no slot before the first key comes.
     hints: Vec<usize>,
     ghost sound: { ArePlaces (keys_of rows.items) places.entries } by { ArePlaces-prop (keys_of rows.items) places.entries },
 }
@@ -71,9 +71,9 @@ impl<V> HintedMap<V> {
         }
     }
 
-    /// The place of a key, by search.
+    /// The place of a key, by a search. It is seldom wanted, so that it stands apart from what is inlined.
     #[inline(never)]
-    fn search(&self, key: u64) -> Option<usize>
+    fn listed_place(&self, key: u64) -> Option<usize>
         ensures some { IfSome result (λ place. slice_get (keys_in self.now) place ≡ Some key) }
         ensures none { IfNone result (value_in self.now key ≡ None) }
     {
@@ -91,7 +91,7 @@ impl<V> HintedMap<V> {
     {
         match self.hints.get(slot_of(key)) {
             Some(place) if self.is_at(key, *place) => Some(*place),
-            _ => self.search(key),
+            _ => self.listed_place(key),
         }
     }
 

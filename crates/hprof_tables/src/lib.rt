@@ -1,4 +1,5 @@
-//! Tables of rows by key, which know nothing of facts: rows of any content, and rows of bytes, which lie in one vector.
+//! Tables of rows by key, which know nothing of facts: rows of any content, and rows of bytes, which lie in one vector. And
+//! values by key, of which most are found without a search.
 #![tactic(auto)]
 
 mod bytes_table;

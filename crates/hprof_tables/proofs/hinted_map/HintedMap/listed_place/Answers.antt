@@ -3,7 +3,7 @@ use Rattle.std.specs.Map.{keys_of}
 use Rattle.std.specs.Option.{option_copied}
 use Rattle.std.specs.Prelude.{slice_get}
 use Rattle.hprof_tables.proofs.Places.{found_nowhere}
-use Rattle.hprof_tables.proofs.hinted_map.HintedMap.search.Goals as goal
+use Rattle.hprof_tables.proofs.hinted_map.HintedMap.listed_place.Goals as goal
 
 pub returns-in_default-clause-none : goal.returns-in_default-clause-none
 returns-in_default-clause-none g c =
