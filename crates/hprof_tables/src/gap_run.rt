@@ -12,12 +12,37 @@ use std::alloc::{AllocError, Global};
 /// A place is near the gap where fewer rows than these lie between.
 const NEAR: usize = 32;
 
+/// The gap follows keys that are far from it, once so many came one behind the other on one side of it.
+const STEADY: u8 = 8;
+
+/// On which side of the gap keys lay that were far from it, and how many came there one behind the other.
+#[derive(Clone, Copy)]
+pub(crate) struct Drift {
+    above: bool,
+    count: u8,
+}
+
+impl Drift {
+    /// One more came on that side.
+    fn with(self, above: bool) -> Drift {
+        Drift {
+            above,
+            count: if self.above == above {
+                self.count.saturating_add(1)
+            } else {
+                0
+            },
+        }
+    }
+}
+
 /// Rows in order of key, in two vectors with a gap between them. Those below the gap ascend; those above it descend, so that the
 /// rows next to the gap are the last of both. The gap lies where a row was put last.
 #[derive(Drop)]
 pub(crate) struct GapRun<V> {
     pub(crate) low: Vec<(u64, V)>,
     pub(crate) high: Vec<(u64, V)>,
+    drift: Drift,
     ghost sound: { IsAscending (low.items ++ reverse high.items) } by { IsAscending-prop (low.items ++ reverse high.items) },
     // Those above the gap have room below it.
     ghost room: { vec_len low + vec_len high ≤ vec_capacity low },
@@ -34,6 +59,10 @@ impl<V> GapRun<V> {
         GapRun {
             low: Vec::new(alloc),
             high: Vec::new(alloc),
+            drift: Drift {
+                above: false,
+                count: 0,
+            },
         }
     }
 
@@ -45,6 +74,10 @@ impl<V> GapRun<V> {
         GapRun {
             low: rows,
             high: Vec::new(alloc),
+            drift: Drift {
+                above: false,
+                count: 0,
+            },
         }
     }
 
@@ -150,24 +183,38 @@ impl<V> GapRun<V> {
         ensures not { result ≡ false → LacksEnd self.old key }
         ensures moved { (self.new ≡ self.old) ⊎ LacksEnd self.old key }
     {
-        if self.is_far_below(key) || self.is_far_above(key) || self.lower(key).is_err() {
+        if !self.is_near(key) || self.lower(key).is_err() {
             return false;
         }
         self.raise(key);
         self.ends_below(key)
     }
 
-    /// Moves the gap towards the place of a key that is far from it, by no more rows than make a place near. The rows stay as they are.
+    /// Whether the place of a key is near the gap.
+    #[inline(always)]
+    pub(crate) fn is_near(&self, key: u64) -> bool
+        ensures { result ≡ false → LacksEnd self.now key }
+    {
+        !self.is_far_below(key) && !self.is_far_above(key)
+    }
+
+    /// Moves the gap towards the place of a key that is far from it, if the last ones lay there too, by no more rows than make a place near.
+    /// The rows stay as they are.
     pub(crate) fn approach(&mut self, key: u64)
         ensures { run_rows self.new ≡ run_rows self.old }
     {
-        if self.is_far_below(key) {
+        let above = self.is_far_above(key);
+        self.drift = self.drift.with(above);
+        if self.drift.count < STEADY {
+            return;
+        }
+        if above {
+            let bound = self.high[self.high.len().saturating_sub(NEAR)].0;
+            self.raise(bound);
+        } else if self.is_far_below(key) {
             let bound = self.low[self.low.len().saturating_sub(NEAR)].0;
             // Where memory is refused, it stays where it is.
             let _ = self.lower(bound);
-        } else if self.is_far_above(key) {
-            let bound = self.high[self.high.len().saturating_sub(NEAR)].0;
-            self.raise(bound);
         }
     }
 
@@ -278,7 +325,11 @@ impl<V> GapRun<V> {
         V: Drop,
         ensures { result.items ≡ run_rows self }
     {
-        let GapRun { mut low, mut high } = self;
+        let GapRun {
+            mut low,
+            mut high,
+            ..
+        } = self;
         while let Some(row) = high.pop() {
             low.push_reserved(row);
         }

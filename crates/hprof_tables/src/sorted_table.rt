@@ -130,6 +130,25 @@ impl<V> SortedTable<V> {
         true
     }
 
+    /// Brings the gap of the run to the place of a key, if that is near and there is no row of it, and says whether it is there now.
+    #[inline(always)]
+    fn opens(&mut self, key: u64) -> bool
+        ensures run { run_rows self.new.run ≡ run_rows self.old.run }
+        ensures far { self.new.far ≡ self.old.far }
+        ensures gap { result ≡ true → IsGapAt self.new.run key }
+        ensures none { result ≡ true → Misses self.new.far.entries key }
+        ensures not { result ≡ false → LacksRoom self.old key ⊎ (is_some (row_at key self.old.far.entries) ≡ true) }
+        ensures room { (self.new.run ≡ self.old.run) ⊎ LacksRoom self.old key }
+    {
+        if !self.run.is_near(key) {
+            return false;
+        }
+        if !self.clears(key) {
+            return false;
+        }
+        self.run.takes(key)
+    }
+
     /// Makes a row in the run, where the gap is at the place of its key.
     #[inline(always)]
     fn make_at_gap<T: Visit<V> + Drop>(
@@ -197,10 +216,7 @@ impl<V> SortedTable<V> {
         ensures kept { LeavesUnmade result (T.held room.old) (T.held room.new) }
         ensures same_room { IfOk result (λ answer. IfSome answer (λ _. room.new ≡ room.old)) }
     {
-        if !self.clears(key) {
-            return self.visit_far(key, visitor, room);
-        }
-        if self.run.takes(key) {
+        if self.opens(key) {
             self.make_at_gap(key, visitor, room)?;
             return Ok(None);
         }
