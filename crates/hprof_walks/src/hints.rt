@@ -1,6 +1,6 @@
 //! Hints where a node stands in a list of nodes that ascend. Nothing rests on them but how soon it is found.
 
-ghost use Rattle.std.specs.Prelude.{◌+◌, ◌<◌, ◌≤◌, IfSome, length};
+ghost use Rattle.std.specs.Prelude.{◌≡◌, ◌+◌, ◌^◌, ◌<◌, ◌≤◌, IfOk, IfSome, length};
 
 use std::alloc::{AllocError, Global};
 
@@ -37,7 +37,9 @@ fn shift_for(range: u64, parts: u64) -> u32
 }
 
 // A number, or the greatest that fits.
-fn cut_off(number: usize) -> u32 {
+fn cut_off(number: usize) -> u32
+    ensures { number < 2 ^ 32 → result ≡ number }
+{
     u32::try_from(number).unwrap_or(u32::MAX)
 }
 
@@ -51,6 +53,7 @@ fn firsts_of(
 ) -> Result<Vec<u32>, AllocError>
     requires shift { shift < 64 }
     requires parts { parts ≤ length nodes.now + 1 }
+    ensures { IfOk result (λ firsts. length firsts.items ≤ parts + 1) }
 {
     let mut firsts = Vec::with_capacity(alloc, parts + 1)?;
     for (number, node) in nodes.iter().enumerate() {
