@@ -1,14 +1,16 @@
 //! Hints where a node stands in a list of nodes that ascend. Nothing rests on them but how soon it is found.
 
-ghost use Rattle.std.specs.Prelude.{◌+◌, ◌<◌, ◌≤◌, length};
+ghost use Rattle.std.specs.Prelude.{◌≡◌, ◌+◌, ◌^◌, ◌<◌, ◌≤◌, IfOk, IfSome, length};
 
 use std::alloc::{AllocError, Global};
 
 // There is a part for each so many nodes.
 const NODES_OF_A_PART: usize = 2;
 
-// A part of no more nodes than this is gone over from its first.
-const FEW: usize = 24;
+// So many nodes are looked at, one after another, from so many before the place where the node is expected.
+const FEW: usize = 20;
+
+const BEFORE: usize = 4;
 
 /// The range of the nodes in equal parts, and where each part begins.
 #[derive(Drop)]
@@ -35,7 +37,9 @@ fn shift_for(range: u64, parts: u64) -> u32
 }
 
 // A number, or the greatest that fits.
-fn cut_off(number: usize) -> u32 {
+fn cut_off(number: usize) -> u32
+    ensures { number < 2 ^ 32 → result ≡ number }
+{
     u32::try_from(number).unwrap_or(u32::MAX)
 }
 
@@ -49,6 +53,7 @@ fn firsts_of(
 ) -> Result<Vec<u32>, AllocError>
     requires shift { shift < 64 }
     requires parts { parts ≤ length nodes.now + 1 }
+    ensures { IfOk result (λ firsts. length firsts.items ≤ parts + 1) }
 {
     let mut firsts = Vec::with_capacity(alloc, parts + 1)?;
     for (number, node) in nodes.iter().enumerate() {
@@ -61,22 +66,50 @@ fn firsts_of(
     Ok(firsts)
 }
 
-// The first place in a part of a node that is not below that one; or else where the part ends.
+// Where the node would stand in a part, were its nodes equally far apart.
 #[inline(always)]
-fn place_in(nodes: &[u64], low: usize, high: usize, node: u64) -> usize
+fn expected(low: usize, high: usize, within: u64, shift: u32) -> usize
     requires order { low ≤ high }
+    requires shift { shift < 64 }
+    ensures low { low ≤ result }
+    ensures high { result ≤ high }
+{
+    let on = within.wrapping_mul((high - low) as u64) >> shift;
+    low + (on as usize).min(high - low)
+}
+
+// The first place from one on, in a part, of a node that is not below that one; or else where the part ends. None where it is
+// not among the next few, nor before.
+#[inline(always)]
+fn place_among_few(nodes: &[u64], from: usize, high: usize, node: u64) -> Option<usize>
+    requires order { from ≤ high }
+    requires within { high ≤ length nodes.now }
+    ensures { IfSome result (λ place. place ≤ high) }
+{
+    let end = high.min(from + FEW);
+    for place in from..end {
+        if node <= nodes[place] {
+            return Some(place);
+        }
+    }
+    (end == high).then_some(high)
+}
+
+// The first place in a part of a node that is not below that one; or else where the part ends. It is looked for near a place.
+#[inline(always)]
+fn place_near(nodes: &[u64], low: usize, high: usize, near: usize, node: u64) -> usize
+    requires low { low ≤ near }
+    requires high { near ≤ high }
     requires within { high ≤ length nodes.now }
     ensures { result ≤ high }
 {
-    if FEW < high - low {
-        return low + nodes[low..high].partition_point(|other| *other < node);
-    }
-    for place in low..high {
-        if node <= nodes[place] {
+    let from = low.max(near.saturating_sub(BEFORE));
+    if from == low || nodes[from - 1] < node {
+        if let Some(place) = place_among_few(nodes, from, high, node) {
             return place;
         }
     }
-    high
+    low + nodes[low..high].partition_point(|other| *other < node)
 }
 
 impl Hints {
@@ -110,6 +143,8 @@ impl Hints {
         if high < low || nodes.len() < high {
             return nodes.len();
         }
-        place_in(nodes, low, high, node)
+        let within = beyond - ((part as u64) << self.shift);
+        let near = expected(low, high, within, self.shift);
+        place_near(nodes, low, high, near, node)
     }
 }

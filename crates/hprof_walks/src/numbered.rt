@@ -1,8 +1,8 @@
 //! Nodes and their numbers: the number of a node is its place among all nodes.
 
-ghost use Rattle.std.specs.Prelude.{◌≡◌, ◌-◌, ◌<◌, ◌≤◌, ◌↔◌, ℕ, IfOk, IsTrue, length, slice_index};
+ghost use Rattle.std.specs.Prelude.{◌≡◌, ◌<◌, ◌≤◌, ◌↔◌, IfOk, IsTrue, length, slice_index};
 ghost use Rattle.std.specs.List.Sorted.{IsStrictlyIncreasing};
-ghost use Rattle.hprof_walks.specs.Kept.{number_in};
+ghost use Rattle.hprof_walks.specs.Kept.{IsMissingAt, number_in};
 
 use crate::hints::Hints;
 use std::alloc::{AllocError, Global};
@@ -34,9 +34,8 @@ fn stands_at(nodes: &[u64], place: usize, node: u64) -> bool
 // Whether the node is none, and would stand at that place.
 #[inline(always)]
 fn is_missing_at(nodes: &[u64], place: usize, node: u64) -> bool
-    requires within { place ≤ length nodes.now }
-    ensures before { IsTrue result → 0 < place → slice_index nodes.now (place - 1) < node }
-    ensures behind { IsTrue result → place < length nodes.now → node < slice_index nodes.now place }
+    requires { place ≤ length nodes.now }
+    ensures { IsTrue result ↔ IsMissingAt nodes.now place node }
 {
     (place == 0 || nodes[place - 1] < node) && (place == nodes.len() || node < nodes[place])
 }

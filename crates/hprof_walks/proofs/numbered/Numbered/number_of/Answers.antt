@@ -9,7 +9,6 @@ returns-then-stands_at c =
 
 pub returns-then-is_missing_at : goal.returns-then-is_missing_at
 returns-then-is_missing_at c =
-    let before = rw (c.deref-else-stands_at.ensures.value) at (c.is_missing_at.ensures.before c.if-is_missing_at.true) in
-    let behind = rw (c.deref-else-stands_at.ensures.value) at (c.is_missing_at.ensures.behind c.if-is_missing_at.true) in
+    let missing = rw (c.deref-else-stands_at.ensures.value) at (c.is_missing_at.ensures.0 c.if-is_missing_at.true) in
     let within = rw (c.deref.ensures.value) at c.place-place.ensures in
-    sym (between c.args.self.now.nodes.items c.args.node c.args.self.now.ascend c.place-place.result within before behind)
+    sym (between c.args.self.now.nodes.items c.args.node c.args.self.now.ascend c.place-place.result within missing.0 missing.1)
