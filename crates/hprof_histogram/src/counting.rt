@@ -52,7 +52,9 @@ pub(crate) fn count_objects(alloc: Global, heap: &Heap) -> Result<CountedKinds, 
     // How many objects there are fits a number: that is told with their count.
     let _objects = table_len(heap, Table::Objects);
     let mut tally = CountedKinds::new(alloc);
-    for fact in table_facts(heap, Table::Objects) {
+    let mut facts = table_facts(heap, Table::Objects);
+    let mut fact = Fact::End { thread: 0 };
+    while facts.next_into(&mut fact) {
         if let Some((kind, size)) = object_of(&fact, ids) {
             tally.count(kind, size)?;
         }

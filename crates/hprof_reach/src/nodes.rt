@@ -10,6 +10,7 @@ ghost use Rattle.hprof_reach.specs.Reaching.{IsNode};
 
 use hprof_finding::{ObjectRow, table_facts, table_len, to_class_row, to_object_row};
 use hprof_heap::{Heap, Table};
+use hprof_items::Fact;
 use std::alloc::{AllocError, Global};
 
 /// Puts an identifier behind others, but for 0.
@@ -51,7 +52,9 @@ fn push_objects(heap: &Heap, nodes: &mut Vec<u64>) -> Result<(), AllocError>
     ensures { OnOk result ((node : ℕ) → Contains nodes.new.items node
         ↔ (Contains nodes.old.items node ⊎ IsObjectNode (facts_of heap.now) node)) }
 {
-    for fact in table_facts(heap, Table::Objects) {
+    let mut facts = table_facts(heap, Table::Objects);
+    let mut fact = Fact::End { thread: 0 };
+    while facts.next_into(&mut fact) {
         if let Some(row) = to_object_row(&fact) {
             push_node(nodes, id_of(&row))?;
         }
@@ -59,13 +62,14 @@ fn push_objects(heap: &Heap, nodes: &mut Vec<u64>) -> Result<(), AllocError>
     Ok(())
 }
 
-/// Puts numbers in order, each once. It takes no memory.
-fn sort_once(nodes: &mut Vec<u64>)
-    ensures ascend { IsStrictlyIncreasing nodes.new.items }
-    ensures same { (node : ℕ) → Contains nodes.new.items node ↔ Contains nodes.old.items node }
+/// Puts numbers in order, each once. Those of each table ascend, so that two runs are merged. The error is that memory was refused.
+fn sort_once(nodes: &mut Vec<u64>) -> Result<(), AllocError>
+    ensures ascend { OnOk result (IsStrictlyIncreasing nodes.new.items) }
+    ensures same { OnOk result ((node : ℕ) → Contains nodes.new.items node ↔ Contains nodes.old.items node) }
 {
-    nodes.sort_unstable();
+    nodes.sort()?;
     nodes.dedup();
+    Ok(())
 }
 
 /// All nodes of a heap, in ascending order. The error is that memory was refused.
@@ -77,6 +81,6 @@ pub(crate) fn nodes_of(alloc: Global, heap: &Heap) -> Result<Vec<u64>, AllocErro
     let mut nodes = Vec::with_capacity(alloc, most)?;
     push_classes(heap, &mut nodes)?;
     push_objects(heap, &mut nodes)?;
-    sort_once(&mut nodes);
+    sort_once(&mut nodes)?;
     Ok(nodes)
 }

@@ -10,7 +10,6 @@ use Rattle.hprof_values.specs.declared.root.Root.{Root}
 use Rattle.hprof_items.specs.FactValue.{FactValue, Rooted}
 use Rattle.hprof_items.specs.Spelling.{Fits}
 use Rattle.hprof_rows.specs.declared.table.Table.{Table}
-use Rattle.hprof_rows.specs.declared.table.Table.TheVariants as tables
 use Rattle.hprof_rows.specs.SubFacts.{is_record_fact, is_sub_fact, sub_facts}
 use Rattle.hprof_rows.specs.Facts.{Has, AllFit}
 use Rattle.hprof_rows.specs.Tables.{facts_of_table, number_of_table, joined}

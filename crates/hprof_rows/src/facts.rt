@@ -2,7 +2,7 @@
 
 ghost use Rattle.hprof_rows.specs.TableRows.{AreReadable, AreReadable-prop};
 
-use crate::table_rows::{TableRows, next_fact};
+use crate::table_rows::{TableRows, next_fact, next_fact_into};
 use hprof_items::Fact;
 use hprof_values::IdSize;
 
@@ -16,7 +16,8 @@ pub struct Facts<'a> {
 }
 
 impl<'a> Facts<'a> {
-    ghost use Rattle.std.specs.Prelude.{◌≡◌};
+    ghost use Rattle.std.specs.Prelude.{◌≡◌, ◌∷◌, [], true, false};
+    ghost use Rattle.hprof_items.specs.FactValue.{ListsHave, value_of};
     ghost use Rattle.hprof_rows.specs.TableRows.{facts_in_rows};
     ghost use Rattle.hprof_rows.specs.FactsLeft.{facts_left, facts_ids};
 
@@ -27,6 +28,18 @@ impl<'a> Facts<'a> {
         ensures ids { facts_ids result ≡ ids }
     {
         Facts { ids, rows }
+    }
+
+    /// Puts the first of the facts in the place of another, and says whether there was one. So no fact is moved from call to call, as
+    /// where it is taken by `next`.
+    #[inline(always)]
+    pub fn next_into(&mut self, fact: &mut Fact<'a>) -> bool
+        ensures some { result ≡ true → facts_left self.old ≡ value_of fact.new ∷ facts_left self.new }
+        ensures none { result ≡ false → facts_left self.old ≡ [] }
+        ensures lists { result ≡ true → ListsHave (facts_ids self.old) fact.new }
+        ensures ids { facts_ids self.new ≡ facts_ids self.old }
+    {
+        next_fact_into(&mut self.rows, self.ids, fact)
     }
 }
 

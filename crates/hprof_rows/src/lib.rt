@@ -17,7 +17,7 @@ pub use facts::Facts;
 pub use key::Key;
 pub use number_rows::{FrameRow, KeyRow, LoadRow, StartRow};
 pub use root_set::RootSet;
-pub use spelled::spelled_fact;
+pub use spelled::{spelled_fact, spelled_fact_into};
 pub use sub_row::SubRow;
 pub use sub_rows::SubRows;
 pub use table::Table;

@@ -7,17 +7,28 @@ ghost use Rattle.hprof_rows.specs.Spelled.{Spells};
 use hprof_items::{Fact, read_sub_into};
 use hprof_values::IdSize;
 
+/// Puts the fact that the bytes of a sub-record spell in the place of another.
+#[inline(always)]
+pub fn spelled_fact_into<'a>(bytes: &'a [u8], ids: IdSize, fact: &mut Fact<'a>)
+    requires { (value : FactValue) × Spells ids value bytes.now }
+    ensures fact { (value : FactValue) → Spells ids value bytes.now → value_of fact.new ≡ value }
+    ensures lists { ListsHave ids fact.new }
+{
+    let len = bytes.len() as u32;
+    match read_sub_into(bytes, len, len, ids, fact) {
+        Ok(_) => {}
+        Err(_) => unreachable!(),
+    }
+}
+
 /// The fact that the bytes of a sub-record spell.
 #[inline(always)]
 pub fn spelled_fact(bytes: &[u8], ids: IdSize) -> Fact<'_>
-    requires { (fact : FactValue) × Spells ids fact bytes.now }
-    ensures fact { (fact : FactValue) → Spells ids fact bytes.now → value_of result ≡ fact }
+    requires { (value : FactValue) × Spells ids value bytes.now }
+    ensures fact { (value : FactValue) → Spells ids value bytes.now → value_of result ≡ value }
     ensures lists { ListsHave ids result }
 {
-    let len = bytes.len() as u32;
     let mut fact = Fact::End { thread: 0 };
-    match read_sub_into(bytes, len, len, ids, &mut fact) {
-        Ok(_) => fact,
-        Err(_) => unreachable!(),
-    }
+    spelled_fact_into(bytes, ids, &mut fact);
+    fact
 }

@@ -1,6 +1,6 @@
 //! The rows of one table, whichever it is, and the facts that are read from them.
 
-ghost use Rattle.std.specs.Prelude.{◌≡◌, ◌<◌, IfSome};
+ghost use Rattle.std.specs.Prelude.{◌≡◌, ◌<◌, ◌∷◌, [], true, false, IfSome};
 ghost use Rattle.std.specs.Iterator.{YieldsFirstBy};
 ghost use Rattle.hprof_values.specs.declared.ids.IdSize.{IdSize};
 ghost use Rattle.hprof_items.specs.FactValue.{ListsHave, value_of};
@@ -11,7 +11,7 @@ ghost use Rattle.hprof_tables.specs.BytesTable.{byte_rows_left};
 ghost use Rattle.hprof_rows.specs.TableRows.{AreSerials, AreWhole, AreSpelled, AreReadable, facts_in_rows};
 
 use crate::number_rows::{FrameRow, KeyRow, LoadRow, StartRow};
-use crate::spelled::spelled_fact;
+use crate::spelled::{spelled_fact, spelled_fact_into};
 use crate::trace_row::TraceRow;
 use hprof_items::Fact;
 use hprof_tables::{BytesRows, Rows};
@@ -63,6 +63,37 @@ pub(crate) fn next_fact<'a>(rows: &mut TableRows<'a>, ids: IdSize) -> Option<Fac
         TableRows::Classes(rows) => next_spelled(rows, ids),
         TableRows::Objects(rows) => next_spelled(rows, ids),
     }
+}
+
+/// Puts the fact of the first row in the place of another, and says whether there is one. The rows behind it are left.
+#[inline(always)]
+pub(crate) fn next_fact_into<'a>(rows: &mut TableRows<'a>, ids: IdSize, fact: &mut Fact<'a>) -> bool
+    requires { AreReadable ids rows.old }
+    ensures some { result ≡ true → facts_in_rows ids rows.old ≡ value_of fact.new ∷ facts_in_rows ids rows.new }
+    ensures none { result ≡ false → facts_in_rows ids rows.old ≡ [] }
+    ensures lists { result ≡ true → ListsHave ids fact.new }
+    ensures kept { AreReadable ids rows.new }
+{
+    match rows {
+        TableRows::Classes(rows) => next_spelled_into(rows, ids, fact),
+        TableRows::Objects(rows) => next_spelled_into(rows, ids, fact),
+        others => put_next(others, ids, fact),
+    }
+}
+
+/// The same, of a fact that is small.
+fn put_next<'a>(rows: &mut TableRows<'a>, ids: IdSize, fact: &mut Fact<'a>) -> bool
+    requires { AreReadable ids rows.old }
+    ensures some { result ≡ true → facts_in_rows ids rows.old ≡ value_of fact.new ∷ facts_in_rows ids rows.new }
+    ensures none { result ≡ false → facts_in_rows ids rows.old ≡ [] }
+    ensures lists { result ≡ true → ListsHave ids fact.new }
+    ensures kept { AreReadable ids rows.new }
+{
+    let Some(first) = next_fact(rows, ids) else {
+        return false;
+    };
+    *fact = first;
+    true
 }
 
 /// The first name.
@@ -150,6 +181,22 @@ fn next_root<'a>(roots: &mut btree_set::Iter<'a, Root>) -> Option<Fact<'a>>
 {
     let root = roots.next()?;
     Some(Fact::Root(*root))
+}
+
+/// Puts the first class or object in the place of another fact.
+#[inline(always)]
+fn next_spelled_into<'a>(rows: &mut BytesRows<'a>, ids: IdSize, fact: &mut Fact<'a>) -> bool
+    requires { AreSpelled ids (byte_rows_left rows.old) }
+    ensures some { result ≡ true → spelled_facts ids (byte_rows_left rows.old) ≡ value_of fact.new ∷ spelled_facts ids (byte_rows_left rows.new) }
+    ensures none { result ≡ false → spelled_facts ids (byte_rows_left rows.old) ≡ [] }
+    ensures lists { result ≡ true → ListsHave ids fact.new }
+    ensures kept { AreSpelled ids (byte_rows_left rows.new) }
+{
+    let Some((_id, bytes)) = rows.next() else {
+        return false;
+    };
+    spelled_fact_into(bytes, ids, fact);
+    true
 }
 
 /// The first class or object.

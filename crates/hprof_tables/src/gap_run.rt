@@ -174,9 +174,19 @@ impl<V> GapRun<V> {
         }
     }
 
+    /// Whether the gap is at the place of a key, of which there is no row.
+    #[inline(always)]
+    pub(crate) fn is_gap_at(&self, key: u64) -> bool
+        ensures { result ≡ true → IsGapAt self.now key }
+    {
+        if self.reaches_below(key) {
+            return false;
+        }
+        self.ends_below(key)
+    }
+
     /// Brings the gap to the place of a key, if that is near and there is no row of it, and says whether it is there now. Where memory
     /// is refused, it is not. The rows stay as they are.
-    #[inline(always)]
     pub(crate) fn takes(&mut self, key: u64) -> bool
         ensures same { run_rows self.new ≡ run_rows self.old }
         ensures gap { result ≡ true → IsGapAt self.new key }

@@ -120,9 +120,17 @@ impl<V> SortedTable<V> {
         ensures run { self.new.run ≡ self.old.run }
         ensures far { self.new.far ≡ self.old.far }
     {
-        if self.clear.has(key) {
-            return true;
-        }
+        self.clear.has(key) || self.clears_round(key)
+    }
+
+    /// Whether the map has no row under a key, which is looked up.
+    #[inline(never)]
+    fn clears_round(&mut self, key: u64) -> bool
+        ensures none { result ≡ true → Misses self.new.far.entries key }
+        ensures some { result ≡ false → is_some (row_at key self.new.far.entries) ≡ true }
+        ensures run { self.new.run ≡ self.old.run }
+        ensures far { self.new.far ≡ self.old.far }
+    {
         if self.far.contains_key(&key) {
             return false;
         }
@@ -140,13 +148,10 @@ impl<V> SortedTable<V> {
         ensures not { result ≡ false → LacksRoom self.old key ⊎ (is_some (row_at key self.old.far.entries) ≡ true) }
         ensures room { (self.new.run ≡ self.old.run) ⊎ LacksRoom self.old key }
     {
-        if !self.run.is_near(key) {
-            return false;
+        if self.run.is_gap_at(key) {
+            return self.clears(key);
         }
-        if !self.clears(key) {
-            return false;
-        }
-        self.run.takes(key)
+        self.run.is_near(key) && self.clears(key) && self.run.takes(key)
     }
 
     /// Makes a row in the run, where the gap is at the place of its key.

@@ -3,3 +3,4 @@ pub mod Kept
 pub mod Numbers
 pub mod Finds
 pub mod Search
+pub mod Numbered

@@ -14,4 +14,5 @@ mod trail;
 
 pub use graph::Graph;
 pub use kept_search::Search;
+pub use numbered::Numbered;
 pub use searching::search;

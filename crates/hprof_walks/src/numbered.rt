@@ -7,9 +7,9 @@ ghost use Rattle.hprof_walks.specs.Kept.{IsMissingAt, number_in};
 use crate::hints::Hints;
 use std::alloc::{AllocError, Global};
 
-/// Nodes in ascending order, and hints where they stand.
+/// Nodes in ascending order, and hints where they stand, so that the number of a node is mostly found without a search.
 #[derive(Drop)]
-pub(crate) struct Numbered {
+pub struct Numbered {
     pub(crate) nodes: Vec<u64>,
     hints: Hints,
     ghost ascend: { IsStrictlyIncreasing nodes.items },
@@ -41,10 +41,12 @@ fn is_missing_at(nodes: &[u64], place: usize, node: u64) -> bool
 }
 
 impl Numbered {
+    ghost use Rattle.hprof_walks.specs.Numbered.{nodes_in};
+
     /// Nodes in ascending order, by their numbers. The error is that memory was refused.
-    pub(crate) fn new(alloc: Global, nodes: Vec<u64>) -> Result<Numbered, AllocError>
+    pub fn new(alloc: Global, nodes: Vec<u64>) -> Result<Numbered, AllocError>
         requires { IsStrictlyIncreasing nodes.items }
-        ensures { IfOk result (λ numbered. numbered.nodes.items ≡ nodes.items) }
+        ensures { IfOk result (λ numbered. nodes_in numbered ≡ nodes.items) }
     {
         let hints = Hints::new(alloc, &nodes)?;
         Ok(Numbered { nodes, hints })
@@ -52,8 +54,8 @@ impl Numbered {
 
     /// The number of a node; none of what is no node. Where the hints do not lead there, it is found by halves.
     #[inline(always)]
-    pub(crate) fn number_of(&self, node: u64) -> Option<usize>
-        ensures { result ≡ number_in self.now.nodes.items node }
+    pub fn number_of(&self, node: u64) -> Option<usize>
+        ensures { result ≡ number_in (nodes_in self.now) node }
     {
         let place = self.hints.place(&self.nodes, node);
         if stands_at(&self.nodes, place, node) {

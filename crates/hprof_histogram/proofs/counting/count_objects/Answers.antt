@@ -13,29 +13,29 @@ pub count-requires : goal.count-requires
 count-requires c =
     let ids = size_of c.args.heap.now in
     let facts = facts_of c.args.heap.now in
-    let fact = value_of c.in-Some.fact in
+    let fact = value_of c.next_into.new.fact in
     let few : c.table_len-objects.result < 2 ^ 64 = omega arith in
-    room_for_one ids (facts_of_table tables.Objects facts) (facts_left c.next.new.self) c.loop-fact.tally fact c.in-Some-object_of.kind
-    c.in-Some-object_of.size (sym c.in-Some-object_of.ensures.kind)
-    (c.in-Some-object_of.ensures.size ∙ ap (λ size. size_of_object size fact) c.id_size-ids.ensures.value)
+    room_for_one ids (facts_of_table tables.Objects facts) (facts_left c.next_into.new.self) c.loop-facts.tally fact c.in-Some.kind
+    c.in-Some.size (sym c.in-Some.ensures.kind)
+    (c.in-Some.ensures.size ∙ ap (λ size. size_of_object size fact) c.id_size-ids.ensures.value)
     (room_of_all ids facts c.table_len-objects.result c.id_size-ids.ensures.fit c.table_len-objects.ensures few)
-    (subst (IsTallyTo ids (facts_of_table tables.Objects facts) c.loop-fact.tally) c.in-Some.ensures.steps.0 c.loop-fact.invariant)
+    (subst (IsTallyTo ids (facts_of_table tables.Objects facts) c.loop-facts.tally) (c.next_into.ensures.some c.loop-facts-test.true) c.loop-facts.invariant)
 
-pub loop-fact-preserved-in-Continue-1 : goal.loop-fact-preserved-in-Continue-1
-loop-fact-preserved-in-Continue-1 c =
+pub loop-facts-preserved-in-Continue-1 : goal.loop-facts-preserved-in-Continue-1
+loop-facts-preserved-in-Continue-1 c =
     let ids = size_of c.args.heap.now in
     let all = facts_of_table tables.Objects (facts_of c.args.heap.now) in
-    let fact = value_of c.in-Some.fact in
-    tally_counts ids all (facts_left c.next.new.self) c.loop-fact.tally c.count.new.self fact c.in-Some-object_of.kind
-    c.in-Some-object_of.size (sym c.in-Some-object_of.ensures.kind)
-    (c.in-Some-object_of.ensures.size ∙ ap (λ size. size_of_object size fact) c.id_size-ids.ensures.value)
+    let fact = value_of c.next_into.new.fact in
+    tally_counts ids all (facts_left c.next_into.new.self) c.loop-facts.tally c.count.new.self fact c.in-Some.kind
+    c.in-Some.size (sym c.in-Some.ensures.kind)
+    (c.in-Some.ensures.size ∙ ap (λ size. size_of_object size fact) c.id_size-ids.ensures.value)
     c.in_ok-count.ensures
-    (subst (IsTallyTo ids all c.loop-fact.tally) c.in-Some.ensures.steps.0 c.loop-fact.invariant)
+    (subst (IsTallyTo ids all c.loop-facts.tally) (c.next_into.ensures.some c.loop-facts-test.true) c.loop-facts.invariant)
 
 pub returns : goal.returns
 returns c =
     let ids = size_of c.args.heap.now in
     let facts = facts_of c.args.heap.now in
-    tally_of_all ids facts c.loop-fact.tally
-    (tally_ends ids (facts_of_table tables.Objects facts) (facts_left c.loop-fact.fact-iterator) c.loop-fact.tally
-    c.in-None.ensures.steps.0.0 c.loop-fact.invariant)
+    tally_of_all ids facts c.loop-facts.tally
+    (tally_ends ids (facts_of_table tables.Objects facts) (facts_left c.loop-facts.facts) c.loop-facts.tally
+    (c.next_into.ensures.none c.loop-facts-test.false) c.loop-facts.invariant)

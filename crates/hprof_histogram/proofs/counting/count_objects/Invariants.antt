@@ -1,3 +1,4 @@
+use Rattle.std.proofs.Common.{length}
 use Rattle.hprof_rows.specs.declared.table.Table.TheVariants as tables
 use Rattle.hprof_rows.specs.FactsLeft.{facts_left}
 use Rattle.hprof_rows.specs.Tables.{facts_of_table}
@@ -5,5 +6,8 @@ use Rattle.hprof_finding.specs.HeapFacts.{facts_of, size_of}
 use Rattle.hprof_histogram.proofs.FactCounts.{IsTallyTo}
 use Rattle.hprof_histogram.proofs.counting.count_objects.Given as goal
 
-abbrev pub invariant-loop-fact : goal.invariant-loop-fact
-invariant-loop-fact l = IsTallyTo (size_of l.heap) (facts_of_table tables.Objects (facts_of l.heap)) l.tally (facts_left l.fact-iterator)
+abbrev pub invariant-loop-facts : goal.invariant-loop-facts
+invariant-loop-facts l = IsTallyTo (size_of l.heap) (facts_of_table tables.Objects (facts_of l.heap)) l.tally (facts_left l.facts)
+
+abbrev pub decreases-loop-facts : goal.decreases-loop-facts
+decreases-loop-facts l = length (facts_left l.facts)

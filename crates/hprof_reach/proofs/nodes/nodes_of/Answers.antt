@@ -6,4 +6,4 @@ pub returns-clause-all : goal.returns-clause-all
 returns-clause-all c =
     all_nodes (facts_of c.args.heap.now) c.in_ok-nodes.nodes.items c.push_classes.new.nodes.items c.push_objects.new.nodes.items
     c.sort_once.new.nodes.items c.in_ok-nodes.ensures.items c.in_ok-push_classes.ensures c.in_ok-push_objects.ensures
-    c.sort_once.ensures.same
+    c.in_ok-sort_once.ensures.same

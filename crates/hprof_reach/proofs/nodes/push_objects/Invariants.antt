@@ -1,3 +1,4 @@
+use Rattle.std.proofs.Common.{length}
 use Rattle.hprof_rows.specs.declared.table.Table.TheVariants as tables
 use Rattle.hprof_rows.specs.FactsLeft.{facts_left}
 use Rattle.hprof_rows.specs.Tables.{facts_of_table}
@@ -5,6 +6,9 @@ use Rattle.hprof_finding.specs.HeapFacts.{facts_of}
 use Rattle.hprof_reach.proofs.TableNodes.{GivesObject, GoneOver}
 use Rattle.hprof_reach.proofs.nodes.push_objects.Given as goal
 
-abbrev pub invariant-loop-fact : goal.invariant-loop-fact
-invariant-loop-fact l = GoneOver GivesObject l.fn.nodes.items l.nodes.items (facts_of_table tables.Objects (facts_of l.heap))
-    (facts_left l.fact-iterator)
+abbrev pub invariant-loop-facts : goal.invariant-loop-facts
+invariant-loop-facts l = GoneOver GivesObject l.fn.nodes.items l.nodes.items (facts_of_table tables.Objects (facts_of l.heap))
+    (facts_left l.facts)
+
+abbrev pub decreases-loop-facts : goal.decreases-loop-facts
+decreases-loop-facts l = length (facts_left l.facts)

@@ -7,12 +7,12 @@ use Rattle.hprof_reach.proofs.nodes.sort_once.Goals as goal
 pub returns-clause-ascend : goal.returns-clause-ascend
 returns-clause-ascend c =
     let is = dedup_is _ _ _ c.dedup.ensures.filtered in
-    rw is (IsStrictlyIncreasing-dedup _ c.sort_unstable.ensures.sorted)
+    rw is (IsStrictlyIncreasing-dedup _ c.in_ok-sort.ensures.sorted)
 
 pub returns-clause-same : goal.returns-clause-same
 returns-clause-same c =
     let is = dedup_is _ _ _ c.dedup.ensures.filtered in
-    let moved = c.sort_unstable.ensures.permutation in
+    let moved = c.sort.ensures.permutation in
     λ node. (
       λ has. Contains-permutation _ _ node (IsPermutation-sym _ _ moved) (Contains-from_dedup _ _ node (rw is at has)),
       λ has. rw is (Contains-dedup_nat _ node (Contains-permutation _ _ node moved has)),
