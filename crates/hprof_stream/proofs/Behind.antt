@@ -26,7 +26,6 @@ bare_after progress kinds.Fact fact n = refl
 bare_after progress (kinds.Dump len) fact n = refl
 bare_after progress kinds.End fact n = refl
 bare_after progress kinds.Skipped fact n = refl
-bare_after progress kinds.Sub fact n = refl
 
 pub bare_next : (progress : Progress) (item : Item) (fact : Fact) (n : ℕ) → IsNext progress (with_fact item fact) n
     → IsNext progress (bare item) n
@@ -35,7 +34,6 @@ bare_next progress kinds.Fact fact n is = is
 bare_next progress (kinds.Dump len) fact n is = is
 bare_next progress kinds.End fact n is = is
 bare_next progress kinds.Skipped fact n is = is
-bare_next progress kinds.Sub fact n is = is
 
 pub bare_told : (header : Option Header) (item : Item) (fact : Fact) → told_by header (bare item) ≡ told_by header (with_fact item fact)
 bare_told header (kinds.Header other) fact = refl
@@ -43,7 +41,6 @@ bare_told header kinds.Fact fact = refl
 bare_told header (kinds.Dump len) fact = refl
 bare_told header kinds.End fact = refl
 bare_told header kinds.Skipped fact = refl
-bare_told header kinds.Sub fact = refl
 
 -- ---- behind an item
 

@@ -14,6 +14,7 @@ pub mod ReadItems
 pub mod Walks
 pub mod Stepping
 pub mod Holding
+pub mod SubSteps
 pub mod HeldOn
 pub mod Faults
 pub mod Grammar

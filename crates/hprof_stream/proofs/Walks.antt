@@ -24,7 +24,7 @@ use Rattle.hprof_stream.specs.declared.part_fault.PartFault.TheVariants as fault
 use Rattle.hprof_stream.specs.declared.sink.SinkFault.{SinkFault}
 use Rattle.hprof_stream.specs.declared.progress.Progress.{Progress}
 use Rattle.hprof_stream.specs.Part.{Stated, all_bytes, all_facts, is_end}
-use Rattle.hprof_stream.specs.Item.{Place, Within, place_in, place_behind, header_before, IsItem, is_header, is_fact, is_dump_end}
+use Rattle.hprof_stream.specs.Item.{Place, Between, Within, place_behind, header_before, IsItem, is_header, is_fact, is_dump_end}
 use Rattle.hprof_stream.specs.Item.{is_dump, is_sub, is_skipped, none, more, item_at}
 use Rattle.hprof_stream.specs.ItemStep.{facts_stated, place_after, Stands, is_end_item, IsOfPlace, ItemLists}
 use Rattle.hprof_stream.specs.Progress.{place_of, advanced, IsCounted, IsNext}
@@ -202,19 +202,6 @@ abbrev pub IsReadAt : ℕ → Progress → List ℕ → ItemValue → ℕ → Ty
 IsReadAt longest from bytes item n = item_at longest (place_of from) bytes
     ≡ Whole (record { next = place_after (place_of from) item n; facts = facts_stated item }) n
 
--- it may be handed to the sink
-fact_fits : (longest : ℕ) (place next : Place) (header : Header) (bytes given : List ℕ) (fact : Fact) (begun : Option IdSize)
-    → header_before place ≡ Some header
-    → IsItem longest place (record { bytes = bytes; facts = value_of fact ∷ [] }) next → ListsHave header.ids fact
-    → given ≡ dump_bytes header.ids (value_of fact)
-    → begun ≡ Some header.ids → FitsBegun begun (value_of fact) × ListsHaveBegun begun fact × SpellsBegun begun (value_of fact) given
-fact_fits longest place next header bytes given fact begun before is lists spelled with =
-    subst (λ (b : Option IdSize). FitsBegun b (value_of fact) × ListsHaveBegun b fact × SpellsBegun b (value_of fact) given) (sym with) (
-      fits_of longest place (record { bytes = bytes; facts = value_of fact ∷ [] }) next (value_of fact) header is refl before,
-      lists,
-      spelled,
-    )
-
 -- no sub-record states the fact of a record
 not_dumped : (ids : IdSize) (fact : FactValue) (tag : RecordTag) → record_of fact ≡ Some tag → [] ≡ dump_bytes ids fact
 not_dumped ids (Name id text) tag is = refl
@@ -230,52 +217,42 @@ not_dumped ids (Instance id trace class bytes) tag is = absurd cc
 not_dumped ids (ObjArray id trace class elements) tag is = absurd cc
 not_dumped ids (PrimArray id trace elem bytes) tag is = absurd cc
 
--- the bytes of the sub-record that states a fact: those of its item within a heap dump, and none between records
-abbrev dumped_at : ℕ → List ℕ → List ℕ
-dumped_at zero bytes = []
-dumped_at (suc room) bytes = bytes
-
-dumped_item : (longest : ℕ) (from : Place) (one : Stated) (to : Place) (fact : FactValue) (header : Header) (room : ℕ)
-    → IsItem longest from one to → one.facts ≡ fact ∷ []
-    → from ≡ place_in header room → dumped_at room one.bytes ≡ dump_bytes header.ids fact
-dumped_item longest from one to fact header zero (is_header fits spelled empty) facts e = absurd cc
-dumped_item longest from one to fact header zero (is_fact {header = h} {fact = f} states short stated) facts e =
+-- so a record comes without the bytes of one
+record_spells : (longest : ℕ) (from : Place) (one : Stated) (to : Place) (fact : FactValue) (header : Header) → IsItem longest from one to
+    → one.facts ≡ fact ∷ [] → from ≡ Between header → [] ≡ dump_bytes header.ids fact
+record_spells longest from one to fact header (is_header fits spelled empty) facts e = absurd cc
+record_spells longest from one to fact header (is_fact {header = h} {fact = f} states short stated) facts e =
     let this : f ≡ fact = cc in
     subst (λ (x : FactValue). [] ≡ dump_bytes header.ids x) this (not_dumped header.ids f states.tag states.is)
-dumped_item longest from one to fact header zero (is_dump_end ends empty) facts e = absurd cc
-dumped_item longest from one to fact header zero (is_dump dump time len spelled empty) facts e = absurd cc
-dumped_item longest from one to fact header zero (is_sub sub spelled in_room in_longest stated) facts e = absurd cc
-dumped_item longest from one to fact header zero (is_skipped skipped empty) facts e = absurd cc
-dumped_item longest from one to fact header (suc room) (is_header fits spelled empty) facts e = absurd cc
-dumped_item longest from one to fact header (suc room) (is_fact states short stated) facts e = absurd cc
-dumped_item longest from one to fact header (suc room) (is_dump_end ends empty) facts e = absurd cc
-dumped_item longest from one to fact header (suc room) (is_dump dump time len spelled empty) facts e = absurd cc
-dumped_item longest from one to fact header (suc room) (is_sub {header = h} {fact = f} sub spelled in_room in_longest stated) facts e =
-    let same : h ≡ header = cc in
-    let this : f ≡ fact = cc in
-    spelled ∙ ap (λ (x : Header). dump_bytes x.ids f) same ∙ ap (dump_bytes header.ids) this
-dumped_item longest from one to fact header (suc room) (is_skipped skipped empty) facts e = absurd cc
+record_spells longest from one to fact header (is_dump_end ends empty) facts e = absurd cc
+record_spells longest from one to fact header (is_dump dump time len spelled empty) facts e = absurd cc
+record_spells longest from one to fact header (is_sub sub spelled in_room in_longest stated) facts e = absurd cc
+record_spells longest from one to fact header (is_skipped skipped empty) facts e = absurd cc
+
+-- it may be handed to the sink
+fact_fits : (longest : ℕ) (next : Place) (header : Header) (bytes : List ℕ) (fact : Fact) (begun : Option IdSize)
+    → IsItem longest (Between header) (record { bytes = bytes; facts = value_of fact ∷ [] }) next → ListsHave header.ids fact
+    → begun ≡ Some header.ids → FitsBegun begun (value_of fact) × ListsHaveBegun begun fact × SpellsBegun begun (value_of fact) []
+fact_fits longest next header bytes fact begun is lists with =
+    let one : Stated = record { bytes = bytes; facts = value_of fact ∷ [] } in
+    subst (λ (b : Option IdSize). FitsBegun b (value_of fact) × ListsHaveBegun b fact × SpellsBegun b (value_of fact) []) (sym with) (
+      fits_of longest (Between header) one next (value_of fact) header is refl refl,
+      lists,
+      record_spells longest (Between header) one next (value_of fact) header is refl refl,
+    )
 
 fit_at : (longest : ℕ) (header : Option Header) (room : ℕ) (bytes : List ℕ) (next : Place) (item : ItemValue) (begun : Option IdSize)
     → IsItem longest (place_behind header room) (record { bytes = bytes; facts = facts_stated item }) next
     → Stands (place_behind header room) item → ItemLists header item
-    → IsBegun header begun → GivesFit begun item bytes
+    → IsBegun header begun → GivesFit begun item
 fit_at longest header room bytes next (items.Header h) begun is stands lists with = tt
 fit_at longest None room bytes next (items.Fact fact) begun is stands lists with = absurd stands
-fit_at longest (Some h) zero bytes next (items.Fact fact) begun is stands lists with =
-    let spelled = dumped_item longest (place_in h 0) (record { bytes = bytes; facts = value_of fact ∷ [] }) next (value_of fact) h 0 is
-    refl refl in
-    fact_fits longest (place_in h 0) next h bytes [] fact begun refl is lists spelled with
+fit_at longest (Some h) zero bytes next (items.Fact fact) begun is stands lists with = fact_fits longest next h bytes fact begun is lists with
 fit_at longest (Some h) (suc room) bytes next (items.Fact fact) begun is stands lists with = absurd stands
 fit_at longest header room bytes next (items.Dump len) begun is stands lists with = tt
 fit_at longest header room bytes next items.End begun is stands lists with = tt
 fit_at longest header room bytes next items.Skipped begun is stands lists with = tt
-fit_at longest None room bytes next (items.Sub fact) begun is stands lists with = absurd stands
-fit_at longest (Some h) zero bytes next (items.Sub fact) begun is stands lists with = absurd stands
-fit_at longest (Some h) (suc room) bytes next (items.Sub fact) begun is stands lists with =
-    let spelled = dumped_item longest (place_in h (suc room)) (record { bytes = bytes; facts = value_of fact ∷ [] }) next
-    (value_of fact) h (suc room) is refl refl in
-    fact_fits longest (place_in h (suc room)) next h bytes bytes fact begun refl is lists spelled with
+fit_at longest header room bytes next (items.Sub fact) begun is stands lists with = tt
 
 -- it is there
 pub read_within : (longest : ℕ) (from : Progress) (bytes : List ℕ) (item : ItemValue) (n : ℕ) → IsBytes bytes → from.room ≤ longest_body
@@ -286,7 +263,7 @@ read_within longest from bytes item n are small e =
 
 pub given_fits : (longest : ℕ) (from : Progress) (bytes : List ℕ) (item : ItemValue) (n : ℕ) (begun : Option IdSize) → IsBytes bytes
     → from.room ≤ longest_body → IsReadAt longest from bytes item n
-    → IsOfPlace (place_of from) bytes item → ItemLists from.header item → IsBegun from.header begun → GivesFit begun item (take n bytes)
+    → IsOfPlace (place_of from) bytes item → ItemLists from.header item → IsBegun from.header begun → GivesFit begun item
 given_fits longest from bytes item n begun are small e of lists with =
     let read = item_found longest (place_of from) bytes (record { next = place_after (place_of from) item n; facts = facts_stated item }) n
     (room_behind from.header from.room small) are e in

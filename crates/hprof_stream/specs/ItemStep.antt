@@ -52,10 +52,9 @@ IfRead _ holds = ⊤
 abbrev pub IsOfPlace : Place → List ℕ → ItemValue → Type 0
 IsOfPlace place bytes item = Stands place item × (is_end_item item ≡ (slice_index bytes 0 == 0x2c))
 
--- its lists have identifiers of the header's size
+-- the lists of a record's fact have identifiers of the header's size
 abbrev pub ItemLists : Option Header → ItemValue → Type 0
 ItemLists (Some header) (items.Fact fact) = ListsHave header.ids fact
-ItemLists (Some header) (items.Sub fact) = ListsHave header.ids fact
 ItemLists _ _ = ⊤
 
 -- a record with a fact

@@ -29,7 +29,6 @@ with_fact kinds.Fact fact = Fact fact
 with_fact (kinds.Dump len) fact = Dump len
 with_fact kinds.End fact = End
 with_fact kinds.Skipped fact = Skipped
-with_fact kinds.Sub fact = Sub fact
 
 -- an item apart from the fact that it states
 abbrev pub bare : Item → ItemValue

@@ -1,5 +1,6 @@
 -- How far into a part reading has come.
-use Rattle.std.specs.Prelude.{ℕ, ◌+◌, ◌-◌, ◌^◌, ◌<◌, ◌≤◌, true, false, Some, None}
+use Rattle.std.specs.Prelude.{◌≡◌, ℕ, ◌+◌, ◌-◌, ◌^◌, ◌<◌, ◌≤◌, true, false, Some, None}
+use Rattle.hprof_items.specs.declared.header.Header.{Header}
 use Rattle.hprof_stream.specs.declared.limits.Limits.{Limits}
 use Rattle.hprof_stream.specs.ItemValue.{ItemValue}
 use Rattle.hprof_stream.specs.ItemValue as items
@@ -13,6 +14,10 @@ start_of limits = record { limits = limits; header = None; room = 0; at = 0; rec
 -- the place of the next item
 abbrev pub place_of : Progress → Place
 place_of progress = place_behind progress.header progress.room
+
+-- the next item stands within no heap dump
+abbrev pub IsOutside : Progress → Type 0
+IsOutside progress = (header : Header) → progress.header ≡ Some header → progress.room ≡ 0
 
 -- there is room for so many more bytes; each record, and each fact, has a byte
 pub record IsCounted (progress : Progress) (more : ℕ) : Type 0 where

@@ -135,12 +135,11 @@ abbrev pub IsBegun : Option Header → Option IdSize → Type 0
 IsBegun None begun = ⊤
 IsBegun (Some header) begun = begun ≡ Some header.ids
 
--- what the sink is to be given fits the size that was begun last, and so do its lists, and a sub-record has these bytes
-abbrev pub GivesFit : Option IdSize → ItemValue → List ℕ → Type 0
-GivesFit begun (items.Fact fact) bytes = FitsBegun begun (value_of fact) × ListsHaveBegun begun fact × SpellsBegun begun (value_of fact) []
-GivesFit begun (items.Sub fact) bytes = FitsBegun begun (value_of fact) × ListsHaveBegun begun fact
-    × SpellsBegun begun (value_of fact) bytes
-GivesFit begun item bytes = ⊤
+-- the fact of a record that the sink is to be given fits the size that was begun last, and so do its lists, and no sub-record
+-- states it
+abbrev pub GivesFit : Option IdSize → ItemValue → Type 0
+GivesFit begun (items.Fact fact) = FitsBegun begun (value_of fact) × ListsHaveBegun begun fact × SpellsBegun begun (value_of fact) []
+GivesFit begun item = ⊤
 
 -- the header that was read once this item was
 abbrev pub told_by : Option Header → ItemValue → Option Header

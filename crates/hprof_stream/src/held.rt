@@ -17,7 +17,7 @@ use crate::part_fault::PartFault;
 use crate::progress::Progress;
 use crate::rest::{Passing, Rest, pass_over};
 use crate::sink::Sink;
-use hprof_items::{HEAD_LEN, HEADER_LEN, HeadKind, Step, Stop, go_on, read_head};
+use hprof_items::{Fact, HEAD_LEN, HEADER_LEN, HeadKind, Step, Stop, go_on, read_head};
 use hprof_values::BoundedBytes;
 
 /// Adds bytes to those that are held.
@@ -146,7 +146,8 @@ fn finish_once<'a, S: Sink>(
     if walks_short(progress, rest) {
         return Ok(behind);
     }
-    if let Some(len) = progress.step(&rest.held, sink)? {
+    let mut fact = Fact::End { thread: 0 };
+    if let Some(len) = progress.step(&rest.held, &mut fact, sink)? {
         rest.clear();
         let (_, behind) = bytes.split_at(len.saturating_sub(before));
         return Ok(behind);

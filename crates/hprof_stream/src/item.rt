@@ -1,21 +1,20 @@
 //! Reading the item at the front of some bytes.
 
-ghost use Rattle.std.specs.Prelude.{◌≡◌, ◌≤◌, length, Some, None};
+ghost use Rattle.std.specs.Prelude.{◌≡◌, Some, None};
 ghost use Rattle.hprof_items.specs.Head.{kind_of};
 ghost use Rattle.hprof_items.specs.Reading.{IsRightHead};
 ghost use Rattle.hprof_items.specs.Spelling.{longest_body};
-ghost use Rattle.hprof_stream.specs.Item.{Start, Between, Within, found_record, item_at};
+ghost use Rattle.hprof_stream.specs.Item.{Start, Between, found_record, item_at};
 ghost use Rattle.hprof_items.specs.declared.fact.Fact.{Fact};
 ghost use Rattle.hprof_stream.specs.ItemValue.{Skipped, step_with};
 ghost use Rattle.hprof_stream.specs.ItemStep.{IsFound, IfRead, IsOfPlace, ItemLists, IsFact};
 
 use hprof_items::{
-    Fact, HEAD_LEN, Head, HeadKind, Header, Step, Stop, read_body_into, read_head, read_header,
-    read_sub_into,
+    Fact, HEAD_LEN, Head, HeadKind, Header, Step, read_body_into, read_head, read_header,
 };
 
-/// What stands at the front as one item. The fact that it states is put beside it, so that no fact is moved from call to
-/// call.
+/// A header or a record at the front, as one item. The fact that it states is put beside it, so that no fact is moved from
+/// call to call.
 #[derive(Clone, Copy)]
 pub(crate) enum Item {
     /// The header.
@@ -28,8 +27,6 @@ pub(crate) enum Item {
     End,
     /// A record that is passed over.
     Skipped,
-    /// A sub-record.
-    Sub,
 }
 
 /// The item at the first byte of a part.
@@ -102,28 +99,5 @@ pub(crate) fn record_item<'a>(
         HeadKind::HeapDump => Step::Whole(Item::Dump(head.length), HEAD_LEN),
         HeadKind::DumpEnd => Step::Whole(Item::End, HEAD_LEN),
         HeadKind::Skipped => skipped_item(header, &head, bytes),
-    }
-}
-
-/// The item within a heap dump that has so many bytes left. The fact that it states is put in the place of the fact.
-#[tactic(auto, unfolding(crate::specs::Item::item_at))]
-#[inline(always)]
-pub(crate) fn sub_item<'a>(
-    header: &Header,
-    room: u32,
-    bytes: &'a [u8],
-    longest: u32,
-    fact: &mut Fact<'a>,
-) -> Step<Item>
-    requires { 1 ≤ room }
-    ensures found { IsFound (Within header.now room) (step_with result fact.new) (item_at longest (Within header.now room) bytes.now) }
-    ensures place { IfRead (step_with result fact.new) (IsOfPlace (Within header.now room) bytes.now) }
-    ensures lists { IfRead (step_with result fact.new) (ItemLists (Some header.now)) }
-{
-    match read_sub_into(bytes, room, longest, header.ids, fact) {
-        Ok(len) => Step::Whole(Item::Sub, len),
-        Err(Stop::Short) => Step::Short,
-        Err(Stop::TooLong) => Step::TooLong,
-        Err(Stop::Fault(reason)) => Step::Fault(reason),
     }
 }

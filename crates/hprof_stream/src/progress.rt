@@ -10,11 +10,11 @@ ghost use Rattle.hprof_items.specs.Spelling.{longest_body};
 ghost use Rattle.hprof_values.specs.Ids.{IsBytes};
 ghost use Rattle.hprof_stream.specs.Walking.{IsBegun, GivesFit, Gives, GivesSome, Refuses, told_by};
 
-use crate::item::{Item, first_item, record_item, sub_item};
+use crate::item::{Item, first_item, record_item};
 use crate::limits::Limits;
 use crate::part_fault::PartFault;
 use crate::sink::{Sink, SinkFault};
-use hprof_items::{Fact, Header, Step};
+use hprof_items::{Fact, Header, Step, Stop, read_sub_into};
 
 /// What has been read of a part: its whole items from the front.
 #[derive(Clone, Copy)]
@@ -35,7 +35,7 @@ pub(crate) struct Progress {
 }
 
 impl Progress {
-    ghost use Rattle.hprof_stream.specs.Progress.{start_of, place_of, advanced, IsCounted, IsNext};
+    ghost use Rattle.hprof_stream.specs.Progress.{start_of, place_of, advanced, IsCounted, IsNext, IsOutside};
     ghost use Rattle.hprof_stream.specs.Walking.{StepsOver, WalksAll, told_by, seen};
 
     /// Nothing was read.
@@ -53,21 +53,18 @@ impl Progress {
         }
     }
 
-    /// The item at the front. The fact that it states is put in the place of the fact.
-    #[inline(always)]
+    /// The header or the record at the front. The fact that it states is put in the place of the fact.
     fn item<'a>(&self, bytes: &'a [u8], fact: &mut Fact<'a>) -> Step<Item>
+        requires { IsOutside self.now }
         ensures found { IsFound (place_of self.now) (step_with result fact.new)
             (item_at self.now.limits.max_item (place_of self.now) bytes.now) }
         ensures place { IfRead (step_with result fact.new) (IsOfPlace (place_of self.now) bytes.now) }
         ensures lists { IfRead (step_with result fact.new) (ItemLists self.now.header) }
-        ensures room { self.now.room ≤ longest_body }
     {
         let longest = self.limits.max_item;
-        let room = self.room;
         match self.header {
             None => first_item(bytes, longest),
-            Some(header) if room == 0 => record_item(&header, bytes, longest, fact),
-            Some(header) => sub_item(&header, room, bytes, longest, fact),
+            Some(header) => record_item(&header, bytes, longest, fact),
         }
     }
 
@@ -81,7 +78,6 @@ impl Progress {
     }
 
     /// Counts an item that was read.
-    #[inline(always)]
     pub(crate) fn advance(&mut self, item: &Item, len: usize)
         requires counted { IsCounted self.old len }
         requires next { IsNext self.old (bare item.now) len }
@@ -106,34 +102,64 @@ impl Progress {
                 self.ended = true;
             }
             Item::Skipped => self.records += 1,
-            Item::Sub => {
-                self.facts += 1;
-                self.room -= len as u32;
-            }
         }
     }
 
-    /// Steps over the item at the front of the bytes and hands it to the sink, and answers how many bytes it has.
-    /// None where it needs more bytes than there are.
+    /// Steps over the sub-record at the front of the bytes, as [`Progress::step`] does, within a heap dump behind that
+    /// header.
     #[inline(always)]
-    pub(crate) fn step<S: Sink>(
+    fn step_sub<'a, S: Sink>(
         &mut self,
-        bytes: &[u8],
+        header: &Header,
+        bytes: &'a [u8],
+        fact: &mut Fact<'a>,
         sink: &mut S,
     ) -> Result<Option<usize>, PartFault>
+        requires header { self.old.header ≡ Some header.now }
+        requires room { 1 ≤ self.old.room }
         requires counted { IsCounted self.old (length bytes.now) }
         requires begun { IsBegun self.old.header (S.begun sink.old) }
         ensures step { StepsOver S.begins S.steps S.refuses S.failed self.old bytes.now sink.old result self.new sink.new }
         ensures begun { OnOk result (IsBegun self.new.header (S.begun sink.new)) }
-        ensures room { self.old.room ≤ longest_body }
-        ensures bytes { IsBytes bytes.now }
     {
         let at = self.at;
-        let mut fact = Fact::End { thread: 0 };
-        match self.item(bytes, &mut fact) {
-            Step::Whole(item, len) => {
+        match read_sub_into(bytes, self.room, self.limits.max_item, header.ids, fact) {
+            Ok(len) => {
                 let (spelled, _) = bytes.split_at(len);
-                if let Err(fault) = give(&item, &fact, spelled, sink) {
+                if let Err(fault) = sink.take(fact, spelled) {
+                    return Err(PartFault::Sink(fault));
+                }
+                self.at += len as u64;
+                self.facts += 1;
+                self.room -= len as u32;
+                Ok(Some(len))
+            }
+            Err(Stop::Short) => Ok(None),
+            Err(Stop::TooLong) => Err(PartFault::ItemTooLong { at }),
+            Err(Stop::Fault(reason)) => Err(PartFault::Malformed { at, reason }),
+        }
+    }
+
+    /// Steps over the header or the record at the front of the bytes, as [`Progress::step`] does. Few items are one, so it
+    /// stands apart from the loop over them.
+    #[inline(never)]
+    fn step_outside<'a, S: Sink>(
+        &mut self,
+        bytes: &'a [u8],
+        fact: &mut Fact<'a>,
+        sink: &mut S,
+    ) -> Result<Option<usize>, PartFault>
+        requires outside { IsOutside self.old }
+        requires room { self.old.room ≤ longest_body }
+        requires counted { IsCounted self.old (length bytes.now) }
+        requires begun { IsBegun self.old.header (S.begun sink.old) }
+        ensures step { StepsOver S.begins S.steps S.refuses S.failed self.old bytes.now sink.old result self.new sink.new }
+        ensures begun { OnOk result (IsBegun self.new.header (S.begun sink.new)) }
+    {
+        let at = self.at;
+        match self.item(bytes, fact) {
+            Step::Whole(item, len) => {
+                if let Err(fault) = give(&item, fact, sink) {
                     self.tell(&item);
                     return Err(PartFault::Sink(fault));
                 }
@@ -143,6 +169,30 @@ impl Progress {
             Step::Short => Ok(None),
             Step::TooLong => Err(PartFault::ItemTooLong { at }),
             Step::Fault(reason) => Err(PartFault::Malformed { at, reason }),
+        }
+    }
+
+    /// Steps over the item at the front of the bytes and hands it to the sink, and answers how many bytes it has.
+    /// None where it needs more bytes than there are. The fact that it states is put in the place of the fact; what stands
+    /// there before and after is of no account.
+    #[inline(always)]
+    pub(crate) fn step<'a, S: Sink>(
+        &mut self,
+        bytes: &'a [u8],
+        fact: &mut Fact<'a>,
+        sink: &mut S,
+    ) -> Result<Option<usize>, PartFault>
+        requires counted { IsCounted self.old (length bytes.now) }
+        requires begun { IsBegun self.old.header (S.begun sink.old) }
+        ensures step { StepsOver S.begins S.steps S.refuses S.failed self.old bytes.now sink.old result self.new sink.new }
+        ensures begun { OnOk result (IsBegun self.new.header (S.begun sink.new)) }
+        ensures room { self.old.room ≤ longest_body }
+        ensures bytes { IsBytes bytes.now }
+    {
+        let room = self.room;
+        match self.header {
+            Some(header) if room > 0 => self.step_sub(&header, bytes, fact, sink),
+            _ => self.step_outside(bytes, fact, sink),
         }
     }
 
@@ -159,22 +209,17 @@ impl Progress {
         ensures begun { OnOk result (IsBegun self.new.header (S.begun sink.new)) }
     {
         let mut rest = bytes;
-        while let Some(len) = self.step(rest, sink)? {
+        let mut fact = Fact::End { thread: 0 };
+        while let Some(len) = self.step(rest, &mut fact, sink)? {
             (_, rest) = rest.split_at(len);
         }
         Ok(rest)
     }
 }
 
-/// Hands an item, which has these bytes and states the fact, to the sink.
-#[inline(always)]
-fn give<S: Sink>(
-    item: &Item,
-    fact: &Fact<'_>,
-    spelled: &[u8],
-    sink: &mut S,
-) -> Result<(), SinkFault>
-    requires { GivesFit (S.begun sink.old) (with_fact item.now fact.now) spelled.now }
+/// Hands a header or a record, which states the fact, to the sink.
+fn give<S: Sink>(item: &Item, fact: &Fact<'_>, sink: &mut S) -> Result<(), SinkFault>
+    requires { GivesFit (S.begun sink.old) (with_fact item.now fact.now) }
     ensures gives { OnOk result (Gives S.begins S.steps sink.old (with_fact item.now fact.now) sink.new) }
     ensures begun { OnOk result ((header : Option Header) → IsBegun header (S.begun sink.old)
         → IsBegun (told_by header (with_fact item.now fact.now)) (S.begun sink.new)) }
@@ -184,7 +229,6 @@ fn give<S: Sink>(
     match item {
         Item::Header(header) => sink.begin_part(*header),
         Item::Fact => sink.take(fact, &[]),
-        Item::Sub => sink.take(fact, spelled),
         Item::Dump(_) | Item::End | Item::Skipped => Ok(()),
     }
 }

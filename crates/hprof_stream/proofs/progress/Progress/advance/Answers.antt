@@ -6,6 +6,3 @@ returns-in-End c = search rules
 
 pub returns-in-Skipped : goal.returns-in-Skipped
 returns-in-Skipped c = search rules
-
-pub returns-in-Sub : goal.returns-in-Sub
-returns-in-Sub c = search rules

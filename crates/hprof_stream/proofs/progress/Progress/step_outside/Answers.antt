@@ -1,37 +1,29 @@
-use Rattle.std.proofs.Common.{ℕ, List, drop, Option, refl, sym, ap, subst, ◌∙◌, arith, rules}
+use Rattle.std.proofs.Common.{drop, Option, refl, sym, ap, subst, ◌∙◌, arith, rules}
 use Rattle.hprof_items.specs.declared.header.Header.{Header}
 use Rattle.hprof_stream.specs.declared.progress.Progress.{Progress}
 use Rattle.hprof_stream.specs.ItemValue.{with_fact}
-use Rattle.hprof_stream.specs.Walking.{Walks, GivesFit}
+use Rattle.hprof_stream.specs.Walking.{Walks}
 use Rattle.hprof_stream.proofs.Behind.{bare_after, bare_next, bare_told}
-use Rattle.hprof_stream.proofs.Walks.{Walks-item, given_fits, read_within, next_counted, Stops-refused}
-use Rattle.hprof_stream.proofs.progress.Progress.step.Goals as goal
-
-pub split_at-requires : goal.split_at-requires
-split_at-requires g c =
-    read_within c.args.self.now.limits.max_item c.args.self.now c.args.bytes.now (with_fact c.in-Whole.item c.item.new.fact)
-    c.in-Whole.len (λ i. omega (arith, c.type_inv.bytes i)) c.item.ensures.room
-    c.in-Whole.ensures.found
+use Rattle.hprof_stream.proofs.Walks.{Walks-item, given_fits, next_counted, Stops-refused}
+use Rattle.hprof_stream.proofs.progress.Progress.step_outside.Goals as goal
 
 pub give-requires : goal.give-requires
 give-requires g c =
-    subst (λ (bytes : List ℕ). GivesFit (g.S.Sink.begun c.args.sink.now) (with_fact c.in-Whole.item c.item.new.fact) bytes)
-    (sym c.split_at.ensures.front)
-    (given_fits c.args.self.now.limits.max_item c.args.self.now c.args.bytes.now (with_fact c.in-Whole.item c.item.new.fact)
-    c.in-Whole.len _ (λ i. omega (arith, c.type_inv.bytes i)) c.item.ensures.room
-    c.in-Whole.ensures.found c.in-Whole.ensures.place c.in-Whole.ensures.lists c.requires.begun)
+    given_fits c.args.self.now.limits.max_item c.args.self.now c.args.bytes.now (with_fact c.in-Whole.item c.item.new.fact)
+    c.in-Whole.len _ (λ i. omega (arith, c.type_inv.bytes i)) c.requires.room
+    c.in-Whole.ensures.found c.in-Whole.ensures.place c.in-Whole.ensures.lists c.requires.begun
 
 pub advance-requires-clause-counted : goal.advance-requires-clause-counted
 advance-requires-clause-counted g c =
     (next_counted c.args.self.now.limits.max_item c.args.self.now c.args.bytes.now (with_fact c.in-Whole.item c.item.new.fact)
-    c.in-Whole.len (λ i. omega (arith, c.type_inv.bytes i)) c.item.ensures.room
+    c.in-Whole.len (λ i. omega (arith, c.type_inv.bytes i)) c.requires.room
     c.in-Whole.ensures.found c.in-Whole.ensures.place c.requires.counted).0
 
 pub advance-requires-clause-next : goal.advance-requires-clause-next
 advance-requires-clause-next g c =
     bare_next c.args.self.now c.in-Whole.item c.item.new.fact c.in-Whole.len
     (next_counted c.args.self.now.limits.max_item c.args.self.now c.args.bytes.now (with_fact c.in-Whole.item c.item.new.fact)
-    c.in-Whole.len (λ i. omega (arith, c.type_inv.bytes i)) c.item.ensures.room
+    c.in-Whole.len (λ i. omega (arith, c.type_inv.bytes i)) c.requires.room
     c.in-Whole.ensures.found c.in-Whole.ensures.place c.requires.counted).1
 
 pub returns-in_default-clause-step : goal.returns-in_default-clause-step
@@ -40,7 +32,7 @@ returns-in_default-clause-step g c =
     let bytes = c.args.bytes.now in
     let walk = Walks-item g.S.Sink.begins g.S.Sink.steps from.limits.max_item from bytes c.args.sink.now c.give.new.sink
     (with_fact c.in-Whole.item c.item.new.fact) c.in-Whole.len
-    (λ i. omega (arith, c.type_inv.bytes i)) c.item.ensures.room c.in-Whole.ensures.found c.in-Whole.ensures.place
+    (λ i. omega (arith, c.type_inv.bytes i)) c.requires.room c.in-Whole.ensures.found c.in-Whole.ensures.place
     c.in_default.ensures.gives in (
       subst (λ (p : Progress). Walks g.S.Sink.begins g.S.Sink.steps from.limits.max_item from bytes c.args.sink.now p
           (drop c.in-Whole.len bytes) c.give.new.sink)
@@ -56,7 +48,7 @@ returns-in-Err-clause-step g c =
     (bare_told c.args.self.now.header c.in-Whole.item c.item.new.fact)) (
       Stops-refused g.S.Sink.refuses g.S.Sink.failed c.args.self.now c.args.bytes.now (with_fact c.in-Whole.item c.item.new.fact)
           c.in-Whole.len c.args.sink.now c.give.new.sink c.in-Err.fault
-          (λ i. omega (arith, c.type_inv.bytes i)) c.item.ensures.room c.in-Whole.ensures.found c.in-Whole.ensures.place
+          (λ i. omega (arith, c.type_inv.bytes i)) c.requires.room c.in-Whole.ensures.found c.in-Whole.ensures.place
           c.in-Err.ensures.refused.0 c.in-Err.ensures.refused.1,
       refl,
     )
