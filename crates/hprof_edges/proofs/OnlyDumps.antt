@@ -148,3 +148,11 @@ module _ (ids : IdSize) (facts : List FactValue) (object : ℕ) where
   pub dumps_from : (edge : Edge) → (IsEdge ids facts edge × (edge.from ≡ object))
       ↔ (((edge.from ≡ object) × GivenByClass facts edge) ⊎ ((edge.from ≡ object) × GivenByObject ids facts edge))
   dumps_from edge = ((from_dumps edge).1, (from_dumps edge).0)
+
+  -- where there is no class dump, all are given by the object dump
+  pub object_dump_from : HasNoDump facts object → (edge : Edge) → (IsEdge ids facts edge × (edge.from ≡ object))
+      ↔ ((edge.from ≡ object) × GivenByObject ids facts edge)
+  object_dump_from none edge = (
+    λ is. elim ((dumps_from edge).0 is) [ inl given ↦ absurd (by_no_class facts object none edge given) | inr given ↦ given ],
+    λ given. (dumps_from edge).1 (inr given),
+  )

@@ -1,6 +1,7 @@
 //! The edges from an identifier, where layouts are known.
 
 ghost use Rattle.std.specs.Prelude.{◌≡◌, List, OnOk};
+ghost use Rattle.hprof_finding.specs.Classes.{HasNoDump};
 ghost use Rattle.hprof_finding.specs.HeapFacts.{facts_of, size_of};
 ghost use Rattle.hprof_laying.specs.Known.{Knows};
 ghost use Rattle.hprof_edges.specs.declared.edge.Edge.{Edge};
@@ -73,5 +74,23 @@ pub fn known_edges<C: Collect>(
 {
     put_of_class(heap, id, &mut near.class, into)?;
     put_of_known_object(heap, known, id, &mut near.object, references, into)?;
+    Ok(())
+}
+
+/// Puts all edges from an identifier that has no class dump, as [`known_edges`] does: its object dump alone is looked up, near a place.
+pub fn known_object_edges<C: Collect>(
+    heap: &Heap,
+    known: &KnownLayouts,
+    id: u64,
+    near: &mut usize,
+    references: &mut Vec<Reference>,
+    into: &mut C,
+) -> Result<(), AllocError>
+    requires { HasNoDump (facts_of heap.now) id }
+    ensures holds { OnOk result ((edges : List Edge) → Knows (size_of heap.now) (facts_of heap.now) known.now → C.holds into.old edges
+        → PutBehind (C.holds into.new) edges (λ edge. IsEdge (size_of heap.now) (facts_of heap.now) edge × (edge.from ≡ id))) }
+    ensures keeps { OnOk result (C.keeps into.new ≡ C.keeps into.old) }
+{
+    put_of_known_object(heap, known, id, near, references, into)?;
     Ok(())
 }

@@ -16,7 +16,7 @@ mod to_identifier;
 pub use collect::Collect;
 pub use edge::{Edge, Via};
 pub use edge_list::{EdgeList, Watched};
-pub use from_known::{Near, known_edges};
+pub use from_known::{Near, known_edges, known_object_edges};
 pub use of_class::class_edges;
 pub use of_identifier::edges_of;
 pub use of_object::{array_edges, edge_to_class, field_edges, object_edges};

@@ -33,6 +33,18 @@ reached ids facts nodes starts search are rooted is =
 none_in : (id : ℕ) → Contains [] id → ⊥
 none_in id has = omega (arith, has.1)
 
+-- what was gathered of class dumps, and then sorted, are the nodes that have one
+pub all_class_nodes : (facts : List FactValue) (none classes sorted : List ℕ) → none ≡ []
+    → ((id : ℕ) → Contains classes id ↔ (Contains none id ⊎ IsClassNode facts id))
+    → ((id : ℕ) → Contains sorted id ↔ Contains classes id) → (id : ℕ) → Contains sorted id ↔ IsClassNode facts id
+all_class_nodes facts none classes sorted nothing of_classes same id = (
+  λ has. elim ((of_classes id).0 ((same id).0 has)) [
+    | inl old ↦ absurd (none_in id (subst (λ (l : List ℕ). Contains l id) nothing old))
+    | inr is ↦ is
+  ],
+  λ is. (same id).1 ((of_classes id).1 (inr is)),
+)
+
 -- what was gathered of class dumps and of object dumps, and then sorted, are the nodes
 pub all_nodes : (facts : List FactValue) (none classes objects sorted : List ℕ) → none ≡ []
     → ((id : ℕ) → Contains classes id ↔ (Contains none id ⊎ IsClassNode facts id))

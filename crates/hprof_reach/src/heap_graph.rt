@@ -1,10 +1,10 @@
 //! A heap as a graph.
 
 use crate::targets::Targets;
-use hprof_edges::{Near, known_edges};
+use hprof_edges::{Near, known_edges, known_object_edges};
 use hprof_heap::Heap;
 use hprof_laying::{KnownLayouts, Reference};
-use hprof_walks::Graph;
+use hprof_walks::{Graph, Numbered};
 use std::alloc::AllocError;
 use std::mem::swap;
 
@@ -14,31 +14,66 @@ pub(crate) struct HeapGraph<'h> {
     pub(crate) heap: &'h Heap,
     /// The known layouts of its classes.
     pub(crate) known: KnownLayouts,
+    /// The nodes that have a class dump, so that none is looked up for the others.
+    pub(crate) classes: Numbered,
     /// Where the last dumps were found.
     pub(crate) near: Near,
     pub(crate) references: Vec<Reference>,
     pub(crate) targets: Targets,
 }
 
+impl<'h> HeapGraph<'h> {
+    ghost use Rattle.std.specs.Prelude.{◌≡◌, ◌↔◌, ◌++◌, List, [], map, OnOk};
+    ghost use Rattle.hprof_finding.specs.HeapFacts.{facts_of, size_of};
+    ghost use Rattle.hprof_edges.specs.declared.edge.Edge.{Edge};
+    ghost use Rattle.hprof_edges.specs.Collecting.{PutBehind};
+    ghost use Rattle.hprof_edges.specs.Edges.{IsEdge};
+    ghost use Rattle.hprof_reach.specs.Graph.{TellsEdges, targets_in};
+
+    /// Puts the targets of the edges from an identifier behind the others.
+    fn put_targets(&mut self, from: u64) -> Result<(), AllocError>
+        requires { TellsEdges self.old }
+        ensures put { OnOk result ((edges : List Edge) → targets_in self.old ≡ map (λ edge. edge.to) edges
+            → PutBehind (λ edges. targets_in self.new ≡ map (λ edge. edge.to) edges) edges
+            (λ edge. IsEdge (size_of self.old.heap.now) (facts_of self.old.heap.now) edge × (edge.from ≡ from))) }
+        ensures heap { self.new.heap ≡ self.old.heap }
+        ensures tells { TellsEdges self.new }
+    {
+        if from == 0 || self.classes.has(from) {
+            known_edges(
+                self.heap,
+                &self.known,
+                from,
+                &mut self.near,
+                &mut self.references,
+                &mut self.targets,
+            )?;
+            return Ok(());
+        }
+        known_object_edges(
+            self.heap,
+            &self.known,
+            from,
+            &mut self.near.object,
+            &mut self.references,
+            &mut self.targets,
+        )?;
+        Ok(())
+    }
+}
+
 impl<'h> Graph for HeapGraph<'h> {
     ghost use Rattle.hprof_finding.specs.HeapFacts.{facts_of, size_of};
-    ghost use Rattle.hprof_laying.specs.Known.{Knows};
+    ghost use Rattle.hprof_reach.specs.Graph.{TellsEdges};
     ghost use Rattle.hprof_reach.specs.Reaching.{Leads};
 
     ghost leads = { λ graph. Leads (size_of graph.heap.now) (facts_of graph.heap.now) };
 
-    ghost stands = { λ graph. Knows (size_of graph.heap.now) (facts_of graph.heap.now) graph.known };
+    ghost stands = { TellsEdges };
 
     fn targets_of(&mut self, from: u64, targets: &mut Vec<u64>) -> Result<(), AllocError> {
         self.targets.list.clear();
-        known_edges(
-            self.heap,
-            &self.known,
-            from,
-            &mut self.near,
-            &mut self.references,
-            &mut self.targets,
-        )?;
+        self.put_targets(from)?;
         swap(&mut self.targets.list, targets);
         Ok(())
     }

@@ -72,6 +72,17 @@ fn sort_once(nodes: &mut Vec<u64>) -> Result<(), AllocError>
     Ok(())
 }
 
+/// The nodes of a heap that have a class dump, in ascending order. The error is that memory was refused.
+pub(crate) fn class_nodes(alloc: Global, heap: &Heap) -> Result<Vec<u64>, AllocError>
+    ensures ascend { IfOk result (λ nodes. IsStrictlyIncreasing nodes.items) }
+    ensures all { IfOk result (λ nodes. (node : ℕ) → Contains nodes.items node ↔ IsClassNode (facts_of heap.now) node) }
+{
+    let mut nodes = Vec::with_capacity(alloc, table_len(heap, Table::Classes))?;
+    push_classes(heap, &mut nodes)?;
+    sort_once(&mut nodes)?;
+    Ok(nodes)
+}
+
 /// All nodes of a heap, in ascending order. The error is that memory was refused.
 pub(crate) fn nodes_of(alloc: Global, heap: &Heap) -> Result<Vec<u64>, AllocError>
     ensures ascend { IfOk result (λ nodes. IsStrictlyIncreasing nodes.items) }

@@ -8,13 +8,13 @@ ghost use Rattle.hprof_finding.specs.HeapFacts.{facts_of, size_of};
 ghost use Rattle.hprof_reach.specs.Reaching.{IsDistanceFromRoots, IsPathFromRoots, IsReach};
 
 use crate::heap_graph::HeapGraph;
-use crate::nodes::nodes_of;
+use crate::nodes::{class_nodes, nodes_of};
 use crate::starts::starts_of;
 use crate::targets::Targets;
 use hprof_edges::Near;
 use hprof_heap::Heap;
 use hprof_laying::known_layouts;
-use hprof_walks::{Search, search};
+use hprof_walks::{Numbered, Search, search};
 use std::alloc::{AllocError, Global};
 
 /// How the classes and objects of a heap are reached from its roots.
@@ -47,9 +47,11 @@ pub fn reach_of(alloc: Global, heap: &Heap) -> Result<Reach, AllocError>
     ensures { IfOk result (IsReach (size_of heap.now) (facts_of heap.now)) }
 {
     let known = known_layouts(alloc, heap)?;
+    let classes = Numbered::new(alloc, class_nodes(alloc, heap)?)?;
     let mut graph = HeapGraph {
         heap,
         known,
+        classes,
         near: Near::start(),
         references: Vec::new(alloc),
         targets: Targets {

@@ -1,9 +1,10 @@
 -- The number of a node among nodes that ascend.
+use Rattle.std.specs.Prelude.{◌↔◌, Contains, IsTrue, Option, is_some, refl}
 use Rattle.std.proofs.Common.{◌≡◌, ◌<◌, ◌≤◌, ◌-◌, ◌==◌, ℕ, Bool, true, false, cond, List, length, slice_index, nat_lt, Some, None, Result, Ok, Err, inl, inr, sym, ◌∙◌, arith, nat_cmp, eqb-true, eq-eqb, ne_eqb}
 use Rattle.std.specs.List.{position_or_len}
 use Rattle.std.specs.List.Sorted.{IsStrictlyIncreasing, IsBinarySearchResult}
 use Rattle.std.specs.Result.{result_ok}
-use Rattle.std.proofs.lemmas.Grind.{common_steps}
+use Rattle.std.proofs.lemmas.Grind.{common_steps, get_or_default_zero}
 use Rattle.std.proofs.lemmas.List.Quantifiers.{position-Some}
 use Rattle.std.proofs.lemmas.List.Sorted.{searched}
 use Rattle.std.proofs.lemmas.List.Sums.{fails_before_first, position_or_len_is}
@@ -34,6 +35,17 @@ module _ (nodes : List ℕ) (node : ℕ) where
   stands number some =
       let is = position-Some (λ other. other == node) nodes number 0 some in
       (is.0, eqb-true (slice_index nodes number) node is.1)
+
+  -- it has one where it is one of the nodes
+  pub has_number : (number : Option ℕ) → number ≡ number_in nodes node → IsTrue (is_some number) ↔ Contains nodes node
+  has_number None none = (
+    λ test. absurd cc,
+    λ has. absurd (nowhere (sym none) has.0 has.1 (sym (get_or_default_zero nodes has.0 node has.1) ∙ has.2)),
+  )
+  has_number (Some number) some = (
+    λ test. let is = stands number (sym some) in (number, is.0, get_or_default_zero nodes number node is.0 ∙ is.1),
+    λ has. refl,
+  )
 
   module _ (ascend : IsStrictlyIncreasing nodes) where
     pub has_place : (number : ℕ) → number < length nodes → slice_index nodes number ≡ node → number_in nodes node ≡ Some number

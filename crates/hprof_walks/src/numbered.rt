@@ -1,6 +1,6 @@
 //! Nodes and their numbers: the number of a node is its place among all nodes.
 
-ghost use Rattle.std.specs.Prelude.{◌≡◌, ◌<◌, ◌≤◌, ◌↔◌, IfOk, IsTrue, length, slice_index};
+ghost use Rattle.std.specs.Prelude.{◌≡◌, ◌<◌, ◌≤◌, ◌↔◌, Contains, IfOk, IsTrue, length, slice_index};
 ghost use Rattle.std.specs.List.Sorted.{IsStrictlyIncreasing};
 ghost use Rattle.hprof_walks.specs.Kept.{IsMissingAt, number_in};
 
@@ -52,9 +52,17 @@ impl Numbered {
         Ok(Numbered { nodes, hints })
     }
 
+    /// Whether it is one of the nodes.
+    #[inline(always)]
+    pub fn has(&self, node: u64) -> bool
+        ensures { IsTrue result ↔ Contains (nodes_in self.now) node }
+    {
+        self.number_of(node).is_some()
+    }
+
     /// The number of a node; none of what is no node. Where the hints do not lead there, it is found by halves.
     #[inline(always)]
-    pub fn number_of(&self, node: u64) -> Option<usize>
+    pub(crate) fn number_of(&self, node: u64) -> Option<usize>
         ensures { result ≡ number_in (nodes_in self.now) node }
     {
         let place = self.hints.place(&self.nodes, node);

@@ -6,6 +6,6 @@ use Rattle.hprof_reach.proofs.heap_graph.HeapGraphGraph.targets_of.Goals as goal
 pub returns-clause-ok : goal.returns-clause-ok
 returns-clause-ok c =
     let graph = c.args.self.now in
-    let put = c.in_ok-known_edges.ensures.holds [] c.requires c.clear.ensures.items in
+    let put = c.in_ok-put_targets.ensures.put [] c.clear.ensures.items in
     led_to (size_of graph.heap.now) (facts_of graph.heap.now) c.args.from put.more c.swap.new.y.items
     (ap (λ (list : _). list.items) c.swap.ensures.y_after ∙ put.holds_more) put.exact

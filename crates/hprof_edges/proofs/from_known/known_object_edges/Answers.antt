@@ -1,0 +1,15 @@
+use Rattle.std.proofs.Common.{◌≡◌, List}
+use Rattle.hprof_finding.specs.HeapFacts.{facts_of, size_of}
+use Rattle.hprof_edges.specs.declared.edge.Edge.{Edge}
+use Rattle.hprof_edges.specs.DumpEdges.{GivenByObject}
+use Rattle.hprof_edges.proofs.OnlyDumps.{object_dump_from}
+use Rattle.hprof_edges.proofs.PutTogether.{put_same}
+use Rattle.hprof_edges.proofs.from_known.known_object_edges.Goals as goal
+
+pub returns-clause-holds : goal.returns-clause-holds
+returns-clause-holds g c = λ edges knows held.
+    let size = size_of c.args.heap.now in
+    let facts = facts_of c.args.heap.now in
+    put_same edges (g.C.Collect.holds c.put_of_known_object.new.into)
+    (λ (edge : Edge). (edge.from ≡ c.args.id) × GivenByObject size facts edge) _
+    (c.in_ok-put_of_known_object.ensures.holds edges knows held) (object_dump_from size facts c.args.id c.requires)
