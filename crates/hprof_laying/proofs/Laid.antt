@@ -15,12 +15,12 @@ use Rattle.hprof_laying.specs.declared.plan.Jump.{Jump}
 use Rattle.hprof_laying.specs.declared.plan.Outline.{Outline}
 use Rattle.hprof_laying.specs.declared.plan.Plan.{Plan}
 use Rattle.hprof_laying.specs.declared.reference.Reference.{Reference}
-use Rattle.hprof_laying.specs.Known.{HasLayout, HasPlan, Knows, plan_of, waiting_below}
+use Rattle.hprof_laying.specs.Known.{HasPlan, IsOutlineOf, Knows, plan_of, waiting_below}
 use Rattle.hprof_laying.specs.OwnFields.{IsOwn, references_in}
-use Rattle.hprof_laying.specs.Plan.{IsFirstJump, IsOutline, most, outline_at}
+use Rattle.hprof_laying.specs.Plan.{IsFirstJump, IsOutline, most, most_wide, no_outline, outline_at}
 use Rattle.hprof_laying.specs.Waking.{CanWake}
 use Rattle.hprof_laying.specs.References.{AreReferences}
-use Rattle.hprof_laying.proofs.KnownPlans.{There, Nowhere, known_ready, knows_standing, look, not_both, one_plan}
+use Rattle.hprof_laying.proofs.KnownPlans.{There, Nowhere, known_ready, knows_standing, look, one_plan, unplanned_unknown}
 use Rattle.hprof_laying.proofs.Outlines.{one_known}
 use Rattle.hprof_laying.proofs.Places.{length-le-width, references_in-append, references_in-behind, references_in-none, width-append}
 use Rattle.hprof_laying.proofs.ReferenceSets.{are_references, no_references}
@@ -202,47 +202,43 @@ module _ (ids : IdSize) (facts : List FactValue) (slots : List Slot) (bytes : Li
 
 -- ---- what is answered
 
-module _ (ids : IdSize) (facts : List FactValue) (known : KnownLayouts) (knows : Knows ids facts known) (class : ℕ) (bytes : List ℕ) where
-  -- a class that is not ready has no plan, and no known layout
-  unknown_class : plan_of known class ≡ None → class ≢ 0 → HasLayout facts class → ⊥
-  unknown_class none not_zero layout =
-      let has = knows.planned class layout.0 not_zero layout.1 in
-      not_both (plan_of known class) has.plan has.found none
-
+module _ (ids : IdSize) (facts : List FactValue) (known : KnownLayouts) (knows : Knows ids facts known) (class : ℕ) (outline : Outline)
+    (is : IsOutlineOf known class outline) (bytes : List ℕ) where
   -- where the layout has another number of bytes, there is nothing
-  pub differs_laid : length bytes < 2 ^ 64 → (outline_at class (plan_of known class)).width ≢ length bytes
+  pub differs_laid : length bytes < 2 ^ 64 → outline.width ≢ length bytes
       → AreReferences ids facts class bytes []
   differs_laid small differs = no_references ids facts class bytes (λ values has.
       let ready = ready_outline ids facts (plan_of known) (waiting_below known) [] (knows_standing ids facts known knows) class
       (known_ready ids facts known knows class (has.slots, has.known)) in
       let same : ready.slots ≡ has.slots = one_known facts knows.each class ready.slots has.slots ready.known has.known in
-      let width = ready.outline_are.width_is in
+      let width : outline.width ≡ min (width_of_slots ids ready.slots) most_wide =
+      ap (λ (o : Outline). o.width) is ∙ ready.outline_are.width_is in
       let fills : width_of_slots ids ready.slots ≡ length bytes = ap (width_of_slots ids) same ∙ has.fills in
       differs (omega arith))
 
   -- where it has as many, it is what the slots refer to
-  pub laid : (references : List Reference) → length bytes < 2 ^ 64 → (outline_at class (plan_of known class)).width ≡ length bytes
-      → ((slots : List Slot) → IsOutline ids facts slots (outline_at class (plan_of known class)) → width_of_slots ids slots ≡ length bytes
+  pub laid : (references : List Reference) → length bytes < 2 ^ 64 → outline.width ≡ length bytes
+      → ((slots : List Slot) → IsOutline ids facts slots outline → width_of_slots ids slots ≡ length bytes
       → references ≡ references_in ids 0 slots bytes) → AreReferences ids facts class bytes references
   laid references small same found = elim (cases_eq class 0) [
     | inl zero_is ↦ by_ready (inl zero_is)
     | inr other ↦ elim (look (plan_of known class)) [
       | There plan e ↦ by_ready (inr (plan, e))
       | Nowhere e ↦
-          let outline = outline_at class (plan_of known class) in
-          let bare : outline ≡ record { width = 0; first = None } = ap (outline_at class) e in
+          let bare : outline ≡ no_outline = is ∙ ap (outline_at class) e in
           let none : width_of_slots ids [] ≡ length bytes = ap (λ (o : Outline). o.width) (sym bare) ∙ same in
           let are : IsOutline ids facts [] outline =
           subst (IsOutline ids facts []) (sym bare) (record { width_is = refl; first_is = tt }) in
           subst (AreReferences ids facts class bytes) (sym (found [] are none))
-          (no_references ids facts class bytes (λ values has. unknown_class e other (has.slots, has.known)))
+          (no_references ids facts class bytes (λ values has. unplanned_unknown ids facts known knows class e other (has.slots, has.known)))
     ]
   ] where
     by_ready : CanWake (plan_of known) class → AreReferences ids facts class bytes references
     by_ready ready =
         let layout = ready_outline ids facts (plan_of known) (waiting_below known) [] (knows_standing ids facts known knows) class ready in
-        let width = layout.outline_are.width_is in
+        let are : IsOutline ids facts layout.slots outline = subst (IsOutline ids facts layout.slots) (sym is) layout.outline_are in
+        let width = are.width_is in
         let fills : width_of_slots ids layout.slots ≡ length bytes = omega arith in
-        subst (AreReferences ids facts class bytes) (sym (found layout.slots layout.outline_are fills))
+        subst (AreReferences ids facts class bytes) (sym (found layout.slots are fills))
         (are_references ids facts class bytes layout.slots layout.known fills
         (λ others is. one_known facts knows.each class others layout.slots is layout.known))

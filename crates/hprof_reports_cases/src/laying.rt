@@ -22,11 +22,12 @@ fn layouts_of_a_heap(rt: HostRuntime) -> Result<(), Fail> {
         known.knows(101),
     );
     equal(&rt, found, (true, true, true, false));
+    let outline = known.outline(100).ok_or("no layout")?;
     let mut references = Vec::new(rt.alloc());
-    known.lay(100, BYTES, IdSize::Four, &mut references)?;
+    known.lay(outline, BYTES, IdSize::Four, &mut references)?;
     let refer = [Reference { place: 1, to: 201 }];
     equal(&rt, references.as_slice() == refer.as_slice(), true);
-    known.lay(100, &BYTES[1..], IdSize::Four, &mut references)?;
+    known.lay(outline, &BYTES[1..], IdSize::Four, &mut references)?;
     equal(&rt, references.len(), 0);
     holds(&rt, refers(Basic::Array) && !refers(Basic::Long));
     Ok(())

@@ -1,33 +1,25 @@
 use Rattle.std.proofs.Common.{◌≡◌, ◌<◌, ◌≤◌, ◌++◌, ◌^◌, ℕ, List, length, drop, Option, Some, sym, ap, subst, ◌∙◌, arith}
 use Rattle.hprof_laying.specs.declared.plan.Jump.{Jump}
-use Rattle.hprof_laying.specs.declared.plan.Outline.{Outline}
-use Rattle.hprof_laying.specs.Known.{plan_of}
 use Rattle.hprof_laying.specs.OwnFields.{references_in}
-use Rattle.hprof_laying.specs.Plan.{IsFirstJump, outline_at}
 use Rattle.hprof_laying.proofs.Laid.{Laying, differs_laid, laid, lands, laying_begins, laying_ends, laying_on, own_are, own_few, own_here}
 use Rattle.hprof_laying.proofs.Laid.{own_wide}
 use Rattle.hprof_laying.proofs.known.KnownLayouts.lay.Goals as goal
 
 pub returns-then-outline-bytes : goal.returns-then-outline-bytes
-returns-then-outline-bytes c = λ facts knows.
-    let outline : c.outline-outline.result ≡ outline_at c.args.class (plan_of c.args.self.now c.args.class) = c.outline-outline.ensures in
+returns-then-outline-bytes c = λ facts class knows is.
     let small : length c.args.bytes.now < 2 ^ 64 = omega arith in
-    rw c.clear.ensures.items (differs_laid c.args.ids facts c.args.self.now knows c.args.class c.args.bytes.now small
-    (λ e. c.if-outline-bytes.true (ap (λ (o : Outline). o.width) outline ∙ e)))
+    rw c.clear.ensures.items (differs_laid c.args.ids facts c.args.self.now knows class c.args.outline is c.args.bytes.now small c.if-outline-bytes.true)
 
 pub loop-next-init : goal.loop-next-init
 loop-next-init c = λ facts slots knows are fills.
-    let outline : c.outline-outline.result ≡ outline_at c.args.class (plan_of c.args.self.now c.args.class) = c.outline-outline.ensures in
     let small : length c.args.bytes.now < 2 ^ 64 = omega arith in
-    rw c.clear.ensures.items (laying_begins c.args.ids facts slots c.args.bytes.now c.outline-outline.result.first
-    (subst (λ (o : Outline). IsFirstJump c.args.ids facts slots o.first) (sym outline) are.first_is) fills small)
+    rw c.clear.ensures.items (laying_begins c.args.ids facts slots c.args.bytes.now c.args.outline.first are.first_is fills small)
 
 pub returns-in_default-landing : goal.returns-in_default-landing
-returns-in_default-landing c = λ facts knows.
-    let outline : c.outline-outline.result ≡ outline_at c.args.class (plan_of c.args.self.now c.args.class) = c.outline-outline.ensures in
+returns-in_default-landing c = λ facts class knows is.
     let small : length c.args.bytes.now < 2 ^ 64 = omega arith in
-    laid c.args.ids facts c.args.self.now knows c.args.class c.args.bytes.now c.loop-next.references.items small
-    (sym (ap (λ (o : Outline). o.width) outline) ∙ c.if-outline-bytes.false)
+    laid c.args.ids facts c.args.self.now knows class c.args.outline is c.args.bytes.now c.loop-next.references.items small
+    c.if-outline-bytes.false
     (λ slots are fills. absurd (lands c.args.ids facts slots c.args.bytes.now c.args.self.now knows c.in-Some.jump c.loop-next.rest.now
     c.loop-next.place c.loop-next.references.items
     (subst (λ (next : Option Jump). Laying c.args.ids facts slots c.args.bytes.now next c.loop-next.rest.now c.loop-next.place
@@ -60,11 +52,10 @@ loop-next-preserved c = λ facts slots knows are fills.
     (pushed ∙ ap (λ (l : List ℕ). old ++ references_in ids start own l) landed)
 
 pub returns : goal.returns
-returns c = λ facts knows.
-    let outline : c.outline-outline.result ≡ outline_at c.args.class (plan_of c.args.self.now c.args.class) = c.outline-outline.ensures in
+returns c = λ facts class knows is.
     let small : length c.args.bytes.now < 2 ^ 64 = omega arith in
-    laid c.args.ids facts c.args.self.now knows c.args.class c.args.bytes.now c.loop-next.references.items small
-    (sym (ap (λ (o : Outline). o.width) outline) ∙ c.if-outline-bytes.false)
+    laid c.args.ids facts c.args.self.now knows class c.args.outline is c.args.bytes.now c.loop-next.references.items small
+    c.if-outline-bytes.false
     (λ slots are fills. laying_ends c.args.ids facts slots c.args.bytes.now c.loop-next.rest.now c.loop-next.place
     c.loop-next.references.items
     (subst (λ (next : Option Jump). Laying c.args.ids facts slots c.args.bytes.now next c.loop-next.rest.now c.loop-next.place
