@@ -36,7 +36,7 @@ pub fn edge_to_class<C: Collect>(object: u64, class: u64, into: &mut C) -> Resul
 }
 
 /// Puts the edges of an instance by its fields, where its class has a layout of that outline, and it has these bytes. There are
-/// none where the layout has another number of bytes. The references are room that is used again.
+/// none where the layout has another number of bytes. What collects them is given those that it wants. The references are room that is used again.
 pub fn field_edges<C: Collect>(
     known: &KnownLayouts,
     instance: u64,
@@ -51,7 +51,7 @@ pub fn field_edges<C: Collect>(
         → PutBehind (C.holds into.new) edges (IsFieldEdge ids facts instance class bytes.now)) }
     ensures keeps { OnOk result (C.keeps into.new ≡ C.keeps into.old) }
 {
-    known.lay(outline, bytes, ids, references)?;
+    known.lay(outline, bytes, ids, into.wanted(), references)?;
     put_references(instance, references, into)?;
     Ok(())
 }

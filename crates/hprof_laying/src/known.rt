@@ -9,12 +9,12 @@ ghost use Rattle.hprof_finding.specs.ClassRow.{dump_of};
 ghost use Rattle.hprof_finding.specs.Classes.{HasNoDump};
 ghost use Rattle.hprof_laying.specs.declared.plan.Plan.{Plan};
 ghost use Rattle.hprof_laying.specs.Known.{AreWoken, HasDumpMore, HasLayout, IsOutlineOf, Knows, plan_of, waiting_below};
-ghost use Rattle.hprof_laying.specs.References.{AreReferences};
+ghost use Rattle.hprof_laying.specs.References.{AreWanted};
 ghost use Rattle.hprof_laying.specs.Waking.{CanWake, IsWaking, Wakes, number_waiting, put};
 
 use crate::own_fields::{OwnLayout, own_fields};
 use crate::plan::{Jump, Outline, Plan};
-use crate::reference::Reference;
+use crate::reference::{Reference, Wanted};
 use hprof_finding::ClassRow;
 use hprof_tables::HintedMap;
 use hprof_values::IdSize;
@@ -175,18 +175,19 @@ impl KnownLayouts {
         Some(plan)
     }
 
-    /// Puts what an instance of a class refers to that has this outline and these bytes in the place of other references, in
-    /// the order of its fields. There is nothing where the layout has another number of bytes. The error is that memory was
+    /// Puts what an instance of a class refers to that has this outline and these bytes, as far as it is wanted, in the place of
+    /// other references, in the order of its fields. There is nothing where the layout has another number of bytes. The error is that memory was
     /// refused; nothing holds then of the references.
     pub fn lay(
         &self,
         outline: Outline,
         bytes: &[u8],
         ids: IdSize,
+        wanted: Wanted,
         references: &mut Vec<Reference>,
     ) -> Result<(), AllocError>
         ensures { OnOk result ((facts : List FactValue) (class : ℕ) → Knows ids facts self.now → IsOutlineOf self.now class outline
-            → AreReferences ids facts class bytes.now references.new.items) }
+            → AreWanted ids facts class bytes.now wanted references.new.items) }
     {
         references.clear();
         if outline.width != bytes.len() as u128 {
@@ -201,7 +202,8 @@ impl KnownLayouts {
             };
             let (_, landed) = rest.split_at(jump.offset);
             let start = place.saturating_add(jump.place);
-            plan.own.push_references(landed, ids, start, references)?;
+            plan.own
+                .push_references(landed, ids, start, wanted, references)?;
             (_, rest) = landed.split_at(plan.own.width);
             place = start.saturating_add(plan.own.count);
             next = plan.above;

@@ -1,2 +1,3 @@
 pub mod Reaching
 pub mod Nodes
+pub mod KeptTargets
