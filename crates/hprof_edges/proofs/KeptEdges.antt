@@ -51,7 +51,7 @@ module _ {X : Type 0} (p : X → Bool) where
   kept (first ∷ xs) x passes there = kept_first first xs x passes (kept xs x passes) (p first) refl there
 
   -- the members that pass
-  kept_are : (xs : List X) (x : X) → Contains (filter p xs) x ↔ (Contains xs x × (p x ≡ true))
+  pub kept_are : (xs : List X) (x : X) → Contains (filter p xs) x ↔ (Contains xs x × (p x ≡ true))
   kept_are xs x = (
     λ there. (kept_before xs x there, All-contains (λ y. p y ≡ true) (filter p xs) x (filter_passes p xs) there),
     λ both. kept xs x both.1 both.0,

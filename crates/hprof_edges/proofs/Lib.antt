@@ -10,3 +10,4 @@ pub mod MoreFacts
 pub mod KeptEdges
 pub mod OnlyDumps
 pub mod TableEdges
+pub mod WantedEdges

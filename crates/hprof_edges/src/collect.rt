@@ -1,8 +1,10 @@
 //! What edges are put into.
 
-ghost use Rattle.std.specs.Prelude.{◌≡◌, ◌++◌, ◌∷◌, [], List, Bool, true, OnOk};
+ghost use Rattle.std.specs.Prelude.{◌≡◌, ◌++◌, ◌∷◌, [], List, Bool, true, false, filter, OnOk};
+ghost use Rattle.hprof_laying.specs.References.{is_wanted};
 
 use crate::edge::Edge;
+use hprof_laying::Wanted;
 use std::alloc::AllocError;
 
 /// What edges are put into.
@@ -14,6 +16,14 @@ pub trait Collect {
 
     // Which edges it keeps of those that it is given. That stays.
     ghost keeps: { Self → Edge → Bool } = { λ collects edge. true };
+
+    // What it was given is told by the edges alone that it keeps.
+    ghost same_kept: { (collects : Self) (one other : List Edge) → filter (keeps collects) one ≡ filter (keeps collects) other
+        → holds collects one → holds collects other };
+
+    /// Which edges it wants, by what they refer to: of others it keeps none.
+    fn wanted(&self) -> Wanted
+        ensures { (edge : Edge) → is_wanted result edge.to ≡ false → keeps self.now edge ≡ false };
 
     /// Takes an edge. Where memory is refused, nothing holds of it.
     fn put(&mut self, edge: Edge) -> Result<(), AllocError>

@@ -1,9 +1,11 @@
 //! A list of edges.
 
 ghost use Rattle.std.specs.Prelude.{◌≡◌, []};
+ghost use Rattle.hprof_laying.specs.References.{is_wanted};
 
 use crate::collect::Collect;
 use crate::edge::Edge;
+use hprof_laying::Wanted;
 use std::alloc::{AllocError, Global};
 
 /// Which edges are kept.
@@ -13,6 +15,22 @@ pub enum Watched {
     All,
     /// Those to this identifier.
     To(u64),
+}
+
+impl Watched {
+    ghost use Rattle.hprof_edges.specs.declared.edge.Edge.{Edge};
+    ghost use Rattle.hprof_edges.specs.Collecting.{is_watched};
+
+    /// What the edges refer to that are kept.
+    #[inline(always)]
+    pub fn wanted(self) -> Wanted
+        ensures { (edge : Edge) → is_wanted result edge.to ≡ is_watched self edge }
+    {
+        match self {
+            Watched::All => Wanted::All,
+            Watched::To(id) => Wanted::To(id),
+        }
+    }
 }
 
 /// Edges, in the order in which they were put.
@@ -63,11 +81,19 @@ impl EdgeList {
 
 /// It keeps the edges that are watched.
 impl Collect for EdgeList {
+    ghost use Rattle.std.proofs.Common.{◌∙◌};
     ghost use Rattle.hprof_edges.specs.Collecting.{KeepsOf, is_watched, watched_by};
 
     ghost holds = { KeepsOf };
 
     ghost keeps = { λ list. is_watched (watched_by list) };
+
+    ghost same_kept = { λ list one other same held. held ∙ same };
+
+    #[inline(always)]
+    fn wanted(&self) -> Wanted {
+        self.watched.wanted()
+    }
 
     fn put(&mut self, edge: Edge) -> Result<(), AllocError> {
         if self.watches(edge) {

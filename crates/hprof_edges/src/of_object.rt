@@ -1,10 +1,10 @@
 //! The edges of an object.
 
-ghost use Rattle.std.specs.Prelude.{◌≡◌, ◌⊎◌, List, OnOk};
+ghost use Rattle.std.specs.Prelude.{◌≡◌, ◌⊎◌, ℕ, List, OnOk};
 ghost use Rattle.hprof_items.specs.FactValue.{FactValue};
 ghost use Rattle.hprof_lists.specs.Lists.{identifiers_of};
 ghost use Rattle.hprof_finding.specs.ObjectRow.{fact_of_object};
-ghost use Rattle.hprof_laying.specs.Known.{Knows};
+ghost use Rattle.hprof_laying.specs.Known.{IsOutlineOf, Knows};
 ghost use Rattle.hprof_edges.specs.declared.edge.Edge.{Edge};
 ghost use Rattle.hprof_edges.specs.Collecting.{PutBehind};
 ghost use Rattle.hprof_edges.specs.DumpEdges.{IsEdgeToClass, IsElementEdge, IsFieldEdge, IsObjectEdge};
@@ -13,7 +13,7 @@ use crate::collect::Collect;
 use crate::edge::{Edge, Via};
 use crate::putting::{put_edge, put_elements, put_references};
 use hprof_finding::ObjectRow;
-use hprof_laying::{KnownLayouts, Reference};
+use hprof_laying::{KnownLayouts, Outline, Reference};
 use hprof_lists::IdList;
 use hprof_values::IdSize;
 use std::alloc::AllocError;
@@ -35,22 +35,24 @@ pub fn edge_to_class<C: Collect>(object: u64, class: u64, into: &mut C) -> Resul
     Ok(())
 }
 
-/// Puts the edges of an instance of the class that has these bytes by its fields. There are none where the layout of the
-/// class is not known, or has another number of bytes. The references are room that is used again.
+/// Puts the edges of an instance by its fields, where its class has a layout of that outline, and it has these bytes. There are
+/// none where the layout has another number of bytes. What collects them is given those that it wants. The references are room
+/// that is used again.
 pub fn field_edges<C: Collect>(
     known: &KnownLayouts,
     instance: u64,
-    class: u64,
+    outline: Outline,
     bytes: &[u8],
     ids: IdSize,
     references: &mut Vec<Reference>,
     into: &mut C,
 ) -> Result<(), AllocError>
-    ensures holds { OnOk result ((facts : List FactValue) (edges : List Edge) → Knows ids facts known.now → C.holds into.old edges
+    ensures holds { OnOk result ((facts : List FactValue) (class : ℕ) (edges : List Edge) → Knows ids facts known.now
+        → IsOutlineOf known.now class outline → C.holds into.old edges
         → PutBehind (C.holds into.new) edges (IsFieldEdge ids facts instance class bytes.now)) }
     ensures keeps { OnOk result (C.keeps into.new ≡ C.keeps into.old) }
 {
-    known.lay(class, bytes, ids, references)?;
+    known.lay(outline, bytes, ids, into.wanted(), references)?;
     put_references(instance, references, into)?;
     Ok(())
 }
@@ -94,7 +96,10 @@ pub fn object_edges<C: Collect>(
             ..
         } => {
             edge_to_class(id, class, into)?;
-            field_edges(known, id, class, bytes, ids, references, into)?;
+            let Some(outline) = known.outline(class) else {
+                return Ok(());
+            };
+            field_edges(known, id, outline, bytes, ids, references, into)?;
             Ok(())
         }
         ObjectRow::ObjArray {

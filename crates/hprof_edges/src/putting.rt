@@ -87,7 +87,7 @@ pub(crate) fn put_statics<C: Collect>(
     Ok(())
 }
 
-/// Puts the edges of an array of objects by its elements.
+/// Puts the edges of an array of objects by its elements. What collects them is given those that it wants.
 pub(crate) fn put_elements<C: Collect>(
     array: u64,
     elements: IdList<'_>,
@@ -99,15 +99,18 @@ pub(crate) fn put_elements<C: Collect>(
 {
     // They are no more than a number can count.
     let _count = elements.len();
+    let wanted = into.wanted();
     let mut position = 0;
     for to in elements.iter() {
-        let edge = Edge {
-            from: array,
-            via: Via::Element,
-            position,
-            to,
-        };
-        put_edge(edge, into)?;
+        if wanted.wants(to) {
+            let edge = Edge {
+                from: array,
+                via: Via::Element,
+                position,
+                to,
+            };
+            put_edge(edge, into)?;
+        }
         position += 1;
     }
     Ok(())

@@ -57,7 +57,8 @@ fn edges_of_rows(rt: HostRuntime) -> Result<(), Fail> {
         object_edges(&known, &object, ids, &mut references, &mut list)?;
     }
     edge_to_class(300, 100, &mut list)?;
-    field_edges(&known, 300, 100, bytes, ids, &mut references, &mut list)?;
+    let outline = known.outline(100).ok_or("no layout")?;
+    field_edges(&known, 300, outline, bytes, ids, &mut references, &mut list)?;
     let edges = [
         edge(100, Via::Parent, 0, 99),
         edge(200, Via::Class, 0, 100),

@@ -39,23 +39,23 @@ module _ (ids : IdSize) (facts : List FactValue) (before : ℕ → Option Plan) 
       }
 
   pub hand_more : (plans after : ℕ → Option Plan) (waits : ℕ → List Waiting) (woken : List ℕ) (rest later : List Waiting) (first : Waiting)
-      (slots : List Slot) (outline : Outline) → IsKnown facts class slots → IsOutline ids facts slots outline
-      → InHand plans waits woken rest → rest ≡ first ∷ later → after ≡ put plans first.class (Some (plan_below outline first.own))
+      (slots : List Slot) (outline : Outline) (place : ℕ) → IsKnown facts class slots → IsOutline ids facts slots outline
+      → InHand plans waits woken rest → rest ≡ first ∷ later → after ≡ put plans first.class (Some (plan_below outline place first.own))
       → InHand after waits (woken ++ first.class ∷ []) later
-  hand_more plans after waits woken rest later first slots outline known outline_are hand e f =
+  hand_more plans after waits woken rest later first slots outline place known outline_are hand e f =
       let stands : PlansStand ids facts plans (put waits class (first ∷ later)) (class ∷ (pending ++ hand.more)) =
       subst (λ (l : List Waiting). PlansStand ids facts plans (put waits class l) (class ∷ (pending ++ hand.more))) e hand.standing in
-      let then = stands_woken ids facts plans waits class first later (pending ++ hand.more) stands slots known outline outline_are in
-      let none = first_unplanned ids facts plans waits class first later (pending ++ hand.more) stands slots known outline outline_are in
+      let then = stands_woken ids facts plans waits class first later (pending ++ hand.more) stands slots known outline outline_are place in
+      let none = first_unplanned ids facts plans waits class first later (pending ++ hand.more) stands slots known outline outline_are place in
       record {
         more = hand.more ++ first.class ∷ [];
         woken_are = ap (λ (l : List ℕ). l ++ first.class ∷ []) hand.woken_are ∙ append_assoc old hand.more (first.class ∷ []);
         standing = subst (λ (p : ℕ → Option Plan). PlansStand ids facts p (put waits class later)
             (class ∷ (pending ++ (hand.more ++ first.class ∷ [])))) (sym f)
-            (subst (λ (l : List ℕ). PlansStand ids facts (put plans first.class (Some (plan_below outline first.own))) (put waits class later)
+            (subst (λ (l : List ℕ). PlansStand ids facts (put plans first.class (Some (plan_below outline place first.own))) (put waits class later)
             (class ∷ l)) (append_assoc pending hand.more (first.class ∷ [])) then);
         woke = subst (λ (p : ℕ → Option Plan). Woke before p (woken ++ first.class ∷ [])) (sym f)
-            (woke_more before plans woken first.class (plan_below outline first.own) hand.woke none);
+            (woke_more before plans woken first.class (plan_below outline place first.own) hand.woke none);
       }
 
   -- when none is left in hand

@@ -112,6 +112,12 @@ module _ (ids : IdSize) (facts : List FactValue) (known : KnownLayouts) (knows :
   ready_known class (inl zero_is) = subst (HasLayout facts) (sym zero_is) ([], known_zero facts)
   ready_known class (inr planned) = (knows.only class planned.0 planned.1).1
 
+  -- a class without a plan has no known layout
+  pub unplanned_unknown : (class : ℕ) → plan_of known class ≡ None → class ≢ 0 → HasLayout facts class → ⊥
+  unplanned_unknown class none not_zero layout =
+      let has = knows.planned class layout.0 not_zero layout.1 in
+      not_both (plan_of known class) has.plan has.found none
+
   unplanned_when : (class : ℕ) → (HasLayout facts class → ⊥) → plan_of known class ≡ None
   unplanned_when class unknown = elim (look (plan_of known class)) [
     | There plan e ↦ absurd (unknown (knows.only class plan e).1)

@@ -1,6 +1,7 @@
 -- An instance that is laid by jumps from class to class.
 use Rattle.std.specs.Prelude.{◌≢◌}
 use Rattle.std.proofs.lemmas.List.{append-nil}
+use Rattle.std.proofs.lemmas.List.Elements.{filter-append}
 use Rattle.std.proofs.lemmas.Bool.{cases_eq}
 use Rattle.std.proofs.Common.{◌≡◌, ℕ, ◌+◌, ◌^◌, ◌<◌, ◌≤◌, min, List, [], ◌++◌, length, drop, Option, Some, None, refl, sym, ap, subst, ◌∙◌}
 use Rattle.std.proofs.Common.{append_assoc, inl, inr, arith, length-append, length-drop}
@@ -8,53 +9,55 @@ use Rattle.hprof_values.specs.declared.ids.IdSize.{IdSize}
 use Rattle.hprof_items.specs.FactValue.{FactValue}
 use Rattle.hprof_finding.specs.Classes.{ClassDump}
 use Rattle.hprof_layouts.specs.declared.slot.Slot.{Slot}
-use Rattle.hprof_layouts.specs.Fields.{width_of_slots}
+use Rattle.hprof_layouts.specs.declared.field_value.FieldValue.{FieldValue}
+use Rattle.hprof_layouts.specs.Fields.{HasValues, width_of_slots}
 use Rattle.hprof_layouts.specs.Layout.{own_slots}
 use Rattle.hprof_laying.specs.declared.known.KnownLayouts.{KnownLayouts}
 use Rattle.hprof_laying.specs.declared.plan.Jump.{Jump}
 use Rattle.hprof_laying.specs.declared.plan.Outline.{Outline}
 use Rattle.hprof_laying.specs.declared.plan.Plan.{Plan}
 use Rattle.hprof_laying.specs.declared.reference.Reference.{Reference}
-use Rattle.hprof_laying.specs.Known.{HasLayout, HasPlan, Knows, plan_of, waiting_below}
+use Rattle.hprof_laying.specs.declared.reference.Wanted.{Wanted}
+use Rattle.hprof_laying.specs.Known.{HasPlan, IsOutlineOf, Knows, plan_of, waiting_below}
 use Rattle.hprof_laying.specs.OwnFields.{IsOwn, references_in}
-use Rattle.hprof_laying.specs.Plan.{IsFirstJump, IsOutline, most, outline_at}
+use Rattle.hprof_laying.specs.Plan.{IsFirstJump, IsOutline, most, most_wide, no_outline, outline_at}
 use Rattle.hprof_laying.specs.Waking.{CanWake}
-use Rattle.hprof_laying.specs.References.{AreReferences}
-use Rattle.hprof_laying.proofs.KnownPlans.{There, Nowhere, known_ready, knows_standing, look, not_both, one_plan}
+use Rattle.hprof_laying.specs.References.{AreWanted, is_wanted, wanted_of}
+use Rattle.hprof_laying.proofs.KnownPlans.{There, Nowhere, known_ready, knows_standing, look, one_plan, unplanned_unknown}
 use Rattle.hprof_laying.proofs.Outlines.{one_known}
 use Rattle.hprof_laying.proofs.Places.{length-le-width, references_in-append, references_in-behind, references_in-none, width-append}
 use Rattle.hprof_laying.proofs.ReferenceSets.{are_references, no_references}
 use Rattle.hprof_laying.proofs.Wakings.{ready_outline}
 
 -- some slots were gone over: what was found, and what those that are left have over the bytes that are left, is the answer
-pub record Laying (ids : IdSize) (facts : List FactValue) (slots : List Slot) (bytes : List ℕ) (next : Option Jump) (rest : List ℕ)
-    (place : ℕ) (references : List Reference) : Type 0 where
+pub record Laying (ids : IdSize) (facts : List FactValue) (slots : List Slot) (bytes : List ℕ) (which : Wanted) (next : Option Jump)
+    (rest : List ℕ) (place : ℕ) (references : List Reference) : Type 0 where
   pub left : List Slot
   pub first : IsFirstJump ids facts left next
   pub fills : width_of_slots ids left ≡ length rest
   pub counted : place + length left ≡ length slots
   pub few : length slots < 2 ^ 64
   pub small : length rest < 2 ^ 64
-  pub all : references ++ references_in ids place left rest ≡ references_in ids 0 slots bytes
+  pub all : references ++ wanted_of which (references_in ids place left rest) ≡ wanted_of which (references_in ids 0 slots bytes)
 
-module _ (ids : IdSize) (facts : List FactValue) (slots : List Slot) (bytes : List ℕ) where
+module _ (ids : IdSize) (facts : List FactValue) (slots : List Slot) (bytes : List ℕ) (which : Wanted) where
   pub laying_begins : (next : Option Jump) → IsFirstJump ids facts slots next → width_of_slots ids slots ≡ length bytes → length bytes < 2 ^ 64
-      → Laying ids facts slots bytes next bytes 0 []
+      → Laying ids facts slots bytes which next bytes 0 []
   laying_begins next first fills small =
       let less = length-le-width ids slots in
       record { left = slots; first = first; fills = fills; counted = omega arith; few = omega arith; small = small; all = refl }
 
   -- where no class is left
-  pub laying_ends : (rest : List ℕ) (place : ℕ) (references : List Reference) → Laying ids facts slots bytes None rest place references
-      → references ≡ references_in ids 0 slots bytes
+  pub laying_ends : (rest : List ℕ) (place : ℕ) (references : List Reference) → Laying ids facts slots bytes which None rest place references
+      → references ≡ wanted_of which (references_in ids 0 slots bytes)
   laying_ends rest place references laying =
       sym (append-nil references)
-      ∙ sym (ap (λ (l : List Reference). references ++ l) (references_in-none ids place laying.left rest laying.first))
+      ∙ sym (ap (λ (l : List Reference). references ++ wanted_of which l) (references_in-none ids place laying.left rest laying.first))
       ∙ laying.all
 
   -- a jump
   module _ (known : KnownLayouts) (knows : Knows ids facts known) (jump : Jump) (rest : List ℕ) (place : ℕ) (references : List Reference)
-      (laying : Laying ids facts slots bytes (Some jump) rest place references) where
+      (laying : Laying ids facts slots bytes which (Some jump) rest place references) where
     -- where the own fields of the class lie that has the plan
     record Landing (plan : Plan) : Type 0 where
       pub own : List Slot
@@ -153,8 +156,8 @@ module _ (ids : IdSize) (facts : List FactValue) (slots : List Slot) (bytes : Li
           omega arith
 
       pub laying_on : (later : List ℕ) (end : ℕ) (new : List Reference) → later ≡ drop plan.own.width (drop jump.offset rest)
-          → end ≡ min (start + plan.own.count) most → new ≡ references ++ references_in ids start own_here (drop jump.offset rest)
-          → Laying ids facts slots bytes plan.above later end new
+          → end ≡ min (start + plan.own.count) most → new ≡ references ++ wanted_of which (references_in ids start own_here (drop jump.offset rest))
+          → Laying ids facts slots bytes which plan.above later end new
       unfolding own_here
       laying_on later end new e f g =
           let here = landing_at plan found in
@@ -187,6 +190,10 @@ module _ (ids : IdSize) (facts : List FactValue) (slots : List Slot) (bytes : Li
           ∙ ap (λ (w : ℕ). references_in ids start (here.own ++ here.above) (drop w rest)) (sym here.offset_is)
           ∙ references_in-append ids start here.own here.above landed
           ∙ ap (λ (l : List Reference). references_in ids start here.own landed ++ l) above in
+          let wanted_then : wanted_of which (references_in ids place laying.left rest)
+          ≡ wanted_of which (references_in ids start here.own landed) ++ wanted_of which (references_in ids end here.above later) =
+          ap (wanted_of which) own_then ∙ filter-append (λ (r : Reference). is_wanted which r.to) (references_in ids start here.own landed)
+          (references_in ids end here.above later) in
           record {
             left = here.above;
             first = here.first;
@@ -194,55 +201,64 @@ module _ (ids : IdSize) (facts : List FactValue) (slots : List Slot) (bytes : Li
             counted = omega arith;
             few = few;
             small = omega arith;
-            all = ap (λ (l : List Reference). l ++ references_in ids end here.above later) g
-                ∙ append_assoc references (references_in ids start here.own landed) (references_in ids end here.above later)
-                ∙ sym (ap (λ (l : List Reference). references ++ l) own_then)
+            all = ap (λ (l : List Reference). l ++ wanted_of which (references_in ids end here.above later)) g
+                ∙ append_assoc references (wanted_of which (references_in ids start here.own landed))
+                (wanted_of which (references_in ids end here.above later))
+                ∙ sym (ap (λ (l : List Reference). references ++ l) wanted_then)
                 ∙ laying.all;
           }
 
 -- ---- what is answered
 
-module _ (ids : IdSize) (facts : List FactValue) (known : KnownLayouts) (knows : Knows ids facts known) (class : ℕ) (bytes : List ℕ) where
-  -- a class that is not ready has no plan, and no known layout
-  unknown_class : plan_of known class ≡ None → class ≢ 0 → HasLayout facts class → ⊥
-  unknown_class none not_zero layout =
-      let has = knows.planned class layout.0 not_zero layout.1 in
-      not_both (plan_of known class) has.plan has.found none
+module _ (ids : IdSize) (facts : List FactValue) (known : KnownLayouts) (knows : Knows ids facts known) (class : ℕ) (outline : Outline)
+    (is : IsOutlineOf known class outline) (bytes : List ℕ) (which : Wanted) where
+  -- where it has no values
+  wanted_nothing : (references : List Reference) → ((values : List FieldValue) → HasValues ids facts class bytes values → ⊥)
+      → references ≡ [] → AreWanted ids facts class bytes which references
+  wanted_nothing references none empty = record {
+    all = [];
+    all_are = no_references ids facts class bytes none;
+    wanted_are = empty;
+  }
 
   -- where the layout has another number of bytes, there is nothing
-  pub differs_laid : length bytes < 2 ^ 64 → (outline_at class (plan_of known class)).width ≢ length bytes
-      → AreReferences ids facts class bytes []
-  differs_laid small differs = no_references ids facts class bytes (λ values has.
+  pub differs_laid : length bytes < 2 ^ 64 → outline.width ≢ length bytes
+      → AreWanted ids facts class bytes which []
+  differs_laid small differs = wanted_nothing [] (λ values has.
       let ready = ready_outline ids facts (plan_of known) (waiting_below known) [] (knows_standing ids facts known knows) class
       (known_ready ids facts known knows class (has.slots, has.known)) in
       let same : ready.slots ≡ has.slots = one_known facts knows.each class ready.slots has.slots ready.known has.known in
-      let width = ready.outline_are.width_is in
+      let width : outline.width ≡ min (width_of_slots ids ready.slots) most_wide =
+      ap (λ (o : Outline). o.width) is ∙ ready.outline_are.width_is in
       let fills : width_of_slots ids ready.slots ≡ length bytes = ap (width_of_slots ids) same ∙ has.fills in
-      differs (omega arith))
+      differs (omega arith)) refl
 
   -- where it has as many, it is what the slots refer to
-  pub laid : (references : List Reference) → length bytes < 2 ^ 64 → (outline_at class (plan_of known class)).width ≡ length bytes
-      → ((slots : List Slot) → IsOutline ids facts slots (outline_at class (plan_of known class)) → width_of_slots ids slots ≡ length bytes
-      → references ≡ references_in ids 0 slots bytes) → AreReferences ids facts class bytes references
+  pub laid : (references : List Reference) → length bytes < 2 ^ 64 → outline.width ≡ length bytes
+      → ((slots : List Slot) → IsOutline ids facts slots outline → width_of_slots ids slots ≡ length bytes
+      → references ≡ wanted_of which (references_in ids 0 slots bytes)) → AreWanted ids facts class bytes which references
   laid references small same found = elim (cases_eq class 0) [
     | inl zero_is ↦ by_ready (inl zero_is)
     | inr other ↦ elim (look (plan_of known class)) [
       | There plan e ↦ by_ready (inr (plan, e))
       | Nowhere e ↦
-          let outline = outline_at class (plan_of known class) in
-          let bare : outline ≡ record { width = 0; first = None } = ap (outline_at class) e in
+          let bare : outline ≡ no_outline = is ∙ ap (outline_at class) e in
           let none : width_of_slots ids [] ≡ length bytes = ap (λ (o : Outline). o.width) (sym bare) ∙ same in
           let are : IsOutline ids facts [] outline =
           subst (IsOutline ids facts []) (sym bare) (record { width_is = refl; first_is = tt }) in
-          subst (AreReferences ids facts class bytes) (sym (found [] are none))
-          (no_references ids facts class bytes (λ values has. unknown_class e other (has.slots, has.known)))
+          wanted_nothing references
+          (λ values has. unplanned_unknown ids facts known knows class e other (has.slots, has.known)) (found [] are none)
     ]
   ] where
-    by_ready : CanWake (plan_of known) class → AreReferences ids facts class bytes references
+    by_ready : CanWake (plan_of known) class → AreWanted ids facts class bytes which references
     by_ready ready =
         let layout = ready_outline ids facts (plan_of known) (waiting_below known) [] (knows_standing ids facts known knows) class ready in
-        let width = layout.outline_are.width_is in
+        let are : IsOutline ids facts layout.slots outline = subst (IsOutline ids facts layout.slots) (sym is) layout.outline_are in
+        let width = are.width_is in
         let fills : width_of_slots ids layout.slots ≡ length bytes = omega arith in
-        subst (AreReferences ids facts class bytes) (sym (found layout.slots layout.outline_are fills))
-        (are_references ids facts class bytes layout.slots layout.known fills
-        (λ others is. one_known facts knows.each class others layout.slots is layout.known))
+        record {
+          all = references_in ids 0 layout.slots bytes;
+          all_are = are_references ids facts class bytes layout.slots layout.known fills
+              (λ others is. one_known facts knows.each class others layout.slots is layout.known);
+          wanted_are = found layout.slots are fills;
+        }

@@ -64,10 +64,10 @@ no_elements (x ∷ xs) e = absurd (omega arith)
 module _ (ids : IdSize) (facts : List FactValue) where
   -- ---- from above to below
 
-  pub plan_is : (dump : ClassDump) (own : OwnLayout) (slots : List Slot) (outline : Outline) → dump.id ≢ 0 → HasDump facts dump
+  pub plan_is : (dump : ClassDump) (own : OwnLayout) (slots : List Slot) (outline : Outline) (place : ℕ) → dump.id ≢ 0 → HasDump facts dump
       → IsOwn ids (own_slots dump) own → IsKnown facts dump.parent slots → IsOutline ids facts slots outline
-      → IsPlan ids facts dump.id (own_slots dump ++ slots) (plan_below outline own)
-  plan_is dump own slots outline not_zero has own_are known is = record {
+      → IsPlan ids facts dump.id (own_slots dump ++ slots) (plan_below outline place own)
+  plan_is dump own slots outline place not_zero has own_are known is = record {
     not_zero = not_zero;
     dump = dump;
     has = has;
@@ -93,7 +93,7 @@ module _ (ids : IdSize) (facts : List FactValue) where
         (subst (IsKnown facts is.dump.id) (sym is.slots_are) (known_below facts is.dump is.slots_above not_zero is.has is.known_above))
 
     -- the class has own fields that refer to something
-    first_here : 0 < vec_len plan.own.references → IsJump ids facts slots (record { class = class; offset = 0; place = 0 })
+    first_here : 0 < vec_len plan.own.references → IsJump ids facts slots (record { class = class; at = plan.at; offset = 0; place = 0 })
     first_here some =
         let len = plan.own.references.ok.0 in
         let same = ap (λ (l : List OwnReference). length l) is.own_are.references_are in
@@ -148,7 +148,7 @@ module _ (ids : IdSize) (facts : List FactValue) where
         }
 
     first_by : (t : Bool) → (vec_len plan.own.references == 0) ≡ t → IsFirstJump ids facts slots
-        (cond t (option_map (jump_behind plan.own) plan.above) (Some (record { class = class; offset = 0; place = 0 })))
+        (cond t (option_map (jump_behind plan.own) plan.above) (Some (record { class = class; at = plan.at; offset = 0; place = 0 })))
     first_by true none = first_above plan.above (none_own (eqb-true (vec_len plan.own.references) 0 none)) is.above_is
     first_by false some = first_here (grind (arith, some))
 

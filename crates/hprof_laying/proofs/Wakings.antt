@@ -305,9 +305,10 @@ module _ (ids : IdSize) (facts more : List FactValue) (plans : ℕ → Option Pl
 
 module _ (ids : IdSize) (facts : List FactValue) (plans : ℕ → Option Plan) (waits : ℕ → List Waiting) (class : ℕ) (first : Waiting)
     (rest : List Waiting) (pending : List ℕ) (stands : PlansStand ids facts plans (put waits class (first ∷ rest)) (class ∷ pending))
-    (slots : List Slot) (known : IsKnown facts class slots) (outline : Outline) (outline_are : IsOutline ids facts slots outline) where
+    (slots : List Slot) (known : IsKnown facts class slots) (outline : Outline) (outline_are : IsOutline ids facts slots outline)
+    (place : ℕ) where
   abbrev plan_first : Plan
-  plan_first = plan_below outline first.own
+  plan_first = plan_below outline place first.own
 
   abbrev plans_after : ℕ → Option Plan
   plans_after = put plans first.class (Some plan_first)
@@ -364,7 +365,7 @@ module _ (ids : IdSize) (facts : List FactValue) (plans : ℕ → Option Plan) (
   first_plan =
       let not_zero : first_is.dump.id ≢ 0 = λ e. (stands.unplanned class first first_there).0 (sym first_is.id ∙ e) in
       subst (λ (c : ℕ). IsPlan ids facts c (own_slots first_is.dump ++ slots) plan_first) first_is.id
-      (plan_is ids facts first_is.dump first.own slots outline not_zero first_is.has first_is.own_are
+      (plan_is ids facts first_is.dump first.own slots outline place not_zero first_is.has first_is.own_are
       (subst (λ (c : ℕ). IsKnown facts c slots) (sym first_is.parent) known) outline_are)
 
   plans_are_after : (at : ℕ) (plan : Plan) → plans_after at ≡ Some plan → (own : List Slot) × HasPlan ids facts plans_after at own

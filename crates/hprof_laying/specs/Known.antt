@@ -12,9 +12,10 @@ use Rattle.hprof_layouts.specs.declared.slot.Slot.{Slot}
 use Rattle.hprof_layouts.specs.Layout.{IsKnown, own_slots}
 use Rattle.hprof_laying.specs.declared.known.KnownLayouts.{KnownLayouts}
 use Rattle.hprof_laying.specs.declared.known.Waiting.{Waiting}
+use Rattle.hprof_laying.specs.declared.plan.Outline.{Outline}
 use Rattle.hprof_laying.specs.declared.plan.Plan.{Plan}
 use Rattle.hprof_laying.specs.OwnFields.{IsOwn}
-use Rattle.hprof_laying.specs.Plan.{IsPlan}
+use Rattle.hprof_laying.specs.Plan.{IsPlan, outline_at}
 
 -- the layout of the class is known
 abbrev pub HasLayout : List FactValue → ℕ → Type 0
@@ -33,6 +34,10 @@ plan_of known class = value_in known.plans class
 -- the classes that wait for their superclass
 abbrev pub waiting_below : KnownLayouts → ℕ → List Waiting
 waiting_below known superclass = option_map_or (λ list. list.items) (get nat_cmp known.waiting superclass) []
+
+-- with that laying the instances of the class begins
+abbrev pub IsOutlineOf : KnownLayouts → ℕ → Outline → Type 0
+IsOutlineOf known class outline = outline ≡ outline_at class (plan_of known class)
 
 -- ---- what it means
 

@@ -67,23 +67,33 @@ pub record IsPlan (ids : IdSize) (facts : List FactValue) (class : ℕ) (slots :
 abbrev pub jump_behind : OwnLayout → Jump → Jump
 jump_behind own jump = record {
   class = jump.class;
+  at = jump.at;
   offset = min (jump.offset + own.width) most;
   place = min (jump.place + own.count) most;
 }
 
--- the plan of a class with these own fields, below a layout of that outline
-abbrev pub plan_below : Outline → OwnLayout → Plan
-plan_below outline own = record { width = min (outline.width + own.width) most_wide; own = own; above = outline.first }
+-- the plan of a class with these own fields, below a layout of that outline; it is put in at that place
+abbrev pub plan_below : Outline → ℕ → OwnLayout → Plan
+plan_below outline at own = record {
+  at = at;
+  width = min (outline.width + own.width) most_wide;
+  own = own;
+  above = outline.first;
+}
+
+-- the outline of a layout that has no slots
+abbrev pub no_outline : Outline
+no_outline = record { width = 0; first = None }
 
 -- the outline of the layout of a class that has the plan
 abbrev pub outline_of : ℕ → Plan → Outline
 outline_of class plan = record {
   width = plan.width;
   first = if vec_len plan.own.references == 0 then option_map (jump_behind plan.own) plan.above
-      else Some (record { class = class; offset = 0; place = 0 });
+      else Some (record { class = class; at = plan.at; offset = 0; place = 0 });
 }
 
 -- the outline of the layout of a class that has the plan, or none; class 0 has none, and its layout has no slots
 abbrev pub outline_at : ℕ → Option Plan → Outline
-outline_at class None = record { width = 0; first = None }
+outline_at class None = no_outline
 outline_at class (Some plan) = outline_of class plan

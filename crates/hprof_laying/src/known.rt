@@ -8,14 +8,13 @@ ghost use Rattle.hprof_items.specs.FactValue.{FactValue};
 ghost use Rattle.hprof_finding.specs.ClassRow.{dump_of};
 ghost use Rattle.hprof_finding.specs.Classes.{HasNoDump};
 ghost use Rattle.hprof_laying.specs.declared.plan.Plan.{Plan};
-ghost use Rattle.hprof_laying.specs.Plan.{outline_at};
-ghost use Rattle.hprof_laying.specs.Known.{AreWoken, HasDumpMore, HasLayout, Knows, plan_of, waiting_below};
-ghost use Rattle.hprof_laying.specs.References.{AreReferences};
+ghost use Rattle.hprof_laying.specs.Known.{AreWoken, HasDumpMore, HasLayout, IsOutlineOf, Knows, plan_of, waiting_below};
+ghost use Rattle.hprof_laying.specs.References.{AreWanted};
 ghost use Rattle.hprof_laying.specs.Waking.{CanWake, IsWaking, Wakes, number_waiting, put};
 
 use crate::own_fields::{OwnLayout, own_fields};
 use crate::plan::{Jump, Outline, Plan};
-use crate::reference::Reference;
+use crate::reference::{Reference, Wanted};
 use hprof_finding::ClassRow;
 use hprof_tables::HintedMap;
 use hprof_values::IdSize;
@@ -61,17 +60,29 @@ impl KnownLayouts {
         class == 0 || self.plans.contains_key(class)
     }
 
-    /// The outline of the layout of a class that has a plan, or of no slots.
+    /// The outline of the layout of a class, if it is known: laying its instances begins with it. The class is looked up once.
     #[inline(always)]
-    fn outline(&self, class: u64) -> Outline
-        ensures { result ≡ outline_at class (plan_of self.now class) }
+    pub fn outline(&self, class: u64) -> Option<Outline>
+        ensures some { IfSome result (λ outline. IsOutlineOf self.now class outline) }
+        ensures known { IfSome result (λ outline. (ids : IdSize) (facts : List FactValue) → Knows ids facts self.now → HasLayout facts class) }
+        ensures unknown { IfNone result ((ids : IdSize) (facts : List FactValue) → Knows ids facts self.now → HasLayout facts class → ⊥) }
+        ensures ready { IfNone result (CanWake (plan_of self.now) class → ⊥) }
     {
         match self.plans.get(class) {
-            None => Outline {
-                width: 0,
-                first: None,
-            },
-            Some(plan) => plan.outline(class),
+            Some(plan) => Some(plan.outline(class)),
+            None if class == 0 => Some(Outline::of_nothing()),
+            None => None,
+        }
+    }
+
+    /// The plan of a class that was put in at that place. Whatever the place is, the same is found.
+    #[inline(always)]
+    fn plan_at(&self, class: u64, at: usize) -> Option<&Plan>
+        ensures { option_copied result ≡ plan_of self.now class }
+    {
+        match self.plans.rows().get(at) {
+            Some(row) if row.0 == class => Some(&row.1),
+            _ => self.plans.get(class),
         }
     }
 
@@ -119,12 +130,15 @@ impl KnownLayouts {
             → Wakes ids facts before self.new woken.old.items woken.new.items pending) }
         ensures counted { OnOk result (number_waiting self.new + vec_len woken.new ≡ number_waiting self.old + vec_len woken.old) }
     {
-        let outline = self.outline(class);
+        let Some(outline) = self.outline(class) else {
+            return Ok(());
+        };
         let Some(waiting) = self.waiting.remove(&class) else {
             return Ok(());
         };
         for Waiting { class: below, own } in waiting {
-            self.plans.insert(below, Plan::below(outline, own))?;
+            let at = self.plans.len();
+            self.plans.insert(below, Plan::below(outline, at, own))?;
             woken.push(below)?;
         }
         Ok(())
@@ -153,7 +167,7 @@ impl KnownLayouts {
         ensures none { IfNone result ((plan : Plan) → plan_of self.now jump.class ≡ Some plan → 0 < plan.own.width
             → jump.offset + plan.own.width ≤ room → ⊥) }
     {
-        let plan = self.plans.get(jump.class)?;
+        let plan = self.plan_at(jump.class, jump.at)?;
         let end = jump.offset.checked_add(plan.own.width)?;
         if plan.own.width == 0 || room < end {
             return None;
@@ -161,21 +175,21 @@ impl KnownLayouts {
         Some(plan)
     }
 
-    /// Puts what an instance of the class that has these bytes refers to in the place of other references, in the order of
-    /// its fields. There is nothing where the layout of the class is not known, or has another number of bytes. The error is
-    /// that memory was refused; nothing holds then of the references.
+    /// Puts what an instance of a class refers to that has this outline and these bytes, as far as it is wanted, in the place of
+    /// other references, in the order of its fields. There is nothing where the layout has another number of bytes. The error is that memory was
+    /// refused; nothing holds then of the references.
     pub fn lay(
         &self,
-        class: u64,
+        outline: Outline,
         bytes: &[u8],
         ids: IdSize,
+        wanted: Wanted,
         references: &mut Vec<Reference>,
     ) -> Result<(), AllocError>
-        ensures { OnOk result ((facts : List FactValue) → Knows ids facts self.now
-            → AreReferences ids facts class bytes.now references.new.items) }
+        ensures { OnOk result ((facts : List FactValue) (class : ℕ) → Knows ids facts self.now → IsOutlineOf self.now class outline
+            → AreWanted ids facts class bytes.now wanted references.new.items) }
     {
         references.clear();
-        let outline = self.outline(class);
         if outline.width != bytes.len() as u128 {
             return Ok(());
         }
@@ -188,7 +202,8 @@ impl KnownLayouts {
             };
             let (_, landed) = rest.split_at(jump.offset);
             let start = place.saturating_add(jump.place);
-            plan.own.push_references(landed, ids, start, references)?;
+            plan.own
+                .push_references(landed, ids, start, wanted, references)?;
             (_, rest) = landed.split_at(plan.own.width);
             place = start.saturating_add(plan.own.count);
             next = plan.above;

@@ -10,4 +10,5 @@ mod reference;
 
 pub use known::KnownLayouts;
 pub use of_heap::known_layouts;
-pub use reference::{Reference, refers};
+pub use plan::Outline;
+pub use reference::{Reference, Wanted, refers};

@@ -8,8 +8,9 @@ ghost use Rattle.hprof_finding.specs.ClassRow.{dump_of};
 ghost use Rattle.hprof_layouts.specs.declared.slot.Slot.{Slot};
 ghost use Rattle.hprof_layouts.specs.Layout.{own_slots};
 ghost use Rattle.hprof_laying.specs.OwnFields.{IsOwn, references_in};
+ghost use Rattle.hprof_laying.specs.References.{wanted_of};
 
-use crate::reference::{Reference, refers};
+use crate::reference::{Reference, Wanted, refers};
 use hprof_finding::ClassRow;
 use hprof_values::IdSize;
 use hprof_values::number::id_at;
@@ -78,28 +79,31 @@ fn id_behind(bytes: &[u8], offset: usize, ids: IdSize) -> Option<u64>
 }
 
 impl OwnLayout {
-    /// Puts what the own fields refer to behind other references. The bytes begin with their values, and so many fields
-    /// stand before them.
+    /// Puts what the own fields refer to behind other references, as far as it is wanted. The bytes begin with their values,
+    /// and so many fields stand before them.
     #[inline(always)]
     pub(crate) fn push_references(
         &self,
         bytes: &[u8],
         ids: IdSize,
         place: u64,
+        wanted: Wanted,
         references: &mut Vec<Reference>,
     ) -> Result<(), AllocError>
         ensures { OnOk result ((slots : List Slot) → IsOwn ids slots self.now → self.now.width ≤ length bytes.now
             → place + length slots < 2 ^ 64
-            → references.new.items ≡ references.old.items ++ references_in ids place slots bytes.now) }
+            → references.new.items ≡ references.old.items ++ wanted_of wanted (references_in ids place slots bytes.now)) }
     {
         for own in self.references.iter() {
             let Some(to) = id_behind(bytes, own.offset, ids) else {
                 return Ok(());
             };
-            references.push(Reference {
-                place: place.saturating_add(own.place),
-                to,
-            })?;
+            if wanted.wants(to) {
+                references.push(Reference {
+                    place: place.saturating_add(own.place),
+                    to,
+                })?;
+            }
         }
         Ok(())
     }

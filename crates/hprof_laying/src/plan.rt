@@ -1,7 +1,7 @@
 //! What is kept of a class whose layout is known.
 
 ghost use Rattle.std.specs.Prelude.{◌≡◌};
-ghost use Rattle.hprof_laying.specs.Plan.{jump_behind, outline_of, plan_below};
+ghost use Rattle.hprof_laying.specs.Plan.{jump_behind, no_outline, outline_of, plan_below};
 
 use crate::own_fields::OwnLayout;
 
@@ -10,15 +10,17 @@ use crate::own_fields::OwnLayout;
 pub(crate) struct Jump {
     /// The class.
     pub(crate) class: u64,
+    /// The place of its plan. It speeds a look-up alone.
+    pub(crate) at: usize,
     /// How many bytes lie before; the greatest number stands for all from it on.
     pub(crate) offset: usize,
     /// How many fields lie before; the greatest number stands for all from it on.
     pub(crate) place: u64,
 }
 
-/// What the classes below a class need of its layout.
+/// What laying the instances of a class begins with, and what the classes below it need of its layout.
 #[derive(Clone, Copy, Debug, PartialEq, Eq)]
-pub(crate) struct Outline {
+pub struct Outline {
     /// How many bytes all slots have; the greatest number stands for all from it on.
     pub(crate) width: u128,
     /// The first class along the chain that has own fields that refer to something.
@@ -28,6 +30,8 @@ pub(crate) struct Outline {
 /// What laying the instances of a class needs.
 #[derive(Drop)]
 pub(crate) struct Plan {
+    /// The place at which it is put in.
+    pub(crate) at: usize,
     /// How many bytes all slots have; the greatest number stands for all from it on.
     pub(crate) width: u128,
     /// Its own fields.
@@ -45,18 +49,32 @@ impl Jump {
     {
         Jump {
             class: self.class,
+            at: self.at,
             offset: self.offset.saturating_add(own.width),
             place: self.place.saturating_add(own.count),
         }
     }
 }
 
+impl Outline {
+    /// That of a layout that has no slots.
+    pub(crate) fn of_nothing() -> Outline
+        ensures { result ≡ no_outline }
+    {
+        Outline {
+            width: 0,
+            first: None,
+        }
+    }
+}
+
 impl Plan {
-    /// The plan of a class with these own fields, below a class.
-    pub(crate) fn below(outline: Outline, own: OwnLayout) -> Plan
-        ensures { result ≡ plan_below outline own }
+    /// The plan of a class with these own fields, below a class. It is put in at that place.
+    pub(crate) fn below(outline: Outline, at: usize, own: OwnLayout) -> Plan
+        ensures { result ≡ plan_below outline at own }
     {
         Plan {
+            at,
             width: outline.width.saturating_add(own.width as u128),
             own,
             above: outline.first,
@@ -76,6 +94,7 @@ impl Plan {
         } else {
             Some(Jump {
                 class,
+                at: self.at,
                 offset: 0,
                 place: 0,
             })

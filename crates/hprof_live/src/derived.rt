@@ -7,7 +7,7 @@ ghost use Rattle.hprof_rows.specs.Facts.{Has};
 ghost use Rattle.hprof_finding.specs.HeapFacts.{facts_of, size_of};
 ghost use Rattle.hprof_finding.specs.ClassRow.{dump_of};
 ghost use Rattle.hprof_finding.specs.Classes.{fact_of_dump};
-ghost use Rattle.hprof_laying.specs.Known.{HasLayout};
+ghost use Rattle.hprof_laying.specs.Known.{HasLayout, IsOutlineOf};
 ghost use Rattle.hprof_edges.specs.declared.edge.Edge.{Edge};
 ghost use Rattle.hprof_edges.specs.Collecting.{is_watched};
 ghost use Rattle.hprof_edges.specs.Edges.{AreReferrers};
@@ -25,7 +25,7 @@ use hprof_edges::{Edge, Watched, array_edges, class_edges, edge_to_class, field_
 use hprof_finding::{ClassRow, ObjectRow, find_object, id_size, table_len, to_class_row};
 use hprof_heap::{Heap, Table};
 use hprof_items::Fact;
-use hprof_laying::{KnownLayouts, Reference};
+use hprof_laying::{KnownLayouts, Outline, Reference};
 use hprof_values::IdSize;
 use std::alloc::{AllocError, Global};
 
@@ -105,9 +105,35 @@ impl Derived {
         Index { edges }
     }
 
-    /// Lays the layout of its class over the bytes of an instance, and counts it: nothing else does.
+    /// Lays the layout of its class, which has that outline, over the bytes of an instance, and counts it: nothing else does.
     #[inline(always)]
     fn lay(
+        &mut self,
+        ids: IdSize,
+        instance: u64,
+        outline: Outline,
+        bytes: &[u8],
+    ) -> Result<(), AllocError>
+        ensures lays { OnOk result ((facts : List FactValue) (laid gone : List ℕ) (trace class : ℕ)
+            → IsOutlineOf self.old.known class outline → Has facts (Instance instance trace class bytes.now) → HasLayout facts class → (Contains laid instance → ⊥)
+            → IsDeriving ids facts self.old laid gone → IsDeriving ids facts self.new (laid ++ instance ∷ []) gone) }
+        ensures keeps { OnOk result (keeps_of self.new ≡ keeps_of self.old) }
+    {
+        field_edges(
+            &self.known,
+            instance,
+            outline,
+            bytes,
+            ids,
+            &mut self.references,
+            &mut self.set,
+        )?;
+        self.cuts = self.cuts.saturating_add(1);
+        Ok(())
+    }
+
+    /// Lays the layout of its class, which is looked up, over the bytes of an instance.
+    fn lay_by_class(
         &mut self,
         ids: IdSize,
         instance: u64,
@@ -119,16 +145,11 @@ impl Derived {
             → IsDeriving ids facts self.old laid gone → IsDeriving ids facts self.new (laid ++ instance ∷ []) gone) }
         ensures keeps { OnOk result (keeps_of self.new ≡ keeps_of self.old) }
     {
-        field_edges(
-            &self.known,
-            instance,
-            class,
-            bytes,
-            ids,
-            &mut self.references,
-            &mut self.set,
-        )?;
-        self.cuts = self.cuts.saturating_add(1);
+        let Some(outline) = self.known.outline(class) else {
+            // What is laid has a class whose layout is known.
+            return Ok(());
+        };
+        self.lay(ids, instance, outline, bytes)?;
         Ok(())
     }
 
@@ -142,7 +163,7 @@ impl Derived {
     {
         match find_object(heap, instance) {
             Some(ObjectRow::Instance { class, bytes, .. }) => {
-                self.lay(id_size(heap), instance, class, bytes)
+                self.lay_by_class(id_size(heap), instance, class, bytes)
             }
             // What waits is an instance.
             _ => Ok(()),
@@ -208,11 +229,11 @@ impl Derived {
     {
         edge_to_class(instance, class, &mut self.set)?;
         self.instances = self.instances.saturating_add(1);
-        if self.known.knows(class) {
-            self.lay(ids, instance, class, bytes)?;
+        let Some(outline) = self.known.outline(class) else {
+            self.waiting.add(class, instance)?;
             return Ok(());
-        }
-        self.waiting.add(class, instance)?;
+        };
+        self.lay(ids, instance, outline, bytes)?;
         Ok(())
     }
 

@@ -3,6 +3,7 @@
 ghost use Rattle.std.specs.Prelude.{◌≡◌, ◌↔◌, List, [], Contains};
 
 use hprof_edges::{Collect, Edge, Watched};
+use hprof_laying::Wanted;
 use std::alloc::{AllocError, Global};
 
 /// The edges that are watched of those that it was given, in whatever order.
@@ -43,11 +44,18 @@ impl EdgeSet {
 /// It keeps the edges that are watched.
 impl Collect for EdgeSet {
     ghost use Rattle.hprof_edges.specs.Collecting.{is_watched};
-    ghost use Rattle.hprof_live.specs.EdgeSet.{SetOf, watched_in};
+    ghost use Rattle.hprof_live.specs.EdgeSet.{SetOf, set_alike, watched_in};
 
     ghost holds = { SetOf };
 
     ghost keeps = { λ set. is_watched (watched_in set) };
+
+    ghost same_kept = { set_alike };
+
+    #[inline(always)]
+    fn wanted(&self) -> Wanted {
+        self.watched.wanted()
+    }
 
     #[inline(always)]
     fn put(&mut self, edge: Edge) -> Result<(), AllocError> {

@@ -1,3 +1,4 @@
 pub mod Reaching
 pub mod Nodes
 pub mod Graph
+pub mod KeptTargets

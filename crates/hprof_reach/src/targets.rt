@@ -1,6 +1,7 @@
 //! What edges lead to.
 
 use hprof_edges::{Collect, Edge};
+use hprof_laying::Wanted;
 use std::alloc::AllocError;
 
 /// The targets of edges that were put, in that order.
@@ -12,9 +13,19 @@ pub(crate) struct Targets {
 /// It keeps their targets alone.
 impl Collect for Targets {
     ghost use Rattle.std.specs.Prelude.{◌≡◌, map};
+    ghost use Rattle.hprof_reach.specs.KeptTargets.{targets_alike};
 
     ghost holds = { λ targets edges. targets.list.items ≡ map (λ edge. edge.to) edges };
 
+    ghost same_kept = { targets_alike };
+
+    /// It wants all edges.
+    #[inline(always)]
+    fn wanted(&self) -> Wanted {
+        Wanted::All
+    }
+
+    #[inline(always)]
     fn put(&mut self, edge: Edge) -> Result<(), AllocError> {
         self.list.push(edge.to)?;
         Ok(())

@@ -3,7 +3,7 @@
 use crate::expecting::{equal, holds};
 use crate::samples::{CLASS_99, CLASS_99_BELOW, CLASS_100, INSTANCE_200, heap_of, part_of};
 use hprof_finding::find_class;
-use hprof_laying::{KnownLayouts, Reference, known_layouts, refers};
+use hprof_laying::{KnownLayouts, Reference, Wanted, known_layouts, refers};
 use hprof_values::{Basic, IdSize};
 use std::test::Fail;
 
@@ -22,11 +22,34 @@ fn layouts_of_a_heap(rt: HostRuntime) -> Result<(), Fail> {
         known.knows(101),
     );
     equal(&rt, found, (true, true, true, false));
+    let outline = known.outline(100).ok_or("no layout")?;
     let mut references = Vec::new(rt.alloc());
-    known.lay(100, BYTES, IdSize::Four, &mut references)?;
+    known.lay(outline, BYTES, IdSize::Four, Wanted::All, &mut references)?;
     let refer = [Reference { place: 1, to: 201 }];
     equal(&rt, references.as_slice() == refer.as_slice(), true);
-    known.lay(100, &BYTES[1..], IdSize::Four, &mut references)?;
+    known.lay(
+        outline,
+        BYTES,
+        IdSize::Four,
+        Wanted::To(201),
+        &mut references,
+    )?;
+    equal(&rt, references.as_slice() == refer.as_slice(), true);
+    known.lay(
+        outline,
+        BYTES,
+        IdSize::Four,
+        Wanted::To(202),
+        &mut references,
+    )?;
+    equal(&rt, references.len(), 0);
+    known.lay(
+        outline,
+        &BYTES[1..],
+        IdSize::Four,
+        Wanted::All,
+        &mut references,
+    )?;
     equal(&rt, references.len(), 0);
     holds(&rt, refers(Basic::Array) && !refers(Basic::Long));
     Ok(())

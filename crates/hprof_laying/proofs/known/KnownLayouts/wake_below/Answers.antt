@@ -14,24 +14,24 @@ use Rattle.hprof_laying.proofs.Outlines.{no_elements}
 use Rattle.hprof_laying.proofs.Wakings.{put-here, ready_outline}
 use Rattle.hprof_laying.proofs.known.KnownLayouts.wake_below.Goals as goal
 
-pub returns-in_default-clause-ok : goal.returns-in_default-clause-ok
-returns-in_default-clause-ok c = λ ids facts before pending ready waking.
+pub returns-in_default-remove-clause-ok : goal.returns-in_default-remove-clause-ok
+returns-in_default-remove-clause-ok c = λ ids facts before pending ready waking.
     let known = c.args.self.now in
     let other : KnownLayouts = record known { waiting = c.remove.new.self } in
     none_in_hand ids facts before c.args.class pending c.args.woken.now.items known other refl
-    (waiting-same known other c.in_default.ensures.unchanged)
-    (ap list_in (sym c.in_default.ensures.value)) waking
+    (waiting-same known other c.in_default-remove.ensures.unchanged)
+    (ap list_in (sym c.in_default-remove.ensures.value)) waking
 
 pub loop-below-init : goal.loop-below-init
 loop-below-init c =
     let known = c.args.self.now in
     let other : KnownLayouts = record known { waiting = c.remove.new.self } in
-    let taken = waiting-taken known other c.args.class c.in-Some.ensures.updates.0 in
-    let list : waiting_below known c.args.class ≡ c.in-Some.waiting.items = ap list_in (sym c.in-Some.ensures.value) in
+    let taken = waiting-taken known other c.args.class c.in-Some-remove.ensures.updates.0 in
+    let list : waiting_below known c.args.class ≡ c.in-Some-remove.waiting.items = ap list_in (sym c.in-Some-remove.ensures.value) in
     let given : waiting_below known c.args.class ≡ into_iter_items c.into_iter-below-iterator.result =
     list ∙ sym c.into_iter-below-iterator.ensures.into_iter_gives.0 in
     let lengths = ap (λ (l : List Waiting). length l) given in
-    let counted = counted-taken known other c.args.class c.in-Some.ensures.entries in
+    let counted = counted-taken known other c.args.class c.in-Some-remove.ensures.entries in
     record {
       taken = ap (λ (w : ℕ → List Waiting). w c.args.class) taken ∙ put-here (waiting_below known) c.args.class [] c.args.class refl;
       counted = omega arith;
@@ -58,13 +58,13 @@ loop-below-preserved c =
       hand = λ ids facts before pending ready waking.
           let above = ready_outline ids facts (plan_of c.args.self.now) (waiting_below c.args.self.now) (c.args.class ∷ pending)
           waking.standing c.args.class ready in
-          let outline : IsOutline ids facts above.slots c.outline-outline.result =
-          subst (IsOutline ids facts above.slots) (sym c.outline-outline.ensures) above.outline_are in
+          let outline : IsOutline ids facts above.slots c.in-Some.outline =
+          subst (IsOutline ids facts above.slots) (sym c.in-Some.ensures.some) above.outline_are in
           subst (λ (l : List ℕ). InHand ids facts before c.args.class pending c.args.woken.now.items (value_in c.insert.new.self)
           (waiting_below c.loop-below.self) l later) (sym c.in_ok-push.ensures.items)
           (hand_more ids facts before c.args.class pending c.args.woken.now.items (plan_of c.loop-below.self)
           (value_in c.insert.new.self) (waiting_below c.loop-below.self) c.loop-below.woken.items (into_iter_items c.loop-below.below-iterator) later first above.slots
-          c.outline-outline.result above.known outline (was.hand ids facts before pending ready waking) steps.0 plans);
+          c.in-Some.outline c.len-at.result above.known outline (was.hand ids facts before pending ready waking) steps.0 plans);
     }
 
 pub returns-clause-ok : goal.returns-clause-ok
