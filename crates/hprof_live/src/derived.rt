@@ -115,7 +115,8 @@ impl Derived {
         bytes: &[u8],
     ) -> Result<(), AllocError>
         ensures lays { OnOk result ((facts : List FactValue) (laid gone : List ℕ) (trace class : ℕ)
-            → IsOutlineOf self.old.known class outline → Has facts (Instance instance trace class bytes.now) → HasLayout facts class → (Contains laid instance → ⊥)
+            → IsOutlineOf self.old.known class outline → Has facts (Instance instance trace class bytes.now) → HasLayout facts class
+            → (Contains laid instance → ⊥)
             → IsDeriving ids facts self.old laid gone → IsDeriving ids facts self.new (laid ++ instance ∷ []) gone) }
         ensures keeps { OnOk result (keeps_of self.new ≡ keeps_of self.old) }
     {
