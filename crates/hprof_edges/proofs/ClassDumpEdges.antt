@@ -1,6 +1,6 @@
 -- The edges that are put of a class dump are those that it gives.
 use Rattle.std.specs.Prelude.{◌≢◌, ◌↔◌, map, slice_get}
-use Rattle.std.proofs.Common.{◌≡◌, ℕ, ◌⊎◌, List, ◌++◌, Contains, Some, refl, sym, ap, subst, ◌∙◌, inl, inr}
+use Rattle.std.proofs.Common.{◌≡◌, ℕ, List, ◌++◌, Contains, Some, refl, sym, subst, inl, inr}
 use Rattle.std.proofs.lemmas.List.Elements.{Contains-append_cases, Contains-append_left, Contains-append_right}
 use Rattle.hprof_lists.specs.declared.entry.Entry.{Entry}
 use Rattle.hprof_finding.specs.Classes.{ClassDump}

@@ -1,6 +1,6 @@
 -- The edges of facts are those that their class dumps and object dumps give.
 use Rattle.std.specs.Prelude.{◌≢◌}
-use Rattle.std.proofs.Common.{◌≡◌, ◌⊎◌, ℕ, List, refl, sym, ap, subst, ◌∙◌, inl, inr}
+use Rattle.std.proofs.Common.{◌≡◌, ◌⊎◌, ℕ, List, refl, sym, subst, inl, inr}
 use Rattle.hprof_values.specs.declared.ids.IdSize.{IdSize}
 use Rattle.hprof_items.specs.FactValue.{FactValue, Instance, ObjArray}
 use Rattle.hprof_rows.specs.Facts.{Has}
@@ -8,8 +8,7 @@ use Rattle.hprof_finding.specs.Classes.{ClassDump, HasDump}
 use Rattle.hprof_edges.specs.declared.edge.Via.{Via}
 use Rattle.hprof_edges.specs.declared.edge.Via.TheVariants as vias
 use Rattle.hprof_edges.specs.declared.edge.Edge.{Edge}
-use Rattle.hprof_edges.specs.DumpEdges.{ClassRefers, GivenByClass, GivenByObject, IsClassEdge, IsObjectEdge}
-use Rattle.hprof_edges.specs.DumpEdges.{IsEdgeToClass, IsElementEdge, IsFieldEdge}
+use Rattle.hprof_edges.specs.DumpEdges.{ClassRefers, GivenByClass, GivenByObject, IsObjectEdge}
 use Rattle.hprof_edges.specs.Edges.{IsEdge, OfDump, Refers}
 
 module _ (ids : IdSize) (facts : List FactValue) where

@@ -1,9 +1,9 @@
 -- The edges that a list keeps, in order.
 use Rattle.std.specs.Prelude.{◌↔◌, filter}
 use Rattle.std.specs.List.Sorted.{IsStrictlySortedBy}
-use Rattle.std.proofs.Common.{◌≡◌, ℕ, ◌==◌, Bool, true, false, cond, List, [], ◌∷◌, ◌++◌, Contains, refl, sym, ap, subst, ◌∙◌, inl, inr}
+use Rattle.std.proofs.Common.{◌≡◌, ℕ, Bool, true, false, cond, List, [], ◌∷◌, Contains, refl, sym, ap, subst, ◌∙◌, inl, inr}
 use Rattle.std.proofs.lemmas.Bool.{eq-eqb, eqb-true}
-use Rattle.std.proofs.lemmas.List.Elements.{All-contains, Contains-append_cases, Contains-append_left, Contains-append_right, Contains-push}
+use Rattle.std.proofs.lemmas.List.Elements.{All-contains, Contains-append_cases, Contains-append_left, Contains-append_right}
 use Rattle.std.proofs.lemmas.List.Elements.{filter_passes}
 use Rattle.hprof_values.specs.declared.ids.IdSize.{IdSize}
 use Rattle.hprof_items.specs.FactValue.{FactValue}
@@ -13,7 +13,7 @@ use Rattle.hprof_edges.specs.declared.edge_list.Watched.{Watched}
 use Rattle.hprof_edges.specs.declared.edge_list.Watched.TheVariants as watched
 use Rattle.hprof_edges.specs.contracts.edge.EdgeOrd.TheImpl as edge_ord
 use Rattle.hprof_edges.specs.Collecting.{KeepsOf, PutBehind, is_watched, kept_in, watched_by}
-use Rattle.hprof_edges.specs.Edges.{AreEdges, AreEdgesFrom, AreReferrers, IsEdge}
+use Rattle.hprof_edges.specs.Edges.{AreEdgesFrom, AreReferrers, IsEdge}
 use Rattle.hprof_edges.proofs.EdgeMembers.{one_there}
 use Rattle.hprof_edges.proofs.PutTogether.{nothing_there}
 

@@ -1,11 +1,10 @@
 -- The edges from an identifier are those that its class dump and its object dump give, of which there is one each.
 use Rattle.std.specs.Prelude.{◌↔◌}
-use Rattle.std.proofs.Common.{◌≡◌, ℕ, ◌⊎◌, List, Some, refl, sym, ap, subst, ◌∙◌, inl, inr}
+use Rattle.std.proofs.Common.{◌≡◌, ℕ, ◌⊎◌, List, Some, sym, ap, subst, ◌∙◌, inl, inr}
 use Rattle.hprof_values.specs.declared.ids.IdSize.{IdSize}
 use Rattle.hprof_values.specs.declared.basic.Basic.{Basic}
 use Rattle.hprof_items.specs.FactValue.{FactValue, Instance, ObjArray, PrimArray}
 use Rattle.hprof_rows.specs.declared.key.Key.TheVariants as keys
-use Rattle.hprof_rows.specs.Facts.{Has}
 use Rattle.hprof_finding.specs.Classes.{ClassDump, HasDump, HasNoDump}
 use Rattle.hprof_finding.specs.Objects.{HasNoObject, IsObject}
 use Rattle.hprof_finding.proofs.ObjectFacts.{IsOnlyObject}

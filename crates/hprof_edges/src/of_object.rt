@@ -38,6 +38,7 @@ pub fn edge_to_class<C: Collect>(object: u64, class: u64, into: &mut C) -> Resul
 /// Puts the edges of an instance by its fields, where its class has a layout of that outline, and it has these bytes. There are
 /// none where the layout has another number of bytes. What collects them is given those that it wants. The references are room
 /// that is used again.
+#[inline(always)]
 pub fn field_edges<C: Collect>(
     known: &KnownLayouts,
     instance: u64,

@@ -1,9 +1,8 @@
-use Rattle.std.proofs.Common.{List}
 use Rattle.hprof_finding.specs.ClassRow.{dump_of}
 use Rattle.hprof_finding.specs.HeapFacts.{facts_of}
 use Rattle.hprof_edges.specs.DumpEdges.{IsClassEdge}
-use Rattle.hprof_edges.proofs.OnlyDumps.{by_class, by_no_class}
-use Rattle.hprof_edges.proofs.PutTogether.{put_nothing, put_same}
+use Rattle.hprof_edges.proofs.OnlyDumps.{by_class}
+use Rattle.hprof_edges.proofs.PutTogether.{put_same}
 use Rattle.hprof_edges.proofs.of_identifier.put_of_class.Goals as goal
 
 pub returns-clause-holds : goal.returns-clause-holds

@@ -1,5 +1,5 @@
-use Rattle.std.proofs.Common.{◌≡◌, ◌⊎◌, List, subst}
-use Rattle.hprof_items.specs.FactValue.{FactValue, Instance, ObjArray, PrimArray}
+use Rattle.std.proofs.Common.{◌⊎◌, subst}
+use Rattle.hprof_items.specs.FactValue.{Instance, ObjArray, PrimArray}
 use Rattle.hprof_lists.specs.Lists.{identifiers_of}
 use Rattle.hprof_finding.specs.declared.object_row.ObjectRow.{ObjectRow}
 use Rattle.hprof_finding.specs.HeapFacts.{facts_of, size_of}

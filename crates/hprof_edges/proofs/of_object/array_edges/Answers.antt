@@ -1,6 +1,4 @@
-use Rattle.std.proofs.Common.{List}
 use Rattle.hprof_lists.specs.Lists.{identifiers_of}
-use Rattle.hprof_edges.specs.declared.edge.Edge.{Edge}
 use Rattle.hprof_edges.specs.declared.edge.Via.TheVariants as vias
 use Rattle.hprof_edges.specs.DumpEdges.{IsEdgeToClass, IsElementEdge}
 use Rattle.hprof_edges.specs.EdgeLists.{numbered}

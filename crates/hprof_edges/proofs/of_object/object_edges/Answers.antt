@@ -1,4 +1,4 @@
-use Rattle.std.proofs.Common.{◌≡◌, List, sym, subst}
+use Rattle.std.proofs.Common.{sym, subst}
 use Rattle.hprof_items.specs.FactValue.{Instance}
 use Rattle.hprof_finding.specs.declared.object_row.ObjectRow.{ObjectRow}
 use Rattle.hprof_finding.specs.ObjectRow.{fact_of_object}

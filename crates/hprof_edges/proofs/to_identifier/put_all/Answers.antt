@@ -1,4 +1,3 @@
-use Rattle.std.proofs.Common.{List}
 use Rattle.hprof_finding.specs.HeapFacts.{facts_of, size_of}
 use Rattle.hprof_edges.specs.DumpEdges.{GivenByClass, GivenByObject}
 use Rattle.hprof_edges.proofs.PutTogether.{put_both}

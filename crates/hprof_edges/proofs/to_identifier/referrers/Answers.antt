@@ -1,8 +1,7 @@
-use Rattle.std.proofs.Common.{◌≡◌, ap, ◌∙◌, sym, subst, List}
+use Rattle.std.proofs.Common.{ap, ◌∙◌, subst, List}
 use Rattle.std.specs.Prelude.{◌↔◌, Contains}
 use Rattle.hprof_finding.specs.HeapFacts.{facts_of, size_of}
 use Rattle.hprof_edges.specs.declared.edge.Edge.{Edge}
-use Rattle.hprof_edges.specs.declared.edge_list.Watched.{Watched}
 use Rattle.hprof_edges.specs.Collecting.{is_watched}
 use Rattle.hprof_edges.proofs.KeptEdges.{edges_to, none_to_zero}
 use Rattle.hprof_edges.proofs.to_identifier.referrers.Goals as goal

@@ -1,4 +1,4 @@
-use Rattle.std.proofs.Common.{◌≡◌, ◌++◌, ◌∷◌, []}
+use Rattle.std.proofs.Common.{◌++◌, ◌∷◌, []}
 use Rattle.hprof_items.specs.FactValue.{Instance}
 use Rattle.hprof_live.proofs.Instances.{is_there}
 use Rattle.hprof_live.proofs.FactsMore.{instance_came, instance_laid, instance_waits, was_not_laid}
