@@ -21,7 +21,7 @@ impl Watched {
     ghost use Rattle.hprof_edges.specs.declared.edge.Edge.{Edge};
     ghost use Rattle.hprof_edges.specs.Collecting.{is_watched};
 
-    /// What the edges refer to that are kept.
+    /// Which references are wanted where these edges are kept.
     #[inline(always)]
     pub fn wanted(self) -> Wanted
         ensures { (edge : Edge) → is_wanted result edge.to ≡ is_watched self edge }

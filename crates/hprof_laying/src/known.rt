@@ -176,8 +176,8 @@ impl KnownLayouts {
     }
 
     /// Puts what an instance of a class refers to that has this outline and these bytes, as far as it is wanted, in the place of
-    /// other references, in the order of its fields. There is nothing where the layout has another number of bytes. The error is that memory was
-    /// refused; nothing holds then of the references.
+    /// other references, in the order of its fields. There is nothing where the layout has another number of bytes. The error
+    /// is that memory was refused; nothing holds then of the references.
     #[inline(always)]
     pub fn lay(
         &self,
