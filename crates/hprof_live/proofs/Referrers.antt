@@ -6,7 +6,7 @@ use Rattle.hprof_values.specs.declared.ids.IdSize.{IdSize}
 use Rattle.hprof_items.specs.FactValue.{FactValue}
 use Rattle.hprof_edges.specs.declared.edge.Edge.{Edge}
 use Rattle.hprof_edges.specs.contracts.edge.EdgeOrd.TheImpl as edge_ord
-use Rattle.hprof_edges.specs.Edges.{AreReferrers, IsEdge}
+use Rattle.hprof_edges.specs.Edges.{AreEdges, AreReferrers, IsEdge}
 use Rattle.hprof_live.specs.declared.derived.Derived.{Derived}
 use Rattle.hprof_live.specs.declared.indexed.Index.{Index}
 use Rattle.hprof_live.specs.ByTarget.{IsByTarget}
@@ -27,6 +27,22 @@ module _ (ids : IdSize) (facts : List FactValue) where
       )
 
   module _ (id : ℕ) where
+    pub kept_referrers : (derived : Derived) → IsDerived ids facts derived → (result : List Edge)
+        → IsStrictlySortedBy (edge_ord.ghosts).cmp result
+        → ((edge : Edge) → Contains result edge ↔ (Contains (edges_in derived.set) edge × (edge.to ≡ id)))
+        → AreEdges ids facts (λ edge. (edge.to ≡ id) × (keeps_of derived edge ≡ true)) result
+    kept_referrers derived is result ascend exact = record {
+      ascend = ascend;
+      exact = λ edge. (
+        λ there. (
+            let both = (exact edge).0 there in
+            let watched = ((is.deriving_is.set_of edge).0 both.0).1 in
+            ((kept_are derived is edge watched).0 both.0, (both.1, watched))
+            ),
+        λ both. (exact edge).1 ((kept_are derived is edge both.1.1).1 both.0, both.1.0),
+      );
+    }
+
     pub referrers_are : (derived : Derived) → IsDerived ids facts derived → ((edge : Edge) → edge.to ≡ id → keeps_of derived edge ≡ true)
         → (result : List Edge) → IsStrictlySortedBy (edge_ord.ghosts).cmp result
         → ((edge : Edge) → Contains result edge ↔ (Contains (edges_in derived.set) edge × (edge.to ≡ id))) → AreReferrers ids facts id result

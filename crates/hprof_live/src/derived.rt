@@ -10,7 +10,7 @@ ghost use Rattle.hprof_finding.specs.Classes.{fact_of_dump};
 ghost use Rattle.hprof_laying.specs.Known.{HasLayout, IsOutlineOf};
 ghost use Rattle.hprof_edges.specs.declared.edge.Edge.{Edge};
 ghost use Rattle.hprof_edges.specs.Collecting.{is_watched};
-ghost use Rattle.hprof_edges.specs.Edges.{AreReferrers};
+ghost use Rattle.hprof_edges.specs.Edges.{AreEdges, AreReferrers};
 ghost use Rattle.hprof_live.specs.Derived.{AddsFact, CanBeLaid, CannotBeLaid, HasLaid, IsDerived, IsDeriving, IsInstanceOf, keeps_of};
 ghost use Rattle.hprof_live.specs.EdgeSet.{edges_in};
 ghost use Rattle.hprof_live.specs.Indexed.{IsIndexTo};
@@ -80,6 +80,8 @@ impl Derived {
         ensures behind { (ids : IdSize) (facts : List FactValue) → IsDerived ids facts self.old
             → ((edge : Edge) → edge.to ≡ id → keeps_of self.old edge ≡ true)
             → AreReferrers ids facts id (drop result (edges_in self.new.set)) }
+        ensures kept { (ids : IdSize) (facts : List FactValue) → IsDerived ids facts self.old
+            → AreEdges ids facts (λ edge. (edge.to ≡ id) × (keeps_of self.old edge ≡ true)) (drop result (edges_in self.new.set)) }
         ensures same { (ids : IdSize) (facts : List FactValue) → IsDerived ids facts self.old → IsDerived ids facts self.new }
         ensures keeps { keeps_of self.new ≡ keeps_of self.old }
     {

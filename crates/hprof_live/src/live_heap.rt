@@ -7,7 +7,7 @@ ghost use Rattle.hprof_rows.specs.HeapValue.{HeapValue};
 ghost use Rattle.hprof_heap.specs.Gathering.{Given, Gathers, Tells, answer_of, gathered, nothing_gathered, seen_in};
 ghost use Rattle.hprof_layouts.specs.Layout.{IsLayout, layout_value};
 ghost use Rattle.hprof_edges.specs.Collecting.{is_watched};
-ghost use Rattle.hprof_edges.specs.Edges.{AreReferrers};
+ghost use Rattle.hprof_edges.specs.Edges.{AreEdges, AreReferrers};
 ghost use Rattle.hprof_live.specs.EdgeSet.{edges_in};
 ghost use Rattle.hprof_live.specs.Number.{IsNumberOf};
 ghost use Rattle.hprof_live.specs.Derived.{AddsFact, CanBeLaid, CannotBeLaid, IsDerived, keeps_of};
@@ -142,12 +142,15 @@ impl LiveHeap {
         }
     }
 
-    /// The edges to an identifier that is watched, in order, each once; there are none to 0. They are lent, and no memory is
-    /// taken. Nothing that is told of the live heap changes.
+    /// The edges to an identifier that is watched, in order, each once; there are none to 0, nor any to an identifier that is not
+    /// watched, unless they are kept all the same. They are lent, and no memory is taken. Nothing that is told of the live heap changes.
     pub fn referrers_now(&mut self, id: u64) -> Live<&[Edge]>
         ensures* rests { sem 𝓛 (RestsAsItIs self.entry) }
         ensures value { Watches self.old id
             → IsAnswer (λ ids facts edges. AreReferrers ids facts id edges.now) (outcome_of self.old) result }
+        // Of any identifier: those of the edges to it that are kept.
+        ensures kept { IsCurrent self.old → IsAnswer (λ ids facts edges. AreEdges ids facts (λ edge. (edge.to ≡ id)
+            × (keeps_of self.old.derived edge ≡ true)) edges.now) (outcome_of self.old) result }
     {
         let start = self.derived.bring_behind(id);
         self.lend_edges(start)
