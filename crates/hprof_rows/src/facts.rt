@@ -31,11 +31,11 @@ impl<'a> Facts<'a> {
     }
 
     /// Puts the first of the facts in the place of another, and says whether there was one. So no fact is moved from call to call, as
-    /// where it is taken by `next`.
+    /// where it is taken by `next`. Where there was none, the place is as it was.
     #[inline(always)]
     pub fn next_into(&mut self, fact: &mut Fact<'a>) -> bool
         ensures some { result ≡ true → facts_left self.old ≡ value_of fact.new ∷ facts_left self.new }
-        ensures none { result ≡ false → facts_left self.old ≡ [] }
+        ensures none { result ≡ false → (facts_left self.old ≡ []) × (facts_left self.new ≡ []) × (fact.new ≡ fact.old) }
         ensures lists { result ≡ true → ListsHave (facts_ids self.old) fact.new }
         ensures ids { facts_ids self.new ≡ facts_ids self.old }
     {

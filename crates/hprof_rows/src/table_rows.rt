@@ -65,12 +65,14 @@ pub(crate) fn next_fact<'a>(rows: &mut TableRows<'a>, ids: IdSize) -> Option<Fac
     }
 }
 
-/// Puts the fact of the first row in the place of another, and says whether there is one. The rows behind it are left.
+/// Puts the fact of the first row in the place of another, and says whether there is one. The rows behind it are left. Where there is
+/// none, the place is as it was.
 #[inline(always)]
 pub(crate) fn next_fact_into<'a>(rows: &mut TableRows<'a>, ids: IdSize, fact: &mut Fact<'a>) -> bool
     requires { AreReadable ids rows.old }
     ensures some { result ≡ true → facts_in_rows ids rows.old ≡ value_of fact.new ∷ facts_in_rows ids rows.new }
-    ensures none { result ≡ false → facts_in_rows ids rows.old ≡ [] }
+    ensures none { result ≡ false
+        → (facts_in_rows ids rows.old ≡ []) × (facts_in_rows ids rows.new ≡ []) × (fact.new ≡ fact.old) }
     ensures lists { result ≡ true → ListsHave ids fact.new }
     ensures kept { AreReadable ids rows.new }
 {
@@ -85,7 +87,8 @@ pub(crate) fn next_fact_into<'a>(rows: &mut TableRows<'a>, ids: IdSize, fact: &m
 fn put_next<'a>(rows: &mut TableRows<'a>, ids: IdSize, fact: &mut Fact<'a>) -> bool
     requires { AreReadable ids rows.old }
     ensures some { result ≡ true → facts_in_rows ids rows.old ≡ value_of fact.new ∷ facts_in_rows ids rows.new }
-    ensures none { result ≡ false → facts_in_rows ids rows.old ≡ [] }
+    ensures none { result ≡ false
+        → (facts_in_rows ids rows.old ≡ []) × (facts_in_rows ids rows.new ≡ []) × (fact.new ≡ fact.old) }
     ensures lists { result ≡ true → ListsHave ids fact.new }
     ensures kept { AreReadable ids rows.new }
 {
@@ -188,7 +191,8 @@ fn next_root<'a>(roots: &mut btree_set::Iter<'a, Root>) -> Option<Fact<'a>>
 fn next_spelled_into<'a>(rows: &mut BytesRows<'a>, ids: IdSize, fact: &mut Fact<'a>) -> bool
     requires { AreSpelled ids (byte_rows_left rows.old) }
     ensures some { result ≡ true → spelled_facts ids (byte_rows_left rows.old) ≡ value_of fact.new ∷ spelled_facts ids (byte_rows_left rows.new) }
-    ensures none { result ≡ false → spelled_facts ids (byte_rows_left rows.old) ≡ [] }
+    ensures none { result ≡ false
+        → (spelled_facts ids (byte_rows_left rows.old) ≡ []) × (spelled_facts ids (byte_rows_left rows.new) ≡ []) × (fact.new ≡ fact.old) }
     ensures lists { result ≡ true → ListsHave ids fact.new }
     ensures kept { AreSpelled ids (byte_rows_left rows.new) }
 {

@@ -38,4 +38,4 @@ returns c =
     let facts = facts_of c.args.heap.now in
     tally_of_all ids facts c.loop-facts.tally
     (tally_ends ids (facts_of_table tables.Objects facts) (facts_left c.loop-facts.facts) c.loop-facts.tally
-    (c.next_into.ensures.none c.loop-facts-test.false) c.loop-facts.invariant)
+    (c.next_into.ensures.none c.loop-facts-test.false).0 c.loop-facts.invariant)

@@ -42,4 +42,4 @@ returns c =
     let table = facts_of_table tables.Objects facts in
     same_given (IsGiven GivesObject table) (IsObjectNode facts) c.args.nodes.now.items c.loop-facts.nodes.items (object_nodes facts)
     (gone_over_all GivesObject c.args.nodes.now.items c.loop-facts.nodes.items table (facts_left c.loop-facts.facts)
-    c.loop-facts.invariant (c.next_into.ensures.none c.loop-facts-test.false))
+    c.loop-facts.invariant (c.next_into.ensures.none c.loop-facts-test.false).0)
