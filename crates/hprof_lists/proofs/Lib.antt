@@ -3,3 +3,4 @@ pub mod Counting
 pub mod IdLists
 pub mod ListEnds
 pub mod EntryPlaces
+pub mod Among

@@ -3,6 +3,7 @@
 ghost use Rattle.std.specs.Prelude.{◌≡◌};
 ghost use Rattle.hprof_values.specs.Ids.{IsBytes};
 
+mod among;
 pub mod constants;
 pub mod fields;
 pub mod ids;

@@ -3,6 +3,7 @@
 ghost use Rattle.std.specs.Prelude.{◌≡◌, ◌%◌, length};
 ghost use Rattle.hprof_values.specs.Ids.{width_of};
 
+use super::among::is_among;
 use super::in_range;
 use hprof_values::IdSize;
 use hprof_values::number::id_at;
@@ -17,7 +18,7 @@ pub struct IdList<'a> {
 }
 
 impl<'a> IdList<'a> {
-    ghost use Rattle.std.specs.Prelude.{◌↔◌, IsTrue, List, ℕ, [], slice_get, IfSome, IsSomeAnd};
+    ghost use Rattle.std.specs.Prelude.{◌↔◌, Contains, IsTrue, List, ℕ, [], slice_get, IfSome, IsSomeAnd};
     ghost use Rattle.hprof_lists.specs.Lists.{IsIdList, ids_in, identifiers_of, identifiers_left, identifiers_size};
 
     /// The list that the bytes spell. There is none where they end within an identifier.
@@ -66,6 +67,16 @@ impl<'a> IdList<'a> {
         }
         let (_, rest) = self.bytes.split_at(place * width);
         Some(id_at(rest, self.ids))
+    }
+
+    /// Whether that identifier is among them.
+    pub fn contains(&self, id: u64) -> bool
+        ensures { IsTrue result ↔ Contains (identifiers_of self.now) id }
+    {
+        match self.ids {
+            IdSize::Four => is_among(self.bytes, IdSize::Four, id),
+            IdSize::Eight => is_among(self.bytes, IdSize::Eight, id),
+        }
     }
 
     /// The bytes that spell them.
