@@ -1,14 +1,15 @@
 -- Edges that are not wanted are not kept.
 use Rattle.std.specs.Prelude.{filter}
-use Rattle.std.proofs.Common.{◌≡◌, ℕ, ◌==◌, Bool, true, false, cond, List, [], ◌∷◌, ◌++◌, refl, sym, ap, ◌∙◌}
+use Rattle.std.proofs.Common.{◌≡◌, ℕ, ◌+◌, ◌==◌, Contains, Bool, true, false, cond, List, [], ◌∷◌, ◌++◌, refl, sym, ap, ◌∙◌}
 use Rattle.std.proofs.lemmas.List.{append-nil}
-use Rattle.std.proofs.lemmas.List.Elements.{filter-append}
+use Rattle.std.proofs.lemmas.List.Elements.{filter-append, Contains-append_left, Contains-append_right, Contains-push}
 use Rattle.hprof_laying.specs.declared.reference.Reference.{Reference}
 use Rattle.hprof_laying.specs.declared.reference.Wanted.{Wanted}
 use Rattle.hprof_laying.specs.References.{is_wanted, wanted_of}
 use Rattle.hprof_edges.specs.declared.edge.Edge.{Edge}
+use Rattle.hprof_edges.specs.declared.edge.Via.{Via}
 use Rattle.hprof_edges.specs.declared.edge.Via.TheVariants as vias
-use Rattle.hprof_edges.specs.EdgeLists.{reference_edges, unless_zero}
+use Rattle.hprof_edges.specs.EdgeLists.{numbered, reference_edges, unless_zero}
 
 none_kept : (keeps : Edge → Bool) (edge : Edge) → keeps edge ≡ false → filter keeps (unless_zero edge) ≡ []
 none_kept keeps edge unkept = elim (edge.to == 0) as (λ t. filter keeps (cond t [] (edge ∷ [])) ≡ []) [
@@ -44,6 +45,24 @@ module _ (keeps : Edge → Bool) (which : Wanted) (only : (edge : Edge) → is_w
           | false ↦ λ no. by_wanted references ∙ sym (filter-append keeps some rest
               ∙ ap (λ (l : List Edge). l ++ filter keeps rest) (none_kept keeps edge (only edge no)))
         ] refl
+
+    -- by identifiers of which none is wanted no edge is kept
+    none_numbered : (via : Via) (position : ℕ) (targets : List ℕ) → ((to : ℕ) → Contains targets to → is_wanted which to ≡ false)
+        → filter keeps (numbered from via position targets) ≡ []
+    none_numbered via position [] none = refl
+    none_numbered via position (to ∷ targets) none =
+        let edge : Edge = record { from = from; via = via; position = position; to = to } in
+        let rest = numbered from via (position + 1) targets in
+        let first = none to (Contains-append_left (to ∷ []) targets to (Contains-push [] to)) in
+        filter-append keeps (unless_zero edge) rest ∙ ap (λ (l : List Edge). l ++ filter keeps rest) (none_kept keeps edge (only edge first))
+        ∙ none_numbered via (position + 1) targets (λ other there. none other (Contains-append_right (to ∷ []) targets other there))
+
+    -- so others are kept as they are without them
+    pub kept_alone : (edges : List Edge) (via : Via) (targets : List ℕ) → ((to : ℕ) → Contains targets to → is_wanted which to ≡ false)
+        → filter keeps edges ≡ filter keeps (edges ++ numbered from via 0 targets)
+    kept_alone edges via targets none =
+        sym (filter-append keeps edges (numbered from via 0 targets)
+        ∙ ap (λ (l : List Edge). filter keeps edges ++ l) (none_numbered via 0 targets none) ∙ append-nil (filter keeps edges))
 
     -- behind others the edges by those that are wanted are kept as the edges by all are
     pub kept_alike : (edges : List Edge) (references wanted : List Reference) → wanted ≡ wanted_of which references

@@ -1,6 +1,7 @@
 //! Edges, put one by one.
 
-ghost use Rattle.std.specs.Prelude.{◌≡◌, ◌++◌, List, OnOk};
+ghost use Rattle.std.specs.Prelude.{◌≡◌, ◌++◌, ℕ, List, Contains, false, OnOk};
+ghost use Rattle.hprof_laying.specs.References.{is_wanted};
 ghost use Rattle.hprof_lists.specs.Lists.{constants_of, identifiers_of, statics_of};
 ghost use Rattle.hprof_edges.specs.declared.edge.Edge.{Edge};
 ghost use Rattle.hprof_edges.specs.declared.edge.Via.TheVariants as vias;
@@ -9,7 +10,7 @@ ghost use Rattle.hprof_edges.specs.EdgeLists.{targets_of_values, unless_zero};
 
 use crate::collect::Collect;
 use crate::edge::{Edge, Via};
-use hprof_laying::{Reference, refers};
+use hprof_laying::{Reference, Wanted, refers};
 use hprof_layouts::FieldValue;
 use hprof_lists::{ConstantList, IdList, StaticList};
 use hprof_values::Basic;
@@ -87,8 +88,20 @@ pub(crate) fn put_statics<C: Collect>(
     Ok(())
 }
 
-/// Puts the edges of an array of objects by its elements. What collects them is given those that it wants.
-pub(crate) fn put_elements<C: Collect>(
+/// Whether an identifier of the list is wanted. All are looked at at once.
+#[inline(always)]
+fn wants_one(wanted: Wanted, elements: IdList<'_>) -> bool
+    ensures { result ≡ false → (to : ℕ) → Contains (identifiers_of elements.entry) to → is_wanted wanted to ≡ false }
+{
+    match wanted {
+        Wanted::All => true,
+        Wanted::To(id) => elements.contains(id),
+    }
+}
+
+/// Puts the edges of an array of objects by its elements, which are looked at one by one. What collects them is given those
+/// that it wants.
+fn put_wanted<C: Collect>(
     array: u64,
     elements: IdList<'_>,
     into: &mut C,
@@ -113,6 +126,25 @@ pub(crate) fn put_elements<C: Collect>(
         }
         position += 1;
     }
+    Ok(())
+}
+
+/// Puts the edges of an array of objects by its elements. What collects them is given those that it wants: of most arrays
+/// none, which is found at once.
+#[inline(always)]
+pub(crate) fn put_elements<C: Collect>(
+    array: u64,
+    elements: IdList<'_>,
+    into: &mut C,
+) -> Result<(), AllocError>
+    ensures holds { OnOk result ((edges : List Edge) → C.holds into.old edges
+        → C.holds into.new (edges ++ numbered array vias.Element 0 (identifiers_of elements.entry))) }
+    ensures keeps { OnOk result (C.keeps into.new ≡ C.keeps into.old) }
+{
+    if !wants_one(into.wanted(), elements) {
+        return Ok(());
+    }
+    put_wanted(array, elements, into)?;
     Ok(())
 }
 

@@ -4,7 +4,7 @@ use Rattle.hprof_edges.specs.declared.edge.Via.TheVariants as vias
 use Rattle.hprof_edges.specs.declared.edge.Edge.{Edge}
 use Rattle.hprof_edges.specs.EdgeLists.{numbered}
 use Rattle.hprof_edges.proofs.PutTogether.{Putting}
-use Rattle.hprof_edges.proofs.putting.put_elements.Given as goal
+use Rattle.hprof_edges.proofs.putting.put_wanted.Given as goal
 
 abbrev pub invariant-loop-to : goal.invariant-loop-to
 invariant-loop-to g l = record {
