@@ -27,6 +27,21 @@ pub(crate) struct Span {
 /// them without a copy.
 const MOST_DOUBLED: usize = 33_554_432;
 
+/// Puts bytes behind others for which there is no room left. More is had than they need, for those that follow.
+#[inline(never)]
+fn append_with_more_room(bytes: &mut Vec<u8>, others: &[u8]) -> Result<(), AllocError>
+    requires full { vec_capacity bytes.old < vec_len bytes.old + length others.now }
+    ensures ok { IfOk result (λ _. bytes.new.items ≡ bytes.old.items ++ others.now) }
+    ensures err { OnErr result (bytes.new.items ≡ bytes.old.items) }
+    ensures spare { OnOk result (vec_len bytes.old + (length others.now + spare_behind (vec_len bytes.old)) ≤ vec_capacity bytes.new) }
+    ensures room { vec_capacity bytes.old ≤ vec_capacity bytes.new }
+{
+    let len = bytes.len();
+    let more = if len < MOST_DOUBLED { len } else { len / 8 };
+    bytes.reserve_exact(others.len() + more)?;
+    bytes.extend_from_slice(others)
+}
+
 /// Puts bytes behind others. Where there is no room left for them, more is had than they need, for those that follow.
 #[inline(always)]
 fn append(bytes: &mut Vec<u8>, others: &[u8]) -> Result<(), AllocError>
@@ -37,12 +52,11 @@ fn append(bytes: &mut Vec<u8>, others: &[u8]) -> Result<(), AllocError>
         → vec_len bytes.old + (length others.now + spare_behind (vec_len bytes.old)) ≤ vec_capacity bytes.new) }
     ensures room { vec_capacity bytes.old ≤ vec_capacity bytes.new }
 {
-    let len = bytes.len();
-    if others.len() > bytes.capacity() - len {
-        let more = if len < MOST_DOUBLED { len } else { len / 8 };
-        bytes.reserve_exact(others.len() + more)?;
+    if others.len() <= bytes.capacity() - bytes.len() {
+        // The room was tested just here, so that std's own test of it falls away.
+        return bytes.extend_from_slice(others);
     }
-    bytes.extend_from_slice(others)
+    append_with_more_room(bytes, others)
 }
 
 /// Bytes that visit their key: those that lie there are compared with them, and else they are put behind all others.
