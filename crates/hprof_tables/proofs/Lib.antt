@@ -1,6 +1,7 @@
 pub mod SortedRows
 pub mod GapRuns
 pub mod SortedTable
+pub mod Framed
 pub mod Spans
 pub mod SideBySide
 pub mod Merged

@@ -1,5 +1,5 @@
 -- Rows whose bytes lie among others: they stay where more bytes come behind those.
-use Rattle.std.proofs.Common.{◌≡◌, ◌≢◌, ◌≤◌, ◌+◌, ◌-◌, ◌++◌, ℕ, List, [], ◌∷◌, length, take, drop, Option, Some, None, Result, Ok, Err}
+use Rattle.std.proofs.Common.{◌≡◌, ◌≢◌, ◌≤◌, ◌<◌, ◌^◌, ◌++◌, ℕ, List, [], ◌∷◌, length, drop, Option, Some, None, Result, Ok, Err}
 use Rattle.std.proofs.Common.{refl, sym, ap, subst, ◌∙◌, inl, inr, arith}
 use Rattle.std.specs.Prelude.{◌↔◌, Bool, true, false, ⊤, IsTrue, IfOk, OnErr}
 use Rattle.std.specs.declared.cmp.Ordering.TheVariants.{Less, Equal, Greater}
@@ -8,25 +8,32 @@ use Rattle.std.specs.Ordering.{nat_cmp}
 use Rattle.std.specs.BTreeMap.{is_at, insert_entry}
 use Rattle.std.specs.Cmp.{nat_cmp_is}
 use Rattle.std.proofs.lemmas.Bool.{cases_order}
-use Rattle.std.proofs.lemmas.List.{flat_map_more, drop-append-le, take-append-le, length-append, length-drop, append_assoc}
-use Rattle.std.proofs.Math.Seq.{drop-append_seam, take-length}
+use Rattle.std.proofs.lemmas.List.{flat_map_more, drop-append-le, length-drop, append_assoc}
+use Rattle.std.proofs.Math.Seq.{drop-append_seam}
 use Rattle.std.proofs.lemmas.Map.Made.{lookup-map_values, keys_of-map_values}
 use Rattle.hprof_tables.specs.declared.bytes_table.Span.{Span}
 use Rattle.hprof_tables.specs.declared.relation.Stated.{Stated}
 use Rattle.hprof_tables.specs.declared.relation.Stated.TheVariants.{New, Same, Differs}
-use Rattle.hprof_tables.specs.Spans.{IsSpanOf, AreSpansOf, IsBehind, row_bytes, lying, rows_lying, the_bytes}
+use Rattle.hprof_tables.specs.Spans.{IsSpanOf, AreSpansOf, IsBehind, framed, front_row, row_bytes, lying, rows_lying, the_bytes}
 use Rattle.hprof_tables.specs.Relation.{States}
 use Rattle.hprof_tables.specs.SortedRows.{LeavesUnmade, Visits, row_at, IsAscending}
+use Rattle.hprof_tables.proofs.Framed.{HasFrontRow-append, HasFrontRow-framed, front_row-append, front_row-framed, front_width-some}
 use Rattle.hprof_tables.proofs.Missing.{contents-append}
 use Rattle.hprof_tables.proofs.SortedRows.{row_at-here, row_at-past}
 
 -- ---- more bytes behind those that were there
 
+pub span_start : (bytes : List ℕ) (span : Span) → IsSpanOf bytes span → span.start ≤ length bytes
+span_start bytes span there = omega (arith, there, front_width-some (drop span.start bytes), length-drop span.start bytes)
+
 pub lying-append : (bytes more : List ℕ) (span : Span) → IsSpanOf bytes span → lying (bytes ++ more) span ≡ lying bytes span
-lying-append bytes more span within =
-    let room : span.end - span.start ≤ length (drop span.start bytes) = omega (arith, length-drop span.start bytes) in
-    ap (take (span.end - span.start)) (drop-append-le span.start bytes more (omega arith))
-    ∙ take-append-le (span.end - span.start) (drop span.start bytes) more room
+lying-append bytes more span there =
+    ap front_row (drop-append-le span.start bytes more (span_start bytes span there))
+    ∙ front_row-append (drop span.start bytes) more there
+
+span-append : (bytes more : List ℕ) (span : Span) → IsSpanOf bytes span → IsSpanOf (bytes ++ more) span
+span-append bytes more span there =
+    rw (drop-append-le span.start bytes more (span_start bytes span there)) (HasFrontRow-append (drop span.start bytes) more there)
 
 pub rows_lying-append : (bytes more : List ℕ) (rows : List (ℕ × Span)) → AreSpansOf bytes rows → rows_lying (bytes ++ more) rows
     ≡ rows_lying bytes rows
@@ -38,14 +45,15 @@ rows_lying-append bytes more (row ∷ rows) within =
 pub within-append : (bytes more : List ℕ) (rows : List (ℕ × Span)) → AreSpansOf bytes rows → AreSpansOf (bytes ++ more) rows
 within-append bytes more [] within = tt
 within-append bytes more (row ∷ rows) within =
-    ((within.0.0, omega (arith, length-append bytes more)), within-append bytes more rows within.1)
+    (span-append bytes more row.1 within.0, within-append bytes more rows within.1)
 
--- those that were put there
-pub lying-new : (bytes more : List ℕ) (span : Span) → span.start ≡ length bytes → span.end ≡ length (bytes ++ more)
-    → lying (bytes ++ more) span ≡ more
-lying-new bytes more span start end =
-    let len : span.end - span.start ≡ length more = omega (arith, length-append bytes more) in
-    rw (len, start) (ap (take (length more)) (drop-append_seam bytes more) ∙ take-length more)
+-- the row that was put there
+module _ (bytes row : List ℕ) (span : Span) (start : span.start ≡ length bytes) (small : length row < 2 ^ 64) where
+  pub lying-new : lying (bytes ++ framed row) span ≡ row
+  lying-new = rw start (ap front_row (drop-append_seam bytes (framed row)) ∙ front_row-framed row small)
+
+  pub span-new : IsSpanOf (bytes ++ framed row) span
+  span-new = rw (start, drop-append_seam bytes (framed row)) (HasFrontRow-framed row small)
 
 -- ---- rows
 
@@ -105,15 +113,15 @@ module _ (old_bytes new_bytes bytes : List ℕ) where
   Asks span same = IsSpanOf old_bytes span → (IsTrue same ↔ (lying old_bytes span ≡ bytes))
 
   abbrev pub Makes : Span → Type 0
-  Makes span = (new_bytes ≡ old_bytes ++ bytes) × (span.start ≡ length old_bytes) × (span.end ≡ length new_bytes)
+  Makes span = (new_bytes ≡ old_bytes ++ framed bytes) × (span.start ≡ length old_bytes) × (length bytes < 2 ^ 64)
 
   module _ (old new : List (ℕ × Span)) (key : ℕ) where
     made-within : (span : Span) → AreSpansOf old_bytes old → Makes span → new ≡ insert_entry nat_cmp old key span
         → AreSpansOf new_bytes new
     made-within span within made e =
-        let more : AreSpansOf new_bytes old = rw made.0 (within-append old_bytes bytes old within) in
-        let there : span.start ≤ span.end = omega (arith, ap length made.0, length-append old_bytes bytes) in
-        rw e (within-insert new_bytes old key span more (there, omega (arith, made.2)))
+        let more : AreSpansOf new_bytes old = rw made.0 (within-append old_bytes (framed bytes) old within) in
+        let there : IsSpanOf new_bytes span = rw made.0 (span-new old_bytes bytes span made.1 made.2) in
+        rw e (within-insert new_bytes old key span more there)
 
     -- the spans stay within the bytes
     pub visited-within : {E : Type 0} (r : Result (Option Bool) E) → AreSpansOf old_bytes old
@@ -134,8 +142,9 @@ module _ (old_bytes new_bytes bytes : List ℕ) where
         let span = v.1.0 in
         let made = v.1.1 in
         let lies : lying new_bytes span ≡ bytes =
-        rw made.0 (lying-new old_bytes bytes span made.1 (made.2 ∙ ap length made.0)) in
-        let rest : rows_lying new_bytes old ≡ rows_lying old_bytes old = rw made.0 (rows_lying-append old_bytes bytes old within) in (
+        rw made.0 (lying-new old_bytes bytes span made.1 made.2) in
+        let rest : rows_lying new_bytes old ≡ rows_lying old_bytes old =
+        rw made.0 (rows_lying-append old_bytes (framed bytes) old within) in (
           row_lying old_bytes old key ∙ ap (option_map (lying old_bytes)) v.0,
           (
             lying new_bytes span,
@@ -169,10 +178,10 @@ pub behind_more : (old now row new : List ℕ) → IsBehind old now → new ≡ 
 behind_more old now row new behind e = (behind.0 ++ row, e ∙ ap (λ (l : List ℕ). l ++ row) behind.1 ∙ append_assoc old behind.0 row)
 
 -- those of one row more
-pub put_more : (old now row new : List ℕ) (done : List (ℕ × List ℕ)) (key : ℕ) → now ≡ old ++ row_bytes done → new ≡ now ++ row
+pub put_more : (old now row new : List ℕ) (done : List (ℕ × List ℕ)) (key : ℕ) → now ≡ old ++ row_bytes done → new ≡ now ++ framed row
     → new ≡ old ++ row_bytes (done ++ (key, row) ∷ [])
 put_more old now row new done key put e =
-    e ∙ ap (λ (l : List ℕ). l ++ row) put ∙ flat_map_more (λ (one : ℕ × List ℕ). one.1) old done (key, row)
+    e ∙ ap (λ (l : List ℕ). l ++ framed row) put ∙ flat_map_more (λ (one : ℕ × List ℕ). framed one.1) old done (key, row)
 
 within-last : (bytes : List ℕ) (rows : List (ℕ × Span)) (key : ℕ) (span : Span) → AreSpansOf bytes rows → IsSpanOf bytes span
     → AreSpansOf bytes (rows ++ (key, span) ∷ [])
@@ -180,18 +189,18 @@ within-last bytes [] key span within last = (last, tt)
 within-last bytes (row ∷ rows) key span within last = (within.0, within-last bytes rows key span within.1 last)
 
 module _ (now row new : List ℕ) (rows : List (ℕ × Span)) (key : ℕ) (span : Span)
-    (e : new ≡ now ++ row) (start : span.start ≡ length now) (end : span.end ≡ length new) where
+    (e : new ≡ now ++ framed row) (start : span.start ≡ length now) (small : length row < 2 ^ 64) where
   pub within-next : AreSpansOf now rows → AreSpansOf new (rows ++ (key, span) ∷ [])
   within-next within =
-      let len : length new ≡ length now + length row = ap length e ∙ length-append now row in
-      within-last new rows key span (subst (λ (l : List ℕ). AreSpansOf l rows) (sym e) (within-append now row rows within))
-      (omega arith, omega arith)
+      within-last new rows key span
+      (subst (λ (l : List ℕ). AreSpansOf l rows) (sym e) (within-append now (framed row) rows within))
+      (subst (λ (l : List ℕ). IsSpanOf l span) (sym e) (span-new now row span start small))
 
   pub lying-next : (done : List (ℕ × List ℕ)) → AreSpansOf now rows → rows_lying now rows ≡ done
       → rows_lying new (rows ++ (key, span) ∷ []) ≡ done ++ (key, row) ∷ []
   lying-next done within lay =
       contents-append (lying new) rows (key, span)
       ∙ ap (λ (those : List (ℕ × List ℕ)). those ++ (key, lying new span) ∷ [])
-      (ap (λ (l : List ℕ). rows_lying l rows) e ∙ rows_lying-append now row rows within ∙ lay)
+      (ap (λ (l : List ℕ). rows_lying l rows) e ∙ rows_lying-append now (framed row) rows within ∙ lay)
       ∙ ap (λ (one : List ℕ). done ++ (key, one) ∷ [])
-      (ap (λ (l : List ℕ). lying l span) e ∙ lying-new now row span start (end ∙ ap length e))
+      (ap (λ (l : List ℕ). lying l span) e ∙ lying-new now row span start small)

@@ -4,7 +4,7 @@ use Rattle.hprof_tables.specs.declared.relation.Stated.{Stated}
 use Rattle.hprof_tables.specs.declared.relation.Stated.TheVariants.{New, Same, Differs}
 use Rattle.hprof_tables.specs.declared.bytes_table.BytesTable.{BytesTable}
 use Rattle.hprof_tables.specs.declared.bytes_table.BytesRows.{BytesRows}
-use Rattle.hprof_tables.specs.Spans.{row_bytes, rows_lying}
+use Rattle.hprof_tables.specs.Spans.{framed, row_bytes, rows_lying}
 use Rattle.hprof_tables.specs.SideBySide.{AreMissing}
 use Rattle.hprof_tables.specs.SortedTable.{entries_of, entries_left}
 
@@ -22,12 +22,12 @@ LeavesBytes New old new = ⊤
 LeavesBytes Same old new = new ≡ old
 LeavesBytes Differs old new = new ≡ old
 
--- where the key is new, the bytes of its row are put behind those that were there, once, and no more
+-- where the key is new, its length and its bytes are put behind those that were there, once, and no more
 abbrev pub PutsNew : Stated → List ℕ → List ℕ → List ℕ → Type 0
-PutsNew New bytes old new = new ≡ old ++ bytes
+PutsNew New bytes old new = new ≡ old ++ framed bytes
 PutsNew Same bytes old new = ⊤
 PutsNew Differs bytes old new = ⊤
 
--- behind the bytes that were there come those of the rows of others whose keys the rows lack, each once, and no more
+-- behind the bytes that were there come the lengths and the bytes of the rows of others whose keys the rows lack, each once, and no more
 abbrev pub PutsMissing : List (ℕ × List ℕ) → List (ℕ × List ℕ) → List ℕ → List ℕ → Type 0
 PutsMissing rows others old new = (missing : List (ℕ × List ℕ)) × AreMissing rows others missing × (new ≡ old ++ row_bytes missing)

@@ -1,13 +1,13 @@
 //! The tables of names, classes and objects: bytes by key.
 
-ghost use Rattle.std.specs.Prelude.{◌≡◌, ◌↔◌, ◌++◌, ◌+◌, ◌<◌, ◌≤◌, ◌⊎◌, List, [], length, IfOk, OnOk, OnErr, IsTrue, None, vec_len};
-ghost use Rattle.std.specs.Prelude.{vec_capacity};
+ghost use Rattle.std.specs.Prelude.{◌≡◌, ◌↔◌, ◌++◌, ◌+◌, ◌<◌, ◌≤◌, ◌⊎◌, List, [], length, IfOk, OnOk, OnErr, IsTrue, Some, None, vec_len};
+ghost use Rattle.std.specs.Prelude.{◌^◌, drop, take, vec_capacity};
 ghost use Rattle.std.specs.Option.{option_copied};
 ghost use Rattle.std.specs.Ordering.{nat_cmp};
 ghost use Rattle.std.specs.BTreeMap.{is_at};
 ghost use Rattle.std.specs.Map.{lookup};
 ghost use Rattle.hprof_tables.specs.Spans.{IsSpanOf, AreSpansOf, AreSpansOf-prop, IsBehind, row_bytes, lying, rows_lying, spare_behind};
-ghost use Rattle.hprof_tables.specs.Spans.{the_bytes};
+ghost use Rattle.hprof_tables.specs.Spans.{HasFrontRow, framed, front_row, long_length, the_bytes};
 ghost use Rattle.hprof_tables.specs.Relation.{contents_of};
 ghost use Rattle.hprof_tables.specs.SortedTable.{entries_of, entries_left};
 
@@ -16,33 +16,110 @@ use crate::side_by_side::{LentBytes, first_difference, missing_rows, same_rows};
 use crate::sorted_table::{Entries, SortedTable, Visit};
 use std::alloc::{AllocError, Global};
 
-/// Where the bytes of a row lie: at `start` and behind it, before `end`.
+/// Where a row lies: its length and its bytes start there.
 #[derive(Clone, Copy)]
 pub(crate) struct Span {
     start: usize,
-    end: usize,
+}
+
+/// Lengths below this one are spelled in one byte. Of a longer one the first byte is this number, and eight more follow.
+const LONG: usize = 255;
+
+/// The bytes behind a length of eight bytes.
+#[inline(never)]
+fn long_row(bytes: &[u8]) -> Option<&[u8]>
+    ensures { 8 + long_length bytes.now ≤ length bytes.now
+        → option_copied result ≡ Some (take (long_length bytes.now) (drop 8 bytes.now)) }
+{
+    let (spelled, rest) = bytes.split_first_chunk::<8>()?;
+    rest.get(..u64::from_be_bytes(*spelled) as usize)
+}
+
+/// The bytes behind the length that stands in front.
+#[inline(always)]
+fn first_row(bytes: &[u8]) -> Option<&[u8]>
+    ensures { HasFrontRow bytes.now → option_copied result ≡ Some (front_row bytes.now) }
+{
+    let (first, rest) = bytes.split_first()?;
+    let len = usize::from(*first);
+    if len < LONG {
+        return rest.get(..len);
+    }
+    long_row(rest)
+}
+
+impl Span {
+    /// The bytes of the row.
+    #[inline(always)]
+    fn row_in(self, bytes: &[u8]) -> Option<&[u8]>
+        ensures { IsSpanOf bytes.now self → option_copied result ≡ Some (lying bytes.now self) }
+    {
+        first_row(bytes.get(self.start..)?)
+    }
 }
 
 /// How many bytes may be had twice as long where they are to grow. More of them grow by an eighth: the system then moves
 /// them without a copy.
 const MOST_DOUBLED: usize = 33_554_432;
 
-/// Puts bytes behind others. Where there is no room left for them, more is had than they need, for those that follow.
-#[inline(always)]
-fn append(bytes: &mut Vec<u8>, others: &[u8]) -> Result<(), AllocError>
-    ensures ok { IfOk result (λ _. bytes.new.items ≡ bytes.old.items ++ others.now) }
-    ensures err { OnErr result (bytes.new.items ≡ bytes.old.items) }
-    ensures full { OnErr result (vec_capacity bytes.old < vec_len bytes.old + length others.now) }
-    ensures spare { OnOk result (vec_capacity bytes.old < vec_len bytes.old + length others.now
-        → vec_len bytes.old + (length others.now + spare_behind (vec_len bytes.old)) ≤ vec_capacity bytes.new) }
+/// Makes room for so many bytes behind others. Where there is none, more is had, for those that follow.
+fn make_room(bytes: &mut Vec<u8>, count: usize) -> Result<(), AllocError>
+    requires small { count < 2 ^ 63 + 9 }
+    ensures same { bytes.new.items ≡ bytes.old.items }
+    ensures ok { OnOk result (vec_len bytes.old + count ≤ vec_capacity bytes.new) }
+    ensures full { OnErr result (vec_capacity bytes.old < vec_len bytes.old + count) }
+    ensures spare { OnOk result (vec_capacity bytes.old < vec_len bytes.old + count
+        → vec_len bytes.old + (count + spare_behind (vec_len bytes.old)) ≤ vec_capacity bytes.new) }
     ensures room { vec_capacity bytes.old ≤ vec_capacity bytes.new }
 {
     let len = bytes.len();
-    if others.len() > bytes.capacity() - len {
-        let more = if len < MOST_DOUBLED { len } else { len / 8 };
-        bytes.reserve_exact(others.len() + more)?;
+    if count <= bytes.capacity() - len {
+        return Ok(());
     }
-    bytes.extend_from_slice(others)
+    let more = if len < MOST_DOUBLED { len } else { len / 8 };
+    bytes.reserve_exact(count + more)
+}
+
+/// Puts any row behind others: its length, and its bytes. Where there is no room left for them, more is had than they need, for
+/// those that follow.
+#[inline(never)]
+fn append_any(bytes: &mut Vec<u8>, row: &[u8]) -> Result<(), AllocError>
+    ensures ok { IfOk result (λ _. bytes.new.items ≡ bytes.old.items ++ framed row.now) }
+    ensures err { OnErr result (bytes.new.items ≡ bytes.old.items) }
+    ensures full { OnErr result (vec_capacity bytes.old < vec_len bytes.old + length (framed row.now)) }
+    ensures spare { OnOk result (vec_capacity bytes.old < vec_len bytes.old + length (framed row.now)
+        → vec_len bytes.old + (length (framed row.now) + spare_behind (vec_len bytes.old)) ≤ vec_capacity bytes.new) }
+    ensures room { vec_capacity bytes.old ≤ vec_capacity bytes.new }
+{
+    let len = row.len();
+    if len < LONG {
+        make_room(bytes, 1 + len)?;
+        bytes.push_reserved(len as u8);
+        return bytes.extend_from_slice(row);
+    }
+    make_room(bytes, 9 + len)?;
+    bytes.push_reserved(LONG as u8);
+    bytes.extend_from_slice(&(len as u64).to_be_bytes())?;
+    bytes.extend_from_slice(row)
+}
+
+/// Puts a row behind others, as `append_any` does. A short one for which there is room is put there in line.
+#[inline(always)]
+fn append(bytes: &mut Vec<u8>, row: &[u8]) -> Result<(), AllocError>
+    ensures ok { IfOk result (λ _. bytes.new.items ≡ bytes.old.items ++ framed row.now) }
+    ensures err { OnErr result (bytes.new.items ≡ bytes.old.items) }
+    ensures full { OnErr result (vec_capacity bytes.old < vec_len bytes.old + length (framed row.now)) }
+    ensures spare { OnOk result (vec_capacity bytes.old < vec_len bytes.old + length (framed row.now)
+        → vec_len bytes.old + (length (framed row.now) + spare_behind (vec_len bytes.old)) ≤ vec_capacity bytes.new) }
+    ensures room { vec_capacity bytes.old ≤ vec_capacity bytes.new }
+    ensures small { length row.now < 2 ^ 64 }
+{
+    let len = row.len();
+    if len < LONG && len < bytes.capacity() - bytes.len() {
+        bytes.push_reserved(len as u8);
+        return bytes.extend_from_slice(row);
+    }
+    append_any(bytes, row)
 }
 
 /// Bytes that visit their key: those that lie there are compared with them, and else they are put behind all others.
@@ -61,16 +138,17 @@ impl Visit<Span> for StatedBytes<'_> {
 
     ghost answers = { λ stated held span same. IsSpanOf held span → (IsTrue same ↔ (lying held span ≡ stated.bytes.now)) };
 
-    ghost makes = { λ stated old span new. (new ≡ old ++ stated.bytes.now) × (span.start ≡ length old) × (span.end ≡ length new) };
+    ghost makes = { λ stated old span new. (new ≡ old ++ framed stated.bytes.now) × (span.start ≡ length old)
+        × (length stated.bytes.now < 2 ^ 64) };
 
-    ghost refuses = { λ stated room. vec_capacity room < vec_len room + length stated.bytes.now };
+    ghost refuses = { λ stated room. vec_capacity room < vec_len room + length (framed stated.bytes.now) };
 
     // None is given back.
     ghost grows = { λ old new. vec_capacity old ≤ vec_capacity new };
 
     fn ask(self, span: &Span, room: &Vec<u8>) -> bool {
-        match room.get(span.start..span.end) {
-            Some(bytes) => bytes == self.bytes,
+        match span.row_in(room) {
+            Some(row) => row == self.bytes,
             None => false,
         }
     }
@@ -79,8 +157,7 @@ impl Visit<Span> for StatedBytes<'_> {
     fn make(self, room: &mut Vec<u8>) -> Result<Span, AllocError> {
         let start = room.len();
         append(room, self.bytes)?;
-        let end = room.len();
-        Ok(Span { start, end })
+        Ok(Span { start })
     }
 }
 
@@ -108,8 +185,8 @@ fn append_rows(
     Ok(spans)
 }
 
-/// Rows of bytes by key, in order of key. All bytes lie in one vector, as they came, so that a row takes no memory of its
-/// own.
+/// Rows of bytes by key, in order of key. The bytes of all rows lie in one vector, each row's behind their length, as they came,
+/// so that a row takes no memory of its own.
 #[derive(Drop)]
 pub struct BytesTable {
     rows: SortedTable<Span>,
@@ -145,7 +222,7 @@ impl BytesTable {
         ensures err { OnErr result (byte_rows self.new ≡ byte_rows self.old) }
         ensures absent { OnErr result (lookup (is_at (nat_cmp key)) (byte_rows self.old) ≡ None) }
         ensures full { OnErr result (LacksRoom self.old.rows key
-            ⊎ (vec_capacity self.old.bytes < vec_len self.old.bytes + length bytes.now)) }
+            ⊎ (vec_capacity self.old.bytes < vec_len self.old.bytes + length (framed bytes.now))) }
         ensures kept { IfOk result (λ stated. LeavesBytes stated self.old.bytes self.new.bytes) }
         ensures put { IfOk result (λ stated. PutsNew stated bytes.now self.old.bytes.items self.new.bytes.items) }
         ensures left { OnErr result (self.new.bytes.items ≡ self.old.bytes.items) }
@@ -174,7 +251,7 @@ impl BytesTable {
         ensures { option_copied result ≡ lookup (is_at (nat_cmp key)) (byte_rows self.now) }
     {
         let span = self.rows.get_near(key, near)?;
-        Some(&self.bytes[span.start..span.end])
+        span.row_in(&self.bytes)
     }
 
     /// The number of rows.
@@ -270,6 +347,6 @@ impl<'a> Iterator for BytesRows<'a> {
     #[inline(always)]
     fn next(&mut self) -> Option<(u64, &'a [u8])> {
         let (key, span) = self.entries.next()?;
-        Some((key, &self.bytes[span.start..span.end]))
+        Some((key, span.row_in(self.bytes)?))
     }
 }

@@ -1,6 +1,6 @@
 use Rattle.std.proofs.Common.{◌≡◌, ◌++◌, ◌∷◌, [], ℕ, List, refl, sym, ap, subst, ◌∙◌, arith, rules}
 use Rattle.std.proofs.lemmas.List.{append-nil, length-append}
-use Rattle.hprof_tables.specs.Spans.{AreSpansOf, row_bytes, rows_lying}
+use Rattle.hprof_tables.specs.Spans.{AreSpansOf, framed, row_bytes, rows_lying}
 use Rattle.hprof_tables.specs.Relation.{contents_of}
 use Rattle.hprof_tables.proofs.Missing.{contents-append}
 use Rattle.hprof_tables.proofs.Spans.{behind_more, put_more, within-next, lying-next}
@@ -28,7 +28,7 @@ loop-key-preserved c =
     let made = c.in_ok-span.ensures.ok in
     let pushed : c.push.new.self.items ≡ c.loop-key.spans.items ++ (key, span) ∷ [] = c.in_ok-push.ensures.items in
     record {
-      behind = behind_more c.args.bytes.now.items now row new c.loop-key.invariant.behind made.0;
+      behind = behind_more c.args.bytes.now.items now (framed row) new c.loop-key.invariant.behind made.0;
       put = put_more c.args.bytes.now.items now row new (contents_of (λ row. row.0.now) c.loop-key.yielded) key c.loop-key.invariant.put
           made.0
           ∙ ap (λ (those : List (ℕ × List ℕ)). c.args.bytes.now.items ++ row_bytes those)

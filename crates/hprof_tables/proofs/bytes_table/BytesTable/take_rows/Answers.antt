@@ -1,7 +1,9 @@
-use Rattle.std.proofs.Common.{refl}
+use Rattle.std.proofs.Common.{ℕ, List, refl, subst, sym}
 use Rattle.std.proofs.lemmas.Result.{IfOk-weaker}
+use Rattle.hprof_tables.specs.Spans.{AreSpansOf}
 use Rattle.hprof_tables.specs.SortedTable.{entries_of}
 use Rattle.hprof_tables.proofs.SameTables.{same_table, none_lying}
+use Rattle.hprof_tables.proofs.Spans.{within-append}
 use Rattle.hprof_tables.proofs.Taking.{fresh_apart, fresh_ascend, tried_within, tried_union}
 use Rattle.hprof_tables.proofs.bytes_table.BytesTable.take_rows.Goals as goal
 
@@ -20,6 +22,15 @@ merge-requires-clause-apart c =
     fresh_apart old.bytes.items c.append_rows.new.bytes.items (entries_of old.rows) c.in_ok-fresh.fresh.items _ put.behind old.sound
     put.lying
     c.requires.apart
+
+pub invariant_of-self : goal.invariant_of-self
+invariant_of-self c =
+    let old = c.args.self.now in
+    let behind = c.in_err-fresh.ensures.behind in
+    record {
+      sound = subst (λ (l : List ℕ). AreSpansOf l (entries_of old.rows)) (sym behind.1)
+          (within-append old.bytes.items behind.0 (entries_of old.rows) old.sound);
+    }
 
 pub invariant_of-self-2 : goal.invariant_of-self-2
 invariant_of-self-2 c =
