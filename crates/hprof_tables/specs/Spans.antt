@@ -65,7 +65,7 @@ IsBehind old new = (more : List ℕ) × (new ≡ old ++ more)
 
 -- how many bytes there is more room for than is needed, behind so many: as many again, or an eighth of many
 abbrev pub spare_behind : ℕ → ℕ
-spare_behind count = if nat_lt count 33554432 then count else count / 8
+spare_behind count = if nat_lt count 268435456 then count else count / 8
 
 -- it has at most one proof
 pub AreSpansOf-prop : (bytes : List ℕ) (rows : List (ℕ × Span)) → IsProp (AreSpansOf bytes rows)

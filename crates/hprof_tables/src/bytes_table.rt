@@ -58,9 +58,9 @@ impl Span {
     }
 }
 
-/// How many bytes may be had twice as long where they are to grow. More of them grow by an eighth: the system then moves
-/// them without a copy.
-const MOST_DOUBLED: usize = 33_554_432;
+/// How many bytes may be had twice as long where they are to grow: the system moves them without a copy, and room that is not
+/// touched costs addresses alone. More of them grow by an eighth, so that no request is for much more than there is.
+const MOST_DOUBLED: usize = 268_435_456;
 
 /// Makes room for so many bytes behind others. Where there is none, more is had, for those that follow.
 fn make_room(bytes: &mut Vec<u8>, count: usize) -> Result<(), AllocError>
