@@ -83,25 +83,27 @@ fn class_of<'a>(
     }
 }
 
-/// Reads a class, and puts it in the place of the fact.
+/// Reads a class, and puts it in the place of the fact. Few items are one, so it stands apart from the reading of the
+/// others, and takes the item by value: the others keep it out of memory.
 #[tactic(auto, unfolding(crate::specs::ClassDump::class_at))]
+#[inline(never)]
 pub(crate) fn read_class<'a>(
-    item: &BoundedBytes<'a>,
+    item: BoundedBytes<'a>,
     ids: IdSize,
     fact: &mut Fact<'a>,
 ) -> Result<usize, Stop>
     ensures fact { MatchResult result
-        (λ end. class_at ids (bounds_of item.now) item.now.bytes.now ≡ Ok (value_of fact.new, end))
-        (λ stop. class_at ids (bounds_of item.now) item.now.bytes.now ≡ Err stop) }
+        (λ end. class_at ids (bounds_of item.entry) item.entry.bytes.now ≡ Ok (value_of fact.new, end))
+        (λ stop. class_at ids (bounds_of item.entry) item.entry.bytes.now ≡ Err stop) }
     ensures lists { OnOk result (ListsHave ids fact.new) }
 {
     let id = ids.width();
     let first = item.end_of(1, &[id, 4, id, id, id, id, id, id, 4])?;
     let (_, fields) = item.bytes.split_at(1);
     let front = split_front(fields, ids);
-    let constants = list_at(item, first, EntryKind::Constant, ids)?;
-    let statics = list_at(item, constants.end, EntryKind::Static, ids)?;
-    let fields = list_at(item, statics.end, EntryKind::Field, ids)?;
+    let constants = list_at(&item, first, EntryKind::Constant, ids)?;
+    let statics = list_at(&item, constants.end, EntryKind::Static, ids)?;
+    let fields = list_at(&item, statics.end, EntryKind::Field, ids)?;
     *fact = class_of(
         front,
         ConstantList::of_span(constants, ids),

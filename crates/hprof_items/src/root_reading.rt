@@ -65,18 +65,20 @@ fn root_in(bytes: &[u8], tag: SubTag, ids: IdSize) -> Root
     }
 }
 
-/// Reads a root behind its tag.
+/// Reads a root behind its tag. Few items are one, so it stands apart from the reading of the others, and takes the item by
+/// value: the others keep it out of memory.
 #[tactic(auto, unfolding(crate::specs::SubRecord::root_at))]
+#[inline(never)]
 pub(crate) fn read_root(
-    item: &BoundedBytes<'_>,
+    item: BoundedBytes<'_>,
     tag: SubTag,
     ids: IdSize,
 ) -> Result<(Root, usize), Stop>
     ensures fact { MatchResult result
-        (λ read. root_at ids tag (bounds_of item.now) item.now.bytes.now ≡ Ok (Rooted read.0, read.1))
-        (λ stop. root_at ids tag (bounds_of item.now) item.now.bytes.now ≡ Err stop) }
+        (λ read. root_at ids tag (bounds_of item.entry) item.entry.bytes.now ≡ Ok (Rooted read.0, read.1))
+        (λ stop. root_at ids tag (bounds_of item.entry) item.entry.bytes.now ≡ Err stop) }
 {
-    let end = root_end(item, tag, ids)?;
+    let end = root_end(&item, tag, ids)?;
     let (_, fields) = item.bytes.split_at(1);
     Ok((root_in(fields, tag, ids), end))
 }

@@ -28,8 +28,8 @@ fn total(widths: &[usize]) -> usize
 
 impl BoundedBytes<'_> {
     /// Tests a field by where it ends: within the record, within the longest item, and then it is there.
-    fn field_end(&self, end: usize) -> Result<usize, Stop>
-        ensures { result ≡ field_end (bounds_of self.now) end }
+    fn field_end(self, end: usize) -> Result<usize, Stop>
+        ensures { result ≡ field_end (bounds_of self.entry) end }
     {
         if self.room < end {
             Err(Stop::Fault(Reason::PastEnd))
@@ -42,10 +42,13 @@ impl BoundedBytes<'_> {
         }
     }
 
-    /// The end of fields of those widths that begin there, each tested before the next.
-    fn each_end(&self, at: usize, widths: &[usize]) -> Result<usize, Stop>
+    /// The end of fields of those widths that begin there, each tested before the next. Few items need it, so it stands
+    /// apart from [`BoundedBytes::end_of`]. It takes the bounds by value: a caller that only tests them keeps them out of
+    /// memory.
+    #[inline(never)]
+    fn each_end(self, at: usize, widths: &[usize]) -> Result<usize, Stop>
         requires { at + sum widths.now < 2 ^ 64 }
-        ensures { result ≡ reached (bounds_of self.now) at widths.now }
+        ensures { result ≡ reached (bounds_of self.entry) at widths.now }
     {
         let mut end = at;
         let mut rest = widths;

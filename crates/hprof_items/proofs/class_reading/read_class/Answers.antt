@@ -7,7 +7,7 @@ use Rattle.hprof_items.proofs.class_reading.read_class.Goals as goal
 pub list_at-requires : goal.list_at-requires
 list_at-requires c =
     let id = c.width-id.result in
-    (reached_passed (bounds_of c.args.item.now) 1 id (4 ∷ id ∷ id ∷ id ∷ id ∷ id ∷ id ∷ 4 ∷ []) c.in_ok-first.first
+    (reached_passed (bounds_of c.args.item) 1 id (4 ∷ id ∷ id ∷ id ∷ id ∷ id ∷ id ∷ 4 ∷ []) c.in_ok-first.first
     (sym c.end_of.ensures ∙ c.in_ok-first.was)).1.there
 
 pub returns-clause-lists : goal.returns-clause-lists
