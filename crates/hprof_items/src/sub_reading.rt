@@ -27,15 +27,11 @@ fn read_behind<'a>(
     ensures lists { OnOk result (ListsHave ids fact.new) }
 {
     match tag {
-        SubTag::ClassDump => read_class(*item, ids, fact),
+        SubTag::ClassDump => read_class(item, ids, fact),
         SubTag::InstanceDump => read_instance(item, ids, fact),
         SubTag::ObjArrayDump => read_obj_array(item, ids, fact),
         SubTag::PrimArrayDump => read_prim_array(item, ids, fact),
-        _ => {
-            let (root, end) = read_root(*item, tag, ids)?;
-            *fact = Fact::Root(root);
-            Ok(end)
-        }
+        _ => read_root(item, tag, ids, fact),
     }
 }
 

@@ -2,7 +2,7 @@ use Rattle.std.proofs.Common.{[], ◌∷◌, sym, ◌∙◌, rules}
 use Rattle.hprof_items.specs.ClassDump.{class_at}
 use Rattle.hprof_values.specs.BoundedBytes.{bounds_of}
 use Rattle.hprof_values.proofs.FieldGroups.{reached_passed}
-use Rattle.hprof_items.proofs.class_reading.read_class.Goals as goal
+use Rattle.hprof_items.proofs.class_reading.whole_class.Goals as goal
 
 pub list_at-requires : goal.list_at-requires
 list_at-requires c =
@@ -11,7 +11,7 @@ list_at-requires c =
     (sym c.end_of.ensures ∙ c.in_ok-first.was)).1.there
 
 pub returns-clause-lists : goal.returns-clause-lists
-returns-clause-lists c = c.class_of.ensures.lists c.args.ids c.of_span.ensures.size c.of_span-2.ensures.size c.of_span-3.ensures.size
+returns-clause-lists c = c.class_of-class.ensures.lists c.args.ids c.of_span.ensures.size c.of_span-2.ensures.size c.of_span-3.ensures.size
 
 pub returns-clause-fact : goal.returns-clause-fact
 unfolding class_at
