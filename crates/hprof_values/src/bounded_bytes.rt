@@ -28,8 +28,9 @@ fn total(widths: &[usize]) -> usize
 
 impl BoundedBytes<'_> {
     /// Tests a field by where it ends: within the record, within the longest item, and then it is there.
-    fn field_end(self, end: usize) -> Result<usize, Stop>
-        ensures { result ≡ field_end (bounds_of self.entry) end }
+    #[inline(always)]
+    fn field_end(&self, end: usize) -> Result<usize, Stop>
+        ensures { result ≡ field_end (bounds_of self.now) end }
     {
         if self.room < end {
             Err(Stop::Fault(Reason::PastEnd))
@@ -42,13 +43,12 @@ impl BoundedBytes<'_> {
         }
     }
 
-    /// The end of fields of those widths that begin there, each tested before the next. Few items need it, so it stands
-    /// apart from [`BoundedBytes::end_of`]. It takes the bounds by value: a caller that only tests them keeps them out of
-    /// memory.
-    #[inline(never)]
-    fn each_end(self, at: usize, widths: &[usize]) -> Result<usize, Stop>
+    /// The end of fields of those widths that begin there, each tested before the next. Where it stands in its callers they
+    /// need no place in memory for the item and the widths, also where it does not run.
+    #[inline(always)]
+    fn each_end(&self, at: usize, widths: &[usize]) -> Result<usize, Stop>
         requires { at + sum widths.now < 2 ^ 64 }
-        ensures { result ≡ reached (bounds_of self.entry) at widths.now }
+        ensures { result ≡ reached (bounds_of self.now) at widths.now }
     {
         let mut end = at;
         let mut rest = widths;
