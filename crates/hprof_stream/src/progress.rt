@@ -225,13 +225,19 @@ impl Progress {
         let Some(header) = self.header else {
             return Ok(rest);
         };
-        while self.room > 0 {
-            match self.step_sub(&header, rest, fact, sink) {
+        // It goes on in a copy, which needs no place in memory, so that a step writes none of it back.
+        let mut progress = *self;
+        while progress.room > 0 {
+            match progress.step_sub(&header, rest, fact, sink) {
                 Ok(Some(len)) => (_, rest) = rest.split_at(len),
-                Ok(None) => return Ok(rest),
-                Err(fault) => return Err(fault),
+                Ok(None) => break,
+                Err(fault) => {
+                    *self = progress;
+                    return Err(fault);
+                }
             }
         }
+        *self = progress;
         Ok(rest)
     }
 

@@ -10,8 +10,8 @@ returns-in_default-clause-walk g c = (
   inl (start_outside c.args.self.now c.in_default.is),
 )
 
-pub loop-self-init : goal.loop-self-init
-loop-self-init g c = record {
+pub loop-progress-init : goal.loop-progress-init
+loop-progress-init g c = record {
   walked = Walks-none g.S.Sink.begins g.S.Sink.steps c.args.self.now.limits.max_item c.args.self.now
       c.args.bytes.now c.args.sink.now;
   header = c.in-Some.is;
@@ -19,16 +19,16 @@ loop-self-init g c = record {
   begun = c.requires.begun;
 }
 
-pub loop-self-preserved : goal.loop-self-preserved
-loop-self-preserved g c =
+pub loop-progress-preserved : goal.loop-progress-preserved
+loop-progress-preserved g c =
     let from = c.args.self.now in
-    let now = c.loop-self.self in
+    let now = c.loop-progress.progress in
     let next = c.step_sub.new.self in
-    let bytes = c.loop-self.rest.now in
+    let bytes = c.loop-progress.rest.now in
     let rest = c.split_at.result.1.now in
-    let sink = c.loop-self.sink in
+    let sink = c.loop-progress.sink in
     let given = c.step_sub.new.sink in
-    let inv = c.loop-self.invariant in
+    let inv = c.loop-progress.invariant in
     let step = rw c.in-Ok-Some.field-0-is at c.in-Ok-Some.ensures.step in
     let over = subst (λ (r : List ℕ). Walks g.S.Sink.begins g.S.Sink.steps now.limits.max_item now bytes sink next r given)
     (sym c.split_at.ensures.back) step.0 in
@@ -44,12 +44,12 @@ loop-self-preserved g c =
 pub returns-in-Err-clause-walk : goal.returns-in-Err-clause-walk
 returns-in-Err-clause-walk g c =
     let from = c.args.self.now in
-    let now = c.loop-self.self in
+    let now = c.loop-progress.progress in
     let next = c.step_sub.new.self in
-    let rest = c.loop-self.rest.now in
-    let sink = c.loop-self.sink in
+    let rest = c.loop-progress.rest.now in
+    let sink = c.loop-progress.sink in
     let given = c.step_sub.new.sink in
     Halts-then g.S.Sink.begins g.S.Sink.steps g.S.Sink.refuses g.S.Sink.failed from now next c.args.bytes.now rest c.args.sink.now
-    sink given c.in-Err.fault c.loop-self.invariant.walked
+    sink given c.in-Err.fault c.loop-progress.invariant.walked
     (Halts-here g.S.Sink.begins g.S.Sink.steps g.S.Sink.refuses g.S.Sink.failed now next rest sink given c.in-Err.fault
     c.in-Err.ensures.step)
