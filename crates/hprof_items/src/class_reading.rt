@@ -1,6 +1,6 @@
 //! Reading a class behind its tag.
 
-ghost use Rattle.std.specs.Prelude.{◌≡◌, ◌≤◌, length, sum, Ok, Err, OnOk, MatchResult};
+ghost use Rattle.std.specs.Prelude.{◌≡◌, ◌≤◌, length, sum, Ok, Err, IfOk, OnOk, MatchResult};
 ghost use Rattle.hprof_values.specs.FieldGroups.{fields_in};
 ghost use Rattle.hprof_values.specs.BoundedBytes.{bounds_of};
 ghost use Rattle.hprof_values.specs.declared.ids.IdSize.{IdSize};
@@ -83,8 +83,34 @@ fn class_of<'a>(
     }
 }
 
-/// Reads a class, and puts it in the place of the fact.
+/// The class at the front, and where it ends. Few items are one, so it stands apart from the reading of the others, and takes
+/// the item by value: the others keep it out of memory.
 #[tactic(auto, unfolding(crate::specs::ClassDump::class_at))]
+#[inline(never)]
+fn whole_class<'a>(item: BoundedBytes<'a>, ids: IdSize) -> Result<(Fact<'a>, usize), Stop>
+    ensures fact { MatchResult result
+        (λ read. class_at ids (bounds_of item.entry) item.entry.bytes.now ≡ Ok (value_of read.0, read.1))
+        (λ stop. class_at ids (bounds_of item.entry) item.entry.bytes.now ≡ Err stop) }
+    ensures lists { IfOk result (λ read. ListsHave ids read.0) }
+{
+    let id = ids.width();
+    let first = item.end_of(1, &[id, 4, id, id, id, id, id, id, 4])?;
+    let (_, fields) = item.bytes.split_at(1);
+    let front = split_front(fields, ids);
+    let constants = list_at(&item, first, EntryKind::Constant, ids)?;
+    let statics = list_at(&item, constants.end, EntryKind::Static, ids)?;
+    let fields = list_at(&item, statics.end, EntryKind::Field, ids)?;
+    let class = class_of(
+        front,
+        ConstantList::of_span(constants, ids),
+        StaticList::of_span(statics, ids),
+        FieldList::of_span(fields, ids),
+    );
+    Ok((class, fields.end))
+}
+
+/// Reads a class, and puts it in the place of the fact.
+#[inline(always)]
 pub(crate) fn read_class<'a>(
     item: &BoundedBytes<'a>,
     ids: IdSize,
@@ -95,18 +121,7 @@ pub(crate) fn read_class<'a>(
         (λ stop. class_at ids (bounds_of item.now) item.now.bytes.now ≡ Err stop) }
     ensures lists { OnOk result (ListsHave ids fact.new) }
 {
-    let id = ids.width();
-    let first = item.end_of(1, &[id, 4, id, id, id, id, id, id, 4])?;
-    let (_, fields) = item.bytes.split_at(1);
-    let front = split_front(fields, ids);
-    let constants = list_at(item, first, EntryKind::Constant, ids)?;
-    let statics = list_at(item, constants.end, EntryKind::Static, ids)?;
-    let fields = list_at(item, statics.end, EntryKind::Field, ids)?;
-    *fact = class_of(
-        front,
-        ConstantList::of_span(constants, ids),
-        StaticList::of_span(statics, ids),
-        FieldList::of_span(fields, ids),
-    );
-    Ok(fields.end)
+    let (class, end) = whole_class(*item, ids)?;
+    *fact = class;
+    Ok(end)
 }

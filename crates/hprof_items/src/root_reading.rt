@@ -1,12 +1,13 @@
 //! Reading a root behind its tag.
 
-ghost use Rattle.std.specs.Prelude.{◌≡◌, ◌≤◌, length, sum, Ok, Err, MatchResult};
+ghost use Rattle.std.specs.Prelude.{◌≡◌, ◌≤◌, length, sum, Ok, Err, OnOk, MatchResult};
 ghost use Rattle.hprof_values.specs.FieldGroups.{fields_in, reached};
 ghost use Rattle.hprof_values.specs.BoundedBytes.{bounds_of};
 ghost use Rattle.hprof_values.specs.Root.{root_fields};
-ghost use Rattle.hprof_items.specs.FactValue.{Rooted};
+ghost use Rattle.hprof_items.specs.FactValue.{Rooted, value_of, ListsHave};
 ghost use Rattle.hprof_items.specs.SubRecord.{root_of, root_at};
 
+use crate::fact::Fact;
 use hprof_values::number::{split_id, split_u32};
 use hprof_values::{BoundedBytes, IdSize, Root, Stop, SubTag};
 
@@ -65,18 +66,34 @@ fn root_in(bytes: &[u8], tag: SubTag, ids: IdSize) -> Root
     }
 }
 
-/// Reads a root behind its tag.
+/// The root of that tag at the front, and where it ends. Few items are one, so it stands apart from the reading of the others,
+/// and takes the item by value: the others keep it out of memory.
 #[tactic(auto, unfolding(crate::specs::SubRecord::root_at))]
-pub(crate) fn read_root(
-    item: &BoundedBytes<'_>,
-    tag: SubTag,
-    ids: IdSize,
-) -> Result<(Root, usize), Stop>
+#[inline(never)]
+fn whole_root(item: BoundedBytes<'_>, tag: SubTag, ids: IdSize) -> Result<(Root, usize), Stop>
     ensures fact { MatchResult result
-        (λ read. root_at ids tag (bounds_of item.now) item.now.bytes.now ≡ Ok (Rooted read.0, read.1))
-        (λ stop. root_at ids tag (bounds_of item.now) item.now.bytes.now ≡ Err stop) }
+        (λ read. root_at ids tag (bounds_of item.entry) item.entry.bytes.now ≡ Ok (Rooted read.0, read.1))
+        (λ stop. root_at ids tag (bounds_of item.entry) item.entry.bytes.now ≡ Err stop) }
 {
-    let end = root_end(item, tag, ids)?;
+    let end = root_end(&item, tag, ids)?;
     let (_, fields) = item.bytes.split_at(1);
     Ok((root_in(fields, tag, ids), end))
+}
+
+/// Reads a root behind its tag, and puts it in the place of the fact.
+#[inline(always)]
+pub(crate) fn read_root<'a>(
+    item: &BoundedBytes<'a>,
+    tag: SubTag,
+    ids: IdSize,
+    fact: &mut Fact<'a>,
+) -> Result<usize, Stop>
+    ensures fact { MatchResult result
+        (λ end. root_at ids tag (bounds_of item.now) item.now.bytes.now ≡ Ok (value_of fact.new, end))
+        (λ stop. root_at ids tag (bounds_of item.now) item.now.bytes.now ≡ Err stop) }
+    ensures lists { OnOk result (ListsHave ids fact.new) }
+{
+    let (root, end) = whole_root(*item, tag, ids)?;
+    *fact = Fact::Root(root);
+    Ok(end)
 }

@@ -31,11 +31,7 @@ fn read_behind<'a>(
         SubTag::InstanceDump => read_instance(item, ids, fact),
         SubTag::ObjArrayDump => read_obj_array(item, ids, fact),
         SubTag::PrimArrayDump => read_prim_array(item, ids, fact),
-        _ => {
-            let (root, end) = read_root(item, tag, ids)?;
-            *fact = Fact::Root(root);
-            Ok(end)
-        }
+        _ => read_root(item, tag, ids, fact),
     }
 }
 

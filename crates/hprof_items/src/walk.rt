@@ -131,7 +131,7 @@ fn plain_end(item: &BoundedBytes<'_>, tag: SubTag, ids: IdSize) -> Result<usize,
         SubTag::InstanceDump => read_instance(item, ids, &mut fact),
         SubTag::ObjArrayDump => read_obj_array(item, ids, &mut fact),
         SubTag::PrimArrayDump => read_prim_array(item, ids, &mut fact),
-        _ => Ok(read_root(item, tag, ids)?.1),
+        _ => read_root(item, tag, ids, &mut fact),
     }
 }
 

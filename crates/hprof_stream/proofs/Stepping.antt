@@ -6,11 +6,15 @@ use Rattle.hprof_stream.specs.declared.part_fault.PartFault.{PartFault}
 use Rattle.hprof_stream.specs.declared.progress.Progress.{Progress}
 use Rattle.hprof_stream.specs.declared.sink.SinkFault.{SinkFault}
 use Rattle.hprof_stream.specs.declared.part_fault.PartFault.TheVariants as faults
-use Rattle.hprof_stream.specs.Progress.{place_of}
+use Rattle.hprof_stream.specs.Progress.{place_of, IsOutside}
 use Rattle.hprof_stream.specs.Walking.{Walks, Stops, StepsOver, Halts, WalksAll}
 use Rattle.hprof_stream.proofs.ItemLists.{header_at_place, item_kept, items_kept}
 use Rattle.hprof_stream.proofs.Walks.{Walks-none, Walks-then, Walks-at, same_item}
 use Rattle.std.specs.Prelude.{Bool}
+
+-- the next item stands outside, where no header was read
+pub start_outside : (progress : Progress) → progress.header ≡ None → IsOutside progress
+start_outside progress none header is = let never : None ≡ Some header = sym none ∙ is in absurd cc
 
 module _ {S : Type 0} (begins : S → Header → S → Type 0) (steps : S → FactValue → S → Type 0) (refuses : S → List FactValue → SinkFault
     → S → Type 0) (failed : S → Bool) where
@@ -53,6 +57,25 @@ module _ {S : Type 0} (begins : S → Header → S → Type 0) (steps : S → Fa
         stops = halts.stops;
         stands = halts.stands;
       }
+
+  -- one walk, and then another from where it ended
+  pub Walks-on : (from between to : Progress) (bytes left rest : List ℕ) (old mid new : S)
+      → Walks begins steps from.limits.max_item from bytes old between left mid
+      → Walks begins steps between.limits.max_item between left mid to rest new
+      → Walks begins steps from.limits.max_item from bytes old to rest new
+  Walks-on from between to bytes left rest old mid new first second =
+      let same = same_item begins steps from.limits.max_item from between bytes left old mid first in
+      Walks-then begins steps from.limits.max_item from between to bytes left rest old mid new first
+      (Walks-at begins steps between.limits.max_item from.limits.max_item between to left rest mid new same second)
+
+  -- a walk up to an item that is not whole
+  pub WalksAll-short : (from between to : Progress) (bytes left : List ℕ) (old mid new : S)
+      → Walks begins steps from.limits.max_item from bytes old between left mid
+      → StepsOver begins steps refuses failed between left mid (Ok None) to new
+      → WalksAll begins steps refuses failed from bytes old (Ok left) to new
+  WalksAll-short from between to bytes left old mid new first step =
+      subst (λ (s : S). WalksAll begins steps refuses failed from bytes old (Ok left) to s) step.2
+      (subst (λ (p : Progress). WalksAll begins steps refuses failed from bytes old (Ok left) p mid) step.1 (first, step.0))
 
   -- of the same bytes
   pub Halts-same : (from to : Progress) (bytes others : List ℕ) (old new : S) (fault : PartFault) → bytes ≡ others

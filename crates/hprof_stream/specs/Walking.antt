@@ -16,7 +16,7 @@ use Rattle.hprof_stream.specs.declared.progress.Progress.{Progress}
 use Rattle.hprof_stream.specs.Part.{Stated, all_bytes, all_facts, is_end}
 use Rattle.hprof_stream.specs.declared.rest.Rest.{Rest}
 use Rattle.hprof_stream.specs.Item.{Place, Found, IsItem, AreItems, records_begun, header_before, held_of, item_at}
-use Rattle.hprof_stream.specs.Progress.{place_of}
+use Rattle.hprof_stream.specs.Progress.{place_of, IsOutside}
 use Rattle.hprof_stream.specs.Rest.{IsRest}
 use Rattle.hprof_stream.specs.Run.{Run, became, FitsBegun, ListsHaveBegun, SpellsBegun}
 
@@ -90,6 +90,14 @@ module _ {S : Type 0} (begins : S → Header → S → Type 0) (steps : S → Fa
   WalksAll from bytes old (Ok rest) to new =
       Walks begins steps from.limits.max_item from bytes old to rest new × (item_at to.limits.max_item (place_of to) rest ≡ Short)
   WalksAll from bytes old (Err fault) to new = Halts from bytes old fault to new
+
+  -- whole items were walked over up to where no heap dump has room left, or up to a rest that needs more bytes, or up to one
+  -- that is refused
+  abbrev pub WalksSubs : Progress → List ℕ → S → Result (List ℕ) PartFault → Progress → S → Type 0
+  WalksSubs from bytes old (Ok rest) to new =
+      Walks begins steps from.limits.max_item from bytes old to rest new
+      × (IsOutside to ⊎ (item_at to.limits.max_item (place_of to) rest ≡ Short))
+  WalksSubs from bytes old (Err fault) to new = Halts from bytes old fault to new
 
   -- bytes came behind those that were there of an item: it is whole now, it was handed on, and behind it these are left;
   -- or it needs more still, and these are not yet added to it

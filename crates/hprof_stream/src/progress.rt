@@ -1,6 +1,6 @@
 //! How far into a part reading has come, and the step over one item.
 
-ghost use Rattle.std.specs.Prelude.{◌≡◌, ℕ, ◌+◌, ◌≤◌, length, drop, Some, None, Option, IfOk, IfErr, OnOk};
+ghost use Rattle.std.specs.Prelude.{◌≡◌, ℕ, true, ◌+◌, ◌≤◌, length, drop, Some, None, Option, IfOk, IfErr, OnOk};
 ghost use Rattle.hprof_items.specs.declared.step.Step.TheVariants.{Whole};
 ghost use Rattle.hprof_stream.specs.Item.{item_at};
 ghost use Rattle.hprof_stream.specs.ItemValue.{with_fact, bare, step_with};
@@ -36,7 +36,7 @@ pub(crate) struct Progress {
 
 impl Progress {
     ghost use Rattle.hprof_stream.specs.Progress.{start_of, place_of, advanced, IsCounted, IsNext, IsOutside};
-    ghost use Rattle.hprof_stream.specs.Walking.{StepsOver, WalksAll, told_by, seen};
+    ghost use Rattle.hprof_stream.specs.Walking.{StepsOver, WalksSubs, WalksAll, told_by, seen};
 
     /// Nothing was read.
     pub(crate) fn start(limits: Limits) -> Self
@@ -196,6 +196,51 @@ impl Progress {
         }
     }
 
+    /// Whether the next item stands within no heap dump record.
+    #[inline(always)]
+    fn is_outside(&self) -> bool
+        ensures outside { result ≡ true → IsOutside self.now }
+        ensures within { IsOutside self.now → result ≡ true }
+        ensures room { self.now.room ≤ longest_body }
+    {
+        let room = self.room;
+        self.header.is_none() || room == 0
+    }
+
+    /// Steps over the whole sub-records at the front of the bytes, as far as the heap dump record has room left, and answers
+    /// what is behind them.
+    #[inline(always)]
+    fn walk_subs<'a, S: Sink>(
+        &mut self,
+        bytes: &'a [u8],
+        fact: &mut Fact<'a>,
+        sink: &mut S,
+    ) -> Result<&'a [u8], PartFault>
+        requires counted { IsCounted self.old (length bytes.now) }
+        requires begun { IsBegun self.old.header (S.begun sink.old) }
+        ensures walk { WalksSubs S.begins S.steps S.refuses S.failed self.old bytes.now sink.old (seen result) self.new sink.new }
+        ensures begun { OnOk result (IsBegun self.new.header (S.begun sink.new)) }
+    {
+        let mut rest = bytes;
+        let Some(header) = self.header else {
+            return Ok(rest);
+        };
+        // It goes on in a copy, which needs no place in memory, so that a step writes none of it back.
+        let mut progress = *self;
+        while progress.room > 0 {
+            match progress.step_sub(&header, rest, fact, sink) {
+                Ok(Some(len)) => (_, rest) = rest.split_at(len),
+                Ok(None) => break,
+                Err(fault) => {
+                    *self = progress;
+                    return Err(fault);
+                }
+            }
+        }
+        *self = progress;
+        Ok(rest)
+    }
+
     /// Steps over the whole items at the front of the bytes, and answers what is behind them.
     pub(crate) fn walk<'a, S: Sink>(
         &mut self,
@@ -210,10 +255,16 @@ impl Progress {
     {
         let mut rest = bytes;
         let mut fact = Fact::End { thread: 0 };
-        while let Some(len) = self.step(rest, &mut fact, sink)? {
+        loop {
+            rest = self.walk_subs(rest, &mut fact, sink)?;
+            if !self.is_outside() {
+                return Ok(rest);
+            }
+            let Some(len) = self.step_outside(rest, &mut fact, sink)? else {
+                return Ok(rest);
+            };
             (_, rest) = rest.split_at(len);
         }
-        Ok(rest)
     }
 }
 

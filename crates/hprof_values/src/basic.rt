@@ -54,6 +54,7 @@ impl Basic {
     }
 
     /// The type that the code stands for.
+    #[inline(always)]
     pub fn from_code(code: u8) -> Option<Basic>
         ensures exact { result ≡ basic_of_code code }
         ensures both { (basic : Basic) → (result ≡ Some basic) ↔ (code ≡ code_of_basic basic) }
@@ -74,6 +75,7 @@ impl Basic {
     }
 
     /// How many bytes a value of the type has.
+    #[inline(always)]
     pub fn width(self, ids: IdSize) -> u32
         ensures { result ≡ width_of_basic ids self }
     {

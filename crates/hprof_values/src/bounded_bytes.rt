@@ -28,6 +28,7 @@ fn total(widths: &[usize]) -> usize
 
 impl BoundedBytes<'_> {
     /// Tests a field by where it ends: within the record, within the longest item, and then it is there.
+    #[inline(always)]
     fn field_end(&self, end: usize) -> Result<usize, Stop>
         ensures { result ≡ field_end (bounds_of self.now) end }
     {
@@ -42,7 +43,9 @@ impl BoundedBytes<'_> {
         }
     }
 
-    /// The end of fields of those widths that begin there, each tested before the next.
+    /// The end of fields of those widths that begin there, each tested before the next. Where it stands in its callers they
+    /// need no place in memory for the item and the widths, also where it does not run.
+    #[inline(always)]
     fn each_end(&self, at: usize, widths: &[usize]) -> Result<usize, Stop>
         requires { at + sum widths.now < 2 ^ 64 }
         ensures { result ≡ reached (bounds_of self.now) at widths.now }
