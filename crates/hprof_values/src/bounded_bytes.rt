@@ -67,7 +67,8 @@ impl BoundedBytes<'_> {
         ensures { result ≡ reached (bounds_of self.now) at widths.now }
     {
         let end = at + total(widths);
-        if end <= self.room && end <= self.longest && end <= self.bytes.len() {
+        let within = self.room.min(self.longest).min(self.bytes.len());
+        if end <= within {
             return Ok(end);
         }
         self.each_end(at, widths)
