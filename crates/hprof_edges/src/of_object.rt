@@ -18,13 +18,17 @@ use hprof_lists::IdList;
 use hprof_values::IdSize;
 use std::alloc::AllocError;
 
-/// Puts the edge of an instance or of an array of objects to its class; there is none to class 0.
+/// Puts the edge of an instance or of an array of objects to its class; there is none to class 0. What collects edges is given it if
+/// it wants it.
 #[inline(always)]
 pub fn edge_to_class<C: Collect>(object: u64, class: u64, into: &mut C) -> Result<(), AllocError>
     ensures holds { OnOk result ((edges : List Edge) → C.holds into.old edges
         → PutBehind (C.holds into.new) edges (IsEdgeToClass object class)) }
     ensures keeps { OnOk result (C.keeps into.new ≡ C.keeps into.old) }
 {
+    if !into.wanted().wants(class) {
+        return Ok(());
+    }
     let edge = Edge {
         from: object,
         via: Via::Class,

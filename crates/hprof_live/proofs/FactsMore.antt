@@ -27,7 +27,7 @@ use Rattle.hprof_finding.proofs.ClassFacts.{dump_in}
 use Rattle.hprof_live.specs.declared.derived.Derived.{Derived}
 use Rattle.hprof_live.specs.declared.edge_set.EdgeSet.{EdgeSet}
 use Rattle.hprof_live.specs.declared.waiting.WaitingInstances.{WaitingInstances}
-use Rattle.hprof_live.specs.Derived.{AddsFact, GivesSoFar, HasLaid, IsDerived, IsDeriving, IsEdgeSoFar, IsInstance, IsInstanceOf}
+use Rattle.hprof_live.specs.Derived.{IsOther, AddsFact, GivesSoFar, HasLaid, IsDerived, IsDeriving, IsEdgeSoFar, IsInstance, IsInstanceOf}
 use Rattle.hprof_live.specs.EdgeSet.{SetOf}
 use Rattle.hprof_live.specs.Waiting.{waiting_of}
 use Rattle.hprof_live.proofs.Deriving.{appended, stopped_more}
@@ -146,15 +146,20 @@ nothing_added ids before fact facts adds derived nothing is =
     (λ edges of. put_nothing edges (SetOf derived.set) (GivesSoFar ids facts is.laid fact) of
     (λ edge gives. gives_none ids facts is.laid fact edge nothing gives))
 
+-- a fact that is none of these two
+pub is_other : (fact : Fact) → ((id trace class : ℕ) (bytes : Bor (List ℕ)) → fact ≡ facts.Instance id trace class bytes → ⊥)
+    → ((id trace class : ℕ) (elements : IdList) → fact ≡ facts.ObjArray id trace class elements → ⊥) → IsOther fact
+is_other (facts.Instance id trace class bytes) no_instance no_array = no_instance id trace class bytes refl
+is_other (facts.ObjArray id trace class elements) no_instance no_array = no_array id trace class elements refl
+is_other fact no_instance no_array = tt
+
 -- a fact that is no class dump, no instance and no array of objects
-pub neither : (fact : Fact) → ((dump : ClassDump) → fact_of_dump dump ≡ value_of fact → ⊥)
-    → ((id trace class : ℕ) (bytes : Bor (List ℕ)) → fact ≡ facts.Instance id trace class bytes → ⊥)
-    → ((id trace class : ℕ) (elements : IdList) → fact ≡ facts.ObjArray id trace class elements → ⊥) → NothingToDerive (value_of fact)
-neither (facts.Class id trace parent loader signers domain reserved1 reserved2 size constants statics fields) no_dump no_instance no_array =
+pub neither : (fact : Fact) → ((dump : ClassDump) → fact_of_dump dump ≡ value_of fact → ⊥) → IsOther fact → NothingToDerive (value_of fact)
+neither (facts.Class id trace parent loader signers domain reserved1 reserved2 size constants statics fields) no_dump other =
     no_dump (dump_in (value_of (facts.Class id trace parent loader signers domain reserved1 reserved2 size constants statics fields))) refl
-neither (facts.Instance id trace class bytes) no_dump no_instance no_array = no_instance id trace class bytes refl
-neither (facts.ObjArray id trace class elements) no_dump no_instance no_array = no_array id trace class elements refl
-neither fact no_dump no_instance no_array = tt
+neither (facts.Instance id trace class bytes) no_dump other = other
+neither (facts.ObjArray id trace class elements) no_dump other = other
+neither fact no_dump other = tt
 
 -- ---- an array of objects
 

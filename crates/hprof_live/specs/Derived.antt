@@ -1,7 +1,9 @@
 -- What is derived from facts.
-use Rattle.std.specs.Prelude.{◌≡◌, ◌↔◌, ◌⊎◌, ◌-◌, ◌^◌, ℕ, Bool, min, List, ◌∷◌, length, nat_eq, Contains}
+use Rattle.std.specs.Prelude.{◌≡◌, ◌↔◌, ◌⊎◌, ◌-◌, ◌^◌, ℕ, Bool, min, List, ◌∷◌, length, nat_eq, Contains, ⊤}
 use Rattle.std.specs.List.{IsDistinct}
 use Rattle.hprof_values.specs.declared.ids.IdSize.{IdSize}
+use Rattle.hprof_items.specs.declared.fact.Fact.{Fact}
+use Rattle.hprof_items.specs.declared.fact.Fact.TheVariants as facts
 use Rattle.hprof_items.specs.FactValue.{FactValue, Instance, ObjArray}
 use Rattle.hprof_rows.specs.Conflict.{IsConsistent}
 use Rattle.hprof_rows.specs.Facts.{Has, SameFacts}
@@ -38,6 +40,12 @@ pub record CannotBeLaid (facts : List FactValue) (instance : ℕ) : Type 0 where
   pub no_layout : ¬ HasLayout facts class
 
 -- ---- a fact more
+
+-- it is neither an instance nor an array of objects
+abbrev pub IsOther : Fact → Type 0
+IsOther (facts.Instance id trace class bytes) = ⊥
+IsOther (facts.ObjArray id trace class elements) = ⊥
+IsOther fact = ⊤
 
 -- the facts are these and one more, which is new among them
 pub record AddsFact (before : List FactValue) (fact : FactValue) (facts : List FactValue) : Type 0 where

@@ -2,7 +2,8 @@
 
 ghost use Rattle.std.specs.Prelude.{◌≡◌, ◌≤◌, ◌++◌, ◌∷◌, ℕ, true, List, [], Contains, OnOk, drop, vec_len};
 ghost use Rattle.hprof_values.specs.declared.ids.IdSize.{IdSize};
-ghost use Rattle.hprof_items.specs.FactValue.{FactValue, Instance, value_of};
+ghost use Rattle.hprof_items.specs.FactValue.{FactValue, Instance, ObjArray, value_of};
+ghost use Rattle.hprof_lists.specs.Lists.{identifiers_of};
 ghost use Rattle.hprof_rows.specs.Facts.{Has};
 ghost use Rattle.hprof_finding.specs.HeapFacts.{facts_of, size_of};
 ghost use Rattle.hprof_finding.specs.ClassRow.{dump_of};
@@ -11,7 +12,7 @@ ghost use Rattle.hprof_laying.specs.Known.{HasLayout, IsOutlineOf};
 ghost use Rattle.hprof_edges.specs.declared.edge.Edge.{Edge};
 ghost use Rattle.hprof_edges.specs.Collecting.{is_watched};
 ghost use Rattle.hprof_edges.specs.Edges.{AreEdges, AreReferrers};
-ghost use Rattle.hprof_live.specs.Derived.{AddsFact, CanBeLaid, CannotBeLaid, HasLaid, IsDerived, IsDeriving, IsInstanceOf, keeps_of};
+ghost use Rattle.hprof_live.specs.Derived.{AddsFact, CanBeLaid, CannotBeLaid, HasLaid, IsDerived, IsDeriving, IsInstanceOf, IsOther, keeps_of};
 ghost use Rattle.hprof_live.specs.EdgeSet.{edges_in};
 ghost use Rattle.hprof_live.specs.Indexed.{IsIndexTo};
 ghost use Rattle.hprof_live.specs.Number.{IsNumberOf};
@@ -26,6 +27,7 @@ use hprof_finding::{ClassRow, ObjectRow, find_object, id_size, table_len, to_cla
 use hprof_heap::{Heap, Table};
 use hprof_items::Fact;
 use hprof_laying::{KnownLayouts, Outline, Reference};
+use hprof_lists::IdList;
 use hprof_values::IdSize;
 use std::alloc::{AllocError, Global};
 
@@ -216,8 +218,25 @@ impl Derived {
         Ok(())
     }
 
-    /// Takes an instance that is new to the heap.
-    #[inline(always)]
+    /// Takes a fact that is new to the heap, and is neither an instance nor an array of objects. Few facts are class dumps, from
+    /// which alone something is derived, so this stands apart from [`Derived::add`].
+    #[inline(never)]
+    fn add_other(&mut self, heap: &Heap, fact: &Fact<'_>) -> Result<(), AllocError>
+        requires { IsOther fact.now }
+        ensures adds { OnOk result ((before : List FactValue)
+            → AddsFact before (value_of fact.now) (facts_of heap.now)
+            → IsDerived (size_of heap.now) before self.old → IsDerived (size_of heap.now) (facts_of heap.now) self.new) }
+        ensures keeps { OnOk result (keeps_of self.new ≡ keeps_of self.old) }
+    {
+        if let Some(row) = to_class_row(fact) {
+            self.add_class(heap, &row)?;
+        }
+        Ok(())
+    }
+
+    /// Takes an instance that is new to the heap. It stands apart from [`Derived::add`], so that this one stays small enough to
+    /// stand in the loop over the facts of a part.
+    #[inline(never)]
     fn add_instance(
         &mut self,
         ids: IdSize,
@@ -240,6 +259,18 @@ impl Derived {
         Ok(())
     }
 
+    /// Takes an array of objects that is new to the heap. It stands apart as [`Derived::add_instance`] does.
+    #[inline(never)]
+    fn add_array(&mut self, array: u64, class: u64, elements: &IdList<'_>) -> Result<(), AllocError>
+        ensures adds { OnOk result ((ids : IdSize) (before facts : List FactValue) (trace : ℕ)
+            → AddsFact before (ObjArray array trace class (identifiers_of elements.now)) facts
+            → IsDerived ids before self.old → IsDerived ids facts self.new) }
+        ensures keeps { OnOk result (keeps_of self.new ≡ keeps_of self.old) }
+    {
+        array_edges(array, class, *elements, &mut self.set)?;
+        Ok(())
+    }
+
     /// Takes a fact that is new to the heap, which has it. Where memory is refused, nothing holds of what is derived.
     #[inline(always)]
     pub(crate) fn add(&mut self, heap: &Heap, fact: &Fact<'_>) -> Result<(), AllocError>
@@ -254,27 +285,16 @@ impl Derived {
                 class,
                 bytes,
                 ..
-            } => {
-                self.add_instance(id_size(heap), id, class, bytes)?;
-                Ok(())
-            }
+            } => self.add_instance(id_size(heap), id, class, bytes),
             Fact::ObjArray {
                 id,
                 class,
-                elements,
+                ref elements,
                 ..
-            } => {
-                array_edges(id, class, elements, &mut self.set)?;
-                Ok(())
-            }
+            } => self.add_array(id, class, elements),
             // What is in an array of numbers refers to nothing.
             Fact::PrimArray { .. } => Ok(()),
-            _ => {
-                if let Some(row) = to_class_row(fact) {
-                    self.add_class(heap, &row)?;
-                }
-                Ok(())
-            }
+            _ => self.add_other(heap, fact),
         }
     }
 }
