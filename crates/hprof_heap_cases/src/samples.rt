@@ -198,6 +198,21 @@ pub(crate) fn check_rows(rt: &impl Abort, heap: &Heap, table: Table, expected: &
         equal(rt, facts.next(), Some(fact));
     }
     holds(rt, facts.next().is_none());
+    check_rows_into(rt, heap, table, expected);
+}
+
+// That these facts are put one behind the other in one place, in which the last of them stays.
+fn check_rows_into(rt: &impl Abort, heap: &Heap, table: Table, expected: &[Fact<'_>]) {
+    let mut facts = heap.rows(table);
+    let mut last = Fact::Unload { serial: 77 };
+    let mut place = last;
+    for &fact in expected {
+        holds(rt, facts.next_into(&mut place));
+        equal(rt, place, fact);
+        last = fact;
+    }
+    holds(rt, !facts.next_into(&mut place));
+    equal(rt, place, last);
 }
 
 pub(crate) fn array(id: u64, elem: Basic, bytes: &[u8]) -> Fact<'_> {

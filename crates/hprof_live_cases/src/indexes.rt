@@ -53,6 +53,10 @@ fn one_that_is_watched(rt: HostRuntime) -> Result<(), Fail> {
     give(alloc, &mut live, &array)?;
     let to_17 = [edge(16, Via::Element, 0, 17)];
     check_referrers(&rt, &mut live, 17, Live::Is(&to_17));
+    // Edges to others are there, and not kept.
+    for id in [16, 99] {
+        check_referrers(&rt, &mut live, id, Live::Is(&[]));
+    }
     let found = live.finish()?;
     equal_at(&rt, 17, found.index.referrers(17), to_17.as_slice());
     Ok(())

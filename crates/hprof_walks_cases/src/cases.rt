@@ -5,7 +5,7 @@ ghost use Rattle.std.specs.List.Sorted.{IsStrictlyIncreasing};
 
 use crate::expecting::{equal, holds};
 use crate::graphs::Edges;
-use hprof_walks::{Search, search};
+use hprof_walks::{Numbered, Search, search};
 use std::alloc::Global;
 use std::process::Abort;
 use std::test::*;
@@ -38,6 +38,25 @@ fn searched(rt: &impl Abort, alloc: Global, case: &Case<'_>) -> Result<Search, F
     holds(rt, is_ascending(&nodes));
     let mut edges = Edges { edges: case.edges };
     Ok(search(alloc, &mut edges, nodes, case.starts)?)
+}
+
+/// Ends the test where one of these nodes is none by their list, or where one of the others is one.
+pub(crate) fn check_nodes(
+    rt: &impl Abort,
+    alloc: Global,
+    nodes: &[u64],
+    others: &[u64],
+) -> Result<(), Fail> {
+    let list = nodes.to_vec(alloc)?;
+    holds(rt, is_ascending(&list));
+    let numbered = Numbered::new(alloc, list)?;
+    for node in nodes {
+        equal(rt, numbered.has(*node), true);
+    }
+    for other in others {
+        equal(rt, numbered.has(*other), false);
+    }
+    Ok(())
 }
 
 // That there is a path to the node where nodes are expected, and that it is these.

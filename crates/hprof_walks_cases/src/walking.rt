@@ -1,6 +1,6 @@
 //! Searches.
 
-use crate::cases::{Case, check};
+use crate::cases::{Case, check, check_nodes};
 use std::alloc::Global;
 use std::test::*;
 
@@ -29,6 +29,13 @@ fn distances(rt: HostRuntime) -> Result<(), Fail> {
         ],
     };
     check(&rt, rt.alloc(), &case)
+}
+
+#[test]
+fn nodes_of_a_list(rt: HostRuntime) -> Result<(), Fail> {
+    check_nodes(&rt, rt.alloc(), &[], &[0, 1, u64::MAX])?;
+    let far = [0, 16, 17, 1 << 40, u64::MAX];
+    check_nodes(&rt, rt.alloc(), &far, &[1, 15, 18, (1 << 40) - 1, (1 << 40) + 1, u64::MAX - 1])
 }
 
 #[test]
