@@ -101,11 +101,7 @@ fn wants_one(wanted: Wanted, elements: IdList<'_>) -> bool
 
 /// Puts the edges of an array of objects by its elements, which are looked at one by one. What collects them is given those
 /// that it wants.
-fn put_wanted<C: Collect>(
-    array: u64,
-    elements: IdList<'_>,
-    into: &mut C,
-) -> Result<(), AllocError>
+fn put_wanted<C: Collect>(array: u64, elements: IdList<'_>, into: &mut C) -> Result<(), AllocError>
     ensures holds { OnOk result ((edges : List Edge) → C.holds into.old edges
         → C.holds into.new (edges ++ numbered array vias.Element 0 (identifiers_of elements.entry))) }
     ensures keeps { OnOk result (C.keeps into.new ≡ C.keeps into.old) }

@@ -102,10 +102,23 @@ fn contained_identifiers(rt: HostRuntime) -> Result<(), Fail> {
     check_contains(&rt, b"", IdSize::Eight, &[], &[0, 1])?;
     // What lies across two identifiers is none of them.
     let four: &[u8] = b"\0\0\0\x01\xff\0\0\0\0\0\0\x02";
-    check_contains(&rt, four, IdSize::Four, &[1, 0xff00_0000, 2], &[0, 0x1ff, 0x1_0000_0001])?;
-    let eight: &[u8] = b"\0\0\0\0\0\0\0\x05\0\0\0\x01\0\0\0\x02\0\0\0\0\0\0\0\x07\0\0\0\0\0\0\0\0\x80\0\0\0\0\0\0\x09";
+    check_contains(
+        &rt,
+        four,
+        IdSize::Four,
+        &[1, 0xff00_0000, 2],
+        &[0, 0x1ff, 0x1_0000_0001],
+    )?;
+    let eight: &[u8] =
+        b"\0\0\0\0\0\0\0\x05\0\0\0\x01\0\0\0\x02\0\0\0\0\0\0\0\x07\0\0\0\0\0\0\0\0\x80\0\0\0\0\0\0\x09";
     let contained = [5, 0x1_0000_0002, 7, 0, 0x8000_0000_0000_0009];
-    check_contains(&rt, eight, IdSize::Eight, &contained, &[1, 2, 9, 0x5_0000_0001])?;
+    check_contains(
+        &rt,
+        eight,
+        IdSize::Eight,
+        &contained,
+        &[1, 2, 9, 0x5_0000_0001],
+    )?;
     Ok(())
 }
 

@@ -35,7 +35,12 @@ fn distances(rt: HostRuntime) -> Result<(), Fail> {
 fn nodes_of_a_list(rt: HostRuntime) -> Result<(), Fail> {
     check_nodes(&rt, rt.alloc(), &[], &[0, 1, u64::MAX])?;
     let far = [0, 16, 17, 1 << 40, u64::MAX];
-    check_nodes(&rt, rt.alloc(), &far, &[1, 15, 18, (1 << 40) - 1, (1 << 40) + 1, u64::MAX - 1])
+    check_nodes(
+        &rt,
+        rt.alloc(),
+        &far,
+        &[1, 15, 18, (1 << 40) - 1, (1 << 40) + 1, u64::MAX - 1],
+    )
 }
 
 #[test]
