@@ -204,8 +204,8 @@ pub(crate) fn check_rows(rt: &impl Abort, heap: &Heap, table: Table, expected: &
 // That these facts are put one behind the other in one place, in which the last of them stays.
 fn check_rows_into(rt: &impl Abort, heap: &Heap, table: Table, expected: &[Fact<'_>]) {
     let mut facts = heap.rows(table);
+    let mut place = Fact::Unload { serial: 77 };
     let mut last = Fact::Unload { serial: 77 };
-    let mut place = last;
     for &fact in expected {
         holds(rt, facts.next_into(&mut place));
         equal(rt, place, fact);
