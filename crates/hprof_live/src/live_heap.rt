@@ -156,8 +156,9 @@ impl LiveHeap {
         self.lend_edges(start)
     }
 
-    /// Derives what there is to derive from a fact that the gatherer took, and that was new to it.
-    #[inline(always)]
+    /// Derives what there is to derive from a fact that the gatherer took, and that was new to it. It stands apart from the loop over the
+    /// facts of a part, so that the gatherer's part of `take` stands in it.
+    #[inline(never)]
     fn derive(&mut self, fact: &Fact<'_>) -> Result<(), AllocError>
         ensures derives { OnOk result ((before : List FactValue) (heap : HeapValue)
             → answer_of (gathered self.old.gatherer) ≡ Ok heap → AddsFact before (value_of fact.now) heap.facts
