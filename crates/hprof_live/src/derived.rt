@@ -292,8 +292,6 @@ impl Derived {
                 ref elements,
                 ..
             } => self.add_array(id, class, elements),
-            // What is in an array of numbers refers to nothing.
-            Fact::PrimArray { .. } => Ok(()),
             _ => self.add_other(heap, fact),
         }
     }

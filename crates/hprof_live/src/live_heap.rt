@@ -167,6 +167,10 @@ impl LiveHeap {
         ensures gathered { gathered self.new.gatherer ≡ gathered self.old.gatherer }
         ensures failed { self.new.failed ≡ self.old.failed }
     {
+        // What is in an array of numbers refers to nothing.
+        if let Fact::PrimArray { .. } = *fact {
+            return Ok(());
+        }
         match self.gatherer.heap() {
             None => Ok(()),
             Some(heap) => {

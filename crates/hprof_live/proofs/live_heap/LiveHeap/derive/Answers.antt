@@ -1,10 +1,12 @@
 use Rattle.std.proofs.Common.{◌≡◌, List, sym, subst, ap, ◌∙◌}
 use Rattle.hprof_values.specs.declared.ids.IdSize.{IdSize}
+use Rattle.hprof_items.specs.declared.fact.Fact.{Fact}
 use Rattle.hprof_items.specs.FactValue.{FactValue, value_of}
 use Rattle.hprof_rows.specs.HeapValue.{HeapValue}
 use Rattle.hprof_heap.specs.Gathering.{answer_of, gathered}
 use Rattle.hprof_finding.specs.HeapFacts.{facts_of, size_of}
 use Rattle.hprof_live.specs.Derived.{AddsFact, IsDerived}
+use Rattle.hprof_live.proofs.FactsMore.{NothingToDerive, nothing_added}
 use Rattle.hprof_live.proofs.Outcomes.{is_lent}
 use Rattle.hprof_live.proofs.live_heap.LiveHeap.derive.Goals as goal
 
@@ -20,3 +22,8 @@ returns-in_ok-add-in-Some-clause-derives c = λ before heap outcome adds is.
     (subst (λ (f : List FactValue). IsDerived (size_of c.in-Some.heap.now) f c.add.new.self) facts
     (c.in_ok-add-in-Some.ensures.adds before (subst (λ (f : List FactValue). AddsFact before fact f) (sym facts) adds)
     (subst (λ (i : IdSize). IsDerived i before c.args.self.now.derived) (sym ids) is)))
+
+pub returns-in-PrimArray-clause-derives : goal.returns-in-PrimArray-clause-derives
+returns-in-PrimArray-clause-derives c = λ before heap outcome adds is.
+    nothing_added heap.ids before (value_of c.args.fact.now) heap.facts adds c.args.self.now.derived
+    (subst (λ (fact : Fact). NothingToDerive (value_of fact)) (sym c.in-PrimArray.is) tt) is
