@@ -136,10 +136,9 @@ impl Heap {
         self.objects.state(id, bytes)
     }
 
-    /// States a fact; the bytes are those of the sub-record that spells it, if it is one of a heap dump. One that is
-    /// there takes no memory; where memory is refused, nothing changes.
-    #[inline(always)]
-    pub(crate) fn state(&mut self, fact: &Fact<'_>, bytes: &[u8]) -> Result<Stated, AllocError>
+    /// States a fact as [`Heap::state`] does. Few facts are no objects, so this stands apart from the loop over the facts of a part.
+    #[inline(never)]
+    fn state_any(&mut self, fact: &Fact<'_>, bytes: &[u8]) -> Result<Stated, AllocError>
         requires fits { Fits (heap_of self.old).ids (value_of fact.now) }
         requires lists { ListsHave (heap_of self.old).ids fact.now }
         requires spelled { bytes.now ≡ dump_bytes (heap_of self.old).ids (value_of fact.now) }
@@ -201,6 +200,24 @@ impl Heap {
             Fact::Instance { id, .. } | Fact::ObjArray { id, .. } | Fact::PrimArray { id, .. } => {
                 self.state_object(id, fact, bytes)
             }
+        }
+    }
+    /// States a fact; the bytes are those of the sub-record that spells it, if it is one of a heap dump. One that is
+    /// there takes no memory; where memory is refused, nothing changes.
+    #[inline(always)]
+    pub(crate) fn state(&mut self, fact: &Fact<'_>, bytes: &[u8]) -> Result<Stated, AllocError>
+        requires fits { Fits (heap_of self.old).ids (value_of fact.now) }
+        requires lists { ListsHave (heap_of self.old).ids fact.now }
+        requires spelled { bytes.now ≡ dump_bytes (heap_of self.old).ids (value_of fact.now) }
+        ensures ok { IfOk result (λ stated. StatesInto (heap_of self.old) (value_of fact.now) stated (heap_of self.new)) }
+        ensures err { OnErr result (heap_of self.new ≡ heap_of self.old) }
+        ensures absent { OnErr result (IsNewAmong (heap_of self.old).facts (value_of fact.now)) }
+    {
+        match *fact {
+            Fact::Instance { id, .. } | Fact::ObjArray { id, .. } | Fact::PrimArray { id, .. } => {
+                self.state_object(id, fact, bytes)
+            }
+            _ => self.state_any(fact, bytes),
         }
     }
 }

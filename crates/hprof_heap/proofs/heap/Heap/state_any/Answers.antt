@@ -1,5 +1,5 @@
 use Rattle.std.proofs.Common.{rules}
-use Rattle.hprof_heap.proofs.heap.Heap.state.Goals as goal
+use Rattle.hprof_heap.proofs.heap.Heap.state_any.Goals as goal
 
 pub returns-in-Load-clause-absent : goal.returns-in-Load-clause-absent
 returns-in-Load-clause-absent c = search rules
