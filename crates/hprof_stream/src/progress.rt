@@ -14,7 +14,7 @@ use crate::item::{Item, first_item, record_item};
 use crate::limits::Limits;
 use crate::part_fault::PartFault;
 use crate::sink::{Sink, SinkFault};
-use hprof_items::{Fact, Header, Step, Stop, read_sub_into};
+use hprof_items::{Fact, Header, IdSize, Step, Stop, read_sub_into};
 
 /// What has been read of a part: its whole items from the front.
 #[derive(Clone, Copy)]
@@ -174,8 +174,8 @@ impl Progress {
 
     /// Steps over the item at the front of the bytes and hands it to the sink, and answers how many bytes it has.
     /// None where it needs more bytes than there are. The fact that it states is put in the place of the fact; what stands
-    /// there before and after is of no account.
-    #[inline(always)]
+    /// there before and after is of no account. Few items come in two pieces, so it stands apart from what feeds them.
+    #[inline(never)]
     pub(crate) fn step<'a, S: Sink>(
         &mut self,
         bytes: &'a [u8],
@@ -208,23 +208,22 @@ impl Progress {
     }
 
     /// Steps over the whole sub-records at the front of the bytes, as far as the heap dump record has room left, and answers
-    /// what is behind them.
+    /// what is behind them. It stands within a heap dump behind that header.
     #[inline(always)]
-    fn walk_subs<'a, S: Sink>(
+    fn walk_within<'a, S: Sink>(
         &mut self,
+        header: Header,
         bytes: &'a [u8],
         fact: &mut Fact<'a>,
         sink: &mut S,
     ) -> Result<&'a [u8], PartFault>
+        requires header { self.old.header ≡ Some header }
         requires counted { IsCounted self.old (length bytes.now) }
         requires begun { IsBegun self.old.header (S.begun sink.old) }
         ensures walk { WalksSubs S.begins S.steps S.refuses S.failed self.old bytes.now sink.old (seen result) self.new sink.new }
         ensures begun { OnOk result (IsBegun self.new.header (S.begun sink.new)) }
     {
         let mut rest = bytes;
-        let Some(header) = self.header else {
-            return Ok(rest);
-        };
         // It goes on in a copy, which needs no place in memory, so that a step writes none of it back.
         let mut progress = *self;
         while progress.room > 0 {
@@ -239,6 +238,45 @@ impl Progress {
         }
         *self = progress;
         Ok(rest)
+    }
+
+    /// Steps over the whole sub-records at the front of the bytes, as [`Progress::walk_within`] does. There is none before the header.
+    #[inline(always)]
+    fn walk_subs<'a, S: Sink>(
+        &mut self,
+        bytes: &'a [u8],
+        fact: &mut Fact<'a>,
+        sink: &mut S,
+    ) -> Result<&'a [u8], PartFault>
+        requires counted { IsCounted self.old (length bytes.now) }
+        requires begun { IsBegun self.old.header (S.begun sink.old) }
+        ensures walk { WalksSubs S.begins S.steps S.refuses S.failed self.old bytes.now sink.old (seen result) self.new sink.new }
+        ensures begun { OnOk result (IsBegun self.new.header (S.begun sink.new)) }
+    {
+        let Some(header) = self.header else {
+            return Ok(bytes);
+        };
+        // Where the size stands in the text, the loop is compiled for each size by itself.
+        match header.ids {
+            IdSize::Four => self.walk_within(
+                Header {
+                    ids: IdSize::Four,
+                    ..header
+                },
+                bytes,
+                fact,
+                sink,
+            ),
+            IdSize::Eight => self.walk_within(
+                Header {
+                    ids: IdSize::Eight,
+                    ..header
+                },
+                bytes,
+                fact,
+                sink,
+            ),
+        }
     }
 
     /// Steps over the whole items at the front of the bytes, and answers what is behind them.

@@ -1,7 +1,7 @@
 use Rattle.std.proofs.Common.{◌≡◌, Some, length}
 use Rattle.hprof_stream.specs.Progress.{IsCounted}
 use Rattle.hprof_stream.specs.Walking.{IsBegun, Walks}
-use Rattle.hprof_stream.proofs.progress.Progress.walk_subs.Given as goal
+use Rattle.hprof_stream.proofs.progress.Progress.walk_within.Given as goal
 
 abbrev pub invariant-loop-progress : goal.invariant-loop-progress
 invariant-loop-progress g l = record {
