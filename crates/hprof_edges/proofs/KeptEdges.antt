@@ -9,10 +9,10 @@ use Rattle.hprof_values.specs.declared.ids.IdSize.{IdSize}
 use Rattle.hprof_items.specs.FactValue.{FactValue}
 use Rattle.hprof_edges.specs.declared.edge.Edge.{Edge}
 use Rattle.hprof_edges.specs.declared.edge_list.EdgeList.{EdgeList}
-use Rattle.hprof_edges.specs.declared.edge_list.Watched.{Watched}
-use Rattle.hprof_edges.specs.declared.edge_list.Watched.TheVariants as watched
+use Rattle.hprof_laying.specs.declared.reference.Wanted.{Wanted}
+use Rattle.hprof_laying.specs.declared.reference.Wanted.TheVariants as wanted
 use Rattle.hprof_edges.specs.contracts.edge.EdgeOrd.TheImpl as edge_ord
-use Rattle.hprof_edges.specs.Collecting.{KeepsOf, PutBehind, is_watched, kept_in, watched_by}
+use Rattle.hprof_edges.specs.Collecting.{KeepsOf, PutBehind, is_edge_wanted, kept_in, wanted_by}
 use Rattle.hprof_edges.specs.Edges.{AreEdgesFrom, AreReferrers, IsEdge}
 use Rattle.hprof_edges.proofs.EdgeMembers.{one_there}
 use Rattle.hprof_edges.proofs.PutTogether.{nothing_there}
@@ -60,13 +60,13 @@ module _ {X : Type 0} (p : X → Bool) where
 -- ---- a list of edges
 
 -- a list to which those were put of which that holds has those of them that it keeps
-list_has : (list : EdgeList) (which : Watched) (P : Edge → Type 0) → PutBehind (KeepsOf list) [] P
-    → is_watched (watched_by list) ≡ is_watched which
-    → (edge : Edge) → Contains (kept_in list) edge ↔ (P edge × (is_watched which edge ≡ true))
+list_has : (list : EdgeList) (which : Wanted) (P : Edge → Type 0) → PutBehind (KeepsOf list) [] P
+    → is_edge_wanted (wanted_by list) ≡ is_edge_wanted which
+    → (edge : Edge) → Contains (kept_in list) edge ↔ (P edge × (is_edge_wanted which edge ≡ true))
 list_has list which P put keeps edge =
-    let same : kept_in list ≡ filter (is_watched which) put.more =
+    let same : kept_in list ≡ filter (is_edge_wanted which) put.more =
     put.holds_more ∙ ap (λ (test : Edge → Bool). filter test put.more) keeps in
-    let are = kept_are (is_watched which) put.more edge in (
+    let are = kept_are (is_edge_wanted which) put.more edge in (
       λ there. (let both = are.0 (subst (λ (l : List Edge). Contains l edge) same there) in ((put.exact edge).0 both.0, both.1)),
       λ both. subst (λ (l : List Edge). Contains l edge) (sym same) (are.1 ((put.exact edge).1 both.0, both.1)),
     )
@@ -75,27 +75,27 @@ module _ (ids : IdSize) (facts : List FactValue) (id : ℕ) (list : EdgeList) (s
     (ascend : IsStrictlySortedBy (edge_ord.ghosts).cmp sorted)
     (same : (edge : Edge) → Contains sorted edge ↔ Contains (kept_in list) edge) where
   -- all edges from there were put
-  pub edges_from : (P : Edge → Type 0) → PutBehind (KeepsOf list) [] P → is_watched (watched_by list) ≡ is_watched watched.All
+  pub edges_from : (P : Edge → Type 0) → PutBehind (KeepsOf list) [] P → is_edge_wanted (wanted_by list) ≡ is_edge_wanted wanted.All
       → ((edge : Edge) → P edge ↔ (IsEdge ids facts edge × (edge.from ≡ id))) → AreEdgesFrom ids facts id sorted
   edges_from P put keeps are = record {
     ascend = ascend;
     exact = λ edge. (
-      λ there. (are edge).0 ((list_has list watched.All P put keeps edge).0 ((same edge).0 there)).0,
-      λ is. (same edge).1 ((list_has list watched.All P put keeps edge).1 ((are edge).1 is, refl)),
+      λ there. (are edge).0 ((list_has list wanted.All P put keeps edge).0 ((same edge).0 there)).0,
+      λ is. (same edge).1 ((list_has list wanted.All P put keeps edge).1 ((are edge).1 is, refl)),
     );
   }
 
   -- all edges were put, and those to there are kept
-  pub edges_to : PutBehind (KeepsOf list) [] (IsEdge ids facts) → is_watched (watched_by list) ≡ is_watched (watched.To id)
+  pub edges_to : PutBehind (KeepsOf list) [] (IsEdge ids facts) → is_edge_wanted (wanted_by list) ≡ is_edge_wanted (wanted.To id)
       → AreReferrers ids facts id sorted
   edges_to put keeps = record {
     ascend = ascend;
     exact = λ edge. (
       λ there. (
-          let has = (list_has list (watched.To id) (IsEdge ids facts) put keeps edge).0 ((same edge).0 there) in
+          let has = (list_has list (wanted.To id) (IsEdge ids facts) put keeps edge).0 ((same edge).0 there) in
           (has.0, eqb-true edge.to id has.1)
           ),
-      λ is. (same edge).1 ((list_has list (watched.To id) (IsEdge ids facts) put keeps edge).1 (is.0, eq-eqb edge.to id is.1)),
+      λ is. (same edge).1 ((list_has list (wanted.To id) (IsEdge ids facts) put keeps edge).1 (is.0, eq-eqb edge.to id is.1)),
     );
   }
 

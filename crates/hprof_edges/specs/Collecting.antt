@@ -1,9 +1,9 @@
 -- What collects edges was given.
-use Rattle.std.specs.Prelude.{◌≡◌, ◌↔◌, ◌==◌, Bool, true, List, ◌++◌, filter, Contains}
+use Rattle.std.specs.Prelude.{◌≡◌, ◌↔◌, Bool, List, ◌++◌, filter, Contains}
 use Rattle.hprof_edges.specs.declared.edge.Edge.{Edge}
 use Rattle.hprof_edges.specs.declared.edge_list.EdgeList.{EdgeList}
-use Rattle.hprof_edges.specs.declared.edge_list.Watched.{Watched}
-use Rattle.hprof_edges.specs.declared.edge_list.Watched.TheVariants as watched
+use Rattle.hprof_laying.specs.declared.reference.Wanted.{Wanted}
+use Rattle.hprof_laying.specs.References.{is_wanted}
 
 -- behind these edges it was given exactly those of which that holds
 pub record PutBehind (holds : List Edge → Type 0) (edges : List Edge) (P : Edge → Type 0) : Type 0 where
@@ -13,18 +13,17 @@ pub record PutBehind (holds : List Edge → Type 0) (edges : List Edge) (P : Edg
 
 -- ---- a list of edges
 
--- whether such an edge is kept
-abbrev pub is_watched : Watched → Edge → Bool
-is_watched watched.All edge = true
-is_watched (watched.To id) edge = edge.to == id
+-- whether an edge is, by what it refers to
+abbrev pub is_edge_wanted : Wanted → Edge → Bool
+is_edge_wanted which edge = is_wanted which edge.to
 
--- which edges the list keeps; those that it has
-abbrev pub watched_by : EdgeList → Watched
-watched_by list = list.watched
+-- which references the list wants; the edges that it has
+abbrev pub wanted_by : EdgeList → Wanted
+wanted_by list = list.wanted
 
 abbrev pub kept_in : EdgeList → List Edge
 kept_in list = list.edges.items
 
--- the list was given these edges, and has those of them that it keeps
+-- the list was given these edges, and has those of them that are wanted
 abbrev pub KeepsOf : EdgeList → List Edge → Type 0
-KeepsOf list edges = kept_in list ≡ filter (is_watched (watched_by list)) edges
+KeepsOf list edges = kept_in list ≡ filter (is_edge_wanted (wanted_by list)) edges

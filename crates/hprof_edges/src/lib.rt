@@ -15,7 +15,7 @@ mod to_identifier;
 
 pub use collect::Collect;
 pub use edge::{Edge, Via};
-pub use edge_list::{EdgeList, Watched};
+pub use edge_list::EdgeList;
 pub use from_known::{Near, known_edges, known_object_edges};
 pub use of_class::class_edges;
 pub use of_identifier::edges_of;

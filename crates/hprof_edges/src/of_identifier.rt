@@ -9,13 +9,14 @@ ghost use Rattle.hprof_edges.specs.Edges.{AreEdgesFrom};
 
 use crate::collect::Collect;
 use crate::edge::Edge;
-use crate::edge_list::{EdgeList, Watched};
+use crate::edge_list::EdgeList;
 use crate::of_class::class_edges;
 use crate::of_object::{array_edges, edge_to_class};
 use crate::putting::put_values;
 use crate::sorting::sort_edges;
 use hprof_finding::{ObjectRow, find_class_near, find_object, id_size};
 use hprof_heap::Heap;
+use hprof_laying::Wanted;
 use hprof_layouts::{Fields, fields};
 use std::alloc::{AllocError, Global};
 
@@ -95,7 +96,7 @@ fn put_of_object<C: Collect>(
 pub fn edges_of(alloc: Global, heap: &Heap, id: u64) -> Result<Vec<Edge>, AllocError>
     ensures { IfOk result (λ edges. AreEdgesFrom (size_of heap.now) (facts_of heap.now) id edges.items) }
 {
-    let mut list = EdgeList::new(alloc, Watched::All);
+    let mut list = EdgeList::new(alloc, Wanted::All);
     put_of_class(heap, id, &mut 0, &mut list)?;
     put_of_object(alloc, heap, id, &mut list)?;
     let mut edges = list.into_edges();

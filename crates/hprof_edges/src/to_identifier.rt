@@ -10,13 +10,13 @@ ghost use Rattle.hprof_edges.specs.Edges.{AreReferrers, IsEdge};
 
 use crate::collect::Collect;
 use crate::edge::Edge;
-use crate::edge_list::{EdgeList, Watched};
+use crate::edge_list::EdgeList;
 use crate::of_class::class_edges;
 use crate::of_object::object_edges;
 use crate::sorting::sort_edges;
 use hprof_finding::{id_size, table_facts, to_class_row, to_object_row};
 use hprof_heap::{Heap, Table};
-use hprof_laying::{KnownLayouts, known_layouts};
+use hprof_laying::{KnownLayouts, Wanted, known_layouts};
 use std::alloc::{AllocError, Global};
 
 /// Puts the edges that the class dumps of a heap give.
@@ -74,7 +74,7 @@ pub fn referrers(alloc: Global, heap: &Heap, id: u64) -> Result<Vec<Edge>, Alloc
     if id == 0 {
         return Ok(Vec::new(alloc));
     }
-    let mut list = EdgeList::new(alloc, Watched::To(id));
+    let mut list = EdgeList::new(alloc, Wanted::To(id));
     put_all(alloc, heap, &mut list)?;
     let mut edges = list.into_edges();
     sort_edges(&mut edges);

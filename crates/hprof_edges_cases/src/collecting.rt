@@ -3,8 +3,7 @@
 use crate::expecting::equal;
 use crate::samples::{INT_AND_OBJECT, class_of, edge, heap_of, instance_of};
 use hprof_edges::{
-    Collect, EdgeList, Via, Watched, class_edges, edge_to_class, field_edges, object_edges,
-    sort_edges,
+    Collect, EdgeList, Via, class_edges, edge_to_class, field_edges, object_edges, sort_edges,
 };
 use hprof_finding::{find_class, find_object};
 use hprof_laying::known_layouts;
@@ -20,7 +19,7 @@ fn edges_in_order(rt: HostRuntime) -> Result<(), Fail> {
         edge(1, Via::Fixed, 1, 3),
         edge(2, Via::Class, 0, 1),
     ];
-    let mut list = EdgeList::new(rt.alloc(), Watched::All);
+    let mut list = EdgeList::new(rt.alloc(), Wanted::All);
     for place in [3, 1, 4, 0, 2, 1, 4] {
         list.put(edges[place])?;
     }
@@ -32,8 +31,8 @@ fn edges_in_order(rt: HostRuntime) -> Result<(), Fail> {
 }
 
 #[test]
-fn edges_that_are_watched(rt: HostRuntime) -> Result<(), Fail> {
-    let mut list = EdgeList::new(rt.alloc(), Watched::To(3));
+fn edges_that_are_wanted(rt: HostRuntime) -> Result<(), Fail> {
+    let mut list = EdgeList::new(rt.alloc(), Wanted::To(3));
     for to in [2, 3, 4] {
         list.put(edge(3, Via::Field, 0, to))?;
     }
@@ -50,7 +49,7 @@ fn edges_of_rows(rt: HostRuntime) -> Result<(), Fail> {
     let heap = heap_of(rt.alloc(), &[class, upper, instance_of(200, 100, bytes)])?;
     let known = known_layouts(rt.alloc(), &heap)?;
     let mut references = Vec::new(rt.alloc());
-    let mut list = EdgeList::new(rt.alloc(), Watched::All);
+    let mut list = EdgeList::new(rt.alloc(), Wanted::All);
     let ids = IdSize::Four;
     if let (Some(class), Some(object)) = (find_class(&heap, 100), find_object(&heap, 200)) {
         class_edges(&class, &mut list)?;

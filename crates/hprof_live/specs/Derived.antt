@@ -11,10 +11,10 @@ use Rattle.hprof_rows.specs.Stating.{IsNewAmong}
 use Rattle.hprof_finding.specs.Objects.{HasInstance}
 use Rattle.hprof_laying.specs.Known.{HasLayout, Knows}
 use Rattle.hprof_edges.specs.declared.edge.Edge.{Edge}
-use Rattle.hprof_edges.specs.Collecting.{is_watched}
+use Rattle.hprof_edges.specs.Collecting.{is_edge_wanted}
 use Rattle.hprof_edges.specs.DumpEdges.{GivenByClass, IsEdgeToClass, IsElementEdge, IsFieldEdge}
 use Rattle.hprof_live.specs.declared.derived.Derived.{Derived}
-use Rattle.hprof_live.specs.EdgeSet.{SetOf, watched_in}
+use Rattle.hprof_live.specs.EdgeSet.{SetOf, wanted_in}
 use Rattle.hprof_live.specs.Waiting.{waiting_of}
 
 -- ---- instances
@@ -76,7 +76,7 @@ IsEdgeSoFar ids facts laid edge = GivenByClass facts edge ⊎ GivenSoFar ids fac
 
 -- which edges are kept
 abbrev pub keeps_of : Derived → Edge → Bool
-keeps_of derived = is_watched (watched_in derived.set)
+keeps_of derived = is_edge_wanted (wanted_in derived.set)
 
 -- a number that stops at the greatest of 64 bits
 abbrev pub stopped : ℕ → ℕ

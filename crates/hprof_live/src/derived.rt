@@ -10,7 +10,7 @@ ghost use Rattle.hprof_finding.specs.ClassRow.{dump_of};
 ghost use Rattle.hprof_finding.specs.Classes.{fact_of_dump};
 ghost use Rattle.hprof_laying.specs.Known.{HasLayout, IsOutlineOf};
 ghost use Rattle.hprof_edges.specs.declared.edge.Edge.{Edge};
-ghost use Rattle.hprof_edges.specs.Collecting.{is_watched};
+ghost use Rattle.hprof_edges.specs.Collecting.{is_edge_wanted};
 ghost use Rattle.hprof_edges.specs.Edges.{AreEdges, AreReferrers};
 ghost use Rattle.hprof_live.specs.Derived.{AddsFact, CanBeLaid, CannotBeLaid, HasLaid, IsDerived, IsDeriving, IsInstanceOf, IsOther, keeps_of};
 ghost use Rattle.hprof_live.specs.EdgeSet.{edges_in};
@@ -22,11 +22,11 @@ use crate::by_target::sort_by_target;
 use crate::edge_set::EdgeSet;
 use crate::indexed::Index;
 use crate::waiting::WaitingInstances;
-use hprof_edges::{Edge, Watched, array_edges, class_edges, edge_to_class, field_edges};
+use hprof_edges::{Edge, array_edges, class_edges, edge_to_class, field_edges};
 use hprof_finding::{ClassRow, ObjectRow, find_object, id_size, table_len, to_class_row};
 use hprof_heap::{Heap, Table};
 use hprof_items::Fact;
-use hprof_laying::{KnownLayouts, Outline, Reference};
+use hprof_laying::{KnownLayouts, Outline, Reference, Wanted};
 use hprof_lists::IdList;
 use hprof_values::IdSize;
 use std::alloc::{AllocError, Global};
@@ -44,14 +44,14 @@ pub(crate) struct Derived {
 
 impl Derived {
     /// What is derived from no facts. It takes no memory yet.
-    pub(crate) fn new(alloc: Global, watched: Watched) -> Derived
+    pub(crate) fn new(alloc: Global, wanted: Wanted) -> Derived
         ensures derived { (ids : IdSize) → IsDerived ids [] result }
-        ensures keeps { keeps_of result ≡ is_watched watched }
+        ensures keeps { keeps_of result ≡ is_edge_wanted wanted }
     {
         Derived {
             known: KnownLayouts::new(alloc),
             waiting: WaitingInstances::new(alloc),
-            set: EdgeSet::new(alloc, watched),
+            set: EdgeSet::new(alloc, wanted),
             references: Vec::new(alloc),
             instances: 0,
             cuts: 0,

@@ -2,64 +2,51 @@
 
 ghost use Rattle.std.specs.Prelude.{◌≡◌, ◌↔◌, List, [], Contains};
 
-use hprof_edges::{Collect, Edge, Watched};
+use hprof_edges::{Collect, Edge};
 use hprof_laying::Wanted;
 use std::alloc::{AllocError, Global};
 
-/// The edges that are watched of those that it was given, in whatever order.
+/// The edges to what is wanted of those that it was given, in whatever order.
 #[derive(Drop)]
 pub(crate) struct EdgeSet {
     pub(crate) edges: Vec<Edge>,
-    watched: Watched,
+    wanted: Wanted,
 }
 
 impl EdgeSet {
-    ghost use Rattle.hprof_edges.specs.declared.edge.Edge.{Edge};
-    ghost use Rattle.hprof_edges.specs.Collecting.{is_watched};
-    ghost use Rattle.hprof_live.specs.EdgeSet.{SetOf, watched_in};
+    ghost use Rattle.hprof_live.specs.EdgeSet.{SetOf, wanted_in};
 
     /// A set that was given nothing. It takes no memory yet.
-    pub(crate) fn new(alloc: Global, watched: Watched) -> EdgeSet
+    pub(crate) fn new(alloc: Global, wanted: Wanted) -> EdgeSet
         ensures none { SetOf result [] }
-        ensures watched { watched_in result ≡ watched }
+        ensures wanted { wanted_in result ≡ wanted }
     {
         EdgeSet {
             edges: Vec::new(alloc),
-            watched,
-        }
-    }
-
-    /// Whether such an edge is watched.
-    #[inline(always)]
-    fn watches(&self, edge: Edge) -> bool
-        ensures { result ≡ is_watched (watched_in self.now) edge }
-    {
-        match self.watched {
-            Watched::All => true,
-            Watched::To(id) => edge.to == id,
+            wanted,
         }
     }
 }
 
-/// It keeps the edges that are watched.
+/// It keeps the edges to what is wanted.
 impl Collect for EdgeSet {
-    ghost use Rattle.hprof_edges.specs.Collecting.{is_watched};
-    ghost use Rattle.hprof_live.specs.EdgeSet.{SetOf, set_alike, watched_in};
+    ghost use Rattle.hprof_edges.specs.Collecting.{is_edge_wanted};
+    ghost use Rattle.hprof_live.specs.EdgeSet.{SetOf, set_alike, wanted_in};
 
     ghost holds = { SetOf };
 
-    ghost keeps = { λ set. is_watched (watched_in set) };
+    ghost keeps = { λ set. is_edge_wanted (wanted_in set) };
 
     ghost same_kept = { set_alike };
 
     #[inline(always)]
     fn wanted(&self) -> Wanted {
-        self.watched.wanted()
+        self.wanted
     }
 
     #[inline(always)]
     fn put(&mut self, edge: Edge) -> Result<(), AllocError> {
-        if self.watches(edge) {
+        if self.wanted.wants(edge.to) {
             self.edges.push(edge)?;
         }
         Ok(())

@@ -6,7 +6,7 @@ ghost use Rattle.hprof_items.specs.FactValue.{FactValue, value_of};
 ghost use Rattle.hprof_rows.specs.HeapValue.{HeapValue};
 ghost use Rattle.hprof_heap.specs.Gathering.{Given, Gathers, Tells, answer_of, gathered, nothing_gathered, seen_in};
 ghost use Rattle.hprof_layouts.specs.Layout.{IsLayout, layout_value};
-ghost use Rattle.hprof_edges.specs.Collecting.{is_watched};
+ghost use Rattle.hprof_edges.specs.Collecting.{is_edge_wanted};
 ghost use Rattle.hprof_edges.specs.Edges.{AreEdges, AreReferrers};
 ghost use Rattle.hprof_live.specs.EdgeSet.{edges_in};
 ghost use Rattle.hprof_live.specs.Number.{IsNumberOf};
@@ -16,9 +16,10 @@ ghost use Rattle.hprof_live.specs.Indexed.{ListsTo, indexed_heap};
 use crate::derived::Derived;
 use crate::indexed::IndexedHeap;
 use crate::live::Live;
-use hprof_edges::{Edge, Watched};
+use hprof_edges::Edge;
 use hprof_heap::{Gather, Gatherer, Heap, Refusal, Standing, Stated};
 use hprof_items::{Fact, Header};
+use hprof_laying::Wanted;
 use hprof_layouts::{Layout, layout};
 use hprof_stream::{Sink, SinkFault};
 use std::alloc::{AllocError, Global};
@@ -48,15 +49,15 @@ impl LiveHeap {
     ghost use Rattle.hprof_live.specs.LiveHeap.{IsAnswer, IsCurrent, KeepsOnly, LendsHeap, RestsAsItIs};
     ghost use Rattle.hprof_live.specs.LiveHeap.{Watches, outcome_of, seen_by};
 
-    /// A live heap that was given nothing, and keeps the edges that are watched. It takes no memory yet.
-    fn watching_those(alloc: Global, watched: Watched) -> LiveHeap
+    /// A live heap that was given nothing, and keeps the edges to what is wanted. It takes no memory yet.
+    fn wanting(alloc: Global, wanted: Wanted) -> LiveHeap
         ensures nothing { seen_by result ≡ nothing_gathered }
         ensures current { IsCurrent result }
-        ensures keeps { keeps_of result.derived ≡ is_watched watched }
+        ensures keeps { keeps_of result.derived ≡ is_edge_wanted wanted }
     {
         LiveHeap {
             gatherer: Gatherer::new(alloc),
-            derived: Derived::new(alloc, watched),
+            derived: Derived::new(alloc, wanted),
             failed: false,
         }
     }
@@ -66,7 +67,7 @@ impl LiveHeap {
         ensures nothing { seen_by result ≡ nothing_gathered }
         ensures watches { (id : ℕ) → Watches result id }
     {
-        LiveHeap::watching_those(alloc, Watched::All)
+        LiveHeap::wanting(alloc, Wanted::All)
     }
 
     /// The same, but that of the edges those to one identifier alone are kept.
@@ -75,7 +76,7 @@ impl LiveHeap {
         ensures watches { Watches result id }
         ensures only { KeepsOnly result id }
     {
-        LiveHeap::watching_those(alloc, Watched::To(id))
+        LiveHeap::wanting(alloc, Wanted::To(id))
     }
 
     /// The heap of the facts so far; None before any part.

@@ -2,7 +2,7 @@ use Rattle.std.proofs.Common.{◌≡◌, ◌⊎◌, ap, ◌∙◌, subst, List}
 use Rattle.std.specs.Prelude.{◌↔◌, Contains}
 use Rattle.hprof_finding.specs.HeapFacts.{facts_of, size_of}
 use Rattle.hprof_edges.specs.declared.edge.Edge.{Edge}
-use Rattle.hprof_edges.specs.Collecting.{KeepsOf, is_watched}
+use Rattle.hprof_edges.specs.Collecting.{KeepsOf, is_edge_wanted}
 use Rattle.hprof_edges.specs.DumpEdges.{GivenByClass, GivenByObject}
 use Rattle.hprof_edges.proofs.KeptEdges.{edges_from}
 use Rattle.hprof_edges.proofs.OnlyDumps.{from_dumps}
@@ -22,5 +22,5 @@ returns c =
     (λ (edge : Edge). (edge.from ≡ id) × GivenByClass facts edge) (λ (edge : Edge). (edge.from ≡ id) × GivenByObject ids facts edge) _
     (c.in_ok-put_of_class.ensures.holds _ c.new-list.ensures.none)
     (λ longer held. c.in_ok-put_of_object.ensures.holds longer held) (λ edge. (λ is. is, λ is. is)))
-    (c.in_ok-put_of_object.ensures.keeps ∙ c.in_ok-put_of_class.ensures.keeps ∙ ap is_watched c.new-list.ensures.watched)
+    (c.in_ok-put_of_object.ensures.keeps ∙ c.in_ok-put_of_class.ensures.keeps ∙ ap is_edge_wanted c.new-list.ensures.wanted)
     (from_dumps ids facts id)

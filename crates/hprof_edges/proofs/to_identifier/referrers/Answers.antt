@@ -2,7 +2,7 @@ use Rattle.std.proofs.Common.{ap, ◌∙◌, subst, List}
 use Rattle.std.specs.Prelude.{◌↔◌, Contains}
 use Rattle.hprof_finding.specs.HeapFacts.{facts_of, size_of}
 use Rattle.hprof_edges.specs.declared.edge.Edge.{Edge}
-use Rattle.hprof_edges.specs.Collecting.{is_watched}
+use Rattle.hprof_edges.specs.Collecting.{is_edge_wanted}
 use Rattle.hprof_edges.proofs.KeptEdges.{edges_to, none_to_zero}
 use Rattle.hprof_edges.proofs.to_identifier.referrers.Goals as goal
 
@@ -17,4 +17,4 @@ returns c =
     (λ edge. subst (λ (l : List Edge). Contains c.sort_edges.new.edges.items edge ↔ Contains l edge) c.into_edges-edges.ensures
     (c.sort_edges.ensures.same edge))
     (c.in_ok-put_all.ensures.holds _ c.new-list.ensures.none)
-    (c.in_ok-put_all.ensures.keeps ∙ ap is_watched c.new-list.ensures.watched)
+    (c.in_ok-put_all.ensures.keeps ∙ ap is_edge_wanted c.new-list.ensures.wanted)

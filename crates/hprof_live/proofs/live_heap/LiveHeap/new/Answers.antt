@@ -4,6 +4,6 @@ use Rattle.hprof_live.proofs.live_heap.LiveHeap.new.Goals as goal
 
 pub returns-clause-watches : goal.returns-clause-watches
 returns-clause-watches c = λ id. record {
-  current = c.watching_those.ensures.current;
-  keeps = λ edge to. ap (λ (keeps : Edge → Bool). keeps edge) c.watching_those.ensures.keeps;
+  current = c.wanting.ensures.current;
+  keeps = λ edge to. ap (λ (keeps : Edge → Bool). keeps edge) c.wanting.ensures.keeps;
 }

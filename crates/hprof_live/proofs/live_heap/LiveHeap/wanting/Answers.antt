@@ -4,7 +4,7 @@ use Rattle.hprof_heap.specs.declared.standing.Refusal.{Refusal}
 use Rattle.hprof_heap.specs.Gathering.{answer_of}
 use Rattle.hprof_live.specs.LiveHeap.{IsDerivedOf}
 use Rattle.hprof_live.proofs.Outcomes.{sound_outcome}
-use Rattle.hprof_live.proofs.live_heap.LiveHeap.watching_those.Goals as goal
+use Rattle.hprof_live.proofs.live_heap.LiveHeap.wanting.Goals as goal
 
 pub returns-clause-current : goal.returns-clause-current
 returns-clause-current c = record {
