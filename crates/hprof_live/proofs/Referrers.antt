@@ -1,7 +1,7 @@
--- The edges to an identifier that is watched.
+-- The edges to an identifier.
 use Rattle.std.specs.Prelude.{◌↔◌}
 use Rattle.std.specs.List.Sorted.{IsStrictlySortedBy}
-use Rattle.std.proofs.Common.{◌≡◌, ℕ, true, List, Contains}
+use Rattle.std.proofs.Common.{◌≡◌, ℕ, Bool, true, List, Contains}
 use Rattle.hprof_values.specs.declared.ids.IdSize.{IdSize}
 use Rattle.hprof_items.specs.FactValue.{FactValue}
 use Rattle.hprof_edges.specs.declared.edge.Edge.{Edge}
@@ -12,7 +12,7 @@ use Rattle.hprof_live.specs.declared.indexed.Index.{Index}
 use Rattle.hprof_live.specs.ByTarget.{IsByTarget}
 use Rattle.hprof_live.specs.Derived.{IsDerived, keeps_of}
 use Rattle.hprof_live.specs.EdgeSet.{edges_in}
-use Rattle.hprof_live.specs.Indexed.{IsIndexTo}
+use Rattle.hprof_live.specs.Indexed.{IsIndexOf, IsIndexTo}
 use Rattle.hprof_live.proofs.EdgesSoFar.{all_so_far}
 
 module _ (ids : IdSize) (facts : List FactValue) where
@@ -25,6 +25,21 @@ module _ (ids : IdSize) (facts : List FactValue) where
         λ there. all.0 ((deriving_is.given_are edge).0 ((deriving_is.set_of edge).0 there).0),
         λ holds. (deriving_is.set_of edge).1 ((deriving_is.given_are edge).1 (all.1 holds), watched),
       )
+
+  pub index_of : (derived : Derived) → IsDerived ids facts derived → (index : Index) → IsByTarget index.edges.items
+      → ((edge : Edge) → Contains index.edges.items edge ↔ Contains (edges_in derived.set) edge)
+      → IsIndexOf ids facts (keeps_of derived) index
+  index_of derived is index sorted same = record {
+    sorted = sorted;
+    exact = λ edge. (
+      λ there. (
+          let kept = (same edge).0 there in
+          let wanted = ((is.deriving_is.set_of edge).0 kept).1 in
+          ((kept_are derived is edge wanted).0 kept, wanted)
+          ),
+      λ both. (same edge).1 ((kept_are derived is edge both.1).1 both.0),
+    );
+  }
 
   module _ (id : ℕ) where
     pub kept_referrers : (derived : Derived) → IsDerived ids facts derived → (result : List Edge)
@@ -57,14 +72,26 @@ module _ (ids : IdSize) (facts : List FactValue) where
       );
     }
 
-    pub index_is : (derived : Derived) → IsDerived ids facts derived → ((edge : Edge) → edge.to ≡ id → keeps_of derived edge ≡ true)
-        → (index : Index) → IsByTarget index.edges.items
-        → ((edge : Edge) → Contains index.edges.items edge ↔ Contains (edges_in derived.set) edge) → IsIndexTo ids facts id index
-    index_is derived is keeps index sorted same = record {
-      sorted = sorted;
-      exact = λ edge to. (
-        λ there. (kept_are derived is edge (keeps edge to)).0 ((same edge).0 there),
-        λ holds. (same edge).1 ((kept_are derived is edge (keeps edge to)).1 holds),
+    pub index_to : (keeps : Edge → Bool) (index : Index) → IsIndexOf ids facts keeps index
+        → ((edge : Edge) → edge.to ≡ id → keeps edge ≡ true) → IsIndexTo ids facts id index
+    index_to keeps index is all = record {
+      sorted = is.sorted;
+      exact = λ edge to. (λ there. ((is.exact edge).0 there).0, λ holds. (is.exact edge).1 (holds, all edge to));
+    }
+
+    pub indexed_kept : (keeps : Edge → Bool) (index : Index) → IsIndexOf ids facts keeps index → (result : List Edge)
+        → IsStrictlySortedBy (edge_ord.ghosts).cmp result
+        → ((edge : Edge) → Contains result edge ↔ (Contains index.edges.items edge × (edge.to ≡ id)))
+        → AreEdges ids facts (λ edge. (edge.to ≡ id) × (keeps edge ≡ true)) result
+    indexed_kept keeps index is result ascend exact = record {
+      ascend = ascend;
+      exact = λ edge. (
+        λ there. (
+            let both = (exact edge).0 there in
+            let has = (is.exact edge).0 both.0 in
+            (has.0, (both.1, has.1))
+            ),
+        λ both. (exact edge).1 ((is.exact edge).1 (both.0, both.1.1), both.1.0),
       );
     }
 

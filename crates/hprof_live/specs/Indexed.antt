@@ -1,5 +1,5 @@
 -- The edges of a heap, by what they refer to.
-use Rattle.std.specs.Prelude.{◌≡◌, ◌↔◌, ℕ, List, Contains}
+use Rattle.std.specs.Prelude.{◌≡◌, ◌↔◌, ℕ, Bool, true, List, Contains}
 use Rattle.hprof_values.specs.declared.ids.IdSize.{IdSize}
 use Rattle.hprof_items.specs.FactValue.{FactValue}
 use Rattle.hprof_rows.specs.HeapValue.{HeapValue}
@@ -15,6 +15,11 @@ use Rattle.hprof_live.specs.ByTarget.{IsByTarget}
 pub record IsIndexTo (ids : IdSize) (facts : List FactValue) (id : ℕ) (index : Index) : Type 0 where
   pub sorted : IsByTarget index.edges.items
   pub exact : (edge : Edge) → edge.to ≡ id → Contains index.edges.items edge ↔ IsEdge ids facts edge
+
+-- the index has those of the edges that it keeps, and no others
+pub record IsIndexOf (ids : IdSize) (facts : List FactValue) (keeps : Edge → Bool) (index : Index) : Type 0 where
+  pub sorted : IsByTarget index.edges.items
+  pub exact : (edge : Edge) → Contains index.edges.items edge ↔ (IsEdge ids facts edge × (keeps edge ≡ true))
 
 -- the heap as a value
 abbrev pub indexed_heap : IndexedHeap → HeapValue

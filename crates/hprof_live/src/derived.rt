@@ -14,7 +14,7 @@ ghost use Rattle.hprof_edges.specs.Collecting.{is_edge_wanted};
 ghost use Rattle.hprof_edges.specs.Edges.{AreEdges, AreReferrers};
 ghost use Rattle.hprof_live.specs.Derived.{AddsFact, CanBeLaid, CannotBeLaid, HasLaid, IsDerived, IsDeriving, IsInstanceOf, IsOther, keeps_of};
 ghost use Rattle.hprof_live.specs.EdgeSet.{edges_in};
-ghost use Rattle.hprof_live.specs.Indexed.{IsIndexTo};
+ghost use Rattle.hprof_live.specs.Indexed.{IsIndexOf};
 ghost use Rattle.hprof_live.specs.Number.{IsNumberOf};
 
 use crate::behind::bring_behind;
@@ -101,8 +101,7 @@ impl Derived {
 
     /// The edges, by what they refer to.
     pub(crate) fn into_index(self) -> Index
-        ensures { (ids : IdSize) (facts : List FactValue) (id : ℕ) → IsDerived ids facts self
-            → ((edge : Edge) → edge.to ≡ id → keeps_of self edge ≡ true) → IsIndexTo ids facts id result }
+        ensures { (ids : IdSize) (facts : List FactValue) → IsDerived ids facts self → IsIndexOf ids facts (keeps_of self) result }
     {
         let mut edges = self.set.edges;
         sort_by_target(&mut edges);

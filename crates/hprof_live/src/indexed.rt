@@ -1,10 +1,11 @@
 //! A heap, and what refers to what in it.
 
-ghost use Rattle.std.specs.Prelude.{List};
+ghost use Rattle.std.specs.Prelude.{◌≡◌, Bool, true, List};
 ghost use Rattle.hprof_values.specs.declared.ids.IdSize.{IdSize};
 ghost use Rattle.hprof_items.specs.FactValue.{FactValue};
-ghost use Rattle.hprof_edges.specs.Edges.{AreReferrers};
-ghost use Rattle.hprof_live.specs.Indexed.{IsIndexTo};
+ghost use Rattle.hprof_edges.specs.declared.edge.Edge.{Edge};
+ghost use Rattle.hprof_edges.specs.Edges.{AreEdges, AreReferrers};
+ghost use Rattle.hprof_live.specs.Indexed.{IsIndexOf, IsIndexTo};
 
 use crate::by_target::edges_to;
 use hprof_edges::Edge;
@@ -17,9 +18,13 @@ pub struct Index {
 }
 
 impl Index {
-    /// The edges to an identifier, in order, each once; there are none to 0. They are lent, and found by halves.
+    /// The edges to an identifier, in order, each once; there are none to 0. Where some edges alone are kept, it is those of them. They are
+    /// lent, and found by halves.
     pub fn referrers(&self, id: u64) -> &[Edge]
-        ensures { (ids : IdSize) (facts : List FactValue) → IsIndexTo ids facts id self.now → AreReferrers ids facts id result.now }
+        ensures value { (ids : IdSize) (facts : List FactValue) → IsIndexTo ids facts id self.now → AreReferrers ids facts id result.now }
+        // Of an index that keeps some of the edges: those of them to the identifier.
+        ensures kept { (ids : IdSize) (facts : List FactValue) (keeps : Edge → Bool) → IsIndexOf ids facts keeps self.now
+            → AreEdges ids facts (λ edge. (edge.to ≡ id) × (keeps edge ≡ true)) result.now }
     {
         edges_to(&self.edges, id)
     }

@@ -5,13 +5,14 @@ ghost use Rattle.std.specs.Borrow.{sem};
 ghost use Rattle.hprof_items.specs.FactValue.{FactValue, value_of};
 ghost use Rattle.hprof_rows.specs.HeapValue.{HeapValue};
 ghost use Rattle.hprof_heap.specs.Gathering.{Given, Gathers, Tells, answer_of, gathered, nothing_gathered, seen_in};
+ghost use Rattle.hprof_finding.specs.HeapFacts.{facts_of, size_of};
 ghost use Rattle.hprof_layouts.specs.Layout.{IsLayout, layout_value};
 ghost use Rattle.hprof_edges.specs.Collecting.{is_edge_wanted};
 ghost use Rattle.hprof_edges.specs.Edges.{AreEdges, AreReferrers};
 ghost use Rattle.hprof_live.specs.EdgeSet.{edges_in};
 ghost use Rattle.hprof_live.specs.Number.{IsNumberOf};
 ghost use Rattle.hprof_live.specs.Derived.{AddsFact, CanBeLaid, CannotBeLaid, IsDerived, keeps_of};
-ghost use Rattle.hprof_live.specs.Indexed.{ListsTo, indexed_heap};
+ghost use Rattle.hprof_live.specs.Indexed.{IsIndexOf, ListsTo, indexed_heap};
 
 use crate::derived::Derived;
 use crate::indexed::IndexedHeap;
@@ -187,6 +188,9 @@ impl LiveHeap {
         ensures answer { seen_in indexed_heap result ≡ outcome_of self }
         ensures told { (parts : List Given) → Gathers nothing_gathered parts (seen_by self) → Tells parts (seen_in indexed_heap result) }
         ensures listed { IfOk result (λ found. (id : ℕ) → Watches self id → ListsTo found id) }
+        // All of them: those edges that are kept.
+        ensures kept { IfOk result (λ found. IsCurrent self
+            → IsIndexOf (size_of found.heap) (facts_of found.heap) (keeps_of self.derived) found.index) }
     {
         let LiveHeap {
             gatherer,

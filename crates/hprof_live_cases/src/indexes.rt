@@ -59,5 +59,8 @@ fn one_that_is_watched(rt: HostRuntime) -> Result<(), Fail> {
     }
     let found = live.finish()?;
     equal_at(&rt, 17, found.index.referrers(17), to_17.as_slice());
+    for id in [16, 99] {
+        equal_at(&rt, id, found.index.referrers(id), [].as_slice());
+    }
     Ok(())
 }

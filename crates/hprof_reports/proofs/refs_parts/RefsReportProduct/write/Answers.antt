@@ -18,6 +18,6 @@ returns g c = λ summaries kept.
     c.write_refs.result (text_of_lines (map edge_line edges))
     (record {
       edges = edges;
-      are_referrers = c.referrers.ensures heap.ids heap.facts (c.requires.listed id refl);
+      are_referrers = c.referrers.ensures.value heap.ids heap.facts (c.requires.listed id refl);
       is = refl;
     }) c.write_refs.ensures.bytes c.write_refs.ensures.health
