@@ -158,9 +158,28 @@ impl LiveHeap {
         self.lend_edges(start)
     }
 
-    /// Derives what there is to derive from a fact that the gatherer took, and that was new to it. It stands apart from the loop over the
-    /// facts of a part, so that the gatherer's part of `take` stands in it.
+    /// Derives what there is to derive from a fact, as [`LiveHeap::derive`] does. It stands apart from the
+    /// loop over the facts of a part, so that the gatherer's part of `take` stands in it.
     #[inline(never)]
+    fn derive_any(&mut self, fact: &Fact<'_>) -> Result<(), AllocError>
+        ensures derives { OnOk result ((before : List FactValue) (heap : HeapValue)
+            → answer_of (gathered self.old.gatherer) ≡ Ok heap → AddsFact before (value_of fact.now) heap.facts
+            → IsDerived heap.ids before self.old.derived → IsDerived heap.ids heap.facts self.new.derived) }
+        ensures keeps { OnOk result (keeps_of self.new.derived ≡ keeps_of self.old.derived) }
+        ensures gathered { gathered self.new.gatherer ≡ gathered self.old.gatherer }
+        ensures failed { self.new.failed ≡ self.old.failed }
+    {
+        match self.gatherer.heap() {
+            None => Ok(()),
+            Some(heap) => {
+                self.derived.add(heap, fact)?;
+                Ok(())
+            }
+        }
+    }
+
+    /// Derives what there is to derive from a fact that the gatherer took, and that was new to it.
+    #[inline(always)]
     fn derive(&mut self, fact: &Fact<'_>) -> Result<(), AllocError>
         ensures derives { OnOk result ((before : List FactValue) (heap : HeapValue)
             → answer_of (gathered self.old.gatherer) ≡ Ok heap → AddsFact before (value_of fact.now) heap.facts
@@ -173,13 +192,7 @@ impl LiveHeap {
         if let Fact::PrimArray { .. } = *fact {
             return Ok(());
         }
-        match self.gatherer.heap() {
-            None => Ok(()),
-            Some(heap) => {
-                self.derived.add(heap, fact)?;
-                Ok(())
-            }
-        }
+        self.derive_any(fact)
     }
 
     /// The heap of all facts that were given, with an index of its edges that were watched. A fault comes first, then no
