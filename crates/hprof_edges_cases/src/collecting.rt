@@ -6,7 +6,7 @@ use hprof_edges::{
     Collect, EdgeList, Via, class_edges, edge_to_class, field_edges, object_edges, sort_edges,
 };
 use hprof_finding::{find_class, find_object};
-use hprof_laying::known_layouts;
+use hprof_laying::{Wanted, known_layouts};
 use hprof_values::IdSize;
 use std::test::*;
 
