@@ -10,28 +10,23 @@ ghost use Rattle.hprof_tables.specs.Places.{ArePlaces, ArePlaces-prop};
 use std::alloc::{AllocError, Global};
 use std::collections::BTreeMap;
 
-/// How many slots there are at first.
-const FEWEST_SLOTS: usize = 1_024;
-
-/// How many slots there are at most.
-const MOST_SLOTS: usize = 65_536;
+/// How many hints there are.
+const HINTS: usize = 65_536;
 
 /// An odd number: the first bits of a key's product with it tell the slot of its hint.
 const SPREAD: u64 = 0x9E37_79B9_7F4A_7C15;
 
-/// The slot of a key's hint among so many slots, whose number is a power of two. Other keys may have it too.
+/// The slot of a key's hint. Other keys may have it too.
 #[inline(always)]
-fn slot_of(key: u64, slots: usize) -> usize {
-    (key.wrapping_mul(SPREAD) >> 48) as usize & slots.wrapping_sub(1)
+fn slot_of(key: u64) -> usize
+    ensures { result < HINTS }
+{
+    (key.wrapping_mul(SPREAD) >> 48) as usize
 }
 
-/// Leaves the place of a key in its slot, if 32 bits tell it.
-fn leave_hint(hints: &mut [u32], key: u64, place: usize) {
-    let slot = slot_of(key, hints.len());
-    let Ok(place) = u32::try_from(place) else {
-        return;
-    };
-    if let Some(hint) = hints.get_mut(slot) {
+/// Leaves the place of a key in its slot.
+fn leave_hint(hints: &mut [usize], key: u64, place: usize) {
+    if let Some(hint) = hints.get_mut(slot_of(key)) {
         *hint = place;
     }
 }
@@ -44,9 +39,8 @@ pub struct HintedMap<V> {
     rows: Vec<(u64, V)>,
     /// The place of each key among the rows.
     places: BTreeMap<u64, usize>,
-    /// In each slot the place of the last key that came with it. There is no slot before the first key comes, and there are four or more
-    /// a key as long as they are not [`MOST_SLOTS`], so that few keys share one and few pages are touched.
-    hints: Vec<u32>,
+    /// In each slot the place of the last key that came with it. There is no slot before the first key comes.
+    hints: Vec<usize>,
     ghost sound: { ArePlaces (keys_of rows.items) places.entries } by { ArePlaces-prop (keys_of rows.items) places.entries },
 }
 
@@ -95,8 +89,8 @@ impl<V> HintedMap<V> {
         ensures some { IfSome result (λ place. slice_get (keys_in self.now) place ≡ Some key) }
         ensures none { IfNone result (value_in self.now key ≡ None) }
     {
-        match self.hints.get(slot_of(key, self.hints.len())) {
-            Some(place) if self.is_at(key, *place as usize) => Some(*place as usize),
+        match self.hints.get(slot_of(key)) {
+            Some(place) if self.is_at(key, *place) => Some(*place),
             _ => self.listed_place(key),
         }
     }
@@ -118,22 +112,6 @@ impl<V> HintedMap<V> {
         self.get(key).is_some()
     }
 
-    /// Makes eight times as many slots where the keys are more than a fourth of them, and leaves the place of each key again.
-    fn make_slots(&mut self) -> Result<(), AllocError>
-        ensures rows { self.new.rows ≡ self.old.rows }
-        ensures places { self.new.places ≡ self.old.places }
-    {
-        let slots = self.hints.len();
-        if slots >= MOST_SLOTS || self.rows.len() < slots / 4 {
-            return Ok(());
-        }
-        self.hints.resize(FEWEST_SLOTS.max(slots * 8), 0)?;
-        for (place, row) in self.rows.iter().enumerate() {
-            leave_hint(&mut self.hints, row.0, place);
-        }
-        Ok(())
-    }
-
     /// Puts a value under a key that is new.
     fn add(&mut self, key: u64, value: V) -> Result<(), AllocError>
     where
@@ -142,6 +120,9 @@ impl<V> HintedMap<V> {
         ensures ok { OnOk result ((at : ℕ) → value_in self.new at ≡ (if key == at then Some value else value_in self.old at)) }
         ensures err { OnErr result (rows_in self.new ≡ rows_in self.old) }
     {
+        if self.hints.is_empty() {
+            self.hints.resize(HINTS, 0)?;
+        }
         self.rows.reserve(1)?;
         let place = self.rows.len();
         self.places.insert(key, place)?;
@@ -160,10 +141,7 @@ impl<V> HintedMap<V> {
         ensures absent { OnErr result (value_in self.old key ≡ None) }
     {
         match self.place_under(key) {
-            None => {
-                self.make_slots()?;
-                self.add(key, value)
-            }
+            None => self.add(key, value),
             Some(place) => {
                 self.rows[place].1 = value;
                 Ok(())

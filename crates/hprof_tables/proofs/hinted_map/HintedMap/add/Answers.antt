@@ -5,11 +5,11 @@ use Rattle.hprof_tables.specs.SortedRows.{row_at}
 use Rattle.hprof_tables.proofs.Places.{found_added, places_added, rows_added}
 use Rattle.hprof_tables.proofs.hinted_map.HintedMap.add.Goals as goal
 
-pub invariant_of-self : goal.invariant_of-self
-invariant_of-self g c = record { sound = rw c.reserve.ensures.items c.args.self.now.sound }
-
 pub invariant_of-self-in-Break-branch-2 : goal.invariant_of-self-in-Break-branch-2
-invariant_of-self-in-Break-branch-2 g c = record {
+invariant_of-self-in-Break-branch-2 g c = record { sound = rw c.reserve.ensures.items c.args.self.now.sound }
+
+pub invariant_of-self-in-Break-branch-3 : goal.invariant_of-self-in-Break-branch-3
+invariant_of-self-in-Break-branch-3 g c = record {
   sound = rw (c.reserve.ensures.items, c.in_err-insert.ensures.err) c.args.self.now.sound;
 }
 
