@@ -9,6 +9,7 @@ pub mod Stating
 pub mod RowFacts
 pub mod Tables
 pub mod HeapRows
+pub mod KeptObjects
 pub mod ReadBack
 pub mod SameHeaps
 pub mod Differing

@@ -1,6 +1,8 @@
 //! A sub-record, as a heap keeps it.
 
 ghost use Rattle.std.specs.Prelude.{◌≡◌, ◌<◌, ◌≤◌, length};
+ghost use Rattle.hprof_rows.specs.Content.{object_fact};
+ghost use Rattle.hprof_rows.specs.TableRows.{IsObject};
 ghost use Rattle.hprof_devices.specs.declared.health.Health.TheVariants.{Well};
 ghost use Rattle.hprof_devices.specs.Device.{Writes, LeavesHealth};
 ghost use Rattle.hprof_items.specs.Spelling.{longest_body};
@@ -8,16 +10,47 @@ ghost use Rattle.hprof_items.specs.SubRecord.{dump_bytes};
 
 use hprof_devices::{Target, WriteFault, push_all};
 use hprof_items::Fact;
-use hprof_values::{IdSize, Root};
+use hprof_values::{IdSize, Number, Root, put_numbers};
 use hprof_writing::{spelled_len, write_fact};
 
-/// A root, or a class or an object with its bytes.
+/// A root, or a class with its bytes, or an object with what is kept of its bytes.
 #[derive(Clone, Copy)]
 pub enum SubRow<'a> {
     /// A root.
     Root(Root),
-    /// A class or an object.
-    Spelled(&'a [u8]),
+    /// The sub-record of a class.
+    Class(&'a [u8]),
+    /// An instance or an array.
+    Object {
+        /// Its identifier.
+        id: u64,
+        /// Its sub-record without the identifier.
+        kept: &'a [u8],
+    },
+}
+
+/// How long a tag with an identifier is at most.
+const FRONT_LEN: usize = 9;
+
+/// Writes an instance or an array: its tag and its identifier in one piece, and then what stands behind them.
+fn write_object<W: Target>(
+    id: u64,
+    kept: &[u8],
+    ids: IdSize,
+    target: &mut W,
+) -> Result<(), WriteFault>
+    requires well { W.health target.old ≡ Well }
+    requires kept { IsObject ids (id, kept.now) }
+    ensures bytes { Writes (W.written target.old) (W.written target.new) result (dump_bytes ids (object_fact ids id kept.now)) }
+    ensures health { LeavesHealth result (W.health target.new) }
+{
+    let Some((tag, rest)) = kept.split_first() else {
+        unreachable!()
+    };
+    let mut front = [0; FRONT_LEN];
+    put_numbers(&[Number::One(*tag), Number::Id(id)], ids, &mut front);
+    push_all(&front[..1 + ids.width()], target)?;
+    push_all(rest, target)
 }
 
 impl SubRow<'_> {
@@ -32,11 +65,12 @@ impl SubRow<'_> {
     {
         match self {
             SubRow::Root(root) => spelled_len(&Fact::Root(root), ids),
-            SubRow::Spelled(bytes) => bytes.len() as u64,
+            SubRow::Class(bytes) => bytes.len() as u64,
+            SubRow::Object { kept, .. } => ids.width() as u64 + kept.len() as u64,
         }
     }
 
-    /// Writes it. A class or an object is written as it lies. At a fault some of it was written, from the front.
+    /// Writes it. A class is written as it lies. At a fault some of it was written, from the front.
     pub fn write<W: Target>(self, ids: IdSize, target: &mut W) -> Result<(), WriteFault>
         requires well { W.health target.old ≡ Well }
         requires writable { IsWritable ids self }
@@ -45,7 +79,8 @@ impl SubRow<'_> {
     {
         match self {
             SubRow::Root(root) => write_fact(&Fact::Root(root), ids, target),
-            SubRow::Spelled(bytes) => push_all(bytes, target),
+            SubRow::Class(bytes) => push_all(bytes, target),
+            SubRow::Object { id, kept } => write_object(id, kept, ids, target),
         }
     }
 }
