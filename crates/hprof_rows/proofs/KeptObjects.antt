@@ -62,7 +62,8 @@ each_object P instance array prim id (PrimArray other trace elem bytes) at =
 drop_front : (width : ℕ) (front rest : List ℕ) → length front ≡ width → drop width (front ++ rest) ≡ rest
 drop_front width front rest e = ap (λ (n : ℕ). drop n (front ++ rest)) (sym e) ∙ drop-append_seam front rest
 
-behind_tag : (ids : IdSize) (tag : ℕ) (bytes : List ℕ) → without_id ids (tag ∷ bytes) ≡ tag ∷ drop (width_of ids) bytes
+-- without the identifier there is the tag, and what stands behind the identifier
+pub behind_tag : (ids : IdSize) (tag : ℕ) (bytes : List ℕ) → without_id ids (tag ∷ bytes) ≡ tag ∷ drop (width_of ids) bytes
 behind_tag sizes.Four tag bytes = refl
 behind_tag sizes.Eight tag bytes = refl
 
@@ -258,15 +259,3 @@ object_read ids id fact tag behind keeps =
     (field_bytes prim_rest (prim_numbers ids trace elem bytes) ++ bytes) (e ∙ prim_without ids id trace elem bytes)
     (λ same. prim_read ids id trace behind elem bytes fits same))
     id fact keeps.stands tag behind keeps.fits keeps.kept_is
-
--- there is a tag
-pub kept_some : (ids : IdSize) (id : ℕ) (fact : FactValue) (kept : List ℕ) → KeepsObject ids id fact kept → 1 ≤ length kept
-kept_some ids id fact kept keeps =
-    subst (λ (bytes : List ℕ). 1 ≤ length bytes) (sym keeps.kept_is)
-    (each_object (λ id fact. 1 ≤ length (without_id ids (dump_bytes ids fact)))
-    (λ id trace class bytes.
-    subst (λ (bytes : List ℕ). 1 ≤ length bytes) (sym (instance_without ids id trace class bytes)) (omega arith))
-    (λ id trace class elements.
-    subst (λ (bytes : List ℕ). 1 ≤ length bytes) (sym (array_without ids id trace class elements)) (omega arith))
-    (λ id trace elem bytes. subst (λ (bytes : List ℕ). 1 ≤ length bytes) (sym (prim_without ids id trace elem bytes)) (omega arith))
-    id fact keeps.stands)
