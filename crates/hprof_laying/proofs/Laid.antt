@@ -128,7 +128,7 @@ module _ (ids : IdSize) (facts : List FactValue) (slots : List Slot) (bytes : Li
     -- what they refer to is found, and the slots above are left
     module _ (plan : Plan) (found : plan_of known jump.class ≡ Some plan) (start : ℕ)
         (start_is : start ≡ min (place + jump.place) most) where
-      pub own_here : List Slot
+      own_here : List Slot
       own_here = (landing_at plan found).own
 
       start_exact : start ≡ place + jump.place
@@ -138,14 +138,14 @@ module _ (ids : IdSize) (facts : List FactValue) (slots : List Slot) (bytes : Li
           let few = laying.few in
           omega arith
 
-      pub own_are : IsOwn ids own_here plan.own
+      own_are : IsOwn ids own_here plan.own
       unfolding own_here
       own_are = (landing_at plan found).are
 
-      pub own_wide : plan.own.width ≤ length (drop jump.offset rest)
+      own_wide : plan.own.width ≤ length (drop jump.offset rest)
       own_wide = let within = lands_within plan found in let left = length-drop jump.offset rest in omega arith
 
-      pub own_few : start + length own_here < 2 ^ 64
+      own_few : start + length own_here < 2 ^ 64
       unfolding own_here
       own_few =
           let count = (landing_at plan found).count_is in
@@ -155,7 +155,7 @@ module _ (ids : IdSize) (facts : List FactValue) (slots : List Slot) (bytes : Li
           let exact = start_exact in
           omega arith
 
-      pub laying_on : (later : List ℕ) (end : ℕ) (new : List Reference) → later ≡ drop plan.own.width (drop jump.offset rest)
+      laying_on : (later : List ℕ) (end : ℕ) (new : List Reference) → later ≡ drop plan.own.width (drop jump.offset rest)
           → end ≡ min (start + plan.own.count) most → new ≡ references ++ wanted_of which (references_in ids start own_here (drop jump.offset rest))
           → Laying ids facts slots bytes which plan.above later end new
       unfolding own_here
@@ -207,6 +207,24 @@ module _ (ids : IdSize) (facts : List FactValue) (slots : List Slot) (bytes : Li
                 ∙ sym (ap (λ (l : List Reference). references ++ l) wanted_then)
                 ∙ laying.all;
           }
+
+      module _ (landed : List ℕ) (new : List Reference) (landed_is : landed ≡ drop jump.offset rest)
+          (pushed : (own : List Slot) → IsOwn ids own plan.own → plan.own.width ≤ length landed → start + length own < 2 ^ 64
+          → new ≡ references ++ wanted_of which (references_in ids start own landed)) where
+        pub lays_on : (later : List ℕ) (end : ℕ) → later ≡ drop plan.own.width landed → end ≡ min (start + plan.own.count) most
+            → Laying ids facts slots bytes which plan.above later end new
+        lays_on later end e f =
+            laying_on later end new (e ∙ ap (drop plan.own.width) landed_is) f
+            (pushed own_here own_are (subst (λ (l : List ℕ). plan.own.width ≤ length l) (sym landed_is) own_wide) own_few
+            ∙ ap (λ (l : List ℕ). references ++ wanted_of which (references_in ids start own_here l)) landed_is)
+
+        -- and where none is left above, all was found
+        pub lays_last : plan.above ≡ None → new ≡ wanted_of which (references_in ids 0 slots bytes)
+        lays_last none =
+            let later = drop plan.own.width landed in
+            let end = min (start + plan.own.count) most in
+            laying_ends later end new
+            (subst (λ (next : Option Jump). Laying ids facts slots bytes which next later end new) none (lays_on later end refl refl))
 
 -- ---- what is answered
 

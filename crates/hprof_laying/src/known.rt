@@ -205,9 +205,13 @@ impl KnownLayouts {
             let start = place.saturating_add(jump.place);
             plan.own
                 .push_references(landed, ids, start, wanted, references)?;
+            // Most instances have no more.
+            let Some(above) = plan.above else {
+                return Ok(());
+            };
             (_, rest) = landed.split_at(plan.own.width);
             place = start.saturating_add(plan.own.count);
-            next = plan.above;
+            next = Some(above);
         }
         Ok(())
     }
