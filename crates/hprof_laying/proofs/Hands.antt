@@ -10,10 +10,9 @@ use Rattle.hprof_layouts.specs.declared.slot.Slot.{Slot}
 use Rattle.hprof_layouts.specs.Layout.{IsKnown}
 use Rattle.hprof_laying.specs.declared.known.KnownLayouts.{KnownLayouts}
 use Rattle.hprof_laying.specs.declared.known.Waiting.{Waiting}
-use Rattle.hprof_laying.specs.declared.plan.Outline.{Outline}
 use Rattle.hprof_laying.specs.declared.plan.Plan.{Plan}
 use Rattle.hprof_laying.specs.Known.{plan_of, waiting_below}
-use Rattle.hprof_laying.specs.Plan.{IsOutline, plan_below}
+use Rattle.hprof_laying.specs.Plan.{IsPlanBelow}
 use Rattle.hprof_laying.specs.Waking.{CanWake, IsWaking, PlansStand, Wakes, Woke, put}
 use Rattle.hprof_laying.proofs.Wakings.{first_unplanned, put-put, put-same, stands_without, stands_woken, woke_more}
 
@@ -39,23 +38,23 @@ module _ (ids : IdSize) (facts : List FactValue) (before : ℕ → Option Plan) 
       }
 
   pub hand_more : (plans after : ℕ → Option Plan) (waits : ℕ → List Waiting) (woken : List ℕ) (rest later : List Waiting) (first : Waiting)
-      (slots : List Slot) (outline : Outline) (place : ℕ) → IsKnown facts class slots → IsOutline ids facts slots outline
-      → InHand plans waits woken rest → rest ≡ first ∷ later → after ≡ put plans first.class (Some (plan_below outline place first.own))
+      (slots : List Slot) (plan : Plan) → IsKnown facts class slots → IsPlanBelow ids facts slots first.own plan
+      → InHand plans waits woken rest → rest ≡ first ∷ later → after ≡ put plans first.class (Some plan)
       → InHand after waits (woken ++ first.class ∷ []) later
-  hand_more plans after waits woken rest later first slots outline place known outline_are hand e f =
+  hand_more plans after waits woken rest later first slots plan known below hand e f =
       let stands : PlansStand ids facts plans (put waits class (first ∷ later)) (class ∷ (pending ++ hand.more)) =
       subst (λ (l : List Waiting). PlansStand ids facts plans (put waits class l) (class ∷ (pending ++ hand.more))) e hand.standing in
-      let then = stands_woken ids facts plans waits class first later (pending ++ hand.more) stands slots known outline outline_are place in
-      let none = first_unplanned ids facts plans waits class first later (pending ++ hand.more) stands slots known outline outline_are place in
+      let then = stands_woken ids facts plans waits class first later (pending ++ hand.more) stands slots known plan below in
+      let none = first_unplanned ids facts plans waits class first later (pending ++ hand.more) stands slots known plan below in
       record {
         more = hand.more ++ first.class ∷ [];
         woken_are = ap (λ (l : List ℕ). l ++ first.class ∷ []) hand.woken_are ∙ append_assoc old hand.more (first.class ∷ []);
         standing = subst (λ (p : ℕ → Option Plan). PlansStand ids facts p (put waits class later)
             (class ∷ (pending ++ (hand.more ++ first.class ∷ [])))) (sym f)
-            (subst (λ (l : List ℕ). PlansStand ids facts (put plans first.class (Some (plan_below outline place first.own))) (put waits class later)
-            (class ∷ l)) (append_assoc pending hand.more (first.class ∷ [])) then);
+            (subst (λ (l : List ℕ). PlansStand ids facts (put plans first.class (Some plan)) (put waits class later) (class ∷ l))
+            (append_assoc pending hand.more (first.class ∷ [])) then);
         woke = subst (λ (p : ℕ → Option Plan). Woke before p (woken ++ first.class ∷ [])) (sym f)
-            (woke_more before plans woken first.class (plan_below outline place first.own) hand.woke none);
+            (woke_more before plans woken first.class plan hand.woke none);
       }
 
   -- when none is left in hand

@@ -17,7 +17,7 @@ use Rattle.hprof_laying.specs.Known.{HasLayout, HasPlan, IsOnceEach, IsWaiting, 
 use Rattle.hprof_laying.specs.Waking.{IsPlanned, CanWake, PlansStand}
 use Rattle.hprof_laying.proofs.MoreDumps.{known_stays, plan_stays, waiting_stays}
 use Rattle.hprof_laying.proofs.ReferenceSets.{nothing_there}
-use Rattle.hprof_laying.proofs.Outlines.{one_known, known_zero, known_below, plan_known}
+use Rattle.hprof_laying.proofs.Outlines.{one_known, known_zero, known_below}
 
 -- there is a plan or none
 pub data IsThere (found : Option Plan) : Type 0 where
@@ -58,14 +58,14 @@ module _ (ids : IdSize) (facts : List FactValue) (plans : ℕ → Option Plan) (
   pub planned_known : (class : ℕ) (plan : Plan) → plans class ≡ Some plan → (class ≢ 0) × HasLayout facts class
   planned_known class plan e =
       let has = stands.plans_are class plan e in
-      (has.1.is.not_zero, (has.0, plan_known ids facts class has.0 has.1.plan has.1.is))
+      (has.1.is.not_zero, (has.0, has.1.is.known))
 
   -- the plan is of the slots
   pub planned_slots : (class : ℕ) (slots : List Slot) → class ≢ 0 → IsKnown facts class slots → HasPlan ids facts plans class slots
   planned_slots class slots not_zero known =
       let planned = known_planned class known.dumps known.chain not_zero in
       let has = stands.plans_are class planned.0 planned.1 in
-      let same = one_known facts stands.each class has.0 slots (plan_known ids facts class has.0 has.1.plan has.1.is) known in
+      let same = one_known facts stands.each class has.0 slots has.1.is.known known in
       subst (HasPlan ids facts plans class) same has.1
 
   -- what waits has no known layout

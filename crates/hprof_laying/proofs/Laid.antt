@@ -58,7 +58,7 @@ module _ (ids : IdSize) (facts : List FactValue) (slots : List Slot) (bytes : Li
   -- a jump
   module _ (known : KnownLayouts) (knows : Knows ids facts known) (jump : Jump) (rest : List ℕ) (place : ℕ) (references : List Reference)
       (laying : Laying ids facts slots bytes which (Some jump) rest place references) where
-    -- where the own fields of the class lie that has the plan
+    -- where the fields lie that the plan of the class speaks of
     record Landing (plan : Plan) : Type 0 where
       pub own : List Slot
       pub above : List Slot
@@ -78,20 +78,23 @@ module _ (ids : IdSize) (facts : List FactValue) (slots : List Slot) (bytes : Li
     landing =
         let here = laying.first in
         let is = planned.is in
+        let own = own_slots is.dump ++ is.more in
         let dumps : here.dump ≡ is.dump = knows.each here.dump is.dump here.has is.has (here.id ∙ sym is.id) in
         let wide : 0 < width_of_slots ids (own_slots is.dump) =
         subst (λ (d : ClassDump). 0 < width_of_slots ids (own_slots d)) dumps here.some in
-        let own = is.own_are.width_is in
-        let count = is.own_are.count_is in
-        let left : laying.left ≡ here.before ++ (own_slots is.dump ++ is.slots_above) =
+        let wider : width_of_slots ids own ≡ width_of_slots ids (own_slots is.dump) + width_of_slots ids is.more =
+        width-append ids (own_slots is.dump) is.more in
+        let width : planned.plan.own.width ≡ width_of_slots ids own = is.own_are.width_is in
+        let count : planned.plan.own.count ≡ length own = is.own_are.count_is in
+        let left : laying.left ≡ here.before ++ (own ++ is.left) =
         here.slots_are ∙ ap (λ (l : List Slot). here.before ++ l) is.slots_are in
-        let split : width_of_slots ids laying.left
-        ≡ width_of_slots ids here.before + width_of_slots ids (own_slots is.dump ++ is.slots_above) =
-        ap (width_of_slots ids) left ∙ width-append ids here.before (own_slots is.dump ++ is.slots_above) in
-        let split_rest = width-append ids (own_slots is.dump) is.slots_above in
-        let lengths : length laying.left ≡ length here.before + length (own_slots is.dump ++ is.slots_above) =
-        ap length left ∙ length-append here.before (own_slots is.dump ++ is.slots_above) in
-        let lengths_rest = length-append (own_slots is.dump) is.slots_above in
+        let split : width_of_slots ids laying.left ≡ width_of_slots ids here.before + width_of_slots ids (own ++ is.left) =
+        ap (width_of_slots ids) left ∙ width-append ids here.before (own ++ is.left) in
+        let split_rest : width_of_slots ids (own ++ is.left) ≡ width_of_slots ids own + width_of_slots ids is.left =
+        width-append ids own is.left in
+        let lengths : length laying.left ≡ length here.before + length (own ++ is.left) =
+        ap length left ∙ length-append here.before (own ++ is.left) in
+        let lengths_rest : length (own ++ is.left) ≡ length own + length is.left = length-append own is.left in
         let offset = here.offset_is in
         let places = here.place_is in
         let fills = laying.fills in
@@ -101,8 +104,8 @@ module _ (ids : IdSize) (facts : List FactValue) (slots : List Slot) (bytes : Li
         let exact : jump.offset ≡ width_of_slots ids here.before = omega arith in
         let exact_place : jump.place ≡ length here.before = omega arith in
         record {
-          own = own_slots is.dump;
-          above = is.slots_above;
+          own = own;
+          above = is.left;
           are = is.own_are;
           first = is.above_is;
           some = omega arith;
@@ -125,7 +128,7 @@ module _ (ids : IdSize) (facts : List FactValue) (slots : List Slot) (bytes : Li
         → ⊥) → ⊥
     lands none = none planned.plan planned.found landing.some (lands_within planned.plan planned.found)
 
-    -- what they refer to is found, and the slots above are left
+    -- what they refer to is found, and the slots behind them are left
     module _ (plan : Plan) (found : plan_of known jump.class ≡ Some plan) (start : ℕ)
         (start_is : start ≡ min (place + jump.place) most) where
       own_here : List Slot
@@ -156,7 +159,8 @@ module _ (ids : IdSize) (facts : List FactValue) (slots : List Slot) (bytes : Li
           omega arith
 
       laying_on : (later : List ℕ) (end : ℕ) (new : List Reference) → later ≡ drop plan.own.width (drop jump.offset rest)
-          → end ≡ min (start + plan.own.count) most → new ≡ references ++ wanted_of which (references_in ids start own_here (drop jump.offset rest))
+          → end ≡ min (start + plan.own.count) most
+          → new ≡ references ++ wanted_of which (references_in ids start own_here (drop jump.offset rest))
           → Laying ids facts slots bytes which plan.above later end new
       unfolding own_here
       laying_on later end new e f g =

@@ -2,6 +2,7 @@ pub mod MoreDumps
 pub mod Places
 pub mod ReferenceSets
 pub mod Outlines
+pub mod Joined
 pub mod KnownPlans
 pub mod Wakings
 pub mod Maps

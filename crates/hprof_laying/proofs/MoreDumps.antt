@@ -47,12 +47,14 @@ module _ (facts more : List FactValue) (all : (dump : ClassDump) → HasDump fac
       dump = is.dump;
       has = all is.dump is.has;
       id = is.id;
-      slots_above = is.slots_above;
-      known_above = known_stays is.dump.parent is.slots_above is.known_above;
+      known = known_stays class slots is.known;
+      more = is.more;
+      left = is.left;
       slots_are = is.slots_are;
       width_is = is.width_is;
       own_are = is.own_are;
-      above_is = first_stays is.slots_above plan.above is.above_is;
+      above_is = first_stays is.left plan.above is.above_is;
+      begins = is.begins;
     }
 
     pub waiting_stays : (superclass : ℕ) (waiting : Waiting) → IsWaiting ids facts superclass waiting

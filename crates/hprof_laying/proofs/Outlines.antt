@@ -2,6 +2,7 @@
 use Rattle.std.specs.Prelude.{◌≢◌, vec_len}
 use Rattle.std.specs.Option.{option_map}
 use Rattle.std.proofs.lemmas.Bool.{eqb-true}
+use Rattle.std.proofs.lemmas.List.{append-nil}
 use Rattle.std.proofs.Common.{◌≡◌, ℕ, ◌==◌, ◌+◌, ◌<◌, min, Bool, true, false, cond, List, [], ◌∷◌, ◌++◌, length, Option, Some, None}
 use Rattle.std.proofs.Common.{refl, sym, ap, subst, ◌∙◌, append_assoc, arith, length-append}
 use Rattle.hprof_values.specs.declared.ids.IdSize.{IdSize}
@@ -19,7 +20,8 @@ use Rattle.hprof_laying.specs.declared.plan.Jump.{Jump}
 use Rattle.hprof_laying.specs.declared.plan.Outline.{Outline}
 use Rattle.hprof_laying.specs.declared.plan.Plan.{Plan}
 use Rattle.hprof_laying.specs.OwnFields.{IsOwn, referring}
-use Rattle.hprof_laying.specs.Plan.{IsFirstJump, IsJump, IsOutline, IsPlan, jump_behind, most, most_wide, outline_of, plan_below}
+use Rattle.hprof_laying.specs.Plan.{IsFirstJump, IsJump, IsOutline, IsPlan, IsPlanBelow}
+use Rattle.hprof_laying.specs.Plan.{jump_behind, most, most_wide, outline_of, plan_below}
 use Rattle.hprof_laying.specs.Refers.{NoneRefers}
 use Rattle.hprof_laying.proofs.Places.{NoneRefers-append, referring-none, referring-some, width-append}
 
@@ -64,7 +66,7 @@ no_elements (x ∷ xs) e = absurd (omega arith)
 module _ (ids : IdSize) (facts : List FactValue) where
   -- ---- from above to below
 
-  pub plan_is : (dump : ClassDump) (own : OwnLayout) (slots : List Slot) (outline : Outline) (place : ℕ) → dump.id ≢ 0 → HasDump facts dump
+  plan_is : (dump : ClassDump) (own : OwnLayout) (slots : List Slot) (outline : Outline) (place : ℕ) → dump.id ≢ 0 → HasDump facts dump
       → IsOwn ids (own_slots dump) own → IsKnown facts dump.parent slots → IsOutline ids facts slots outline
       → IsPlan ids facts dump.id (own_slots dump ++ slots) (plan_below outline place own)
   plan_is dump own slots outline place not_zero has own_are known is = record {
@@ -72,60 +74,67 @@ module _ (ids : IdSize) (facts : List FactValue) where
     dump = dump;
     has = has;
     id = refl;
-    slots_above = slots;
-    known_above = known;
-    slots_are = refl;
+    known = known_below facts dump slots not_zero has known;
+    more = [];
+    left = slots;
+    slots_are = ap (λ (l : List Slot). l ++ slots) (sym (append-nil (own_slots dump)));
     width_is = stopped_sum outline.width (width_of_slots ids slots) own.width (width_of_slots ids (own_slots dump ++ slots)) most_wide
         is.width_is (width-append ids (own_slots dump) slots
         ∙ (let e = own_are.width_is in let sum : width_of_slots ids (own_slots dump) + width_of_slots ids slots
         ≡ width_of_slots ids slots + own.width = omega arith in sum));
-    own_are = own_are;
+    own_are = subst (λ (l : List Slot). IsOwn ids l own) (sym (append-nil (own_slots dump))) own_are;
     above_is = is.first_is;
+    begins = λ some.
+        let len = own.references.ok.0 in
+        let same = ap (λ (l : List OwnReference). length l) own_are.references_are in
+        let lt : 0 < length (referring ids 0 0 (own_slots dump)) = omega arith in
+        referring-some ids 0 0 (own_slots dump) lt;
   }
+
+  pub is_below : (own : OwnLayout) (slots : List Slot) (outline : Outline) (place : ℕ) (plan : Plan) → plan ≡ plan_below outline place own
+      → IsOutline ids facts slots outline → IsPlanBelow ids facts slots own plan
+  is_below own slots outline place plan e outline_are dump not_zero has own_are known =
+      subst (IsPlan ids facts dump.id (own_slots dump ++ slots)) (sym e)
+      (plan_is dump own slots outline place not_zero has own_are known outline_are)
 
   -- ---- the outline of a plan
 
   module _ (class : ℕ) (slots : List Slot) (plan : Plan) (is : IsPlan ids facts class slots plan) where
-    pub plan_known : IsKnown facts class slots
-    plan_known =
-        let not_zero : is.dump.id ≢ 0 = λ e. is.not_zero (sym is.id ∙ e) in
-        subst (λ (c : ℕ). IsKnown facts c slots) is.id
-        (subst (IsKnown facts is.dump.id) (sym is.slots_are) (known_below facts is.dump is.slots_above not_zero is.has is.known_above))
+    -- what the plan speaks of
+    fields : List Slot
+    fields = own_slots is.dump ++ is.more
 
-    -- the class has own fields that refer to something
+    -- some of it refers to something
     first_here : 0 < vec_len plan.own.references → IsJump ids facts slots (record { class = class; at = plan.at; offset = 0; place = 0 })
-    first_here some =
-        let len = plan.own.references.ok.0 in
-        let same = ap (λ (l : List OwnReference). length l) is.own_are.references_are in
-        let lt : 0 < length (referring ids 0 0 (own_slots is.dump)) = omega arith in
-        record {
-          before = [];
-          rest = slots;
-          slots_are = refl;
-          none_refers = tt;
-          offset_is = refl;
-          place_is = refl;
-          not_zero = is.not_zero;
-          known = plan_known;
-          dump = is.dump;
-          has = is.has;
-          id = is.id;
-          some = referring-some ids 0 0 (own_slots is.dump) lt;
-        }
+    first_here some = record {
+      before = [];
+      rest = slots;
+      slots_are = refl;
+      none_refers = tt;
+      offset_is = refl;
+      place_is = refl;
+      not_zero = is.not_zero;
+      known = is.known;
+      dump = is.dump;
+      has = is.has;
+      id = is.id;
+      some = is.begins some;
+    }
 
-    -- it has none
-    none_own : vec_len plan.own.references ≡ 0 → NoneRefers (own_slots is.dump)
+    -- none of it does
+    none_own : vec_len plan.own.references ≡ 0 → NoneRefers fields
+    unfolding fields
     none_own none =
         let len = plan.own.references.ok.0 in
         let e : length plan.own.references.items ≡ 0 = omega arith in
-        referring-none ids 0 0 (own_slots is.dump) (sym is.own_are.references_are ∙ no_elements plan.own.references.items e)
+        referring-none ids 0 0 fields (sym is.own_are.references_are ∙ no_elements plan.own.references.items e)
 
-    first_above : (first : Option Jump) → NoneRefers (own_slots is.dump) → IsFirstJump ids facts is.slots_above first
+    first_above : (first : Option Jump) → NoneRefers fields → IsFirstJump ids facts is.left first
         → IsFirstJump ids facts slots (option_map (jump_behind plan.own) first)
-    first_above None none above =
-        subst NoneRefers (sym is.slots_are) (NoneRefers-append ids (own_slots is.dump) is.slots_above none above)
+    unfolding fields
+    first_above None none above = subst NoneRefers (sym is.slots_are) (NoneRefers-append ids fields is.left none above)
     first_above (Some jump) none above =
-        let own = own_slots is.dump in
+        let own = fields in
         let wide = is.own_are.width_is in
         let long = is.own_are.count_is in
         let width : width_of_slots ids (own ++ above.before) ≡ width_of_slots ids above.before + plan.own.width =

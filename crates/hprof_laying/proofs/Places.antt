@@ -2,8 +2,8 @@
 use Rattle.std.specs.List.{AllByRecursion}
 use Rattle.std.proofs.lemmas.List.{drop-drop}
 use Rattle.std.proofs.lemmas.List.Sums.{sum_by-cons, sum_by-append}
-use Rattle.std.proofs.Common.{◌≡◌, ℕ, ◌+◌, ◌<◌, ◌≤◌, Bool, true, false, cond, List, [], ◌∷◌, ◌++◌, map, length, drop, refl, sym, ap, ◌∙◌}
-use Rattle.std.proofs.Common.{append_assoc, arith}
+use Rattle.std.proofs.Common.{◌≡◌, ℕ, ◌+◌, ◌<◌, ◌≤◌, min, Bool, true, false, cond, List, [], ◌∷◌, ◌++◌, map, length, drop, refl}
+use Rattle.std.proofs.Common.{sym, ap, ◌∙◌, append_assoc, arith}
 use Rattle.byteorder.specs.Endian.{big_number}
 use Rattle.hprof_values.specs.declared.ids.IdSize.{IdSize}
 use Rattle.hprof_values.specs.declared.ids.IdSize.TheVariants as sizes
@@ -16,6 +16,7 @@ use Rattle.hprof_layouts.specs.Fields.{width_of_slots}
 use Rattle.hprof_laying.specs.declared.reference.Reference.{Reference}
 use Rattle.hprof_laying.specs.declared.own_fields.OwnReference.{OwnReference}
 use Rattle.hprof_laying.specs.OwnFields.{referring, references_in}
+use Rattle.hprof_laying.specs.Plan.{most, reference_behind}
 use Rattle.hprof_laying.specs.Refers.{refers, NoneRefers}
 
 -- ---- widths
@@ -124,6 +125,63 @@ module _ (ids : IdSize) where
         | false ↦ λ no none. (no, referring-none (offset + width_of_basic ids slot.basic) (place + 1) slots none)
       ] is same in
       go (refers slot.basic) refl e
+
+  -- and where none refers, there is none
+  pub nothing-referring : (offset place : ℕ) (slots : List Slot) → NoneRefers slots → referring ids offset place slots ≡ []
+  nothing-referring offset place [] none = refl
+  nothing-referring offset place (slot ∷ slots) none =
+      ap (λ (b : Bool). cond b (record { offset = offset; place = place } ∷ []) []
+      ++ referring ids (offset + width_of_basic ids slot.basic) (place + 1) slots) none.0
+      ∙ nothing-referring (offset + width_of_basic ids slot.basic) (place + 1) slots none.1
+
+  -- so far as there are two lists of slots
+  pub referring-append : (offset place : ℕ) (slots others : List Slot)
+      → referring ids offset place (slots ++ others)
+      ≡ referring ids offset place slots ++ referring ids (offset + width_of_slots ids slots) (place + length slots) others
+  referring-append offset place [] others =
+      ap (λ (o : ℕ). referring ids o place others) (let e : offset ≡ offset + 0 = omega arith in e)
+      ∙ ap (λ (p : ℕ). referring ids (offset + 0) p others) (let e : place ≡ place + 0 = omega arith in e)
+  referring-append offset place (slot ∷ slots) others =
+      let head : List OwnReference = cond (refers slot.basic) (record { offset = offset; place = place } ∷ []) [] in
+      let rest = referring ids (offset + width_of_basic ids slot.basic) (place + 1) slots in
+      let places : (place + 1) + length slots ≡ place + length (slot ∷ slots) = omega arith in
+      let split = width-cons slot slots in
+      let offsets : (offset + width_of_basic ids slot.basic) + width_of_slots ids slots ≡ offset + width_of_slots ids (slot ∷ slots) =
+      omega arith in
+      ap (λ (l : List OwnReference). head ++ l)
+      (referring-append (offset + width_of_basic ids slot.basic) (place + 1) slots others
+      ∙ ap (λ (o : ℕ). rest ++ referring ids o ((place + 1) + length slots) others) offsets
+      ∙ ap (λ (p : ℕ). rest ++ referring ids (offset + width_of_slots ids (slot ∷ slots)) p others) places)
+      ∙ sym (append_assoc head rest (referring ids (offset + width_of_slots ids (slot ∷ slots)) (place + length (slot ∷ slots)) others))
+
+  -- behind more bytes and fields
+  pub referring-behind : (bytes fields offset place : ℕ) (slots : List Slot) → (offset + bytes) + width_of_slots ids slots ≤ most
+      → (place + fields) + length slots ≤ most
+      → map (reference_behind bytes fields) (referring ids offset place slots) ≡ referring ids (offset + bytes) (place + fields) slots
+  referring-behind bytes fields offset place [] few few_too = refl
+  referring-behind bytes fields offset place (slot ∷ slots) few few_too =
+      let width = width_of_basic ids slot.basic in
+      let rest = referring ids (offset + width) (place + 1) slots in
+      let then = referring ids ((offset + bytes) + width) ((place + fields) + 1) slots in
+      let split = width-cons slot slots in
+      let offsets : (offset + width_of_basic ids slot.basic) + bytes ≡ (offset + bytes) + width_of_basic ids slot.basic = omega arith in
+      let places : (place + 1) + fields ≡ (place + fields) + 1 = omega arith in
+      let fits : ((offset + width_of_basic ids slot.basic) + bytes) + width_of_slots ids slots ≤ most = omega arith in
+      let fits_too : ((place + 1) + fields) + length slots ≤ most = omega arith in
+      let later : map (reference_behind bytes fields) rest ≡ then =
+      referring-behind bytes fields (offset + width) (place + 1) slots fits fits_too
+      ∙ ap (λ (o : ℕ). referring ids o ((place + 1) + fields) slots) offsets
+      ∙ ap (λ (p : ℕ). referring ids ((offset + bytes) + width) p slots) places in
+      let exact : min (offset + bytes) most ≡ offset + bytes = omega arith in
+      let exact_too : min (place + fields) most ≡ place + fields = omega arith in
+      elim (refers slot.basic) as (λ t. map (reference_behind bytes fields)
+      (cond t (record { offset = offset; place = place } ∷ []) [] ++ rest)
+      ≡ cond t (record { offset = offset + bytes; place = place + fields } ∷ []) [] ++ then) [
+        | true ↦ ap (λ (l : List OwnReference). reference_behind bytes fields (record { offset = offset; place = place }) ∷ l) later
+            ∙ ap (λ (o : ℕ). record { offset = o; place = min (place + fields) most } ∷ then) exact
+            ∙ ap (λ (p : ℕ). record { offset = offset + bytes; place = p } ∷ then) exact_too
+        | false ↦ later
+      ]
 
   -- where there is one, there are bytes
   pub referring-some : (offset place : ℕ) (slots : List Slot) → 0 < length (referring ids offset place slots) → 0 < width_of_slots ids slots

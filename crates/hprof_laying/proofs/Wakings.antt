@@ -18,15 +18,14 @@ use Rattle.hprof_layouts.specs.declared.slot.Slot.{Slot}
 use Rattle.hprof_layouts.specs.Layout.{IsKnown, own_slots}
 use Rattle.hprof_laying.specs.declared.own_fields.OwnLayout.{OwnLayout}
 use Rattle.hprof_laying.specs.declared.known.Waiting.{Waiting}
-use Rattle.hprof_laying.specs.declared.plan.Outline.{Outline}
 use Rattle.hprof_laying.specs.declared.plan.Plan.{Plan}
 use Rattle.hprof_laying.specs.Known.{HasDumpMore, HasPlan, IsOnceEach, IsWaiting, Waits}
 use Rattle.hprof_laying.specs.OwnFields.{IsOwn}
-use Rattle.hprof_laying.specs.Plan.{IsOutline, IsPlan, outline_at, plan_below}
+use Rattle.hprof_laying.specs.Plan.{IsOutline, IsPlan, IsPlanBelow, outline_at}
 use Rattle.hprof_laying.specs.Waking.{IsPlanned, CanWake, PlansStand, Woke, put}
 use Rattle.hprof_laying.proofs.KnownPlans.{There, Nowhere, look, not_both}
 use Rattle.hprof_laying.proofs.MoreDumps.{plan_stays, waiting_stays}
-use Rattle.hprof_laying.proofs.Outlines.{known_zero, outline_is, plan_is, plan_known}
+use Rattle.hprof_laying.proofs.Outlines.{known_zero, outline_is}
 use Rattle.hprof_laying.proofs.ReferenceSets.{nothing_there, one_there}
 
 -- ---- a function with another value at a place
@@ -121,7 +120,7 @@ module _ (ids : IdSize) (facts : List FactValue) (plans : ℕ → Option Plan) (
       let has = stands.plans_are class planned.0 planned.1 in
       record {
         slots = has.0;
-        known = plan_known ids facts class has.0 has.1.plan has.1.is;
+        known = has.1.is.known;
         outline_are = subst (λ (p : Option Plan). IsOutline ids facts has.0 (outline_at class p)) (sym has.1.found)
             (outline_is ids facts class has.0 has.1.plan has.1.is);
       }
@@ -305,11 +304,8 @@ module _ (ids : IdSize) (facts more : List FactValue) (plans : ℕ → Option Pl
 
 module _ (ids : IdSize) (facts : List FactValue) (plans : ℕ → Option Plan) (waits : ℕ → List Waiting) (class : ℕ) (first : Waiting)
     (rest : List Waiting) (pending : List ℕ) (stands : PlansStand ids facts plans (put waits class (first ∷ rest)) (class ∷ pending))
-    (slots : List Slot) (known : IsKnown facts class slots) (outline : Outline) (outline_are : IsOutline ids facts slots outline)
-    (place : ℕ) where
-  abbrev plan_first : Plan
-  plan_first = plan_below outline place first.own
-
+    (slots : List Slot) (known : IsKnown facts class slots) (plan_first : Plan)
+    (below : IsPlanBelow ids facts slots first.own plan_first) where
   abbrev plans_after : ℕ → Option Plan
   plans_after = put plans first.class (Some plan_first)
 
@@ -365,8 +361,8 @@ module _ (ids : IdSize) (facts : List FactValue) (plans : ℕ → Option Plan) (
   first_plan =
       let not_zero : first_is.dump.id ≢ 0 = λ e. (stands.unplanned class first first_there).0 (sym first_is.id ∙ e) in
       subst (λ (c : ℕ). IsPlan ids facts c (own_slots first_is.dump ++ slots) plan_first) first_is.id
-      (plan_is ids facts first_is.dump first.own slots outline place not_zero first_is.has first_is.own_are
-      (subst (λ (c : ℕ). IsKnown facts c slots) (sym first_is.parent) known) outline_are)
+      (below first_is.dump not_zero first_is.has first_is.own_are
+      (subst (λ (c : ℕ). IsKnown facts c slots) (sym first_is.parent) known))
 
   plans_are_after : (at : ℕ) (plan : Plan) → plans_after at ≡ Some plan → (own : List Slot) × HasPlan ids facts plans_after at own
   plans_are_after at plan e = elim (cases_eq at first.class) [

@@ -15,7 +15,7 @@ use Rattle.hprof_laying.specs.declared.known.Waiting.{Waiting}
 use Rattle.hprof_laying.specs.declared.plan.Outline.{Outline}
 use Rattle.hprof_laying.specs.declared.plan.Plan.{Plan}
 use Rattle.hprof_laying.specs.OwnFields.{IsOwn}
-use Rattle.hprof_laying.specs.Plan.{IsPlan, outline_at}
+use Rattle.hprof_laying.specs.Plan.{IsPlan, NoTwoDumps, outline_at}
 
 -- the layout of the class is known
 abbrev pub HasLayout : List FactValue → ℕ → Type 0
@@ -46,6 +46,11 @@ pub record HasPlan (ids : IdSize) (facts : List FactValue) (plans : ℕ → Opti
   pub plan : Plan
   pub found : plans class ≡ Some plan
   pub is : IsPlan ids facts class slots plan
+
+-- no class has two dumps, and each plan is right
+pub record ArePlans (ids : IdSize) (facts : List FactValue) (plans : ℕ → Option Plan) : Type 0 where
+  pub each : NoTwoDumps facts
+  pub plans_are : (class : ℕ) (plan : Plan) → plans class ≡ Some plan → (slots : List Slot) × HasPlan ids facts plans class slots
 
 -- what waits is a class that has a dump, with that superclass
 pub record IsWaiting (ids : IdSize) (facts : List FactValue) (superclass : ℕ) (waiting : Waiting) : Type 0 where

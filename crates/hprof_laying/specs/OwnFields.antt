@@ -17,7 +17,7 @@ referring ids offset place (slot ∷ slots) =
     (if refers slot.basic then record { offset = offset; place = place } ∷ [] else [])
     ++ referring ids (offset + width_of_basic ids slot.basic) (place + 1) slots
 
--- these are the own fields of a class that has these slots for them
+-- these are own fields that have these slots, one behind the other
 pub record IsOwn (ids : IdSize) (slots : List Slot) (own : OwnLayout) : Type 0 where
   pub width_is : own.width ≡ width_of_slots ids slots
   pub count_is : own.count ≡ length slots

@@ -7,6 +7,7 @@ use Rattle.hprof_finding.specs.Classes.{ClassDump, HasDump}
 use Rattle.hprof_layouts.specs.declared.slot.Slot.{Slot}
 use Rattle.hprof_layouts.specs.Layout.{IsKnown, own_slots}
 use Rattle.hprof_layouts.specs.Fields.{width_of_slots}
+use Rattle.hprof_laying.specs.declared.own_fields.OwnReference.{OwnReference}
 use Rattle.hprof_laying.specs.declared.own_fields.OwnLayout.{OwnLayout}
 use Rattle.hprof_laying.specs.declared.plan.Jump.{Jump}
 use Rattle.hprof_laying.specs.declared.plan.Outline.{Outline}
@@ -20,6 +21,10 @@ most = 2 ^ 64 - 1
 
 abbrev pub most_wide : ℕ
 most_wide = 2 ^ 128 - 1
+
+-- no class has two dumps
+abbrev pub NoTwoDumps : List FactValue → Type 0
+NoTwoDumps facts = (one other : ClassDump) → HasDump facts one → HasDump facts other → one.id ≡ other.id → one ≡ other
 
 -- ---- what it means
 
@@ -48,20 +53,32 @@ pub record IsOutline (ids : IdSize) (facts : List FactValue) (slots : List Slot)
   pub width_is : outline.width ≡ min (width_of_slots ids slots) most_wide
   pub first_is : IsFirstJump ids facts slots outline.first
 
--- the plan of a class whose layout has these slots
+-- the plan of a class whose layout has these slots: its own, more behind them that are kept together with them, and those that are left
 pub record IsPlan (ids : IdSize) (facts : List FactValue) (class : ℕ) (slots : List Slot) (plan : Plan) : Type 0 where
   pub not_zero : class ≢ 0
   pub dump : ClassDump
   pub has : HasDump facts dump
   pub id : dump.id ≡ class
-  pub slots_above : List Slot
-  pub known_above : IsKnown facts dump.parent slots_above
-  pub slots_are : slots ≡ own_slots dump ++ slots_above
+  pub known : IsKnown facts class slots
+  pub more : List Slot
+  pub left : List Slot
+  pub slots_are : slots ≡ (own_slots dump ++ more) ++ left
   pub width_is : plan.width ≡ min (width_of_slots ids slots) most_wide
-  pub own_are : IsOwn ids (own_slots dump) plan.own
-  pub above_is : IsFirstJump ids facts slots_above plan.above
+  pub own_are : IsOwn ids (own_slots dump ++ more) plan.own
+  pub above_is : IsFirstJump ids facts left plan.above
+  -- where it refers to something, it begins with own fields
+  pub begins : 0 < vec_len plan.own.references → 0 < width_of_slots ids (own_slots dump)
+
+-- the plan of a class that has these own fields, below a layout that has these slots
+abbrev pub IsPlanBelow : IdSize → List FactValue → List Slot → OwnLayout → Plan → Type 0
+IsPlanBelow ids facts slots own plan = (dump : ClassDump) → dump.id ≢ 0 → HasDump facts dump → IsOwn ids (own_slots dump) own
+    → IsKnown facts dump.parent slots → IsPlan ids facts dump.id (own_slots dump ++ slots) plan
 
 -- ---- how one comes from another
+
+-- a field that refers to something, behind so many more bytes and fields
+abbrev pub reference_behind : ℕ → ℕ → OwnReference → OwnReference
+reference_behind offset place own = record { offset = min (own.offset + offset) most; place = min (own.place + place) most }
 
 -- the jump, from own fields on that stand before
 abbrev pub jump_behind : OwnLayout → Jump → Jump

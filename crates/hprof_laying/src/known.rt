@@ -7,8 +7,10 @@ ghost use Rattle.hprof_values.specs.declared.ids.IdSize.{IdSize};
 ghost use Rattle.hprof_items.specs.FactValue.{FactValue};
 ghost use Rattle.hprof_finding.specs.ClassRow.{dump_of};
 ghost use Rattle.hprof_finding.specs.Classes.{HasNoDump};
+ghost use Rattle.hprof_layouts.specs.declared.slot.Slot.{Slot};
 ghost use Rattle.hprof_laying.specs.declared.plan.Plan.{Plan};
-ghost use Rattle.hprof_laying.specs.Known.{AreWoken, HasDumpMore, HasLayout, IsOutlineOf, Knows, plan_of, waiting_below};
+ghost use Rattle.hprof_laying.specs.Known.{ArePlans, AreWoken, HasDumpMore, HasLayout, IsOutlineOf, Knows, plan_of, waiting_below};
+ghost use Rattle.hprof_laying.specs.Plan.{IsOutline, IsPlanBelow};
 ghost use Rattle.hprof_laying.specs.References.{AreWanted};
 ghost use Rattle.hprof_laying.specs.Waking.{CanWake, IsWaking, Wakes, number_waiting, put};
 
@@ -123,6 +125,23 @@ impl KnownLayouts {
         Ok(())
     }
 
+    /// The plan of a class with these own fields, below a class of that outline. It is put in at that place. The error is
+    /// that memory was refused.
+    fn make_plan(&self, outline: Outline, at: usize, own: OwnLayout) -> Result<Plan, AllocError>
+        ensures { IfOk result (λ plan. (ids : IdSize) (facts : List FactValue) (slots : List Slot) → ArePlans ids facts (plan_of self.now)
+            → IsOutline ids facts slots outline → IsPlanBelow ids facts slots own plan) }
+    {
+        let mut plan = Plan::below(outline, at, own);
+        let Some(jump) = plan.above else {
+            return Ok(plan);
+        };
+        let Some(above) = self.plan_at(jump.class, jump.at) else {
+            return Ok(plan);
+        };
+        plan.join(jump, above)?;
+        Ok(plan)
+    }
+
     /// Makes plans of the classes that wait for a class that has one, and puts them behind other classes.
     fn wake_below(&mut self, class: u64, woken: &mut Vec<u64>) -> Result<(), AllocError>
         ensures ok { OnOk result ((ids : IdSize) (facts : List FactValue) (before : ℕ → Option Plan) (pending : List ℕ)
@@ -138,7 +157,8 @@ impl KnownLayouts {
         };
         for Waiting { class: below, own } in waiting {
             let at = self.plans.len();
-            self.plans.insert(below, Plan::below(outline, at, own))?;
+            let plan = self.make_plan(outline, at, own)?;
+            self.plans.insert(below, plan)?;
             woken.push(below)?;
         }
         Ok(())
@@ -158,7 +178,7 @@ impl KnownLayouts {
         Ok(())
     }
 
-    /// The plan of the class that a jump goes to, where its own fields lie within so many bytes.
+    /// The plan of the class that a jump goes to, where the fields that it keeps together lie within so many bytes.
     #[inline(always)]
     fn landing(&self, jump: Jump, room: usize) -> Option<&Plan>
         ensures plan { IfSome result (λ plan. plan_of self.now jump.class ≡ Some plan.now) }
@@ -205,7 +225,7 @@ impl KnownLayouts {
             let start = place.saturating_add(jump.place);
             plan.own
                 .push_references(landed, ids, start, wanted, references)?;
-            // Most instances have no more.
+            // Most instances end here.
             let Some(above) = plan.above else {
                 return Ok(());
             };

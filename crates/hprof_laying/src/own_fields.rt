@@ -1,20 +1,26 @@
-//! The own fields of a class, as far as laying its instances needs them.
+//! The own fields of classes, as far as laying their instances needs them.
 
-ghost use Rattle.std.specs.Prelude.{◌≡◌, ◌++◌, ◌+◌, ◌≤◌, ◌<◌, ◌^◌, List, length, drop, IfOk, OnOk};
+ghost use Rattle.std.specs.Prelude.{◌≡◌, ◌++◌, ◌+◌, ◌≤◌, ◌<◌, ◌^◌, List, length, drop, vec_len, IsTrue, IfOk, OnOk};
 ghost use Rattle.std.specs.Option.{SomeIff};
 ghost use Rattle.byteorder.specs.Endian.{big_number};
 ghost use Rattle.hprof_values.specs.Ids.{width_of};
 ghost use Rattle.hprof_finding.specs.ClassRow.{dump_of};
 ghost use Rattle.hprof_layouts.specs.declared.slot.Slot.{Slot};
+ghost use Rattle.hprof_layouts.specs.Fields.{width_of_slots};
 ghost use Rattle.hprof_layouts.specs.Layout.{own_slots};
 ghost use Rattle.hprof_laying.specs.OwnFields.{IsOwn, references_in};
+ghost use Rattle.hprof_laying.specs.Plan.{most, reference_behind};
 ghost use Rattle.hprof_laying.specs.References.{wanted_of};
+ghost use Rattle.hprof_laying.specs.Refers.{NoneRefers};
 
 use crate::reference::{Reference, Wanted, refers};
 use hprof_finding::ClassRow;
 use hprof_values::IdSize;
 use hprof_values::number::id_at;
 use std::alloc::{AllocError, Global};
+
+/// The own fields of several classes are kept together where at most so many of them refer to something.
+const MOST_TOGETHER: usize = 32;
 
 /// An own field of a class that refers to something.
 #[derive(Clone, Copy, Debug, PartialEq, Eq)]
@@ -25,7 +31,7 @@ pub(crate) struct OwnReference {
     pub(crate) place: u64,
 }
 
-/// The own fields of a class.
+/// The own fields of a class, or of several classes, those of one behind those of the other.
 #[derive(Drop)]
 pub(crate) struct OwnLayout {
     /// How many bytes they have.
@@ -78,7 +84,59 @@ fn id_behind(bytes: &[u8], offset: usize, ids: IdSize) -> Option<u64>
     Some(id_at(rest, ids))
 }
 
+impl OwnReference {
+    /// The same field, behind so many more bytes and fields.
+    #[inline(always)]
+    fn behind(self, offset: usize, place: u64) -> OwnReference
+        ensures { result ≡ reference_behind offset place self }
+    {
+        OwnReference {
+            offset: self.offset.saturating_add(offset),
+            place: self.place.saturating_add(place),
+        }
+    }
+}
+
 impl OwnLayout {
+    /// Whether these fields and others, so many bytes behind them, are to be kept together: some of these refer to something,
+    /// few of all do, and the bytes of all can be counted.
+    pub(crate) fn goes_with(&self, offset: usize, others: &OwnLayout) -> bool
+        ensures some { IsTrue result → 0 < vec_len self.now.references }
+        ensures few { IsTrue result → vec_len self.now.references + vec_len others.now.references ≤ 32 }
+        ensures counted { IsTrue result → self.now.width + offset + others.now.width < most }
+    {
+        let count = self.references.len();
+        let together = count.saturating_add(others.references.len());
+        let end = self
+            .width
+            .saturating_add(offset)
+            .saturating_add(others.width);
+        count != 0 && together <= MOST_TOGETHER && end < usize::MAX
+    }
+
+    /// Puts other fields behind these, with so many bytes and fields between them, none of which refers to anything. The
+    /// error is that memory was refused; nothing holds then of these.
+    pub(crate) fn append(
+        &mut self,
+        offset: usize,
+        place: u64,
+        others: &OwnLayout,
+    ) -> Result<(), AllocError>
+        ensures { OnOk result ((ids : IdSize) (slots between behind : List Slot) → IsOwn ids slots self.old → NoneRefers between
+            → IsOwn ids behind others.now → offset ≡ width_of_slots ids between → place ≡ length between
+            → width_of_slots ids (slots ++ (between ++ behind)) < most → IsOwn ids (slots ++ (between ++ behind)) self.new) }
+    {
+        let start = self.width.saturating_add(offset);
+        let before = self.count.saturating_add(place);
+        self.references.reserve_exact(others.references.len())?;
+        for reference in others.references.iter() {
+            self.references.push(reference.behind(start, before))?;
+        }
+        self.width = start.saturating_add(others.width);
+        self.count = before.saturating_add(others.count);
+        Ok(())
+    }
+
     /// Puts what the own fields refer to behind other references, as far as it is wanted. The bytes begin with their values,
     /// and so many fields stand before them.
     #[inline(always)]

@@ -1,9 +1,13 @@
 //! What is kept of a class whose layout is known.
 
-ghost use Rattle.std.specs.Prelude.{◌≡◌};
-ghost use Rattle.hprof_laying.specs.Plan.{jump_behind, no_outline, outline_of, plan_below};
+ghost use Rattle.std.specs.Prelude.{◌≡◌, ℕ, List, Some, OnOk};
+ghost use Rattle.hprof_values.specs.declared.ids.IdSize.{IdSize};
+ghost use Rattle.hprof_items.specs.FactValue.{FactValue};
+ghost use Rattle.hprof_layouts.specs.declared.slot.Slot.{Slot};
+ghost use Rattle.hprof_laying.specs.Plan.{IsPlan, NoTwoDumps, jump_behind, no_outline, outline_of, plan_below};
 
 use crate::own_fields::OwnLayout;
+use std::alloc::AllocError;
 
 /// A class that has own fields that refer to something, and what lies before its own fields.
 #[derive(Clone, Copy, Debug, PartialEq, Eq)]
@@ -34,10 +38,10 @@ pub(crate) struct Plan {
     pub(crate) at: usize,
     /// How many bytes all slots have; the greatest number stands for all from it on.
     pub(crate) width: u128,
-    /// Its own fields.
+    /// Its own fields, and those of classes above it so far as they are kept together with them.
     pub(crate) own: OwnLayout,
-    /// The first class above it that has own fields that refer to something. What lies before is counted from behind
-    /// its own fields on.
+    /// The first class above those that has own fields that refer to something. What lies before is counted from behind
+    /// all those fields on.
     pub(crate) above: Option<Jump>,
 }
 
@@ -79,6 +83,21 @@ impl Plan {
             own,
             above: outline.first,
         }
+    }
+
+    /// Keeps the fields of the plan that it jumps to, and those between, together with its own, where few of all refer to
+    /// something. The error is that memory was refused; nothing holds then of the plan.
+    pub(crate) fn join(&mut self, jump: Jump, above: &Plan) -> Result<(), AllocError>
+        ensures { OnOk result ((ids : IdSize) (facts : List FactValue) (class : ℕ) (slots others : List Slot) → NoTwoDumps facts
+            → IsPlan ids facts class slots self.old → self.old.above ≡ Some jump → IsPlan ids facts jump.class others above.now
+            → IsPlan ids facts class slots self.new) }
+    {
+        if !self.own.goes_with(jump.offset, &above.own) {
+            return Ok(());
+        }
+        self.own.append(jump.offset, jump.place, &above.own)?;
+        self.above = above.above;
+        Ok(())
     }
 
     /// What the classes below the class need.

@@ -1,13 +1,12 @@
-use Rattle.std.specs.Prelude.{◌==◌, if◌then◌else◌}
 use Rattle.std.specs.Vec.Iter.{into_iter_items}
 use Rattle.std.proofs.Math.Path.{fun_ext}
 use Rattle.std.proofs.Common.{◌≡◌, ℕ, ◌∷◌, List, [], length, Some, refl, sym, ap, subst, ◌∙◌, arith}
 use Rattle.hprof_tables.specs.HintedMap.{value_in}
 use Rattle.hprof_laying.specs.declared.known.KnownLayouts.{KnownLayouts}
 use Rattle.hprof_laying.specs.declared.known.Waiting.{Waiting}
-use Rattle.hprof_laying.specs.declared.plan.Plan.{Plan}
-use Rattle.hprof_laying.specs.Plan.{IsOutline}
+use Rattle.hprof_laying.specs.Plan.{IsOutline, IsPlanBelow}
 use Rattle.hprof_laying.specs.Known.{plan_of, waiting_below}
+use Rattle.hprof_laying.specs.Waking.{put}
 use Rattle.hprof_laying.proofs.Hands.{InHand, hand_begins, hand_ends, hand_more, none_in_hand}
 use Rattle.hprof_laying.proofs.Maps.{counted-taken, list_in, waiting-same, waiting-taken}
 use Rattle.hprof_laying.proofs.Outlines.{no_elements}
@@ -46,9 +45,9 @@ loop-below-preserved c =
     let steps = c.in-Some-2.ensures.steps in
     let first : Waiting = c.in-Some-2.field-0 in
     let later = into_iter_items c.next.new.self in
-    let plans = fun_ext (λ at.
-    subst (λ (p : Plan). value_in c.insert.new.self at ≡ (if first.class == at then Some p else plan_of c.loop-below.self at))
-    c.below.ensures (c.in_ok-insert.ensures.ok at)) in
+    let plan = c.in_ok-plan.plan in
+    let plans : value_in c.insert.new.self ≡ put (plan_of c.loop-below.self) first.class (Some plan) =
+    fun_ext (λ at. c.in_ok-insert.ensures.ok at) in
     let lengths = ap (λ (l : List Waiting). length l) steps.0 in
     let pushed = c.in_ok-push.ensures.len in
     let counted = was.counted in
@@ -60,11 +59,15 @@ loop-below-preserved c =
           waking.standing c.args.class ready in
           let outline : IsOutline ids facts above.slots c.in-Some.outline =
           subst (IsOutline ids facts above.slots) (sym c.in-Some.ensures.some) above.outline_are in
+          let hand = was.hand ids facts before pending ready waking in
+          let below : IsPlanBelow ids facts above.slots first.own plan =
+          c.in_ok-plan.ensures ids facts above.slots
+          (record { each = hand.standing.each; plans_are = hand.standing.plans_are }) outline in
           subst (λ (l : List ℕ). InHand ids facts before c.args.class pending c.args.woken.now.items (value_in c.insert.new.self)
           (waiting_below c.loop-below.self) l later) (sym c.in_ok-push.ensures.items)
           (hand_more ids facts before c.args.class pending c.args.woken.now.items (plan_of c.loop-below.self)
-          (value_in c.insert.new.self) (waiting_below c.loop-below.self) c.loop-below.woken.items (into_iter_items c.loop-below.below-iterator) later first above.slots
-          c.in-Some.outline c.len-at.result above.known outline (was.hand ids facts before pending ready waking) steps.0 plans);
+          (value_in c.insert.new.self) (waiting_below c.loop-below.self) c.loop-below.woken.items
+          (into_iter_items c.loop-below.below-iterator) later first above.slots plan above.known below hand steps.0 plans);
     }
 
 pub returns-clause-ok : goal.returns-clause-ok
