@@ -3,3 +3,4 @@ pub mod Dump
 pub mod RecordTables
 pub mod Writing
 pub mod Counting
+pub mod Batches

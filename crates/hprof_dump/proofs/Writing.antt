@@ -1,6 +1,5 @@
 -- Writing the dump.
-use Rattle.std.proofs.Common.{◌≡◌, ℕ, zero, ◌-◌, List, ◌++◌, Option, Result, subst}
-use Rattle.std.proofs.Common.{◌+◌}
+use Rattle.std.proofs.Common.{◌≡◌, ℕ, zero, List, ◌++◌, Option, Result, subst}
 use Rattle.std.specs.Io.KnownBytes.{Appends}
 use Rattle.hprof_values.specs.declared.ids.IdSize.{IdSize}
 use Rattle.hprof_items.specs.declared.header.Header.{Header}

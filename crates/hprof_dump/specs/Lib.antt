@@ -1,3 +1,4 @@
 pub mod Dump
 pub mod Segments
 pub mod Counted
+pub mod Batch

@@ -2,8 +2,10 @@
 //! as full as they can be. No call of this crate takes memory.
 #![tactic(auto)]
 
+mod batch;
 mod canonical;
 pub mod laws;
 mod segments;
 
+pub use batch::Batch;
 pub use canonical::{write_canonical, write_records};

@@ -1,6 +1,6 @@
 //! Writing sub-records in segments that are as full as they can be.
 
-ghost use Rattle.std.specs.Prelude.{◌≡◌, ◌≤◌, ◌∷◌, length, take, drop, flat_map, IfSome, OnOk};
+ghost use Rattle.std.specs.Prelude.{◌≡◌, ◌≤◌, ◌∷◌, ◌++◌, length, take, drop, flat_map, IfSome, OnOk};
 ghost use Rattle.hprof_devices.specs.declared.health.Health.TheVariants.{Well};
 ghost use Rattle.hprof_devices.specs.Device.{Writes, LeavesHealth};
 ghost use Rattle.hprof_items.specs.Spelling.{longest_body};
@@ -8,9 +8,11 @@ ghost use Rattle.hprof_items.specs.SubRecord.{dump_bytes};
 ghost use Rattle.hprof_dump.specs.Dump.{segment_bytes, sub_facts_bytes};
 ghost use Rattle.hprof_heap.specs.Heap.{heap_of};
 ghost use Rattle.hprof_rows.specs.SubRow.{sub_fact, IsWritable};
+ghost use Rattle.hprof_dump.specs.Batch.{batch_bytes, WritesSome};
 ghost use Rattle.hprof_dump.specs.Counted.{IsFirstSegment, with_taken};
 ghost use Rattle.hprof_rows.specs.SubRows.{subs_left, subs_ids};
 
+use crate::batch::Batch;
 use hprof_devices::{Target, WriteFault};
 use hprof_heap::Heap;
 use hprof_items::tag;
@@ -56,6 +58,32 @@ fn count_segment<'a>(first: SubRow<'a>, ahead: &mut SubRows<'a>) -> Segment<'a>
     }
 }
 
+/// Takes the next sub-records into a batch, that many. At a fault some of what waited and of them was written, from the front.
+fn take_rows<W: Target>(
+    rows: &mut SubRows<'_>,
+    count: u64,
+    batch: &mut Batch,
+    target: &mut W,
+) -> Result<(), WriteFault>
+    requires { W.health target.old ≡ Well }
+    ensures bytes { WritesSome (W.written target.old) (W.written target.new) result
+        (batch_bytes batch.old ++ flat_map (dump_bytes (subs_ids rows.old)) (take count (subs_left rows.old))) (batch_bytes batch.new) }
+    ensures left { OnOk result (subs_left rows.new ≡ drop count (subs_left rows.old)) }
+    ensures ids { subs_ids rows.new ≡ subs_ids rows.old }
+    ensures health { LeavesHealth result (W.health target.new) }
+{
+    let ids = rows.ids();
+    let mut left = count;
+    while left > 0 {
+        let Some(row) = rows.next() else {
+            return Ok(());
+        };
+        batch.take(row, ids, target)?;
+        left -= 1;
+    }
+    Ok(())
+}
+
 /// Writes the next sub-records, that many. At a fault some of them were written, from the front.
 fn write_rows<W: Target>(
     rows: &mut SubRows<'_>,
@@ -69,16 +97,9 @@ fn write_rows<W: Target>(
     ensures ids { subs_ids rows.new ≡ subs_ids rows.old }
     ensures health { LeavesHealth result (W.health target.new) }
 {
-    let ids = rows.ids();
-    let mut left = count;
-    while left > 0 {
-        let Some(row) = rows.next() else {
-            return Ok(());
-        };
-        row.write(ids, target)?;
-        left -= 1;
-    }
-    Ok(())
+    let mut batch = Batch::empty();
+    take_rows(rows, count, &mut batch, target)?;
+    batch.write(target)
 }
 
 /// Writes a segment of the next sub-records, of which there are that many, with that many bytes. At a fault some of it

@@ -1,14 +1,16 @@
 //! The sub-records of a heap in one heap dump: counted by a walk ahead, and then written.
 
-ghost use Rattle.std.specs.Prelude.{◌≡◌, ◌≤◌, flat_map, IfSome, MatchOption};
+ghost use Rattle.std.specs.Prelude.{◌≡◌, ◌≤◌, ◌++◌, flat_map, IfSome, MatchOption};
 ghost use Rattle.hprof_devices.specs.declared.health.Health.TheVariants.{Well};
 ghost use Rattle.hprof_devices.specs.Device.{Writes, LeavesHealth};
 ghost use Rattle.hprof_items.specs.SubRecord.{dump_bytes};
 ghost use Rattle.hprof_rows.specs.SubFacts.{sub_facts};
 ghost use Rattle.hprof_heap.specs.Heap.{heap_of};
+ghost use Rattle.hprof_dump.specs.Batch.{batch_bytes, WritesSome};
 ghost use Rattle.hprof_dump101.specs.Dump101.{sub_len, heap_dump, IsTooLong};
 
 use hprof_devices::{Target, WriteFault};
+use hprof_dump::Batch;
 use hprof_heap::Heap;
 use hprof_items::tag;
 use hprof_writing::write_head;
@@ -31,6 +33,21 @@ pub(crate) fn count_subs(heap: &Heap, most: u32) -> Option<u32>
     Some(len as u32)
 }
 
+/// Takes the heap's sub-records into a batch. At a fault some of what waited and of them was written, from the front.
+fn take_rows<W: Target>(heap: &Heap, batch: &mut Batch, target: &mut W) -> Result<(), WriteFault>
+    requires { W.health target.old ≡ Well }
+    ensures bytes { WritesSome (W.written target.old) (W.written target.new) result
+        (batch_bytes batch.old ++ flat_map (dump_bytes (heap_of heap.now).ids) (sub_facts (heap_of heap.now).facts)) (batch_bytes batch.new) }
+    ensures health { LeavesHealth result (W.health target.new) }
+{
+    let mut rows = heap.sub_rows();
+    let ids = rows.ids();
+    while let Some(row) = rows.next() {
+        batch.take(row, ids, target)?;
+    }
+    Ok(())
+}
+
 /// Writes the heap's sub-records. At a fault some of them were written, from the front.
 fn write_rows<W: Target>(heap: &Heap, target: &mut W) -> Result<(), WriteFault>
     requires { W.health target.old ≡ Well }
@@ -38,12 +55,9 @@ fn write_rows<W: Target>(heap: &Heap, target: &mut W) -> Result<(), WriteFault>
         (flat_map (dump_bytes (heap_of heap.now).ids) (sub_facts (heap_of heap.now).facts)) }
     ensures health { LeavesHealth result (W.health target.new) }
 {
-    let mut rows = heap.sub_rows();
-    let ids = rows.ids();
-    while let Some(row) = rows.next() {
-        row.write(ids, target)?;
-    }
-    Ok(())
+    let mut batch = Batch::empty();
+    take_rows(heap, &mut batch, target)?;
+    batch.write(target)
 }
 
 /// Writes the heap's sub-records, which have that many bytes, in one heap dump, where there are some. At a fault some of it

@@ -18,7 +18,8 @@ use Rattle.hprof_heap.specs.declared.heap.Heap.{Heap}
 use Rattle.hprof_rows.specs.declared.table.Table.{Table}
 use Rattle.hprof_rows.specs.declared.table.Table.TheVariants as tables
 use Rattle.hprof_rows.specs.Conflict.{IsConsistent}
-use Rattle.hprof_rows.specs.Content.{load_fact, unload_fact, frame_fact, trace_fact, start_fact, end_fact, spelled_fact, facts_of_rows}
+use Rattle.hprof_rows.specs.Content.{load_fact, unload_fact, frame_fact, trace_fact, start_fact, end_fact, spelled_fact, object_fact}
+use Rattle.hprof_rows.specs.Content.{facts_of_rows}
 use Rattle.hprof_rows.specs.Content.{AreRight}
 use Rattle.hprof_rows.specs.Facts.{Has}
 use Rattle.hprof_rows.specs.Tables.{facts_of_table, number_of_table, stands_in, joined}
@@ -372,17 +373,17 @@ module _ {rows others : HeapRows} (can : CanJoin rows others) where
     pub objects_joined : (new : List (ℕ × List ℕ)) → IfOk r (λ _. AreUnion rows.objects others.objects new) → OnErr r (new ≡ rows.objects)
         → OnErr r (LacksOne rows.objects others.objects) → AreJoined r tables.Objects (record rows { objects = new })
     objects_joined new ok err absent =
-        let table = rows_joined tables.Objects (spelled_fact rows.ids) the_bytes rows.objects others.objects refl refl can.are.objects
+        let table = rows_joined tables.Objects (object_fact rows.ids) the_bytes rows.objects others.objects refl refl can.are.objects
         sized_are.objects r new (bytes_union rows.objects others.objects new ok) err in
         record {
           takes = table.takes;
-          lacks = rows_lack tables.Objects (spelled_fact rows.ids) the_bytes rows.objects others.objects refl refl
+          lacks = rows_lack tables.Objects (object_fact rows.ids) the_bytes rows.objects others.objects refl refl
               can.are.objects sized_are.objects r (bytes_lack rows.objects others.objects absent);
           are_heap = record {
             heap = table.is_heap;
             traces = can.are.traces;
             classes = can.are.classes;
-            objects = tried_union_right rows.ids 9 (spelled_fact rows.ids) the_bytes rows.objects others.objects can.are.objects
+            objects = tried_union_right rows.ids 9 (object_fact rows.ids) the_bytes rows.objects others.objects can.are.objects
                 sized_are.objects r new
                 (bytes_union rows.objects others.objects new ok) err;
           };

@@ -15,7 +15,7 @@ ghost use Rattle.hprof_tables.specs.BytesTable.{byte_rows};
 use hprof_items::Fact;
 use hprof_rows::{
     Facts, FrameRow, KeyRow, LoadRow, RootSet, StartRow, SubRows, Table, TableRows, TraceRow,
-    spelled_fact,
+    kept_fact, spelled_fact,
 };
 use hprof_tables::{BytesTable, Relation};
 use hprof_values::IdSize;
@@ -196,8 +196,8 @@ impl Heap {
         ensures value { option_map value_of result ≡ find (has_key (keys.Object id)) (heap_of self.now).facts }
         ensures lists { IfSome result (ListsHave (heap_of self.now).ids) }
     {
-        let bytes = self.objects.get_near(id, near)?;
-        Some(spelled_fact(bytes, self.ids))
+        let kept = self.objects.get_near(id, near)?;
+        Some(kept_fact(id, kept, self.ids))
     }
 
     /// The rows of a table.

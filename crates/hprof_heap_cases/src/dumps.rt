@@ -3,7 +3,7 @@
 use crate::expecting::{equal, holds};
 use crate::samples::{Part, array, given, heap_of};
 use hprof_devices::Device;
-use hprof_dump::{laws, write_canonical};
+use hprof_dump::{Batch, laws, write_canonical};
 use hprof_heap::Heap;
 use hprof_items::{Fact, IdSize};
 use hprof_values::{Basic, Root};
@@ -117,8 +117,8 @@ fn sub_records_share_a_segment(rt: HostRuntime) -> Result<(), Fail> {
     Ok(())
 }
 
-// A segment of 1,048,576 bytes has no room for the third array. What is written: a header, two segments, whose arrays are
-// written as they lie, an end.
+// A segment of 1,048,576 bytes has no room for the third array. What is written: a header; the head of a segment, the front of the
+// long array, its bytes, the short one behind it; the head of another with its array; an end.
 #[test]
 fn a_full_segment(rt: HostRuntime) -> Result<(), Fail> {
     let zeros = vec![in rt.alloc(); 0; 1_048_546]?;
@@ -130,7 +130,7 @@ fn a_full_segment(rt: HostRuntime) -> Result<(), Fail> {
     let first = b"\x1c\0\0\0\0\0\x10\0\0\x23\0\0\0\x10";
     let rest = b"\x1c\0\0\0\0\0\0\0\x0e\x23\0\0\0\x12\0\0\0\x01\0\0\0\0\x08\x2c\0\0\0\0\0\0\0\0";
     let places: [(usize, &[u8]); 2] = [(31, first), (1_048_616, rest)];
-    check_places(&rt, rt.alloc(), &arrays, 7, 1_048_648, &places)
+    check_places(&rt, rt.alloc(), &arrays, 8, 1_048_648, &places)
 }
 
 // An array of 1,048,577 bytes stands alone.
@@ -142,5 +142,68 @@ fn a_segment_of_one_sub_record(rt: HostRuntime) -> Result<(), Fail> {
     let second = b"\x1c\0\0\0\0\0\x10\0\x01\x23\0\0\0\x11";
     let end = b"\x2c\0\0\0\0\0\0\0\0";
     let places: [(usize, &[u8]); 3] = [(31, first), (54, second), (1_048_640, end)];
-    check_places(&rt, rt.alloc(), &arrays, 6, 1_048_649, &places)
+    check_places(&rt, rt.alloc(), &arrays, 7, 1_048_649, &places)
+}
+
+// Two arrays of 2,048 bytes are written in one piece, the third behind them.
+#[test]
+fn objects_are_written_together(rt: HostRuntime) -> Result<(), Fail> {
+    let zeros = vec![in rt.alloc(); 0; 2034]?;
+    let arrays = [
+        array(18, Basic::Byte, &zeros),
+        array(16, Basic::Byte, &zeros),
+        array(17, Basic::Byte, &zeros),
+    ];
+    let first = b"\x1c\0\0\0\0\0\0\x18\0\x23\0\0\0\x10\0\0\0\x01\0\0\x07\xf2\x08\0";
+    let end = b"\x2c\0\0\0\0\0\0\0\0";
+    let places: [(usize, &[u8]); 4] = [
+        (31, first),
+        (2088, b"\x23\0\0\0\x11"),
+        (4136, b"\x23\0\0\0\x12"),
+        (6184, end),
+    ];
+    check_places(&rt, rt.alloc(), &arrays, 5, 6193, &places)
+}
+
+// An array of 4,096 bytes is written in one piece, one of 4,097 in two: its front, and its bytes.
+#[test]
+fn a_long_object_is_written_alone(rt: HostRuntime) -> Result<(), Fail> {
+    let zeros = vec![in rt.alloc(); 0; 4083]?;
+    let front = b"\x1c\0\0\0\0\0\0\x10\0\x23\0\0\0\x10\0\0\0\x01\0\0\x0f\xf2\x08\0";
+    let places: [(usize, &[u8]); 1] = [(31, front)];
+    let waits = [array(16, Basic::Byte, &zeros[1..])];
+    check_places(&rt, rt.alloc(), &waits, 4, 4145, &places)?;
+    let longer = b"\x1c\0\0\0\0\0\0\x10\x01\x23\0\0\0\x10\0\0\0\x01\0\0\x0f\xf3\x08\0";
+    let places: [(usize, &[u8]); 1] = [(31, longer)];
+    let alone = [array(16, Basic::Byte, &zeros)];
+    check_places(&rt, rt.alloc(), &alone, 5, 4146, &places)
+}
+
+// Of a batch that takes a root and two arrays, the root is written at once, and the arrays together.
+#[test]
+fn arrays_wait_in_a_batch(rt: HostRuntime) -> Result<(), Fail> {
+    let facts = [
+        array(17, Basic::Byte, b"\x03"),
+        array(16, Basic::Byte, b"\x01\x02"),
+        Fact::Root(Root::Sticky { id: 16 }),
+    ];
+    let heap = heap_of(&rt, rt.alloc(), IdSize::Four, &facts)?;
+    let mut device = Device::new(Counted {
+        bytes: Vec::new(rt.alloc()),
+        writes: 0,
+    });
+    let mut rows = heap.sub_rows();
+    let ids = rows.ids();
+    let mut batch = Batch::empty();
+    while let Some(row) = rows.next() {
+        equal(&rt, batch.take(row, ids, &mut device), Ok(()));
+    }
+    equal(&rt, batch.write(&mut device), Ok(()));
+    equal(&rt, batch.write(&mut device), Ok(()));
+    let counted = device.into_inner();
+    equal(&rt, counted.writes, 2);
+    let expected =
+        b"\x05\0\0\0\x10\x23\0\0\0\x10\0\0\0\x01\0\0\0\x02\x08\x01\x02\x23\0\0\0\x11\0\0\0\x01\0\0\0\x01\x08\x03";
+    assert_eq!(rt; counted.bytes.as_slice(), expected.as_slice());
+    Ok(())
 }

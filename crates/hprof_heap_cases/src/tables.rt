@@ -79,6 +79,47 @@ fn stating_bytes(rt: HostRuntime) -> Result<(), Fail> {
 }
 
 #[test]
+fn stating_bytes_of_which_the_first_stands_apart(rt: HostRuntime) -> Result<(), Fail> {
+    let mut rows = BytesTable::new(rt.alloc());
+    for (key, first, rest, stated) in [
+        (1, b'A', b"BC".as_slice(), Stated::New),
+        (1, b'A', b"BC".as_slice(), Stated::Same),
+        (1, b'B', b"BC".as_slice(), Stated::Differs),
+        (1, b'A', b"B".as_slice(), Stated::Differs),
+        (1, b'A', b"BD".as_slice(), Stated::Differs),
+        (2, b'A', b"".as_slice(), Stated::New),
+        (2, b'A', b"A".as_slice(), Stated::Differs),
+    ] {
+        equal(&rt, rows.state_apart(key, first, rest)?, stated);
+    }
+    equal(&rt, rows.state(1, b"ABC")?, Stated::Same);
+    equal(&rt, rows.state(2, b"")?, Stated::Differs);
+    equal(&rt, rows.get(1), Some(b"ABC".as_slice()));
+    equal(&rt, rows.get(2), Some(b"A".as_slice()));
+    Ok(())
+}
+
+#[test]
+fn stating_long_bytes_of_which_the_first_stands_apart(rt: HostRuntime) -> Result<(), Fail> {
+    let bytes = [7; 300];
+    let mut rows = BytesTable::new(rt.alloc());
+    // Lengths are spelled in one byte below 255, and else in nine.
+    for len in [253, 254, 255, 256, 300] {
+        let row = bytes.get(..len).ok_or("no bytes")?;
+        let (first, rest) = row.split_first().ok_or("no byte")?;
+        let (_, short) = rest.split_first().ok_or("no rest")?;
+        let key = len as u64;
+        equal(&rt, rows.state_apart(key, *first, rest)?, Stated::New);
+        equal(&rt, rows.state_apart(key, *first, rest)?, Stated::Same);
+        equal(&rt, rows.state_apart(key, *first, short)?, Stated::Differs);
+        equal(&rt, rows.state(key, row)?, Stated::Same);
+        equal(&rt, rows.get(key), Some(row));
+    }
+    equal(&rt, rows.len(), 5);
+    Ok(())
+}
+
+#[test]
 fn stating_loads(rt: HostRuntime) -> Result<(), Fail> {
     let load = LoadRow {
         class: 9,

@@ -17,7 +17,8 @@ use Rattle.hprof_tables.specs.SortedRows.{row_at}
 use Rattle.hprof_rows.specs.declared.key.Key.{Key}
 use Rattle.hprof_rows.specs.declared.key.Key.TheVariants as keys
 use Rattle.hprof_rows.specs.Conflict.{IsConsistent, HasConflict, IsLeastConflict}
-use Rattle.hprof_rows.specs.Content.{content_of, load_fact, frame_fact, trace_fact, start_fact, spelled_fact, facts_of_rows, AreRight}
+use Rattle.hprof_rows.specs.Content.{content_of, load_fact, frame_fact, trace_fact, start_fact, spelled_fact, object_fact, facts_of_rows}
+use Rattle.hprof_rows.specs.Content.{AreRight}
 use Rattle.hprof_rows.specs.Facts.{Has, AllFit}
 use Rattle.hprof_rows.specs.HeapRows.{HeapRows, AreHeap, tables_of}
 use Rattle.hprof_rows.specs.Key.{key_of, rank_of, number_of, key_le, has_key}
@@ -206,7 +207,7 @@ fact_of_key ids (keys.Frame id) content = frame_fact id content
 fact_of_key ids (keys.Trace serial) content = trace_fact ids serial content
 fact_of_key ids (keys.Thread serial) content = start_fact serial content
 fact_of_key ids (keys.Class id) content = spelled_fact ids id content
-fact_of_key ids (keys.Object id) content = spelled_fact ids id content
+fact_of_key ids (keys.Object id) content = object_fact ids id content
 
 -- what is found in a table is kept among the facts of the heap
 module _ {V : Type 0} (rows : HeapRows) (are : AreHeap rows) (table number : ℕ) (key : Key) (fact : ℕ → List ℕ → FactValue)
@@ -250,7 +251,7 @@ key_kept rows are (keys.Class id) =
     kept_by rows are 8 id (keys.Class id) (spelled_fact rows.ids) the_bytes rows.classes (Class id 0 0 0 0 0 0 0 0 [] [] []) refl refl
     are.classes refl (row_at id rows.classes) (map_bytes (row_at id rows.classes))
 key_kept rows are (keys.Object id) =
-    kept_by rows are 9 id (keys.Object id) (spelled_fact rows.ids) the_bytes rows.objects (Instance id 0 0 []) refl refl
+    kept_by rows are 9 id (keys.Object id) (object_fact rows.ids) the_bytes rows.objects (Instance id 0 0 []) refl refl
     are.objects refl (row_at id rows.objects) (map_bytes (row_at id rows.objects))
 
 -- ---- two heaps of one size

@@ -13,12 +13,12 @@ use Rattle.hprof_rows.specs.declared.table.Table.{Table}
 use Rattle.hprof_rows.specs.SubFacts.{is_record_fact, is_sub_fact, sub_facts}
 use Rattle.hprof_rows.specs.Facts.{Has, AllFit}
 use Rattle.hprof_rows.specs.Tables.{facts_of_table, number_of_table, joined}
-use Rattle.hprof_rows.specs.HeapRows.{HeapRows, AreHeap, tables_of, root_facts, spelled_facts}
+use Rattle.hprof_rows.specs.HeapRows.{HeapRows, AreHeap, tables_of, root_facts, spelled_facts, object_facts}
 use Rattle.hprof_rows.specs.SubRow.{AllRootsFit, AreWritable, facts_of_subs}
 use Rattle.hprof_rows.proofs.DumpOrder.{by_place}
 use Rattle.hprof_rows.proofs.FactSets.{Has-back}
 use Rattle.hprof_rows.proofs.HeapRows.{heap_tables, table_facts}
-use Rattle.hprof_rows.proofs.ReadBack.{table_fits, classes_spelled, objects_spelled}
+use Rattle.hprof_rows.proofs.ReadBack.{table_fits, classes_spelled, objects_kept}
 use Rattle.hprof_rows.proofs.Tables.{IsOf, AllOf, AreTables, filter_none, filter_all, all_weaker}
 
 -- ---- a table's facts
@@ -92,7 +92,7 @@ pub heap_subs : (rows : HeapRows) → AreHeap rows
     → facts_of_subs rows.ids rows.roots rows.classes rows.objects ≡ sub_facts (joined (tables_of rows))
 heap_subs rows are =
     ap (λ (l : List FactValue). root_facts rows.roots ++ (spelled_facts rows.ids rows.classes ++ l))
-    (sym (append-nil (spelled_facts rows.ids rows.objects)))
+    (sym (append-nil (object_facts rows.ids rows.objects)))
     ∙ sym (subs_in 7 0 (tables_of rows) refl (heap_tables rows are))
 
 roots_fit : (ids : IdSize) (roots : List Root) → AllFit ids (root_facts roots) → AllRootsFit ids roots
@@ -100,7 +100,7 @@ roots_fit ids [] fit = tt
 roots_fit ids (root ∷ roots) fit = (fit (Rooted root) (inl refl), roots_fit ids roots (λ other has. fit other (inr has)))
 
 pub subs_writable : (rows : HeapRows) → AreHeap rows → AreWritable rows.ids rows.roots rows.classes rows.objects
-subs_writable rows are = (roots_fit rows.ids rows.roots (table_fits rows are 7), classes_spelled rows are, objects_spelled rows are)
+subs_writable rows are = (roots_fit rows.ids rows.roots (table_fits rows are 7), classes_spelled rows are, objects_kept rows are)
 
 -- ---- the facts of a table can be written
 

@@ -30,7 +30,7 @@ use Rattle.hprof_tables.specs.declared.relation.Stated.{Stated}
 use Rattle.hprof_rows.specs.Key.{has_key}
 use Rattle.hprof_tables.specs.SortedRows.{row_at}
 use Rattle.hprof_rows.proofs.Keys.{place_of_key, stands_at, has_key_at, same_place}
-use Rattle.hprof_rows.specs.Content.{content_of, load_fact, unload_fact, frame_fact, trace_fact, start_fact, end_fact, spelled_fact}
+use Rattle.hprof_rows.specs.Content.{content_of, load_fact, unload_fact, frame_fact, trace_fact, start_fact, end_fact, spelled_fact, object_fact}
 use Rattle.hprof_rows.specs.Content.{line_with, read_fact, facts_of_rows, IsRight, AreRight}
 use Rattle.hprof_tables.specs.Spans.{the_bytes}
 use Rattle.hprof_rows.specs.Stating.{StatesInto, IsNewAmong}
@@ -113,7 +113,7 @@ heap_tables rows are = (
                 all_of_roots rows.roots,
                 (
                   all_of_rows rows.ids 8 (spelled_fact rows.ids) the_bytes rows.classes are.classes,
-                  (all_of_rows rows.ids 9 (spelled_fact rows.ids) the_bytes rows.objects are.objects, tt),
+                  (all_of_rows rows.ids 9 (object_fact rows.ids) the_bytes rows.objects are.objects, tt),
                 ),
               ),
             ),
@@ -248,20 +248,20 @@ pub sub_at_place : (fact : FactValue) (table key : ℕ) → order_of fact ≡ ta
 sub_at_place fact table key at le = let first : slice_index (order_of fact) 0 ≡ table =
     ap (λ (ns : List ℕ). slice_index ns 0) at in sub_of_place fact (omega arith)
 
--- their content is their spelling
-pub sub_content : (ids : IdSize) (fact : FactValue) → record_of fact ≡ None → content_of ids fact ≡ dump_bytes ids fact
-sub_content ids (Name id text) e = absurd cc
-sub_content ids (Load serial class trace name) e = absurd cc
-sub_content ids (Unload serial) e = absurd cc
-sub_content ids (Frame id method signature source class_serial line) e = absurd cc
-sub_content ids (Trace serial thread frames) e = absurd cc
-sub_content ids (Start thread object trace name group parent_group) e = absurd cc
-sub_content ids (End thread) e = absurd cc
-sub_content ids (Rooted root) e = refl
-sub_content ids (Class id trace parent loader signers domain reserved1 reserved2 size constants statics fields) e = refl
-sub_content ids (Instance id trace class bytes) e = refl
-sub_content ids (ObjArray id trace class elements) e = refl
-sub_content ids (PrimArray id trace elem bytes) e = refl
+-- the content of a class is its spelling
+pub class_content : (ids : IdSize) (key : ℕ) (fact : FactValue) → order_of fact ≡ 8 ∷ key ∷ [] → content_of ids fact ≡ dump_bytes ids fact
+class_content ids key (Name id text) at = absurd cc
+class_content ids key (Load serial class trace name) at = absurd cc
+class_content ids key (Unload serial) at = absurd cc
+class_content ids key (Frame id method signature source class_serial line) at = absurd cc
+class_content ids key (Trace serial thread frames) at = absurd cc
+class_content ids key (Start thread object trace name group parent_group) at = absurd cc
+class_content ids key (End thread) at = absurd cc
+class_content ids key (Rooted root) at = refl
+class_content ids key (Class id trace parent loader signers domain reserved1 reserved2 size constants statics fields) at = refl
+class_content ids key (Instance id trace class bytes) at = absurd cc
+class_content ids key (ObjArray id trace class elements) at = absurd cc
+class_content ids key (PrimArray id trace elem bytes) at = absurd cc
 
 -- a sub-record that has a spelling is spelled by it
 pub sub_spells : (ids : IdSize) (fact : FactValue) → record_of fact ≡ None → Fits ids fact → Spells ids fact (dump_bytes ids fact)
@@ -276,18 +276,20 @@ spelled_read ids key fact bytes spells =
     ap read_fact (sub_again ids (exactly bytes) fact [] bytes spells.fits (spells.spelled ∙ sym (append-nil (dump_bytes ids fact)))
     (record { room = len; longest = len; there = len }))
 
-pub spelled_again : (ids : IdSize) (key : ℕ) (fact : FactValue) → record_of fact ≡ None → Fits ids fact
+pub class_again : (ids : IdSize) (key : ℕ) (fact : FactValue) → order_of fact ≡ 8 ∷ key ∷ [] → Fits ids fact
     → spelled_fact ids key (content_of ids fact) ≡ fact
-spelled_again ids key fact e fits =
-    ap (spelled_fact ids key) (sub_content ids fact e) ∙ spelled_read ids key fact (dump_bytes ids fact) (sub_spells ids fact e fits)
+class_again ids key fact at fits =
+    ap (spelled_fact ids key) (class_content ids key fact at)
+    ∙ spelled_read ids key fact (dump_bytes ids fact) (sub_spells ids fact (sub_at_place fact 8 key at (omega arith)) fits)
 
 -- what was stated of the spelling was stated of the content
-pub spelled_stated : {E : Type 0} (r : Result Stated E) (ids : IdSize) (key : ℕ) (fact : FactValue) (bytes : List ℕ)
-    (old new : List (ℕ × List ℕ)) → record_of fact ≡ None
+pub class_stated : {E : Type 0} (r : Result Stated E) (ids : IdSize) (key : ℕ) (fact : FactValue) (bytes : List ℕ)
+    (old new : List (ℕ × List ℕ)) → order_of fact ≡ 8 ∷ key ∷ []
     → bytes ≡ dump_bytes ids fact → IfOk r (λ answer. States the_bytes old key bytes answer new)
     → IfOk r (λ answer. States the_bytes old key (content_of ids fact) answer new)
-spelled_stated r ids key fact bytes old new e spelled ok =
-    subst (λ (content : List ℕ). IfOk r (λ answer. States the_bytes old key content answer new)) (spelled ∙ sym (sub_content ids fact e)) ok
+class_stated r ids key fact bytes old new at spelled ok =
+    subst (λ (content : List ℕ). IfOk r (λ answer. States the_bytes old key content answer new))
+    (spelled ∙ sym (class_content ids key fact at)) ok
 
 -- ---- looking up
 
@@ -329,14 +331,13 @@ pub found_fits : (rows : HeapRows) (p : FactValue → Bool) (fact : FactValue) �
     ≡ Some fact → Fits rows.ids fact
 found_fits rows p fact are e = are.heap.fit fact (find-Some p (joined (tables_of rows)) fact e).0
 
--- the row of a class or an object spells its fact
-pub row_spells : (ids : IdSize) (table key : ℕ) (bytes : List ℕ) → 7 ≤ table → IsRight ids table (spelled_fact ids) key bytes
+-- the row of a class spells its fact
+pub row_spells : (ids : IdSize) (key : ℕ) (bytes : List ℕ) → IsRight ids 8 (spelled_fact ids) key bytes
     → Fits ids (spelled_fact ids key bytes) → Spells ids (spelled_fact ids key bytes) bytes
-row_spells ids table key bytes le right fits =
+row_spells ids key bytes right fits =
     let fact : FactValue = spelled_fact ids key bytes in
-    let sub = sub_at_place fact table key right.0 le in
-    let spells = sub_spells ids fact sub fits in
-    let same : bytes ≡ dump_bytes ids fact = sym right.1 ∙ sub_content ids fact sub in
+    let spells = sub_spells ids fact (sub_at_place fact 8 key right.0 (omega arith)) fits in
+    let same : bytes ≡ dump_bytes ids fact = sym right.1 ∙ class_content ids key fact right.0 in
     record { fits = spells.fits; spelled = same; short = subst (λ (b : List ℕ). length b ≤ longest_body) (sym same) spells.short }
 
 -- no identifier of a trace's row is cut

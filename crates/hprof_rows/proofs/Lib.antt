@@ -9,6 +9,7 @@ pub mod Stating
 pub mod RowFacts
 pub mod Tables
 pub mod HeapRows
+pub mod KeptObjects
 pub mod ReadBack
 pub mod SameHeaps
 pub mod Differing
@@ -19,3 +20,4 @@ pub mod DumpTables
 pub mod UnionRows
 pub mod UnionRoots
 pub mod Picking
+pub mod ObjectFront

@@ -1,21 +1,22 @@
 -- The rows of a heap's tables can be read back, and stay so while they are gone over; the facts of a table stand in order.
-use Rattle.std.proofs.Common.{◌≡◌, ℕ, zero, suc, Bool, true, false, cond, List, [], ◌∷◌, refl, subst, inl, inr, arith}
+use Rattle.std.proofs.Common.{◌≡◌, ℕ, zero, suc, Bool, true, false, cond, List, [], ◌∷◌, refl, subst, inl, inr}
 use Rattle.std.specs.List.{AllByRecursion, filter}
 use Rattle.hprof_values.specs.declared.ids.IdSize.{IdSize}
 use Rattle.hprof_items.specs.FactValue.{FactValue}
 use Rattle.hprof_items.specs.Spelling.{Fits}
-use Rattle.hprof_rows.specs.Content.{facts_of_rows, load_fact, unload_fact, trace_fact, start_fact, end_fact, spelled_fact, IsRight}
-use Rattle.hprof_rows.specs.Content.{AreRight}
+use Rattle.hprof_rows.specs.Content.{facts_of_rows, load_fact, unload_fact, trace_fact, start_fact, end_fact, spelled_fact, object_fact}
+use Rattle.hprof_rows.specs.Content.{IsRight, AreRight}
 use Rattle.hprof_tables.specs.Spans.{the_bytes}
 use Rattle.hprof_rows.specs.Facts.{Has, AllFit}
 use Rattle.hprof_rows.specs.HeapRows.{HeapRows, AreHeap, tables_of, no_content}
 use Rattle.hprof_rows.specs.NumberRows.{load_numbers, start_numbers}
 use Rattle.hprof_rows.specs.Order.{IsBefore, IsCanonicalOrder}
-use Rattle.hprof_rows.specs.TableRows.{HasSerial, IsWhole, IsSpelled, AreSerials, AreWhole, AreSpelled}
+use Rattle.hprof_rows.specs.TableRows.{HasSerial, IsWhole, IsSpelled, IsObject, AreSerials, AreWhole, AreSpelled, AreObjects}
 use Rattle.hprof_rows.specs.Tables.{joined}
 use Rattle.hprof_rows.specs.TraceRow.{trace_content, frames_bytes}
 use Rattle.hprof_rows.proofs.FactSets.{Has-front, Has-back}
 use Rattle.hprof_rows.proofs.HeapRows.{loads_right, unloads_right, starts_right, ends_right, row_spells, row_whole}
+use Rattle.hprof_rows.proofs.KeptObjects.{row_keeps}
 use Rattle.hprof_rows.proofs.Tables.{table_at}
 
 -- ---- the facts of a table
@@ -68,13 +69,12 @@ end_serials rows are =
 
 pub classes_spelled : (rows : HeapRows) → AreHeap rows → AreSpelled rows.ids rows.classes
 classes_spelled rows are = each_row rows.ids 8 (spelled_fact rows.ids) the_bytes (IsSpelled rows.ids)
-    (λ row right fits. row_spells rows.ids 8 row.0 (the_bytes row.1) (omega arith) right fits) rows.classes are.classes
+    (λ row right fits. row_spells rows.ids row.0 (the_bytes row.1) right fits) rows.classes are.classes
     (table_fits rows are 8)
 
-pub objects_spelled : (rows : HeapRows) → AreHeap rows → AreSpelled rows.ids rows.objects
-objects_spelled rows are = each_row rows.ids 9 (spelled_fact rows.ids) the_bytes (IsSpelled rows.ids)
-    (λ row right fits. row_spells rows.ids 9 row.0 (the_bytes row.1) (omega arith) right fits) rows.objects are.objects
-    (table_fits rows are 9)
+pub objects_kept : (rows : HeapRows) → AreHeap rows → AreObjects rows.ids rows.objects
+objects_kept rows are = each_row rows.ids 9 (object_fact rows.ids) the_bytes (IsObject rows.ids)
+    (λ row right fits. row_keeps rows.ids row.0 (the_bytes row.1) right fits) rows.objects are.objects (table_fits rows are 9)
 
 -- ---- going over rows
 

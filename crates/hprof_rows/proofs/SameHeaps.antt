@@ -6,12 +6,13 @@ use Rattle.hprof_values.specs.declared.root.Root.{Root}
 use Rattle.hprof_items.specs.FactValue.{FactValue, Name, Rooted}
 use Rattle.hprof_rows.specs.declared.table.Table.{Table}
 use Rattle.hprof_rows.specs.declared.table.Table.TheVariants as tables
-use Rattle.hprof_rows.specs.Content.{content_of, load_fact, unload_fact, frame_fact, trace_fact, start_fact, end_fact, spelled_fact}
+use Rattle.hprof_rows.specs.Content.{content_of, load_fact, unload_fact, frame_fact, trace_fact, start_fact, end_fact, spelled_fact, object_fact}
 use Rattle.hprof_rows.specs.Content.{facts_of_rows, AreRight}
 use Rattle.hprof_tables.specs.Spans.{the_bytes}
 use Rattle.hprof_rows.specs.Tables.{facts_of_table, number_of_table, joined}
 use Rattle.hprof_rows.specs.HeapRows.{HeapRows, AreHeap, HaveSameRecords, HaveSameSubs, heap_of_rows, tables_of, no_content, name_facts}
 use Rattle.hprof_rows.specs.HeapRows.{load_facts, unload_facts, frame_facts, trace_facts, start_facts, end_facts, root_facts, spelled_facts}
+use Rattle.hprof_rows.specs.HeapRows.{object_facts}
 use Rattle.hprof_rows.specs.HeapValue.{HeapValue}
 use Rattle.hprof_rows.specs.NumberRows.{load_numbers, frame_numbers, start_numbers}
 use Rattle.hprof_rows.specs.Order.{order_of}
@@ -90,8 +91,8 @@ module _ (one other : HeapRows) where
       let roots : root_facts one.roots ≡ root_facts other.roots = ap root_facts subs.roots in
       let classes : spelled_facts one.ids one.classes ≡ spelled_facts other.ids other.classes =
       ap (spelled_facts one.ids) subs.classes ∙ ap (λ (i : IdSize). spelled_facts i other.classes) ids in
-      let objects : spelled_facts one.ids one.objects ≡ spelled_facts other.ids other.objects =
-      ap (spelled_facts one.ids) subs.objects ∙ ap (λ (i : IdSize). spelled_facts i other.objects) ids in
+      let objects : object_facts one.ids one.objects ≡ object_facts other.ids other.objects =
+      ap (object_facts one.ids) subs.objects ∙ ap (λ (i : IdSize). object_facts i other.objects) ids in
       let facts : tables_of one ≡ tables_of other = cc in
       ap (λ (i : IdSize). with_facts i one.millis (joined (tables_of one))) ids
       ∙ ap (λ (m : ℕ). with_facts other.ids m (joined (tables_of one))) millis
@@ -129,17 +130,17 @@ module _ (one other : HeapRows) where
           (ends_right one.ids one.ends) (ends_right one.ids other.ends) (of_table tables.Ends);
     }
 
-    spelled_same : (table : ℕ) (rows others : List (ℕ × List ℕ)) → AreRight one.ids table (spelled_fact one.ids) the_bytes rows
-        → AreRight other.ids table (spelled_fact other.ids) the_bytes others → spelled_facts one.ids rows
-        ≡ spelled_facts other.ids others → rows ≡ others
-    spelled_same table rows others right more e =
-        same_bytes rows others (same_contents one.ids table (spelled_fact one.ids) the_bytes rows others right
-        (subst (λ (i : IdSize). AreRight i table (spelled_fact i) the_bytes others) (sym one_size) more)
-        (e ∙ ap (λ (i : IdSize). spelled_facts i others) (sym one_size)))
+    same_rows : (table : ℕ) (fact : IdSize → ℕ → List ℕ → FactValue) (rows others : List (ℕ × List ℕ))
+        → AreRight one.ids table (fact one.ids) the_bytes rows → AreRight other.ids table (fact other.ids) the_bytes others
+        → facts_of_rows (fact one.ids) the_bytes rows ≡ facts_of_rows (fact other.ids) the_bytes others → rows ≡ others
+    same_rows table fact rows others right more e =
+        same_bytes rows others (same_contents one.ids table (fact one.ids) the_bytes rows others right
+        (subst (λ (i : IdSize). AreRight i table (fact i) the_bytes others) (sym one_size) more)
+        (e ∙ ap (λ (i : IdSize). facts_of_rows (fact i) the_bytes others) (sym one_size)))
 
     pub subs_same : HaveSameSubs one other
     subs_same = record {
       roots = same_roots one.roots other.roots (of_table tables.Roots);
-      classes = spelled_same 8 one.classes other.classes are.classes others_are.classes (of_table tables.Classes);
-      objects = spelled_same 9 one.objects other.objects are.objects others_are.objects (of_table tables.Objects);
+      classes = same_rows 8 spelled_fact one.classes other.classes are.classes others_are.classes (of_table tables.Classes);
+      objects = same_rows 9 object_fact one.objects other.objects are.objects others_are.objects (of_table tables.Objects);
     }

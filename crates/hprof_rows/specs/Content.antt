@@ -5,12 +5,13 @@ use Rattle.hprof_values.specs.declared.ids.IdSize.{IdSize}
 use Rattle.hprof_values.specs.declared.stop.Stop.{Stop}
 use Rattle.hprof_values.specs.FieldGroups.{exactly, field_bytes}
 use Rattle.hprof_lists.specs.Lists.{id_widths, ids_in}
-use Rattle.hprof_items.specs.FactValue.{FactValue, Name, Load, Unload, Frame, Trace, Start, End}
+use Rattle.hprof_items.specs.FactValue.{FactValue, Name, Load, Unload, Frame, Trace, Start, End, Instance, ObjArray, PrimArray}
 use Rattle.hprof_items.specs.SubRecord.{dump_bytes, sub_at}
+use Rattle.hprof_rows.specs.Kept.{with_id, without_id}
 use Rattle.hprof_rows.specs.NumberRows.{line_numbers}
 use Rattle.hprof_rows.specs.Order.{order_of}
 
--- the content of a fact, without its key; a sub-record is its own spelling
+-- the content of a fact, without its key; that of a sub-record is its spelling, of an instance or an array without the identifier
 abbrev pub content_of : IdSize → FactValue → List ℕ
 content_of ids (Name id text) = text
 content_of ids (Load serial class trace name) = class ∷ trace ∷ name ∷ []
@@ -19,6 +20,9 @@ content_of ids (Frame id method signature source class_serial line) = method ∷
 content_of ids (Trace serial thread frames) = thread ∷ field_bytes (id_widths ids (length frames)) frames
 content_of ids (Start thread object trace name group parent_group) = object ∷ trace ∷ name ∷ group ∷ parent_group ∷ []
 content_of ids (End thread) = []
+content_of ids (Instance id trace class bytes) = without_id ids (dump_bytes ids (Instance id trace class bytes))
+content_of ids (ObjArray id trace class elements) = without_id ids (dump_bytes ids (ObjArray id trace class elements))
+content_of ids (PrimArray id trace elem bytes) = without_id ids (dump_bytes ids (PrimArray id trace elem bytes))
 content_of ids fact = dump_bytes ids fact
 
 -- ---- the fact of a key and a content, of each table
@@ -53,9 +57,13 @@ abbrev pub read_fact : Result (FactValue × ℕ) Stop → FactValue
 read_fact (Ok read) = read.0
 read_fact (Err stop) = Unload 0
 
--- the fact of a sub-record: what is read in its spelling
+-- the fact of a class: what is read in its spelling
 abbrev pub spelled_fact : IdSize → ℕ → List ℕ → FactValue
 spelled_fact ids key content = read_fact (sub_at ids (exactly content) content)
+
+-- that of an instance or an array: what is read with its identifier in front
+abbrev pub object_fact : IdSize → ℕ → List ℕ → FactValue
+object_fact ids key content = spelled_fact ids key (with_id ids key content)
 
 -- ---- rows
 

@@ -10,7 +10,7 @@ use Rattle.hprof_rows.specs.declared.number_rows.FrameRow.{FrameRow}
 use Rattle.hprof_rows.specs.declared.number_rows.StartRow.{StartRow}
 use Rattle.hprof_rows.specs.declared.number_rows.KeyRow.{KeyRow}
 use Rattle.hprof_rows.specs.declared.trace_row.TraceRow.{TraceRow}
-use Rattle.hprof_rows.specs.Content.{load_fact, unload_fact, frame_fact, trace_fact, start_fact, end_fact, spelled_fact, facts_of_rows}
+use Rattle.hprof_rows.specs.Content.{load_fact, unload_fact, frame_fact, trace_fact, start_fact, end_fact, spelled_fact, object_fact, facts_of_rows}
 use Rattle.hprof_rows.specs.Content.{IsRight, AreRight}
 use Rattle.hprof_tables.specs.Spans.{the_bytes}
 use Rattle.hprof_rows.specs.HeapValue.{HeapValue, IsHeap, IsHeap-prop}
@@ -52,6 +52,9 @@ root_facts roots = map Rooted roots
 abbrev pub spelled_facts : IdSize → List (ℕ × List ℕ) → List FactValue
 spelled_facts ids rows = facts_of_rows (spelled_fact ids) the_bytes rows
 
+abbrev pub object_facts : IdSize → List (ℕ × List ℕ) → List FactValue
+object_facts ids rows = facts_of_rows (object_fact ids) the_bytes rows
+
 -- ---- all tables
 
 pub record HeapRows : Type 0 where
@@ -72,7 +75,7 @@ pub record HeapRows : Type 0 where
 abbrev pub tables_of : HeapRows → List (List FactValue)
 tables_of rows =
     name_facts rows.names ∷ load_facts rows.loads ∷ unload_facts rows.unloads ∷ frame_facts rows.frames ∷ trace_facts rows.ids rows.traces
-    ∷ start_facts rows.starts ∷ end_facts rows.ends ∷ root_facts rows.roots ∷ spelled_facts rows.ids rows.classes ∷ spelled_facts
+    ∷ start_facts rows.starts ∷ end_facts rows.ends ∷ root_facts rows.roots ∷ spelled_facts rows.ids rows.classes ∷ object_facts
     rows.ids rows.objects ∷ []
 
 -- the heap that the rows are: the facts of the tables, one after the other
@@ -84,7 +87,7 @@ pub record AreHeap (rows : HeapRows) : Type 0 where
   pub heap : IsHeap (heap_of_rows rows)
   pub traces : AreRight rows.ids 4 (trace_fact rows.ids) trace_content rows.traces
   pub classes : AreRight rows.ids 8 (spelled_fact rows.ids) the_bytes rows.classes
-  pub objects : AreRight rows.ids 9 (spelled_fact rows.ids) the_bytes rows.objects
+  pub objects : AreRight rows.ids 9 (object_fact rows.ids) the_bytes rows.objects
 
 -- ---- two heaps
 

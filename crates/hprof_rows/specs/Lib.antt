@@ -3,6 +3,7 @@ pub mod Order
 pub mod Facts
 pub mod Conflict
 pub mod NumberRows
+pub mod Kept
 pub mod Content
 pub mod Tables
 pub mod TraceRow

@@ -9,14 +9,15 @@ use Rattle.hprof_items.specs.FactValue.{FactValue}
 use Rattle.hprof_rows.specs.declared.table_rows.TableRows.{TableRows}
 use Rattle.hprof_rows.specs.declared.table_rows.TableRows.TheVariants as tables
 use Rattle.hprof_rows.specs.declared.trace_row.TraceRow.{TraceRow}
-use Rattle.hprof_rows.specs.Content.{spelled_fact}
+use Rattle.hprof_rows.specs.Content.{spelled_fact, object_fact}
 use Rattle.hprof_tables.specs.Spans.{the_bytes}
 use Rattle.hprof_rows.specs.Fitting.{DumpFits-prop}
 use Rattle.hprof_rows.specs.HeapRows.{name_facts, load_facts, unload_facts, frame_facts, trace_facts, start_facts, end_facts, root_facts}
-use Rattle.hprof_rows.specs.HeapRows.{spelled_facts}
+use Rattle.hprof_rows.specs.HeapRows.{spelled_facts, object_facts}
 use Rattle.hprof_tables.specs.Rows.{rows_left}
 use Rattle.hprof_tables.specs.BytesTable.{byte_rows_left}
 use Rattle.hprof_rows.specs.Spelled.{Spells}
+use Rattle.hprof_rows.specs.Kept.{KeepsObject}
 use Rattle.hprof_rows.specs.TraceRow.{frames_bytes}
 
 -- ---- rows that can be read back
@@ -33,6 +34,10 @@ IsWhole ids row = HasSerial row × (length (frames_bytes row.1) % width_of ids �
 abbrev pub IsSpelled : IdSize → ℕ × List ℕ → Type 0
 IsSpelled ids row = Spells ids (spelled_fact ids row.0 (the_bytes row.1)) (the_bytes row.1)
 
+-- the bytes are what is kept of the fact of the row
+abbrev pub IsObject : IdSize → ℕ × List ℕ → Type 0
+IsObject ids row = KeepsObject ids row.0 (object_fact ids row.0 (the_bytes row.1)) (the_bytes row.1)
+
 abbrev pub AreSerials : {V : Type 0} → List (ℕ × V) → Type 0
 AreSerials rows = AllByRecursion HasSerial rows
 
@@ -41,6 +46,9 @@ AreWhole ids rows = AllByRecursion (IsWhole ids) rows
 
 abbrev pub AreSpelled : IdSize → List (ℕ × List ℕ) → Type 0
 AreSpelled ids rows = AllByRecursion (IsSpelled ids) rows
+
+abbrev pub AreObjects : IdSize → List (ℕ × List ℕ) → Type 0
+AreObjects ids rows = AllByRecursion (IsObject ids) rows
 
 -- each row that is still to come can be read back
 abbrev pub AreReadable : IdSize → TableRows → Type 0
@@ -53,7 +61,7 @@ AreReadable ids (tables.Starts rows) = AreSerials (rows_left rows)
 AreReadable ids (tables.Ends rows) = AreSerials (rows_left rows)
 AreReadable ids (tables.Roots roots) = ⊤
 AreReadable ids (tables.Classes rows) = AreSpelled ids (byte_rows_left rows)
-AreReadable ids (tables.Objects rows) = AreSpelled ids (byte_rows_left rows)
+AreReadable ids (tables.Objects rows) = AreObjects ids (byte_rows_left rows)
 
 -- ---- their facts
 
@@ -68,7 +76,7 @@ facts_in_rows ids (tables.Starts rows) = start_facts (rows_left rows)
 facts_in_rows ids (tables.Ends rows) = end_facts (rows_left rows)
 facts_in_rows ids (tables.Roots roots) = root_facts roots
 facts_in_rows ids (tables.Classes rows) = spelled_facts ids (byte_rows_left rows)
-facts_in_rows ids (tables.Objects rows) = spelled_facts ids (byte_rows_left rows)
+facts_in_rows ids (tables.Objects rows) = object_facts ids (byte_rows_left rows)
 
 -- ---- there is at most one proof that they can be read back
 
@@ -88,6 +96,12 @@ IsSpelled-prop ids row = hlevel (props, le_prop, DumpFits-prop)
 pub AreSpelled-prop : (ids : IdSize) (rows : List (ℕ × List ℕ)) → IsProp (AreSpelled ids rows)
 AreSpelled-prop ids rows = all-prop (IsSpelled ids) (IsSpelled-prop ids) rows
 
+IsObject-prop : (ids : IdSize) (row : ℕ × List ℕ) → IsProp (IsObject ids row)
+IsObject-prop ids row = hlevel (props, le_prop, DumpFits-prop)
+
+pub AreObjects-prop : (ids : IdSize) (rows : List (ℕ × List ℕ)) → IsProp (AreObjects ids rows)
+AreObjects-prop ids rows = all-prop (IsObject ids) (IsObject-prop ids) rows
+
 pub AreReadable-prop : (ids : IdSize) (rows : TableRows) → IsProp (AreReadable ids rows)
 AreReadable-prop ids (tables.Names rows) = Unit-prop
 AreReadable-prop ids (tables.Loads rows) = AreSerials-prop (rows_left rows)
@@ -98,4 +112,4 @@ AreReadable-prop ids (tables.Starts rows) = AreSerials-prop (rows_left rows)
 AreReadable-prop ids (tables.Ends rows) = AreSerials-prop (rows_left rows)
 AreReadable-prop ids (tables.Roots roots) = Unit-prop
 AreReadable-prop ids (tables.Classes rows) = AreSpelled-prop ids (byte_rows_left rows)
-AreReadable-prop ids (tables.Objects rows) = AreSpelled-prop ids (byte_rows_left rows)
+AreReadable-prop ids (tables.Objects rows) = AreObjects-prop ids (byte_rows_left rows)

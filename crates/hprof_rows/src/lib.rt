@@ -3,6 +3,7 @@
 #![tactic(auto)]
 
 mod facts;
+mod kept;
 mod key;
 mod number_rows;
 mod root_set;
@@ -14,10 +15,11 @@ mod table_rows;
 mod trace_row;
 
 pub use facts::Facts;
+pub use kept::kept_fact;
 pub use key::Key;
 pub use number_rows::{FrameRow, KeyRow, LoadRow, StartRow};
 pub use root_set::RootSet;
-pub use spelled::{spelled_fact, spelled_fact_into};
+pub use spelled::spelled_fact;
 pub use sub_row::SubRow;
 pub use sub_rows::SubRows;
 pub use table::Table;

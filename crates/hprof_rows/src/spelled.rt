@@ -1,4 +1,4 @@
-//! Classes and objects, which are kept as they are spelled.
+//! Classes, which are kept as they are spelled.
 
 ghost use Rattle.std.specs.Prelude.{◌≡◌};
 ghost use Rattle.hprof_items.specs.FactValue.{FactValue, ListsHave, value_of};
@@ -6,20 +6,6 @@ ghost use Rattle.hprof_rows.specs.Spelled.{Spells};
 
 use hprof_items::{Fact, read_sub_into};
 use hprof_values::IdSize;
-
-/// Puts the fact that the bytes of a sub-record spell in the place of another.
-#[inline(always)]
-pub fn spelled_fact_into<'a>(bytes: &'a [u8], ids: IdSize, fact: &mut Fact<'a>)
-    requires { (value : FactValue) × Spells ids value bytes.now }
-    ensures fact { (value : FactValue) → Spells ids value bytes.now → value_of fact.new ≡ value }
-    ensures lists { ListsHave ids fact.new }
-{
-    let len = bytes.len() as u32;
-    match read_sub_into(bytes, len, len, ids, fact) {
-        Ok(_) => {}
-        Err(_) => unreachable!(),
-    }
-}
 
 /// The fact that the bytes of a sub-record spell.
 #[inline(always)]
@@ -29,6 +15,9 @@ pub fn spelled_fact(bytes: &[u8], ids: IdSize) -> Fact<'_>
     ensures lists { ListsHave ids result }
 {
     let mut fact = Fact::End { thread: 0 };
-    spelled_fact_into(bytes, ids, &mut fact);
-    fact
+    let len = bytes.len() as u32;
+    match read_sub_into(bytes, len, len, ids, &mut fact) {
+        Ok(_) => fact,
+        Err(_) => unreachable!(),
+    }
 }

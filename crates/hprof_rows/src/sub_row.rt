@@ -1,6 +1,9 @@
 //! A sub-record, as a heap keeps it.
 
-ghost use Rattle.std.specs.Prelude.{◌≡◌, ◌<◌, ◌≤◌, length};
+ghost use Rattle.std.specs.Prelude.{◌≡◌, ◌+◌, ◌++◌, ◌<◌, ◌≤◌, ◌⊎◌, length, drop, IfSome, None};
+ghost use Rattle.hprof_rows.specs.Content.{object_fact};
+ghost use Rattle.hprof_rows.specs.TableRows.{IsObject};
+ghost use Rattle.hprof_values.specs.Ids.{width_of};
 ghost use Rattle.hprof_devices.specs.declared.health.Health.TheVariants.{Well};
 ghost use Rattle.hprof_devices.specs.Device.{Writes, LeavesHealth};
 ghost use Rattle.hprof_items.specs.Spelling.{longest_body};
@@ -8,20 +11,66 @@ ghost use Rattle.hprof_items.specs.SubRecord.{dump_bytes};
 
 use hprof_devices::{Target, WriteFault, push_all};
 use hprof_items::Fact;
-use hprof_values::{IdSize, Root};
+use hprof_values::{IdSize, Number, Root, put_numbers};
 use hprof_writing::{spelled_len, write_fact};
 
-/// A root, or a class or an object with its bytes.
+/// A root, or a class with its bytes, or an object with what is kept of its bytes.
 #[derive(Clone, Copy)]
 pub enum SubRow<'a> {
     /// A root.
     Root(Root),
-    /// A class or an object.
-    Spelled(&'a [u8]),
+    /// The sub-record of a class.
+    Class(&'a [u8]),
+    /// An instance or an array.
+    Object {
+        /// Its identifier.
+        id: u64,
+        /// Its sub-record without the identifier.
+        kept: &'a [u8],
+    },
+}
+
+/// Puts an instance or an array at the front: its tag with its identifier, and what stands behind them.
+#[inline(always)]
+fn put_object(id: u64, kept: &[u8], ids: IdSize, out: &mut [u8])
+    requires kept { IsObject ids (id, kept.now) }
+    requires room { width_of ids + length kept.now ≤ length out.old }
+    ensures { out.new ≡ dump_bytes ids (object_fact ids id kept.now) ++ drop (width_of ids + length kept.now) out.old }
+{
+    let Some((tag, rest)) = kept.split_first() else {
+        unreachable!()
+    };
+    let (front, behind) = out.split_at_mut(1 + ids.width());
+    put_numbers(&[Number::One(*tag), Number::Id(id)], ids, front);
+    behind[..rest.len()].copy_from_slice(rest);
+}
+
+/// How long a tag with an identifier is at most.
+const FRONT_LEN: usize = 9;
+
+/// Writes an instance or an array: its tag and its identifier in one piece, and then what stands behind them.
+fn write_object<W: Target>(
+    id: u64,
+    kept: &[u8],
+    ids: IdSize,
+    target: &mut W,
+) -> Result<(), WriteFault>
+    requires well { W.health target.old ≡ Well }
+    requires kept { IsObject ids (id, kept.now) }
+    ensures bytes { Writes (W.written target.old) (W.written target.new) result (dump_bytes ids (object_fact ids id kept.now)) }
+    ensures health { LeavesHealth result (W.health target.new) }
+{
+    let Some((tag, rest)) = kept.split_first() else {
+        unreachable!()
+    };
+    let mut front = [0; FRONT_LEN];
+    put_numbers(&[Number::One(*tag), Number::Id(id)], ids, &mut front);
+    push_all(&front[..1 + ids.width()], target)?;
+    push_all(rest, target)
 }
 
 impl SubRow<'_> {
-    ghost use Rattle.hprof_rows.specs.SubRow.{sub_fact, IsWritable};
+    ghost use Rattle.hprof_rows.specs.SubRow.{sub_fact, IsWritable, IsNoObject};
 
     /// The number of its bytes.
     pub fn len(self, ids: IdSize) -> u64
@@ -32,11 +81,31 @@ impl SubRow<'_> {
     {
         match self {
             SubRow::Root(root) => spelled_len(&Fact::Root(root), ids),
-            SubRow::Spelled(bytes) => bytes.len() as u64,
+            SubRow::Class(bytes) => bytes.len() as u64,
+            SubRow::Object { kept, .. } => ids.width() as u64 + kept.len() as u64,
         }
     }
 
-    /// Writes it. A class or an object is written as it lies. At a fault some of it was written, from the front.
+    /// Puts an instance or an array at the front of a place that has room for it, and answers how many bytes it has. All else is not put.
+    #[inline(always)]
+    pub fn put(self, ids: IdSize, out: &mut [u8]) -> Option<usize>
+        requires { IsWritable ids self }
+        ensures put { IfSome result (λ count. (count ≡ length (dump_bytes ids (sub_fact ids self.entry)))
+            × (out.new ≡ dump_bytes ids (sub_fact ids self.entry) ++ drop count out.old)) }
+        ensures not { result ≡ None → (out.new ≡ out.old) × (IsNoObject self.entry ⊎ (length out.old < length (dump_bytes ids (sub_fact ids self.entry)))) }
+    {
+        let SubRow::Object { id, kept } = self else {
+            return None;
+        };
+        let count = ids.width() + kept.len();
+        if out.len() < count {
+            return None;
+        }
+        put_object(id, kept, ids, out);
+        Some(count)
+    }
+
+    /// Writes it. A class is written as it lies. At a fault some of it was written, from the front.
     pub fn write<W: Target>(self, ids: IdSize, target: &mut W) -> Result<(), WriteFault>
         requires well { W.health target.old ≡ Well }
         requires writable { IsWritable ids self }
@@ -45,7 +114,8 @@ impl SubRow<'_> {
     {
         match self {
             SubRow::Root(root) => write_fact(&Fact::Root(root), ids, target),
-            SubRow::Spelled(bytes) => push_all(bytes, target),
+            SubRow::Class(bytes) => push_all(bytes, target),
+            SubRow::Object { id, kept } => write_object(id, kept, ids, target),
         }
     }
 }

@@ -56,6 +56,7 @@ impl<'a> SubRows<'a> {
     }
 
     /// Takes the first.
+    #[inline(always)]
     pub fn next(&mut self) -> Option<SubRow<'a>>
         ensures { YieldsSub self.old result self.new }
     {
@@ -64,11 +65,11 @@ impl<'a> SubRows<'a> {
                 return Some(SubRow::Root(*root));
             }
             if let Some((_id, bytes)) = self.classes.next() {
-                return Some(SubRow::Spelled(bytes));
+                return Some(SubRow::Class(bytes));
             }
             self.at_objects = true;
         }
-        let (_id, bytes) = self.objects.next()?;
-        Some(SubRow::Spelled(bytes))
+        let (id, kept) = self.objects.next()?;
+        Some(SubRow::Object { id, kept })
     }
 }

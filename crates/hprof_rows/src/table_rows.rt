@@ -5,13 +5,14 @@ ghost use Rattle.std.specs.Iterator.{YieldsFirstBy};
 ghost use Rattle.hprof_values.specs.declared.ids.IdSize.{IdSize};
 ghost use Rattle.hprof_items.specs.FactValue.{ListsHave, value_of};
 ghost use Rattle.hprof_rows.specs.HeapRows.{name_facts, load_facts, unload_facts, frame_facts, trace_facts, start_facts, end_facts};
-ghost use Rattle.hprof_rows.specs.HeapRows.{root_facts, spelled_facts};
+ghost use Rattle.hprof_rows.specs.HeapRows.{root_facts, spelled_facts, object_facts};
 ghost use Rattle.hprof_tables.specs.Rows.{rows_left};
 ghost use Rattle.hprof_tables.specs.BytesTable.{byte_rows_left};
-ghost use Rattle.hprof_rows.specs.TableRows.{AreSerials, AreWhole, AreSpelled, AreReadable, facts_in_rows};
+ghost use Rattle.hprof_rows.specs.TableRows.{AreSerials, AreWhole, AreSpelled, AreObjects, AreReadable, facts_in_rows};
 
+use crate::kept::{kept_fact, kept_fact_into};
 use crate::number_rows::{FrameRow, KeyRow, LoadRow, StartRow};
-use crate::spelled::{spelled_fact, spelled_fact_into};
+use crate::spelled::spelled_fact;
 use crate::trace_row::TraceRow;
 use hprof_items::Fact;
 use hprof_tables::{BytesRows, Rows};
@@ -61,7 +62,7 @@ pub(crate) fn next_fact<'a>(rows: &mut TableRows<'a>, ids: IdSize) -> Option<Fac
         TableRows::Ends(rows) => next_end(rows),
         TableRows::Roots(roots) => next_root(roots),
         TableRows::Classes(rows) => next_spelled(rows, ids),
-        TableRows::Objects(rows) => next_spelled(rows, ids),
+        TableRows::Objects(rows) => next_object(rows, ids),
     }
 }
 
@@ -77,13 +78,12 @@ pub(crate) fn next_fact_into<'a>(rows: &mut TableRows<'a>, ids: IdSize, fact: &m
     ensures kept { AreReadable ids rows.new }
 {
     match rows {
-        TableRows::Classes(rows) => next_spelled_into(rows, ids, fact),
-        TableRows::Objects(rows) => next_spelled_into(rows, ids, fact),
+        TableRows::Objects(rows) => next_object_into(rows, ids, fact),
         others => put_next(others, ids, fact),
     }
 }
 
-/// The same, of a fact that is small.
+/// The same, of a fact that is no instance and no array.
 fn put_next<'a>(rows: &mut TableRows<'a>, ids: IdSize, fact: &mut Fact<'a>) -> bool
     requires { AreReadable ids rows.old }
     ensures some { result ≡ true → facts_in_rows ids rows.old ≡ value_of fact.new ∷ facts_in_rows ids rows.new }
@@ -186,24 +186,24 @@ fn next_root<'a>(roots: &mut btree_set::Iter<'a, Root>) -> Option<Fact<'a>>
     Some(Fact::Root(*root))
 }
 
-/// Puts the first class or object in the place of another fact.
+/// Puts the first instance or array in the place of another fact.
 #[inline(always)]
-fn next_spelled_into<'a>(rows: &mut BytesRows<'a>, ids: IdSize, fact: &mut Fact<'a>) -> bool
-    requires { AreSpelled ids (byte_rows_left rows.old) }
-    ensures some { result ≡ true → spelled_facts ids (byte_rows_left rows.old) ≡ value_of fact.new ∷ spelled_facts ids (byte_rows_left rows.new) }
+fn next_object_into<'a>(rows: &mut BytesRows<'a>, ids: IdSize, fact: &mut Fact<'a>) -> bool
+    requires { AreObjects ids (byte_rows_left rows.old) }
+    ensures some { result ≡ true → object_facts ids (byte_rows_left rows.old) ≡ value_of fact.new ∷ object_facts ids (byte_rows_left rows.new) }
     ensures none { result ≡ false
-        → (spelled_facts ids (byte_rows_left rows.old) ≡ []) × (spelled_facts ids (byte_rows_left rows.new) ≡ []) × (fact.new ≡ fact.old) }
+        → (object_facts ids (byte_rows_left rows.old) ≡ []) × (object_facts ids (byte_rows_left rows.new) ≡ []) × (fact.new ≡ fact.old) }
     ensures lists { result ≡ true → ListsHave ids fact.new }
-    ensures kept { AreSpelled ids (byte_rows_left rows.new) }
+    ensures kept { AreObjects ids (byte_rows_left rows.new) }
 {
-    let Some((_id, bytes)) = rows.next() else {
+    let Some((id, kept)) = rows.next() else {
         return false;
     };
-    spelled_fact_into(bytes, ids, fact);
+    kept_fact_into(id, kept, ids, fact);
     true
 }
 
-/// The first class or object.
+/// The first class.
 #[inline(always)]
 fn next_spelled<'a>(rows: &mut BytesRows<'a>, ids: IdSize) -> Option<Fact<'a>>
     requires { AreSpelled ids (byte_rows_left rows.old) }
@@ -213,4 +213,16 @@ fn next_spelled<'a>(rows: &mut BytesRows<'a>, ids: IdSize) -> Option<Fact<'a>>
 {
     let (_id, bytes) = rows.next()?;
     Some(spelled_fact(bytes, ids))
+}
+
+/// The first instance or array.
+#[inline(always)]
+fn next_object<'a>(rows: &mut BytesRows<'a>, ids: IdSize) -> Option<Fact<'a>>
+    requires { AreObjects ids (byte_rows_left rows.old) }
+    ensures first { YieldsFirstBy value_of (λ rows. object_facts ids (byte_rows_left rows)) rows.old result rows.new }
+    ensures lists { IfSome result (ListsHave ids) }
+    ensures kept { AreObjects ids (byte_rows_left rows.new) }
+{
+    let (id, kept) = rows.next()?;
+    Some(kept_fact(id, kept, ids))
 }

@@ -121,6 +121,15 @@ module _ {V : Type 0} where
       AreKeys-weaker (λ other. other < end_of low) (λ other. other < key) low (λ other lt. omega arith)
       (below_end low (ascending_front low upper up))
 
+  -- where the greatest of the rows below the gap is a key or above it, none above the gap has the key
+  pub none_above : (key : ℕ) (low upper : List (ℕ × V)) → IsAscending (low ++ upper) → key < end_of low
+      → AreKeys (λ other. key ≢ other) upper
+  none_above key [] upper up lt = absurd (omega arith)
+  none_above key (row ∷ []) upper up lt =
+      AreKeys-weaker (λ other. row.0 < other) (λ other. key ≢ other) upper (λ other above same. omega arith) (ascending_head row upper up)
+  none_above key (row ∷ next ∷ rows) upper up lt =
+      none_above key (next ∷ rows) upper (ascending_tail row (next ∷ rows ++ upper) up) lt
+
   -- ---- moving the gap
 
   -- the rows stay where one is moved over the gap

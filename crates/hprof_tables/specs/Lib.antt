@@ -4,6 +4,7 @@ pub mod GapRun
 pub mod SortedTable
 pub mod Relation
 pub mod Spans
+pub mod StatedBytes
 pub mod BytesTable
 pub mod SideBySide
 pub mod Rows

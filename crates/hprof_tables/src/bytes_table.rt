@@ -1,13 +1,14 @@
 //! The tables of names, classes and objects: bytes by key.
 
 ghost use Rattle.std.specs.Prelude.{◌≡◌, ◌↔◌, ◌++◌, ◌+◌, ◌<◌, ◌≤◌, ◌⊎◌, List, [], length, IfOk, OnOk, OnErr, IsTrue, Some, None, vec_len};
-ghost use Rattle.std.specs.Prelude.{◌^◌, drop, take, vec_capacity};
+ghost use Rattle.std.specs.Prelude.{◌^◌, ◌∷◌, drop, take, vec_capacity};
 ghost use Rattle.std.specs.Option.{option_copied};
 ghost use Rattle.std.specs.Ordering.{nat_cmp};
 ghost use Rattle.std.specs.BTreeMap.{is_at};
 ghost use Rattle.std.specs.Map.{lookup};
 ghost use Rattle.hprof_tables.specs.Spans.{IsSpanOf, AreSpansOf, AreSpansOf-prop, IsBehind, row_bytes, lying, rows_lying, spare_behind};
 ghost use Rattle.hprof_tables.specs.Spans.{HasFrontRow, framed, front_row, long_length, the_bytes};
+ghost use Rattle.hprof_tables.specs.StatedBytes.{bytes_of};
 ghost use Rattle.hprof_tables.specs.Relation.{contents_of};
 ghost use Rattle.hprof_tables.specs.SortedTable.{entries_of, entries_left};
 
@@ -64,7 +65,7 @@ const MOST_DOUBLED: usize = 268_435_456;
 
 /// Makes room for so many bytes behind others. Where there is none, more is had, for those that follow.
 fn make_room(bytes: &mut Vec<u8>, count: usize) -> Result<(), AllocError>
-    requires small { count < 2 ^ 63 + 9 }
+    requires small { count < 2 ^ 63 + 10 }
     ensures same { bytes.new.items ≡ bytes.old.items }
     ensures ok { OnOk result (vec_len bytes.old + count ≤ vec_capacity bytes.new) }
     ensures full { OnErr result (vec_capacity bytes.old < vec_len bytes.old + count) }
@@ -80,54 +81,104 @@ fn make_room(bytes: &mut Vec<u8>, count: usize) -> Result<(), AllocError>
     bytes.reserve_exact(count + more)
 }
 
+/// A row that is stated: its bytes, the first of which may stand apart from the others.
+#[derive(Clone, Copy)]
+struct StatedBytes<'a> {
+    /// The first, where it stands apart.
+    first: Option<u8>,
+    /// The others.
+    rest: &'a [u8],
+}
+
+impl StatedBytes<'_> {
+    /// The number of its bytes.
+    #[inline(always)]
+    fn len(self) -> usize
+        ensures value { result ≡ length (bytes_of self.entry) }
+        ensures small { result < 2 ^ 63 + 1 }
+    {
+        match self.first {
+            None => self.rest.len(),
+            Some(_) => 1 + self.rest.len(),
+        }
+    }
+
+    /// Whether these are its bytes.
+    #[inline(always)]
+    fn is(self, bytes: &[u8]) -> bool
+        ensures { IsTrue result ↔ (bytes.now ≡ bytes_of self.entry) }
+    {
+        match self.first {
+            None => bytes == self.rest,
+            Some(first) => match bytes.split_first() {
+                None => false,
+                Some((front, behind)) => *front == first && behind == self.rest,
+            },
+        }
+    }
+
+    /// Puts its bytes behind others. There is room for them.
+    #[inline(always)]
+    fn put(self, bytes: &mut Vec<u8>)
+        requires { vec_len bytes.old + length (bytes_of self) ≤ vec_capacity bytes.old }
+        ensures items { bytes.new.items ≡ bytes.old.items ++ bytes_of self.entry }
+        ensures room { vec_capacity bytes.old ≤ vec_capacity bytes.new }
+    {
+        if let Some(first) = self.first {
+            bytes.push_reserved(first);
+        }
+        let Ok(()) = bytes.extend_from_slice(self.rest) else {
+            unreachable!()
+        };
+    }
+}
+
 /// Puts any row behind others: its length, and its bytes. Where there is no room left for them, more is had than they need, for
 /// those that follow.
 #[inline(never)]
-fn append_any(bytes: &mut Vec<u8>, row: &[u8]) -> Result<(), AllocError>
-    ensures ok { IfOk result (λ _. bytes.new.items ≡ bytes.old.items ++ framed row.now) }
+fn append_any(bytes: &mut Vec<u8>, row: StatedBytes<'_>) -> Result<(), AllocError>
+    ensures ok { IfOk result (λ _. bytes.new.items ≡ bytes.old.items ++ framed (bytes_of row.entry)) }
     ensures err { OnErr result (bytes.new.items ≡ bytes.old.items) }
-    ensures full { OnErr result (vec_capacity bytes.old < vec_len bytes.old + length (framed row.now)) }
-    ensures spare { OnOk result (vec_capacity bytes.old < vec_len bytes.old + length (framed row.now)
-        → vec_len bytes.old + (length (framed row.now) + spare_behind (vec_len bytes.old)) ≤ vec_capacity bytes.new) }
+    ensures full { OnErr result (vec_capacity bytes.old < vec_len bytes.old + length (framed (bytes_of row.entry))) }
+    ensures spare { OnOk result (vec_capacity bytes.old < vec_len bytes.old + length (framed (bytes_of row.entry))
+        → vec_len bytes.old + (length (framed (bytes_of row.entry)) + spare_behind (vec_len bytes.old)) ≤ vec_capacity bytes.new) }
     ensures room { vec_capacity bytes.old ≤ vec_capacity bytes.new }
 {
     let len = row.len();
     if len < LONG {
         make_room(bytes, 1 + len)?;
         bytes.push_reserved(len as u8);
-        return bytes.extend_from_slice(row);
+        row.put(bytes);
+        return Ok(());
     }
     make_room(bytes, 9 + len)?;
     bytes.push_reserved(LONG as u8);
     bytes.extend_from_slice(&(len as u64).to_be_bytes())?;
-    bytes.extend_from_slice(row)
+    row.put(bytes);
+    Ok(())
 }
 
 /// Puts a row behind others, as `append_any` does. A short one for which there is room is put there in line.
 #[inline(always)]
-fn append(bytes: &mut Vec<u8>, row: &[u8]) -> Result<(), AllocError>
-    ensures ok { IfOk result (λ _. bytes.new.items ≡ bytes.old.items ++ framed row.now) }
+fn append(bytes: &mut Vec<u8>, row: StatedBytes<'_>) -> Result<(), AllocError>
+    ensures ok { IfOk result (λ _. bytes.new.items ≡ bytes.old.items ++ framed (bytes_of row.entry)) }
     ensures err { OnErr result (bytes.new.items ≡ bytes.old.items) }
-    ensures full { OnErr result (vec_capacity bytes.old < vec_len bytes.old + length (framed row.now)) }
-    ensures spare { OnOk result (vec_capacity bytes.old < vec_len bytes.old + length (framed row.now)
-        → vec_len bytes.old + (length (framed row.now) + spare_behind (vec_len bytes.old)) ≤ vec_capacity bytes.new) }
+    ensures full { OnErr result (vec_capacity bytes.old < vec_len bytes.old + length (framed (bytes_of row.entry))) }
+    ensures spare { OnOk result (vec_capacity bytes.old < vec_len bytes.old + length (framed (bytes_of row.entry))
+        → vec_len bytes.old + (length (framed (bytes_of row.entry)) + spare_behind (vec_len bytes.old)) ≤ vec_capacity bytes.new) }
     ensures room { vec_capacity bytes.old ≤ vec_capacity bytes.new }
-    ensures small { length row.now < 2 ^ 64 }
+    ensures small { length (bytes_of row.entry) < 2 ^ 64 }
 {
     let len = row.len();
     if len < LONG && len < bytes.capacity() - bytes.len() {
         bytes.push_reserved(len as u8);
-        return bytes.extend_from_slice(row);
+        row.put(bytes);
+        return Ok(());
     }
     append_any(bytes, row)
 }
 
-/// Bytes that visit their key: those that lie there are compared with them, and else they are put behind all others.
-#[derive(Clone, Copy)]
-struct StatedBytes<'a> {
-    bytes: &'a [u8],
-}
-
+/// A row that visits its key: the bytes that lie there are compared with its own, and else these are put behind all others.
 impl Visit<Span> for StatedBytes<'_> {
     type Answer = bool;
 
@@ -136,19 +187,19 @@ impl Visit<Span> for StatedBytes<'_> {
 
     ghost held = { λ room. room.items };
 
-    ghost answers = { λ stated held span same. IsSpanOf held span → (IsTrue same ↔ (lying held span ≡ stated.bytes.now)) };
+    ghost answers = { λ stated held span same. IsSpanOf held span → (IsTrue same ↔ (lying held span ≡ bytes_of stated)) };
 
-    ghost makes = { λ stated old span new. (new ≡ old ++ framed stated.bytes.now) × (span.start ≡ length old)
-        × (length stated.bytes.now < 2 ^ 64) };
+    ghost makes = { λ stated old span new. (new ≡ old ++ framed (bytes_of stated)) × (span.start ≡ length old)
+        × (length (bytes_of stated) < 2 ^ 64) };
 
-    ghost refuses = { λ stated room. vec_capacity room < vec_len room + length (framed stated.bytes.now) };
+    ghost refuses = { λ stated room. vec_capacity room < vec_len room + length (framed (bytes_of stated)) };
 
     // None is given back.
     ghost grows = { λ old new. vec_capacity old ≤ vec_capacity new };
 
     fn ask(self, span: &Span, room: &Vec<u8>) -> bool {
         match span.row_in(room) {
-            Some(row) => row == self.bytes,
+            Some(row) => self.is(row),
             None => false,
         }
     }
@@ -156,7 +207,7 @@ impl Visit<Span> for StatedBytes<'_> {
     #[inline(always)]
     fn make(self, room: &mut Vec<u8>) -> Result<Span, AllocError> {
         let start = room.len();
-        append(room, self.bytes)?;
+        append(room, self)?;
         Ok(Span { start })
     }
 }
@@ -179,7 +230,11 @@ fn append_rows(
     let mut spans = Vec::new(alloc);
     spans.reserve_exact(lent.len())?;
     for (key, row) in lent {
-        let span = StatedBytes { bytes: row.0 }.make(bytes)?;
+        let stated = StatedBytes {
+            first: None,
+            rest: row.0,
+        };
+        let span = stated.make(bytes)?;
         spans.push((key, span))?;
     }
     Ok(spans)
@@ -215,6 +270,25 @@ impl BytesTable {
         }
     }
 
+    /// States a row under a key, as [`BytesTable::state`] does.
+    #[inline(always)]
+    fn state_row(&mut self, key: u64, row: StatedBytes<'_>) -> Result<Stated, AllocError>
+        ensures ok { IfOk result (λ stated. States the_bytes (byte_rows self.old) key (bytes_of row.entry) stated (byte_rows self.new)) }
+        ensures err { OnErr result (byte_rows self.new ≡ byte_rows self.old) }
+        ensures absent { OnErr result (lookup (is_at (nat_cmp key)) (byte_rows self.old) ≡ None) }
+        ensures full { OnErr result (LacksRoom self.old.rows key
+            ⊎ (vec_capacity self.old.bytes < vec_len self.old.bytes + length (framed (bytes_of row.entry)))) }
+        ensures kept { IfOk result (λ stated. LeavesBytes stated self.old.bytes self.new.bytes) }
+        ensures put { IfOk result (λ stated. PutsNew stated (bytes_of row.entry) self.old.bytes.items self.new.bytes.items) }
+        ensures left { OnErr result (self.new.bytes.items ≡ self.old.bytes.items) }
+    {
+        match self.rows.visit(key, row, &mut self.bytes)? {
+            None => Ok(Stated::New),
+            Some(true) => Ok(Stated::Same),
+            Some(false) => Ok(Stated::Differs),
+        }
+    }
+
     /// States bytes under a key. A key that is there takes no memory, and keeps its row.
     #[inline(always)]
     pub fn state(&mut self, key: u64, bytes: &[u8]) -> Result<Stated, AllocError>
@@ -227,14 +301,35 @@ impl BytesTable {
         ensures put { IfOk result (λ stated. PutsNew stated bytes.now self.old.bytes.items self.new.bytes.items) }
         ensures left { OnErr result (self.new.bytes.items ≡ self.old.bytes.items) }
     {
-        match self
-            .rows
-            .visit(key, StatedBytes { bytes }, &mut self.bytes)?
-        {
-            None => Ok(Stated::New),
-            Some(true) => Ok(Stated::Same),
-            Some(false) => Ok(Stated::Differs),
-        }
+        self.state_row(
+            key,
+            StatedBytes {
+                first: None,
+                rest: bytes,
+            },
+        )
+    }
+
+    /// States bytes under a key, the first of which stands apart from the others. A key that is there takes no memory, and keeps
+    /// its row.
+    #[inline(always)]
+    pub fn state_apart(&mut self, key: u64, first: u8, rest: &[u8]) -> Result<Stated, AllocError>
+        ensures ok { IfOk result (λ stated. States the_bytes (byte_rows self.old) key (first ∷ rest.now) stated (byte_rows self.new)) }
+        ensures err { OnErr result (byte_rows self.new ≡ byte_rows self.old) }
+        ensures absent { OnErr result (lookup (is_at (nat_cmp key)) (byte_rows self.old) ≡ None) }
+        ensures full { OnErr result (LacksRoom self.old.rows key
+            ⊎ (vec_capacity self.old.bytes < vec_len self.old.bytes + length (framed (first ∷ rest.now)))) }
+        ensures kept { IfOk result (λ stated. LeavesBytes stated self.old.bytes self.new.bytes) }
+        ensures put { IfOk result (λ stated. PutsNew stated (first ∷ rest.now) self.old.bytes.items self.new.bytes.items) }
+        ensures left { OnErr result (self.new.bytes.items ≡ self.old.bytes.items) }
+    {
+        self.state_row(
+            key,
+            StatedBytes {
+                first: Some(first),
+                rest,
+            },
+        )
     }
 
     /// The bytes under a key.

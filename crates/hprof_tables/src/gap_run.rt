@@ -274,10 +274,11 @@ impl<V> GapRun<V> {
     pub(crate) fn get(&self, key: u64) -> Option<&V>
         ensures { option_copied result ≡ row_at key (run_rows self.now) }
     {
-        match self.get_low(key) {
-            Some(row) => Some(row),
-            None => self.get_high(key),
+        // A key stands on one side of the gap alone.
+        if self.ends_below(key) {
+            return self.get_high(key);
         }
+        self.get_low(key)
     }
 
     /// A place below the gap at which a key may stand, or in front of which it lies: looked for from a place on, by doubled steps and then

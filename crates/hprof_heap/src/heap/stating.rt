@@ -123,7 +123,7 @@ impl Heap {
         self.classes.state(id, bytes)
     }
 
-    /// States an instance or an array, which is spelled by these bytes.
+    /// States an instance or an array, which is spelled by these bytes. They are kept without the identifier.
     #[inline(always)]
     fn state_object(&mut self, id: u64, fact: &Fact<'_>, bytes: &[u8]) -> Result<Stated, AllocError>
         requires order { order_of (value_of fact.now) ≡ 9 ∷ id ∷ [] }
@@ -133,7 +133,11 @@ impl Heap {
         ensures err { OnErr result (heap_of self.new ≡ heap_of self.old) }
         ensures absent { OnErr result (IsNewAmong (heap_of self.old).facts (value_of fact.now)) }
     {
-        self.objects.state(id, bytes)
+        let Some((tag, fields)) = bytes.split_first() else {
+            unreachable!()
+        };
+        let (_, rest) = fields.split_at(self.ids.width());
+        self.objects.state_apart(id, *tag, rest)
     }
 
     /// States a fact as [`Heap::state`] does. Few facts are no objects, so this stands apart from the loop over the facts of a part.
@@ -202,6 +206,7 @@ impl Heap {
             }
         }
     }
+
     /// States a fact; the bytes are those of the sub-record that spells it, if it is one of a heap dump. One that is
     /// there takes no memory; where memory is refused, nothing changes.
     #[inline(always)]

@@ -1,4 +1,4 @@
-use Rattle.std.proofs.Common.{[], Some, ap, refl, sym, ◌∙◌, arith, rules}
+use Rattle.std.proofs.Common.{[], Some, ap, refl, sym, ◌∙◌, rules}
 use Rattle.std.specs.Option.{option_map}
 use Rattle.hprof_items.specs.FactValue.{FactValue, value_of, Class}
 use Rattle.hprof_rows.specs.declared.key.Key.TheVariants as keys
@@ -30,7 +30,7 @@ spelled_fact-requires c =
     heap.sound.classes
     (sym c.in_ok-bytes.ensures) in (
       spelled_fact heap.ids c.args.id bytes,
-      row_spells heap.ids 8 c.args.id bytes (omega arith) right
+      row_spells heap.ids c.args.id bytes right
           (found_fits (rows_in heap) (has_key (keys.Class c.args.id)) (spelled_fact heap.ids c.args.id bytes) heap.sound found),
     )
 
@@ -44,7 +44,7 @@ returns-clause-value c =
     let right = right_found heap.ids 8 (spelled_fact heap.ids) the_bytes (byte_rows heap.classes) c.args.id c.in_ok-bytes.bytes.now
     heap.sound.classes
     (sym c.in_ok-bytes.ensures) in
-    let spells = row_spells heap.ids 8 c.args.id bytes (omega arith) right
+    let spells = row_spells heap.ids c.args.id bytes right
     (found_fits (rows_in heap) (has_key (keys.Class c.args.id)) (spelled_fact heap.ids c.args.id bytes) heap.sound found) in
     ap (λ (fact : FactValue). Some fact) (c.spelled_fact.ensures.fact (spelled_fact heap.ids c.args.id bytes) spells) ∙ sym found
 

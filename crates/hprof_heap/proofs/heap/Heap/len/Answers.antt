@@ -1,7 +1,7 @@
 use Rattle.std.proofs.Common.{◌∙◌}
 use Rattle.hprof_items.specs.FactValue.{Name}
 use Rattle.hprof_rows.specs.declared.table.Table.TheVariants as tables
-use Rattle.hprof_rows.specs.Content.{load_fact, unload_fact, frame_fact, trace_fact, start_fact, end_fact, spelled_fact}
+use Rattle.hprof_rows.specs.Content.{load_fact, unload_fact, frame_fact, trace_fact, start_fact, end_fact, spelled_fact, object_fact}
 use Rattle.hprof_tables.specs.Spans.{the_bytes}
 use Rattle.hprof_heap.specs.Heap.{rows_in}
 use Rattle.hprof_rows.specs.HeapRows.{no_content}
@@ -61,4 +61,4 @@ returns-in-Classes c = rw c.in-Classes.is
 pub returns-in-Objects : goal.returns-in-Objects
 returns-in-Objects c = rw c.in-Objects.is
     (table_length (rows_in c.args.self.now) tables.Objects c.len-in-Objects.result c.args.self.now.sound (c.len-in-Objects.ensures
-    ∙ length_rows (spelled_fact c.args.self.now.ids) the_bytes (byte_rows c.args.self.now.objects)))
+    ∙ length_rows (object_fact c.args.self.now.ids) the_bytes (byte_rows c.args.self.now.objects)))

@@ -5,7 +5,7 @@ use Rattle.hprof_tables.specs.Spans.{the_bytes}
 use Rattle.hprof_heap.specs.Heap.{rows_in}
 use Rattle.hprof_rows.specs.HeapRows.{spelled_facts}
 use Rattle.hprof_tables.specs.BytesTable.{byte_rows}
-use Rattle.hprof_rows.proofs.HeapRows.{sub_at_place, spelled_again, spelled_stated, of_key, into_heap, into_heap-sound, unseen_row}
+use Rattle.hprof_rows.proofs.HeapRows.{class_again, class_stated, of_key, into_heap, into_heap-sound, unseen_row}
 use Rattle.hprof_rows.proofs.RowFacts.{rows_tried, rows_kept, tried_right}
 use Rattle.hprof_heap.proofs.heap.Heap.state_class.Goals as goal
 
@@ -16,18 +16,17 @@ invariant_of-self c =
     let old = byte_rows heap.classes in
     let new = byte_rows c.state.new.self in
     let r = c.state.result in
-    let sub = sub_at_place fact 8 c.args.id c.requires.order (omega arith) in
-    let ok = spelled_stated r heap.ids c.args.id fact c.args.bytes.now old new sub c.requires.spelled c.state.ensures.ok in
+    let ok = class_stated r heap.ids c.args.id fact c.args.bytes.now old new c.requires.order c.requires.spelled c.state.ensures.ok in
     record {
       sound = record {
         heap = into_heap-sound r (rows_in heap) heap.sound 8 (spelled_facts heap.ids new) fact
             (of_key 8 c.args.id fact c.requires.order) (omega arith) c.requires.fits
             (rows_tried heap.ids 8 (spelled_fact heap.ids) the_bytes r old new c.args.id fact
-            (record { stands = c.requires.order; again = spelled_again heap.ids c.args.id fact sub c.requires.fits }) heap.sound.classes ok)
+            (record { stands = c.requires.order; again = class_again heap.ids c.args.id fact c.requires.order c.requires.fits }) heap.sound.classes ok)
             (rows_kept heap.ids 8 (spelled_fact heap.ids) the_bytes r old new c.state.ensures.err);
         traces = heap.sound.traces;
         classes = tried_right heap.ids 8 (spelled_fact heap.ids) the_bytes r old new c.args.id fact
-            (record { stands = c.requires.order; again = spelled_again heap.ids c.args.id fact sub c.requires.fits }) heap.sound.classes
+            (record { stands = c.requires.order; again = class_again heap.ids c.args.id fact c.requires.order c.requires.fits }) heap.sound.classes
             ok c.state.ensures.err;
         objects = heap.sound.objects;
       };
@@ -40,12 +39,11 @@ returns-clause-ok c =
     let old = byte_rows heap.classes in
     let new = byte_rows c.state.new.self in
     let r = c.state.result in
-    let sub = sub_at_place fact 8 c.args.id c.requires.order (omega arith) in
-    let ok = spelled_stated r heap.ids c.args.id fact c.args.bytes.now old new sub c.requires.spelled c.state.ensures.ok in
+    let ok = class_stated r heap.ids c.args.id fact c.args.bytes.now old new c.requires.order c.requires.spelled c.state.ensures.ok in
     into_heap r (rows_in heap) heap.sound 8 (spelled_facts heap.ids new) fact (of_key 8 c.args.id fact c.requires.order) (omega arith)
     c.requires.fits
     (rows_tried heap.ids 8 (spelled_fact heap.ids) the_bytes r old new c.args.id fact
-    (record { stands = c.requires.order; again = spelled_again heap.ids c.args.id fact sub c.requires.fits }) heap.sound.classes ok)
+    (record { stands = c.requires.order; again = class_again heap.ids c.args.id fact c.requires.order c.requires.fits }) heap.sound.classes ok)
 
 pub returns-clause-absent : goal.returns-clause-absent
 returns-clause-absent c =

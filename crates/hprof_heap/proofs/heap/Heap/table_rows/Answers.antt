@@ -2,11 +2,11 @@ use Rattle.std.proofs.Common.{ap, sym, subst, ◌∙◌, rules}
 use Rattle.hprof_rows.specs.declared.table.Table.TheVariants as tables
 use Rattle.hprof_heap.specs.Heap.{rows_in}
 use Rattle.hprof_rows.specs.HeapRows.{name_facts, load_facts, unload_facts, frame_facts, trace_facts, start_facts, end_facts, root_facts}
-use Rattle.hprof_rows.specs.HeapRows.{spelled_facts}
-use Rattle.hprof_rows.specs.TableRows.{AreSerials, AreWhole, AreSpelled}
+use Rattle.hprof_rows.specs.HeapRows.{spelled_facts, object_facts}
+use Rattle.hprof_rows.specs.TableRows.{AreSerials, AreWhole, AreSpelled, AreObjects}
 use Rattle.hprof_rows.proofs.HeapRows.{table_facts}
 use Rattle.hprof_rows.proofs.ReadBack.{load_serials, unload_serials, traces_whole, start_serials, end_serials, classes_spelled}
-use Rattle.hprof_rows.proofs.ReadBack.{objects_spelled}
+use Rattle.hprof_rows.proofs.ReadBack.{objects_kept}
 use Rattle.hprof_heap.proofs.heap.Heap.table_rows.Goals as goal
 
 pub returns-in-Names-clause-all : goal.returns-in-Names-clause-all
@@ -88,13 +88,13 @@ returns-in-Classes-clause-readable c =
 pub returns-in-Objects-clause-all : goal.returns-in-Objects-clause-all
 returns-in-Objects-clause-all c =
     let heap = c.args.self.now in
-    rw c.in-Objects.is (ap (spelled_facts heap.ids) c.rows-in-Objects.ensures.all
+    rw c.in-Objects.is (ap (object_facts heap.ids) c.rows-in-Objects.ensures.all
     ∙ sym (table_facts (rows_in heap) tables.Objects heap.sound))
 
 pub returns-in-Objects-clause-readable : goal.returns-in-Objects-clause-readable
 returns-in-Objects-clause-readable c =
     let heap = c.args.self.now in
-    subst (AreSpelled heap.ids) (sym c.rows-in-Objects.ensures.all) (objects_spelled (rows_in heap) heap.sound)
+    subst (AreObjects heap.ids) (sym c.rows-in-Objects.ensures.all) (objects_kept (rows_in heap) heap.sound)
 
 pub returns-in-Frames-clause-readable : goal.returns-in-Frames-clause-readable
 returns-in-Frames-clause-readable c = search rules

@@ -1,5 +1,5 @@
 use Rattle.std.proofs.Common.{rules}
 use Rattle.hprof_rows.proofs.sub_row.SubRow.len.Goals as goal
 
-pub returns-in-Spelled-clause-value : goal.returns-in-Spelled-clause-value
-returns-in-Spelled-clause-value c = search rules
+pub returns-in-Class-clause-value : goal.returns-in-Class-clause-value
+returns-in-Class-clause-value c = search rules

@@ -8,5 +8,5 @@ returns-in-Some c = search rules
 pub returns-in-Some-next : goal.returns-in-Some-next
 returns-in-Some-next c = search rules
 
-pub returns-in_err-_id : goal.returns-in_err-_id
-returns-in_err-_id c = grind (arith, common_steps)
+pub returns-in_err-id : goal.returns-in_err-id
+returns-in_err-id c = grind (arith, common_steps)

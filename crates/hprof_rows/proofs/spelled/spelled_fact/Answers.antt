@@ -1,7 +1,7 @@
 use Rattle.std.proofs.Common.{[], length, sym, ap, ◌∙◌, arith, rules}
 use Rattle.std.proofs.lemmas.List.{append-nil}
 use Rattle.hprof_items.specs.SubRecord.{dump_bytes}
-use Rattle.hprof_rows.proofs.spelled.spelled_fact_into.Goals as goal
+use Rattle.hprof_rows.proofs.spelled.spelled_fact.Goals as goal
 
 pub returns-clause-fact : goal.returns-clause-fact
 returns-clause-fact c = λ fact spells.
