@@ -13,7 +13,7 @@ pub record PutBehind (holds : List Edge → Type 0) (edges : List Edge) (P : Edg
 
 -- ---- a list of edges
 
--- whether an edge is, by what it refers to
+-- whether an edge is wanted, by what it refers to
 abbrev pub is_edge_wanted : Wanted → Edge → Bool
 is_edge_wanted which edge = is_wanted which edge.to
 

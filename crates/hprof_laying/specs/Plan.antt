@@ -43,7 +43,7 @@ pub record IsJump (ids : IdSize) (facts : List FactValue) (slots : List Slot) (j
   pub id : dump.id ≡ jump.class
   pub some : 0 < width_of_slots ids (own_slots dump)
 
--- the first class among the slots that has own fields that refer to something
+-- where laying goes on among the slots, before any of them that refers to something; nowhere only where none does
 abbrev pub IsFirstJump : IdSize → List FactValue → List Slot → Option Jump → Type 0
 IsFirstJump ids facts slots None = NoneRefers slots
 IsFirstJump ids facts slots (Some jump) = IsJump ids facts slots jump
