@@ -194,12 +194,15 @@ fn arrays_wait_in_a_batch(rt: HostRuntime) -> Result<(), Fail> {
     });
     let mut rows = heap.sub_rows();
     let ids = rows.ids();
+    let (Some(root), Some(first), Some(second)) = (rows.next(), rows.next(), rows.next()) else {
+        return Err("less than three".into());
+    };
     let mut batch = Batch::empty();
-    while let Some(row) = rows.next() {
-        equal(&rt, batch.take(row, ids, &mut device), Ok(()));
-    }
-    equal(&rt, batch.write(&mut device), Ok(()));
-    equal(&rt, batch.write(&mut device), Ok(()));
+    holds(&rt, batch.take(root, ids, &mut device).is_ok());
+    holds(&rt, batch.take(first, ids, &mut device).is_ok());
+    holds(&rt, batch.take(second, ids, &mut device).is_ok());
+    holds(&rt, batch.write(&mut device).is_ok());
+    holds(&rt, batch.write(&mut device).is_ok());
     let counted = device.into_inner();
     equal(&rt, counted.writes, 2);
     let expected =
