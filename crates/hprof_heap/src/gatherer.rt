@@ -111,7 +111,7 @@ impl Gatherer {
         requires spelled { SpellsBegun (gathered self.old).begun (value_of fact.now) spelled.now }
         ensures steps { OnOk result (Takes (gathered self.old) (value_of fact.now) (gathered self.new)) }
         ensures stated { IfOk result (λ stated. TellsStated (gathered self.old) (value_of fact.now) stated (gathered self.new)) }
-        ensures begun { OnOk result ((gathered self.new).begun ≡ (gathered self.old).begun) }
+        ensures begun { (gathered self.new).begun ≡ (gathered self.old).begun }
         ensures well { OnOk result (((gathered self.old).failed ≡ false) × ((gathered self.new).failed ≡ false)) }
         // A gatherer that has not failed answers no fault but want of memory, and that only for a fact that is new to its heap.
         ensures err { IfErr result (λ fault. ((gathered self.old).failed ≡ false → (fault ≡ OutOfMemory)

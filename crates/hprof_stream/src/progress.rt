@@ -208,7 +208,7 @@ impl Progress {
     }
 
     /// Steps over the whole sub-records at the front of the bytes, as far as the heap dump record has room left, and answers
-    /// what is behind them. It stands within a heap dump behind that header.
+    /// what is behind them: where it has none, all. That header was read before.
     #[inline(always)]
     fn walk_within<'a, S: Sink>(
         &mut self,

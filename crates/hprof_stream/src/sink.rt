@@ -56,7 +56,7 @@ pub trait Sink {
         requires lists { ListsHaveBegun (begun self.old) fact.now }
         requires spelled { SpellsBegun (begun self.old) (value_of fact.now) spelled.now }
         ensures steps { OnOk result (steps self.old (value_of fact.now) self.new) }
-        ensures begun { OnOk result (begun self.new ≡ begun self.old) }
+        ensures begun { begun self.new ≡ begun self.old }
         ensures well { OnOk result ((failed self.old ≡ false) × (failed self.new ≡ false)) }
         ensures err { IfErr result (λ fault. refuses self.old (value_of fact.now ∷ []) fault self.new × (failed self.new ≡ true)) }
         ensures failed { failed self.old ≡ true → result ≡ Err SinkFault.Failed };
