@@ -34,7 +34,8 @@ impl Batch {
         }
     }
 
-    /// Writes those that wait. At a fault some of them were written, from the front.
+    /// Writes those that wait. At a fault some of them were written, from the front, and nothing is told of what waits: the batch is
+    /// let go then.
     pub fn write<W: Target>(&mut self, target: &mut W) -> Result<(), WriteFault>
         requires { W.health target.old ≡ Well }
         ensures bytes { Writes (W.written target.old) (W.written target.new) result (batch_bytes self.old) }
@@ -86,7 +87,8 @@ impl Batch {
         row.write(ids, target)
     }
 
-    /// Takes a sub-record behind those that wait. At a fault some of all was written, from the front.
+    /// Takes a sub-record behind those that wait. At a fault some of all was written, from the front, and the batch is let go, as
+    /// after [`Batch::write`].
     #[inline(always)]
     pub fn take<W: Target>(
         &mut self,
