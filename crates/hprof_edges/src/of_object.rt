@@ -1,10 +1,11 @@
 //! The edges of an object.
 
-ghost use Rattle.std.specs.Prelude.{◌≡◌, ◌⊎◌, ℕ, List, OnOk};
+ghost use Rattle.std.specs.Prelude.{◌≡◌, ◌↔◌, ◌⊎◌, false, List, IsTrue, IfOk, OnOk};
+ghost use Rattle.hprof_values.specs.declared.ids.IdSize.{IdSize};
 ghost use Rattle.hprof_items.specs.FactValue.{FactValue};
 ghost use Rattle.hprof_lists.specs.Lists.{identifiers_of};
 ghost use Rattle.hprof_finding.specs.ObjectRow.{fact_of_object};
-ghost use Rattle.hprof_laying.specs.Known.{IsOutlineOf, Knows};
+ghost use Rattle.hprof_laying.specs.Known.{HasLayout, Knows};
 ghost use Rattle.hprof_edges.specs.declared.edge.Edge.{Edge};
 ghost use Rattle.hprof_edges.specs.Collecting.{PutBehind};
 ghost use Rattle.hprof_edges.specs.DumpEdges.{IsEdgeToClass, IsElementEdge, IsFieldEdge, IsObjectEdge};
@@ -13,7 +14,7 @@ use crate::collect::Collect;
 use crate::edge::{Edge, Via};
 use crate::putting::{put_edge, put_elements, put_references};
 use hprof_finding::ObjectRow;
-use hprof_laying::{KnownLayouts, Outline, Reference};
+use hprof_laying::{KnownLayouts, Reference};
 use hprof_lists::IdList;
 use hprof_values::IdSize;
 use std::alloc::AllocError;
@@ -39,27 +40,31 @@ pub fn edge_to_class<C: Collect>(object: u64, class: u64, into: &mut C) -> Resul
     Ok(())
 }
 
-/// Puts the edges of an instance by its fields, where its class has a layout of that outline, and it has these bytes. There are
-/// none where the layout has another number of bytes. What collects them is given those that it wants. The references are room
-/// that is used again.
+/// Puts the edges of an instance by its fields, and tells whether the layout of its class is known. Where it is not, nothing is
+/// put; nor where it has another number of bytes than these. What collects them is given those that it wants. The references are
+/// room that is used again.
 #[inline(always)]
 pub fn field_edges<C: Collect>(
     known: &KnownLayouts,
     instance: u64,
-    outline: Outline,
+    class: u64,
     bytes: &[u8],
     ids: IdSize,
     references: &mut Vec<Reference>,
     into: &mut C,
-) -> Result<(), AllocError>
-    ensures holds { OnOk result ((facts : List FactValue) (class : ℕ) (edges : List Edge) → Knows ids facts known.now
-        → IsOutlineOf known.now class outline → C.holds into.old edges
+) -> Result<bool, AllocError>
+    ensures holds { OnOk result ((facts : List FactValue) (edges : List Edge) → Knows ids facts known.now → C.holds into.old edges
         → PutBehind (C.holds into.new) edges (IsFieldEdge ids facts instance class bytes.now)) }
+    ensures known { IfOk result (λ laid. (sizes : IdSize) (facts : List FactValue) → Knows sizes facts known.now
+        → IsTrue laid ↔ HasLayout facts class) }
+    ensures unlaid { IfOk result (λ laid. laid ≡ false → into.new ≡ into.old) }
     ensures keeps { OnOk result (C.keeps into.new ≡ C.keeps into.old) }
 {
-    known.lay(outline, bytes, ids, into.wanted(), references)?;
+    if !known.lay(class, bytes, ids, into.wanted(), references)? {
+        return Ok(false);
+    }
     put_references(instance, references, into)?;
-    Ok(())
+    Ok(true)
 }
 
 /// Puts the edges of an array of objects: to its class, and by its elements. Where memory is refused, nothing holds of what
@@ -101,10 +106,7 @@ pub fn object_edges<C: Collect>(
             ..
         } => {
             edge_to_class(id, class, into)?;
-            let Some(outline) = known.outline(class) else {
-                return Ok(());
-            };
-            field_edges(known, id, outline, bytes, ids, references, into)?;
+            field_edges(known, id, class, bytes, ids, references, into)?;
             Ok(())
         }
         ObjectRow::ObjArray {

@@ -56,8 +56,9 @@ fn edges_of_rows(rt: HostRuntime) -> Result<(), Fail> {
         object_edges(&known, &object, ids, &mut references, &mut list)?;
     }
     edge_to_class(300, 100, &mut list)?;
-    let outline = known.outline(100).ok_or("no layout")?;
-    field_edges(&known, 300, outline, bytes, ids, &mut references, &mut list)?;
+    let laid = field_edges(&known, 300, 100, bytes, ids, &mut references, &mut list)?;
+    let unknown = field_edges(&known, 400, 101, bytes, ids, &mut references, &mut list)?;
+    equal(&rt, (laid, unknown), (true, false));
     let edges = [
         edge(100, Via::Parent, 0, 99),
         edge(200, Via::Class, 0, 100),

@@ -1,6 +1,6 @@
 //! Known layouts, kept as classes come.
 
-ghost use Rattle.std.specs.Prelude.{◌≡◌, ◌≢◌, ◌↔◌, ◌+◌, ◌≤◌, ◌<◌, ◌∷◌, ◌++◌, ℕ, List, [], length, IsTrue, IfNone, IfSome, OnOk, IfOk};
+ghost use Rattle.std.specs.Prelude.{◌≡◌, ◌≢◌, ◌↔◌, ◌+◌, ◌^◌, ◌≤◌, ◌<◌, ◌∷◌, ◌++◌, ℕ, List, [], length, IsTrue, IfNone, IfSome, OnOk, IfOk};
 ghost use Rattle.std.specs.Prelude.{Option, Some, vec_len};
 ghost use Rattle.std.specs.Option.{option_copied};
 ghost use Rattle.hprof_values.specs.declared.ids.IdSize.{IdSize};
@@ -8,10 +8,12 @@ ghost use Rattle.hprof_items.specs.FactValue.{FactValue};
 ghost use Rattle.hprof_finding.specs.ClassRow.{dump_of};
 ghost use Rattle.hprof_finding.specs.Classes.{HasNoDump};
 ghost use Rattle.hprof_layouts.specs.declared.slot.Slot.{Slot};
+ghost use Rattle.hprof_layouts.specs.Fields.{width_of_slots};
 ghost use Rattle.hprof_laying.specs.declared.plan.Plan.{Plan};
 ghost use Rattle.hprof_laying.specs.Known.{ArePlans, AreWoken, HasDumpMore, HasLayout, IsOutlineOf, Knows, plan_of, waiting_below};
-ghost use Rattle.hprof_laying.specs.Plan.{IsOutline, IsPlanBelow};
-ghost use Rattle.hprof_laying.specs.References.{AreWanted};
+ghost use Rattle.hprof_laying.specs.OwnFields.{references_in};
+ghost use Rattle.hprof_laying.specs.Plan.{IsJump, IsOutline, IsPlan, IsPlanBelow};
+ghost use Rattle.hprof_laying.specs.References.{AreWanted, wanted_of};
 ghost use Rattle.hprof_laying.specs.Waking.{CanWake, IsWaking, Wakes, number_waiting, put};
 
 use crate::own_fields::{OwnLayout, own_fields};
@@ -62,12 +64,9 @@ impl KnownLayouts {
         class == 0 || self.plans.contains_key(class)
     }
 
-    /// The outline of the layout of a class, if it is known: laying its instances begins with it. The class is looked up once.
-    #[inline(always)]
-    pub fn outline(&self, class: u64) -> Option<Outline>
+    /// The outline of the layout of a class, if it is known: those of the classes below it are made with it.
+    fn outline(&self, class: u64) -> Option<Outline>
         ensures some { IfSome result (λ outline. IsOutlineOf self.now class outline) }
-        ensures known { IfSome result (λ outline. (ids : IdSize) (facts : List FactValue) → Knows ids facts self.now → HasLayout facts class) }
-        ensures unknown { IfNone result ((ids : IdSize) (facts : List FactValue) → Knows ids facts self.now → HasLayout facts class → ⊥) }
         ensures ready { IfNone result (CanWake (plan_of self.now) class → ⊥) }
     {
         match self.plans.get(class) {
@@ -195,44 +194,94 @@ impl KnownLayouts {
         Some(plan)
     }
 
-    /// Puts what an instance of a class refers to that has this outline and these bytes, as far as it is wanted, in the place of
-    /// other references, in the order of its fields. There is nothing where the layout has another number of bytes. The error
-    /// is that memory was refused; nothing holds then of the references.
-    #[inline(always)]
-    pub fn lay(
+    /// Puts what slots refer to behind other references, as far as it is wanted. The bytes are their values, so many fields stand
+    /// before them, and none of them refers to anything before the class that the jump goes to.
+    fn lay_above(
         &self,
-        outline: Outline,
+        first: Jump,
+        bytes: &[u8],
+        ids: IdSize,
+        place: u64,
+        wanted: Wanted,
+        references: &mut Vec<Reference>,
+    ) -> Result<(), AllocError>
+        ensures { OnOk result ((facts : List FactValue) (slots : List Slot) → Knows ids facts self.now → IsJump ids facts slots first
+            → width_of_slots ids slots ≡ length bytes.now → place + length slots < 2 ^ 64
+            → references.new.items ≡ references.old.items ++ wanted_of wanted (references_in ids place slots bytes.now)) }
+    {
+        let mut jump = first;
+        let mut rest = bytes;
+        let mut before = place;
+        loop {
+            let Some(plan) = self.landing(jump, rest.len()) else {
+                return Ok(());
+            };
+            let (_, landed) = rest.split_at(jump.offset);
+            let start = before.saturating_add(jump.place);
+            plan.own
+                .push_references(landed, ids, start, wanted, references)?;
+            let Some(above) = plan.above else {
+                return Ok(());
+            };
+            (_, rest) = landed.split_at(plan.own.width);
+            before = start.saturating_add(plan.own.count);
+            jump = above;
+        }
+    }
+
+    /// Puts what an instance refers to behind other references, as far as it is wanted. Its class has the plan, and its slots
+    /// these bytes.
+    #[inline(always)]
+    fn lay_plan(
+        &self,
+        plan: &Plan,
         bytes: &[u8],
         ids: IdSize,
         wanted: Wanted,
         references: &mut Vec<Reference>,
     ) -> Result<(), AllocError>
-        ensures { OnOk result ((facts : List FactValue) (class : ℕ) → Knows ids facts self.now → IsOutlineOf self.now class outline
+        ensures { OnOk result ((facts : List FactValue) (class : ℕ) (slots : List Slot) → Knows ids facts self.now
+            → IsPlan ids facts class slots plan.now → width_of_slots ids slots ≡ length bytes.now
+            → references.new.items ≡ references.old.items ++ wanted_of wanted (references_in ids 0 slots bytes.now)) }
+    {
+        plan.own.push_references(bytes, ids, 0, wanted, references)?;
+        // Most instances end here.
+        let Some(jump) = plan.above else {
+            return Ok(());
+        };
+        let Some((_, rest)) = bytes.split_at_checked(plan.own.width) else {
+            return Ok(());
+        };
+        self.lay_above(jump, rest, ids, plan.own.count, wanted, references)?;
+        Ok(())
+    }
+
+    /// Puts what an instance of a class refers to that has these bytes, as far as it is wanted, in the place of other
+    /// references, in the order of its fields, and tells whether the layout of the class is known. Where it is not, or has
+    /// another number of bytes, there is nothing. The class is looked up once. The error is that memory was refused; nothing
+    /// holds then of the references.
+    #[inline(always)]
+    pub fn lay(
+        &self,
+        class: u64,
+        bytes: &[u8],
+        ids: IdSize,
+        wanted: Wanted,
+        references: &mut Vec<Reference>,
+    ) -> Result<bool, AllocError>
+        ensures wanted { OnOk result ((facts : List FactValue) → Knows ids facts self.now
             → AreWanted ids facts class bytes.now wanted references.new.items) }
+        ensures known { IfOk result (λ known. (sizes : IdSize) (facts : List FactValue) → Knows sizes facts self.now
+            → IsTrue known ↔ HasLayout facts class) }
     {
         references.clear();
-        if outline.width != bytes.len() as u128 {
-            return Ok(());
+        let Some(plan) = self.plans.get(class) else {
+            // The layout of class 0 has no slots.
+            return Ok(class == 0);
+        };
+        if plan.width == bytes.len() as u128 {
+            self.lay_plan(plan, bytes, ids, wanted, references)?;
         }
-        let mut next = outline.first;
-        let mut rest = bytes;
-        let mut place: u64 = 0;
-        while let Some(jump) = next {
-            let Some(plan) = self.landing(jump, rest.len()) else {
-                return Ok(());
-            };
-            let (_, landed) = rest.split_at(jump.offset);
-            let start = place.saturating_add(jump.place);
-            plan.own
-                .push_references(landed, ids, start, wanted, references)?;
-            // Most instances end here.
-            let Some(above) = plan.above else {
-                return Ok(());
-            };
-            (_, rest) = landed.split_at(plan.own.width);
-            place = start.saturating_add(plan.own.count);
-            next = Some(above);
-        }
-        Ok(())
+        Ok(true)
     }
 }

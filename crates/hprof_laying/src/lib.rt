@@ -10,5 +10,4 @@ mod reference;
 
 pub use known::KnownLayouts;
 pub use of_heap::known_layouts;
-pub use plan::Outline;
 pub use reference::{Reference, Wanted, refers};

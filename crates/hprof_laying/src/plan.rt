@@ -22,9 +22,9 @@ pub(crate) struct Jump {
     pub(crate) place: u64,
 }
 
-/// What laying the instances of a class begins with, and what the classes below it need of its layout.
+/// What the classes below a class need of its layout.
 #[derive(Clone, Copy, Debug, PartialEq, Eq)]
-pub struct Outline {
+pub(crate) struct Outline {
     /// How many bytes all slots have; the greatest number stands for all from it on.
     pub(crate) width: u128,
     /// The first class along the chain that has own fields that refer to something.
@@ -47,7 +47,6 @@ pub(crate) struct Plan {
 
 impl Jump {
     /// The same class from own fields of so many bytes on that stand before.
-    #[inline(always)]
     fn behind(self, own: &OwnLayout) -> Jump
         ensures { result ≡ jump_behind own.now self }
     {
@@ -101,7 +100,6 @@ impl Plan {
     }
 
     /// What the classes below the class need.
-    #[inline(always)]
     pub(crate) fn outline(&self, class: u64) -> Outline
         ensures { result ≡ outline_of class self.now }
     {

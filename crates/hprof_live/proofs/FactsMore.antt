@@ -1,7 +1,7 @@
 -- What is derived when a fact is added.
 use Rattle.std.specs.Prelude.{◌↔◌, ◌≢◌, nat_eq, ⊤}
 use Rattle.std.specs.List.{IsDistinct}
-use Rattle.std.proofs.Common.{◌≡◌, ℕ, ◌+◌, ◌-◌, ◌^◌, ◌⊎◌, min, List, [], ◌∷◌, ◌++◌, Bor, Contains, Some, refl, sym, ap, subst, ◌∙◌}
+use Rattle.std.proofs.Common.{◌≡◌, ℕ, ◌+◌, ◌-◌, ◌^◌, ◌⊎◌, min, List, [], ◌∷◌, ◌++◌, Bor, Contains, Some, Vec, Global, refl, sym, ap, subst, ◌∙◌}
 use Rattle.std.proofs.Common.{inl, inr}
 use Rattle.std.proofs.lemmas.Bool.{cases_eq}
 use Rattle.std.proofs.lemmas.List.Elements.{Contains-append_left, Contains-push, Contains-push_cases}
@@ -13,6 +13,7 @@ use Rattle.hprof_items.specs.FactValue.{FactValue, Class, Instance, ObjArray, va
 use Rattle.hprof_rows.specs.declared.key.Key.TheVariants as keys
 use Rattle.hprof_finding.specs.Classes.{ClassDump, HasDump, HasNoDump, fact_of_dump}
 use Rattle.hprof_laying.specs.declared.known.KnownLayouts.{KnownLayouts}
+use Rattle.hprof_laying.specs.declared.reference.Reference.{Reference}
 use Rattle.hprof_laying.specs.Known.{AreWoken, HasDumpMore, HasLayout, Knows}
 use Rattle.hprof_laying.specs.Waking.{put}
 use Rattle.hprof_laying.proofs.KnownPlans.{knows_same}
@@ -348,7 +349,7 @@ module _ (ids : IdSize) (before facts : List FactValue) (instance trace class : 
     }
 
     -- or it waits
-    module _ (unknown : HasLayout facts class → ⊥) (waiting : WaitingInstances)
+    module _ (unknown : HasLayout facts class → ⊥) (references : Vec Reference Global) (waiting : WaitingInstances)
         (waits : waiting_of waiting ≡ put (waiting_of derived.waiting) class (waiting_of derived.waiting class ++ instance ∷ [])) where
       here : (of : ℕ) → of ≡ class → waiting_of waiting of ≡ waiting_of derived.waiting class ++ instance ∷ []
       here of same =
@@ -412,7 +413,8 @@ module _ (ids : IdSize) (before facts : List FactValue) (instance trace class : 
         | inr apart ↦ subst (IsDistinct nat_eq) (sym (elsewhere of apart)) (is.deriving_is.waits_once of)
       ]
 
-      pub instance_waits : IsDerived ids facts (record derived { set = set; instances = instances; waiting = waiting })
+      pub instance_waits : IsDerived ids facts
+          (record derived { set = set; references = references; instances = instances; waiting = waiting })
       instance_waits =
           let now = instance_came in
           record {

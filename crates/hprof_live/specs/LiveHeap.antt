@@ -67,7 +67,7 @@ pub record IsCurrent (live : LiveHeap) : Type 0 where
 abbrev pub KeepsTo : LiveHeap → ℕ → Type 0
 KeepsTo live id = (edge : Edge) → edge.to ≡ id → keeps_of live.derived edge ≡ true
 
--- no others are kept; what it keeps stays, as it goes on
+-- no others are kept
 abbrev pub KeepsOnly : LiveHeap → ℕ → Type 0
 KeepsOnly live id = (edge : Edge) → keeps_of live.derived edge ≡ true → edge.to ≡ id
 

@@ -1,6 +1,6 @@
 //! What is derived from facts: known layouts, edges, and how many instances there are.
 
-ghost use Rattle.std.specs.Prelude.{◌≡◌, ◌≤◌, ◌++◌, ◌∷◌, ℕ, true, List, [], Contains, OnOk, drop, vec_len};
+ghost use Rattle.std.specs.Prelude.{◌≡◌, ◌↔◌, ◌≤◌, ◌++◌, ◌∷◌, ℕ, true, false, List, [], Contains, IsTrue, IfOk, OnOk, drop, vec_len};
 ghost use Rattle.hprof_values.specs.declared.ids.IdSize.{IdSize};
 ghost use Rattle.hprof_items.specs.FactValue.{FactValue, Instance, ObjArray, value_of};
 ghost use Rattle.hprof_lists.specs.Lists.{identifiers_of};
@@ -8,7 +8,7 @@ ghost use Rattle.hprof_rows.specs.Facts.{Has};
 ghost use Rattle.hprof_finding.specs.HeapFacts.{facts_of, size_of};
 ghost use Rattle.hprof_finding.specs.ClassRow.{dump_of};
 ghost use Rattle.hprof_finding.specs.Classes.{fact_of_dump};
-ghost use Rattle.hprof_laying.specs.Known.{HasLayout, IsOutlineOf};
+ghost use Rattle.hprof_laying.specs.Known.{HasLayout, Knows};
 ghost use Rattle.hprof_edges.specs.declared.edge.Edge.{Edge};
 ghost use Rattle.hprof_edges.specs.Collecting.{is_edge_wanted};
 ghost use Rattle.hprof_edges.specs.Edges.{AreEdges, AreReferrers};
@@ -26,7 +26,7 @@ use hprof_edges::{Edge, array_edges, class_edges, edge_to_class, field_edges};
 use hprof_finding::{ClassRow, ObjectRow, find_object, id_size, table_len, to_class_row};
 use hprof_heap::{Heap, Table};
 use hprof_items::Fact;
-use hprof_laying::{KnownLayouts, Outline, Reference, Wanted};
+use hprof_laying::{KnownLayouts, Reference, Wanted};
 use hprof_lists::IdList;
 use hprof_values::IdSize;
 use std::alloc::{AllocError, Global};
@@ -62,7 +62,7 @@ impl Derived {
     pub(crate) fn cuts(&self, heap: &Heap) -> u64
         ensures { IsDerived (size_of heap.now) (facts_of heap.now) self.now → IsNumberOf (CanBeLaid (facts_of heap.now)) result }
     {
-        // They are no more than the objects: that is told with their number.
+        // The number of objects is no greater than a count may be, so neither is this one, which never stopped.
         let _objects = table_len(heap, Table::Objects);
         self.cuts
     }
@@ -71,7 +71,7 @@ impl Derived {
     pub(crate) fn unresolved(&self, heap: &Heap) -> u64
         ensures { IsDerived (size_of heap.now) (facts_of heap.now) self.now → IsNumberOf (CannotBeLaid (facts_of heap.now)) result }
     {
-        // They are no more than the objects: that is told with their number.
+        // As in `cuts`, neither count stopped.
         let _objects = table_len(heap, Table::Objects);
         self.instances.saturating_sub(self.cuts)
     }
@@ -90,7 +90,7 @@ impl Derived {
         bring_behind(&mut self.set.edges, id)
     }
 
-    /// The edges from a place on.
+    /// The edges that are kept, from a place on.
     pub(crate) fn edges_from(&self, start: usize) -> &[Edge]
         requires { start ≤ vec_len self.now.set.edges }
         ensures { result.now ≡ drop start (edges_in self.now.set) }
@@ -108,53 +108,38 @@ impl Derived {
         Index { edges }
     }
 
-    /// Lays the layout of its class, which has that outline, over the bytes of an instance, and counts it: nothing else does.
+    /// Lays the layout of its class over the bytes of an instance, if it is known, and counts the instance then: nothing else
+    /// does. It tells whether it was laid.
     #[inline(always)]
     fn lay(
         &mut self,
         ids: IdSize,
         instance: u64,
-        outline: Outline,
+        class: u64,
         bytes: &[u8],
-    ) -> Result<(), AllocError>
-        ensures lays { OnOk result ((facts : List FactValue) (laid gone : List ℕ) (trace class : ℕ)
-            → IsOutlineOf self.old.known class outline → Has facts (Instance instance trace class bytes.now) → HasLayout facts class
-            → (Contains laid instance → ⊥)
+    ) -> Result<bool, AllocError>
+        ensures lays { OnOk result ((facts : List FactValue) (laid gone : List ℕ) (trace : ℕ)
+            → Has facts (Instance instance trace class bytes.now) → HasLayout facts class → (Contains laid instance → ⊥)
             → IsDeriving ids facts self.old laid gone → IsDeriving ids facts self.new (laid ++ instance ∷ []) gone) }
+        ensures known { IfOk result (λ is_laid. (sizes : IdSize) (facts : List FactValue) → Knows sizes facts self.old.known
+            → IsTrue is_laid ↔ HasLayout facts class) }
+        ensures unlaid { IfOk result (λ is_laid. is_laid ≡ false → self.new ≡ record self.old { references = self.new.references }) }
         ensures keeps { OnOk result (keeps_of self.new ≡ keeps_of self.old) }
     {
-        field_edges(
+        let is_laid = field_edges(
             &self.known,
             instance,
-            outline,
+            class,
             bytes,
             ids,
             &mut self.references,
             &mut self.set,
         )?;
+        if !is_laid {
+            return Ok(false);
+        }
         self.cuts = self.cuts.saturating_add(1);
-        Ok(())
-    }
-
-    /// Lays the layout of its class, which is looked up, over the bytes of an instance.
-    fn lay_by_class(
-        &mut self,
-        ids: IdSize,
-        instance: u64,
-        class: u64,
-        bytes: &[u8],
-    ) -> Result<(), AllocError>
-        ensures lays { OnOk result ((facts : List FactValue) (laid gone : List ℕ) (trace : ℕ)
-            → Has facts (Instance instance trace class bytes.now) → HasLayout facts class → (Contains laid instance → ⊥)
-            → IsDeriving ids facts self.old laid gone → IsDeriving ids facts self.new (laid ++ instance ∷ []) gone) }
-        ensures keeps { OnOk result (keeps_of self.new ≡ keeps_of self.old) }
-    {
-        let Some(outline) = self.known.outline(class) else {
-            // What is laid has a class whose layout is known.
-            return Ok(());
-        };
-        self.lay(ids, instance, outline, bytes)?;
-        Ok(())
+        Ok(true)
     }
 
     /// Lays an instance that waited, which is looked up.
@@ -167,7 +152,8 @@ impl Derived {
     {
         match find_object(heap, instance) {
             Some(ObjectRow::Instance { class, bytes, .. }) => {
-                self.lay_by_class(id_size(heap), instance, class, bytes)
+                self.lay(id_size(heap), instance, class, bytes)?;
+                Ok(())
             }
             // What waits is an instance.
             _ => Ok(()),
@@ -233,9 +219,8 @@ impl Derived {
         Ok(())
     }
 
-    /// Takes an instance that is new to the heap. It stands apart from [`Derived::add`], so that this one stays small enough to
-    /// stand in the loop over the facts of a part.
-    #[inline(never)]
+    /// Takes an instance that is new to the heap.
+    #[inline(always)]
     fn add_instance(
         &mut self,
         ids: IdSize,
@@ -250,15 +235,14 @@ impl Derived {
     {
         edge_to_class(instance, class, &mut self.set)?;
         self.instances = self.instances.saturating_add(1);
-        let Some(outline) = self.known.outline(class) else {
-            self.waiting.add(class, instance)?;
+        if self.lay(ids, instance, class, bytes)? {
             return Ok(());
-        };
-        self.lay(ids, instance, outline, bytes)?;
+        }
+        self.waiting.add(class, instance)?;
         Ok(())
     }
 
-    /// Takes an array of objects that is new to the heap. It stands apart as [`Derived::add_instance`] does.
+    /// Takes an array of objects that is new to the heap. It stands apart from [`Derived::add`], in which few registers are left.
     #[inline(never)]
     fn add_array(&mut self, array: u64, class: u64, elements: &IdList<'_>) -> Result<(), AllocError>
         ensures adds { OnOk result ((ids : IdSize) (before facts : List FactValue) (trace : ℕ)

@@ -7,7 +7,7 @@ ghost use Rattle.hprof_rows.specs.Facts.{Has};
 ghost use Rattle.hprof_edges.specs.declared.edge.Edge.{Edge};
 ghost use Rattle.hprof_edges.specs.Edges.{AreReferrers};
 
-/// What refers to an identifier only grows with more facts, as long as they agree.
+/// What refers to an identifier only grows with more facts.
 pub fn referrers_only_grow()
     ensures { (ids : IdSize) (facts more : List FactValue) (id : ℕ) (edges others : List Edge) (edge : Edge)
         → ((fact : FactValue) → Has facts fact → Has more fact) → AreReferrers ids facts id edges → AreReferrers ids more id others

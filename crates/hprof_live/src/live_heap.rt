@@ -107,7 +107,7 @@ impl LiveHeap {
         }
     }
 
-    /// How many instances there are whose class has a known layout. Each of them was laid once.
+    /// How many instances there are whose class has a known layout: each of them is laid once, and counted then.
     pub fn cuts(&self) -> Live<u64>
         ensures { IsCurrent self.now → IsAnswer (λ ids facts number. IsNumberOf (CanBeLaid facts) number) (outcome_of self.now) result }
     {
@@ -132,7 +132,7 @@ impl LiveHeap {
         }
     }
 
-    /// The edges from a place on.
+    /// What is answered of the edges that are kept, from a place on.
     fn lend_edges(&self, start: usize) -> Live<&[Edge]>
         requires { start ≤ vec_len self.now.derived.set.edges }
         ensures { IsAnswer (λ ids facts edges. edges.now ≡ drop start (edges_in self.now.derived.set)) (outcome_of self.now) result }
@@ -144,8 +144,8 @@ impl LiveHeap {
         }
     }
 
-    /// The edges to an identifier that is watched, in order, each once; there are none to 0, nor any to an identifier that is not
-    /// watched, unless they are kept all the same. They are lent, and no memory is taken. Nothing that is told of the live heap changes.
+    /// The edges to an identifier that is watched, in order, each once; there are none to 0. Of another identifier, those of the
+    /// edges to it that are kept. They are lent, and no memory is taken. Nothing that is told of the live heap changes.
     pub fn referrers_now(&mut self, id: u64) -> Live<&[Edge]>
         ensures* rests { sem 𝓛 (RestsAsItIs self.entry) }
         ensures value { Watches self.old id

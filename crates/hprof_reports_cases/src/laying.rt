@@ -22,36 +22,30 @@ fn layouts_of_a_heap(rt: HostRuntime) -> Result<(), Fail> {
         known.knows(101),
     );
     equal(&rt, found, (true, true, true, false));
-    let outline = known.outline(100).ok_or("no layout")?;
     let mut references = Vec::new(rt.alloc());
-    known.lay(outline, BYTES, IdSize::Four, Wanted::All, &mut references)?;
+    let laid = known.lay(100, BYTES, IdSize::Four, Wanted::All, &mut references)?;
     let refer = [Reference { place: 1, to: 201 }];
+    equal(&rt, laid && references.as_slice() == refer.as_slice(), true);
+    known.lay(100, BYTES, IdSize::Four, Wanted::To(201), &mut references)?;
     equal(&rt, references.as_slice() == refer.as_slice(), true);
-    known.lay(
-        outline,
-        BYTES,
-        IdSize::Four,
-        Wanted::To(201),
-        &mut references,
-    )?;
-    equal(&rt, references.as_slice() == refer.as_slice(), true);
-    known.lay(
-        outline,
-        BYTES,
-        IdSize::Four,
-        Wanted::To(202),
-        &mut references,
-    )?;
+    known.lay(100, BYTES, IdSize::Four, Wanted::To(202), &mut references)?;
     equal(&rt, references.len(), 0);
-    known.lay(
-        outline,
-        &BYTES[1..],
-        IdSize::Four,
-        Wanted::All,
-        &mut references,
-    )?;
+    known.lay(100, &BYTES[1..], IdSize::Four, Wanted::All, &mut references)?;
     equal(&rt, references.len(), 0);
     holds(&rt, refers(Basic::Array) && !refers(Basic::Long));
+    Ok(())
+}
+
+#[test]
+fn instances_without_a_class(rt: HostRuntime) -> Result<(), Fail> {
+    let known = KnownLayouts::new(rt.alloc());
+    let mut references = Vec::new(rt.alloc());
+    references.push(Reference { place: 1, to: 201 })?;
+    let laid = known.lay(101, BYTES, IdSize::Four, Wanted::All, &mut references)?;
+    equal(&rt, (laid, references.len()), (false, 0));
+    // The layout of class 0 has no slots.
+    let laid = known.lay(0, BYTES, IdSize::Four, Wanted::All, &mut references)?;
+    equal(&rt, (laid, references.len()), (true, 0));
     Ok(())
 }
 

@@ -4,7 +4,7 @@ use Rattle.hprof_finding.specs.declared.object_row.ObjectRow.{ObjectRow}
 use Rattle.hprof_finding.specs.ObjectRow.{fact_of_object}
 use Rattle.hprof_edges.specs.Collecting.{PutBehind}
 use Rattle.hprof_edges.specs.DumpEdges.{IsEdgeToClass, IsFieldEdge, IsObjectEdge}
-use Rattle.hprof_edges.proofs.PutTogether.{put_both, put_nothing}
+use Rattle.hprof_edges.proofs.PutTogether.{put_both}
 use Rattle.hprof_edges.proofs.of_object.object_edges.Goals as goal
 
 pub returns-in_ok-field_edges-in-Instance-clause-holds : goal.returns-in_ok-field_edges-in-Instance-clause-holds
@@ -16,19 +16,7 @@ returns-in_ok-field_edges-in-Instance-clause-holds g c = λ facts edges knows he
     (IsFieldEdge c.args.ids facts at.id at.class at.bytes.now)
     (IsObjectEdge c.args.ids facts (Instance at.id at.trace at.class at.bytes.now))
     (c.in_ok-edge_to_class-in-Instance.ensures.holds edges held)
-    (λ longer held_more. c.in_ok-field_edges-in-Instance.ensures.holds facts at.class longer knows c.in-Some.ensures.some held_more)
-    (λ edge. (λ is. is, λ is. is)))
-
-pub returns-in_default-clause-holds : goal.returns-in_default-clause-holds
-returns-in_default-clause-holds g c = λ facts edges knows held.
-    let at = c.in-Instance in
-    let after = g.C.Collect.holds c.edge_to_class.new.into in
-    subst (λ (row : ObjectRow). PutBehind after edges (IsObjectEdge c.args.ids facts (fact_of_object row))) (sym at.is)
-    (put_both edges after after (IsEdgeToClass at.id at.class) (IsFieldEdge c.args.ids facts at.id at.class at.bytes.now)
-    (IsObjectEdge c.args.ids facts (Instance at.id at.trace at.class at.bytes.now))
-    (c.in_ok-edge_to_class-in-Instance.ensures.holds edges held)
-    (λ longer held_more. put_nothing longer after (IsFieldEdge c.args.ids facts at.id at.class at.bytes.now) held_more
-    (λ edge is. c.in_default.ensures.unknown c.args.ids facts knows (is.reference.values_are.slots, is.reference.values_are.known)))
+    (λ longer held_more. c.in_ok-field_edges-in-Instance.ensures.holds facts longer knows held_more)
     (λ edge. (λ is. is, λ is. is)))
 
 pub returns-in_ok-array_edges-in-ObjArray-clause-holds : goal.returns-in_ok-array_edges-in-ObjArray-clause-holds
