@@ -2,13 +2,14 @@
 
 use crate::expecting::equal;
 use crate::samples::{
-    BYTE, BYTES, INT_AND_OBJECT, Shape, check_counts, check_layout, check_referrers, class_of,
-    edge, give, instance_of, sized_class_of,
+    BYTE, BYTES, INT_AND_OBJECT, Shape, check_counts, check_layout, check_referrers, check_slots,
+    class_of, edge, give, instance_of, sized_class_of, slot_of,
 };
 use hprof_edges::{Edge, Via};
 use hprof_heap::{Key, Refusal};
 use hprof_items::Fact;
 use hprof_live::{Live, LiveHeap, laws};
+use hprof_values::Basic;
 use std::alloc::Global;
 use std::process::Abort;
 use std::test::*;
@@ -28,12 +29,22 @@ fn check_waiting(
     Ok(())
 }
 
+// That the layout of the class 100 has these slots.
+fn check_slots_of_100(rt: &impl Abort, alloc: Global, live: &LiveHeap) -> Result<(), Fail> {
+    let slots = [
+        slot_of(100, 5, Basic::Int),
+        slot_of(100, 6, Basic::Object),
+        slot_of(99, 7, Basic::Byte),
+    ];
+    check_slots(rt, alloc, live, 100, &slots)
+}
+
 // That the instance was laid.
 pub(crate) fn check_laid(rt: &impl Abort, alloc: Global, live: &mut LiveHeap) -> Result<(), Fail> {
     let to_class = [edge(200, Via::Class, 0, 100)];
     let by_field = [edge(200, Via::Field, 1, 201)];
     let to_parent = [edge(100, Via::Parent, 0, 99)];
-    check_layout(rt, alloc, live, 100, Live::Is(Shape::Known(3)))?;
+    check_slots_of_100(rt, alloc, live)?;
     check_counts(rt, live, Live::Is(0), Live::Is(1));
     check_referrers(rt, live, 201, Live::Is(&by_field));
     check_referrers(rt, live, 100, Live::Is(&to_class));
@@ -142,6 +153,7 @@ fn circle(rt: HostRuntime) -> Result<(), Fail> {
     give(alloc, &mut live, &lower_class()?)?;
     check_layout(&rt, alloc, &live, 100, Live::Is(Shape::Missing(99)))?;
     check_counts(&rt, &live, Live::Is(0), Live::Is(0));
+    check_referrers(&rt, &mut live, 201, Live::Is(&[]));
     give(alloc, &mut live, &instance_of(200, 100, BYTES))?;
     check_waiting(&rt, alloc, &mut live, Shape::Missing(99))?;
     let upper = class_of(99, 100, BYTE).ok_or("no class")?;
@@ -172,6 +184,19 @@ fn given_twice(rt: HostRuntime) -> Result<(), Fail> {
     let late = class_of(98, 99, BYTE).ok_or("no class")?;
     give(alloc, &mut live, &late)?;
     check_layout(&rt, alloc, &live, 98, Live::Is(Shape::Known(2)))?;
+    check_counts(&rt, &live, Live::Is(0), Live::Is(1));
+    Ok(())
+}
+
+// After the instance was laid, a class that nothing waits for, and the instance again.
+#[test]
+fn given_after_all(rt: HostRuntime) -> Result<(), Fail> {
+    let alloc = rt.alloc();
+    let mut live = instance_first(&rt, alloc)?;
+    let apart = class_of(300, 0, b"").ok_or("no class")?;
+    give(alloc, &mut live, &apart)?;
+    check_counts(&rt, &live, Live::Is(0), Live::Is(1));
+    give(alloc, &mut live, &instance_of(200, 100, BYTES))?;
     check_counts(&rt, &live, Live::Is(0), Live::Is(1));
     Ok(())
 }

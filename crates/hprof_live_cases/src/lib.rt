@@ -12,6 +12,8 @@ mod late;
 #[cfg(test)]
 mod orders;
 #[cfg(test)]
+mod plain_list;
+#[cfg(test)]
 mod refusals;
 #[cfg(test)]
 mod samples;

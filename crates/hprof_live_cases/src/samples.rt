@@ -6,10 +6,11 @@ use crate::expecting::equal_at;
 use hprof_devices::Device;
 use hprof_edges::{Edge, Via};
 use hprof_items::{Fact, Header, IdSize, Step, Version, read_sub};
-use hprof_layouts::Layout;
+use hprof_layouts::{Layout, Slot};
 use hprof_lists::{ConstantList, FieldList, IdList, StaticList};
 use hprof_live::{Live, LiveHeap};
-use hprof_stream::Sink;
+use hprof_stream::{Sink, SinkFault};
+use hprof_values::Basic;
 use hprof_writing::{fits, write_fact};
 use std::alloc::{AllocError, Global};
 use std::process::Abort;
@@ -26,7 +27,8 @@ pub(crate) fn header_of(ids: IdSize) -> Header
     }
 }
 
-// Gives the fact of a sub-record to a sink, in a part of its own.
+// Gives the fact of a sub-record to a sink, in a part of its own. A sink that refuses it has failed, and answers so when it is given
+// the fact once more.
 pub(crate) fn give<S: Sink>(alloc: Global, sink: &mut S, fact: &Fact<'_>) -> Result<(), Fail> {
     let ids = IdSize::Four;
     if !fits(fact, ids) {
@@ -42,7 +44,11 @@ pub(crate) fn give<S: Sink>(alloc: Global, sink: &mut S, fact: &Fact<'_>) -> Res
     };
     let (spelled, _) = bytes.split_at(len);
     sink.begin_part(header_of(ids))?;
-    sink.take(&read, spelled)?;
+    let taken = sink.take(&read, spelled);
+    if taken.is_err() && sink.take(&read, spelled) != Err(SinkFault::Failed) {
+        return Err("it goes on".into());
+    }
+    taken?;
     Ok(())
 }
 
@@ -68,6 +74,32 @@ pub(crate) fn sized_class_of(id: u64, parent: u64, fields: &[u8], size: u32) -> 
 // The same, of size 0.
 pub(crate) fn class_of(id: u64, parent: u64, fields: &[u8]) -> Option<Fact<'_>> {
     sized_class_of(id, parent, fields, 0)
+}
+
+// A class with these constants, static fields and own fields.
+pub(crate) fn class_with<'a>(
+    id: u64,
+    parent: u64,
+    [loader, signers, domain]: [u64; 3],
+    constants: &'a [u8],
+    statics: &'a [u8],
+    fields: &'a [u8],
+) -> Option<Fact<'a>> {
+    let ids = IdSize::Four;
+    Some(Fact::Class {
+        id,
+        trace: 1,
+        parent,
+        loader,
+        signers,
+        domain,
+        reserved1: 0,
+        reserved2: 0,
+        size: 0,
+        constants: ConstantList::new(constants, ids)?,
+        statics: StaticList::new(statics, ids)?,
+        fields: FieldList::new(fields, ids)?,
+    })
 }
 
 pub(crate) fn instance_of(id: u64, class: u64, bytes: &[u8]) -> Fact<'_> {
@@ -106,6 +138,10 @@ pub(crate) fn edge(from: u64, via: Via, position: u64, to: u64) -> Edge {
     }
 }
 
+pub(crate) fn slot_of(class: u64, name: u64, basic: Basic) -> Slot {
+    Slot { class, name, basic }
+}
+
 // A layout, without its slots.
 #[derive(Clone, Copy, Debug, PartialEq, Eq)]
 pub(crate) enum Shape {
@@ -124,7 +160,15 @@ fn shape_of(layout: Live<Layout>) -> Live<Shape> {
     }
 }
 
-// That this is the layout of a class so far. Where memory is refused it is asked for again.
+// The layout of a class so far. Where memory is refused it is asked for again.
+fn layout_of(alloc: Global, live: &LiveHeap, class: u64) -> Result<Live<Layout>, AllocError> {
+    if let Ok(layout) = live.layout_now(alloc, class) {
+        return Ok(layout);
+    }
+    live.layout_now(alloc, class)
+}
+
+// That this is the layout of a class so far.
 pub(crate) fn check_layout(
     rt: &impl Abort,
     alloc: Global,
@@ -132,11 +176,23 @@ pub(crate) fn check_layout(
     class: u64,
     expected: Live<Shape>,
 ) -> Result<(), Fail> {
-    let layout = match live.layout_now(alloc, class) {
-        Ok(layout) => layout,
-        Err(_) => live.layout_now(alloc, class)?,
-    };
+    let layout = layout_of(alloc, live, class)?;
     equal_at(rt, class, shape_of(layout), expected);
+    Ok(())
+}
+
+// That the layout of a class so far is known, and has these slots.
+pub(crate) fn check_slots(
+    rt: &impl Abort,
+    alloc: Global,
+    live: &LiveHeap,
+    class: u64,
+    expected: &[Slot],
+) -> Result<(), Fail> {
+    let Live::Is(Layout::Known(slots)) = layout_of(alloc, live, class)? else {
+        return Err("no known layout".into());
+    };
+    equal_at(rt, class, slots.as_slice(), expected);
     Ok(())
 }
 
