@@ -1,7 +1,10 @@
 //! The report `refs`: what refers to an identifier.
 
 use crate::expecting::equal;
-use crate::samples::{CLASS_99, CLASS_100, INSTANCE_200, expect_refs, part_of, reader_of};
+use crate::samples::{
+    CLASS_99, CLASS_100, INSTANCE_200, expect_read_refs, expect_refs, part_of, reader_of,
+    readers_of,
+};
 use hprof_devices::Device;
 use hprof_engine::ToolFault;
 use hprof_heap::Key;
@@ -9,8 +12,39 @@ use hprof_reports::refs_to;
 use hprof_stream::Limits;
 use std::test::Fail;
 
+/// What refers to each identifier where instance 200 and its classes are known.
+const LATE: [(u64, &str); 5] = [
+    (201, "c8 field 1\n"),
+    (100, "c8 class 0\n"),
+    (99, "64 super 0\n"),
+    (200, ""),
+    (0, ""),
+];
+
 #[test]
 fn late_classes(rt: HostRuntime) -> Result<(), Fail> {
+    let instance = part_of(rt.alloc(), &[], &[INSTANCE_200])?;
+    let class = part_of(rt.alloc(), &[], &[CLASS_100])?;
+    let above = part_of(rt.alloc(), &[], &[CLASS_99])?;
+    let orders: [[&[u8]; 3]; 6] = [
+        [&instance, &class, &above],
+        [&instance, &above, &class],
+        [&class, &instance, &above],
+        [&class, &above, &instance],
+        [&above, &instance, &class],
+        [&above, &class, &instance],
+    ];
+    for parts in orders {
+        for (id, report) in LATE {
+            let mut readers = readers_of(rt.alloc(), parts)?;
+            expect_read_refs(&rt, rt.alloc(), &mut readers, id, report)?;
+        }
+    }
+    Ok(())
+}
+
+#[test]
+fn late_classes_in_one_part(rt: HostRuntime) -> Result<(), Fail> {
     let orders: [[&[u8]; 3]; 6] = [
         [INSTANCE_200, CLASS_100, CLASS_99],
         [INSTANCE_200, CLASS_99, CLASS_100],
@@ -21,13 +55,7 @@ fn late_classes(rt: HostRuntime) -> Result<(), Fail> {
     ];
     for subs in orders {
         let part = part_of(rt.alloc(), &[], &subs)?;
-        for (id, report) in [
-            (201, "c8 field 1\n"),
-            (100, "c8 class 0\n"),
-            (99, "64 super 0\n"),
-            (200, ""),
-            (0, ""),
-        ] {
+        for (id, report) in LATE {
             expect_refs(&rt, rt.alloc(), &part, id, report)?;
         }
     }
@@ -61,6 +89,7 @@ fn what_a_class_refers_to(rt: HostRuntime) -> Result<(), Fail> {
         (2, "64 signers 0\n"),
         (3, "64 domain 0\n"),
         (7, ""),
+        (0, ""),
     ] {
         expect_refs(&rt, rt.alloc(), &part, id, report)?;
     }

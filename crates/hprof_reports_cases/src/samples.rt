@@ -76,6 +76,21 @@ pub(crate) fn reader_of<'a>(
     Ok(readers)
 }
 
+/// Devices that read the three parts.
+pub(crate) fn readers_of<'a>(
+    alloc: Global,
+    parts: [&'a [u8]; 3],
+) -> Result<Vec<Device<&'a [u8]>>, AllocError>
+    ensures { IfOk result (λ readers. All (λ reader. health_of reader ≡ Well) readers.items) }
+{
+    let [one, two, three] = parts;
+    let mut readers = Vec::new(alloc);
+    readers.push(Device::new(one))?;
+    readers.push(Device::new(two))?;
+    readers.push(Device::new(three))?;
+    Ok(readers)
+}
+
 /// The heap that the part states.
 pub(crate) fn heap_of(alloc: Global, part: &[u8]) -> Result<Heap, Fail> {
     let mut readers = reader_of(alloc, part)?;
@@ -111,8 +126,21 @@ pub(crate) fn expect_refs(
     report: &str,
 ) -> Result<(), Fail> {
     let mut readers = reader_of(alloc, part)?;
+    expect_read_refs(rt, alloc, &mut readers, id, report)
+}
+
+/// Checks that this is the report on what refers to an identifier in the parts that are read.
+pub(crate) fn expect_read_refs(
+    rt: &impl Abort,
+    alloc: Global,
+    readers: &mut [Device<&[u8]>],
+    id: u64,
+    report: &str,
+) -> Result<(), Fail>
+    requires { All (λ reader. health_of reader ≡ Well) readers.old }
+{
     let mut target = Device::new(Vec::new(alloc));
-    let answer = refs_to(alloc, &mut readers, id, &mut target, Limits::usual());
+    let answer = refs_to(alloc, readers, id, &mut target, Limits::usual());
     equal_at(rt, id, answer, Ok(()));
     let bytes = target.into_inner();
     equal_text(rt, &bytes, report)
