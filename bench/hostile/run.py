@@ -19,6 +19,7 @@ import subprocess
 import sys
 import tempfile
 import time
+from functools import partial
 from pathlib import Path
 
 HERE = Path(__file__).resolve().parent
@@ -196,27 +197,32 @@ def path_cases(less):
     ]
 
 
+def slots(count):
+    """A test of what refers to the target in a chain of so many classes: each field of the instance."""
+    return ends("4c4b40 field 0", f"4c4b40 field {count - 1}", count)
+
+
+# For each order the least count, and for a count the title, the dump, what is asked for, and the test.
+ORDERS = [
+    (100_000, "{:,} classes, ascending", lambda count: laid_chain(count, range(1, count + 1)), TARGET, slots),
+    (100_000, "{:,} classes, descending", lambda count: laid_chain(count, range(count, 0, -1)), TARGET, slots),
+    (100_000, "a circle of {:,} classes, closed last", closed_last, 1,
+     lambda count: ends(f"{count:x} super 0", f"{999_999 + count:x} class 0", count + 1)),
+    (100_000, "a circle of {:,} classes, its fields", closed_last, TARGET, lambda count: lambda lines: lines == []),
+    (250_000, "{:,} instances, their class last", waiting, TARGET,
+     lambda count: ends("2 field 0", f"{count + 1:x} field 0", count)),
+    (1_250_000, "{:,} referrers in descending order", many_referrers, 5_000_001,
+     lambda count: ends("1 element 0", f"{count:x} element 0", count)),
+]
+
+
 def refs_cases(less):
-    """What refers to one object, or to one class."""
-    million = 1_000_000 // less
-    target = f"{TARGET:x}"
-    cases = [
-        ("5,000,000 referrers in descending order", lambda: many_referrers(5 * million), ["refs", f"{5_000_001:x}"],
-         ends("1 element 0", f"{5 * million:x} element 0", 5 * million)),
-        ("1,000,000 instances, their class last", lambda: waiting(million), ["refs", target],
-         ends("2 field 0", f"{million + 1:x} field 0", million)),
-        ("a circle of 100,000 classes, closed last", lambda: closed_last(million // 10), ["refs", "1"],
-         ends(f"{million // 10:x} super 0", f"{1_000_000 + million // 10 - 1:x} class 0", million // 10 + 1)),
-        ("a circle of 100,000 classes, its fields", lambda: closed_last(million // 10), ["refs", target],
-         lambda lines: lines == []),
+    """What refers to an object or a class: of each order three sizes, each of which is twice the one before."""
+    return [
+        (title.format(count), partial(make, count // less), ["refs", f"{number:x}"], test(count // less))
+        for least, title, make, number, test in ORDERS
+        for count in (least, 2 * least, 4 * least)
     ]
-    for count in (100_000, 200_000, 400_000):
-        for order, ids in (("ascending", range(1, count // less + 1)), ("descending", range(count // less, 0, -1))):
-            cases.append(
-                (f"{count:,} classes, {order}", lambda ids=ids: laid_chain(len(ids), ids), ["refs", target],
-                 ends("4c4b40 field 0", f"4c4b40 field {len(ids) - 1}", len(ids)))
-            )
-    return cases
 
 
 def run_case(folder, title, make, words, test):

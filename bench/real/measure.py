@@ -4,11 +4,12 @@
 For each collector and size: `hprof join` takes the dump; joined again it gives the same bytes; cut into five parts with
 all records and sub-records in any order, some repeated, it gives the same bytes; and the plain program writes the same.
 So it is with `join101`; with `salvage` too, which also takes the dump cut short at 20 random places, and prints where. Each report of
-the dump, of its canonical dump and of the five parts prints what the plain program does, for those that ask for an identifier with
-some ten classes, instances and arrays of either kind each; `path` and `refs` are asked of fewer. Then it runs both programs in
-turn and prints the fastest times, the peak memories and the ratios.
+the dump, of its canonical dump and of the five parts prints what the plain program does. Ten classes, instances and arrays of either
+kind each are drawn at random, by the seed: the dump is asked for all of them by `object` and `refs`, and for three of each by `path`;
+the canonical dump and the five parts for the first two of each. Then it runs both programs in turn and prints the fastest times, the
+peak memories and the ratios; what asks for an identifier asks for the first array of objects that was drawn.
 
-    bench/real/measure.py [--turns N] [--commands WORD,..] [MEGABYTES..]       (5 turns; all commands; 1 10 100)
+    bench/real/measure.py [--turns N] [--seed N] [--commands WORD,..] [MEGABYTES..]    (5 turns; seed 1; all commands; 1 10 100)
 
 It needs the built program (`rt run` in crates/hprof leaves it as crates/hprof/out/hprof), java, javac and rustc. It is no
 part of the gate. 1,000 megabytes take about 6 GB of memory and 10 GB of disk.
@@ -55,8 +56,10 @@ def report(program, out, parts, *words):
 
 JOINS = ["join", "join101", "salvage"]
 REPORTS = ["check", "histo"]
-# Those that ask for an identifier, and of about how many of each kind.
-ASKING = {"object": 10, "path": 3, "refs": 3}
+# Those that ask for an identifier, and for how many of each kind that were drawn.
+ASKING = {"object": 10, "path": 3, "refs": 10}
+# For how many of these the canonical dump and the five parts are asked too.
+EVERYWHERE = 2
 COMMANDS = [*JOINS, *REPORTS, *ASKING]
 # How much is left of a dump where it is cut short: 20 random shares, the same in each run.
 FRONTS = [random.Random(place).random() for place in range(20)]
@@ -67,10 +70,16 @@ def check_same(one, other, what):
         sys.exit(f"{what}: other bytes")
 
 
-def sample(folder, dump, count):
-    """Identifiers of every kind, about so many of each: of classes, of instances, of arrays of objects and of arrays of values."""
-    words = [folder / "plain", "sample", str(count), dump]
-    return subprocess.run(words, check=True, capture_output=True, text=True).stdout.split()
+def drawn(folder, dump, count, seed):
+    """Identifiers of each kind at random, so many of each: of classes, of instances, of arrays of objects and of arrays of values."""
+    words = [folder / "plain", "sample", str(seed), str(count), dump]
+    printed = subprocess.run(words, check=True, capture_output=True, text=True).stdout
+    return [line.split() for line in printed.splitlines()]
+
+
+def sample(folder, dump, count, seed=1):
+    """The same, of all kinds in one list."""
+    return [id for ids in drawn(folder, dump, count, seed) for id in ids]
 
 
 def check_join(folder, dump, parts, word):
@@ -103,9 +112,30 @@ def check_salvage(folder, dump):
         path.unlink()
 
 
-def check(folder, dump, commands):
-    """Checks what is written, and leaves nothing behind."""
-    once, twice, other = (folder / name for name in ("once", "twice", "other"))
+def asked_for(command, kinds):
+    """The words that ask for each identifier, and whether they are asked of the canonical dump and the parts too."""
+    return [([command, id], place < EVERYWHERE) for ids in kinds for place, id in enumerate(ids[:ASKING[command]])]
+
+
+def check_report(folder, parts, words):
+    """Checks what a report prints of the parts."""
+    ours, other = folder / "twice", folder / "other"
+    report(PROGRAM, ours, parts, *words)
+    report(folder / "plain", other, parts, *words)
+    check_same(ours, other, "the report of the plain program, " + " ".join(words))
+
+
+def check_reports(folder, dump, parts, commands, kinds):
+    """Checks what the reports print of the dump, of its canonical dump, which is `once`, and of the parts."""
+    asked = [([word], True) for word in REPORTS if word in commands]
+    asked += [words for word in ASKING if word in commands for words in asked_for(word, kinds)]
+    for words, everywhere in asked:
+        for read in ([dump], [folder / "once"], parts) if everywhere else ([dump],):
+            check_report(folder, read, words)
+
+
+def check(folder, dump, commands, kinds):
+    """Checks what is written, with these identifiers of each kind, and leaves nothing behind."""
     parts = [folder / f"part{index}" for index in range(5)]
     subprocess.run([folder / "recut", dump, *parts], check=True)
     # The join is the last, since its dump is what the reports are made of.
@@ -114,16 +144,8 @@ def check(folder, dump, commands):
             check_join(folder, dump, parts, word)
     if "salvage" in commands:
         check_salvage(folder, dump)
-    asked = [[word] for word in REPORTS if word in commands]
-    for word, count in ASKING.items():
-        if word in commands:
-            asked += [[word, id] for id in sample(folder, dump, count)]
-    for words in asked:
-        for checked in ([dump],) if len(words) > 1 else ([dump], [once], parts):
-            report(PROGRAM, twice, checked, *words)
-            report(folder / "plain", other, checked, *words)
-            check_same(twice, other, "the report of the plain program, " + " ".join(words))
-    for path in (once, twice, other, folder / "cut", *parts):
+    check_reports(folder, dump, parts, commands, kinds)
+    for path in (*(folder / name for name in ("once", "twice", "other", "cut")), *parts):
         path.unlink()
 
 
@@ -157,19 +179,16 @@ def dump_of(folder, collector, megabytes):
     return dump
 
 
-def work_of(folder, dump, command):
-    """What runs a command: a join, a report, or one on an identifier in the middle of all."""
+def work_of(command, id):
+    """What runs a command: a join, or a report, which asks for the identifier if it asks for one."""
     if command in JOINS:
         return lambda program, out, parts: join(program, out, parts, command)
-    words = [command]
-    if command in ASKING:
-        asked = sample(folder, dump, 10)
-        words.append(asked[len(asked) // 2])
+    words = [command, id] if command in ASKING else [command]
     return lambda program, out, parts: report(program, out, parts, *words)
 
 
-def print_row(folder, collector, dump, turns, command):
-    (ours, plain), peaks = measure(folder, dump, turns, work_of(folder, dump, command))
+def print_row(folder, collector, dump, turns, command, id):
+    (ours, plain), peaks = measure(folder, dump, turns, work_of(command, id))
     size = dump.stat().st_size
     print(
         f"| {collector} | {size / 1e6:.1f} MB | {command} | {ours:.3f} s | {plain:.3f} s | {ours / plain:.2f} "
@@ -181,6 +200,7 @@ def print_row(folder, collector, dump, turns, command):
 def main():
     words = argparse.ArgumentParser()
     words.add_argument("--turns", type=int, default=5)
+    words.add_argument("--seed", type=int, default=1)
     words.add_argument("--commands", default=",".join(COMMANDS))
     words.add_argument("megabytes", type=int, nargs="*", default=[1, 10, 100])
     words = words.parse_args()
@@ -193,9 +213,10 @@ def main():
         for megabytes in words.megabytes:
             for collector in COLLECTORS:
                 dump = dump_of(folder, collector, megabytes)
-                check(folder, dump, commands)
+                kinds = drawn(folder, dump, max(ASKING.values()), words.seed)
+                check(folder, dump, commands, kinds)
                 for command in commands:
-                    print_row(folder, collector, dump, words.turns, command)
+                    print_row(folder, collector, dump, words.turns, command, kinds[2][0])
 
 
 if __name__ == "__main__":

@@ -7,7 +7,7 @@
 //!     plain check PART..
 //!     plain histo PART..
 //!     plain object ID PART..         (and refs, path)
-//!     plain sample COUNT PART..      (identifiers, about so many of classes, of instances, and of either kind of array)
+//!     plain sample SEED COUNT PART.. (identifiers at random, so many of classes, of instances, and of either kind of array)
 
 use std::collections::btree_map::Entry;
 use std::collections::{BTreeMap, BTreeSet};
@@ -15,10 +15,12 @@ use std::env;
 use std::fs::File;
 use std::io::{self, BufWriter, Read, Write};
 
+mod dice;
 mod format;
 mod graph;
 mod reports;
 mod text;
+use dice::Dice;
 use format::{HEAD_LEN, HEADER_LEN, number, refuse, sub_len};
 
 const PIECE_LEN: usize = 65_536;
@@ -352,16 +354,29 @@ fn id_of(word: &str) -> u64 {
     u64::from_str_radix(word, 16).unwrap_or_else(|_| refuse("not an identifier"))
 }
 
-/// Prints identifiers of every kind, about so many of each, spread over all.
-fn sample(heap: &Heap, count: usize, out: &mut impl Write) -> io::Result<()> {
+fn count_of(word: &str) -> u64 {
+    word.parse().unwrap_or_else(|_| refuse("not a number"))
+}
+
+/// So many of the identifiers in any order, none of them twice; all where there are fewer.
+fn drawn(mut ids: Vec<u64>, count: usize, dice: &mut Dice) -> Vec<u64> {
+    let count = count.min(ids.len());
+    for place in 0..count {
+        let other = place + dice.below(ids.len() - place);
+        ids.swap(place, other);
+    }
+    ids.truncate(count);
+    ids
+}
+
+/// Prints identifiers that are drawn at random, so many of each kind, with a line for each kind.
+fn sample(heap: &Heap, seed: u64, count: usize, out: &mut impl Write) -> io::Result<()> {
     let kind = |tag: u8| heap.objects.iter().filter(move |(_, bytes)| bytes[0] == tag).map(|(id, _)| *id).collect();
     let kinds: [Vec<u64>; 4] = [heap.classes.keys().copied().collect(), kind(0x21), kind(0x22), kind(0x23)];
+    let mut dice = Dice(seed);
     for ids in kinds {
-        // Some way behind the beginning of each stretch, so that not the same ones are first everywhere.
-        let stride = (ids.len() / count).max(1);
-        for id in ids.iter().skip(stride * 2 / 3).step_by(stride) {
-            writeln!(out, "{id:x}")?;
-        }
+        let words: Vec<String> = drawn(ids, count, &mut dice).iter().map(|id| format!("{id:x}")).collect();
+        writeln!(out, "{}", words.join(" "))?;
     }
     Ok(())
 }
@@ -380,7 +395,10 @@ fn main() {
         }
         "histo" => write_out(stdout(), read(1).1, |heap, out| reports::histo(heap, out)),
         "object" => write_out(stdout(), read(2).1, |heap, out| reports::object(heap, id_of(&words[1]), out)),
-        "sample" => write_out(stdout(), read(2).1, |heap, out| sample(heap, words[1].parse().unwrap_or(1), out)),
+        "sample" => {
+            let (seed, count) = (count_of(&words[1]), count_of(&words[2]) as usize);
+            write_out(stdout(), read(3).1, |heap, out| sample(heap, seed, count, out));
+        }
         "refs" => write_out(stdout(), read(2).1, |heap, out| reports::refs(heap, id_of(&words[1]), out)),
         "path" => write_out(stdout(), read(2).1, |heap, out| reports::reached(heap, id_of(&words[1]), out)),
         _ => refuse("join, join101, salvage, check, histo, object, refs or path"),

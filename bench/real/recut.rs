@@ -8,20 +8,10 @@ use std::fs::{self, File};
 use std::io::{BufWriter, Write};
 use std::ops::Range;
 
+mod dice;
 mod format;
+use dice::Dice;
 use format::{HEAD_LEN, HEADER_LEN, number, refuse, sub_len};
-
-/// Numbers in no order, the same at each run.
-struct Dice(u64);
-
-impl Dice {
-    fn below(&mut self, end: usize) -> usize {
-        self.0 ^= self.0 << 13;
-        self.0 ^= self.0 >> 7;
-        self.0 ^= self.0 << 17;
-        (self.0 % end as u64) as usize
-    }
-}
 
 /// A record, or a sub-record.
 struct Item {
@@ -98,7 +88,8 @@ fn main() {
     let names: Vec<String> = env::args().skip(1).collect();
     let dump = fs::read(&names[0]).unwrap_or_else(|_| refuse("cannot read"));
     let items = items_of(&dump);
-    let mut dice = Dice(0x9e37_79b9_7f4a_7c15);
+    // The same cut at each run.
+    let mut dice = Dice(1);
     let count = names.len() - 1;
     let mut parts: Vec<Vec<&Item>> = vec![Vec::new(); count];
     for item in &items {
