@@ -1,33 +1,94 @@
-//! The program, asked for a dump of version 1.0.1.
+//! The 1.0.1 dump of a heap, with a limit for its sub-records.
 
-use crate::expecting::{equal_bytes, holds};
-use crate::running::{expect_ran, written};
-use crate::samples::{INSTANCE, NAMES, OLD_DUMP};
-use std::fs;
+use crate::expecting::equal_at;
+use crate::samples::{HEADER, NAME_1_A, PLAIN, PLAIN_101, bytes_of, readers_of, record};
+use hprof_devices::Device;
+use hprof_dump101::{DumpFault, write_v101};
+use hprof_engine::read_heap;
+use hprof_heap::{Gatherer, Heap};
+use hprof_stream::Limits;
+use std::alloc::Global;
+use std::io;
+use std::io::Write;
 use std::test::Fail;
 
+/// The header of version 1.0.1 with identifiers of four bytes and time 1.
+const OLD_HEADER: &[u8] = b"JAVA PROFILE 1.0.1\0\0\0\0\x04\0\0\0\0\0\0\0\x01";
+
+/// Both with identifiers of eight bytes.
+const WIDE_HEADER: &[u8] = b"JAVA PROFILE 1.0.2\0\0\0\0\x08\0\0\0\0\0\0\0\x01";
+
+const OLD_WIDE_HEADER: &[u8] = b"JAVA PROFILE 1.0.1\0\0\0\0\x08\0\0\0\0\0\0\0\x01";
+
+/// A JNI local root with an identifier of eight bytes: 17 bytes.
+const WIDE_LOCAL: &[u8] = b"\x02\0\0\0\0\0\0\0\x07\0\0\0\x01\xff\xff\xff\xff";
+
+/// The heap that the part states.
+fn heap_of(alloc: Global, part: &[u8]) -> Result<Heap, Fail> {
+    let mut readers = readers_of(alloc, &[part])?;
+    let gatherer = Gatherer::new(alloc);
+    match read_heap(alloc, &mut readers, Limits::usual(), gatherer, &mut ()) {
+        Ok(heap) => Ok(heap),
+        Err(fault) => Err(Fail::from(fault.text(alloc)?)),
+    }
+}
+
 #[test]
-fn join101(rt: HostRuntime) -> Result<(), Fail> {
-    let names = written(&rt, "old-names", NAMES)?;
-    let instance = written(&rt, "old-instance", INSTANCE)?;
-    let out = written(&rt, "old-out", &[])?;
-    let [names, instance, out] = [&names, &instance, &out].map(|path| path.as_str());
-    let words = ["join101", out, instance, names];
-    // What is there already is refused, and stays.
-    let line = "hprof: cannot create the output\n";
-    expect_ran(&rt, rt.alloc(), &words, 1, "", line)?;
-    fs::remove_file(&rt, out)?;
-    expect_ran(&rt, rt.alloc(), &words, 0, "", "")?;
-    equal_bytes(&rt, &fs::read(&rt, out)?, OLD_DUMP);
-    fs::remove_file(&rt, out)?;
-    expect_ran(
-        &rt,
-        rt.alloc(),
-        &["join101", out],
-        1,
-        "",
-        "hprof: no parts\n",
-    )?;
-    holds(&rt, !fs::exists(&rt, out)?);
+fn dumps_just_within_the_limit_and_beyond_it(rt: HostRuntime) -> Result<(), Fail> {
+    let alloc = rt.alloc();
+    let name = bytes_of(alloc, &[HEADER, NAME_1_A])?;
+    let old_name = bytes_of(alloc, &[OLD_HEADER, NAME_1_A])?;
+    let wide = bytes_of(alloc, &[WIDE_HEADER, &record(alloc, 0x1c, WIDE_LOCAL)?])?;
+    let old_wide = bytes_of(alloc, &[OLD_WIDE_HEADER, &record(alloc, 0x0c, WIDE_LOCAL)?])?;
+    let cases: [(&[u8], u32, &[u8]); 10] = [
+        (PLAIN, 21, PLAIN_101),
+        (PLAIN, 22, PLAIN_101),
+        (PLAIN, u32::MAX, PLAIN_101),
+        (PLAIN, 20, b""),
+        (PLAIN, 5, b""),
+        (PLAIN, 0, b""),
+        (&name, 0, &old_name),
+        (HEADER, 0, OLD_HEADER),
+        (&wide, 17, &old_wide),
+        (&wide, 16, b""),
+    ];
+    for (part, max_body, dump) in cases {
+        let mut target = Device::new(Vec::new(alloc));
+        let answer = write_v101(&heap_of(alloc, part)?, max_body, &mut target);
+        let expected = if dump.is_empty() {
+            Err(DumpFault::TooLong)
+        } else {
+            Ok(())
+        };
+        let written = target.into_inner();
+        equal_at(
+            &rt,
+            max_body,
+            (answer, written.as_slice()),
+            (expected, dump),
+        );
+    }
+    Ok(())
+}
+
+/// A writer that takes nothing.
+#[derive(Drop)]
+struct Closed;
+
+impl Write for Closed {
+    fn write(&mut self, _bytes: &[u8]) -> io::Result<usize> {
+        Err(io::Error::from(io::ErrorKind::Other))
+    }
+
+    fn flush(&mut self) -> io::Result<()> {
+        Ok(())
+    }
+}
+
+#[test]
+fn nothing_is_written_of_a_dump_that_is_too_long(rt: HostRuntime) -> Result<(), Fail> {
+    let heap = heap_of(rt.alloc(), PLAIN)?;
+    let answer = write_v101(&heap, 20, &mut Device::new(Closed));
+    equal_at(&rt, 20, answer, Err(DumpFault::TooLong));
     Ok(())
 }

@@ -1,0 +1,136 @@
+//! The program on the real disk.
+
+use crate::expecting::{equal_at, equal_bytes, holds};
+use crate::samples::{END, HEADER, NAME_1_A, bytes_of};
+use crate::words::words_of;
+use hprof_tool::run;
+use std::alloc::{AllocError, Global};
+use std::process::Abort;
+use std::test::Fail;
+use std::{env, fs};
+
+/// The path of a file of that name in the folder for such files. No file is there.
+fn path_of(rt: &HostRuntime, name: &str) -> Result<String, Fail> {
+    let folder = env::temp_dir(rt)?;
+    let folder = folder.to_str().ok_or("the folder's name is text")?;
+    let path = format!(in rt.alloc(); "{folder}/hprof-case-{name}")?;
+    let _ = fs::remove_file(rt, path.as_str());
+    Ok(path)
+}
+
+/// Writes a file of that name with the texts, and gives its path.
+fn written(rt: &HostRuntime, name: &str, texts: &[&[u8]]) -> Result<String, Fail> {
+    let path = path_of(rt, name)?;
+    let bytes = bytes_of(rt.alloc(), texts)?;
+    fs::write(rt, path.as_str(), bytes.as_slice())?;
+    Ok(path)
+}
+
+/// Checks the status of the program, and what it tells of errors. It prints nothing.
+fn expect_ran(
+    rt: &impl Abort,
+    files: &HostRuntime,
+    words: &[&str],
+    code: u8,
+    told: &[u8],
+) -> Result<(), Fail> {
+    let alloc = files.alloc();
+    let list = Ok(words_of(alloc, words)?.into_iter());
+    let (mut output, mut errors) = (Vec::new(alloc), Vec::new(alloc));
+    let status = run(alloc, files, list, HEADER, &mut output, &mut errors);
+    let found = (status.code(), output.len(), errors.as_slice());
+    equal_at(rt, words, found, (code, 0, told));
+    Ok(())
+}
+
+/// Removes the files.
+fn remove(rt: &HostRuntime, paths: &[&str]) -> Result<(), Fail> {
+    for path in paths {
+        fs::remove_file(rt, path)?;
+    }
+    Ok(())
+}
+
+/// The record of the name `n` of this identifier.
+fn name_of(id: u8) -> [u8; 14] {
+    [1, 0, 0, 0, 0, 0, 0, 0, 5, 0, 0, 0, id, b'n']
+}
+
+/// The dump of the names from 1 on.
+fn dump_of_names(alloc: Global, count: u8) -> Result<Vec<u8>, AllocError> {
+    let mut dump = bytes_of(alloc, &[HEADER])?;
+    for id in 1..=count {
+        dump.extend_from_slice(&name_of(id))?;
+    }
+    dump.extend_from_slice(END)?;
+    Ok(dump)
+}
+
+#[test]
+fn files_are_joined_to_a_new_file(rt: HostRuntime) -> Result<(), Fail> {
+    let one = written(&rt, "one", &[HEADER, &name_of(2)])?;
+    let two = written(&rt, "two", &[HEADER, &name_of(1)])?;
+    let out = path_of(&rt, "out")?;
+    let words = ["join", out.as_str(), one.as_str(), two.as_str()];
+    expect_ran(&rt, &rt, &words, 0, b"")?;
+    let dump = dump_of_names(rt.alloc(), 2)?;
+    equal_bytes(&rt, &fs::read(&rt, out.as_str())?, &dump);
+    // What is there already is refused, and stays.
+    expect_ran(&rt, &rt, &words, 1, b"hprof: cannot create the output\n")?;
+    equal_bytes(&rt, &fs::read(&rt, out.as_str())?, &dump);
+    remove(&rt, &words[1..])
+}
+
+/// The paths of so many parts, each of one name, from 1 on.
+fn named_parts(rt: &HostRuntime, count: u8) -> Result<Vec<String>, Fail> {
+    let mut paths = Vec::new(rt.alloc());
+    for id in 1..=count {
+        let file = format!(in rt.alloc(); "many-{id}")?;
+        paths.push(written(rt, file.as_str(), &[HEADER, &name_of(id)])?)?;
+    }
+    Ok(paths)
+}
+
+#[test]
+fn many_parts(rt: HostRuntime) -> Result<(), Fail> {
+    let paths = named_parts(&rt, 70)?;
+    let out = path_of(&rt, "many-out")?;
+    let mut words = Vec::new(rt.alloc());
+    words.push("join")?;
+    words.push(out.as_str())?;
+    for path in &paths {
+        words.push(path.as_str())?;
+    }
+    expect_ran(&rt, &rt, &words, 0, b"")?;
+    let dump = dump_of_names(rt.alloc(), 70)?;
+    equal_bytes(&rt, &fs::read(&rt, out.as_str())?, &dump);
+    remove(&rt, &words[1..])
+}
+
+#[test]
+fn folders_and_refused_parts_leave_no_file(rt: HostRuntime) -> Result<(), Fail> {
+    let good = written(&rt, "good", &[HEADER, NAME_1_A])?;
+    let out = path_of(&rt, "none")?;
+    let folder = env::temp_dir(&rt)?;
+    let folder = folder.to_str().ok_or("the folder's name is text")?;
+    let [good, out] = [&good, &out].map(|path| path.as_str());
+    let failed = b"hprof: part 1: read failed\n";
+    expect_ran(&rt, &rt, &["join", out, good, folder], 1, failed)?;
+    expect_ran(&rt, &rt, &["check", good, folder], 1, failed)?;
+    expect_ran(
+        &rt,
+        &rt,
+        &["check", folder],
+        1,
+        b"hprof: part 0: read failed\n",
+    )?;
+    expect_ran(
+        &rt,
+        &rt,
+        &["join", out, out],
+        1,
+        b"hprof: cannot open part 0\n",
+    )?;
+    holds(&rt, !fs::exists(&rt, out)?);
+    remove(&rt, &[good])
+}
