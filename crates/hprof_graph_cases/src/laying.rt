@@ -1,0 +1,61 @@
+//! Known layouts, kept as classes come, and an instance laid by them.
+
+use crate::dumps::{Dump, heap_of};
+use crate::expecting::{equal, equal_at};
+use crate::instance_200::{BYTE, BYTES, INSTANCE, LOWER, UPPER};
+use hprof_finding::find_class;
+use hprof_laying::{KnownLayouts, Reference, Wanted, known_layouts, refers};
+use hprof_values::{Basic, IdSize};
+use std::test::Fail;
+
+#[test]
+fn layouts_of_a_heap(rt: HostRuntime) -> Result<(), Fail> {
+    let heap = heap_of(rt.alloc(), &[INSTANCE, LOWER, UPPER])?;
+    let known = known_layouts(rt.alloc(), &heap)?;
+    let found = [0, 99, 100, 101].map(|class| known.knows(class));
+    equal(&rt, found, [true, true, true, false]);
+    let mut references = Vec::new(rt.alloc());
+    references.push(Reference { place: 5, to: 9 })?;
+    let there = [Reference { place: 1, to: 201 }];
+    // What stood there before is taken out. The layout of class 0 has no slots.
+    let cases: [(u64, &[u8], Wanted, bool, &[Reference]); 6] = [
+        (100, BYTES, Wanted::All, true, &there),
+        (100, BYTES, Wanted::To(201), true, &there),
+        (100, BYTES, Wanted::To(202), true, &[]),
+        (100, &BYTES[1..], Wanted::All, true, &[]),
+        (101, BYTES, Wanted::All, false, &[]),
+        (0, BYTES, Wanted::All, true, &[]),
+    ];
+    for (place, (class, bytes, wanted, is_known, expected)) in cases.iter().enumerate() {
+        let laid = known.lay(*class, bytes, IdSize::Four, *wanted, &mut references)?;
+        let found = (laid, references.as_slice());
+        equal_at(&rt, place, found, (*is_known, *expected));
+    }
+    equal(
+        &rt,
+        (refers(Basic::Array), refers(Basic::Long)),
+        (true, false),
+    );
+    Ok(())
+}
+
+#[test]
+fn a_class_is_woken_by_its_superclass(rt: HostRuntime) -> Result<(), Fail> {
+    let heap = heap_of(rt.alloc(), &[LOWER, UPPER])?;
+    let (Some(lower), Some(upper)) = (find_class(&heap, 100), find_class(&heap, 99)) else {
+        return Err("the classes are there".into());
+    };
+    let mut known = KnownLayouts::new(rt.alloc());
+    let first = known.come(&lower, IdSize::Four)?.len();
+    equal(&rt, (first, known.knows(100)), (0, false));
+    let woken = known.come(&upper, IdSize::Four)?.len();
+    equal(
+        &rt,
+        (woken, known.knows(99), known.knows(100)),
+        (2, true, true),
+    );
+    let circle = heap_of(rt.alloc(), &[LOWER, Dump::Class(99, 100, BYTE)])?;
+    let known = known_layouts(rt.alloc(), &circle)?;
+    equal(&rt, (known.knows(99), known.knows(100)), (false, false));
+    Ok(())
+}
