@@ -1,6 +1,6 @@
-//! What a live heap is to answer: the facts that came so far as a plain list, which is searched anew for each answer.
+//! What is to be answered of facts: they stand in a plain list, which is searched anew for each answer.
 
-use crate::samples::edge;
+use crate::answers::edge;
 use hprof_edges::{Edge, Via};
 use hprof_items::{Fact, IdSize};
 use hprof_layouts::{Layout, Slot};
@@ -225,17 +225,26 @@ fn push_edges_of(
     }
 }
 
-/// The edges to an identifier, in order.
-pub(crate) fn edges_to(
-    alloc: Global,
-    facts: &[Fact<'_>],
-    id: u64,
-) -> Result<Vec<Edge>, AllocError> {
+/// All edges, in order.
+pub(crate) fn edges_in(alloc: Global, facts: &[Fact<'_>]) -> Result<Vec<Edge>, AllocError> {
     let mut edges = Vec::new(alloc);
     for fact in facts {
         push_edges_of(alloc, facts, fact, &mut edges)?;
     }
-    edges.retain(|edge| edge.to == id);
     edges.sort_unstable();
     Ok(edges)
+}
+
+/// Those to an identifier.
+pub(crate) fn edges_to(alloc: Global, edges: &[Edge], id: u64) -> Result<Vec<Edge>, AllocError> {
+    let mut found = Vec::from_slice(alloc, edges)?;
+    found.retain(|edge| edge.to == id);
+    Ok(found)
+}
+
+/// Those from an identifier.
+pub(crate) fn edges_from(alloc: Global, edges: &[Edge], id: u64) -> Result<Vec<Edge>, AllocError> {
+    let mut found = Vec::from_slice(alloc, edges)?;
+    found.retain(|edge| edge.from == id);
+    Ok(found)
 }

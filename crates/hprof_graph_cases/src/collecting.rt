@@ -1,7 +1,9 @@
 //! Edges that are put one by one.
 
+use crate::answers::edge;
+use crate::dumps::{Dump, heap_of};
 use crate::expecting::equal;
-use crate::samples::{INT_AND_OBJECT, class_of, edge, heap_of, instance_of};
+use crate::instance_200::INT_AND_OBJECT;
 use hprof_edges::{
     Collect, EdgeList, Via, class_edges, edge_to_class, field_edges, object_edges, sort_edges,
 };
@@ -11,7 +13,7 @@ use hprof_values::IdSize;
 use std::test::*;
 
 #[test]
-fn edges_in_order(rt: HostRuntime) -> Result<(), Fail> {
+fn lists(rt: HostRuntime) -> Result<(), Fail> {
     let edges = [
         edge(1, Via::Class, 0, 9),
         edge(1, Via::Fixed, 0, 3),
@@ -19,11 +21,15 @@ fn edges_in_order(rt: HostRuntime) -> Result<(), Fail> {
         edge(1, Via::Fixed, 1, 3),
         edge(2, Via::Class, 0, 1),
     ];
-    let mut list = EdgeList::new(rt.alloc(), Wanted::All);
+    let mut all = EdgeList::new(rt.alloc(), Wanted::All);
+    let mut wanted = EdgeList::new(rt.alloc(), Wanted::To(3));
     for place in [3, 1, 4, 0, 2, 1, 4] {
-        list.put(edges[place])?;
+        all.put(edges[place])?;
+        wanted.put(edges[place])?;
     }
-    let mut sorted = list.into_edges();
+    let kept = [edges[3], edges[1], edges[1]];
+    equal(&rt, wanted.edges(), kept.as_slice());
+    let mut sorted = all.into_edges();
     equal(&rt, sorted.len(), 7);
     sort_edges(&mut sorted);
     equal(&rt, sorted.as_slice(), edges.as_slice());
@@ -31,22 +37,14 @@ fn edges_in_order(rt: HostRuntime) -> Result<(), Fail> {
 }
 
 #[test]
-fn edges_that_are_wanted(rt: HostRuntime) -> Result<(), Fail> {
-    let mut list = EdgeList::new(rt.alloc(), Wanted::To(3));
-    for to in [2, 3, 4] {
-        list.put(edge(3, Via::Field, 0, to))?;
-    }
-    let kept = [edge(3, Via::Field, 0, 3)];
-    equal(&rt, list.edges(), kept.as_slice());
-    Ok(())
-}
-
-#[test]
 fn edges_of_rows(rt: HostRuntime) -> Result<(), Fail> {
-    let class = class_of(100, 99, INT_AND_OBJECT).ok_or("no class")?;
-    let upper = class_of(99, 0, b"").ok_or("no class")?;
     let bytes = b"\0\0\0\x07\0\0\0\xc9";
-    let heap = heap_of(rt.alloc(), &[class, upper, instance_of(200, 100, bytes)])?;
+    let dumps = [
+        Dump::Class(100, 99, INT_AND_OBJECT),
+        Dump::Class(99, 0, b""),
+        Dump::Instance(200, 100, bytes),
+    ];
+    let heap = heap_of(rt.alloc(), &dumps)?;
     let known = known_layouts(rt.alloc(), &heap)?;
     let mut references = Vec::new(rt.alloc());
     let mut list = EdgeList::new(rt.alloc(), Wanted::All);

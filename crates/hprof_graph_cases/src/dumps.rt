@@ -1,0 +1,148 @@
+//! Class dumps, object dumps and roots, and the heaps that they state. Identifiers have four bytes.
+
+ghost use Rattle.std.specs.Prelude.{◌≡◌};
+
+use hprof_devices::Device;
+use hprof_heap::{Gatherer, Heap};
+use hprof_items::{Fact, Header, IdSize, Root, Step, Version, read_sub};
+use hprof_lists::{ConstantList, FieldList, IdList, StaticList};
+use hprof_stream::{Sink, SinkFault};
+use hprof_values::Basic;
+use hprof_writing::{fits, write_fact};
+use std::alloc::{AllocError, Global};
+use std::test::Fail;
+
+/// What a sub-record states.
+#[derive(Clone, Copy, Debug, PartialEq, Eq)]
+pub(crate) enum Dump<'a> {
+    /// A class, its superclass and its own fields.
+    Class(u64, u64, &'a [u8]),
+    /// A class, its superclass, loader, signers and domain; the size of its instances; its constants, static fields and own fields.
+    Whole([u64; 5], u32, [&'a [u8]; 3]),
+    /// An instance, its class and its bytes.
+    Instance(u64, u64, &'a [u8]),
+    /// An array of objects, its class and its elements.
+    Objects(u64, u64, &'a [u8]),
+    /// An array of numbers, their type and its bytes.
+    Numbers(u64, Basic, &'a [u8]),
+    /// A sticky class as a root.
+    Root(u64),
+}
+
+fn class_fact<'a>(
+    [id, parent, loader, signers, domain]: [u64; 5],
+    size: u32,
+    [constants, statics, fields]: [&'a [u8]; 3],
+) -> Option<Fact<'a>> {
+    let ids = IdSize::Four;
+    Some(Fact::Class {
+        id,
+        trace: 1,
+        parent,
+        loader,
+        signers,
+        domain,
+        reserved1: 0,
+        reserved2: 0,
+        size,
+        constants: ConstantList::new(constants, ids)?,
+        statics: StaticList::new(statics, ids)?,
+        fields: FieldList::new(fields, ids)?,
+    })
+}
+
+fn objects_fact(id: u64, class: u64, elements: &[u8]) -> Option<Fact<'_>> {
+    Some(Fact::ObjArray {
+        id,
+        trace: 1,
+        class,
+        elements: IdList::new(elements, IdSize::Four)?,
+    })
+}
+
+impl<'a> Dump<'a> {
+    /// The fact of the sub-record, with the trace serial 1; None where its bytes are no list.
+    pub(crate) fn fact(self) -> Option<Fact<'a>> {
+        match self {
+            Dump::Class(id, parent, fields) => {
+                class_fact([id, parent, 0, 0, 0], 0, [b"", b"", fields])
+            }
+            Dump::Whole(identifiers, size, lists) => class_fact(identifiers, size, lists),
+            Dump::Objects(id, class, elements) => objects_fact(id, class, elements),
+            Dump::Instance(id, class, bytes) => Some(Fact::Instance {
+                id,
+                trace: 1,
+                class,
+                bytes,
+            }),
+            Dump::Numbers(id, elem, bytes) => Some(Fact::PrimArray {
+                id,
+                trace: 1,
+                elem,
+                bytes,
+            }),
+            Dump::Root(id) => Some(Fact::Root(Root::Sticky { id })),
+        }
+    }
+}
+
+/// A header of a part with identifiers of that size.
+pub(crate) fn header_of(ids: IdSize) -> Header
+    ensures { result.ids ≡ ids }
+{
+    Header {
+        version: Version::V102,
+        ids,
+        millis: 1,
+    }
+}
+
+/// Gives the fact of a sub-record to a sink, in a part of its own. A sink that refuses it has failed, and answers so when it is given the
+/// fact once more.
+fn give_fact<S: Sink>(alloc: Global, sink: &mut S, fact: &Fact<'_>) -> Result<(), Fail> {
+    let ids = IdSize::Four;
+    if !fits(fact, ids) {
+        return Err("no spelling".into());
+    }
+    let mut device = Device::new(Vec::new(alloc));
+    if write_fact(fact, ids, &mut device).is_err() {
+        return Err(AllocError.into());
+    }
+    let bytes = device.into_inner();
+    let Step::Whole(read, len) = read_sub(&bytes, u32::MAX, u32::MAX, ids) else {
+        return Err("no sub-record".into());
+    };
+    let (spelled, _) = bytes.split_at(len);
+    sink.begin_part(header_of(ids))?;
+    let taken = sink.take(&read, spelled);
+    if taken.is_err() && sink.take(&read, spelled) != Err(SinkFault::Failed) {
+        return Err("it goes on".into());
+    }
+    taken?;
+    Ok(())
+}
+
+/// Gives a dump to a sink.
+pub(crate) fn give<S: Sink>(alloc: Global, sink: &mut S, dump: Dump<'_>) -> Result<(), Fail> {
+    let fact = dump.fact().ok_or("no list")?;
+    give_fact(alloc, sink, &fact)
+}
+
+/// Gives dumps to a sink, in their order.
+pub(crate) fn give_all<S: Sink>(
+    alloc: Global,
+    sink: &mut S,
+    dumps: &[Dump<'_>],
+) -> Result<(), Fail> {
+    for dump in dumps {
+        give(alloc, sink, *dump)?;
+    }
+    Ok(())
+}
+
+/// The heap of these dumps.
+pub(crate) fn heap_of(alloc: Global, dumps: &[Dump<'_>]) -> Result<Heap, Fail> {
+    let mut gatherer = Gatherer::new(alloc);
+    give_all(alloc, &mut gatherer, dumps)?;
+    Ok(gatherer.finish()?)
+}

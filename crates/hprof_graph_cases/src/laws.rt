@@ -1,0 +1,17 @@
+//! The laws of the definitions above the heap.
+
+/// Calls each of them. They do nothing.
+pub fn call_laws() {
+    hprof_layouts::laws::one_layout();
+    hprof_layouts::laws::one_answer_of_fields();
+    hprof_layouts::laws::more_facts_keep_layouts();
+    hprof_histogram::laws::one_histogram();
+    hprof_laying::laws::dumps_decide_what_is_known();
+    hprof_edges::laws::dumps_give_edges();
+    hprof_edges::laws::one_list_of_edges();
+    hprof_edges::laws::more_facts_keep_edges();
+    hprof_live::laws::referrers_only_grow();
+    hprof_reach::laws::one_distance_and_path();
+    hprof_reach::laws::path_is_shortest();
+    hprof_reach::laws::some_distance_and_path();
+}
