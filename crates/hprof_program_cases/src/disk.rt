@@ -104,7 +104,10 @@ fn many_parts(rt: HostRuntime) -> Result<(), Fail> {
     expect_ran(&rt, &rt, &words, 0, b"")?;
     let dump = dump_of_names(rt.alloc(), 70)?;
     equal_bytes(&rt, &fs::read(&rt, out.as_str())?, &dump);
-    remove(&rt, &words[1..])
+    for path in &paths {
+        fs::remove_file(&rt, path.as_str())?;
+    }
+    remove(&rt, &[out.as_str()])
 }
 
 #[test]
@@ -113,24 +116,16 @@ fn folders_and_refused_parts_leave_no_file(rt: HostRuntime) -> Result<(), Fail> 
     let out = path_of(&rt, "none")?;
     let folder = env::temp_dir(&rt)?;
     let folder = folder.to_str().ok_or("the folder's name is text")?;
-    let [good, out] = [&good, &out].map(|path| path.as_str());
-    let failed = b"hprof: part 1: read failed\n";
-    expect_ran(&rt, &rt, &["join", out, good, folder], 1, failed)?;
-    expect_ran(&rt, &rt, &["check", good, folder], 1, failed)?;
-    expect_ran(
-        &rt,
-        &rt,
-        &["check", folder],
-        1,
+    let (first, second) = (
         b"hprof: part 0: read failed\n",
-    )?;
-    expect_ran(
-        &rt,
-        &rt,
-        &["join", out, out],
-        1,
-        b"hprof: cannot open part 0\n",
-    )?;
-    holds(&rt, !fs::exists(&rt, out)?);
-    remove(&rt, &[good])
+        b"hprof: part 1: read failed\n",
+    );
+    let words = ["join", out.as_str(), good.as_str(), folder];
+    expect_ran(&rt, &rt, &words, 1, second)?;
+    expect_ran(&rt, &rt, &["check", good.as_str(), folder], 1, second)?;
+    expect_ran(&rt, &rt, &["check", folder], 1, first)?;
+    let words = ["join", out.as_str(), out.as_str()];
+    expect_ran(&rt, &rt, &words, 1, b"hprof: cannot open part 0\n")?;
+    holds(&rt, !fs::exists(&rt, out.as_str())?);
+    remove(&rt, &[good.as_str()])
 }

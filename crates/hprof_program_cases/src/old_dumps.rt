@@ -10,6 +10,7 @@ use hprof_stream::Limits;
 use std::alloc::Global;
 use std::io;
 use std::io::Write;
+use std::process::Abort;
 use std::test::Fail;
 
 /// The header of version 1.0.1 with identifiers of four bytes and time 1.
@@ -33,42 +34,50 @@ fn heap_of(alloc: Global, part: &[u8]) -> Result<Heap, Fail> {
     }
 }
 
+/// Checks that this is the part's dump, where its sub-records may have that many bytes; of no bytes, that it is too long.
+fn expect_dump(
+    rt: &impl Abort,
+    alloc: Global,
+    part: &[u8],
+    max_body: u32,
+    dump: &[u8],
+) -> Result<(), Fail> {
+    let mut target = Device::new(Vec::new(alloc));
+    let answer = write_v101(&heap_of(alloc, part)?, max_body, &mut target);
+    let expected = if dump.is_empty() {
+        Err(DumpFault::TooLong)
+    } else {
+        Ok(())
+    };
+    let written = target.into_inner();
+    equal_at(rt, max_body, (answer, written.as_slice()), (expected, dump));
+    Ok(())
+}
+
 #[test]
 fn dumps_just_within_the_limit_and_beyond_it(rt: HostRuntime) -> Result<(), Fail> {
     let alloc = rt.alloc();
+    for max_body in [21, 22, u32::MAX] {
+        expect_dump(&rt, alloc, PLAIN, max_body, PLAIN_101)?;
+    }
+    for max_body in [0, 5, 20] {
+        expect_dump(&rt, alloc, PLAIN, max_body, b"")?;
+    }
+    expect_dump(&rt, alloc, HEADER, 0, OLD_HEADER)?;
     let name = bytes_of(alloc, &[HEADER, NAME_1_A])?;
     let old_name = bytes_of(alloc, &[OLD_HEADER, NAME_1_A])?;
-    let wide = bytes_of(alloc, &[WIDE_HEADER, &record(alloc, 0x1c, WIDE_LOCAL)?])?;
-    let old_wide = bytes_of(alloc, &[OLD_WIDE_HEADER, &record(alloc, 0x0c, WIDE_LOCAL)?])?;
-    let cases: [(&[u8], u32, &[u8]); 10] = [
-        (PLAIN, 21, PLAIN_101),
-        (PLAIN, 22, PLAIN_101),
-        (PLAIN, u32::MAX, PLAIN_101),
-        (PLAIN, 20, b""),
-        (PLAIN, 5, b""),
-        (PLAIN, 0, b""),
-        (&name, 0, &old_name),
-        (HEADER, 0, OLD_HEADER),
-        (&wide, 17, &old_wide),
-        (&wide, 16, b""),
-    ];
-    for (part, max_body, dump) in cases {
-        let mut target = Device::new(Vec::new(alloc));
-        let answer = write_v101(&heap_of(alloc, part)?, max_body, &mut target);
-        let expected = if dump.is_empty() {
-            Err(DumpFault::TooLong)
-        } else {
-            Ok(())
-        };
-        let written = target.into_inner();
-        equal_at(
-            &rt,
-            max_body,
-            (answer, written.as_slice()),
-            (expected, dump),
-        );
-    }
-    Ok(())
+    expect_dump(&rt, alloc, &name, 0, &old_name)
+}
+
+#[test]
+fn dumps_of_eight_byte_identifiers(rt: HostRuntime) -> Result<(), Fail> {
+    let alloc = rt.alloc();
+    let segment = record(alloc, 0x1c, WIDE_LOCAL)?;
+    let dump = record(alloc, 0x0c, WIDE_LOCAL)?;
+    let wide = bytes_of(alloc, &[WIDE_HEADER, &segment])?;
+    let old_wide = bytes_of(alloc, &[OLD_WIDE_HEADER, &dump])?;
+    expect_dump(&rt, alloc, &wide, 17, &old_wide)?;
+    expect_dump(&rt, alloc, &wide, 16, b"")
 }
 
 /// A writer that takes nothing.
