@@ -1,15 +1,15 @@
 //! Heaps of one part each, joined one after the other into the first.
 
-ghost use Rattle.std.specs.Prelude.{◌≡◌, All};
+ghost use Rattle.std.specs.Prelude.{◌≡◌};
 ghost use Rattle.hprof_devices.specs.declared.health.Health.TheVariants.{Well};
 ghost use Rattle.hprof_devices.specs.Device.{health_of};
 
 use crate::streams::{Reader, Writer};
-use hprof_devices::Device;
+use hprof_devices::{Device, Health};
 use hprof_dump::write_canonical;
 use hprof_engine::ToolFault;
 use hprof_heap::{Gatherer, Heap, JoinRefusal, Refusal};
-use hprof_stream::{Limits, read_part};
+use hprof_stream::{Limits, PartFault, read_part};
 use std::alloc::Global;
 
 /// The engine's fault for a part that states no heap.
@@ -31,15 +31,17 @@ fn fault_of_join(refusal: JoinRefusal) -> ToolFault {
     }
 }
 
-/// The heap of a part.
+/// The heap of a part. A reader that is not well is not read.
 fn heap_of(
     alloc: Global,
     index: usize,
     reader: &mut Device<Reader<'_>>,
     limits: Limits,
-) -> Result<Heap, ToolFault>
-    requires { health_of reader.old ≡ Well }
-{
+) -> Result<Heap, ToolFault> {
+    let Health::Well = reader.health() else {
+        let fault = PartFault::Failed;
+        return Err(ToolFault::Part { index, fault });
+    };
     let mut gatherer = Gatherer::new(alloc);
     if let Err(fault) = read_part(alloc, reader, limits, &mut gatherer) {
         return Err(ToolFault::Part { index, fault });
@@ -55,17 +57,13 @@ fn heaps_of(
     alloc: Global,
     readers: &mut [Device<Reader<'_>>],
     limits: Limits,
-) -> Result<Vec<Heap>, ToolFault>
-    requires { All (λ reader. health_of reader ≡ Well) readers.old }
-{
+) -> Result<Vec<Heap>, ToolFault> {
     let mut heaps = Vec::new(alloc);
-    let mut rest = readers;
-    while let [reader, behind @ ..] = rest {
-        let heap = heap_of(alloc, heaps.len(), reader, limits)?;
+    for (index, reader) in readers.iter_mut().enumerate() {
+        let heap = heap_of(alloc, index, reader, limits)?;
         if heaps.push(heap).is_err() {
             return Err(ToolFault::OutOfMemory);
         }
-        rest = behind;
     }
     Ok(heaps)
 }
@@ -88,8 +86,7 @@ pub(crate) fn unite_to(
     target: &mut Device<Writer>,
     limits: Limits,
 ) -> Result<u128, ToolFault>
-    requires readers { All (λ reader. health_of reader ≡ Well) readers.old }
-    requires writer { health_of target.old ≡ Well }
+    requires { health_of target.old ≡ Well }
 {
     let mut heaps = heaps_of(alloc, readers, limits)?;
     let Some((heap, others)) = heaps.split_first_mut() else {

@@ -1,13 +1,9 @@
 //! Parts that are read, one after the other, into one sink.
 
-ghost use Rattle.std.specs.Prelude.{◌≡◌, All};
-ghost use Rattle.hprof_devices.specs.declared.health.Health.TheVariants.{Well};
-ghost use Rattle.hprof_devices.specs.Device.{health_of};
-
 use crate::engine::Answer;
 use crate::listing::Listing;
 use crate::streams::Reader;
-use hprof_devices::Device;
+use hprof_devices::{Device, Health};
 use hprof_stream::{Limits, PartSummary, Sink, Tally, read_part};
 use std::alloc::{AllocError, Global};
 
@@ -33,23 +29,23 @@ fn text_of_summary(alloc: Global, summary: PartSummary) -> Result<String, AllocE
     format!(in alloc; "records {records} facts {facts} end {end}")
 }
 
-/// Reads the parts up to the first that is refused. It answers the text of the fault, or what was read of the last part.
+/// Reads the parts up to the first that is refused. It answers the text of the fault, or what was read of the last part. A reader that is not
+/// well is not read.
 fn read_into<S: Sink>(
     alloc: Global,
     readers: &mut [Device<Reader<'_>>],
     limits: Limits,
     sink: &mut S,
-) -> Result<String, AllocError>
-    requires { All (λ reader. health_of reader ≡ Well) readers.old }
-{
+) -> Result<String, AllocError> {
     let mut text = String::new(alloc);
-    let mut rest = readers;
-    while let [reader, behind @ ..] = rest {
+    for reader in readers.iter_mut() {
+        let Health::Well = reader.health() else {
+            return String::from_str(alloc, "reader failed");
+        };
         match read_part(alloc, reader, limits, sink) {
             Ok(summary) => text = text_of_summary(alloc, summary)?,
             Err(fault) => return fault.to_string(alloc),
         }
-        rest = behind;
     }
     Ok(text)
 }
@@ -65,28 +61,24 @@ fn lines_of(alloc: Global, counts: &[u64; 12]) -> Result<String, AllocError> {
     Ok(lines)
 }
 
-/// What parts come to whose facts are counted.
+/// Reads the parts, and lists the number of facts of each form.
 pub(crate) fn counted(
     alloc: Global,
     readers: &mut [Device<Reader<'_>>],
     limits: Limits,
-) -> Result<Answer, AllocError>
-    requires { All (λ reader. health_of reader ≡ Well) readers.old }
-{
+) -> Result<Answer, AllocError> {
     let mut tally = Tally::new();
     let text = read_into(alloc, readers, limits, &mut tally)?;
     let lines = lines_of(alloc, &tally.counts())?;
     Ok(Answer { text, lines })
 }
 
-/// What parts come to whose facts are listed.
+/// Reads the parts, and lists their headers and facts.
 pub(crate) fn listed(
     alloc: Global,
     readers: &mut [Device<Reader<'_>>],
     limits: Limits,
-) -> Result<Answer, AllocError>
-    requires { All (λ reader. health_of reader ≡ Well) readers.old }
-{
+) -> Result<Answer, AllocError> {
     let mut listing = Listing::new(alloc);
     let text = read_into(alloc, readers, limits, &mut listing)?;
     let lines = listing.lines;
