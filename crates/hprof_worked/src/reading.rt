@@ -1,0 +1,94 @@
+//! Parts that are read, one after the other, into one sink.
+
+ghost use Rattle.std.specs.Prelude.{◌≡◌, All};
+ghost use Rattle.hprof_devices.specs.declared.health.Health.TheVariants.{Well};
+ghost use Rattle.hprof_devices.specs.Device.{health_of};
+
+use crate::engine::Answer;
+use crate::listing::Listing;
+use crate::streams::Reader;
+use hprof_devices::Device;
+use hprof_stream::{Limits, PartSummary, Sink, Tally, read_part};
+use std::alloc::{AllocError, Global};
+
+/// The forms of facts, in the order in which a tally counts them.
+const FORMS: [&str; 12] = [
+    "names",
+    "loads",
+    "unloads",
+    "frames",
+    "traces",
+    "starts",
+    "ends",
+    "roots",
+    "classes",
+    "instances",
+    "object arrays",
+    "primitive arrays",
+];
+
+fn text_of_summary(alloc: Global, summary: PartSummary) -> Result<String, AllocError> {
+    let PartSummary { records, facts, .. } = summary;
+    let end = if summary.ended { "yes" } else { "no" };
+    format!(in alloc; "records {records} facts {facts} end {end}")
+}
+
+/// Reads the parts up to the first that is refused. It answers the text of the fault, or what was read of the last part.
+fn read_into<S: Sink>(
+    alloc: Global,
+    readers: &mut [Device<Reader<'_>>],
+    limits: Limits,
+    sink: &mut S,
+) -> Result<String, AllocError>
+    requires { All (λ reader. health_of reader ≡ Well) readers.old }
+{
+    let mut text = String::new(alloc);
+    let mut rest = readers;
+    while let [reader, behind @ ..] = rest {
+        match read_part(alloc, reader, limits, sink) {
+            Ok(summary) => text = text_of_summary(alloc, summary)?,
+            Err(fault) => return fault.to_string(alloc),
+        }
+        rest = behind;
+    }
+    Ok(text)
+}
+
+/// The counts that are not 0, one a line.
+fn lines_of(alloc: Global, counts: &[u64; 12]) -> Result<String, AllocError> {
+    let mut lines = String::new(alloc);
+    for (form, count) in FORMS.iter().zip(counts) {
+        if *count > 0 {
+            lines.push_str(&format!(in alloc; "{form} {count}\n")?)?;
+        }
+    }
+    Ok(lines)
+}
+
+/// What parts come to whose facts are counted.
+pub(crate) fn counted(
+    alloc: Global,
+    readers: &mut [Device<Reader<'_>>],
+    limits: Limits,
+) -> Result<Answer, AllocError>
+    requires { All (λ reader. health_of reader ≡ Well) readers.old }
+{
+    let mut tally = Tally::new();
+    let text = read_into(alloc, readers, limits, &mut tally)?;
+    let lines = lines_of(alloc, &tally.counts())?;
+    Ok(Answer { text, lines })
+}
+
+/// What parts come to whose facts are listed.
+pub(crate) fn listed(
+    alloc: Global,
+    readers: &mut [Device<Reader<'_>>],
+    limits: Limits,
+) -> Result<Answer, AllocError>
+    requires { All (λ reader. health_of reader ≡ Well) readers.old }
+{
+    let mut listing = Listing::new(alloc);
+    let text = read_into(alloc, readers, limits, &mut listing)?;
+    let lines = listing.lines;
+    Ok(Answer { text, lines })
+}
