@@ -1,0 +1,304 @@
+//! Facts that are read and written one by one.
+
+use crate::expecting::{equal, equal_at};
+use hprof_devices::Device;
+use hprof_items::{
+    Basic, ConstantList, Fact, FieldList, HEAD_LEN, HeadKind, IdList, IdSize, Reason, Root,
+    StaticList, Step, Stop, read_body, read_body_into, read_head, read_sub, read_sub_into,
+};
+use hprof_writing::{fits, spelled_len, write_fact};
+use std::alloc::Global;
+use std::io;
+use std::io::Write;
+use std::process::Abort;
+use std::test::*;
+
+#[test]
+fn facts_in_one_place(rt: HostRuntime) {
+    let ids = IdSize::Four;
+    let mut fact = Fact::Unload { serial: 7 };
+    let root: &[u8] = b"\x05\0\0\0\x10\xff";
+    equal(&rt, read_sub_into(root, 5, 5, ids, &mut fact), Ok(5));
+    equal(&rt, fact, Fact::Root(Root::Sticky { id: 16 }));
+    let array: &[u8] = b"\x23\0\0\0\x10\0\0\0\x01\0\0\0\x02\x08\x01\x02\xff";
+    equal(&rt, read_sub_into(array, 16, 100, ids, &mut fact), Ok(16));
+    let same = Fact::PrimArray {
+        id: 16,
+        trace: 1,
+        elem: Basic::Byte,
+        bytes: &[1, 2],
+    };
+    equal(&rt, fact, same);
+    let stops = (
+        read_sub_into(array, 15, 100, ids, &mut fact),
+        read_sub_into(array, 16, 15, ids, &mut fact),
+        read_sub_into(b"\x23", 16, 100, ids, &mut fact),
+    );
+    let past = Stop::Fault(Reason::PastEnd);
+    equal(
+        &rt,
+        stops,
+        (Err(past), Err(Stop::TooLong), Err(Stop::Short)),
+    );
+}
+
+// A writer that takes all, and counts its calls. A write of no bytes fails.
+#[derive(Drop)]
+struct Counting {
+    bytes: Vec<u8>,
+    writes: u64,
+    flushes: u64,
+}
+
+impl Write for Counting {
+    fn write(&mut self, buf: &[u8]) -> io::Result<usize> {
+        if buf.is_empty() {
+            return Err(io::Error::from(io::ErrorKind::Other));
+        }
+        self.bytes.extend_from_slice(buf)?;
+        self.writes = self.writes.saturating_add(1);
+        Ok(buf.len())
+    }
+
+    fn flush(&mut self) -> io::Result<()> {
+        self.flushes = self.flushes.saturating_add(1);
+        Ok(())
+    }
+}
+
+// The fact of a record, whose bytes these are. It is the same by itself and in a place.
+fn record_in<'a>(bytes: &'a [u8], ids: IdSize) -> Option<Fact<'a>> {
+    let Step::Whole(head, _) = read_head(bytes, ids, u32::MAX) else {
+        return None;
+    };
+    let HeadKind::FactRecord = head.kind() else {
+        return None;
+    };
+    let body = bytes.get(HEAD_LEN..)?;
+    if body.len() != head.length as usize {
+        return None;
+    }
+    let mut fact = Fact::Unload { serial: 0 };
+    let put = read_body_into(&head, body, ids, &mut fact);
+    if put.is_ok() && read_body(&head, body, ids) == Ok(fact) {
+        Some(fact)
+    } else {
+        None
+    }
+}
+
+// The fact of a sub-record, whose bytes these are.
+fn sub_in<'a>(bytes: &'a [u8], ids: IdSize) -> Option<Fact<'a>> {
+    match read_sub(bytes, 1_000, 1_000, ids) {
+        Step::Whole(fact, len) if len == bytes.len() => Some(fact),
+        _ => None,
+    }
+}
+
+// That the fact fits, and that it is written as these bytes, in so many pushes; nothing is flushed.
+fn check_written(
+    rt: &impl Abort,
+    alloc: Global,
+    fact: Option<Fact<'_>>,
+    ids: IdSize,
+    bytes: &[u8],
+    pushes: u64,
+) -> Result<(), Fail> {
+    let fact = fact.ok_or("no fact")?;
+    assert!(rt; fits(&fact, ids), "{bytes:?}");
+    let len = spelled_len(&fact, ids);
+    let mut device = Device::new(Counting {
+        bytes: Vec::new(alloc),
+        writes: 0,
+        flushes: 0,
+    });
+    let written = write_fact(&fact, ids, &mut device);
+    let counting = device.into_inner();
+    equal(
+        rt,
+        (len, written, counting.bytes.as_slice()),
+        (bytes.len() as u64, Ok(()), bytes),
+    );
+    equal(rt, (counting.writes, counting.flushes), (pushes, 0));
+    Ok(())
+}
+
+// Records, and how many pushes each takes: its fields are one, and so are the bytes behind them, where there are any.
+const RECORDS: [(IdSize, &[u8], u64); 12] = [
+    (IdSize::Four, b"\x01\0\0\0\0\0\0\0\x05\0\0\0\x01A", 2),
+    (IdSize::Four, b"\x01\0\0\0\0\0\0\0\x04\0\0\0\x01", 1),
+    (
+        IdSize::Eight,
+        b"\x01\0\0\0\0\0\0\0\x09\0\0\0\0\0\0\0\x01A",
+        2,
+    ),
+    (
+        IdSize::Eight,
+        b"\x01\0\0\0\0\0\0\0\x09\xff\xff\xff\xff\xff\xff\xff\xffA",
+        2,
+    ),
+    (
+        IdSize::Four,
+        b"\x02\0\0\0\0\0\0\0\x10\0\0\0\x01\0\0\0\x10\0\0\0\x02\0\0\0\x03",
+        1,
+    ),
+    (IdSize::Four, b"\x03\0\0\0\0\0\0\0\x04\0\0\0\x07", 1),
+    (
+        IdSize::Four,
+        b"\x04\0\0\0\0\0\0\0\x18\0\0\0\x05\0\0\0\x01\0\0\0\x02\0\0\0\x03\0\0\0\x01\xff\xff\xff\xff",
+        1,
+    ),
+    (
+        IdSize::Eight,
+        b"\x04\0\0\0\0\0\0\0\x28\0\0\0\0\0\0\0\x05\0\0\0\0\0\0\0\x01\0\0\0\0\0\0\0\x02\0\0\0\0\0\0\0\x03\0\0\0\x01\xff\xff\xff\xff",
+        1,
+    ),
+    (
+        IdSize::Four,
+        b"\x05\0\0\0\0\0\0\0\x14\0\0\0\x09\0\0\0\x02\0\0\0\x02\0\0\0\x05\0\0\0\x06",
+        2,
+    ),
+    (
+        IdSize::Four,
+        b"\x05\0\0\0\0\0\0\0\x0c\0\0\0\x09\0\0\0\x02\0\0\0\0",
+        1,
+    ),
+    (
+        IdSize::Four,
+        b"\x0a\0\0\0\0\0\0\0\x18\0\0\0\x01\0\0\0\x20\0\0\0\x09\0\0\0\x03\0\0\0\x04\0\0\0\0",
+        1,
+    ),
+    (IdSize::Four, b"\x0b\0\0\0\0\0\0\0\x04\0\0\0\x01", 1),
+];
+
+// Sub-records, and how many pushes each takes. Of a class each count of entries is one.
+const SUB_RECORDS: [(IdSize, &[u8], u64); 12] = [
+    (IdSize::Four, b"\x01\0\0\0\x20\0\0\0\x08", 1),
+    (IdSize::Four, b"\x02\0\0\0\x20\0\0\0\x01\0\0\0\x02", 1),
+    (IdSize::Four, b"\x06\0\0\0\x20\0\0\0\x01", 1),
+    (IdSize::Four, b"\x08\0\0\0\x20\0\0\0\x01\0\0\0\x09", 1),
+    (IdSize::Four, b"\xff\0\0\0\x20", 1),
+    (
+        IdSize::Four,
+        b"\x21\0\0\0\x10\0\0\0\x01\0\0\0\x09\0\0\0\x02ab",
+        2,
+    ),
+    (
+        IdSize::Four,
+        b"\x21\0\0\0\x10\0\0\0\x01\0\0\0\x09\0\0\0\0",
+        1,
+    ),
+    (
+        IdSize::Four,
+        b"\x22\0\0\0\x11\0\0\0\x01\0\0\0\x01\0\0\0\x09\0\0\0\x10",
+        2,
+    ),
+    (
+        IdSize::Four,
+        b"\x22\0\0\0\x11\0\0\0\x01\0\0\0\0\0\0\0\x09",
+        1,
+    ),
+    (
+        IdSize::Four,
+        b"\x23\0\0\0\x12\0\0\0\x01\0\0\0\x02\x05\0A\0B",
+        2,
+    ),
+    (
+        IdSize::Four,
+        b"\x20\0\0\0\x30\0\0\0\x09\0\0\0\x31\0\0\0\x32\0\0\0\0\0\0\0\0\0\0\0\0\0\0\0\0\0\0\0\x0c\0\x01\0\x01\x0a\0\0\0\x07\0\x01\0\0\0\x03\x04\x01\0\x02\0\0\0\x04\x02\0\0\0\x05\x0b",
+        6,
+    ),
+    (
+        IdSize::Eight,
+        b"\x20\0\0\0\0\0\0\0\x30\0\0\0\x09\0\0\0\0\0\0\0\x31\0\0\0\0\0\0\0\x32\0\0\0\0\0\0\0\0\0\0\0\0\0\0\0\0\0\0\0\0\0\0\0\0\0\0\0\0\0\0\0\0\0\0\0\x0c\0\0\0\x01\0\0\0\0\0\0\0\x03\x02\0\0\0\0\0\0\0\x10\0\0",
+        4,
+    ),
+];
+
+#[test]
+fn facts_are_written_as_they_are_read(rt: HostRuntime) -> Result<(), Fail> {
+    for (ids, bytes, pushes) in RECORDS {
+        check_written(&rt, rt.alloc(), record_in(bytes, ids), ids, bytes, pushes)?;
+    }
+    for (ids, bytes, pushes) in SUB_RECORDS {
+        check_written(&rt, rt.alloc(), sub_in(bytes, ids), ids, bytes, pushes)?;
+    }
+    Ok(())
+}
+
+// A class with a constant 1 of type int, 7.
+fn class_of(ids: IdSize) -> Option<Fact<'static>> {
+    Some(Fact::Class {
+        id: 48,
+        trace: 9,
+        parent: 49,
+        loader: 50,
+        signers: 0,
+        domain: 0,
+        reserved1: 0,
+        reserved2: 0,
+        size: 12,
+        constants: ConstantList::new(b"\0\x01\x0a\0\0\0\x07", ids)?,
+        statics: StaticList::new(b"", ids)?,
+        fields: FieldList::new(b"", ids)?,
+    })
+}
+
+// An identifier past four bytes, or a list with identifiers of eight bytes.
+#[test]
+fn facts_that_fit_eight_bytes(rt: HostRuntime) -> Result<(), Fail> {
+    let great = 4294967296;
+    let list = IdList::new(b"", IdSize::Eight).ok_or("no list")?;
+    for fact in [
+        Fact::Name {
+            id: great,
+            text: b"A",
+        },
+        Fact::Load {
+            serial: 1,
+            class: 1,
+            trace: 1,
+            name: great,
+        },
+        Fact::Root(Root::Sticky { id: great }),
+        Fact::Instance {
+            id: 1,
+            trace: 1,
+            class: great,
+            bytes: b"",
+        },
+        Fact::Trace {
+            serial: 1,
+            thread: 1,
+            frames: list,
+        },
+        Fact::ObjArray {
+            id: 1,
+            trace: 1,
+            class: 1,
+            elements: list,
+        },
+    ] {
+        let found = (fits(&fact, IdSize::Four), fits(&fact, IdSize::Eight));
+        equal_at(&rt, fact, found, (false, true));
+    }
+    let class = class_of(IdSize::Four).ok_or("no class")?;
+    let found = (fits(&class, IdSize::Four), fits(&class, IdSize::Eight));
+    equal(&rt, found, (true, false));
+    // A type of elements that is none, and an element that is cut.
+    for (elem, bytes, fit) in [
+        (Basic::Object, b"".as_slice(), false),
+        (Basic::Array, b"", false),
+        (Basic::Int, b"abc", false),
+        (Basic::Int, b"abcd", true),
+    ] {
+        let array = Fact::PrimArray {
+            id: 1,
+            trace: 1,
+            elem,
+            bytes,
+        };
+        equal_at(&rt, array, fits(&array, IdSize::Four), fit);
+    }
+    Ok(())
+}

@@ -1,0 +1,31 @@
+//! Tests of the libraries that read parts, from hprof_text to hprof_stream, and of hprof_walks, through public calls: types, lists
+//! and iterators, pushes and pulls, and a reader that is fed in pieces. What one line can say stands in the table of hprof_worked.
+#![tactic(auto)]
+
+#[cfg(test)]
+mod devices;
+#[cfg(test)]
+mod expecting;
+#[cfg(test)]
+mod facts;
+#[cfg(test)]
+mod graphs;
+pub mod laws;
+#[cfg(test)]
+mod lengths;
+#[cfg(test)]
+mod lists;
+#[cfg(test)]
+mod pieces;
+#[cfg(test)]
+mod samples;
+#[cfg(test)]
+mod searches;
+#[cfg(test)]
+mod sinks;
+#[cfg(test)]
+mod sub_records;
+#[cfg(test)]
+mod units;
+#[cfg(test)]
+mod values;
