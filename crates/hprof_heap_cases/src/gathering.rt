@@ -1,83 +1,120 @@
-//! What parts come to together.
+//! What parts and facts come to in a gatherer.
 
-use crate::expecting::{equal, holds};
-use crate::samples::{Part, given};
-use hprof_heap::{Gatherer, Heap, Key, Refusal, Standing, Table, laws};
-use hprof_items::{Fact, IdSize};
+ghost use Rattle.std.specs.Prelude.{◌≡◌, Some, OnOk};
+ghost use Rattle.hprof_heap.specs.Gathering.{gathered};
+
+use crate::expecting::equal;
+use crate::samples::{Part, begun, given};
+use hprof_heap::{Gatherer, Key, Refusal, Standing};
+use hprof_items::{Header, IdSize, Step, Version, read_sub};
+use hprof_stream::Sink;
+use hprof_tables::Stated;
 use std::alloc::Global;
 use std::process::Abort;
 use std::test::*;
 
-#[test]
-fn no_parts(rt: HostRuntime) {
-    let gatherer = Gatherer::new(rt.alloc());
-    equal(&rt, gatherer.standing(), Standing::Empty);
-    holds(&rt, gatherer.heap().is_none());
-    equal(&rt, gatherer.finish().err(), Some(Refusal::NoParts));
-}
-
-// That a gatherer of these parts is in conflict, and refuses for this reason.
+// That a gatherer of these parts stands so, shows no heap, and refuses for this reason.
 fn check_refused(
     rt: &impl Abort,
     alloc: Global,
     parts: &[Part<'_>],
+    standing: Standing,
     refusal: Refusal,
 ) -> Result<(), Fail> {
     let gatherer = given(alloc, parts)?;
-    equal(rt, gatherer.standing(), Standing::InConflict);
-    holds(rt, gatherer.heap().is_none());
+    equal(
+        rt,
+        (gatherer.standing(), gatherer.heap().is_none()),
+        (standing, true),
+    );
     equal(rt, gatherer.finish().err(), Some(refusal));
     Ok(())
 }
 
+// Of no parts, of a part with three conflicts, and of parts with a conflict and two sizes.
 #[test]
-fn the_least_conflict(rt: HostRuntime) -> Result<(), Fail> {
-    let names: [(u64, &[u8]); 6] = [
-        (5, b"A"),
-        (5, b"B"),
-        (3, b"A"),
-        (3, b"B"),
-        (4, b"A"),
-        (4, b"B"),
+fn how_gatherers_stand(rt: HostRuntime) -> Result<(), Fail> {
+    let cases: [(&[Part<'_>], Standing, Refusal); 3] = [
+        (&[], Standing::Empty, Refusal::NoParts),
+        (
+            &[(
+                IdSize::Four,
+                1,
+                &[
+                    (5, b"A"),
+                    (5, b"B"),
+                    (3, b"A"),
+                    (3, b"B"),
+                    (4, b"A"),
+                    (4, b"B"),
+                ],
+            )],
+            Standing::InConflict,
+            Refusal::Conflict(Key::Name(3)),
+        ),
+        (
+            &[
+                (IdSize::Four, 1, &[(1, b"A"), (1, b"B")]),
+                (IdSize::Eight, 1, &[(1, b"A")]),
+                (IdSize::Four, 1, &[(1, b"A")]),
+            ],
+            Standing::InConflict,
+            Refusal::IdSizes,
+        ),
     ];
-    let refusal = Refusal::Conflict(Key::Name(3));
-    check_refused(&rt, rt.alloc(), &[(IdSize::Four, 1, &names)], refusal)?;
-    laws::conflicts_are_of_the_set();
+    for (parts, standing, refusal) in cases {
+        check_refused(&rt, rt.alloc(), parts, standing, refusal)?;
+    }
     Ok(())
 }
 
-#[test]
-fn two_sizes_come_before_a_conflict(rt: HostRuntime) -> Result<(), Fail> {
-    let parts: [Part<'_>; 3] = [
-        (IdSize::Four, 1, &[(1, b"A"), (1, b"B")]),
-        (IdSize::Eight, 1, &[(1, b"A")]),
-        (IdSize::Four, 1, &[(1, b"A")]),
-    ];
-    check_refused(&rt, rt.alloc(), &parts, Refusal::IdSizes)?;
-    laws::answers_tell_of_the_parts();
+// That stating the sub-record comes to that, and how the gatherer stands behind it.
+fn check_stated(
+    rt: &impl Abort,
+    gatherer: &mut Gatherer,
+    ids: IdSize,
+    bytes: &[u8],
+    stated: Option<Stated>,
+    standing: Standing,
+) -> Result<(), Fail>
+    requires { (gathered gatherer.old).begun ≡ Some ids }
+    ensures { OnOk result ((gathered gatherer.new).begun ≡ Some ids) }
+{
+    let Step::Whole(fact, len) = read_sub(bytes, u32::MAX, u32::MAX, ids) else {
+        return Err(Fail::from("no sub-record"));
+    };
+    let (spelled, _) = bytes.split_at(len);
+    equal(rt, gatherer.state(&fact, spelled)?, stated);
+    equal(rt, gatherer.standing(), standing);
     Ok(())
 }
 
-// That the heap has the names 1 = A and 2 = B, and the time 1000.
-fn check_two_names(rt: &impl Abort, heap: &Heap) {
-    equal(rt, heap.ids(), IdSize::Eight);
-    equal(rt, heap.millis(), 1000);
-    equal(rt, heap.count(), 2);
-    equal(rt, heap.len(Table::Names), 2);
-    equal(rt, heap.name(1), Some(Fact::Name { id: 1, text: b"A" }));
-    equal(rt, heap.name(3), None);
-    equal(rt, heap.name(2), Some(Fact::Name { id: 2, text: b"B" }));
-}
-
+// An instance that is new, is there, differs; and with two sizes begun, whatever it is.
 #[test]
-fn a_heap(rt: HostRuntime) -> Result<(), Fail> {
-    let parts: [Part<'_>; 2] = [
-        (IdSize::Eight, 2000, &[(2, b"B")]),
-        (IdSize::Eight, 1000, &[(1, b"A")]),
-    ];
-    let heap = given(rt.alloc(), &parts)?.finish()?;
-    check_two_names(&rt, &heap);
-    hprof_dump::laws::sub_records_are_packed_in_one_way();
+fn what_stating_comes_to(rt: HostRuntime) -> Result<(), Fail> {
+    let ids = IdSize::Four;
+    let mut gatherer = begun(rt.alloc(), ids, 5)?;
+    let instance = b"\x21\0\0\0\x07\0\0\0\x01\0\0\0\x02\0\0\0\x03abc";
+    let other = b"\x21\0\0\0\x07\0\0\0\x01\0\0\0\x03\0\0\0\x03abc";
+    let clean = Standing::Clean;
+    check_stated(&rt, &mut gatherer, ids, instance, Some(Stated::New), clean)?;
+    check_stated(&rt, &mut gatherer, ids, instance, Some(Stated::Same), clean)?;
+    let conflict = Standing::InConflict;
+    check_stated(
+        &rt,
+        &mut gatherer,
+        ids,
+        other,
+        Some(Stated::Differs),
+        conflict,
+    )?;
+    gatherer.begin_part(Header {
+        version: Version::V102,
+        ids: IdSize::Eight,
+        millis: 5,
+    })?;
+    let wide = b"\x21\0\0\0\0\0\0\0\x08\0\0\0\x01\0\0\0\0\0\0\0\x02\0\0\0\0";
+    check_stated(&rt, &mut gatherer, IdSize::Eight, wide, None, conflict)?;
     Ok(())
 }
 
@@ -97,6 +134,4 @@ fn the_order_of_keys(rt: HostRuntime) {
     for pair in keys.windows(2) {
         assert!(rt; pair[0] < pair[1], "{pair:?}");
     }
-    laws::agreeing_facts_have_an_order();
-    laws::one_order();
 }

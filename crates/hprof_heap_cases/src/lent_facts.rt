@@ -1,8 +1,8 @@
-//! Tests of the facts of each table, and of the names of classes.
+//! Facts of all tables, as a heap looks them up and lends them.
 
-use crate::expecting::equal;
-use crate::samples::{array, begun, check_rows, heap_of, state_all, state_fact};
-use hprof_heap::{Heap, Table};
+use crate::expecting::{equal, holds};
+use crate::samples::{array, begun, frame_of, heap_of, start_of, state_each, state_fact, trace_of};
+use hprof_heap::{Heap, Key, Refusal, Standing, Table, same};
 use hprof_items::{Fact, IdSize};
 use hprof_lists::{ConstantList, FieldList, IdList, StaticList};
 use hprof_tables::Stated;
@@ -28,61 +28,13 @@ fn instance(id: u64, class: u64, bytes: &[u8]) -> Fact<'_> {
     }
 }
 
-// That the classes have these names.
-fn check_class_names(rt: &impl Abort, heap: &Heap, expected: &[(u64, Option<u64>)]) {
-    for &(class, name) in expected {
-        equal(rt, heap.class_name(class), name);
-    }
-}
-
-#[test]
-fn names_of_classes(rt: HostRuntime) -> Result<(), Fail> {
-    let loads = [load(1, 100, 2), load(2, 102, 9), load(3, 100, 1)];
-    let stated = [loads[2], loads[0], loads[1]];
-    let heap = heap_of(&rt, rt.alloc(), IdSize::Four, &stated)?;
-    check_rows(&rt, &heap, Table::Loads, &loads);
-    check_class_names(&rt, &heap, &[(100, Some(2)), (101, None), (102, Some(9))]);
-    Ok(())
-}
-
-#[test]
-fn no_names_of_classes(rt: HostRuntime) -> Result<(), Fail> {
-    let heap = heap_of(&rt, rt.alloc(), IdSize::Four, &[])?;
-    check_class_names(&rt, &heap, &[(100, None)]);
-    Ok(())
-}
-
-#[test]
-fn objects_of_all_kinds_are_one_table(rt: HostRuntime) -> Result<(), Fail> {
-    let elements = IdList::new(b"\0\0\0\xc8\0\0\0\0", IdSize::Four).ok_or("no list")?;
-    let objects = [
-        instance(200, 100, b"abcd"),
-        instance(201, 101, b"efgh"),
-        array(202, Basic::Int, b""),
-        array(203, Basic::Byte, b"abcd"),
-        Fact::ObjArray {
-            id: 204,
-            trace: 1,
-            class: 102,
-            elements,
-        },
-    ];
-    let stated = [objects[4], objects[1], objects[3], objects[0], objects[2]];
-    let heap = heap_of(&rt, rt.alloc(), IdSize::Four, &stated)?;
-    check_rows(&rt, &heap, Table::Objects, &objects);
-    equal(&rt, heap.object(204), Some(objects[4]));
-    Ok(())
-}
-
-#[test]
-fn a_class_and_an_instance_of_one_identifier(rt: HostRuntime) -> Result<(), Fail> {
+// Class 16, with a constant, two static fields and a field of its own.
+fn class_16<'a>() -> Option<Fact<'a>> {
     let ids = IdSize::Four;
-    let constants = ConstantList::new(b"\0\x03\x02\0\0\0\xc8", ids).ok_or("no list")?;
-    let statics = StaticList::new(b"\0\0\0\x05\x02\0\0\0\xc9\0\0\0\x06\x0a\0\0\0\x07", ids).ok_or(
-        "no list",
-    )?;
-    let fields = FieldList::new(b"\0\0\0\x07\x08", ids).ok_or("no list")?;
-    let class = Fact::Class {
+    let constants = ConstantList::new(b"\0\x03\x02\0\0\0\xc8", ids)?;
+    let statics = StaticList::new(b"\0\0\0\x05\x02\0\0\0\xc9\0\0\0\x06\x0a\0\0\0\x07", ids)?;
+    let fields = FieldList::new(b"\0\0\0\x07\x08", ids)?;
+    Some(Fact::Class {
         id: 16,
         trace: 1,
         parent: 0,
@@ -95,92 +47,179 @@ fn a_class_and_an_instance_of_one_identifier(rt: HostRuntime) -> Result<(), Fail
         constants,
         statics,
         fields,
-    };
-    let object = instance(16, 16, b"");
-    let mut gatherer = begun(rt.alloc(), ids, 1)?;
-    state_all(&rt, rt.alloc(), &mut gatherer, ids, &[object, class])?;
-    equal(
-        &rt,
-        state_fact(rt.alloc(), &mut gatherer, ids, class)?,
-        Some(Stated::Same),
-    );
-    let heap = gatherer.finish()?;
-    equal(&rt, heap.class(16), Some(class));
-    check_rows(&rt, &heap, Table::Classes, &[class]);
-    check_rows(&rt, &heap, Table::Objects, &[object]);
-    Ok(())
+    })
 }
 
-#[test]
-fn roots_in_the_order_of_their_spellings(rt: HostRuntime) -> Result<(), Fail> {
-    let unknown = Fact::Root(Root::Unknown { id: 1 });
-    let thread = Fact::Root(Root::ThreadObject {
+// Roots in the order of their spellings.
+const ROOTS: [Root; 3] = [
+    Root::JniGlobal {
+        id: 9,
+        reference: 10,
+    },
+    Root::ThreadObject {
         id: 2,
         thread: 1,
         trace: 1,
-    });
-    let global = Fact::Root(Root::JniGlobal {
-        id: 9,
-        reference: 10,
-    });
-    let ids = IdSize::Four;
-    let mut gatherer = begun(rt.alloc(), ids, 1)?;
-    let stated = [unknown, thread, global];
-    state_all(&rt, rt.alloc(), &mut gatherer, ids, &stated)?;
-    equal(
-        &rt,
-        state_fact(rt.alloc(), &mut gatherer, ids, unknown)?,
-        Some(Stated::Same),
-    );
-    let heap = gatherer.finish()?;
-    check_rows(&rt, &heap, Table::Roots, &[global, thread, unknown]);
-    Ok(())
+    },
+    Root::Unknown { id: 1 },
+];
+
+// An array of two objects.
+fn objects_204<'a>() -> Option<Fact<'a>> {
+    Some(Fact::ObjArray {
+        id: 204,
+        trace: 1,
+        class: 102,
+        elements: IdList::new(b"\0\0\0\xc8\0\0\0\0", IdSize::Four)?,
+    })
 }
 
-#[test]
-fn records_table_by_table(rt: HostRuntime) -> Result<(), Fail> {
-    let names = [
+// Facts of all tables, in canonical order. A class and an instance have one identifier.
+fn sample<'a>() -> Option<[Fact<'a>; 21]> {
+    Some([
         Fact::Name { id: 1, text: b"A" },
         Fact::Name { id: 2, text: b"B" },
+        load(1, 100, 2),
+        load(2, 102, 9),
+        load(3, 100, 1),
+        Fact::Unload { serial: 1 },
+        frame_of(1, -3),
+        trace_of(6, b"\0\0\0\x01")?,
+        start_of(7, 2),
+        Fact::End { thread: 1 },
+        Fact::End { thread: 2 },
+        Fact::Root(ROOTS[0]),
+        Fact::Root(ROOTS[1]),
+        Fact::Root(ROOTS[2]),
+        class_16()?,
+        instance(16, 16, b""),
+        instance(200, 100, b"abcd"),
+        instance(201, 101, b"efgh"),
+        array(202, Basic::Int, b""),
+        array(203, Basic::Byte, b"abcd"),
+        objects_204()?,
+    ])
+}
+
+// That each key gives its fact, and a key without one none.
+fn check_look_ups(rt: &impl Abort, heap: &Heap, facts: &[Fact<'_>; 21]) {
+    let look_ups = [
+        (heap.name(1), Some(facts[0])),
+        (heap.name(2), Some(facts[1])),
+        (heap.name(3), None),
+        (heap.load(1), Some(facts[2])),
+        (heap.frame(1), Some(facts[6])),
+        (heap.trace(6), Some(facts[7])),
+        (heap.thread(7), Some(facts[8])),
+        (heap.class(16), Some(facts[14])),
+        (heap.class(200), None),
+        (heap.object(16), Some(facts[15])),
+        (heap.object(204), Some(facts[20])),
+        (heap.object(205), None),
     ];
-    let unload = Fact::Unload { serial: 1 };
-    let ends = [Fact::End { thread: 1 }, Fact::End { thread: 2 }];
-    let stated = [ends[1], unload, names[1], names[0], ends[0]];
-    let heap = heap_of(&rt, rt.alloc(), IdSize::Four, &stated)?;
-    check_rows(&rt, &heap, Table::Names, &names);
-    check_rows(&rt, &heap, Table::Unloads, &[unload]);
-    check_rows(&rt, &heap, Table::Ends, &ends);
-    check_rows(&rt, &heap, Table::Loads, &[]);
-    Ok(())
+    for (found, expected) in look_ups {
+        equal(rt, found, expected);
+    }
+    for (class, name) in [(100, Some(2)), (101, None), (102, Some(9))] {
+        equal(rt, heap.class_name(class), name);
+    }
+    equal(
+        rt,
+        (heap.ids(), heap.millis(), heap.count()),
+        (IdSize::Four, 5, 21),
+    );
 }
 
 #[test]
-fn stacks_and_threads(rt: HostRuntime) -> Result<(), Fail> {
-    let frame = Fact::Frame {
-        id: 1,
-        method: 2,
-        signature: 3,
-        source: 4,
-        class_serial: 5,
-        line: -3,
-    };
-    let frames = IdList::new(b"\0\0\0\x01", IdSize::Four).ok_or("no list")?;
-    let trace = Fact::Trace {
-        serial: 6,
-        thread: 7,
-        frames,
-    };
-    let start = Fact::Start {
-        thread: 7,
-        object: 8,
-        trace: 6,
-        name: 2,
-        group: 3,
-        parent_group: 4,
-    };
-    let heap = heap_of(&rt, rt.alloc(), IdSize::Four, &[start, trace, frame])?;
-    check_rows(&rt, &heap, Table::Frames, &[frame]);
-    check_rows(&rt, &heap, Table::Traces, &[trace]);
-    check_rows(&rt, &heap, Table::Starts, &[start]);
+fn facts_in_a_heap(rt: HostRuntime) -> Result<(), Fail> {
+    let ids = IdSize::Four;
+    let facts = sample().ok_or("no list")?;
+    let mut gatherer = begun(rt.alloc(), ids, 5)?;
+    state_each(&rt, rt.alloc(), &mut gatherer, ids, &facts, Stated::New)?;
+    state_each(&rt, rt.alloc(), &mut gatherer, ids, &facts, Stated::Same)?;
+    check_look_ups(&rt, gatherer.heap().ok_or("no heap")?, &facts);
+    // From the first that differs on, the heap is shown no more.
+    let came = state_fact(rt.alloc(), &mut gatherer, ids, load(1, 100, 3))?;
+    equal(
+        &rt,
+        (came, gatherer.standing()),
+        (Some(Stated::Differs), Standing::InConflict),
+    );
+    equal(
+        &rt,
+        gatherer.finish().err(),
+        Some(Refusal::Conflict(Key::Load(1))),
+    );
+    Ok(())
+}
+
+// That a table has these facts, in this order.
+fn check_rows(rt: &impl Abort, heap: &Heap, table: Table, expected: &[Fact<'_>]) {
+    equal(rt, heap.len(table), expected.len());
+    let mut facts = heap.rows(table);
+    for &fact in expected {
+        equal(rt, facts.next(), Some(fact));
+    }
+    holds(rt, facts.next().is_none());
+    check_rows_into(rt, heap, table, expected);
+}
+
+// That these facts are put one behind the other in one place, in which the last of them stays.
+fn check_rows_into(rt: &impl Abort, heap: &Heap, table: Table, expected: &[Fact<'_>]) {
+    let mut facts = heap.rows(table);
+    let mut place = Fact::Unload { serial: 77 };
+    let mut last = Fact::Unload { serial: 77 };
+    for &fact in expected {
+        holds(rt, facts.next_into(&mut place));
+        equal(rt, place, fact);
+        last = fact;
+    }
+    holds(rt, !facts.next_into(&mut place));
+    equal(rt, place, last);
+}
+
+const TABLES: [Table; 10] = [
+    Table::Names,
+    Table::Loads,
+    Table::Unloads,
+    Table::Frames,
+    Table::Traces,
+    Table::Starts,
+    Table::Ends,
+    Table::Roots,
+    Table::Classes,
+    Table::Objects,
+];
+
+// That the tables of a heap have these facts, so many each, one table behind the other.
+fn check_tables(
+    rt: &impl Abort,
+    heap: &Heap,
+    facts: &[Fact<'_>],
+    counts: [usize; 10],
+) -> Result<(), Fail> {
+    let mut rest = facts;
+    for (table, count) in TABLES.into_iter().zip(counts) {
+        let (expected, behind) = rest.split_at_checked(count).ok_or("no facts")?;
+        check_rows(rt, heap, table, expected);
+        rest = behind;
+    }
+    holds(rt, rest.is_empty());
+    Ok(())
+}
+
+// The heap is the same whichever of the facts were given first.
+#[test]
+fn rows_of_each_table(rt: HostRuntime) -> Result<(), Fail> {
+    let facts = sample().ok_or("no list")?;
+    let heap = heap_of(&rt, rt.alloc(), IdSize::Four, &facts)?;
+    let mut stated = facts;
+    stated.reverse();
+    let other = heap_of(&rt, rt.alloc(), IdSize::Four, &stated)?;
+    holds(&rt, same(&heap, &other));
+    check_tables(&rt, &other, &facts, [2, 3, 1, 1, 1, 1, 2, 3, 1, 6])?;
+    let empty = heap_of(&rt, rt.alloc(), IdSize::Four, &[])?;
+    check_tables(&rt, &empty, &[], [0; 10])?;
+    equal(&rt, empty.class_name(100), None);
     Ok(())
 }

@@ -1,16 +1,12 @@
-//! Tests of hprof_tables, hprof_rows, hprof_heap and hprof_dump, through public calls. It has no code of its own.
+//! Tests of hprof_tables, hprof_rows, hprof_heap and hprof_dump, through public calls, and a call of the laws that two of them state.
 #![tactic(auto)]
 
 #[cfg(test)]
-mod comparing;
-#[cfg(test)]
-mod dumps;
+mod batches;
 #[cfg(test)]
 mod expecting;
 #[cfg(test)]
 mod gathering;
-#[cfg(test)]
-mod hinted_maps;
 #[cfg(test)]
 mod joining;
 #[cfg(test)]
@@ -20,6 +16,17 @@ mod rooms;
 #[cfg(test)]
 mod samples;
 #[cfg(test)]
-mod stating;
-#[cfg(test)]
 mod tables;
+
+/// Calls the laws of hprof_heap and of hprof_dump, which hold.
+pub fn laws_hold() {
+    hprof_heap::laws::agreeing_facts_have_an_order();
+    hprof_heap::laws::one_order();
+    hprof_heap::laws::conflicts_are_of_the_set();
+    hprof_heap::laws::answers_tell_of_the_parts();
+    hprof_heap::laws::two_heaps_have_one_join();
+    hprof_heap::laws::groups_of_heaps_do_not_matter();
+    hprof_heap::laws::a_join_can_be_made_again();
+    hprof_dump::laws::sub_records_are_packed_in_one_way();
+    hprof_dump::laws::dump_reads_back();
+}

@@ -5,16 +5,16 @@ ghost use Rattle.hprof_items.specs.FactValue.{value_of};
 ghost use Rattle.hprof_items.specs.SubRecord.{dump_bytes};
 ghost use Rattle.hprof_heap.specs.Gathering.{gathered};
 
-use crate::expecting::{equal, holds};
+use crate::expecting::equal;
 use hprof_devices::Device;
-use hprof_heap::{Gatherer, Heap, LoadRow, Table};
+use hprof_heap::{Gatherer, Heap};
 use hprof_items::{Fact, Header, IdSize, Step, Version, read_sub};
 use hprof_lists::{ConstantList, FieldList, IdList, StaticList};
 use hprof_stream::{Sink, SinkFault};
-use hprof_tables::{Content, Relation, Stated};
+use hprof_tables::Stated;
 use hprof_values::Basic;
 use hprof_writing::{fits, write_fact};
-use std::alloc::{AllocError, Global};
+use std::alloc::Global;
 use std::process::Abort;
 use std::test::Fail;
 
@@ -190,31 +190,6 @@ pub(crate) fn heap_of(
     Ok(gatherer.finish()?)
 }
 
-// That a table has these facts, in this order.
-pub(crate) fn check_rows(rt: &impl Abort, heap: &Heap, table: Table, expected: &[Fact<'_>]) {
-    equal(rt, heap.len(table), expected.len());
-    let mut facts = heap.rows(table);
-    for &fact in expected {
-        equal(rt, facts.next(), Some(fact));
-    }
-    holds(rt, facts.next().is_none());
-    check_rows_into(rt, heap, table, expected);
-}
-
-// That these facts are put one behind the other in one place, in which the last of them stays.
-fn check_rows_into(rt: &impl Abort, heap: &Heap, table: Table, expected: &[Fact<'_>]) {
-    let mut facts = heap.rows(table);
-    let mut place = Fact::Unload { serial: 77 };
-    let mut last = Fact::Unload { serial: 77 };
-    for &fact in expected {
-        holds(rt, facts.next_into(&mut place));
-        equal(rt, place, fact);
-        last = fact;
-    }
-    holds(rt, !facts.next_into(&mut place));
-    equal(rt, place, last);
-}
-
 pub(crate) fn array(id: u64, elem: Basic, bytes: &[u8]) -> Fact<'_> {
     Fact::PrimArray {
         id,
@@ -222,44 +197,6 @@ pub(crate) fn array(id: u64, elem: Basic, bytes: &[u8]) -> Fact<'_> {
         elem,
         bytes,
     }
-}
-
-// The load of the class 1 by that name.
-pub(crate) fn load_of(name: u64) -> LoadRow {
-    LoadRow {
-        class: 1,
-        trace: 2,
-        name,
-    }
-}
-
-// That the table has these rows, loads of the class 1 by those names, in this order.
-pub(crate) fn check_loads(
-    rt: &impl Abort,
-    loads: &Relation<LoadRow>,
-    expected: &[(u64, u64)],
-) -> Result<(), Fail> {
-    equal(rt, loads.len(), expected.len());
-    let mut rows = loads.rows();
-    for &(key, name) in expected {
-        let (found, row) = rows.next().ok_or("no row")?;
-        equal(rt, found, key);
-        holds(rt, row.agrees(&load_of(name)));
-    }
-    holds(rt, rows.next().is_none());
-    Ok(())
-}
-
-// States loads of the class 1 by those names, which are new.
-pub(crate) fn state_loads(
-    rt: &impl Abort,
-    loads: &mut Relation<LoadRow>,
-    rows: &[(u64, u64)],
-) -> Result<(), AllocError> {
-    for &(key, name) in rows {
-        equal(rt, loads.state(key, load_of(name))?, Stated::New);
-    }
-    Ok(())
 }
 
 pub(crate) fn class_of<'a>(id: u64, size: u32) -> Option<Fact<'a>> {

@@ -1,17 +1,22 @@
-//! Tables of rows.
+//! Tables of rows, and maps that guess where a key stands.
 
-ghost use Rattle.std.specs.Prelude.{◌≡◌, Some, IfOk};
 ghost use Rattle.hprof_rows.specs.NumberRows.{load_numbers};
-ghost use Rattle.hprof_heap.specs.Gathering.{gathered};
 
 use crate::expecting::{equal, holds};
-use crate::samples::{begun, check_loads, load_of, state_record};
-use hprof_heap::{FrameRow, Gatherer, Heap, Key, KeyRow, LoadRow, Refusal, StartRow, Table};
-use hprof_items::{Fact, IdSize};
-use hprof_tables::{BytesTable, Content, Relation, Stated, Statement};
+use hprof_heap::LoadRow;
+use hprof_tables::{BytesTable, Content, HintedMap, Relation, Stated, Statement};
 use std::alloc::{AllocError, Global};
 use std::process::Abort;
 use std::test::*;
+
+// The load of the class 1 by that name.
+fn load_of(name: u64) -> LoadRow {
+    LoadRow {
+        class: 1,
+        trace: 2,
+        name,
+    }
+}
 
 // A class that was loaded, stated by a row of its own.
 #[derive(Drop)]
@@ -32,159 +37,124 @@ impl Statement<LoadRow> for Prepared {
     }
 }
 
+// States loads of the class 1 by those names, which are new.
+fn state_loads(
+    rt: &impl Abort,
+    loads: &mut Relation<LoadRow>,
+    rows: &[(u64, u64)],
+) -> Result<(), AllocError> {
+    for &(key, name) in rows {
+        equal(rt, loads.state(key, load_of(name))?, Stated::New);
+    }
+    Ok(())
+}
+
+// That the table has these rows, loads of the class 1 by those names, in this order.
+fn check_loads(
+    rt: &impl Abort,
+    loads: &Relation<LoadRow>,
+    expected: &[(u64, u64)],
+) -> Result<(), Fail> {
+    equal(rt, loads.len(), expected.len());
+    let mut rows = loads.rows();
+    for &(key, name) in expected {
+        let (found, row) = rows.next().ok_or("no row")?;
+        equal(rt, found, key);
+        holds(rt, row.agrees(&load_of(name)));
+    }
+    holds(rt, rows.next().is_none());
+    Ok(())
+}
+
 #[test]
 fn stating_rows(rt: HostRuntime) -> Result<(), Fail> {
     let mut loads = Relation::new(rt.alloc());
     for (name, stated) in [(3, Stated::New), (3, Stated::Same), (4, Stated::Differs)] {
         equal(&rt, loads.state(1, load_of(name))?, stated);
     }
-    equal(
-        &rt,
-        loads.state_from(1, Prepared(load_of(5)))?,
-        Stated::Differs,
-    );
+    for (key, name, stated) in [(1, 5, Stated::Differs), (0, 4, Stated::New)] {
+        equal(&rt, loads.state_from(key, Prepared(load_of(name)))?, stated);
+    }
     let row = loads.get(1).ok_or("no row")?;
-    holds(&rt, row.agrees(&load_of(3)));
-    holds(&rt, loads.get(2).is_none());
-    check_loads(&rt, &loads, &[(1, 3)])?;
-    equal(&rt, loads.state_from(0, Prepared(load_of(4)))?, Stated::New);
+    holds(&rt, row.agrees(&load_of(3)) && loads.get(2).is_none());
     check_loads(&rt, &loads, &[(0, 4), (1, 3)])
+}
+
+// That the table has these rows, in this order.
+fn check_bytes(rt: &impl Abort, table: &BytesTable, expected: &[(u64, &[u8])]) {
+    equal(rt, table.len(), expected.len());
+    let mut rows = table.rows();
+    for &(key, bytes) in expected {
+        equal(rt, rows.next(), Some((key, bytes)));
+        equal(rt, table.get(key), Some(bytes));
+    }
+    holds(rt, rows.next().is_none());
+}
+
+// States bytes, of which the first stands apart where there is one.
+fn state_bytes(
+    table: &mut BytesTable,
+    key: u64,
+    first: Option<u8>,
+    rest: &[u8],
+) -> Result<Stated, AllocError> {
+    match first {
+        None => table.state(key, rest),
+        Some(first) => table.state_apart(key, first, rest),
+    }
 }
 
 #[test]
 fn stating_bytes(rt: HostRuntime) -> Result<(), Fail> {
-    let mut names = BytesTable::new(rt.alloc());
-    for (id, text, stated) in [
-        (1, b"A".as_slice(), Stated::New),
-        (1, b"A".as_slice(), Stated::Same),
-        (1, b"B".as_slice(), Stated::Differs),
-        (1, b"AB".as_slice(), Stated::Differs),
-        (2, b"".as_slice(), Stated::New),
-        (0, b"BC".as_slice(), Stated::New),
-        (2, b"".as_slice(), Stated::Same),
-        (0, b"BC".as_slice(), Stated::Same),
-    ] {
-        equal(&rt, names.state(id, text)?, stated);
-    }
-    equal(&rt, names.get(1), Some(b"A".as_slice()));
-    holds(&rt, names.get(3).is_none());
-    equal(&rt, names.len(), 3);
-    let mut rows = names.rows();
-    let expected: [(u64, &[u8]); 3] = [(0, b"BC"), (1, b"A"), (2, b"")];
-    for row in expected {
-        equal(&rt, rows.next(), Some(row));
-    }
-    holds(&rt, rows.next().is_none());
-    Ok(())
-}
-
-#[test]
-fn stating_bytes_of_which_the_first_stands_apart(rt: HostRuntime) -> Result<(), Fail> {
     let mut rows = BytesTable::new(rt.alloc());
     for (key, first, rest, stated) in [
-        (1, b'A', b"BC".as_slice(), Stated::New),
-        (1, b'A', b"BC".as_slice(), Stated::Same),
-        (1, b'B', b"BC".as_slice(), Stated::Differs),
-        (1, b'A', b"B".as_slice(), Stated::Differs),
-        (1, b'A', b"BD".as_slice(), Stated::Differs),
-        (2, b'A', b"".as_slice(), Stated::New),
-        (2, b'A', b"A".as_slice(), Stated::Differs),
+        (1, None, b"A".as_slice(), Stated::New),
+        (1, None, b"A".as_slice(), Stated::Same),
+        (1, None, b"B".as_slice(), Stated::Differs),
+        (1, None, b"AB".as_slice(), Stated::Differs),
+        (2, None, b"".as_slice(), Stated::New),
+        (0, None, b"BC".as_slice(), Stated::New),
+        (2, None, b"".as_slice(), Stated::Same),
+        (0, None, b"BC".as_slice(), Stated::Same),
+        (11, Some(b'A'), b"BC".as_slice(), Stated::New),
+        (11, Some(b'A'), b"BC".as_slice(), Stated::Same),
+        (11, Some(b'B'), b"BC".as_slice(), Stated::Differs),
+        (11, Some(b'A'), b"B".as_slice(), Stated::Differs),
+        (11, Some(b'A'), b"BD".as_slice(), Stated::Differs),
+        (12, Some(b'A'), b"".as_slice(), Stated::New),
+        (12, Some(b'A'), b"A".as_slice(), Stated::Differs),
+        (11, None, b"ABC".as_slice(), Stated::Same),
+        (12, None, b"".as_slice(), Stated::Differs),
     ] {
-        equal(&rt, rows.state_apart(key, first, rest)?, stated);
+        equal(&rt, state_bytes(&mut rows, key, first, rest)?, stated);
     }
-    equal(&rt, rows.state(1, b"ABC")?, Stated::Same);
-    equal(&rt, rows.state(2, b"")?, Stated::Differs);
-    equal(&rt, rows.get(1), Some(b"ABC".as_slice()));
-    equal(&rt, rows.get(2), Some(b"A".as_slice()));
+    holds(&rt, rows.get(3).is_none());
+    let expected: [(u64, &[u8]); 5] = [(0, b"BC"), (1, b"A"), (2, b""), (11, b"ABC"), (12, b"A")];
+    check_bytes(&rt, &rows, &expected);
     Ok(())
 }
 
+// Lengths are spelled in one byte below 255, and else in nine.
 #[test]
-fn stating_long_bytes_of_which_the_first_stands_apart(rt: HostRuntime) -> Result<(), Fail> {
+fn stating_long_bytes(rt: HostRuntime) -> Result<(), Fail> {
     let bytes = [7; 300];
     let mut rows = BytesTable::new(rt.alloc());
-    // Lengths are spelled in one byte below 255, and else in nine.
     for len in [253, 254, 255, 256, 300] {
         let row = bytes.get(..len).ok_or("no bytes")?;
         let (first, rest) = row.split_first().ok_or("no byte")?;
         let (_, short) = rest.split_first().ok_or("no rest")?;
         let key = len as u64;
-        equal(&rt, rows.state_apart(key, *first, rest)?, Stated::New);
-        equal(&rt, rows.state_apart(key, *first, rest)?, Stated::Same);
-        equal(&rt, rows.state_apart(key, *first, short)?, Stated::Differs);
+        for (bytes, stated) in [
+            (rest, Stated::New),
+            (rest, Stated::Same),
+            (short, Stated::Differs),
+        ] {
+            equal(&rt, rows.state_apart(key, *first, bytes)?, stated);
+        }
         equal(&rt, rows.state(key, row)?, Stated::Same);
         equal(&rt, rows.get(key), Some(row));
     }
     equal(&rt, rows.len(), 5);
-    Ok(())
-}
-
-#[test]
-fn stating_loads(rt: HostRuntime) -> Result<(), Fail> {
-    let load = LoadRow {
-        class: 9,
-        trace: 1,
-        name: 2,
-    };
-    let mut loads = Relation::new(rt.alloc());
-    equal(&rt, loads.state(1, load)?, Stated::New);
-    equal(&rt, loads.state(1, load)?, Stated::Same);
-    equal(
-        &rt,
-        loads.state(1, LoadRow { trace: 2, ..load })?,
-        Stated::Differs,
-    );
-    Ok(())
-}
-
-#[test]
-fn stating_frames(rt: HostRuntime) -> Result<(), Fail> {
-    let frame = FrameRow {
-        method: 1,
-        signature: 2,
-        source: 3,
-        class_serial: 4,
-        line: 1,
-    };
-    let mut frames = Relation::new(rt.alloc());
-    equal(&rt, frames.state(7, frame)?, Stated::New);
-    equal(&rt, frames.state(7, frame)?, Stated::Same);
-    for line in [-1, 2, -2] {
-        equal(
-            &rt,
-            frames.state(7, FrameRow { line, ..frame })?,
-            Stated::Differs,
-        );
-    }
-    Ok(())
-}
-
-#[test]
-fn stating_starts_and_ends(rt: HostRuntime) -> Result<(), Fail> {
-    let start = StartRow {
-        object: 1,
-        trace: 2,
-        name: 3,
-        group: 4,
-        parent_group: 5,
-    };
-    let mut starts = Relation::new(rt.alloc());
-    equal(&rt, starts.state(0, start)?, Stated::New);
-    equal(
-        &rt,
-        starts.state(
-            0,
-            StartRow {
-                parent_group: 6,
-                ..start
-            },
-        )?,
-        Stated::Differs,
-    );
-    let mut ends = Relation::new(rt.alloc());
-    equal(&rt, ends.state(3, KeyRow)?, Stated::New);
-    equal(&rt, ends.state(3, KeyRow)?, Stated::Same);
-    equal(&rt, ends.len(), 1);
     Ok(())
 }
 
@@ -204,157 +174,220 @@ fn state(
     names.state(id, text)
 }
 
-// A gatherer that was given those of the names that do not differ. They come to what stands beside them.
-fn given_names(
-    rt: &impl Abort,
-    alloc: Global,
-    given: &[(u64, &[u8], Stated)],
-) -> Result<Gatherer, Fail>
-    ensures { IfOk result (λ gatherer. (gathered gatherer).begun ≡ Some IdSize.Four) }
-{
-    let mut gatherer = begun(alloc, IdSize::Four, 1)?;
-    for &(id, text, stated) in given {
-        if stated != Stated::Differs {
-            let name = Fact::Name { id, text };
-            let came = state_record(&mut gatherer, IdSize::Four, name)?;
-            equal(rt, came, Some(stated));
-        }
-    }
-    Ok(gatherer)
-}
-
-// That this name differs behind those that are given, and is a conflict.
-fn check_conflict(
-    rt: &impl Abort,
-    alloc: Global,
-    given: &[(u64, &[u8], Stated)],
-    id: u64,
-    text: &[u8],
-) -> Result<(), Fail> {
-    let mut gatherer = given_names(rt, alloc, given)?;
-    let name = Fact::Name { id, text };
-    let came = state_record(&mut gatherer, IdSize::Four, name)?;
-    equal(rt, came, Some(Stated::Differs));
-    let conflict = Refusal::Conflict(Key::Name(id));
-    equal(rt, gatherer.finish().err(), Some(conflict));
-    Ok(())
-}
-
-// That the heap has these names of even identifiers, and no others.
-fn check_rows(rt: &impl Abort, heap: &Heap, expected: &[(u64, &[u8])]) {
-    equal(rt, heap.len(Table::Names), expected.len());
-    let mut facts = heap.rows(Table::Names);
-    for &(id, text) in expected {
-        let name = Some(Fact::Name { id, text });
-        equal(rt, (facts.next(), heap.name(id)), (name, name));
-        equal(rt, heap.name(id | 1), None);
-    }
-    holds(rt, facts.next().is_none());
-}
-
-// The same of a heap as of a table: it has these rows, and each name that differs is a conflict.
-fn check_heap(
-    rt: &impl Abort,
-    alloc: Global,
-    given: &[(u64, &[u8], Stated)],
-    expected: &[(u64, &[u8])],
-) -> Result<(), Fail> {
-    for (place, &(id, text, stated)) in given.iter().enumerate() {
-        if stated == Stated::Differs {
-            check_conflict(rt, alloc, &given[..place], id, text)?;
-        }
-    }
-    let heap = given_names(rt, alloc, given)?.finish()?;
-    check_rows(rt, &heap, expected);
-    Ok(())
-}
+// A name, and what stating it comes to.
+type Step<'a> = (u64, &'a [u8], Stated);
 
 // That names of even identifiers which are stated in this order come to what stands beside them, and to these rows.
 fn check_names(
     rt: &impl Abort,
     alloc: Global,
-    given: &[(u64, &[u8], Stated)],
+    steps: &[Step<'_>],
     expected: &[(u64, &[u8])],
-) -> Result<(), Fail> {
+) -> Result<(), AllocError> {
     let mut names = BytesTable::new(alloc);
-    for &(id, text, stated) in given {
+    for &(id, text, stated) in steps {
         equal(rt, state(rt, &mut names, id, text)?, stated);
     }
-    equal(rt, names.len(), expected.len());
-    let mut rows = names.rows();
-    for &(id, text) in expected {
-        equal(rt, rows.next(), Some((id, text)));
-        equal(rt, names.get(id), Some(text));
+    for &(id, _) in expected {
         holds(rt, names.get(id | 1).is_none());
     }
-    holds(rt, rows.next().is_none());
-    check_heap(rt, alloc, given, expected)
+    check_bytes(rt, &names, expected);
+    Ok(())
+}
+
+const ASCENDING: [Step<'static>; 9] = [
+    (2, b"A", Stated::New),
+    (4, b"B", Stated::New),
+    (6, b"C", Stated::New),
+    (8, b"D", Stated::New),
+    (10, b"E", Stated::New),
+    (4, b"B", Stated::Same),
+    (4, b"C", Stated::Differs),
+    (10, b"E", Stated::Same),
+    (10, b"", Stated::Differs),
+];
+
+const DESCENDING: [Step<'static>; 7] = [
+    (6, b"A", Stated::New),
+    (4, b"B", Stated::New),
+    (2, b"C", Stated::New),
+    (6, b"A", Stated::Same),
+    (6, b"B", Stated::Differs),
+    (2, b"C", Stated::Same),
+    (2, b"CC", Stated::Differs),
+];
+
+const ALTERNATING: [Step<'static>; 11] = [
+    (20, b"A", Stated::New),
+    (10, b"B", Stated::New),
+    (30, b"C", Stated::New),
+    (14, b"D", Stated::New),
+    (40, b"E", Stated::New),
+    (0, b"F", Stated::New),
+    (30, b"C", Stated::Same),
+    (30, b"D", Stated::Differs),
+    (14, b"D", Stated::Same),
+    (14, b"C", Stated::Differs),
+    (36, b"G", Stated::New),
+];
+
+#[test]
+fn names_in_any_order(rt: HostRuntime) -> Result<(), Fail> {
+    let orders: [(&[Step<'_>], &[(u64, &[u8])]); 3] = [
+        (
+            &ASCENDING,
+            &[(2, b"A"), (4, b"B"), (6, b"C"), (8, b"D"), (10, b"E")],
+        ),
+        (&DESCENDING, &[(2, b"C"), (4, b"B"), (6, b"A")]),
+        (
+            &ALTERNATING,
+            &[
+                (0, b"F"),
+                (10, b"B"),
+                (14, b"D"),
+                (20, b"A"),
+                (30, b"C"),
+                (36, b"G"),
+                (40, b"E"),
+            ],
+        ),
+    ];
+    for (steps, expected) in orders {
+        check_names(&rt, rt.alloc(), steps, expected)?;
+    }
+    Ok(())
+}
+
+// Loads in two tables, whether these are the same, and the first key under which they differ.
+type Pair<'a> = (&'a [(u64, u64)], &'a [(u64, u64)], bool, Option<u64>);
+
+// That tables of these loads compare so, whichever is asked.
+fn check_pair(rt: &impl Abort, alloc: Global, pair: Pair<'_>) -> Result<(), AllocError> {
+    let (rows, other_rows, same, first) = pair;
+    let mut one = Relation::new(alloc);
+    let mut other = Relation::new(alloc);
+    state_loads(rt, &mut one, rows)?;
+    state_loads(rt, &mut other, other_rows)?;
+    equal(rt, (one.same(&other), other.same(&one)), (same, same));
+    let found = (one.first_difference(&other), other.first_difference(&one));
+    equal(rt, found, (first, first));
+    Ok(())
 }
 
 #[test]
-fn names_in_ascending_order(rt: HostRuntime) -> Result<(), Fail> {
-    check_names(
-        &rt,
-        rt.alloc(),
-        &[
-            (2, b"A", Stated::New),
-            (4, b"B", Stated::New),
-            (6, b"C", Stated::New),
-            (8, b"D", Stated::New),
-            (10, b"E", Stated::New),
-            (4, b"B", Stated::Same),
-            (4, b"C", Stated::Differs),
-            (10, b"E", Stated::Same),
-            (10, b"", Stated::Differs),
-        ],
-        &[(2, b"A"), (4, b"B"), (6, b"C"), (8, b"D"), (10, b"E")],
-    )
+fn tables_of_numbers_that_are_compared(rt: HostRuntime) -> Result<(), Fail> {
+    let pairs: [Pair<'_>; 7] = [
+        (&[], &[], true, None),
+        (&[(1, 5)], &[], false, None),
+        (&[(1, 5)], &[(1, 5)], true, None),
+        (&[(1, 5), (2, 6)], &[(1, 5), (2, 7)], false, Some(2)),
+        (
+            &[(2, 5), (4, 6), (1, 7)],
+            &[(4, 6), (3, 8), (9, 9)],
+            false,
+            None,
+        ),
+        (
+            &[(1, 5), (5, 5), (3, 5), (7, 5)],
+            &[(2, 1), (3, 6), (5, 6), (7, 5)],
+            false,
+            Some(3),
+        ),
+        (
+            &[(1, 5), (5, 5), (3, 5), (7, 5)],
+            &[(7, 5), (5, 5), (3, 5), (1, 5)],
+            true,
+            None,
+        ),
+    ];
+    for pair in pairs {
+        check_pair(&rt, rt.alloc(), pair)?;
+    }
+    Ok(())
+}
+
+// States new rows.
+fn state_rows(
+    rt: &impl Abort,
+    table: &mut BytesTable,
+    rows: &[(u64, &[u8])],
+) -> Result<(), AllocError> {
+    for &(key, bytes) in rows {
+        equal(rt, table.state(key, bytes)?, Stated::New);
+    }
+    Ok(())
 }
 
 #[test]
-fn names_in_descending_order(rt: HostRuntime) -> Result<(), Fail> {
-    check_names(
-        &rt,
-        rt.alloc(),
-        &[
-            (6, b"A", Stated::New),
-            (4, b"B", Stated::New),
-            (2, b"C", Stated::New),
-            (6, b"A", Stated::Same),
-            (6, b"B", Stated::Differs),
-            (2, b"C", Stated::Same),
-            (2, b"CC", Stated::Differs),
-        ],
-        &[(2, b"C"), (4, b"B"), (6, b"A")],
-    )
+fn tables_of_bytes_that_are_compared(rt: HostRuntime) -> Result<(), Fail> {
+    let mut one = BytesTable::new(rt.alloc());
+    let mut other = BytesTable::new(rt.alloc());
+    let steps: [(&[(u64, &[u8])], &[(u64, &[u8])], bool, Option<u64>); 5] = [
+        (&[], &[], true, None),
+        (&[(1, b"A"), (2, b"B")], &[(2, b"B")], false, None),
+        (&[], &[(1, b"A")], true, None),
+        (&[(3, b"AB")], &[(4, b"AB")], false, None),
+        (&[(4, b"BB")], &[(3, b"AB"), (5, b"")], false, Some(4)),
+    ];
+    for (rows, other_rows, same, first) in steps {
+        state_rows(&rt, &mut one, rows)?;
+        state_rows(&rt, &mut other, other_rows)?;
+        equal(&rt, (one.same(&other), other.same(&one)), (same, same));
+        let found = (one.first_difference(&other), other.first_difference(&one));
+        equal(&rt, found, (first, first));
+    }
+    Ok(())
+}
+
+// What was joined is a table like any other.
+#[test]
+fn joined_tables_of_numbers(rt: HostRuntime) -> Result<(), Fail> {
+    let mut one = Relation::new(rt.alloc());
+    state_loads(&rt, &mut one, &[(2, 5), (4, 6), (1, 7)])?;
+    let mut other = Relation::new(rt.alloc());
+    state_loads(&rt, &mut other, &[(4, 6), (3, 8), (9, 9)])?;
+    one.join(&other)?;
+    check_loads(&rt, &one, &[(1, 7), (2, 5), (3, 8), (4, 6), (9, 9)])?;
+    for (key, stated) in [(3, Stated::Same), (5, Stated::New), (10, Stated::New)] {
+        equal(&rt, one.state(key, load_of(8))?, stated);
+    }
+    equal(&rt, one.len(), 7);
+    Ok(())
 }
 
 #[test]
-fn names_in_alternating_order(rt: HostRuntime) -> Result<(), Fail> {
-    check_names(
-        &rt,
-        rt.alloc(),
-        &[
-            (20, b"A", Stated::New),
-            (10, b"B", Stated::New),
-            (30, b"C", Stated::New),
-            (14, b"D", Stated::New),
-            (40, b"E", Stated::New),
-            (0, b"F", Stated::New),
-            (30, b"C", Stated::Same),
-            (30, b"D", Stated::Differs),
-            (14, b"D", Stated::Same),
-            (14, b"C", Stated::Differs),
-            (36, b"G", Stated::New),
-        ],
-        &[
-            (0, b"F"),
-            (10, b"B"),
-            (14, b"D"),
-            (20, b"A"),
-            (30, b"C"),
-            (36, b"G"),
-            (40, b"E"),
-        ],
-    )
+fn joined_tables_of_bytes(rt: HostRuntime) -> Result<(), Fail> {
+    let mut one = BytesTable::new(rt.alloc());
+    state_rows(&rt, &mut one, &[(4, b"D"), (2, b"BB")])?;
+    let mut other = BytesTable::new(rt.alloc());
+    state_rows(&rt, &mut other, &[(1, b"AAA"), (4, b"D"), (5, b"")])?;
+    one.join(&other)?;
+    check_bytes(&rt, &one, &[(1, b"AAA"), (2, b"BB"), (4, b"D"), (5, b"")]);
+    equal(&rt, other.state(2, b"C")?, Stated::New);
+    equal(&rt, one.first_difference(&other), Some(2));
+    Ok(())
+}
+
+// Two keys that leave their hints in one slot.
+const FIRST: u64 = 2;
+
+const SECOND: u64 = 46_370;
+
+#[test]
+fn putting_values(rt: HostRuntime) -> Result<(), Fail> {
+    let mut map: HintedMap<u32> = HintedMap::new(rt.alloc());
+    holds(&rt, map.get(FIRST).is_none());
+    for (key, value) in [(FIRST, 10), (SECOND, 20), (0, 30), (FIRST, 40)] {
+        map.insert(key, value)?;
+    }
+    for (key, value) in [(FIRST, 40), (SECOND, 20), (0, 30)] {
+        equal(&rt, map.get(key), Some(&value));
+        holds(&rt, map.contains_key(key));
+    }
+    holds(&rt, map.get(1).is_none() && !map.contains_key(1));
+    equal(&rt, (map.len(), map.rows().len()), (3, 3));
+    for (key, value) in map.rows() {
+        equal(&rt, map.get(*key), Some(value));
+    }
+    Ok(())
 }

@@ -1,0 +1,65 @@
+//! Sub-records that wait in a batch.
+
+use crate::expecting::{equal, holds};
+use crate::samples::{array, heap_of};
+use hprof_devices::Device;
+use hprof_dump::Batch;
+use hprof_items::{Fact, IdSize};
+use hprof_values::{Basic, Root};
+use std::io;
+use std::io::Write;
+use std::test::*;
+
+// A writer that counts its writes. A write of no bytes fails.
+#[derive(Drop)]
+struct Counted {
+    bytes: Vec<u8>,
+    writes: u64,
+}
+
+impl Write for Counted {
+    fn write(&mut self, bytes: &[u8]) -> io::Result<usize> {
+        if bytes.is_empty() {
+            return Err(io::Error::from(io::ErrorKind::Other));
+        }
+        self.bytes.extend_from_slice(bytes)?;
+        self.writes = self.writes.saturating_add(1);
+        Ok(bytes.len())
+    }
+
+    fn flush(&mut self) -> io::Result<()> {
+        Ok(())
+    }
+}
+
+// Of a batch that takes a root and two arrays, the root is written at once, and the arrays together.
+#[test]
+fn arrays_wait_in_a_batch(rt: HostRuntime) -> Result<(), Fail> {
+    let facts = [
+        array(17, Basic::Byte, b"\x03"),
+        array(16, Basic::Byte, b"\x01\x02"),
+        Fact::Root(Root::Sticky { id: 16 }),
+    ];
+    let heap = heap_of(&rt, rt.alloc(), IdSize::Four, &facts)?;
+    let mut device = Device::new(Counted {
+        bytes: Vec::new(rt.alloc()),
+        writes: 0,
+    });
+    let mut rows = heap.sub_rows();
+    let ids = rows.ids();
+    let (Some(root), Some(first), Some(second)) = (rows.next(), rows.next(), rows.next()) else {
+        return Err("less than three".into());
+    };
+    let mut batch = Batch::empty();
+    holds(&rt, batch.take(root, ids, &mut device).is_ok());
+    holds(&rt, batch.take(first, ids, &mut device).is_ok());
+    holds(&rt, batch.take(second, ids, &mut device).is_ok());
+    holds(&rt, batch.write(&mut device).is_ok());
+    holds(&rt, batch.write(&mut device).is_ok());
+    let counted = device.into_inner();
+    equal(&rt, counted.writes, 2);
+    let expected =
+        b"\x05\0\0\0\x10\x23\0\0\0\x10\0\0\0\x01\0\0\0\x02\x08\x01\x02\x23\0\0\0\x11\0\0\0\x01\0\0\0\x01\x08\x03";
+    assert_eq!(rt; counted.bytes.as_slice(), expected.as_slice());
+    Ok(())
+}
