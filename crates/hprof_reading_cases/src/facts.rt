@@ -78,9 +78,10 @@ fn record_in<'a>(bytes: &'a [u8], ids: IdSize) -> Option<Fact<'a>> {
     if body.len() != head.length as usize {
         return None;
     }
+    let read = read_body(&head, body, ids);
     let mut fact = Fact::Unload { serial: 0 };
     let put = read_body_into(&head, body, ids, &mut fact);
-    if put.is_ok() && read_body(&head, body, ids) == Ok(fact) {
+    if put.is_ok() && read == Ok(fact) {
         Some(fact)
     } else {
         None
