@@ -41,9 +41,32 @@ fn check_differ(
     Ok(())
 }
 
+// That a heap without facts is like one of the same size and time alone, whichever is asked.
+fn check_sizes_and_times(rt: &impl Abort, alloc: Global) -> Result<(), Fail> {
+    let heap = begun(alloc, IdSize::Four, 1)?.finish()?;
+    for (ids, millis, alike) in [
+        (IdSize::Four, 1, true),
+        (IdSize::Four, 2, false),
+        (IdSize::Eight, 1, false),
+    ] {
+        let other = begun(alloc, ids, millis)?.finish()?;
+        equal(
+            rt,
+            (same(&heap, &other), same(&other, &heap)),
+            (alike, alike),
+        );
+    }
+    Ok(())
+}
+
 // Of each table a fact, and another that differs from it.
-fn pairs<'a>() -> Option<[(Fact<'a>, Fact<'a>); 10]> {
-    Some([
+#[test]
+fn heaps_that_are_compared(rt: HostRuntime) -> Result<(), Fail> {
+    let trace = trace_of(6, b"\0\0\0\x01").ok_or("no list")?;
+    let other_trace = trace_of(6, b"\0\0\0\x02").ok_or("no list")?;
+    let class = class_of(16, 0).ok_or("no list")?;
+    let other_class = class_of(16, 4).ok_or("no list")?;
+    let pairs = [
         (
             Fact::Name { id: 1, text: b"A" },
             Fact::Name { id: 1, text: b"B" },
@@ -51,40 +74,23 @@ fn pairs<'a>() -> Option<[(Fact<'a>, Fact<'a>); 10]> {
         (loaded(1, 2), loaded(1, 3)),
         (Fact::Unload { serial: 1 }, Fact::Unload { serial: 2 }),
         (frame_of(1, -3), frame_of(1, -2)),
-        (trace_of(6, b"\0\0\0\x01")?, trace_of(6, b"\0\0\0\x02")?),
+        (trace, other_trace),
         (start_of(7, 2), start_of(7, 3)),
         (Fact::End { thread: 7 }, Fact::End { thread: 8 }),
         (
             Fact::Root(Root::Unknown { id: 1 }),
             Fact::Root(Root::Sticky { id: 1 }),
         ),
-        (class_of(16, 0)?, class_of(16, 4)?),
+        (class, other_class),
         (
             array(16, Basic::Byte, b"abcd"),
             array(16, Basic::Int, b"abcd"),
         ),
-    ])
-}
-
-#[test]
-fn heaps_that_are_compared(rt: HostRuntime) -> Result<(), Fail> {
-    for (fact, other) in pairs().ok_or("no list")? {
+    ];
+    for (fact, other) in pairs {
         check_differ(&rt, rt.alloc(), fact, other)?;
     }
-    let heap = begun(rt.alloc(), IdSize::Four, 1)?.finish()?;
-    for (ids, millis, alike) in [
-        (IdSize::Four, 1, true),
-        (IdSize::Four, 2, false),
-        (IdSize::Eight, 1, false),
-    ] {
-        let other = begun(rt.alloc(), ids, millis)?.finish()?;
-        equal(
-            &rt,
-            (same(&heap, &other), same(&other, &heap)),
-            (alike, alike),
-        );
-    }
-    Ok(())
+    check_sizes_and_times(&rt, rt.alloc())
 }
 
 // Joins a heap with another. Where memory is refused it has its time and its facts, and the join is made again.

@@ -7,6 +7,7 @@ use hprof_items::{Fact, IdSize};
 use hprof_lists::{ConstantList, FieldList, IdList, StaticList};
 use hprof_tables::Stated;
 use hprof_values::{Basic, Root};
+use std::alloc::Global;
 use std::process::Abort;
 use std::test::*;
 
@@ -74,33 +75,6 @@ fn objects_204<'a>() -> Option<Fact<'a>> {
     })
 }
 
-// Facts of all tables, in canonical order. A class and an instance have one identifier.
-fn sample<'a>() -> Option<[Fact<'a>; 21]> {
-    Some([
-        Fact::Name { id: 1, text: b"A" },
-        Fact::Name { id: 2, text: b"B" },
-        load(1, 100, 2),
-        load(2, 102, 9),
-        load(3, 100, 1),
-        Fact::Unload { serial: 1 },
-        frame_of(1, -3),
-        trace_of(6, b"\0\0\0\x01")?,
-        start_of(7, 2),
-        Fact::End { thread: 1 },
-        Fact::End { thread: 2 },
-        Fact::Root(ROOTS[0]),
-        Fact::Root(ROOTS[1]),
-        Fact::Root(ROOTS[2]),
-        class_16()?,
-        instance(16, 16, b""),
-        instance(200, 100, b"abcd"),
-        instance(201, 101, b"efgh"),
-        array(202, Basic::Int, b""),
-        array(203, Basic::Byte, b"abcd"),
-        objects_204()?,
-    ])
-}
-
 // That each key gives its fact, and a key without one none.
 fn check_look_ups(rt: &impl Abort, heap: &Heap, facts: &[Fact<'_>; 21]) {
     let look_ups = [
@@ -130,23 +104,22 @@ fn check_look_ups(rt: &impl Abort, heap: &Heap, facts: &[Fact<'_>; 21]) {
     );
 }
 
-#[test]
-fn facts_in_a_heap(rt: HostRuntime) -> Result<(), Fail> {
+// That these facts are new to a gatherer, and then there, and that its heap gives each by its key.
+fn check_gatherer(rt: &impl Abort, alloc: Global, facts: &[Fact<'_>; 21]) -> Result<(), Fail> {
     let ids = IdSize::Four;
-    let facts = sample().ok_or("no list")?;
-    let mut gatherer = begun(rt.alloc(), ids, 5)?;
-    state_each(&rt, rt.alloc(), &mut gatherer, ids, &facts, Stated::New)?;
-    state_each(&rt, rt.alloc(), &mut gatherer, ids, &facts, Stated::Same)?;
-    check_look_ups(&rt, gatherer.heap().ok_or("no heap")?, &facts);
+    let mut gatherer = begun(alloc, ids, 5)?;
+    state_each(rt, alloc, &mut gatherer, ids, facts, Stated::New)?;
+    state_each(rt, alloc, &mut gatherer, ids, facts, Stated::Same)?;
+    check_look_ups(rt, gatherer.heap().ok_or("no heap")?, facts);
     // From the first that differs on, the heap is shown no more.
-    let came = state_fact(rt.alloc(), &mut gatherer, ids, load(1, 100, 3))?;
+    let came = state_fact(alloc, &mut gatherer, ids, load(1, 100, 3))?;
     equal(
-        &rt,
+        rt,
         (came, gatherer.standing()),
         (Some(Stated::Differs), Standing::InConflict),
     );
     equal(
-        &rt,
+        rt,
         gatherer.finish().err(),
         Some(Refusal::Conflict(Key::Load(1))),
     );
@@ -178,48 +151,82 @@ fn check_rows_into(rt: &impl Abort, heap: &Heap, table: Table, expected: &[Fact<
     equal(rt, place, last);
 }
 
-const TABLES: [Table; 10] = [
-    Table::Names,
-    Table::Loads,
-    Table::Unloads,
-    Table::Frames,
-    Table::Traces,
-    Table::Starts,
-    Table::Ends,
-    Table::Roots,
-    Table::Classes,
-    Table::Objects,
+// All tables, and how many of the facts below each has.
+const TABLES: [(Table, usize); 10] = [
+    (Table::Names, 2),
+    (Table::Loads, 3),
+    (Table::Unloads, 1),
+    (Table::Frames, 1),
+    (Table::Traces, 1),
+    (Table::Starts, 1),
+    (Table::Ends, 2),
+    (Table::Roots, 3),
+    (Table::Classes, 1),
+    (Table::Objects, 6),
 ];
 
-// That the tables of a heap have these facts, so many each, one table behind the other.
-fn check_tables(
-    rt: &impl Abort,
-    heap: &Heap,
-    facts: &[Fact<'_>],
-    counts: [usize; 10],
-) -> Result<(), Fail> {
-    let mut rest = facts;
-    for (table, count) in TABLES.into_iter().zip(counts) {
-        let (expected, behind) = rest.split_at_checked(count).ok_or("no facts")?;
-        check_rows(rt, heap, table, expected);
-        rest = behind;
+// That the tables of a heap have these facts, one table behind the other.
+fn check_tables(rt: &impl Abort, heap: &Heap, facts: &[Fact<'_>]) {
+    let mut start = 0usize;
+    for (table, count) in TABLES {
+        let end = start.saturating_add(count);
+        check_rows(rt, heap, table, facts.get(start..end).unwrap_or(&[]));
+        start = end;
     }
-    holds(rt, rest.is_empty());
+    equal(rt, start, facts.len());
+}
+
+// That the heap of these facts has them table by table, and is the same whichever was given first.
+fn check_heap(rt: &impl Abort, alloc: Global, facts: [Fact<'_>; 21]) -> Result<(), Fail> {
+    let heap = heap_of(rt, alloc, IdSize::Four, &facts)?;
+    let mut stated = facts;
+    stated.reverse();
+    let other = heap_of(rt, alloc, IdSize::Four, &stated)?;
+    holds(rt, same(&heap, &other));
+    check_tables(rt, &other, &facts);
     Ok(())
 }
 
-// The heap is the same whichever of the facts were given first.
+// Facts of all tables, in canonical order. A class and an instance have one identifier.
 #[test]
-fn rows_of_each_table(rt: HostRuntime) -> Result<(), Fail> {
-    let facts = sample().ok_or("no list")?;
-    let heap = heap_of(&rt, rt.alloc(), IdSize::Four, &facts)?;
-    let mut stated = facts;
-    stated.reverse();
-    let other = heap_of(&rt, rt.alloc(), IdSize::Four, &stated)?;
-    holds(&rt, same(&heap, &other));
-    check_tables(&rt, &other, &facts, [2, 3, 1, 1, 1, 1, 2, 3, 1, 6])?;
-    let empty = heap_of(&rt, rt.alloc(), IdSize::Four, &[])?;
-    check_tables(&rt, &empty, &[], [0; 10])?;
-    equal(&rt, empty.class_name(100), None);
+fn facts_of_all_tables(rt: HostRuntime) -> Result<(), Fail> {
+    let trace = trace_of(6, b"\0\0\0\x01").ok_or("no list")?;
+    let class = class_16().ok_or("no list")?;
+    let objects = objects_204().ok_or("no list")?;
+    let facts = [
+        Fact::Name { id: 1, text: b"A" },
+        Fact::Name { id: 2, text: b"B" },
+        load(1, 100, 2),
+        load(2, 102, 9),
+        load(3, 100, 1),
+        Fact::Unload { serial: 1 },
+        frame_of(1, -3),
+        trace,
+        start_of(7, 2),
+        Fact::End { thread: 1 },
+        Fact::End { thread: 2 },
+        Fact::Root(ROOTS[0]),
+        Fact::Root(ROOTS[1]),
+        Fact::Root(ROOTS[2]),
+        class,
+        instance(16, 16, b""),
+        instance(200, 100, b"abcd"),
+        instance(201, 101, b"efgh"),
+        array(202, Basic::Int, b""),
+        array(203, Basic::Byte, b"abcd"),
+        objects,
+    ];
+    check_gatherer(&rt, rt.alloc(), &facts)?;
+    check_heap(&rt, rt.alloc(), facts)
+}
+
+#[test]
+fn a_heap_without_facts(rt: HostRuntime) -> Result<(), Fail> {
+    let heap = heap_of(&rt, rt.alloc(), IdSize::Eight, &[])?;
+    for (table, _) in TABLES {
+        check_rows(&rt, &heap, table, &[]);
+    }
+    let found = (heap.ids(), heap.count(), heap.class_name(100));
+    equal(&rt, found, (IdSize::Eight, 0, None));
     Ok(())
 }
