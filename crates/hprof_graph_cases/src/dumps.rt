@@ -12,13 +12,21 @@ use hprof_writing::{fits, write_fact};
 use std::alloc::{AllocError, Global};
 use std::test::Fail;
 
-/// What a sub-record states.
+/// The bytes of the lists of a class dump, without their counts.
+#[derive(Clone, Copy, Debug, PartialEq, Eq)]
+pub(crate) struct Lists<'a> {
+    pub(crate) constants: &'a [u8],
+    pub(crate) statics: &'a [u8],
+    pub(crate) fields: &'a [u8],
+}
+
+/// A class dump or an object dump, or a root.
 #[derive(Clone, Copy, Debug, PartialEq, Eq)]
 pub(crate) enum Dump<'a> {
     /// A class, its superclass and its own fields.
     Class(u64, u64, &'a [u8]),
-    /// A class, its superclass, loader, signers and domain; the size of its instances; its constants, static fields and own fields.
-    Whole([u64; 5], u32, [&'a [u8]; 3]),
+    /// A class, its superclass, loader, signers and domain; the size of its instances; its lists.
+    Whole([u64; 5], u32, Lists<'a>),
     /// An instance, its class and its bytes.
     Instance(u64, u64, &'a [u8]),
     /// An array of objects, its class and its elements.
@@ -29,10 +37,21 @@ pub(crate) enum Dump<'a> {
     Root(u64),
 }
 
+impl<'a> Lists<'a> {
+    /// No constants, no static fields, and these own fields.
+    pub(crate) fn of_fields(fields: &'a [u8]) -> Self {
+        Lists {
+            constants: b"",
+            statics: b"",
+            fields,
+        }
+    }
+}
+
 fn class_fact<'a>(
     [id, parent, loader, signers, domain]: [u64; 5],
     size: u32,
-    [constants, statics, fields]: [&'a [u8]; 3],
+    lists: Lists<'a>,
 ) -> Option<Fact<'a>> {
     let ids = IdSize::Four;
     Some(Fact::Class {
@@ -45,9 +64,9 @@ fn class_fact<'a>(
         reserved1: 0,
         reserved2: 0,
         size,
-        constants: ConstantList::new(constants, ids)?,
-        statics: StaticList::new(statics, ids)?,
-        fields: FieldList::new(fields, ids)?,
+        constants: ConstantList::new(lists.constants, ids)?,
+        statics: StaticList::new(lists.statics, ids)?,
+        fields: FieldList::new(lists.fields, ids)?,
     })
 }
 
@@ -65,7 +84,7 @@ impl<'a> Dump<'a> {
     pub(crate) fn fact(self) -> Option<Fact<'a>> {
         match self {
             Dump::Class(id, parent, fields) => {
-                class_fact([id, parent, 0, 0, 0], 0, [b"", b"", fields])
+                class_fact([id, parent, 0, 0, 0], 0, Lists::of_fields(fields))
             }
             Dump::Whole(identifiers, size, lists) => class_fact(identifiers, size, lists),
             Dump::Objects(id, class, elements) => objects_fact(id, class, elements),

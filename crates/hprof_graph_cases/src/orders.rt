@@ -1,7 +1,7 @@
 //! Random orders of small heaps: after each fact all that is asked is compared with a plain list, which is searched anew.
 
 use crate::answers::{expect_counts, expect_layout_now, expect_referrers, shape_of};
-use crate::dumps::{Dump, give};
+use crate::dumps::{Dump, Lists, give};
 use crate::expecting::{equal, equal_at};
 use crate::plain_list::{count_instances, edges_from, edges_in, edges_to, layout_in};
 use hprof_edges::{Edge, edges_of, referrers};
@@ -23,7 +23,11 @@ const CIRCLE_AND_GAP: [Dump<'_>; 13] = [
     Dump::Whole(
         [2, 1, 11, 0, 0],
         0,
-        [b"\0\x03\x02\0\0\0\x0c", b"\0\0\0\x06\x01\0\0\0\x0f", OBJECT],
+        Lists {
+            constants: b"\0\x03\x02\0\0\0\x0c",
+            statics: b"\0\0\0\x06\x01\0\0\0\x0f",
+            fields: OBJECT,
+        },
     ),
     Dump::Class(3, 1, b""),
     Dump::Class(4, 5, OBJECT),
@@ -52,11 +56,11 @@ const CHAIN_OF_MANY_TYPES: [Dump<'_>; 13] = [
     Dump::Whole(
         [5, 1, 9, 10, 11],
         0,
-        [
-            b"\0\x01\x08\x0b\0\x02\x02\0\0\0\x0c",
-            b"\0\0\0\x05\x0a\0\0\0\x0b\0\0\0\x06\x02\0\0\0\0\0\0\0\x07\x02\0\0\0\x0d",
-            b"",
-        ],
+        Lists {
+            constants: b"\0\x01\x08\x0b\0\x02\x02\0\0\0\x0c",
+            statics: b"\0\0\0\x05\x0a\0\0\0\x0b\0\0\0\x06\x02\0\0\0\0\0\0\0\x07\x02\0\0\0\x0d",
+            fields: b"",
+        },
     ),
     Dump::Instance(9, 5, b"\x0b\0\0\0\x0a\0\0\0\0\0\0\0\x0b\0\0\0\x09\0\x0b"),
     Dump::Instance(10, 1, b"\x0b\0\0\0\x0a\0\0\0\0\0\0\0\x0b\0\0\0\x09\0\x0b\0"),
@@ -197,7 +201,7 @@ fn check_orders(
 #[test]
 fn any_order(rt: HostRuntime) -> Result<(), Fail> {
     // The same class with another size, and the same instance with other bytes.
-    let class = Dump::Whole([4, 5, 0, 0, 0], 1, [b"", b"", OBJECT]);
+    let class = Dump::Whole([4, 5, 0, 0, 0], 1, Lists::of_fields(OBJECT));
     let instance = Dump::Instance(11, 4, b"\0\0\0\x0a");
     check_orders(&rt, rt.alloc(), &CIRCLE_AND_GAP, class, Key::Class(4))?;
     check_orders(
