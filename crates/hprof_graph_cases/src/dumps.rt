@@ -12,21 +12,13 @@ use hprof_writing::{fits, write_fact};
 use std::alloc::{AllocError, Global};
 use std::test::Fail;
 
-/// The bytes of the lists of a class dump, without their counts.
-#[derive(Clone, Copy, Debug, PartialEq, Eq)]
-pub(crate) struct Lists<'a> {
-    pub(crate) constants: &'a [u8],
-    pub(crate) statics: &'a [u8],
-    pub(crate) fields: &'a [u8],
-}
-
-/// A class dump or an object dump, or a root.
-#[derive(Clone, Copy, Debug, PartialEq, Eq)]
+/// What a sub-record states.
+#[derive(Clone, Copy)]
 pub(crate) enum Dump<'a> {
     /// A class, its superclass and its own fields.
     Class(u64, u64, &'a [u8]),
-    /// A class, its superclass, loader, signers and domain; the size of its instances; its lists.
-    Whole([u64; 5], u32, Lists<'a>),
+    /// A class with all that is told of it.
+    Whole(Whole<'a>),
     /// An instance, its class and its bytes.
     Instance(u64, u64, &'a [u8]),
     /// An array of objects, its class and its elements.
@@ -37,36 +29,48 @@ pub(crate) enum Dump<'a> {
     Root(u64),
 }
 
-impl<'a> Lists<'a> {
-    /// No constants, no static fields, and these own fields.
-    pub(crate) fn of_fields(fields: &'a [u8]) -> Self {
-        Lists {
-            constants: b"",
-            statics: b"",
-            fields,
-        }
-    }
+/// A class with all that is told of it.
+#[derive(Clone, Copy)]
+pub(crate) struct Whole<'a> {
+    pub(crate) id: u64,
+    pub(crate) parent: u64,
+    pub(crate) loader: u64,
+    pub(crate) signers: u64,
+    pub(crate) domain: u64,
+    pub(crate) size: u32,
+    pub(crate) constants: &'a [u8],
+    pub(crate) statics: &'a [u8],
+    pub(crate) fields: &'a [u8],
 }
 
-fn class_fact<'a>(
-    [id, parent, loader, signers, domain]: [u64; 5],
-    size: u32,
-    lists: Lists<'a>,
-) -> Option<Fact<'a>> {
+/// A class of which nothing is told but what a test tells.
+pub(crate) const NO_CLASS: Whole<'_> = Whole {
+    id: 0,
+    parent: 0,
+    loader: 0,
+    signers: 0,
+    domain: 0,
+    size: 0,
+    constants: b"",
+    statics: b"",
+    fields: b"",
+};
+
+fn class_fact(class: Whole<'_>) -> Option<Fact<'_>> {
     let ids = IdSize::Four;
     Some(Fact::Class {
-        id,
+        id: class.id,
         trace: 1,
-        parent,
-        loader,
-        signers,
-        domain,
+        parent: class.parent,
+        loader: class.loader,
+        signers: class.signers,
+        domain: class.domain,
         reserved1: 0,
         reserved2: 0,
-        size,
-        constants: ConstantList::new(lists.constants, ids)?,
-        statics: StaticList::new(lists.statics, ids)?,
-        fields: FieldList::new(lists.fields, ids)?,
+        size: class.size,
+        constants: ConstantList::new(class.constants, ids)?,
+        statics: StaticList::new(class.statics, ids)?,
+        fields: FieldList::new(class.fields, ids)?,
     })
 }
 
@@ -83,10 +87,13 @@ impl<'a> Dump<'a> {
     /// The fact of the sub-record, with the trace serial 1; None where its bytes are no list.
     pub(crate) fn fact(self) -> Option<Fact<'a>> {
         match self {
-            Dump::Class(id, parent, fields) => {
-                class_fact([id, parent, 0, 0, 0], 0, Lists::of_fields(fields))
-            }
-            Dump::Whole(identifiers, size, lists) => class_fact(identifiers, size, lists),
+            Dump::Class(id, parent, fields) => class_fact(Whole {
+                id,
+                parent,
+                fields,
+                ..NO_CLASS
+            }),
+            Dump::Whole(class) => class_fact(class),
             Dump::Objects(id, class, elements) => objects_fact(id, class, elements),
             Dump::Instance(id, class, bytes) => Some(Fact::Instance {
                 id,

@@ -2,7 +2,7 @@
 
 use crate::answers::{Shape, expect_counts, expect_indexed, expect_layout_now, expect_referrers};
 use crate::dumps::{Dump, give};
-use crate::expecting::equal_at;
+use crate::expecting::equal;
 use crate::instance_200::{
     ALONE, BYTE, INSTANCE, LAID, LOWER, SLOT_OF_99, SLOTS, TO_CLASS, TO_PARENT, UPPER,
 };
@@ -147,9 +147,10 @@ fn go_all(rt: &impl Abort, alloc: Global, steps: &[Step<'_>], count: u128) -> Re
         go(rt, alloc, &mut live, step)?;
     }
     let found = live.finish()?;
-    equal_at(rt, "count", found.heap.count(), count);
-    let (_, _, _, referrers) = *steps.last().ok_or("no steps")?;
-    expect_indexed(rt, &found.index, referrers);
+    if let Some(step) = steps.last() {
+        expect_indexed(rt, &found.index, step.3);
+    }
+    equal(rt, found.heap.count(), count);
     Ok(())
 }
 
