@@ -13,12 +13,12 @@ use std::alloc::{AllocError, Global};
 use std::test::Fail;
 
 /// What a sub-record states.
-#[derive(Clone, Copy, Debug, PartialEq, Eq)]
+#[derive(Clone, Copy)]
 pub(crate) enum Dump<'a> {
     /// A class, its superclass and its own fields.
     Class(u64, u64, &'a [u8]),
-    /// A class, its superclass, loader, signers and domain; the size of its instances; its constants, static fields and own fields.
-    Whole([u64; 5], u32, [&'a [u8]; 3]),
+    /// A class with all that is told of it.
+    Whole(Whole<'a>),
     /// An instance, its class and its bytes.
     Instance(u64, u64, &'a [u8]),
     /// An array of objects, its class and its elements.
@@ -29,25 +29,48 @@ pub(crate) enum Dump<'a> {
     Root(u64),
 }
 
-fn class_fact<'a>(
-    [id, parent, loader, signers, domain]: [u64; 5],
-    size: u32,
-    [constants, statics, fields]: [&'a [u8]; 3],
-) -> Option<Fact<'a>> {
+/// A class with all that is told of it.
+#[derive(Clone, Copy)]
+pub(crate) struct Whole<'a> {
+    pub(crate) id: u64,
+    pub(crate) parent: u64,
+    pub(crate) loader: u64,
+    pub(crate) signers: u64,
+    pub(crate) domain: u64,
+    pub(crate) size: u32,
+    pub(crate) constants: &'a [u8],
+    pub(crate) statics: &'a [u8],
+    pub(crate) fields: &'a [u8],
+}
+
+/// A class of which nothing is told but what a test tells.
+pub(crate) const NO_CLASS: Whole<'_> = Whole {
+    id: 0,
+    parent: 0,
+    loader: 0,
+    signers: 0,
+    domain: 0,
+    size: 0,
+    constants: b"",
+    statics: b"",
+    fields: b"",
+};
+
+fn class_fact(class: Whole<'_>) -> Option<Fact<'_>> {
     let ids = IdSize::Four;
     Some(Fact::Class {
-        id,
+        id: class.id,
         trace: 1,
-        parent,
-        loader,
-        signers,
-        domain,
+        parent: class.parent,
+        loader: class.loader,
+        signers: class.signers,
+        domain: class.domain,
         reserved1: 0,
         reserved2: 0,
-        size,
-        constants: ConstantList::new(constants, ids)?,
-        statics: StaticList::new(statics, ids)?,
-        fields: FieldList::new(fields, ids)?,
+        size: class.size,
+        constants: ConstantList::new(class.constants, ids)?,
+        statics: StaticList::new(class.statics, ids)?,
+        fields: FieldList::new(class.fields, ids)?,
     })
 }
 
@@ -64,10 +87,13 @@ impl<'a> Dump<'a> {
     /// The fact of the sub-record, with the trace serial 1; None where its bytes are no list.
     pub(crate) fn fact(self) -> Option<Fact<'a>> {
         match self {
-            Dump::Class(id, parent, fields) => {
-                class_fact([id, parent, 0, 0, 0], 0, [b"", b"", fields])
-            }
-            Dump::Whole(identifiers, size, lists) => class_fact(identifiers, size, lists),
+            Dump::Class(id, parent, fields) => class_fact(Whole {
+                id,
+                parent,
+                fields,
+                ..NO_CLASS
+            }),
+            Dump::Whole(class) => class_fact(class),
             Dump::Objects(id, class, elements) => objects_fact(id, class, elements),
             Dump::Instance(id, class, bytes) => Some(Fact::Instance {
                 id,

@@ -1,6 +1,6 @@
 //! The instance 200 of class 100, whose superclass is 99.
 
-use crate::dumps::Dump;
+use crate::dumps::{Dump, NO_CLASS, Whole};
 use hprof_edges::{Edge, Via};
 use hprof_layouts::Slot;
 use hprof_values::Basic;
@@ -21,7 +21,12 @@ pub(crate) const LOWER: Dump<'_> = Dump::Class(100, 99, INT_AND_OBJECT);
 pub(crate) const UPPER: Dump<'_> = Dump::Class(99, 0, BYTE);
 
 /// Class 99 with another size.
-pub(crate) const OTHER_UPPER: Dump<'_> = Dump::Whole([99, 0, 0, 0, 0], 2, [b"", b"", BYTE]);
+pub(crate) const OTHER_UPPER: Dump<'_> = Dump::Whole(Whole {
+    id: 99,
+    size: 2,
+    fields: BYTE,
+    ..NO_CLASS
+});
 
 pub(crate) const INT: Slot = Slot {
     class: 100,

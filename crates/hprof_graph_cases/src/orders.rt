@@ -1,7 +1,7 @@
 //! Random orders of small heaps: after each fact all that is asked is compared with a plain list, which is searched anew.
 
 use crate::answers::{expect_counts, expect_layout_now, expect_referrers, shape_of};
-use crate::dumps::{Dump, give};
+use crate::dumps::{Dump, NO_CLASS, Whole, give};
 use crate::expecting::{equal, equal_at};
 use crate::plain_list::{count_instances, edges_from, edges_in, edges_to, layout_in};
 use hprof_edges::{Edge, edges_of, referrers};
@@ -20,11 +20,15 @@ const OBJECT: &[u8] = b"\0\0\0\x05\x02";
 const CIRCLE_AND_GAP: [Dump<'_>; 13] = [
     Dump::Class(1, 0, OBJECT),
     // Index 3 of type object, and name 6 of type array.
-    Dump::Whole(
-        [2, 1, 11, 0, 0],
-        0,
-        [b"\0\x03\x02\0\0\0\x0c", b"\0\0\0\x06\x01\0\0\0\x0f", OBJECT],
-    ),
+    Dump::Whole(Whole {
+        id: 2,
+        parent: 1,
+        loader: 11,
+        constants: b"\0\x03\x02\0\0\0\x0c",
+        statics: b"\0\0\0\x06\x01\0\0\0\x0f",
+        fields: OBJECT,
+        ..NO_CLASS
+    }),
     Dump::Class(3, 1, b""),
     Dump::Class(4, 5, OBJECT),
     Dump::Class(5, 6, OBJECT),
@@ -49,15 +53,16 @@ const CHAIN_OF_MANY_TYPES: [Dump<'_>; 13] = [
     Dump::Class(3, 0, b"\0\0\0\x08\x01\0\0\0\x09\x09"),
     Dump::Class(4, 4, OBJECT),
     // Index 1 of type byte, and index 2 of type object; name 5 of type int, name 6 of type object, which is 0, and name 7 of type object.
-    Dump::Whole(
-        [5, 1, 9, 10, 11],
-        0,
-        [
-            b"\0\x01\x08\x0b\0\x02\x02\0\0\0\x0c",
-            b"\0\0\0\x05\x0a\0\0\0\x0b\0\0\0\x06\x02\0\0\0\0\0\0\0\x07\x02\0\0\0\x0d",
-            b"",
-        ],
-    ),
+    Dump::Whole(Whole {
+        id: 5,
+        parent: 1,
+        loader: 9,
+        signers: 10,
+        domain: 11,
+        constants: b"\0\x01\x08\x0b\0\x02\x02\0\0\0\x0c",
+        statics: b"\0\0\0\x05\x0a\0\0\0\x0b\0\0\0\x06\x02\0\0\0\0\0\0\0\x07\x02\0\0\0\x0d",
+        ..NO_CLASS
+    }),
     Dump::Instance(9, 5, b"\x0b\0\0\0\x0a\0\0\0\0\0\0\0\x0b\0\0\0\x09\0\x0b"),
     Dump::Instance(10, 1, b"\x0b\0\0\0\x0a\0\0\0\0\0\0\0\x0b\0\0\0\x09\0\x0b\0"),
     Dump::Instance(11, 4, b"\0\0\0\x09"),
@@ -197,7 +202,13 @@ fn check_orders(
 #[test]
 fn any_order(rt: HostRuntime) -> Result<(), Fail> {
     // The same class with another size, and the same instance with other bytes.
-    let class = Dump::Whole([4, 5, 0, 0, 0], 1, [b"", b"", OBJECT]);
+    let class = Dump::Whole(Whole {
+        id: 4,
+        parent: 5,
+        size: 1,
+        fields: OBJECT,
+        ..NO_CLASS
+    });
     let instance = Dump::Instance(11, 4, b"\0\0\0\x0a");
     check_orders(&rt, rt.alloc(), &CIRCLE_AND_GAP, class, Key::Class(4))?;
     check_orders(
