@@ -167,13 +167,14 @@ const TABLES: [(Table, usize); 10] = [
 
 // That the tables of a heap have these facts, one table behind the other.
 fn check_tables(rt: &impl Abort, heap: &Heap, facts: &[Fact<'_>]) {
-    let mut start = 0usize;
+    let mut rest = facts;
     for (table, count) in TABLES {
-        let end = start.saturating_add(count);
-        check_rows(rt, heap, table, facts.get(start..end).unwrap_or(&[]));
-        start = end;
+        let (of_table, behind) = rest.split_at(count.min(rest.len()));
+        equal(rt, of_table.len(), count);
+        check_rows(rt, heap, table, of_table);
+        rest = behind;
     }
-    equal(rt, start, facts.len());
+    equal(rt, rest.len(), 0);
 }
 
 // That the heap of these facts has them table by table, and is the same whichever was given first.
@@ -220,11 +221,16 @@ fn facts_of_all_tables(rt: HostRuntime) -> Result<(), Fail> {
     check_heap(&rt, rt.alloc(), facts)
 }
 
+// That a table has no facts.
+fn check_no_rows(rt: &impl Abort, heap: &Heap, table: Table) {
+    check_rows(rt, heap, table, &[]);
+}
+
 #[test]
 fn a_heap_without_facts(rt: HostRuntime) -> Result<(), Fail> {
     let heap = heap_of(&rt, rt.alloc(), IdSize::Eight, &[])?;
     for (table, _) in TABLES {
-        check_rows(&rt, &heap, table, &[]);
+        check_no_rows(&rt, &heap, table);
     }
     let found = (heap.ids(), heap.count(), heap.class_name(100));
     equal(&rt, found, (IdSize::Eight, 0, None));
