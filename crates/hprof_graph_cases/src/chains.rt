@@ -74,7 +74,8 @@ fn heap_below(alloc: Global, above: u64, count: usize) -> Result<Heap, Fail> {
 fn layouts(rt: HostRuntime) -> Result<(), Fail> {
     let alloc = rt.alloc();
     let (slots, values) = (all_slots(alloc)?, all_values(alloc)?);
-    let known = [Shape::Known(&slots), Shape::Known(&slots[999..])];
+    let own = slots.get(999..).ok_or("a slot for each class")?;
+    let known = [Shape::Known(&slots), Shape::Known(own)];
     let circle = [Shape::Cyclic; 2];
     let missing = [Shape::Missing(1_001); 2];
     let cases = [

@@ -165,16 +165,29 @@ const TABLES: [(Table, usize); 10] = [
     (Table::Objects, 6),
 ];
 
+// That a table has so many of the facts, from a place on; gives the place behind them.
+fn check_table(
+    rt: &impl Abort,
+    heap: &Heap,
+    table: Table,
+    facts: &[Fact<'_>],
+    (start, count): (usize, usize),
+) -> usize {
+    let end = start.saturating_add(count);
+    match facts.get(start..end) {
+        Some(of_table) => check_rows(rt, heap, table, of_table),
+        None => holds(rt, false),
+    }
+    end
+}
+
 // That the tables of a heap have these facts, one table behind the other.
 fn check_tables(rt: &impl Abort, heap: &Heap, facts: &[Fact<'_>]) {
-    let mut rest = facts;
+    let mut start = 0usize;
     for (table, count) in TABLES {
-        let (of_table, behind) = rest.split_at(count.min(rest.len()));
-        equal(rt, of_table.len(), count);
-        check_rows(rt, heap, table, of_table);
-        rest = behind;
+        start = check_table(rt, heap, table, facts, (start, count));
     }
-    equal(rt, rest.len(), 0);
+    equal(rt, start, facts.len());
 }
 
 // That the heap of these facts has them table by table, and is the same whichever was given first.
