@@ -1,16 +1,24 @@
 //! Edges that are put one by one.
 
-use crate::answers::edge;
-use crate::dumps::{Dump, heap_of};
 use crate::expecting::equal;
-use crate::instance_200::INT_AND_OBJECT;
+use crate::samples::{CLASS_100, heap_of};
 use hprof_edges::{
-    Collect, EdgeList, Via, class_edges, edge_to_class, field_edges, object_edges, sort_edges,
+    Collect, Edge, EdgeList, Via, class_edges, edge_to_class, field_edges, object_edges, sort_edges,
 };
 use hprof_finding::{find_class, find_object};
 use hprof_laying::{Wanted, known_layouts};
 use hprof_values::IdSize;
 use std::test::*;
+
+/// An edge.
+fn edge(from: u64, via: Via, position: u64, to: u64) -> Edge {
+    Edge {
+        from,
+        via,
+        position,
+        to,
+    }
+}
 
 #[test]
 fn lists(rt: HostRuntime) -> Result<(), Fail> {
@@ -36,15 +44,17 @@ fn lists(rt: HostRuntime) -> Result<(), Fail> {
     Ok(())
 }
 
+/// Class 99 without own fields.
+const NARROW_99: &[u8] = b"\x20\0\0\0\x63\0\0\0\x01\0\0\0\0\
+    \0\0\0\0\0\0\0\0\0\0\0\0\0\0\0\0\0\0\0\0\0\0\0\0\0\0\0\0\0\0";
+
+/// Instance 200 of class 100: 7, and a reference to 201.
+const NARROW_200: &[u8] = b"\x21\0\0\0\xc8\0\0\0\x01\0\0\0\x64\0\0\0\x08\0\0\0\x07\0\0\0\xc9";
+
 #[test]
 fn edges_of_rows(rt: HostRuntime) -> Result<(), Fail> {
     let bytes = b"\0\0\0\x07\0\0\0\xc9";
-    let dumps = [
-        Dump::Class(100, 99, INT_AND_OBJECT),
-        Dump::Class(99, 0, b""),
-        Dump::Instance(200, 100, bytes),
-    ];
-    let heap = heap_of(rt.alloc(), &dumps)?;
+    let heap = heap_of(rt.alloc(), &[CLASS_100, NARROW_99, NARROW_200])?;
     let known = known_layouts(rt.alloc(), &heap)?;
     let mut references = Vec::new(rt.alloc());
     let mut list = EdgeList::new(rt.alloc(), Wanted::All);

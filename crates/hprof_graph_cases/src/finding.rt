@@ -1,31 +1,33 @@
 //! What is found in a heap, and the fields of what has none.
 
-use crate::answers::{Read, expect_fields};
-use crate::dumps::{Dump, heap_of};
 use crate::expecting::{equal, equal_at};
-use crate::instance_200::BYTE;
+use crate::samples::heap_of;
 use hprof_finding::{
     ClassRow, ObjectRow, class_name, find_class, find_object, id_size, table_facts, table_len,
 };
 use hprof_heap::Table;
-use hprof_items::IdSize;
+use hprof_items::{Fact, IdSize};
+use hprof_layouts::{Fields, fields};
 use hprof_lists::{ConstantList, FieldList, IdList, StaticList};
 use hprof_values::Basic;
 use std::test::*;
 
-const INSTANCE: Dump<'_> = Dump::Instance(97, 95, b"ab");
+/// Own field 7 of type byte.
+const BYTE: &[u8] = b"\0\0\0\x07\x08";
 
-const ARRAY: Dump<'_> = Dump::Objects(98, 100, b"\0\0\0\x63");
-
-const NUMBERS: Dump<'_> = Dump::Numbers(99, Basic::Char, b"cd");
-
-/// Class 95 below class 100, which is not there, and objects in no order.
-const DUMPS: [Dump<'_>; 4] = [NUMBERS, Dump::Class(95, 100, BYTE), INSTANCE, ARRAY];
+/// Class 95 below class 100, which is not there, and objects in no order: an array of chars, an instance of class 95, an array of one object.
+const SUBS: [&[u8]; 4] = [
+    b"\x23\0\0\0\x63\0\0\0\x01\0\0\0\x01\x05cd",
+    b"\x20\0\0\0\x5f\0\0\0\x01\0\0\0\x64\0\0\0\0\0\0\0\0\0\0\0\0\0\0\0\0\0\0\0\0\0\0\0\0\
+    \0\0\0\0\0\x01\0\0\0\x07\x08",
+    b"\x21\0\0\0\x61\0\0\0\x01\0\0\0\x5f\0\0\0\x02ab",
+    b"\x22\0\0\0\x62\0\0\0\x01\0\0\0\x01\0\0\0\x64\0\0\0\x63",
+];
 
 #[test]
 fn classes(rt: HostRuntime) -> Result<(), Fail> {
     let ids = IdSize::Four;
-    let heap = heap_of(rt.alloc(), &DUMPS)?;
+    let heap = heap_of(rt.alloc(), &SUBS)?;
     let row = ClassRow {
         id: 95,
         trace: 1,
@@ -47,10 +49,20 @@ fn classes(rt: HostRuntime) -> Result<(), Fail> {
     Ok(())
 }
 
+/// The reason why an object has no fields.
+fn reason_in(fields: &Fields) -> &'static str {
+    match fields {
+        Fields::Missing(100) => "class 100 is missing",
+        Fields::NotAnInstance => "no instance",
+        Fields::NoObject => "no object",
+        _ => "another",
+    }
+}
+
 #[test]
 fn objects(rt: HostRuntime) -> Result<(), Fail> {
     let alloc = rt.alloc();
-    let heap = heap_of(alloc, &DUMPS)?;
+    let heap = heap_of(alloc, &SUBS)?;
     let instance = ObjectRow::Instance {
         id: 97,
         trace: 1,
@@ -70,20 +82,39 @@ fn objects(rt: HostRuntime) -> Result<(), Fail> {
         bytes: b"cd",
     };
     let cases = [
-        (97, Some(instance), Read::Missing(100)),
-        (98, Some(array), Read::NotAnInstance),
-        (99, Some(numbers), Read::NotAnInstance),
-        (95, None, Read::NoObject),
-        (100, None, Read::NoObject),
+        (97, Some(instance)),
+        (98, Some(array)),
+        (99, Some(numbers)),
+        (95, None),
+        (100, None),
     ];
-    for (id, row, read) in cases {
+    for (id, row) in cases {
         equal_at(&rt, id, find_object(&heap, id), row);
-        expect_fields(&rt, alloc, &heap, id, read)?;
     }
+    for (id, reason) in [
+        (97, "class 100 is missing"),
+        (98, "no instance"),
+        (99, "no instance"),
+        (95, "no object"),
+        (100, "no object"),
+    ] {
+        equal_at(&rt, id, reason_in(&fields(alloc, &heap, id)?), reason);
+    }
+    Ok(())
+}
+
+#[test]
+fn tables(rt: HostRuntime) -> Result<(), Fail> {
+    let heap = heap_of(rt.alloc(), &SUBS)?;
     equal(&rt, table_len(&heap, Table::Objects), 3);
     let mut facts = table_facts(&heap, Table::Objects);
-    for object in [INSTANCE, ARRAY, NUMBERS] {
-        equal(&rt, facts.next(), object.fact());
+    for id in [97, 98, 99] {
+        let found = match facts.next() {
+            Some(Fact::Instance { id, .. } | Fact::ObjArray { id, .. }) => Some(id),
+            Some(Fact::PrimArray { id, .. }) => Some(id),
+            _ => None,
+        };
+        equal(&rt, found, Some(id));
     }
     equal(&rt, facts.next(), None);
     Ok(())

@@ -1,16 +1,18 @@
 //! Known layouts, kept as classes come, and an instance laid by them.
 
-use crate::dumps::{Dump, heap_of};
 use crate::expecting::{equal, equal_at};
-use crate::instance_200::{BYTE, BYTES, INSTANCE, LOWER, UPPER};
+use crate::samples::{CLASS_99, CLASS_99_BELOW, CLASS_100, INSTANCE_200, heap_of};
 use hprof_finding::find_class;
 use hprof_laying::{KnownLayouts, Reference, Wanted, known_layouts, refers};
 use hprof_values::{Basic, IdSize};
 use std::test::Fail;
 
+/// The bytes of instance 200.
+const BYTES: &[u8] = b"\0\0\0\x07\0\0\0\xc9\xff";
+
 #[test]
 fn layouts_of_a_heap(rt: HostRuntime) -> Result<(), Fail> {
-    let heap = heap_of(rt.alloc(), &[INSTANCE, LOWER, UPPER])?;
+    let heap = heap_of(rt.alloc(), &[INSTANCE_200, CLASS_100, CLASS_99])?;
     let known = known_layouts(rt.alloc(), &heap)?;
     let found = [0, 99, 100, 101].map(|class| known.knows(class));
     equal(&rt, found, [true, true, true, false]);
@@ -41,7 +43,7 @@ fn layouts_of_a_heap(rt: HostRuntime) -> Result<(), Fail> {
 
 #[test]
 fn a_class_is_woken_by_its_superclass(rt: HostRuntime) -> Result<(), Fail> {
-    let heap = heap_of(rt.alloc(), &[LOWER, UPPER])?;
+    let heap = heap_of(rt.alloc(), &[CLASS_100, CLASS_99])?;
     let (Some(lower), Some(upper)) = (find_class(&heap, 100), find_class(&heap, 99)) else {
         return Err("the classes are there".into());
     };
@@ -54,7 +56,7 @@ fn a_class_is_woken_by_its_superclass(rt: HostRuntime) -> Result<(), Fail> {
         (woken, known.knows(99), known.knows(100)),
         (2, true, true),
     );
-    let circle = heap_of(rt.alloc(), &[LOWER, Dump::Class(99, 100, BYTE)])?;
+    let circle = heap_of(rt.alloc(), &[CLASS_100, CLASS_99_BELOW])?;
     let known = known_layouts(rt.alloc(), &circle)?;
     equal(&rt, (known.knows(99), known.knows(100)), (false, false));
     Ok(())

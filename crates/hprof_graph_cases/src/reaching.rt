@@ -1,21 +1,21 @@
 //! Distances and paths, as `Reach` answers them.
 
-use crate::dumps::{Dump, heap_of};
 use crate::expecting::equal_at;
+use crate::samples::heap_of;
 use hprof_reach::{Reach, reach_of};
 use std::alloc::Global;
 use std::process::Abort;
 use std::test::*;
 
 /// Arrays that lead from 16 on, and to which nothing leads from 20; then roots of 16 and of 119, which has no dump.
-const DUMPS: [Dump<'_>; 7] = [
-    Dump::Objects(16, 100, b"\0\0\0\x11\0\0\0\x12\0\0\0\x99"),
-    Dump::Objects(17, 100, b"\0\0\0\x13"),
-    Dump::Objects(18, 100, b"\0\0\0\x13\0\0\0\0"),
-    Dump::Objects(19, 100, b""),
-    Dump::Objects(20, 100, b"\0\0\0\x10"),
-    Dump::Root(16),
-    Dump::Root(119),
+const SUBS: [&[u8]; 7] = [
+    b"\x22\0\0\0\x10\0\0\0\x01\0\0\0\x03\0\0\0\x64\0\0\0\x11\0\0\0\x12\0\0\0\x99",
+    b"\x22\0\0\0\x11\0\0\0\x01\0\0\0\x01\0\0\0\x64\0\0\0\x13",
+    b"\x22\0\0\0\x12\0\0\0\x01\0\0\0\x02\0\0\0\x64\0\0\0\x13\0\0\0\0",
+    b"\x22\0\0\0\x13\0\0\0\x01\0\0\0\0\0\0\0\x64",
+    b"\x22\0\0\0\x14\0\0\0\x01\0\0\0\x01\0\0\0\x64\0\0\0\x10",
+    b"\x05\0\0\0\x10",
+    b"\x05\0\0\0\x77",
 ];
 
 /// Checks the distance of an identifier, and its path.
@@ -36,7 +36,7 @@ fn expect_reach(
 #[test]
 fn distances_and_paths(rt: HostRuntime) -> Result<(), Fail> {
     let alloc = rt.alloc();
-    let reach = reach_of(alloc, &heap_of(alloc, &DUMPS)?)?;
+    let reach = reach_of(alloc, &heap_of(alloc, &SUBS)?)?;
     let reached: [(u64, u64, &[u64]); 4] = [
         (16, 0, &[16]),
         (17, 1, &[16, 17]),
@@ -49,7 +49,7 @@ fn distances_and_paths(rt: HostRuntime) -> Result<(), Fail> {
     for id in [20, 0, 100, 119, 153] {
         expect_reach(&rt, alloc, &reach, id, None, None)?;
     }
-    let (arrays, _roots) = DUMPS.split_at(5);
+    let (arrays, _roots) = SUBS.split_at(5);
     let reach = reach_of(alloc, &heap_of(alloc, arrays)?)?;
     for id in [0, 16, 17, 18, 19, 20] {
         expect_reach(&rt, alloc, &reach, id, None, None)?;

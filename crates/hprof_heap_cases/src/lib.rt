@@ -1,4 +1,4 @@
-//! Tests of hprof_tables, hprof_rows, hprof_heap and hprof_dump, through public calls, and a call of the laws that two of them state.
+//! Tests of hprof_rows, hprof_heap and hprof_dump, through public calls, and a call of the laws that two of them state.
 #![tactic(auto)]
 
 #[cfg(test)]
@@ -15,8 +15,6 @@ mod lent_facts;
 mod rooms;
 #[cfg(test)]
 mod samples;
-#[cfg(test)]
-mod tables;
 
 /// Calls the laws of hprof_heap and of hprof_dump, which hold.
 pub fn laws_hold() {

@@ -3,7 +3,7 @@
 ghost use Rattle.hprof_rows.specs.NumberRows.{load_numbers};
 
 use crate::expecting::{equal, holds};
-use hprof_heap::LoadRow;
+use hprof_rows::LoadRow;
 use hprof_tables::{BytesTable, Content, HintedMap, Relation, Stated, Statement};
 use std::alloc::{AllocError, Global};
 use std::process::Abort;

@@ -1,10 +1,9 @@
-//! Class dumps, object dumps and roots, and the heaps that they state. Identifiers have four bytes.
+//! Class dumps and object dumps, and giving them to a sink. Identifiers have four bytes.
 
 ghost use Rattle.std.specs.Prelude.{◌≡◌};
 
 use hprof_devices::Device;
-use hprof_heap::{Gatherer, Heap};
-use hprof_items::{Fact, Header, IdSize, Root, Step, Version, read_sub};
+use hprof_items::{Fact, Header, IdSize, Step, Version, read_sub};
 use hprof_lists::{ConstantList, FieldList, IdList, StaticList};
 use hprof_stream::{Sink, SinkFault};
 use hprof_values::Basic;
@@ -25,8 +24,6 @@ pub(crate) enum Dump<'a> {
     Objects(u64, u64, &'a [u8]),
     /// An array of numbers, their type and its bytes.
     Numbers(u64, Basic, &'a [u8]),
-    /// A sticky class as a root.
-    Root(u64),
 }
 
 /// A class with all that is told of it.
@@ -107,7 +104,6 @@ impl<'a> Dump<'a> {
                 elem,
                 bytes,
             }),
-            Dump::Root(id) => Some(Fact::Root(Root::Sticky { id })),
         }
     }
 }
@@ -164,11 +160,4 @@ pub(crate) fn give_all<S: Sink>(
         give(alloc, sink, *dump)?;
     }
     Ok(())
-}
-
-/// The heap of these dumps.
-pub(crate) fn heap_of(alloc: Global, dumps: &[Dump<'_>]) -> Result<Heap, Fail> {
-    let mut gatherer = Gatherer::new(alloc);
-    give_all(alloc, &mut gatherer, dumps)?;
-    Ok(gatherer.finish()?)
 }
