@@ -1,4 +1,5 @@
 pub mod Edges
+pub mod EdgeOrder
 pub mod DumpEdges
 pub mod Collecting
 pub mod EdgeLists

@@ -28,8 +28,11 @@ pub struct Near {
 }
 
 impl Near {
-    /// The first places.
-    pub fn start() -> Near {
+    /// Returns the first places.
+    pub fn start() -> Near
+        ensures class { result.class ≡ 0 }
+        ensures object { result.object ≡ 0 }
+    {
         Near {
             class: 0,
             object: 0,

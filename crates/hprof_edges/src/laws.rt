@@ -1,17 +1,28 @@
 //! Laws of the definitions. None of these functions does anything.
 
 ghost use Rattle.std.specs.Prelude.{◌≡◌, ◌↔◌, ◌⊎◌, ℕ, List};
+ghost use Rattle.std.specs.Cmp.Lexicographic.{slice_cmp};
+ghost use Rattle.std.specs.Ordering.{nat_cmp};
 ghost use Rattle.hprof_values.specs.declared.ids.IdSize.{IdSize};
 ghost use Rattle.hprof_items.specs.FactValue.{FactValue};
 ghost use Rattle.hprof_rows.specs.Facts.{Has};
 ghost use Rattle.hprof_edges.specs.declared.edge.Edge.{Edge};
 ghost use Rattle.hprof_edges.specs.DumpEdges.{GivenByClass, GivenByObject};
+ghost use Rattle.hprof_edges.specs.EdgeOrder.{numbers_of_edge};
 ghost use Rattle.hprof_edges.specs.Edges.{AreEdgesFrom, AreReferrers, IsEdge};
+
+use crate::edge::Edge;
 
 /// The edges of facts are those that a class dump gives, and those that an object dump gives.
 pub fn dumps_give_edges()
     ensures { (ids : IdSize) (facts : List FactValue) (edge : Edge)
         → IsEdge ids facts edge ↔ (GivenByClass facts edge ⊎ GivenByObject ids facts edge) }
+{}
+
+/// Edges are in the order of their numbers: of what refers, of the kind of reference, of its place, and of what it refers to.
+pub fn edges_in_order()
+    ensures { (edge other : Edge)
+        → ⟦<Edge as Ord>⟧.cmp edge other ≡ slice_cmp nat_cmp (numbers_of_edge edge) (numbers_of_edge other) }
 {}
 
 /// An identifier has one list of edges from it, and one of edges to it.

@@ -8,6 +8,7 @@ pub fn call_laws() {
     hprof_histogram::laws::one_histogram();
     hprof_laying::laws::dumps_decide_what_is_known();
     hprof_edges::laws::dumps_give_edges();
+    hprof_edges::laws::edges_in_order();
     hprof_edges::laws::one_list_of_edges();
     hprof_edges::laws::more_facts_keep_edges();
     hprof_live::laws::referrers_only_grow();

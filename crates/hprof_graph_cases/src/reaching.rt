@@ -1,7 +1,7 @@
 //! Distances and paths, as `Reach` answers them.
 
 use crate::expecting::equal_at;
-use crate::samples::heap_of;
+use crate::samples::{CLASS_99, CLASS_100, INSTANCE_200, heap_of};
 use hprof_reach::{Reach, reach_of};
 use std::alloc::Global;
 use std::process::Abort;
@@ -18,6 +18,14 @@ const SUBS: [&[u8]; 7] = [
     b"\x05\0\0\0\x77",
 ];
 
+/// An instance below classes 100 and 99, and a Java frame that keeps it alive.
+const INSTANCE_IN_FRAME: [&[u8]; 4] = [
+    INSTANCE_200,
+    CLASS_100,
+    CLASS_99,
+    b"\x03\0\0\0\xc8\0\0\0\x01\0\0\0\0",
+];
+
 /// Checks the distance of an identifier, and its path.
 fn expect_reach(
     rt: &impl Abort,
@@ -30,6 +38,22 @@ fn expect_reach(
     equal_at(rt, id, reach.distance(id), distance);
     let found = reach.path(alloc, id)?;
     equal_at(rt, id, found.as_ref().map(|nodes| nodes.as_slice()), path);
+    Ok(())
+}
+
+#[test]
+fn an_instance_leads_to_its_classes(rt: HostRuntime) -> Result<(), Fail> {
+    let alloc = rt.alloc();
+    let reach = reach_of(alloc, &heap_of(alloc, &INSTANCE_IN_FRAME)?)?;
+    let reached: [(u64, u64, &[u64]); 3] = [
+        (200, 0, &[200]),
+        (100, 1, &[200, 100]),
+        (99, 2, &[200, 100, 99]),
+    ];
+    for (id, distance, path) in reached {
+        expect_reach(&rt, alloc, &reach, id, Some(distance), Some(path))?;
+    }
+    expect_reach(&rt, alloc, &reach, 201, None, None)?;
     Ok(())
 }
 

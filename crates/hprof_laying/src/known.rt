@@ -55,11 +55,18 @@ impl KnownLayouts {
         }
     }
 
-    /// Whether the layout of the class is known.
+    /// Returns whether the layout of the class is known.
     #[inline(always)]
     pub fn knows(&self, class: u64) -> bool
-        ensures known { (ids : IdSize) (facts : List FactValue) → Knows ids facts self.now → IsTrue result ↔ HasLayout facts class }
-        ensures ready { IsTrue result ↔ CanWake (plan_of self.now) class }
+        ensures { (ids : IdSize) (facts : List FactValue) → Knows ids facts self.now → IsTrue result ↔ HasLayout facts class }
+    {
+        self.is_ready(class)
+    }
+
+    /// Returns whether the class is 0, or has a plan.
+    #[inline(always)]
+    fn is_ready(&self, class: u64) -> bool
+        ensures { IsTrue result ↔ CanWake (plan_of self.now) class }
     {
         class == 0 || self.plans.contains_key(class)
     }
@@ -102,7 +109,7 @@ impl KnownLayouts {
         }
         let own = own_fields(self.alloc, row, ids)?;
         self.wait(row.parent, row.id, own)?;
-        if self.knows(row.parent) {
+        if self.is_ready(row.parent) {
             self.wake_below(row.parent, &mut woken)?;
             self.wake_all(&mut woken)?;
         }

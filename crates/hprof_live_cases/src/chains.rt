@@ -94,7 +94,19 @@ fn layouts(rt: HostRuntime) -> Result<(), Fail> {
     Ok(())
 }
 
-/// Gives a class that is not the last to come; after it the instance waits, since the layout of its class misses that class.
+/// Checks that the instance waits, and that this is the layout of class 1.
+fn expect_waiting(
+    rt: &impl Abort,
+    alloc: Global,
+    live: &LiveHeap,
+    layout: Shape<'_>,
+) -> Result<(), Fail> {
+    expect_layout_now(rt, alloc, live, 1, Live::Is(layout))?;
+    expect_counts(rt, live, Live::Is(1), Live::Is(0));
+    Ok(())
+}
+
+/// Gives a class that is not the last to come; after it the layout of class 1 misses that class.
 fn give_early(
     rt: &impl Abort,
     alloc: Global,
@@ -103,9 +115,7 @@ fn give_early(
     missing: u64,
 ) -> Result<(), Fail> {
     give_class(alloc, live, id, 0)?;
-    expect_layout_now(rt, alloc, live, 1, Live::Is(Shape::Missing(missing)))?;
-    expect_counts(rt, live, Live::Is(1), Live::Is(0));
-    Ok(())
+    expect_waiting(rt, alloc, live, Shape::Missing(missing))
 }
 
 /// Gives the class that comes last; after it the instance is laid, and class 1 has a slot of each class.
@@ -122,6 +132,7 @@ fn classes_ascend_and_descend(rt: HostRuntime) -> Result<(), Fail> {
     let alloc = rt.alloc();
     let mut live = LiveHeap::new(alloc);
     give_instance(alloc, &mut live, 1_000)?;
+    expect_waiting(&rt, alloc, &live, Shape::Missing(1))?;
     for id in 1..LAST {
         give_early(&rt, alloc, &mut live, id, id + 1)?;
     }
@@ -133,4 +144,18 @@ fn classes_ascend_and_descend(rt: HostRuntime) -> Result<(), Fail> {
         give_early(&rt, alloc, &mut live, id, 1)?;
     }
     give_last(&rt, alloc, &mut live, 1)
+}
+
+#[test]
+fn the_last_class_closes_a_circle_or_misses_another(rt: HostRuntime) -> Result<(), Fail> {
+    let alloc = rt.alloc();
+    for (above, layout) in [(1, Shape::Cyclic), (1_001, Shape::Missing(1_001))] {
+        let mut live = LiveHeap::new(alloc);
+        give_instance(alloc, &mut live, 1_000)?;
+        for id in 1..=LAST {
+            give_class(alloc, &mut live, id, above)?;
+        }
+        expect_waiting(&rt, alloc, &live, layout)?;
+    }
+    Ok(())
 }

@@ -23,7 +23,6 @@ pub use check::write_check;
 pub use check_parts::{Check, check_to};
 pub use histogram_parts::{HistogramReport, histo_to};
 pub use histogram_report::write_histogram;
-pub use lines::{write_line, write_text};
 pub use object::write_object;
 pub use object_parts::{ObjectReport, object_to};
 pub use path::write_path;

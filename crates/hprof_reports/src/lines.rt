@@ -35,7 +35,7 @@ pub(crate) trait Lines {
 }
 
 /// Writes a text. At a fault some of it was written, from the front.
-pub fn write_text<W: Target>(text: &str, target: &mut W) -> Result<(), Stop>
+pub(crate) fn write_text<W: Target>(text: &str, target: &mut W) -> Result<(), Stop>
     requires { W.health target.old ≡ Well }
     ensures bytes { WritesText (W.written target.old) (W.written target.new) result text.now }
     ensures health { LeavesTarget result (W.health target.new) }
@@ -47,7 +47,7 @@ pub fn write_text<W: Target>(text: &str, target: &mut W) -> Result<(), Stop>
 }
 
 /// Writes a line that was made, if there was memory for it. Where it stops some of it was written, from the front.
-pub fn write_line<W: Target>(line: Result<String, AllocError>, target: &mut W) -> Result<(), Stop>
+pub(crate) fn write_line<W: Target>(line: Result<String, AllocError>, target: &mut W) -> Result<(), Stop>
     requires { W.health target.old ≡ Well }
     ensures bytes { (text : List ℕ) → IfOk line (λ line. string_bytes line ≡ text)
         → WritesText (W.written target.old) (W.written target.new) result text }

@@ -1,16 +1,25 @@
 -- What tables of classes and objects show.
-use Rattle.std.specs.Prelude.{◌≡◌, ◌++◌, ℕ, List, ⊤}
+use Rattle.std.specs.Prelude.{◌≡◌, ◌++◌, ◌+◌, ◌<◌, ◌⊎◌, ℕ, List, length, vec_capacity, vec_len, ⊤}
 use Rattle.hprof_tables.specs.declared.relation.Stated.{Stated}
 use Rattle.hprof_tables.specs.declared.relation.Stated.TheVariants.{New, Same, Differs}
 use Rattle.hprof_tables.specs.declared.bytes_table.BytesTable.{BytesTable}
 use Rattle.hprof_tables.specs.declared.bytes_table.BytesRows.{BytesRows}
 use Rattle.hprof_tables.specs.Spans.{framed, row_bytes, rows_lying}
 use Rattle.hprof_tables.specs.SideBySide.{AreMissing}
-use Rattle.hprof_tables.specs.SortedTable.{entries_of, entries_left}
+use Rattle.hprof_tables.specs.SortedTable.{entries_of, entries_left, LacksRoom}
 
 -- the bytes of the rows with their keys, in order of key
 abbrev pub byte_rows : BytesTable → List (ℕ × List ℕ)
 byte_rows table = rows_lying table.bytes.items (entries_of table.rows)
+
+-- it has room for no row, and for no bytes
+abbrev pub HasNoRoom : BytesTable → Type 0
+HasNoRoom table = (vec_capacity table.rows.run.low ≡ 0) × (vec_capacity table.rows.run.high ≡ 0) × (vec_capacity table.bytes ≡ 0)
+
+-- the bytes under the key may need memory: their row does not go behind all others, or there is no room for it, or for the bytes
+-- behind their length
+abbrev pub MayNeedMemory : BytesTable → ℕ → List ℕ → Type 0
+MayNeedMemory table key bytes = LacksRoom table.rows key ⊎ (vec_capacity table.bytes < vec_len table.bytes + length (framed bytes))
 
 -- those that are still to come
 abbrev pub byte_rows_left : BytesRows → List (ℕ × List ℕ)

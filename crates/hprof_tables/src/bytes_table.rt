@@ -253,7 +253,7 @@ pub struct BytesTable {
 impl BytesTable {
     ghost use Rattle.hprof_tables.specs.Relation.{States};
     ghost use Rattle.hprof_tables.specs.BytesTable.{byte_rows, byte_rows_left, LeavesBytes, PutsMissing, PutsNew};
-    ghost use Rattle.hprof_tables.specs.SortedTable.{LacksRoom};
+    ghost use Rattle.hprof_tables.specs.BytesTable.{HasNoRoom, MayNeedMemory};
     ghost use Rattle.hprof_tables.specs.SideBySide.{IsFirstDifference, LacksOne};
     ghost use Rattle.hprof_tables.specs.SortedRows.{IsAscending};
     ghost use Rattle.hprof_tables.specs.Union.{AreApart, AreUnion};
@@ -261,7 +261,7 @@ impl BytesTable {
     /// A table with no rows. It takes no memory yet.
     pub fn new(alloc: Global) -> Self
         ensures none { byte_rows result ≡ [] }
-        ensures no_room { (vec_capacity result.rows.run.low ≡ 0) × (vec_capacity result.rows.run.high ≡ 0) × (vec_capacity result.bytes ≡ 0) }
+        ensures no_room { HasNoRoom result }
     {
         BytesTable {
             rows: SortedTable::new(alloc),
@@ -276,8 +276,7 @@ impl BytesTable {
         ensures ok { IfOk result (λ stated. States the_bytes (byte_rows self.old) key (bytes_of row.entry) stated (byte_rows self.new)) }
         ensures err { OnErr result (byte_rows self.new ≡ byte_rows self.old) }
         ensures absent { OnErr result (lookup (is_at (nat_cmp key)) (byte_rows self.old) ≡ None) }
-        ensures full { OnErr result (LacksRoom self.old.rows key
-            ⊎ (vec_capacity self.old.bytes < vec_len self.old.bytes + length (framed (bytes_of row.entry)))) }
+        ensures full { OnErr result (MayNeedMemory self.old key (bytes_of row.entry)) }
         ensures kept { IfOk result (λ stated. LeavesBytes stated self.old.bytes self.new.bytes) }
         ensures put { IfOk result (λ stated. PutsNew stated (bytes_of row.entry) self.old.bytes.items self.new.bytes.items) }
         ensures left { OnErr result (self.new.bytes.items ≡ self.old.bytes.items) }
@@ -295,8 +294,7 @@ impl BytesTable {
         ensures ok { IfOk result (λ stated. States the_bytes (byte_rows self.old) key bytes.now stated (byte_rows self.new)) }
         ensures err { OnErr result (byte_rows self.new ≡ byte_rows self.old) }
         ensures absent { OnErr result (lookup (is_at (nat_cmp key)) (byte_rows self.old) ≡ None) }
-        ensures full { OnErr result (LacksRoom self.old.rows key
-            ⊎ (vec_capacity self.old.bytes < vec_len self.old.bytes + length (framed bytes.now))) }
+        ensures full { OnErr result (MayNeedMemory self.old key bytes.now) }
         ensures kept { IfOk result (λ stated. LeavesBytes stated self.old.bytes self.new.bytes) }
         ensures put { IfOk result (λ stated. PutsNew stated bytes.now self.old.bytes.items self.new.bytes.items) }
         ensures left { OnErr result (self.new.bytes.items ≡ self.old.bytes.items) }
@@ -317,8 +315,7 @@ impl BytesTable {
         ensures ok { IfOk result (λ stated. States the_bytes (byte_rows self.old) key (first ∷ rest.now) stated (byte_rows self.new)) }
         ensures err { OnErr result (byte_rows self.new ≡ byte_rows self.old) }
         ensures absent { OnErr result (lookup (is_at (nat_cmp key)) (byte_rows self.old) ≡ None) }
-        ensures full { OnErr result (LacksRoom self.old.rows key
-            ⊎ (vec_capacity self.old.bytes < vec_len self.old.bytes + length (framed (first ∷ rest.now)))) }
+        ensures full { OnErr result (MayNeedMemory self.old key (first ∷ rest.now)) }
         ensures kept { IfOk result (λ stated. LeavesBytes stated self.old.bytes self.new.bytes) }
         ensures put { IfOk result (λ stated. PutsNew stated (first ∷ rest.now) self.old.bytes.items self.new.bytes.items) }
         ensures left { OnErr result (self.new.bytes.items ≡ self.old.bytes.items) }

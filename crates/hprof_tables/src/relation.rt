@@ -86,12 +86,12 @@ impl<V: Content + Drop> Relation<V> {
     ghost use Rattle.hprof_tables.specs.Union.{AreUnion};
     ghost use Rattle.hprof_tables.specs.Rows.{rows_left};
     ghost use Rattle.hprof_tables.specs.SortedRows.{IsAscending};
-    ghost use Rattle.hprof_tables.specs.SortedTable.{LacksRoom};
+    ghost use Rattle.hprof_tables.specs.Relation.{HasNoRoom, MayNeedMemory};
 
     /// A table with no rows. It takes no memory yet.
     pub fn new(alloc: Global) -> Self
         ensures none { rows_of result ≡ [] }
-        ensures no_room { (vec_capacity result.rows.run.low ≡ 0) × (vec_capacity result.rows.run.high ≡ 0) }
+        ensures no_room { HasNoRoom result }
     {
         Relation {
             rows: SortedTable::new(alloc),
@@ -104,7 +104,7 @@ impl<V: Content + Drop> Relation<V> {
         ensures ok { IfOk result (λ stated. States V.content (rows_of self.old) key (V.content row) stated (rows_of self.new)) }
         ensures err { OnErr result (rows_of self.new ≡ rows_of self.old) }
         ensures absent { OnErr result (lookup (is_at (nat_cmp key)) (rows_of self.old) ≡ None) }
-        ensures full { OnErr result (LacksRoom self.old.rows key) }
+        ensures full { OnErr result (MayNeedMemory self.old key) }
     {
         self.state_from(key, Made(row))
     }
@@ -118,7 +118,7 @@ impl<V: Content + Drop> Relation<V> {
         ensures ok { IfOk result (λ stated. States V.content (rows_of self.old) key (T.content statement) stated (rows_of self.new)) }
         ensures err { OnErr result (rows_of self.new ≡ rows_of self.old) }
         ensures absent { OnErr result (lookup (is_at (nat_cmp key)) (rows_of self.old) ≡ None) }
-        ensures full { OnErr result (LacksRoom self.old.rows key ⊎ T.refuses statement) }
+        ensures full { OnErr result (MayNeedMemory self.old key ⊎ T.refuses statement) }
     {
         let stating = Stating {
             statement,

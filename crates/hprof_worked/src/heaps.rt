@@ -68,10 +68,18 @@ fn heaps_of(
     Ok(heaps)
 }
 
+/// Joins another heap into a heap. If memory runs out, it joins them once more.
+fn join(heap: &mut Heap, other: &Heap) -> Result<(), JoinRefusal> {
+    match heap.join(other) {
+        Err(JoinRefusal::OutOfMemory) => heap.join(other),
+        joined => joined,
+    }
+}
+
 /// Joins the others into a heap, up to the first that is refused.
 fn join_all(heap: &mut Heap, others: &[Heap]) -> Result<(), ToolFault> {
     for other in others {
-        if let Err(refusal) = heap.join(other) {
+        if let Err(refusal) = join(heap, other) {
             return Err(fault_of_join(refusal));
         }
     }

@@ -7,7 +7,7 @@ use Rattle.hprof_laying.specs.Waking.{CanWake, IsWaking}
 use Rattle.hprof_laying.proofs.Comings.{are_woken, waits_then, wakes_first, wakes_then, waking_ends, zero_comes}
 use Rattle.hprof_laying.proofs.Wakings.{woke_none}
 use Rattle.hprof_laying.proofs.known.KnownLayouts.come.Goals as goal
-use Rattle.hprof_laying.proofs.known.KnownLayouts.come.Goals.{then-knows+in_ok-wake_below+in_ok-wake_all, else-knows}
+use Rattle.hprof_laying.proofs.known.KnownLayouts.come.Goals.{then-is_ready+in_ok-wake_below+in_ok-wake_all, else-is_ready}
 
 pub returns-then-row-eq0-clause-ok : goal.returns-then-row-eq0-clause-ok
 returns-then-row-eq0-clause-ok c = λ facts more knows new are.
@@ -21,9 +21,9 @@ returns-then-row-eq0-clause-woken c = λ facts more knows new are.
     (zero_comes c.args.ids facts more known knows (dump_of c.args.row.now) new are c.if-row-eq0.true) (woke_none (plan_of known)))
 
 -- in the end no class is to be woken
-waking_is_over : (c : goal.Joined-knows) (facts more : List FactValue) → Knows c.args.ids facts c.args.self.now
+waking_is_over : (c : goal.Joined-is_ready) (facts more : List FactValue) → Knows c.args.ids facts c.args.self.now
     → HasNoDump facts c.args.row.now.id → HasDumpMore facts (dump_of c.args.row.now) more
-    → IsWaking c.args.ids more (plan_of c.args.self.now) c.if-knows.self c.if-knows.woken.items []
+    → IsWaking c.args.ids more (plan_of c.args.self.now) c.if-is_ready.self c.if-is_ready.woken.items []
 waking_is_over c facts more knows new are =
     let ids = c.args.ids in
     let known = c.args.self.now in
@@ -31,9 +31,9 @@ waking_is_over c facts more knows new are =
     let dump = dump_of c.args.row.now in
     let before = plan_of known in
     let none = c.new-woken.ensures.items in
-    elim c.if-knows.branch [
-      | then-knows+in_ok-wake_below+in_ok-wake_all w ↦
-          let ready : CanWake (plan_of other) c.args.row.now.parent = c.knows.ensures.ready.0 w.if-knows.true in
+    elim c.if-is_ready.branch [
+      | then-is_ready+in_ok-wake_below+in_ok-wake_all w ↦
+          let ready : CanWake (plan_of other) c.args.row.now.parent = c.is_ready.ensures.0 w.if-is_ready.true in
           let wakes = wakes_then ids facts more known knows dump new are other c.in_ok-own.own c.in_ok-own.ensures c.if-row-eq0.false
           c.in_ok-wait.ensures.plans c.in_ok-wait.ensures.waits in
           let below = w.in_ok-wake_below.ensures.ok ids more before [] ready
@@ -41,9 +41,9 @@ waking_is_over c facts more knows new are =
           let first = wakes_first ids more before w.wake_below.new.self c.new-woken.result.items w.wake_below.new.woken.items none below in
           let all = w.in_ok-wake_all.ensures ids more before first in
           rw (w.self-is, w.woken-is) all
-      | else-knows w ↦
+      | else-is_ready w ↦
           let unready : CanWake (plan_of other) c.args.row.now.parent → ⊥ = λ ready.
-          let clash : true ≡ false = sym (c.knows.ensures.ready.1 ready) ∙ w.if-knows.false in cc in
+          let clash : true ≡ false = sym (c.is_ready.ensures.1 ready) ∙ w.if-is_ready.false in cc in
           let waits = waits_then ids facts more known knows dump new are other c.in_ok-own.own c.in_ok-own.ensures c.if-row-eq0.false
           c.in_ok-wait.ensures.plans c.in_ok-wait.ensures.waits unready in
           rw (w.self-is, w.woken-is, none) waits
@@ -51,10 +51,10 @@ waking_is_over c facts more knows new are =
 
 pub returns-clause-ok : goal.returns-clause-ok
 returns-clause-ok c = λ facts more knows new are.
-    (waking_ends c.args.ids facts more c.args.self.now c.if-knows.self c.if-knows.woken.items knows
+    (waking_ends c.args.ids facts more c.args.self.now c.if-is_ready.self c.if-is_ready.woken.items knows
     (waking_is_over c facts more knows new are)).0
 
 pub returns-clause-woken : goal.returns-clause-woken
 returns-clause-woken c = λ facts more knows new are.
-    (waking_ends c.args.ids facts more c.args.self.now c.if-knows.self c.if-knows.woken.items knows
+    (waking_ends c.args.ids facts more c.args.self.now c.if-is_ready.self c.if-is_ready.woken.items knows
     (waking_is_over c facts more knows new are)).1
