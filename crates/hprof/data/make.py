@@ -67,12 +67,12 @@ class Dump:
                 body += struct.pack(">QB", self.name(name), kind)
             self.subs["classes"].append(body)
 
-    def instance(self, name, *values):
+    def instance(self, name, *values, this=None):
         """An instance with the values of its own fields, then those of the fields of its superclasses."""
         fields = self.classes[name]["fields"]
         assert len(fields) == len(values)
         held = b"".join(value.to_bytes(WIDTH[kind], "big") for (_, kind), value in zip(fields, values))
-        this = self.identifier(len(held))
+        this = this or self.identifier(len(held))
         self.subs["objects"].append(struct.pack(">BQIQI", 0x21, this, 1, self.classes[name]["id"], len(held)) + held)
         return this
 
@@ -131,13 +131,17 @@ def library(dump):
 
 
 def server(dump):
-    """The classes of the server. Its loader is an instance of the JDK's."""
-    dump.class_dump("jdk/internal/loader/ClassLoaders$AppClassLoader", "java/lang/Object", [("name", OBJECT)])
-    loader = dump.instance("jdk/internal/loader/ClassLoaders$AppClassLoader", dump.text("app"))
-    dump.class_dump("shop/Session", "java/lang/Object", [("user", OBJECT), ("cart", OBJECT), ("page", OBJECT), ("opened", LONG)],
-                    loader=loader)
-    dump.class_dump("shop/Server", "java/lang/Object", loader=loader)
-    return loader
+    """The classes of the server, and their loader, which keeps them alive."""
+    app = "jdk/internal/loader/ClassLoaders$AppClassLoader"
+    dump.class_dump("java/lang/ClassLoader", "java/lang/Object", [("name", OBJECT), ("classes", OBJECT)])
+    dump.class_dump(app, "java/lang/ClassLoader")
+    loader = dump.identifier(16)
+    fields = [("user", OBJECT), ("cart", OBJECT), ("page", OBJECT), ("opened", LONG)]
+    classes = [
+        dump.class_dump("shop/Session", "java/lang/Object", fields, loader=loader),
+        dump.class_dump("shop/Server", "java/lang/Object", loader=loader),
+    ]
+    return dump.instance(app, dump.text("app"), array_list(dump, classes, 2), this=loader)
 
 
 def array_list(dump, elements, room):
@@ -167,7 +171,7 @@ def make(path, millis, first, sessions):
     dump.root(0x08, thread, 1, 2)
     dump.root(0x03, opened[-1], 1, 0)
     dump.jni_global(loader, 0x7F00_7000_0008)
-    dump.root(0x07, listed)
+    dump.root(0x07, thread)
     for name in ("java/lang/Object", "java/lang/String", "java/lang/Thread", "java/util/ArrayList"):
         dump.root(0x05, dump.classes[name]["id"])
     assert closed

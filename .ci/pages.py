@@ -1,0 +1,91 @@
+#!/usr/bin/env python3
+"""Checks that the pages name what is there, and that README shows what the program prints.
+
+In each page a link leads to a file; a path in backticks is one of the tree; a name in backticks, as `join_to` or `Gatherer::new`, stands in the
+code or the definitions; and of `call`: `clause` the clause stands in a file that has the call. Each command that README shows behind a `$` is
+run on the sample dumps, and its output compared line for line, if the program was built. The status is 0 if nothing differs.
+"""
+
+import re
+import subprocess
+import sys
+import tempfile
+from pathlib import Path
+from shutil import copy
+
+ROOT = Path(__file__).resolve().parent.parent
+PAGES = [ROOT / "README.md", ROOT / "CONTRIBUTING.md", *sorted(ROOT.glob("docs/*.md")), *sorted(ROOT.glob("bench/*.md"))]
+PROGRAM = ROOT / "crates" / "hprof" / "out" / "hprof"
+SAMPLES = ROOT / "crates" / "hprof" / "data"
+NAME = re.compile(r"[A-Za-z]\w*(::\w+)*(\(\))?")
+CLAUSES = re.compile(r"`([A-Za-z]\w*(?:::\w+)*)`: ((?:`\w+`(?:, | and )?)+)")
+PATH = re.compile(r"[\w.*-]+(/[\w.*-]+)+/?|[\w-]+\.(md|py|rt|antt|txt)")
+
+
+def words_of(path):
+    return set(re.findall(r"\w+", path.read_text(errors="replace")))
+
+
+def tree():
+    """The words of each file of the tree that has names, by the file."""
+    kinds = ("crates/*/src/**/*.rt", "crates/*/specs/**/*.antt", "crates/*/must-fail/*.edit", "bench/**/*.py", "crates.txt")
+    files = {path: words_of(path) for kind in kinds for path in ROOT.glob(kind)}
+    known = set().union(*files.values(), *({*path.parts, path.stem} for path in files))
+    return files, known
+
+
+def is_there(page, text):
+    """Whether a path in backticks leads to a file, from the top, from the page or from a crate."""
+    return any(any(base.glob(text)) for base in (ROOT, page.parent, ROOT / "crates"))
+
+
+def faults_of(page, files, known):
+    """The names and links of a page that lead nowhere."""
+    text = re.sub(r"(?m)^    .*$|```.*?```", "", page.read_text(), flags=re.DOTALL)
+    for link in re.findall(r"\]\(([^)#:]+)\)", text):
+        if not (page.parent / link).exists():
+            yield f"link to {link}"
+    for token in re.findall(r"`([^`\n]+)`", text):
+        if PATH.fullmatch(token) and not token.startswith(".."):
+            if not is_there(page, token):
+                yield f"path {token}"
+        elif NAME.fullmatch(token) and not set(re.findall(r"\w+", token)) <= known:
+            yield f"name {token}"
+    for call, clauses in CLAUSES.findall(text):
+        last = call.split("::")[-1]
+        for clause in re.findall(r"\w+", clauses):
+            pattern = re.compile(rf"\b(ensures\*?|requires|pub)\s+{clause}\b")
+            if not any(pattern.search(path.read_text()) for path, words in files.items() if last in words):
+                yield f"clause {call}: {clause}"
+
+
+def shown():
+    """The commands that README shows, each with its output."""
+    lines = [line[4:] for line in (ROOT / "README.md").read_text().splitlines() if line.startswith("    ")]
+    starts = [place for place, line in enumerate(lines) if line.startswith("$ ")] + [len(lines)]
+    for start, end in zip(starts, starts[1:]):
+        yield lines[start][2:], lines[start + 1:end]
+
+
+def outputs():
+    """The commands that print another text than README says."""
+    with tempfile.TemporaryDirectory() as folder:
+        for dump in SAMPLES.glob("*.hprof"):
+            copy(dump, folder)
+        for command, output in shown():
+            path = f'PATH="{PROGRAM.parent}:$PATH"; {command}'
+            found = subprocess.run(["bash", "-c", path], cwd=folder, stdout=subprocess.PIPE, stderr=subprocess.STDOUT, text=True).stdout
+            if found.splitlines() != output:
+                yield f"{command}\n{found}"
+
+
+def main():
+    files, known = tree()
+    faults = [f"{page.relative_to(ROOT)}: {fault}" for page in PAGES for fault in faults_of(page, files, known)]
+    if PROGRAM.exists():
+        faults += [f"README.md: {fault}" for fault in outputs()]
+    print(*faults, f"{len(PAGES)} pages, {len(faults)} faults", sep="\n")
+    sys.exit(bool(faults))
+
+
+main()
