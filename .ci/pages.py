@@ -2,8 +2,9 @@
 """Checks that the pages name what is there, and that README shows what the program prints.
 
 In each page a link leads to a file; a path in backticks is one of the tree; a name in backticks, as `join_to` or `Gatherer::new`, stands in the
-code or the definitions; and of `call`: `clause` the clause stands in a file that has the call. Each command that README shows behind a `$` is
-run on the sample dumps, and its output compared line for line, if the program was built. The status is 0 if nothing differs.
+code or the definitions; of `call`: `clause` the clause stands in a file that has the call; each crate that is named is there; and
+DEFINITIONS names each file of definitions. Each command that README shows behind a `$` is run on the sample dumps, and its output compared line for
+line, if the program was built. The status is 0 if nothing differs.
 """
 
 import re
@@ -18,6 +19,7 @@ PAGES = [ROOT / "README.md", ROOT / "CONTRIBUTING.md", *sorted(ROOT.glob("docs/*
 PROGRAM = ROOT / "crates" / "hprof" / "out" / "hprof"
 SAMPLES = ROOT / "crates" / "hprof" / "data"
 NAME = re.compile(r"[A-Za-z]\w*(::\w+)*(\(\))?")
+PLACES = re.compile(r"\b(hprof_\w+)(?:: |/specs/)(\w+\.antt(?:, \w+\.antt)*)")
 CLAUSES = re.compile(r"`([A-Za-z]\w*(?:::\w+)*)`: ((?:`\w+`(?:, | and )?)+)")
 PATH = re.compile(r"[\w.*-]+(/[\w.*-]+)+/?|[\w-]+\.(md|py|rt|antt|txt)")
 
@@ -28,15 +30,15 @@ def words_of(path):
 
 def tree():
     """The words of each file of the tree that has names, by the file."""
-    kinds = ("crates/*/src/**/*.rt", "crates/*/specs/**/*.antt", "crates/*/must-fail/*.edit", "bench/**/*.py", "crates.txt")
+    kinds = ("crates/*/src/**/*.rt", "crates/*/specs/**/*.antt", "crates/*/proofs/*.antt", "crates/*/must-fail/*.edit", "bench/**/*.py")
     files = {path: words_of(path) for kind in kinds for path in ROOT.glob(kind)}
     known = set().union(*files.values(), *({*path.parts, path.stem} for path in files))
     return files, known
 
 
 def is_there(page, text):
-    """Whether a path in backticks leads to a file, from the top, from the page or from a crate."""
-    return any(any(base.glob(text)) for base in (ROOT, page.parent, ROOT / "crates"))
+    """Whether a path in backticks leads to a file, from the top, from the page or in a crate; what a build leaves is not looked for."""
+    return "/out/" in text or any(any(base.glob(text)) for base in (ROOT, page.parent)) or any(ROOT.glob(f"crates/*/**/{text}"))
 
 
 def faults_of(page, files, known):
@@ -51,12 +53,23 @@ def faults_of(page, files, known):
                 yield f"path {token}"
         elif NAME.fullmatch(token) and not set(re.findall(r"\w+", token)) <= known:
             yield f"name {token}"
-    for call, clauses in CLAUSES.findall(text):
+    for crate in set(re.findall(r"\bhprof_\w+", text)):
+        if not (ROOT / "crates" / crate).is_dir() and not any(ROOT.glob(f"crates/*/src/{crate}.rt")):
+            yield f"crate {crate}"
+    for call, clauses in CLAUSES.findall("\n".join(line for line in text.splitlines() if line.startswith("|"))):
         last = call.split("::")[-1]
         for clause in re.findall(r"\w+", clauses):
             pattern = re.compile(rf"\b(ensures\*?|requires|pub)\s+{clause}\b")
             if not any(pattern.search(path.read_text()) for path, words in files.items() if last in words):
                 yield f"clause {call}: {clause}"
+
+
+def definitions():
+    """The files of definitions that DEFINITIONS does not name, and those that it names and are not there."""
+    text = (ROOT / "docs" / "DEFINITIONS.md").read_text()
+    named = {f"{crate}/specs/{file}" for crate, files in PLACES.findall(text) for file in files.split(", ")}
+    there = {str(path.relative_to(ROOT / "crates")) for path in ROOT.glob("crates/*/specs/*.antt") if path.name != "Lib.antt"}
+    return sorted(named ^ there)
 
 
 def shown():
@@ -82,6 +95,7 @@ def outputs():
 def main():
     files, known = tree()
     faults = [f"{page.relative_to(ROOT)}: {fault}" for page in PAGES for fault in faults_of(page, files, known)]
+    faults += [f"docs/DEFINITIONS.md: {place}" for place in definitions()]
     if PROGRAM.exists():
         faults += [f"README.md: {fault}" for fault in outputs()]
     print(*faults, f"{len(PAGES)} pages, {len(faults)} faults", sep="\n")
