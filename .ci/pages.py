@@ -47,6 +47,9 @@ def faults_of(page, files, known):
     for link in re.findall(r"\]\(([^)#:]+)\)", text):
         if not (page.parent / link).exists():
             yield f"link to {link}"
+    for line in page.read_text().splitlines():
+        if len(line) > 140 and not line.startswith("|"):
+            yield f"long line {line[:40]}"
     for token in re.findall(r"`([^`\n]+)`", text):
         if PATH.fullmatch(token) and not token.startswith(".."):
             if not is_there(page, token):
