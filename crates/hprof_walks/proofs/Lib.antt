@@ -6,6 +6,7 @@ pub mod Arrived
 pub mod Levels
 pub mod Ways
 pub mod FirstLevel
+pub mod Ordered
 pub mod Placed
 pub mod Told
 pub mod Targets

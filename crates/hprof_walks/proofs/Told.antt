@@ -1,6 +1,7 @@
 -- What a search tells where it has come to its end.
-use Rattle.std.proofs.Common.{◌≡◌, ◌<◌, ◌-◌, ℕ, Bool, true, false, List, [], Option, Some, None, option_and_then, length, map, reverse, slice_index, get_or, refl, sym, ap, subst, ◌∙◌, arith}
+use Rattle.std.proofs.Common.{◌≡◌, ◌<◌, ◌-◌, ℕ, Bool, true, false, List, [], Option, Some, None, option_and_then, length, map, nat_eq, reverse, slice_index, get_or, refl, sym, ap, subst, ◌∙◌, arith}
 use Rattle.std.specs.Bool.{then_some}
+use Rattle.std.specs.List.{IsDistinct}
 use Rattle.std.specs.List.Sorted.{IsStrictlyIncreasing}
 use Rattle.std.specs.Option.{option_map}
 use Rattle.std.proofs.lemmas.List.{reverse-reverse}
@@ -12,11 +13,12 @@ use Rattle.hprof_walks.specs.Search.{IsSearch, found_in, way_in, distance_in, pa
 use Rattle.hprof_walks.specs.Walks.{Reaches, IsDistance, HasDistance, IsWayBack, IsPath}
 use Rattle.hprof_walks.proofs.Ascending.{one_place}
 use Rattle.hprof_walks.proofs.Levels.{StartsIn, StepsIn, IsSearched}
+use Rattle.hprof_walks.proofs.Ordered.{IsByDistance, nodes_in_order}
 use Rattle.hprof_walks.proofs.Placed.{nowhere, stands}
 use Rattle.hprof_walks.proofs.Ways.{found_all, goes_back}
 
 abbrev pub kept_finds : Search → Finds
-kept_finds search = record { found = search.found.items; before = items_in search.before; next = [] }
+kept_finds search = record { found = search.found.items; before = items_in search.before; order = search.order.keys; next = [] }
 
 module _ (search : Search) where
   found_stands : (node number : ℕ) → found_in search node ≡ Some number
@@ -52,7 +54,8 @@ module _ (search : Search) where
         absurd (cc)
 
 module _ (Leads : ℕ → ℕ → Type 0) (starts : List ℕ) (search : Search) (ascend : IsStrictlyIncreasing search.nodes.items)
-    (searched : IsSearched Leads search.nodes.items starts (kept_finds search) [] search.levels) where
+    (searched : IsSearched Leads search.nodes.items starts (kept_finds search) [] search.levels)
+    (once : IsDistinct nat_eq search.order.keys) (by_distance : IsByDistance Leads search.nodes.items starts search.order.keys) where
   unreached : (node : ℕ) → found_in search node ≡ None → (count : ℕ)
       → Reaches (StartsIn search.nodes.items starts) (StepsIn Leads search.nodes.items) count node → ⊥
   unreached node none count reaches =
@@ -91,4 +94,6 @@ module _ (Leads : ℕ → ℕ → Type 0) (starts : List ℕ) (search : Search) 
   tells = record {
     distance = λ node. tells_distance node (found_in search node) refl;
     path = λ node. tells_path node (found_in search node) refl;
+    order = nodes_in_order Leads search.nodes.items starts ascend (kept_finds search) search.levels searched search.order.keys
+        search.whole.ordered once by_distance;
   }

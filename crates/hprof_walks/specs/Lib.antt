@@ -1,6 +1,7 @@
 pub mod Walks
 pub mod Kept
 pub mod Numbers
+pub mod NodeHash
 pub mod Finds
 pub mod Search
 pub mod Numbered

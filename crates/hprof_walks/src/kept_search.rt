@@ -1,8 +1,11 @@
 //! What a search keeps, and tells.
 
+use crate::node_hasher::NodeHasher;
 use crate::numbered::find;
 use crate::numbers::Numbers;
+use indexmap::IndexSet;
 use std::alloc::{AllocError, Global};
+use std::hash::BuildHasherDefault;
 
 /// A search by levels that was made: of each node how many steps lead to it from a start, and by which path.
 #[derive(Drop)]
@@ -13,9 +16,11 @@ pub struct Search {
     pub(crate) found: Vec<bool>,
     /// Of each number that was found the one that it was found from; of a start, its own.
     pub(crate) before: Numbers,
+    /// The numbers that were found, in the order in which they were found: by their distances.
+    pub(crate) order: IndexSet<usize, BuildHasherDefault<NodeHasher>>,
     /// How many levels there were.
     pub(crate) levels: usize,
-    ghost whole: { IsKept nodes.items found.items (items_in before) },
+    ghost whole: { IsKept nodes.items found.items (items_in before) order.keys },
 }
 
 ghost use Rattle.hprof_walks.specs.Kept.{IsKept};

@@ -7,6 +7,7 @@ mod hints;
 mod kept_search;
 pub mod laws;
 mod leading;
+mod node_hasher;
 mod numbered;
 mod numbers;
 mod searching;
