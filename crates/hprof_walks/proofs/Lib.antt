@@ -9,5 +9,6 @@ pub mod FirstLevel
 pub mod Ordered
 pub mod Placed
 pub mod Told
+pub mod Searched
 pub mod Targets
 pub mod Counts

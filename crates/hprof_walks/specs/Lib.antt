@@ -4,4 +4,5 @@ pub mod Numbers
 pub mod NodeHash
 pub mod Finds
 pub mod Search
+pub mod WayBack
 pub mod Numbered

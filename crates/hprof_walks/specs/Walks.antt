@@ -23,6 +23,11 @@ module _ (Starts : ℕ → Type 0) (Steps : ℕ → ℕ → Type 0) where
     pub steps : Steps before node
     pub least : (other : ℕ) → IsDistance other count → Steps other node → before ≤ other
 
+  -- a start is found from itself, and another node from the least of those one step nearer with a step to it
+  abbrev pub IsFoundFrom : ℕ → ℕ → ℕ → Type 0
+  IsFoundFrom zero before node = before ≡ node
+  IsFoundFrom (suc count) before node = IsLeastBefore count before node
+
   -- from a node at that distance back to a start, by the least node before each time
   abbrev pub IsWayBack : ℕ → ℕ → List ℕ → Type 0
   IsWayBack zero node nodes = IsDistance node 0 × (nodes ≡ node ∷ [])

@@ -12,8 +12,10 @@ mod numbered;
 mod numbers;
 mod searching;
 mod trail;
+mod walks;
 
 pub use graph::Graph;
 pub use kept_search::Search;
 pub use numbered::Numbered;
 pub use searching::search;
+pub use walks::WalksOf;

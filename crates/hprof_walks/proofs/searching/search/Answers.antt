@@ -8,7 +8,7 @@ use Rattle.hprof_walks.proofs.FirstLevel.{searched_first}
 use Rattle.hprof_walks.proofs.Followed.{follows_same}
 use Rattle.hprof_walks.proofs.Levels.{IsSearched, searched_more, searched_still}
 use Rattle.hprof_walks.proofs.Ordered.{IsByDistance, first_in_order, more_in_order}
-use Rattle.hprof_walks.proofs.Told.{tells}
+use Rattle.hprof_walks.proofs.Searched.{searches}
 use Rattle.hprof_walks.proofs.searching.search.Goals as goal
 
 pub loop-graph-init : goal.loop-graph-init
@@ -104,5 +104,5 @@ returns g c =
     (let none = eqb-true (vec_len c.loop-graph.level) 0 (sym c.is_empty.ensures ∙ c.loop-graph-test.false) in omega (arith, c.loop-graph.level.ok.0)) in
     let last = subst (λ (ns : List ℕ). IsSearched Leads nodes starts finds ns c.loop-graph.levels) empty was in
     let searched = searched_still Leads nodes starts finds kept [] c.loop-graph.levels refl refl last in
-    rw (← c.in_ok-numbered.ensures) (tells Leads starts _ c.in_ok-numbered.numbered.ascend searched
+    rw (← c.in_ok-numbered.ensures) (searches Leads starts _ searched
     c.loop-graph.invariant.once c.loop-graph.invariant.order)
