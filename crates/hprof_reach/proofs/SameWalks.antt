@@ -1,9 +1,9 @@
 -- Walks over the same starts and steps are the same walks, however these are told.
-use Rattle.std.specs.Prelude.{◌↔◌, reverse}
-use Rattle.std.proofs.Common.{ℕ, zero, suc, List, Option, Some, None}
+use Rattle.std.specs.Prelude.{◌↔◌}
+use Rattle.std.proofs.Common.{ℕ, zero, suc, List}
 use Rattle.hprof_walks.specs.declared.kept_search.Search.{Search}
-use Rattle.hprof_walks.specs.Search.{IsSearch, distance_in, path_in}
-use Rattle.hprof_walks.specs.Walks.{HasDistance, IsDistance, IsLeastBefore, IsPath, IsWayBack, Reaches}
+use Rattle.hprof_walks.specs.Search.{IsSearch, node_at, node_before, nodes_found}
+use Rattle.hprof_walks.specs.Walks.{IsDistance, IsFoundFrom, IsLeastBefore, IsOrder, Reaches}
 
 module _ (Starts Others : ℕ → Type 0) (Steps OtherSteps : ℕ → ℕ → Type 0) (starts : (node : ℕ) → Starts node → Others node)
     (steps : (from to : ℕ) → Steps from to → OtherSteps from to) where
@@ -34,10 +34,6 @@ module _ (Starts Others : ℕ → Type 0) (Steps OtherSteps : ℕ → ℕ → Ty
     least = λ other reaches. is.least other (forth other node reaches);
   }
 
-  has_distance_too : (node : ℕ) (distance : Option ℕ) → HasDistance Starts Steps node distance → HasDistance Others OtherSteps node distance
-  has_distance_too node None none = λ count reaches. none count (back count node reaches)
-  has_distance_too node (Some count) is = distance_too node count is
-
   least_too : (count before node : ℕ) → IsLeastBefore Starts Steps count before node → IsLeastBefore Others OtherSteps count before node
   least_too count before node is = record {
     distance = distance_too before count is.distance;
@@ -45,21 +41,27 @@ module _ (Starts Others : ℕ → Type 0) (Steps OtherSteps : ℕ → ℕ → Ty
     least = λ other at step. is.least other (distance_back other count at) ((steps other node).1 step);
   }
 
-  way_back_too : (count node : ℕ) (nodes : List ℕ) → IsWayBack Starts Steps count node nodes → IsWayBack Others OtherSteps count node nodes
-  way_back_too zero node nodes is = (distance_too node zero is.0, is.1)
-  way_back_too (suc count) node nodes is =
-      let way = is.1 in (
-        distance_too node (suc count) is.0,
-        (way.0, way.1, way.2, least_too count way.0 node way.3, way_back_too count way.0 way.1 way.4),
-      )
+  found_from_too : (count before node : ℕ) → IsFoundFrom Starts Steps count before node → IsFoundFrom Others OtherSteps count before node
+  found_from_too zero before node from = from
+  found_from_too (suc count) before node from = least_too count before node from
 
-  path_too : (node : ℕ) (path : Option (List ℕ)) → IsPath Starts Steps node path → IsPath Others OtherSteps node path
-  path_too node None none = λ count reaches. none count (back count node reaches)
-  path_too node (Some nodes) is = (is.0, way_back_too is.0 node (reverse nodes) is.1)
+  order_too : (nodes : List ℕ) → IsOrder Starts Steps nodes → IsOrder Others OtherSteps nodes
+  order_too nodes is = record {
+    reached = λ node. (
+      λ has. let of = (is.reached node).0 has in (of.0, distance_too node of.0 of.1),
+      λ of. (is.reached node).1 (of.0, distance_back node of.0 of.1),
+    );
+    once = is.once;
+    ascend = λ place other d before below near far at_place at_other.
+        is.ascend place other d before below near far (distance_back _ near at_place) (distance_back _ far at_other);
+  }
 
   -- a search over the ones is one over the others
   pub same_search : (search : Search) → IsSearch Starts Steps search → IsSearch Others OtherSteps search
   same_search search is = record {
-    distance = λ node. has_distance_too node (distance_in search node) (is.distance node);
-    path = λ node. path_too node (path_in search node) (is.path node);
+    order = order_too (nodes_found search) is.order;
+    before = λ number count has distance.
+        found_from_too count (node_before search number) (node_at search number)
+        (is.before number count has (distance_back (node_at search number) count distance));
+    levels = λ node count distance. is.levels node count (distance_back node count distance);
   }

@@ -62,6 +62,6 @@ IsDistanceFromRoots ids facts id distance = HasDistance (IsStart facts) (IsStep 
 abbrev pub IsPathFromRoots : IdSize → List FactValue → ℕ → Option (List ℕ) → Type 0
 IsPathFromRoots ids facts id path = IsPath (IsStart facts) (IsStep ids facts) id path
 
--- what is kept tells of each identifier its distance and its path
+-- what is kept is a search from roots: each identifier that they lead to, in the order of distances, and from which it was reached
 abbrev pub IsReach : IdSize → List FactValue → Reach → Type 0
 IsReach ids facts reach = IsSearch (IsStart facts) (IsStep ids facts) reach.search

@@ -1,6 +1,6 @@
 //! Laws of the definitions. None of these functions does anything.
 
-ghost use Rattle.std.specs.Prelude.{◌≡◌, ◌+◌, ◌<◌, ◌≤◌, ℕ, List, Option, Some, length, slice_index};
+ghost use Rattle.std.specs.Prelude.{◌≡◌, ◌+◌, ◌<◌, ◌≤◌, ℕ, List, Option, Some, None, length, slice_index};
 ghost use Rattle.hprof_values.specs.declared.ids.IdSize.{IdSize};
 ghost use Rattle.hprof_items.specs.FactValue.{FactValue};
 ghost use Rattle.hprof_rows.specs.Conflict.{IsConsistent};
@@ -29,6 +29,15 @@ pub fn path_is_shortest()
     ensures least { (ids : IdSize) (facts : List FactValue) (id place : ℕ) (nodes : List ℕ)
         → IsPathFromRoots ids facts id (Some nodes) → place + 1 < length nodes
         → IsLeastBefore (IsStart facts) (IsStep ids facts) place (slice_index nodes place) (slice_index nodes (place + 1)) }
+{}
+
+/// An identifier that no root leads to is at the end of no walk from one; and one that has a distance is at the end of a walk of
+/// as many steps.
+pub fn no_distance_no_walk()
+    ensures none { (ids : IdSize) (facts : List FactValue) (id : ℕ) (nodes : List ℕ) → IsDistanceFromRoots ids facts id None
+        → IsWalk (IsStart facts) (IsStep ids facts) nodes id → ⊥ }
+    ensures some { (ids : IdSize) (facts : List FactValue) (id distance : ℕ) → IsDistanceFromRoots ids facts id (Some distance)
+        → (nodes : List ℕ) × IsWalk (IsStart facts) (IsStep ids facts) nodes id × (length nodes ≡ distance + 1) }
 {}
 
 /// Of facts that agree each identifier has a distance, or none, and a path, or none.

@@ -1,6 +1,7 @@
 //! How objects are reached from roots: how few references lead to each, and by which path.
 #![tactic(auto)]
 
+mod from_roots;
 mod heap_graph;
 pub mod laws;
 mod nodes;

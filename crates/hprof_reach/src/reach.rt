@@ -7,6 +7,7 @@ ghost use Rattle.hprof_items.specs.FactValue.{FactValue};
 ghost use Rattle.hprof_finding.specs.HeapFacts.{facts_of, size_of};
 ghost use Rattle.hprof_reach.specs.Reaching.{IsDistanceFromRoots, IsPathFromRoots, IsReach};
 
+use crate::from_roots::FromRoots;
 use crate::heap_graph::HeapGraph;
 use crate::nodes::{class_nodes, nodes_of};
 use crate::starts::starts_of;
@@ -28,7 +29,7 @@ impl Reach {
     pub fn distance(&self, id: u64) -> Option<u64>
         ensures { (ids : IdSize) (facts : List FactValue) → IsReach ids facts self.now → IsDistanceFromRoots ids facts id result }
     {
-        self.search.distance(id)
+        self.search.distance::<FromRoots>(id)
     }
 
     /// The path to an identifier from a root: a shortest one, and from its end back each is the least that it could be; None
@@ -37,7 +38,7 @@ impl Reach {
         ensures { IfOk result (λ path. (ids : IdSize) (facts : List FactValue) → IsReach ids facts self.now
             → IsPathFromRoots ids facts id (option_map (λ nodes. nodes.items) path)) }
     {
-        self.search.path(alloc, id)
+        self.search.path::<FromRoots>(alloc, id)
     }
 }
 

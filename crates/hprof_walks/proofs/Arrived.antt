@@ -1,5 +1,5 @@
 -- A number is found.
-use Rattle.std.proofs.Common.{◌≡◌, ◌⊎◌, ◌<◌, ◌+◌, ℕ, Bool, true, false, not, cond, List, [], ◌∷◌, ◌++◌, Contains, length, slice_index, slice_set, get_or, count_by, inl, inr, refl, sym, ap, subst, ◌∙◌, arith, add-zero, length-append}
+use Rattle.std.proofs.Common.{◌≡◌, ◌⊎◌, ◌<◌, ◌+◌, ℕ, Bool, true, false, not, cond, List, [], ◌∷◌, ◌++◌, Contains, length, slice_index, slice_set, get_or, count_by, inl, inr, refl, sym, ap, subst, ◌∙◌, arith, add-zero, append-nil, length-append}
 use Rattle.std.proofs.Math.ListN.{length-set}
 use Rattle.std.proofs.lemmas.List.{get_or-set_same, get_or-set_other}
 use Rattle.std.proofs.lemmas.List.Elements.{Contains-push, Contains-push_cases, Contains-append_left}
@@ -15,7 +15,8 @@ one_or_other one other = elim (cases_order one other) [
 
 module _ (old new : Finds) (number from : ℕ) (below : number < length old.found) (within : number < length old.before)
     (unfound : is_found old number ≡ false) (found : new.found ≡ slice_set old.found number true)
-    (before : new.before ≡ slice_set old.before number from) (next : new.next ≡ old.next ++ number ∷ []) where
+    (before : new.before ≡ slice_set old.before number from) (order : new.order ≡ old.order ++ number ∷ [])
+    (next : new.next ≡ old.next ++ number ∷ []) where
   here : is_found new number ≡ true
   here = ap (λ (bs : List Bool). get_or bs number false) found ∙ get_or-set_same old.found number true false below
 
@@ -72,6 +73,7 @@ module _ (old new : Finds) (number from : ℕ) (below : number < length old.foun
         record { led = (e, same); least = λ one led. let is = led.0 in omega arith };
     all = λ one other low led. ap (is_found new) led.1 ∙ here;
     next = λ other. (has_next other, is_next other);
+    order = (number ∷ [], order, next);
     counted = one_more;
   }
 
@@ -83,5 +85,6 @@ arrived_again old number from found = record {
   came = λ other was is. absurd (cc);
   all = λ one other low led. ap (is_found old) led.1 ∙ found;
   next = λ other. (λ has. inl has, λ either. elim either [ inl has ↦ has | inr both ↦ let no = both.0 in let yes = both.1 in absurd (cc) ]);
+  order = ([], sym (append-nil old.order), sym (append-nil old.next));
   counted = refl;
 }

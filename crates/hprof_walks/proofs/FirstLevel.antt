@@ -8,7 +8,7 @@ use Rattle.hprof_walks.proofs.Levels.{StartsIn, StepsIn, IsSearched}
 
 module _ (Leads : ℕ → ℕ → Type 0) (nodes starts : List ℕ) (old new : Finds) (none : (number : ℕ) → is_found old number ≡ false)
     (many : length old.found ≡ length nodes) (follows : Follows (LeadsTo nodes None starts) old new) where
-  start_distance : (number : ℕ) → is_found new number ≡ true → IsDistance (StartsIn nodes starts) (StepsIn Leads nodes) (slice_index nodes number) 0
+  pub start_distance : (number : ℕ) → is_found new number ≡ true → IsDistance (StartsIn nodes starts) (StepsIn Leads nodes) (slice_index nodes number) 0
   start_distance number found =
       let is = follows.came number (none number) found in
       let more = follows.as_many in

@@ -1,5 +1,5 @@
 -- What is found where steps are followed, and then more steps.
-use Rattle.std.proofs.Common.{◌≡◌, ◌⊎◌, ◌↔◌, ◌<◌, ◌≤◌, ℕ, Bool, true, false, Contains, length, slice_index, inl, inr, refl, sym, subst, ◌∙◌, arith}
+use Rattle.std.proofs.Common.{◌≡◌, ◌⊎◌, ◌↔◌, ◌<◌, ◌≤◌, ◌++◌, ℕ, Bool, true, false, List, [], Contains, length, slice_index, inl, inr, refl, sym, ap, subst, ◌∙◌, arith, append_assoc, append-nil}
 use Rattle.std.proofs.lemmas.Bool.{cases_order}
 use Rattle.std.proofs.lemmas.List.{get_or_past}
 use Rattle.hprof_walks.specs.Finds.{Finds, Follows, IsLeastLed, is_found}
@@ -29,6 +29,7 @@ follows_none Led finds none = record {
   came = λ number not_found found. absurd (cc);
   all = λ from number below led. absurd (none from number led);
   next = λ number. (λ has. inl has, λ either. elim either [ inl has ↦ has | inr both ↦ let no = both.0 in let yes = both.1 in absurd (cc) ]);
+  order = ([], sym (append-nil finds.order), sym (append-nil finds.next));
   counted = refl;
 }
 
@@ -45,6 +46,7 @@ follows_same Led Same old new same follows =
           record { led = (same _ number (omega arith)).0 is.led; least = λ other led. is.least other ((same other number (omega arith)).1 led) };
       all = λ from number below led. follows.all from number below ((same from number below).1 led);
       next = follows.next;
+      order = follows.order;
       counted = follows.counted;
     }
 
@@ -100,6 +102,15 @@ module _ (First Then : ℕ → ℕ → Type 0) (old middle new : Finds) (first :
     ]
   ]
 
+  order_both : (came : List ℕ) × (new.order ≡ old.order ++ came) × (new.next ≡ old.next ++ came)
+  order_both =
+      let early = first.order in
+      let late = second.order in (
+        early.0 ++ late.0,
+        late.1 ∙ ap (λ (ns : List ℕ). ns ++ late.0) early.1 ∙ append_assoc old.order early.0 late.0,
+        late.2 ∙ ap (λ (ns : List ℕ). ns ++ late.0) early.2 ∙ append_assoc old.next early.0 late.0,
+      )
+
   -- the ones and then the others, which are no less
   pub follows_both : Follows Both old new
   follows_both =
@@ -116,5 +127,6 @@ module _ (First Then : ℕ → ℕ → Type 0) (old middle new : Finds) (first :
           | inr late ↦ second.all from number (omega arith) late
         ];
         next = λ number. (next_to number, next_from number);
+        order = order_both;
         counted = second.counted ∙ first.counted;
       }

@@ -1,5 +1,5 @@
 -- A path, from its start on.
-use Rattle.std.proofs.Common.{◌≡◌, ℕ, zero, suc, ◌+◌, ◌-◌, ◌<◌, ◌≤◌, List, [], ◌∷◌, ◌++◌, length, reverse, slice_index, inl, inr, refl, sym, ap, subst, subst₂, ◌∙◌, arith, length-append, Some}
+use Rattle.std.proofs.Common.{◌≡◌, ℕ, zero, suc, ◌+◌, ◌-◌, ◌<◌, ◌≤◌, List, [], ◌∷◌, ◌++◌, length, reverse, slice_index, inl, inr, refl, sym, ap, subst, subst₂, ◌∙◌, arith, length-append, Some, None}
 use Rattle.std.proofs.lemmas.Bool.{cases_order}
 use Rattle.std.proofs.lemmas.List.{reverse-reverse, reverse-append}
 use Rattle.std.proofs.Math.ListN.{get_or-append}
@@ -109,3 +109,52 @@ module _ (Starts : ℕ → Type 0) (Steps : ℕ → ℕ → Type 0) where
       let long = is.long in
       let next : suc place ≡ place + 1 = omega arith in
       subst (λ (k : ℕ). IsLeastBefore Starts Steps place (slice_index nodes place) (slice_index nodes k)) next (is.least place (omega arith))
+
+  -- where there is no distance there is no walk
+  pub no_walk : (node : ℕ) (nodes : List ℕ) → HasDistance Starts Steps node None → IsWalk Starts Steps nodes node → ⊥
+  no_walk node nodes none walk =
+      let some = walk.some in
+      let there = walk_reaches nodes node (length nodes - 1) walk (omega arith) in
+      none (length nodes - 1) (subst (Reaches Starts Steps (length nodes - 1)) walk.ends there)
+
+  walk_more : (nodes : List ℕ) (before node : ℕ) → IsWalk Starts Steps nodes before → Steps before node
+      → IsWalk Starts Steps (nodes ++ node ∷ []) node
+  walk_more nodes before node walk step =
+      let some = walk.some in
+      let long = length-append nodes (node ∷ []) in
+      let same = λ (k : ℕ) (below : k < length nodes). get_or-append nodes (node ∷ []) 0 k below in
+      let last = at_seam nodes node (length nodes) refl in
+      let end : length (nodes ++ node ∷ []) - 1 ≡ length nodes = omega arith in
+      record {
+        some = omega arith;
+        starts = subst Starts (sym (same 0 (omega arith))) walk.starts;
+        steps = λ place below. elim (cases_order (place + 1) (length nodes)) [
+          | inl here ↦
+              let at : place ≡ length nodes - 1 = omega arith in
+              let is = same place (omega arith) ∙ ap (slice_index nodes) at ∙ walk.ends in
+              subst₂ Steps (sym is) (sym (ap (slice_index (nodes ++ node ∷ [])) here ∙ last)) step
+          | inr apart ↦
+              let short : place + 1 < length nodes = elim apart [ inl lt ↦ lt | inr gt ↦ absurd (omega arith) ] in
+              subst₂ Steps (sym (same place (omega arith))) (sym (same (place + 1) short)) (walk.steps place short)
+        ];
+        ends = ap (slice_index (nodes ++ node ∷ [])) end ∙ last;
+      }
+
+  walk_of : (count node : ℕ) → Reaches Starts Steps count node → (nodes : List ℕ) × IsWalk Starts Steps nodes node × (length nodes ≡ count + 1)
+  walk_of zero node reaches = (
+    node ∷ [],
+    record { some = omega arith; starts = reaches; steps = λ place below. absurd (omega arith); ends = refl },
+    refl,
+  )
+  walk_of (suc count) node reaches =
+      let before = walk_of count reaches.0 reaches.1 in
+      let long = before.2 in (
+        before.0 ++ node ∷ [],
+        walk_more before.0 reaches.0 node before.1 reaches.2,
+        omega (arith, length-append before.0 (node ∷ [])),
+      )
+
+  -- and where there is one there is a walk of as many steps
+  pub some_walk : (node distance : ℕ) → HasDistance Starts Steps node (Some distance)
+      → (nodes : List ℕ) × IsWalk Starts Steps nodes node × (length nodes ≡ distance + 1)
+  some_walk node distance has = walk_of distance node has.reaches

@@ -43,10 +43,10 @@ module _ (Leads : ℕ → ℕ → Type 0) (nodes starts : List ℕ) where
     pub last_all : (number : ℕ) → number < length nodes
         → IsDistance (StartsIn nodes starts) (StepsIn Leads nodes) (slice_index nodes number) level → Contains last number
 
-  -- the next level does not matter
-  searched_with : (finds : Finds) (next last : List ℕ) (level : ℕ) → IsSearched finds last level
-      → IsSearched (record { found = finds.found; before = finds.before; next = next }) last level
-  searched_with finds next last level searched = record {
+  -- the order and the next level do not matter
+  searched_with : (finds : Finds) (order next last : List ℕ) (level : ℕ) → IsSearched finds last level
+      → IsSearched (record { found = finds.found; before = finds.before; order = order; next = next }) last level
+  searched_with finds order next last level searched = record {
     as_many = searched.as_many;
     near = λ number found.
         let near = searched.near number found in
@@ -56,15 +56,15 @@ module _ (Leads : ℕ → ℕ → Type 0) (nodes starts : List ℕ) where
     last_all = searched.last_all;
   } where
     from_with : (number count : ℕ) → IsFrom finds number count
-        → IsFrom (record { found = finds.found; before = finds.before; next = next }) number count
+        → IsFrom (record { found = finds.found; before = finds.before; order = order; next = next }) number count
     from_with number zero from = from
     from_with number (suc count) from = from
 
   pub searched_still : (old new : Finds) (last : List ℕ) (level : ℕ) → new.found ≡ old.found → new.before ≡ old.before
       → IsSearched old last level → IsSearched new last level
   searched_still old new last level found before searched =
-      subst₂ (λ (fs : List Bool) (bs : List ℕ). IsSearched (record { found = fs; before = bs; next = new.next }) last level)
-      (sym found) (sym before) (searched_with old new.next last level searched)
+      subst₂ (λ (fs : List Bool) (bs : List ℕ). IsSearched (record { found = fs; before = bs; order = new.order; next = new.next }) last level)
+      (sym found) (sym before) (searched_with old new.order new.next last level searched)
 
   -- what is reached is a node
   pub reached_is_node : (count node : ℕ) → Reaches (StartsIn nodes starts) (StepsIn Leads nodes) count node → Contains nodes node
@@ -105,7 +105,7 @@ module _ (Leads : ℕ → ℕ → Type 0) (nodes starts : List ℕ) where
           (is.led.1, has_number nodes (slice_index nodes number) number (omega arith) refl),
         )
 
-    came_distance : (number : ℕ) → is_found old number ≡ false → is_found new number ≡ true → Distance number (suc level)
+    pub came_distance : (number : ℕ) → is_found old number ≡ false → is_found new number ≡ true → Distance number (suc level)
     came_distance number not_found found =
         let many = searched.as_many in
         let more = follows.as_many in

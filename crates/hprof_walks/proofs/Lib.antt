@@ -6,7 +6,9 @@ pub mod Arrived
 pub mod Levels
 pub mod Ways
 pub mod FirstLevel
+pub mod Ordered
 pub mod Placed
 pub mod Told
+pub mod Searched
 pub mod Targets
 pub mod Counts

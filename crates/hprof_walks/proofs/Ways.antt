@@ -1,11 +1,10 @@
 -- The way back from a number that was found.
-use Rattle.std.proofs.Common.{◌≡◌, ◌<◌, ◌≤◌, ◌==◌, ℕ, zero, suc, Bool, true, cond, List, [], ◌∷◌, ◌++◌, length, map, slice_index, inl, inr, refl, sym, ap, subst, ◌∙◌, arith, append_assoc, append-nil, eq-eqb, ne_eqb}
+use Rattle.std.proofs.Common.{◌≡◌, ◌<◌, ◌==◌, ℕ, zero, suc, Bool, true, cond, List, [], ◌∷◌, ◌++◌, length, map, slice_index, inl, inr, refl, sym, ap, subst, ◌∙◌, arith, append_assoc, append-nil, eq-eqb, ne_eqb}
 use Rattle.hprof_walks.specs.Finds.{Finds, is_found}
-use Rattle.hprof_walks.specs.Kept.{way_back}
-use Rattle.hprof_walks.specs.Walks.{Reaches, IsDistance, IsWayBack}
+use Rattle.hprof_walks.specs.WayBack.{way_back}
+use Rattle.hprof_walks.specs.Walks.{Reaches}
 use Rattle.hprof_walks.proofs.Ascending.{number_of}
-use Rattle.hprof_walks.proofs.Levels.{StartsIn, StepsIn, IsFrom, IsSearched, reached_is_node, stepped}
-use Rattle.hprof_walks.proofs.OneWalk.{same_distance}
+use Rattle.hprof_walks.proofs.Levels.{StartsIn, StepsIn, IsSearched, reached_is_node, stepped}
 
 -- what is left of the way behind a number
 abbrev pub way_left : List ℕ → ℕ → ℕ → List ℕ
@@ -80,9 +79,6 @@ module _ (nodes before : List ℕ) where
       sym (append-nil way) ∙ ap (λ (n : ℕ). way ++ at (way_left before n number)) (sym none) ∙ was
 
 module _ (Leads : ℕ → ℕ → Type 0) (nodes starts : List ℕ) (finds : Finds) (level : ℕ) (searched : IsSearched Leads nodes starts finds [] level) where
-  abbrev Distance : ℕ → ℕ → Type 0
-  Distance number count = IsDistance (StartsIn nodes starts) (StepsIn Leads nodes) (slice_index nodes number) count
-
   -- what is reached was found
   pub found_all : (count node : ℕ) → Reaches (StartsIn nodes starts) (StepsIn Leads nodes) count node
       → (number : ℕ) × (number < length nodes) × (slice_index nodes number ≡ node) × (is_found finds number ≡ true)
@@ -99,44 +95,3 @@ module _ (Leads : ℕ → ℕ → Type 0) (nodes starts : List ℕ) (finds : Fin
         | inl found ↦ (there.0, there.1, there.2, found)
         | inr has ↦ let none = has.1 in absurd (omega arith)
       ]
-
-  -- a number was found from another, or at a start
-  one_farther : (number count : ℕ) → Distance number (suc count) → IsFrom Leads nodes starts finds number (suc count)
-      → slice_index finds.before number ≡ number → ⊥
-  one_farther number count distance from same =
-      let at = subst (λ (n : ℕ). Distance n count) same from.1.distance in
-      let e = same_distance (StartsIn nodes starts) (StepsIn Leads nodes) (slice_index nodes number) (suc count) count distance at in
-      omega arith
-
-  -- the way back is as long as the distance, and goes by the least before each
-  pub goes_back : (count most number : ℕ) → count ≤ most → is_found finds number ≡ true → Distance number count
-      → (length (way_back finds.before most number) ≡ suc count)
-      × IsWayBack (StartsIn nodes starts) (StepsIn Leads nodes) count (slice_index nodes number)
-      (map (slice_index nodes) (way_back finds.before most number))
-  goes_back zero most number close found distance =
-      let near = searched.near number found in
-      let none = same_distance (StartsIn nodes starts) (StepsIn Leads nodes) (slice_index nodes number) near.count 0 near.distance distance in
-      let from = subst (IsFrom Leads nodes starts finds number) none near.from in
-      let way = way_on finds.before most number ∙ ap (λ (ns : List ℕ). number ∷ ns) (left_none finds.before most number from) in
-      (ap (length {A = ℕ}) way, (distance, ap (map (slice_index nodes)) way))
-  goes_back (suc count) zero number close found distance = absurd (omega arith)
-  goes_back (suc count) (suc most) number close found distance =
-      let near = searched.near number found in
-      let same = same_distance (StartsIn nodes starts) (StepsIn Leads nodes) (slice_index nodes number) near.count (suc count) near.distance distance in
-      let from = subst (IsFrom Leads nodes starts finds number) same near.from in
-      let before = slice_index finds.before number in
-      let way = way_on finds.before (suc most) number ∙ ap (λ (ns : List ℕ). number ∷ ns)
-      (left_on finds.before most number (one_farther number count distance from)) in
-      let on = goes_back count most before (omega arith) from.0 from.1.distance in (
-        ap (length {A = ℕ}) way ∙ ap suc on.0,
-        (
-          distance,
-          (
-            slice_index nodes before,
-            map (slice_index nodes) (way_back finds.before most before),
-            ap (map (slice_index nodes)) way,
-            from.1,
-            on.1,
-          ),
-        ),
-      )

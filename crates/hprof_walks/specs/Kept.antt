@@ -1,6 +1,6 @@
 -- What is kept of each node, by its number, which is its place among all nodes.
-use Rattle.std.specs.Prelude.{◌-◌, ◌<◌, ◌≡◌, ◌==◌, ℕ, zero, suc, Bool, List, [], ◌∷◌, Option, if◌then◌else◌, length, slice_index}
-use Rattle.std.specs.List.{position}
+use Rattle.std.specs.Prelude.{◌-◌, ◌<◌, ◌≡◌, ◌==◌, ℕ, Bool, false, List, Option, get_or, length, nat_eq, slice_index}
+use Rattle.std.specs.List.{list_any, position}
 use Rattle.std.specs.List.Sorted.{IsStrictlyIncreasing}
 
 -- the number of a node; none of what is no node
@@ -15,15 +15,14 @@ IsMissingAt nodes place node = (0 < place → slice_index nodes (place - 1) < no
 abbrev pub LeadsBack : List ℕ → Type 0
 LeadsBack before = (number : ℕ) → number < length before → slice_index before number < length before
 
--- from a number back to the one that it was found from, and so on to one that was found from none, so many times at most
-unfoldable pub way_back : List ℕ → ℕ → ℕ → List ℕ
-way_back before zero number = number ∷ []
-way_back before (suc most) number =
-    number ∷ (if slice_index before number == number then [] else way_back before most (slice_index before number))
+-- the numbers in the order are those that were found
+abbrev pub OrdersFound : List Bool → List ℕ → Type 0
+OrdersFound found order = (number : ℕ) → list_any (nat_eq number) order ≡ get_or found number false
 
--- the nodes ascend, of each it is kept whether it was found, and from which
-pub record IsKept (nodes : List ℕ) (found : List Bool) (before : List ℕ) : Type 0 where
+-- the nodes ascend, of each it is kept whether it was found, and from which; and those that were found stand in an order
+pub record IsKept (nodes : List ℕ) (found : List Bool) (before order : List ℕ) : Type 0 where
   pub ascend : IsStrictlyIncreasing nodes
   pub as_many : length found ≡ length nodes
   pub paired : length before ≡ length nodes
   pub back : LeadsBack before
+  pub ordered : OrdersFound found order

@@ -1,6 +1,8 @@
 pub mod Walks
 pub mod Kept
 pub mod Numbers
+pub mod NodeHash
 pub mod Finds
 pub mod Search
+pub mod WayBack
 pub mod Numbered

@@ -1,30 +1,25 @@
--- What a search by levels keeps, and what it tells.
-use Rattle.std.specs.Prelude.{◌-◌, ℕ, false, List, Option, get_or, length, map, option_and_then, reverse, slice_index}
-use Rattle.std.specs.Option.{option_map}
-use Rattle.std.specs.Bool.{then_some}
+-- What a search by levels keeps.
+use Rattle.std.specs.Prelude.{◌≤◌, ℕ, List, Contains, map, slice_index}
 use Rattle.hprof_walks.specs.declared.kept_search.Search.{Search}
-use Rattle.hprof_walks.specs.Kept.{number_in, way_back}
 use Rattle.hprof_walks.specs.Numbers.{items_in}
-use Rattle.hprof_walks.specs.Walks.{HasDistance, IsPath}
+use Rattle.hprof_walks.specs.Walks.{IsDistance, IsFoundFrom, IsOrder}
 
--- the number of a node that was found
-unfoldable pub found_in : Search → ℕ → Option ℕ
-found_in search node =
-    option_and_then (λ number. then_some (get_or search.found.items number false) number) (number_in search.nodes.items node)
+-- the node that has a number
+abbrev pub node_at : Search → ℕ → ℕ
+node_at search number = slice_index search.nodes.items number
 
--- from a number back to a start
-abbrev pub way_in : Search → ℕ → List ℕ
-way_in search number = way_back (items_in search.before) search.levels number
+-- the node that the one of a number was found from
+abbrev pub node_before : Search → ℕ → ℕ
+node_before search number = node_at search (slice_index (items_in search.before) number)
 
--- the distance that a search tells of a node
-unfoldable pub distance_in : Search → ℕ → Option ℕ
-distance_in search node = option_map (λ number. length (way_in search number) - 1) (found_in search node)
+-- the nodes that were found, in the order in which they were found
+abbrev pub nodes_found : Search → List ℕ
+nodes_found search = map (node_at search) search.order.keys
 
--- the path that a search tells of a node
-unfoldable pub path_in : Search → ℕ → Option (List ℕ)
-path_in search node = option_map (λ number. reverse (map (slice_index search.nodes.items) (way_in search number))) (found_in search node)
-
--- what the search tells of each node is its distance and its path
+-- the nodes that have a distance were found, in the order of their distances, and no others; it is kept from which; and none is farther
+-- than there were levels
 pub record IsSearch (Starts : ℕ → Type 0) (Steps : ℕ → ℕ → Type 0) (search : Search) : Type 0 where
-  pub distance : (node : ℕ) → HasDistance Starts Steps node (distance_in search node)
-  pub path : (node : ℕ) → IsPath Starts Steps node (path_in search node)
+  pub order : IsOrder Starts Steps (nodes_found search)
+  pub before : (number count : ℕ) → Contains search.order.keys number → IsDistance Starts Steps (node_at search number) count
+      → IsFoundFrom Starts Steps count (node_before search number) (node_at search number)
+  pub levels : (node count : ℕ) → IsDistance Starts Steps node count → count ≤ search.levels

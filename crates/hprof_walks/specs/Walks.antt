@@ -1,5 +1,5 @@
 -- Walks from starts along steps, from node to node.
-use Rattle.std.specs.Prelude.{◌≡◌, ◌+◌, ◌-◌, ◌<◌, ◌≤◌, ℕ, zero, suc, List, [], ◌∷◌, Option, Some, None, length, reverse, slice_index}
+use Rattle.std.specs.Prelude.{◌≡◌, ◌+◌, ◌-◌, ◌<◌, ◌≤◌, ◌↔◌, ◌≢◌, ℕ, zero, suc, List, [], ◌∷◌, Option, Some, None, AllPairs, Contains, length, reverse, slice_index}
 
 module _ (Starts : ℕ → Type 0) (Steps : ℕ → ℕ → Type 0) where
   -- so many steps from a start lead there
@@ -23,6 +23,11 @@ module _ (Starts : ℕ → Type 0) (Steps : ℕ → ℕ → Type 0) where
     pub steps : Steps before node
     pub least : (other : ℕ) → IsDistance other count → Steps other node → before ≤ other
 
+  -- a start is found from itself, and another node from the least of those one step nearer with a step to it
+  abbrev pub IsFoundFrom : ℕ → ℕ → ℕ → Type 0
+  IsFoundFrom zero before node = before ≡ node
+  IsFoundFrom (suc count) before node = IsLeastBefore count before node
+
   -- from a node at that distance back to a start, by the least node before each time
   abbrev pub IsWayBack : ℕ → ℕ → List ℕ → Type 0
   IsWayBack zero node nodes = IsDistance node 0 × (nodes ≡ node ∷ [])
@@ -33,6 +38,16 @@ module _ (Starts : ℕ → Type 0) (Steps : ℕ → ℕ → Type 0) where
   abbrev pub IsPath : ℕ → Option (List ℕ) → Type 0
   IsPath node None = (count : ℕ) → Reaches count node → ⊥
   IsPath node (Some nodes) = (count : ℕ) × IsWayBack count node (reverse nodes)
+
+  -- the one is no farther than the other
+  abbrev pub IsNoFarther : ℕ → ℕ → Type 0
+  IsNoFarther one other = (near far : ℕ) → IsDistance one near → IsDistance other far → near ≤ far
+
+  -- the nodes that have a distance, each once, and none behind one that is farther
+  pub record IsOrder (nodes : List ℕ) : Type 0 where
+    pub reached : (node : ℕ) → Contains nodes node ↔ ((count : ℕ) × IsDistance node count)
+    pub once : AllPairs (λ one other. one ≢ other) nodes
+    pub ascend : AllPairs IsNoFarther nodes
 
   -- nodes, the first of which is a start, with a step from each to the next, up to a node
   pub record IsWalk (nodes : List ℕ) (node : ℕ) : Type 0 where

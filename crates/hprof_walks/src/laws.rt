@@ -1,6 +1,6 @@
 //! Laws of the definitions. None of these functions does anything.
 
-ghost use Rattle.std.specs.Prelude.{◌≡◌, ◌+◌, ◌<◌, ◌≤◌, ℕ, List, Option, Some, length, slice_index};
+ghost use Rattle.std.specs.Prelude.{◌≡◌, ◌+◌, ◌<◌, ◌≤◌, ℕ, List, Option, Some, None, length, slice_index};
 ghost use Rattle.hprof_walks.specs.Walks.{HasDistance, IsLeastBefore, IsPath, IsWalk};
 
 /// Starts and steps from node to node, whatever they are.
@@ -32,4 +32,11 @@ pub fn path_is_shortest<W: Walks>()
         → IsWalk W.starts W.steps other node → length nodes ≤ length other }
     ensures least { (node place : ℕ) (nodes : List ℕ) → IsPath W.starts W.steps node (Some nodes) → place + 1 < length nodes
         → IsLeastBefore W.starts W.steps place (slice_index nodes place) (slice_index nodes (place + 1)) }
+{}
+
+/// A node that has no distance is at the end of no walk; and one that has a distance is at the end of a walk of as many steps.
+pub fn no_distance_no_walk<W: Walks>()
+    ensures none { (node : ℕ) (nodes : List ℕ) → HasDistance W.starts W.steps node None → IsWalk W.starts W.steps nodes node → ⊥ }
+    ensures some { (node distance : ℕ) → HasDistance W.starts W.steps node (Some distance)
+        → (nodes : List ℕ) × IsWalk W.starts W.steps nodes node × (length nodes ≡ distance + 1) }
 {}

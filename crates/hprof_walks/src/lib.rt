@@ -7,12 +7,15 @@ mod hints;
 mod kept_search;
 pub mod laws;
 mod leading;
+mod node_hasher;
 mod numbered;
 mod numbers;
 mod searching;
 mod trail;
+mod walks;
 
 pub use graph::Graph;
 pub use kept_search::Search;
 pub use numbered::Numbered;
 pub use searching::search;
+pub use walks::WalksOf;

@@ -31,17 +31,18 @@ pub fn search<G: Graph>(
     let mut targets = Vec::new(alloc);
     let mut level = Vec::new(alloc);
     follow(&numbered, None, starts, &mut trail)?;
-    trail.take_next(&mut level);
+    trail.take_next(&mut level)?;
     let mut levels = 0;
     while !level.is_empty() {
         lead_on(graph, &numbered, &level, &mut targets, &mut trail)?;
-        trail.take_next(&mut level);
+        trail.take_next(&mut level)?;
         levels += 1;
     }
     Ok(Search {
         nodes: numbered.nodes,
         found: trail.found,
         before: trail.before,
+        order: trail.order,
         levels,
     })
 }

@@ -1,4 +1,5 @@
-use Rattle.std.proofs.Common.{◌≡◌, ◌<◌, ◌+◌, ◌∙◌, ℕ, suc, Bool, false, not, List, [], None, count_by, get_or, length, refl, ap, sym, subst, arith, eqb-true, vec_len}
+use Rattle.std.proofs.Common.{◌≡◌, ◌<◌, ◌+◌, ◌∙◌, ℕ, suc, Bool, false, not, List, [], None, count_by, drop, get_or, length, refl, ap, sym, subst, arith, eqb-true, vec_len}
+use Rattle.std.proofs.Math.ListN.{drop_of_length-le}
 use Rattle.std.proofs.lemmas.List.{length-replicate}
 use Rattle.std.proofs.lemmas.List.Elements.{Contains-get_or}
 use Rattle.hprof_walks.specs.Finds.{Finds, Follows, LeadsOn, LeadsTo, finds_of, is_found}
@@ -6,7 +7,8 @@ use Rattle.hprof_walks.proofs.Counts.{came_next, few_left, few_first, none_found
 use Rattle.hprof_walks.proofs.FirstLevel.{searched_first}
 use Rattle.hprof_walks.proofs.Followed.{follows_same}
 use Rattle.hprof_walks.proofs.Levels.{IsSearched, searched_more, searched_still}
-use Rattle.hprof_walks.proofs.Told.{tells}
+use Rattle.hprof_walks.proofs.Ordered.{IsByDistance, first_in_order, more_in_order}
+use Rattle.hprof_walks.proofs.Searched.{searches}
 use Rattle.hprof_walks.proofs.searching.search.Goals as goal
 
 pub loop-graph-init : goal.loop-graph-init
@@ -23,19 +25,27 @@ loop-graph-init g c =
     let many : length old.found ≡ length nodes = ap (length {A = Bool}) c.in_ok-trail.ensures.found ∙ length-replicate c.len.result false
     ∙ (let e = c.len.ensures in let same : length nodes ≡ length c.args.nodes.items = ap (length {A = ℕ}) c.in_ok-numbered.ensures in omega arith) in
     let follows = c.in_ok-follow.ensures in
-    let came = came_next (LeadsTo nodes None starts) old middle follows c.in_ok-trail.ensures.next level c.take_next.ensures.same in
+    let no_next : old.next ≡ [] = ap (drop c.in_ok-trail.trail.next) c.in_ok-trail.ensures.order ∙ drop_of_length-le [] (omega arith) in
+    let came = came_next (LeadsTo nodes None starts) old middle follows no_next level c.in_ok-take_next.ensures.same in
     let first = searched_first Leads nodes starts old middle empty many follows level came in
-    let found : new.found ≡ middle.found = rw c.take_next.ensures.found in
-    let before : new.before ≡ middle.before = rw c.take_next.ensures.before in
-    let few = few_first (LeadsTo nodes None starts) old middle follows c.in_ok-trail.ensures.next level c.take_next.ensures.as_many in
+    let found : new.found ≡ middle.found = rw c.in_ok-take_next.ensures.found in
+    let before : new.before ≡ middle.before = rw c.in_ok-take_next.ensures.before in
+    let order : new.order ≡ middle.order = rw c.in_ok-take_next.ensures.order in
+    let few = few_first (LeadsTo nodes None starts) old middle follows no_next level c.in_ok-take_next.ensures.as_many in
     let same : count_by not new.found ≡ count_by not middle.found = ap (count_by not) found in record {
       searched = searched_still Leads nodes starts middle new level 0 found before first;
-      ascend = c.take_next.ensures.ascend;
-      none = c.take_next.ensures.none;
+      ascend = c.in_ok-take_next.ensures.ascend;
+      none = c.in_ok-take_next.ensures.none;
+      order = subst (IsByDistance Leads nodes starts) (sym order)
+          (first_in_order Leads nodes starts old middle empty many follows c.in_ok-trail.ensures.order no_next);
+      once = c.in_ok-take_next.ensures.once;
       few = omega arith;
       stays = λ node to. (λ leads. leads, λ leads. leads);
       stands = c.requires.stands;
     }
+
+pub lead_on-requires-clause-ascend : goal.lead_on-requires-clause-ascend
+lead_on-requires-clause-ascend g c = rw c.deref.ensures.value c.loop-graph.invariant.ascend
 
 pub lead_on-requires-clause-within : goal.lead_on-requires-clause-within
 lead_on-requires-clause-within g c = rw c.deref.ensures.value (λ number d below.
@@ -53,7 +63,7 @@ loop-graph-preserved g c =
     let new = finds_of c.take_next-in-loop-graph.new.self in
     let last = c.loop-graph.level.items in
     let level = c.take_next-in-loop-graph.new.level.items in
-    let taken = c.take_next-in-loop-graph.ensures in
+    let taken = c.in_ok-take_next-2.ensures in
     let stays = c.in_ok-lead_on.ensures.stays in
     let led = subst (λ (ns : List ℕ). Follows (LeadsOn (g.G.Graph.leads c.loop-graph.graph) nodes ns) old middle)
     c.deref.ensures.value c.in_ok-lead_on.ensures.ok in
@@ -63,6 +73,7 @@ loop-graph-preserved g c =
     let more = searched_more Leads nodes starts c.in_ok-numbered.numbered.ascend old middle last c.loop-graph.levels was.searched follows level came in
     let found : new.found ≡ middle.found = rw taken.found in
     let before : new.before ≡ middle.before = rw taken.before in
+    let order : new.order ≡ middle.order = rw taken.order in
     let left = few_left (LeadsOn Leads nodes last) old middle follows was.none level taken.as_many in
     let same : count_by not new.found ≡ count_by not middle.found = ap (count_by not) found in
     let few = was.few in
@@ -72,6 +83,9 @@ loop-graph-preserved g c =
       searched = subst (IsSearched Leads nodes starts new level) one (searched_still Leads nodes starts middle new level (suc c.loop-graph.levels) found before more);
       ascend = taken.ascend;
       none = taken.none;
+      order = subst (IsByDistance Leads nodes starts) (sym order) (more_in_order Leads nodes starts
+          c.in_ok-numbered.numbered.ascend old middle last c.loop-graph.levels was.searched follows c.loop-graph.trail.ordered was.none was.order);
+      once = taken.once;
       few = omega arith;
       stays = λ node to. (λ leads. (was.stays node to).0 ((stays node to).0 leads), λ leads. (stays node to).1 ((was.stays node to).1 leads));
       stands = c.in_ok-lead_on.ensures.stands;
@@ -83,11 +97,12 @@ returns g c =
     let starts = c.args.starts.now in
     let nodes = c.in_ok-numbered.numbered.nodes.items in
     let finds = finds_of c.loop-graph.trail in
-    let kept : Finds = record { found = finds.found; before = finds.before; next = [] } in
+    let kept : Finds = record { found = finds.found; before = finds.before; order = finds.order; next = [] } in
     let level = c.loop-graph.level.items in
     let was = c.loop-graph.invariant.searched in
     let empty : level ≡ [] = none_there level
     (let none = eqb-true (vec_len c.loop-graph.level) 0 (sym c.is_empty.ensures ∙ c.loop-graph-test.false) in omega (arith, c.loop-graph.level.ok.0)) in
     let last = subst (λ (ns : List ℕ). IsSearched Leads nodes starts finds ns c.loop-graph.levels) empty was in
     let searched = searched_still Leads nodes starts finds kept [] c.loop-graph.levels refl refl last in
-    rw (← c.in_ok-numbered.ensures) (tells Leads starts _ c.in_ok-numbered.numbered.ascend searched)
+    rw (← c.in_ok-numbered.ensures) (searches Leads starts _ searched
+    c.loop-graph.invariant.once c.loop-graph.invariant.order)

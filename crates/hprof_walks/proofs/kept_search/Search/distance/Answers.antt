@@ -1,29 +1,36 @@
-use Rattle.std.proofs.Common.{◌≡◌, ◌+◌, ◌-◌, ◌∙◌, ℕ, suc, Some, length, sym, ap, arith}
+use Rattle.std.proofs.Common.{◌≡◌, ◌+◌, ◌-◌, ◌∙◌, ℕ, suc, Some, length, sym, ap, subst, arith}
 use Rattle.std.specs.Option.{option_map}
-use Rattle.hprof_walks.specs.Kept.{way_back}
 use Rattle.hprof_walks.specs.Numbers.{items_in}
-use Rattle.hprof_walks.specs.Search.{distance_in, way_in}
+use Rattle.hprof_walks.specs.WayBack.{way_back, way_in}
+use Rattle.hprof_walks.specs.Walks.{HasDistance}
+use Rattle.hprof_walks.proofs.Told.{distance_in, tells_distance}
 use Rattle.hprof_walks.proofs.Ways.{long_end, long_on, long_zero}
 use Rattle.hprof_walks.proofs.kept_search.Search.distance.Goals as goal
 
 pub returns-in_err-number : goal.returns-in_err-number
 unfolding distance_in
-returns-in_err-number c =
-    c.from_residual.ensures
-    ∙ ap (option_map (λ (n : ℕ). length (way_in c.args.self.now n) - 1)) (sym c.in_err-number.was ∙ c.found_number.ensures.number)
+returns-in_err-number g c = λ told is.
+    let search = c.args.self.now in
+    let same : c.from_residual.result ≡ distance_in search c.args.node = c.from_residual.ensures
+    ∙ ap (option_map (λ (n : ℕ). length (way_in search n) - 1)) (sym c.in_err-number.was ∙ c.found_number.ensures.number) in
+    subst (HasDistance (g.W.WalksOf.starts told) (g.W.WalksOf.steps told) c.args.node) (sym same)
+    (tells_distance (g.W.WalksOf.starts told) (g.W.WalksOf.steps told) search is c.args.node)
 
 pub returns-then-before-number : goal.returns-then-before-number
 unfolding distance_in
-returns-then-before-number c =
+returns-then-before-number g c = λ told is.
     let search = c.args.self.now in
     let end = long_end (items_in search.before) (search.levels - c.loop-steps.steps) c.loop-steps.number
     (sym c.get-before.ensures ∙ c.if-before-number.true) in
     let counted = c.loop-steps.invariant.counted in
-    let same : c.loop-steps.steps ≡ length (way_in search c.in_ok-number.number) - 1 = omega arith in
-    ap Some same ∙ ap (option_map (λ (n : ℕ). length (way_in search n) - 1)) (sym c.in_ok-number.was ∙ c.found_number.ensures.number)
+    let long : c.loop-steps.steps ≡ length (way_in search c.in_ok-number.number) - 1 = omega arith in
+    let same : Some c.loop-steps.steps ≡ distance_in search c.args.node =
+    ap Some long ∙ ap (option_map (λ (n : ℕ). length (way_in search n) - 1)) (sym c.in_ok-number.was ∙ c.found_number.ensures.number) in
+    subst (HasDistance (g.W.WalksOf.starts told) (g.W.WalksOf.steps told) c.args.node) (sym same)
+    (tells_distance (g.W.WalksOf.starts told) (g.W.WalksOf.steps told) search is c.args.node)
 
 pub loop-steps-preserved : goal.loop-steps-preserved
-loop-steps-preserved c =
+loop-steps-preserved g c =
     let search = c.args.self.now in
     let before = items_in search.before in
     let number = c.loop-steps.number in
@@ -41,7 +48,7 @@ loop-steps-preserved c =
 
 pub returns : goal.returns
 unfolding distance_in
-returns c =
+returns g c = λ told is.
     let search = c.args.self.now in
     let test = c.loop-steps-test.false in
     let auto = c.loop-steps.auto in
@@ -49,5 +56,8 @@ returns c =
     let end = ap (λ (n : ℕ). length (way_back (items_in search.before) n c.loop-steps.number)) all
     ∙ long_zero (items_in search.before) c.loop-steps.number in
     let counted = c.loop-steps.invariant.counted in
-    let same : search.levels ≡ length (way_in search c.in_ok-number.number) - 1 = omega arith in
-    ap Some same ∙ ap (option_map (λ (n : ℕ). length (way_in search n) - 1)) (sym c.in_ok-number.was ∙ c.found_number.ensures.number)
+    let long : search.levels ≡ length (way_in search c.in_ok-number.number) - 1 = omega arith in
+    let same : Some search.levels ≡ distance_in search c.args.node =
+    ap Some long ∙ ap (option_map (λ (n : ℕ). length (way_in search n) - 1)) (sym c.in_ok-number.was ∙ c.found_number.ensures.number) in
+    subst (HasDistance (g.W.WalksOf.starts told) (g.W.WalksOf.steps told) c.args.node) (sym same)
+    (tells_distance (g.W.WalksOf.starts told) (g.W.WalksOf.steps told) search is c.args.node)

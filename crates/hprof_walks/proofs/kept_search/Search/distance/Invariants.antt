@@ -1,5 +1,5 @@
 use Rattle.std.proofs.Common.{◌≡◌, ◌+◌, ◌-◌, ◌<◌, ℕ, List, length}
-use Rattle.hprof_walks.specs.Kept.{way_back}
+use Rattle.hprof_walks.specs.WayBack.{way_back}
 use Rattle.hprof_walks.specs.Numbers.{items_in}
 use Rattle.hprof_walks.proofs.kept_search.Search.distance.Given as goal
 
@@ -8,4 +8,4 @@ pub record Counted (before : List ℕ) (levels found steps number : ℕ) : Type 
   pub counted : steps + length (way_back before (levels - steps) number) ≡ length (way_back before levels found)
 
 abbrev pub invariant-loop-steps : goal.invariant-loop-steps
-invariant-loop-steps l = Counted (items_in l.self.before) l.self.levels l.initial.number l.steps l.number
+invariant-loop-steps g l = Counted (items_in l.self.before) l.self.levels l.initial.number l.steps l.number

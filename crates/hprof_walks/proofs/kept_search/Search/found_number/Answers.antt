@@ -2,7 +2,7 @@ use Rattle.std.proofs.Common.{◌≡◌, ◌∙◌, ℕ, Bool, false, Some, None
 use Rattle.std.specs.Bool.{then_some}
 use Rattle.std.proofs.lemmas.List.{get_or_read}
 use Rattle.hprof_walks.specs.Kept.{number_in}
-use Rattle.hprof_walks.specs.Search.{found_in}
+use Rattle.hprof_walks.specs.WayBack.{found_in}
 use Rattle.hprof_walks.proofs.Placed.{stands}
 use Rattle.hprof_walks.proofs.kept_search.Search.found_number.Goals as goal
 

@@ -1,6 +1,6 @@
 use Rattle.std.proofs.Common.{◌≡◌, ◌+◌, ◌-◌, ◌++◌, ◌∷◌, [], ◌∙◌, ℕ, suc, List, map, slice_index, sym, ap, subst, arith}
 use Rattle.std.proofs.lemmas.Grind.{get_or_default_zero}
-use Rattle.hprof_walks.specs.Kept.{way_back}
+use Rattle.hprof_walks.specs.WayBack.{way_back}
 use Rattle.hprof_walks.specs.Numbers.{items_in}
 use Rattle.hprof_walks.proofs.Ways.{way_left, went_none, went_on, went_to_start, went_all}
 use Rattle.hprof_walks.proofs.kept_search.Search.way_back.Goals as goal

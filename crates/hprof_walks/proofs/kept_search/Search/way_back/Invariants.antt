@@ -1,5 +1,5 @@
 use Rattle.std.proofs.Common.{◌≡◌, ◌++◌, ◌-◌, ◌<◌, ℕ, List, length, map, slice_index}
-use Rattle.hprof_walks.specs.Kept.{way_back}
+use Rattle.hprof_walks.specs.WayBack.{way_back}
 use Rattle.hprof_walks.specs.Numbers.{items_in}
 use Rattle.hprof_walks.proofs.Ways.{way_left}
 use Rattle.hprof_walks.proofs.kept_search.Search.way_back.Given as goal

@@ -1,4 +1,4 @@
-use Rattle.std.proofs.Common.{ap, subst, sym, ◌∙◌, ◌↔◌, Contains, IsTrue}
+use Rattle.std.proofs.Common.{subst, sym, ◌↔◌, Contains, IsTrue}
 use Rattle.hprof_walks.specs.Numbered.{nodes_in}
 use Rattle.hprof_walks.proofs.Placed.{has_number}
 use Rattle.hprof_walks.proofs.numbered.Numbered.has.Goals as goal
