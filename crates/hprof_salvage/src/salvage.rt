@@ -6,7 +6,7 @@ ghost use Rattle.hprof_devices.specs.declared.health.Health.TheVariants.{Well};
 ghost use Rattle.hprof_dump.specs.Dump.{canonical_dump};
 ghost use Rattle.hprof_heap.specs.Gathering.{Given, gathered, nothing_gathered, Gathers};
 ghost use Rattle.hprof_heap.specs.Heap.{heap_of};
-ghost use Rattle.hprof_salvage.specs.Salvaging.{Salvages};
+ghost use Rattle.hprof_salvage.specs.Salvaging.{Salvages, SavesAll};
 ghost use Rattle.hprof_salvage.specs.Sound.{IsAsJoined, HaveNoFault, AnswersAsJoin};
 ghost use Rattle.hprof_salvage.specs.Through.{TellsHeap, salvaged_in};
 
@@ -50,7 +50,9 @@ pub fn salvage_kept<R: Source, W: Target>(
     ensures no_fault { (parts : List (List ℕ)) → HaveNoFault R.left R.health limits readers.old readers.new parts
         → AnswersAsJoin R.left R.health R.pulls limits readers.old readers.new W.written W.health target.old target.new (salvaged_in result) }
 
-    // The heap that is handed back is the one whose dump was written.
+    // The heap that is handed back is what is saved of the parts, and the one whose dump was written.
+    ensures saved { IfOk result (λ kept. (saves : SavesAll R.left R.health R.pulls limits readers.old readers.new W.written W.health
+        target.old target.new kept.salvaged) × (saves.heap ≡ heap_of kept.heap)) }
     ensures heap { IfOk result (λ kept. let heap = heap_of kept.heap in
         Appends (W.written target.old) (W.written target.new) (canonical_dump heap.ids heap.millis heap.facts)) }
 {

@@ -1,4 +1,4 @@
-use Rattle.std.proofs.Common.{Result, Ok, Err}
+use Rattle.std.proofs.Common.{Result, Ok, Err, refl}
 use Rattle.hprof_heap.specs.Gathering.{gathered}
 use Rattle.hprof_heap.specs.Heap.{heap_of}
 use Rattle.hprof_engine.specs.declared.tool_fault.ToolFault.{ToolFault}
@@ -74,6 +74,10 @@ returns-clause-salvages g c =
       wrote = w.bytes;
       is_well = w.health;
     }
+
+pub returns-clause-saved : goal.returns-clause-saved
+unfolding returns-clause-salvages
+returns-clause-saved g c = (returns-clause-salvages g c, refl)
 
 pub returns-clause-no_fault : goal.returns-clause-no_fault
 returns-clause-no_fault g c = λ parts have.
