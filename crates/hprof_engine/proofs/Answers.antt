@@ -262,7 +262,7 @@ module _ {R : Type 0} (left : R → Option (List ℕ)) (health : R → Health) (
   stopped limits old new (tool.Part index fault) from to reads = (
     tt,
     record {
-      no_parts = λ had. (λ e. absurd cc, λ none. absurd (some_reader old index reads.at.was reads.at.was_there none));
+      no_parts = (λ e. absurd cc, λ none. absurd (some_reader old index reads.at.was reads.at.was_there none));
       id_sizes = λ e. absurd cc;
       conflict = λ key e. absurd cc;
       part = λ other why e parts told.
@@ -322,7 +322,7 @@ module _ {R : Type 0} (left : R → Option (List ℕ)) (health : R → Health) (
       → ((index : ℕ) (fault : PartFault) → ended ≡ Some (tool.Part index fault) → ⊥) → read_count ended (length old) ≡ length old
       → Reads left health pulls limits old new ended
   reads_as ended none sizes conflicts part all = record {
-    no_parts = λ had. none;
+    no_parts = none;
     id_sizes = sizes;
     conflict = conflicts;
     part = λ index fault e parts told. absurd (part index fault e);

@@ -221,7 +221,7 @@ module _ {R : Type 0} (left : R → Option (List ℕ)) (health : R → Health) (
 
       wants_reads : Reads left health pulls limits old new (Some (tool.Part index fault))
       wants_reads = record {
-        no_parts = λ had. (λ e. absurd cc, λ none. absurd (some_reader old index wants.at.was wants.at.was_there none));
+        no_parts = (λ e. absurd cc, λ none. absurd (some_reader old index wants.at.was wants.at.was_there none));
         id_sizes = λ e. absurd cc;
         conflict = λ key e. absurd cc;
         part = λ other why e parts told.
