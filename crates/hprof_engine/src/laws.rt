@@ -54,8 +54,8 @@ pub fn order_repetition_and_cutting_do_not_matter()
 {}
 
 /// Joined dumps join: where parts are divided among groups in any way, and each group is joined, the dumps come to what all
-/// the parts come to, heap or refusal. Where the parts of one group do not agree, all do not; where they have two sizes, all
-/// parts have two, and come to nothing else.
+/// the parts come to, heap or refusal. Where the parts of one group do not agree, all do not. Where they have two sizes, all
+/// have two, if each is a part, and all come to nothing else.
 pub fn joined_dumps_join()
     ensures dumps { (parts : List (List ℕ)) (groups : List (List (List ℕ))) (dumps : List (List ℕ)) (outcome : Outcome)
         → AreDivided parts groups → AreDumps groups dumps → ComesTo parts outcome ↔ ComesTo dumps outcome }
