@@ -32,7 +32,7 @@ use Rattle.hprof_engine.specs.declared.tool_fault.ToolFault.{ToolFault}
 use Rattle.hprof_engine.specs.declared.tool_fault.ToolFault.TheVariants as tool
 use Rattle.hprof_engine.specs.Summaries.{AreSummaries, AreSummarised, HoldsFirst}
 use Rattle.hprof_engine.specs.Joining.{Tell, Agree, Disagree, IsPartFault, IsOfPart, IsAccepted, RefusesPart, AreGiven}
-use Rattle.hprof_engine.specs.Joining.{RefusesReader, AreReadOut, GathersFirst, read_count, ReadsAll, is_want, IsHindered, IsOkOrConflict, IsOfReading}
+use Rattle.hprof_engine.specs.Joining.{RefusesReader, AreReadOut, read_count, ReadsAll, is_want, IsHindered, IsOkOrConflict, IsOfReading}
 use Rattle.hprof_engine.specs.Makes.{Reads}
 use Rattle.hprof_engine.proofs.PartFaults.{of_part}
 use Rattle.hprof_stream.proofs.Parts.{part_sound}
@@ -262,7 +262,7 @@ module _ {R : Type 0} (left : R → Option (List ℕ)) (health : R → Health) (
   stopped limits old new (tool.Part index fault) from to reads = (
     tt,
     record {
-      no_parts = λ had. (λ e. absurd cc, λ none. absurd (some_reader old index reads.at.was reads.at.was_there none));
+      no_parts = (λ e. absurd cc, λ none. absurd (some_reader old index reads.at.was reads.at.was_there none));
       id_sizes = λ e. absurd cc;
       conflict = λ key e. absurd cc;
       part = λ other why e parts told.
@@ -311,12 +311,10 @@ abbrev pub fault_of_answer : Result HeapValue Refusal → Option ToolFault
 fault_of_answer (Ok heap) = None
 fault_of_answer (Err refusal) = fault_of_refusal refusal
 
+--   given: what these gave
 module _ {R : Type 0} (left : R → Option (List ℕ)) (health : R → Health) (pulls : R → ℕ) (limits : Limits) (old new : List R)
-    (from to : Gathered) (nothing : from ≡ nothing_gathered) (first : GathersFirst left limits old (length old) from to)
+    (given : List Given) (of_readers : AreGiven limits (map left (take (length old) old)) given)
     (out : AreReadOut left health pulls limits old new (length old)) where
-  gathers : Gathers nothing_gathered first.given to
-  gathers = from_nothing from to first.given nothing first.gathers
-
   -- what reading answers where all parts were read
   reads_as : (ended : Option ToolFault) → ((ended ≡ Some tool.NoParts) ↔ (old ≡ []))
       → (ended ≡ Some tool.IdSizes → (parts : List (List ℕ)) → Tell left old parts → HaveTwoSizes parts)
@@ -324,15 +322,15 @@ module _ {R : Type 0} (left : R → Option (List ℕ)) (health : R → Health) (
       → ((index : ℕ) (fault : PartFault) → ended ≡ Some (tool.Part index fault) → ⊥) → read_count ended (length old) ≡ length old
       → Reads left health pulls limits old new ended
   reads_as ended none sizes conflicts part all = record {
-    no_parts = λ had. none;
+    no_parts = none;
     id_sizes = sizes;
     conflict = conflicts;
     part = λ index fault e parts told. absurd (part index fault e);
-    accepted = λ _ parts told. all_accepted left limits old first.given first.of_readers parts told;
+    accepted = λ _ parts told. all_accepted left limits old given of_readers parts told;
     read_out = subst (λ (count : ℕ). AreReadOut left health pulls limits old new count) (sym all) out;
   }
 
-  pub answered : (answer : Result HeapValue Refusal) → Tells first.given answer
+  pub answered : (answer : Result HeapValue Refusal) → Tells given answer
       → Reads left health pulls limits old new (fault_of_answer answer)
       × ((parts : List (List ℕ)) (ids : IdSize) (millis : ℕ) (facts : List FactValue) → Tell left old parts
       → IsState parts ids millis facts → IsOkOrConflict (fault_of_answer answer))
@@ -340,13 +338,13 @@ module _ {R : Type 0} (left : R → Option (List ℕ)) (health : R → Health) (
     reads_as None (
       λ e. absurd cc,
       λ none. absurd (let no : ◌≡◌ {A = Result HeapValue Refusal} (Ok heap) (Err refusals.NoParts) =
-          no_parts left limits old first.given first.of_readers none (Ok heap) tells in cc),
+          no_parts left limits old given of_readers none (Ok heap) tells in cc),
     ) (λ e. absurd cc) (λ key e. absurd cc)
         (λ index fault e. cc) refl,
     λ parts ids millis facts told state. tt,
   )
   answered (Err refusals.NoParts) tells =
-      let none = no_readers left limits old first.given first.of_readers tells in (
+      let none = no_readers left limits old given of_readers tells in (
         reads_as (Some tool.NoParts) (λ e. none, λ e. refl) (λ e. absurd cc) (λ key e. absurd cc) (λ index fault e. cc) refl,
         λ parts ids millis facts told state. absurd (some_parts left old parts ids millis facts told state none),
       )
@@ -354,22 +352,22 @@ module _ {R : Type 0} (left : R → Option (List ℕ)) (health : R → Health) (
     reads_as (Some tool.IdSizes) (
       λ e. absurd cc,
       λ none. absurd (let no : ◌≡◌ {A = Result HeapValue Refusal} (Err refusals.IdSizes)
-          (Err refusals.NoParts) = no_parts left limits old first.given first.of_readers none (Err refusals.IdSizes) tells in cc),
+          (Err refusals.NoParts) = no_parts left limits old given of_readers none (Err refusals.IdSizes) tells in cc),
     )
-        (λ e parts told. two_sizes left limits old first.given first.of_readers parts told tells) (λ key e. absurd cc)
+        (λ e parts told. two_sizes left limits old given of_readers parts told tells) (λ key e. absurd cc)
         (λ index fault e. cc) refl,
     λ parts ids millis facts told state. absurd (not_two_sizes parts ids millis facts state
-        (two_sizes left limits old first.given first.of_readers parts told tells)),
+        (two_sizes left limits old given of_readers parts told tells)),
   )
   answered (Err (refusals.Conflict key)) tells = (
     reads_as (Some (tool.Conflict key)) (
       λ e. absurd cc,
       λ none. absurd (let no : ◌≡◌ {A = Result HeapValue Refusal}
           (Err (refusals.Conflict key)) (Err refusals.NoParts) =
-          no_parts left limits old first.given first.of_readers none (Err (refusals.Conflict key)) tells in cc),
+          no_parts left limits old given of_readers none (Err (refusals.Conflict key)) tells in cc),
     ) (λ e. absurd cc)
         (λ named e parts told. let one : key ≡ named = cc in subst (Disagree parts) one
-        (disagree left limits old first.given first.of_readers parts told key tells)) (λ index fault e. cc) refl,
+        (disagree left limits old given of_readers parts told key tells)) (λ index fault e. cc) refl,
     λ parts ids millis facts told state. tt,
   )
   answered (Err refusals.Failed) tells = absurd tells

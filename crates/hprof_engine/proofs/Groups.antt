@@ -1,21 +1,22 @@
 -- The dumps of groups of parts, joined.
-use Rattle.std.proofs.Common.{ℕ, List, [], ◌∷◌, refl, sym, subst, ◌∙◌, inl, inr, arith}
-use Rattle.std.specs.List.{Contains}
+use Rattle.std.proofs.Common.{◌≡◌, ℕ, List, [], ◌∷◌, refl, sym, subst, ◌∙◌, inl, inr, arith}
+use Rattle.std.specs.List.{AllByRecursion, Contains}
 use Rattle.hprof_values.specs.declared.ids.IdSize.{IdSize}
 use Rattle.hprof_items.specs.FactValue.{FactValue}
 use Rattle.hprof_stream.specs.Part.{IsPart}
 use Rattle.hprof_dump.proofs.Dump.{dump_is_part}
 use Rattle.hprof_rows.specs.declared.key.Key.{Key}
 use Rattle.hprof_rows.specs.Facts.{Has}
+use Rattle.hprof_heap.specs.State.{HaveTwoSizes}
 use Rattle.hprof_stream.proofs.Parts.{states_one}
 use Rattle.hprof_engine.specs.Joining.{Agree, Disagree}
 use Rattle.hprof_engine.specs.Makes.{IsDump}
 use Rattle.hprof_engine.specs.Dividing.{AreDivided, AreDumps}
-use Rattle.hprof_engine.specs.Outcome.{Outcome, ComesTo}
+use Rattle.hprof_engine.specs.Outcome.{Outcome, OneHeap, Conflict, TwoSizes, ComesTo, IsSomePart}
 use Rattle.hprof_engine.proofs.Together.{agree_heap, some_disagree}
-use Rattle.hprof_engine.proofs.Outcomes.{SaysOn, comes_on}
+use Rattle.hprof_engine.proofs.Outcomes.{SaysOn, comes_on, say_two_sizes, said_two_sizes, one_outcome}
 use Rattle.hprof_engine.proofs.PartByPart.{Says, OneOf, SayTogether, says_once, say_together, contains_first, contains_later, contains_cases}
-use Rattle.hprof_engine.proofs.PartByPart.{contains_none}
+use Rattle.hprof_engine.proofs.PartByPart.{contains_none, holds_of}
 
 -- ---- one group and its dump
 
@@ -235,6 +236,34 @@ dumps_come parts groups dumps outcome divided are = comes_on parts dumps (to_dum
 pub parts_come : (parts : List (List ℕ)) (groups : List (List (List ℕ))) (dumps : List (List ℕ)) (outcome : Outcome)
     → AreDivided parts groups → AreDumps groups dumps → ComesTo dumps outcome → ComesTo parts outcome
 parts_come parts groups dumps outcome divided are = comes_on dumps parts (to_parts parts groups dumps divided are) outcome
+
+-- what comes to something are parts
+each_is_part : (parts : List (List ℕ)) (outcome : Outcome) → ComesTo parts outcome → (bytes : List ℕ) → Contains parts bytes
+    → IsSomePart bytes
+each_is_part parts (OneHeap ids millis rows) agree bytes there =
+    let says = (say_together parts ids millis rows agree.state).each bytes there in (ids, says.millis, says.facts, says.part)
+each_is_part parts (Conflict key) dis bytes there =
+    let says = (say_together parts dis.ids dis.millis dis.facts dis.state).each bytes there in (dis.ids, says.millis, says.facts, says.part)
+each_is_part parts TwoSizes have bytes there = (say_two_sizes parts have).each bytes there
+
+-- where a group has two sizes, all have, if each is a part
+two_sizes_of : (parts : List (List ℕ)) (groups : List (List (List ℕ))) (group : List (List ℕ)) → AreDivided parts groups
+    → Contains groups group → HaveTwoSizes group → ((bytes : List ℕ) → Contains parts bytes → IsSomePart bytes) → HaveTwoSizes parts
+two_sizes_of parts groups group divided there have each = said_two_sizes parts (record {
+  each = each;
+  two = λ ids all. (say_two_sizes group have).two ids (λ bytes inside. all bytes ((divided bytes).1 (group, there, inside)));
+})
+
+pub group_has_two_sizes : (parts : List (List ℕ)) (groups : List (List (List ℕ))) (group : List (List ℕ)) → AreDivided parts groups
+    → Contains groups group → HaveTwoSizes group → AllByRecursion IsSomePart parts → HaveTwoSizes parts
+group_has_two_sizes parts groups group divided there have each =
+    two_sizes_of parts groups group divided there have (λ bytes inside. holds_of IsSomePart parts bytes each inside)
+
+-- and they come to nothing else
+pub group_has_two_sizes_alone : (parts : List (List ℕ)) (groups : List (List (List ℕ))) (group : List (List ℕ)) (outcome : Outcome)
+    → AreDivided parts groups → Contains groups group → HaveTwoSizes group → ComesTo parts outcome → outcome ≡ TwoSizes
+group_has_two_sizes_alone parts groups group outcome divided there have comes = one_outcome parts outcome TwoSizes comes
+    (two_sizes_of parts groups group divided there have (each_is_part parts outcome comes))
 
 -- where a group does not agree, all do not
 pub group_disagrees : (parts : List (List ℕ)) (groups : List (List (List ℕ))) (group : List (List ℕ)) (ids : IdSize) (millis : ℕ)

@@ -54,7 +54,7 @@ module _ {R : Type 0} (left : R → Option (List ℕ)) (health : R → Health) (
   -- where all parts were read, a stop says nothing else of them
   stopped : (stop : Stop) → Reads left health pulls limits old new None → Reads left health pulls limits old new (Some (fault_of_stop stop))
   stopped (stops.Write fault) reads = record {
-    no_parts = λ had. (λ e. absurd cc, λ none. let no = (reads.no_parts (λ e. absurd cc)).1 none in absurd cc);
+    no_parts = (λ e. absurd cc, λ none. let no = reads.no_parts.1 none in absurd cc);
     id_sizes = λ e. absurd cc;
     conflict = λ key e. absurd cc;
     part = λ index why e. absurd cc;
@@ -62,7 +62,7 @@ module _ {R : Type 0} (left : R → Option (List ℕ)) (health : R → Health) (
     read_out = reads.read_out;
   }
   stopped stops.TooLong reads = record {
-    no_parts = λ had. (λ e. absurd cc, λ none. let no = (reads.no_parts (λ e. absurd cc)).1 none in absurd cc);
+    no_parts = (λ e. absurd cc, λ none. let no = reads.no_parts.1 none in absurd cc);
     id_sizes = λ e. absurd cc;
     conflict = λ key e. absurd cc;
     part = λ index why e. absurd cc;
@@ -70,7 +70,7 @@ module _ {R : Type 0} (left : R → Option (List ℕ)) (health : R → Health) (
     read_out = reads.read_out;
   }
   stopped stops.OutOfMemory reads = record {
-    no_parts = λ had. (λ e. absurd cc, λ none. let no = (reads.no_parts (λ e. absurd cc)).1 none in absurd cc);
+    no_parts = (λ e. absurd cc, λ none. let no = reads.no_parts.1 none in absurd cc);
     id_sizes = λ e. absurd cc;
     conflict = λ key e. absurd cc;
     part = λ index why e. absurd cc;

@@ -28,8 +28,8 @@ use Rattle.hprof_engine.specs.Summaries.{AreSummaries}
 --   old, new: the readers, before and afterwards;  ended: the fault that the call ended with, if any
 pub record Reads {R : Type 0} (left : R → Option (List ℕ)) (health : R → Health) (pulls : R → ℕ) (limits : Limits) (old new : List R)
     (ended : Option ToolFault) : Type 0 where
-  -- there are no parts, of which nothing is told only where memory was wanted before any is read
-  pub no_parts : (ended ≡ Some tool.OutOfMemory → ⊥) → (ended ≡ Some tool.NoParts) ↔ (old ≡ [])
+  -- there are no parts
+  pub no_parts : (ended ≡ Some tool.NoParts) ↔ (old ≡ [])
   -- two parts have different sizes
   pub id_sizes : ended ≡ Some tool.IdSizes → (parts : List (List ℕ)) → Tell left old parts → HaveTwoSizes parts
   -- the parts have one size, and this is the least key with two contents

@@ -5,7 +5,7 @@ ghost use Rattle.std.specs.Io.KnownBytes.{Appends};
 ghost use Rattle.hprof_devices.specs.declared.health.Health.TheVariants.{Well};
 ghost use Rattle.hprof_dump.specs.Dump.{canonical_dump};
 ghost use Rattle.hprof_heap.specs.Heap.{heap_of};
-ghost use Rattle.hprof_engine.specs.Joining.{Tell, AreJoined, fault_of};
+ghost use Rattle.hprof_engine.specs.Joining.{Tell, Agree, AreJoined, fault_of};
 ghost use Rattle.hprof_engine.specs.Makes.{Makes, dump_making};
 
 use crate::joined::{Joined, Kept};
@@ -71,7 +71,9 @@ pub fn join_kept<R: Source, W: Target>(
         readers.old readers.new target.old target.new (fault_of result) }
     ensures joined { IfOk result (λ kept. (parts : List (List ℕ)) → Tell R.left readers.old parts → AreJoined parts kept.joined) }
 
-    // The heap that is handed back is the one whose dump was written.
+    // The heap that is handed back is what the parts agree on, and the one whose dump was written.
+    ensures agree { IfOk result (λ kept. (parts : List (List ℕ)) → Tell R.left readers.old parts
+        → let heap = heap_of kept.heap in Agree parts heap.ids heap.millis heap.facts) }
     ensures heap { IfOk result (λ kept. let heap = heap_of kept.heap in
         Appends (W.written target.old) (W.written target.new) (canonical_dump heap.ids heap.millis heap.facts)) }
 {

@@ -10,11 +10,11 @@ ghost use Rattle.hprof_rows.specs.declared.key.Key.{Key};
 ghost use Rattle.hprof_dump.specs.Dump.{canonical_dump};
 ghost use Rattle.hprof_rows.specs.Facts.{SameFacts};
 ghost use Rattle.hprof_rows.specs.HeapValue.{HeapValue, IsHeap};
-ghost use Rattle.hprof_heap.specs.State.{IsState};
+ghost use Rattle.hprof_heap.specs.State.{IsState, HaveTwoSizes};
 ghost use Rattle.hprof_engine.specs.Dividing.{SameParts, AreDivided, AreDumps};
 ghost use Rattle.hprof_engine.specs.Joining.{Agree, Disagree};
 ghost use Rattle.hprof_engine.specs.Makes.{IsMadeOf};
-ghost use Rattle.hprof_engine.specs.Outcome.{Outcome, ComesTo, IsSomePart};
+ghost use Rattle.hprof_engine.specs.Outcome.{Outcome, TwoSizes, ComesTo, IsSomePart};
 
 use crate::product::Product;
 
@@ -54,13 +54,18 @@ pub fn order_repetition_and_cutting_do_not_matter()
 {}
 
 /// Joined dumps join: where parts are divided among groups in any way, and each group is joined, the dumps come to what all
-/// the parts come to, heap or refusal. Where the parts of one group do not agree, all do not.
+/// the parts come to, heap or refusal. Where the parts of one group do not agree, all do not. Where they have two sizes, all
+/// have two, if each is a part, and all come to nothing else.
 pub fn joined_dumps_join()
     ensures dumps { (parts : List (List ℕ)) (groups : List (List (List ℕ))) (dumps : List (List ℕ)) (outcome : Outcome)
         → AreDivided parts groups → AreDumps groups dumps → ComesTo parts outcome ↔ ComesTo dumps outcome }
     ensures disagree { (parts : List (List ℕ)) (groups : List (List (List ℕ))) (group : List (List ℕ)) (ids : IdSize) (millis : ℕ)
         (rows : List FactValue) (key : Key) → AreDivided parts groups → Contains groups group → Disagree group key
         → Agree parts ids millis rows → ⊥ }
+    ensures two_sizes { (parts : List (List ℕ)) (groups : List (List (List ℕ))) (group : List (List ℕ)) → AreDivided parts groups
+        → Contains groups group → HaveTwoSizes group → AllByRecursion IsSomePart parts → HaveTwoSizes parts }
+    ensures nothing_else { (parts : List (List ℕ)) (groups : List (List (List ℕ))) (group : List (List ℕ)) (outcome : Outcome)
+        → AreDivided parts groups → Contains groups group → HaveTwoSizes group → ComesTo parts outcome → outcome ≡ TwoSizes }
 {}
 
 /// What a product makes of parts is one text.

@@ -18,6 +18,9 @@ pub trait Summaries: Drop {
     // Room for those of so many parts takes memory.
     ghost takes_room: { ℕ → Type 0 };
 
+    // Room for those of no parts takes none.
+    ghost no_room: { takes_room 0 → ⊥ };
+
     /// One that holds no summary yet, and has room for those of so many parts.
     fn with_room(alloc: Global, parts: usize) -> Result<Self, AllocError>
         ensures empty { IfOk result (λ kept. holds kept []) }
@@ -33,11 +36,15 @@ pub trait Summaries: Drop {
 
 /// All summaries are kept, in memory that was had before.
 impl Summaries for Vec<PartSummary> {
+    ghost use Rattle.std.proofs.Common.{arith};
+
     ghost has_room = { λ kept more. vec_len kept + more ≡ vec_capacity kept };
 
     ghost holds = { λ kept summaries. kept.items ≡ summaries };
 
     ghost takes_room = { λ parts. 0 < parts };
+
+    ghost no_room = { λ takes. omega (arith, takes) };
 
     fn with_room(alloc: Global, parts: usize) -> Result<Vec<PartSummary>, AllocError> {
         Vec::with_capacity(alloc, parts)
@@ -55,6 +62,8 @@ impl Summaries for () {
     ghost holds = { λ kept summaries. ⊤ };
 
     ghost takes_room = { λ parts. ⊥ };
+
+    ghost no_room = { λ takes. takes };
 
     fn with_room(_alloc: Global, _parts: usize) -> Result<(), AllocError> {
         Ok(())

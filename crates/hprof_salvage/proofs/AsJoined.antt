@@ -1,6 +1,7 @@
 -- Where no fault is listed, what was saved is what is joined.
-use Rattle.std.proofs.Common.{◌≡◌, ℕ, suc, List, [], ◌∷◌, length, map, Option, Some, None, Ok, refl, sym, ap, subst, ◌∙◌, arith}
+use Rattle.std.proofs.Common.{◌≡◌, ℕ, suc, List, [], ◌∷◌, length, map, take, Option, Some, None, Ok, refl, sym, ap, subst, ◌∙◌, arith}
 use Rattle.std.specs.List.{AllByRecursion}
+use Rattle.std.proofs.Math.Seq.{take-length}
 use Rattle.hprof_devices.specs.declared.health.Health.{Health}
 use Rattle.hprof_stream.specs.declared.limits.Limits.{Limits}
 use Rattle.hprof_stream.specs.declared.part_fault.PartFault.{PartFault}
@@ -9,6 +10,7 @@ use Rattle.hprof_heap.specs.Gathering.{Given}
 use Rattle.hprof_engine.specs.Joining.{Tell, Agree, IsAccepted, AreGiven, AreJoined}
 use Rattle.hprof_engine.specs.Makes.{IsDump, WritesAll}
 use Rattle.hprof_engine.specs.Summaries.{AreSummaries}
+use Rattle.hprof_engine.proofs.Answers.{told_length}
 use Rattle.hprof_engine.proofs.OneSummary.{some_summary_each}
 use Rattle.hprof_salvage.specs.declared.salvaged.FaultedPart.{FaultedPart}
 use Rattle.hprof_salvage.specs.declared.salvaged.Salvaged.{Salvaged}
@@ -46,30 +48,38 @@ module _ {R : Type 0} (left : R → Option (List ℕ)) (health : R → Health) (
         subst (λ (b : List ℕ). IsAccepted limits b) (sym whole) ends.3,
       )
 
-  -- so were all
-  sound_reads : (old new : List R) (reads : List PartRead) (parts : List (List ℕ)) → AreReadSo left health pulls limits old new reads
-      → length reads ≡ length old → AllByRecursion (λ read. read.fault ≡ None) reads → Tell left old parts
-      → (all_handled limits reads ≡ parts) × AllByRecursion (IsAccepted limits) parts
-  sound_reads [] new [] [] are all sound told = (refl, tt)
-  sound_reads [] new [] (bytes ∷ parts) are all sound told = absurd cc
-  sound_reads [] new (read ∷ reads) parts are all sound told = absurd (omega (arith, all))
-  sound_reads (reader ∷ old) new [] parts are all sound told = absurd (omega (arith, all))
-  sound_reads (reader ∷ old) new (read ∷ reads) [] are all sound told = absurd cc
-  sound_reads (reader ∷ old) [] (read ∷ reads) (bytes ∷ parts) are all sound told =
+  -- so were those at the front, as far as they were read
+  pub sound_front : (old new : List R) (reads : List PartRead) (parts : List (List ℕ)) → AreReadSo left health pulls limits old new reads
+      → AllByRecursion (λ read. read.fault ≡ None) reads → Tell left old parts
+      → (all_handled limits reads ≡ take (length reads) parts) × AllByRecursion (IsAccepted limits) (take (length reads) parts)
+  sound_front old new [] parts are sound told = (refl, tt)
+  sound_front [] new (read ∷ reads) parts are sound told =
+      let one = are 0 (omega arith) in absurd (let no : None ≡ Some one.0 = one.3 in cc)
+  sound_front (reader ∷ old) new (read ∷ reads) [] are sound told = absurd cc
+  sound_front (reader ∷ old) [] (read ∷ reads) (bytes ∷ parts) are sound told =
       let one = are 0 (omega arith) in absurd (let no : None ≡ Some one.1 = one.4 in cc)
-  sound_reads (reader ∷ old) (next ∷ new) (read ∷ reads) (bytes ∷ parts) are all sound told =
+  sound_front (reader ∷ old) (next ∷ new) (read ∷ reads) (bytes ∷ parts) are sound told =
       let one = are 0 (omega arith) in
       let is_was : reader ≡ one.0 = cc (one.3) in
       let is_read : read ≡ one.2 = cc (one.5) in
       let first : left reader ≡ Some bytes = cc in
       let behind : map left old ≡ map Some parts = cc in
-      let size : length reads ≡ length old = omega (arith, all) in
       let so = subst (λ (r : PartRead). IsReadSo left health pulls limits one.0 one.1 r) (sym is_read) one.6 in
       let here = sound_read one.0 one.1 read bytes so sound.0 (ap left (sym is_was) ∙ first) in
-      let rest = sound_reads old new reads parts (λ k below. are (suc k) (omega (arith, below))) size sound.1 behind in (
+      let rest = sound_front old new reads parts (λ k below. are (suc k) (omega (arith, below))) sound.1 behind in (
         ap (λ (b : List ℕ). b ∷ all_handled limits reads) here.0 ∙ ap (λ (bs : List (List ℕ)). bytes ∷ bs) rest.0,
         (here.1, rest.1),
       )
+
+  -- and all, where all were read
+  pub sound_reads : (old new : List R) (reads : List PartRead) (parts : List (List ℕ)) → AreReadSo left health pulls limits old new reads
+      → length reads ≡ length old → AllByRecursion (λ read. read.fault ≡ None) reads → Tell left old parts
+      → (all_handled limits reads ≡ parts) × AllByRecursion (IsAccepted limits) parts
+  sound_reads old new reads parts are all sound told =
+      let front = sound_front old new reads parts are sound told in
+      let whole : take (length reads) parts ≡ parts = ap (λ (n : ℕ). take n parts) (all ∙ told_length left old parts told)
+      ∙ take-length parts in
+      (front.0 ∙ whole, subst (λ (ps : List (List ℕ)). AllByRecursion (IsAccepted limits) ps) whole front.1)
 
   module _ (old new : List R) {W : Type 0} (written : W → Option (List ℕ)) (well : W → Health) (before after : W) (salvaged : Salvaged) where
     -- where no fault is listed, the parts are joined: their dump was written, and counted

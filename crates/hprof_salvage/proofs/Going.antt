@@ -26,7 +26,7 @@ use Rattle.hprof_salvage.proofs.PartReads.{AreReadSo-none, AreReadSo-kept, AreRe
 use Rattle.hprof_salvage.proofs.PartByFault.{begins, steps, refuses, has_failed, TakesSaved, read_faulty, refused_so}
 
 -- what holds at a fault holds of an answer that is this fault
-pub of_fault : (P : Result (Unit {0}) ToolFault → Type 0) (answer : Result (Unit {0}) ToolFault) (fault : ToolFault)
+pub of_fault : {A : Type 0} (P : Result A ToolFault → Type 0) (answer : Result A ToolFault) (fault : ToolFault)
     → IsErrAnd answer (λ e. e ≡ fault) → P (Err fault) → P answer
 of_fault P (Ok done) fault is holds = absurd is
 of_fault P (Err other) fault is holds = subst (λ (f : ToolFault). P (Err f)) (sym is) holds

@@ -4,4 +4,5 @@ pub mod PartByFault
 pub mod Going
 pub mod WholeParts
 pub mod AsJoined
+pub mod NoFault
 pub mod OneAnswer

@@ -1,7 +1,11 @@
 -- What is saved of parts, beside their first faults, and where they have none.
-use Rattle.std.specs.Prelude.{◌≡◌, ℕ, List, [], Option, Some, None, Result, Ok, Err}
+use Rattle.std.specs.Prelude.{◌≡◌, ℕ, ◌<◌, List, [], length, All, Option, Some, None, Result, Ok, Err, IfOk}
+use Rattle.std.specs.List.{AllByRecursion}
+use Rattle.hprof_devices.specs.declared.health.Health.{Health}
+use Rattle.hprof_devices.specs.declared.health.Health.TheVariants as healths
 use Rattle.hprof_items.specs.declared.header.Header.{Header}
 use Rattle.hprof_items.specs.FactValue.{FactValue}
+use Rattle.hprof_stream.specs.declared.limits.Limits.{Limits}
 use Rattle.hprof_stream.specs.declared.part_fault.PartFault.{PartFault}
 use Rattle.hprof_stream.specs.Part.{IsPart, all_facts}
 use Rattle.hprof_stream.specs.Item.{header_before}
@@ -10,8 +14,9 @@ use Rattle.hprof_rows.specs.HeapValue.{HeapValue}
 use Rattle.hprof_heap.specs.declared.standing.Refusal.{Refusal}
 use Rattle.hprof_heap.specs.declared.standing.Refusal.TheVariants as refusals
 use Rattle.hprof_heap.specs.State.{HaveTwoSizes}
-use Rattle.hprof_engine.specs.Joining.{Tell, Agree, Disagree, AreJoined}
-use Rattle.hprof_engine.specs.Makes.{IsDump, WritesAll}
+use Rattle.hprof_engine.specs.declared.tool_fault.ToolFault.{ToolFault}
+use Rattle.hprof_engine.specs.Joining.{Tell, Agree, Disagree, AreJoined, IsAccepted, fault_of}
+use Rattle.hprof_engine.specs.Makes.{IsDump, WritesAll, Makes, dump_making}
 use Rattle.hprof_salvage.specs.declared.salvaged.Salvaged.{Salvaged}
 
 -- what the parts come to where they are joined
@@ -39,3 +44,22 @@ abbrev pub IsAsJoined : {R W : Type 0} → (left : R → Option (List ℕ)) → 
     → (before after : W) → Salvaged → Type 0
 IsAsJoined left written old before after salvaged = salvaged.faults.items ≡ [] → (parts : List (List ℕ)) → Tell left old parts
     → AreJoined parts salvaged.joined × WritesAll IsDump parts (written before) (written after)
+
+-- no part has a fault: the readers tell these parts, each is accepted and has fewer bytes than reads may be made, and no reader failed
+--   left, health: what a reader has left to tell, and how it is doing;  old, new: the readers, before and afterwards
+pub record HaveNoFault {R : Type 0} (left : R → Option (List ℕ)) (health : R → Health) (limits : Limits) (old new : List R)
+    (parts : List (List ℕ)) : Type 0 where
+  pub told : Tell left old parts
+  pub accepted : AllByRecursion (IsAccepted limits) parts
+  pub few : AllByRecursion (λ bytes. length bytes < limits.max_reads) parts
+  pub well : All (λ reader. health reader ≡ healths.Well) new
+
+-- the answer is that of `join_to`: all that it says of the parts, of what was written and of the numbers; and no fault is listed
+--   left, health, pulls: what a reader has left to tell, how it is doing, how often it was pulled
+--   written, well: what a writer holds, where it tells, and how it is doing
+--   old, new: the readers, before and afterwards;  before, after: the writer
+pub record AnswersAsJoin {R W : Type 0} (left : R → Option (List ℕ)) (health : R → Health) (pulls : R → ℕ) (limits : Limits) (old new : List R)
+    (written : W → Option (List ℕ)) (well : W → Health) (before after : W) (result : Result Salvaged ToolFault) : Type 0 where
+  pub makes : Makes left health pulls written well limits dump_making old new before after (fault_of result)
+  pub joined : IfOk result (λ salvaged. (parts : List (List ℕ)) → Tell left old parts → AreJoined parts salvaged.joined)
+  pub unlisted : IfOk result (λ salvaged. salvaged.faults.items ≡ [])

@@ -1,13 +1,13 @@
 //! Saving what can be saved of parts.
 
-ghost use Rattle.std.specs.Prelude.{◌≡◌, false, List, All, IfOk};
+ghost use Rattle.std.specs.Prelude.{◌≡◌, ℕ, false, List, All, IfOk};
 ghost use Rattle.std.specs.Io.KnownBytes.{Appends};
 ghost use Rattle.hprof_devices.specs.declared.health.Health.TheVariants.{Well};
 ghost use Rattle.hprof_dump.specs.Dump.{canonical_dump};
 ghost use Rattle.hprof_heap.specs.Gathering.{Given, gathered, nothing_gathered, Gathers};
 ghost use Rattle.hprof_heap.specs.Heap.{heap_of};
-ghost use Rattle.hprof_salvage.specs.Salvaging.{Salvages};
-ghost use Rattle.hprof_salvage.specs.Sound.{IsAsJoined};
+ghost use Rattle.hprof_salvage.specs.Salvaging.{Salvages, SavesAll};
+ghost use Rattle.hprof_salvage.specs.Sound.{IsAsJoined, HaveNoFault, AnswersAsJoin};
 ghost use Rattle.hprof_salvage.specs.Through.{TellsHeap, salvaged_in};
 
 use crate::counter::PartCounter;
@@ -47,8 +47,12 @@ pub fn salvage_kept<R: Source, W: Target>(
     ensures salvages { Salvages R.left R.health R.pulls limits readers.old readers.new W.written W.health target.old target.new
         (salvaged_in result) }
     ensures joined { IfOk result (λ kept. IsAsJoined R.left W.written readers.old target.old target.new kept.salvaged) }
+    ensures no_fault { (parts : List (List ℕ)) → HaveNoFault R.left R.health limits readers.old readers.new parts
+        → AnswersAsJoin R.left R.health R.pulls limits readers.old readers.new W.written W.health target.old target.new (salvaged_in result) }
 
-    // The heap that is handed back is the one whose dump was written.
+    // The heap that is handed back is what is saved of the parts, and the one whose dump was written.
+    ensures saved { IfOk result (λ kept. (saves : SavesAll R.left R.health R.pulls limits readers.old readers.new W.written W.health
+        target.old target.new kept.salvaged) × (saves.heap ≡ heap_of kept.heap)) }
     ensures heap { IfOk result (λ kept. let heap = heap_of kept.heap in
         Appends (W.written target.old) (W.written target.new) (canonical_dump heap.ids heap.millis heap.facts)) }
 {
@@ -84,6 +88,10 @@ pub fn salvage_to<R: Source, W: Target>(
 
     // Where no fault is listed, it did what `join_to` does.
     ensures joined { IfOk result (λ salvaged. IsAsJoined R.left W.written readers.old target.old target.new salvaged) }
+
+    // Where no part has a fault, it answers what `join_to` answers of the parts: a refusal and a fault of the writer, too.
+    ensures no_fault { (parts : List (List ℕ)) → HaveNoFault R.left R.health limits readers.old readers.new parts
+        → AnswersAsJoin R.left R.health R.pulls limits readers.old readers.new W.written W.health target.old target.new result }
 {
     match salvage_kept(alloc, readers, target, limits) {
         Ok(kept) => Ok(kept.salvaged),

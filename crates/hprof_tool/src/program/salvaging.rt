@@ -20,6 +20,7 @@ use hprof_engine::ToolFault;
 use hprof_salvage::{FaultedPart, Salvaged, salvage_kept};
 use hprof_stream::Limits;
 use std::alloc::Global;
+use std::fmt::InlineText;
 use std::io::{BufWriter, Write};
 use std::mem;
 
@@ -134,34 +135,38 @@ pub(crate) fn salvage_file<F: Folder>(
     }
 }
 
-/// Tells the fault of a part in a line, as it is told where the part is refused.
-fn tell_fault<O: Write>(alloc: Global, fault: FaultedPart, output: &mut O) -> Result<(), Refused>
+/// The number of bytes that the text why a part is refused has room in. Each such text is shorter.
+const WHY_LEN: usize = 64;
+
+/// Tells the fault of a part in a line, as it is told where the part is refused. It takes no memory.
+fn tell_fault<O: Write>(fault: FaultedPart, output: &mut O) -> Result<(), Refused>
     ensures told { OnOk result ((line : List ℕ) × IsFaultText (ToolFault.Part fault.index fault.fault) line
         × Appends (O.contents output.old) (O.contents output.new) (line ++ line_end ∷ [])) }
     ensures kind { IfErr result IsOfTelling }
+    ensures failed { IfErr result (λ why. why ≡ WRITE_FAILED) }
 {
     let FaultedPart { index, fault } = fault;
-    let Ok(line) = (ToolFault::Part { index, fault }).text(alloc) else {
-        return Err(Refused::OutOfMemory);
-    };
-    if writeln!(output, "{line}").is_err() {
-        return Err(WRITE_FAILED);
+    let text = InlineText::<WHY_LEN>::of(fault);
+    let why = text.as_str();
+    match writeln!(output, "part {index}: {why}") {
+        Ok(()) => Ok(()),
+        Err(_) => Err(WRITE_FAILED),
     }
-    Ok(())
 }
 
-/// Tells the faults of parts, one a line.
+/// Tells the faults of parts, one a line. It takes no memory, so nothing but a fault of the output keeps it from telling them.
 pub(crate) fn tell_faults<O: Write>(
-    alloc: Global,
+    _alloc: Global,
     faults: &[FaultedPart],
     output: &mut O,
 ) -> Result<(), Refused>
     ensures told { OnOk result ((text : List ℕ) × TellsFaults faults.now text
         × Appends (O.contents output.old) (O.contents output.new) text) }
     ensures kind { IfErr result IsOfTelling }
+    ensures failed { IfErr result (λ why. why ≡ WRITE_FAILED) }
 {
     for fault in faults {
-        tell_fault(alloc, *fault, output)?;
+        tell_fault(*fault, output)?;
     }
     if output.flush().is_err() {
         return Err(WRITE_FAILED);

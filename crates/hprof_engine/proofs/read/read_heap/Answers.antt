@@ -29,8 +29,8 @@ returns-in-Ok-clause-reads g c =
     let read = c.in_default.ensures.read in
     let gathers = from_nothing (g.G.Gather.gathered c.args.gatherer) (g.G.Gather.gathered c.read_parts.new.gatherer) read.0.given c.requires.nothing
     read.0.gathers in
-    (answered g.R.Source.left g.R.Source.health g.R.Source.pulls c.args.limits c.args.readers.now c.read_parts.new.readers
-    (g.G.Gather.gathered c.args.gatherer) (g.G.Gather.gathered c.read_parts.new.gatherer) c.requires.nothing read.0 read.1 (Ok (g.G.Gather.heap_in c.in-Ok.found))
+    (answered g.R.Source.left g.R.Source.health g.R.Source.pulls c.args.limits c.args.readers.now c.read_parts.new.readers read.0.given
+    read.0.of_readers read.1 (Ok (g.G.Gather.heap_in c.in-Ok.found))
     (c.in-Ok.ensures.told read.0.given gathers)).0
 
 pub returns-in-Err-IdSizes-clause-reads : goal.returns-in-Err-IdSizes-clause-reads
@@ -38,8 +38,8 @@ returns-in-Err-IdSizes-clause-reads g c =
     let read = c.in_default.ensures.read in
     let gathers = from_nothing (g.G.Gather.gathered c.args.gatherer) (g.G.Gather.gathered c.read_parts.new.gatherer) read.0.given c.requires.nothing
     read.0.gathers in
-    (answered g.R.Source.left g.R.Source.health g.R.Source.pulls c.args.limits c.args.readers.now c.read_parts.new.readers
-    (g.G.Gather.gathered c.args.gatherer) (g.G.Gather.gathered c.read_parts.new.gatherer) c.requires.nothing read.0 read.1 (Err refusals.IdSizes)
+    (answered g.R.Source.left g.R.Source.health g.R.Source.pulls c.args.limits c.args.readers.now c.read_parts.new.readers read.0.given
+    read.0.of_readers read.1 (Err refusals.IdSizes)
     (told_of read.0.given c.in-Err-IdSizes.field-0 refusals.IdSizes c.in-Err-IdSizes.field-0-is (c.in-Err-IdSizes.ensures.told read.0.given gathers))).0
 
 pub returns-in-Err-IdSizes-clause-no_other : goal.returns-in-Err-IdSizes-clause-no_other
@@ -47,8 +47,8 @@ returns-in-Err-IdSizes-clause-no_other g c = λ parts ids millis facts told stat
     let read = c.in_default.ensures.read in
     let gathers = from_nothing (g.G.Gather.gathered c.args.gatherer) (g.G.Gather.gathered c.read_parts.new.gatherer) read.0.given c.requires.nothing
     read.0.gathers in
-    (answered g.R.Source.left g.R.Source.health g.R.Source.pulls c.args.limits c.args.readers.now c.read_parts.new.readers
-    (g.G.Gather.gathered c.args.gatherer) (g.G.Gather.gathered c.read_parts.new.gatherer) c.requires.nothing read.0 read.1 (Err refusals.IdSizes)
+    (answered g.R.Source.left g.R.Source.health g.R.Source.pulls c.args.limits c.args.readers.now c.read_parts.new.readers read.0.given
+    read.0.of_readers read.1 (Err refusals.IdSizes)
     (told_of read.0.given c.in-Err-IdSizes.field-0 refusals.IdSizes c.in-Err-IdSizes.field-0-is (c.in-Err-IdSizes.ensures.told read.0.given gathers))).1 parts ids millis facts told state
 
 pub returns-in-Err-Conflict-clause-reads : goal.returns-in-Err-Conflict-clause-reads
@@ -56,6 +56,6 @@ returns-in-Err-Conflict-clause-reads g c =
     let read = c.in_default.ensures.read in
     let gathers = from_nothing (g.G.Gather.gathered c.args.gatherer) (g.G.Gather.gathered c.read_parts.new.gatherer) read.0.given c.requires.nothing
     read.0.gathers in
-    (answered g.R.Source.left g.R.Source.health g.R.Source.pulls c.args.limits c.args.readers.now c.read_parts.new.readers
-    (g.G.Gather.gathered c.args.gatherer) (g.G.Gather.gathered c.read_parts.new.gatherer) c.requires.nothing read.0 read.1 (Err (refusals.Conflict c.in-Err-Conflict.key))
+    (answered g.R.Source.left g.R.Source.health g.R.Source.pulls c.args.limits c.args.readers.now c.read_parts.new.readers read.0.given
+    read.0.of_readers read.1 (Err (refusals.Conflict c.in-Err-Conflict.key))
     (told_of read.0.given c.in-Err-Conflict.field-0 (refusals.Conflict c.in-Err-Conflict.key) c.in-Err-Conflict.field-0-is (c.in-Err-Conflict.ensures.told read.0.given gathers))).0
