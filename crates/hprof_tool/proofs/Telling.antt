@@ -2,13 +2,10 @@
 use Rattle.std.proofs.Common.{◌≡◌, ℕ, zero, suc, List, [], ◌∷◌, ◌++◌, take, Some, refl, sym, ap, subst, append_assoc, ◌∙◌, ◌+◌, ◌<◌, length, get_or, add-one}
 use Rattle.std.specs.Prelude.{slice_get}
 use Rattle.std.proofs.lemmas.Option.{slice_get-get_or}
-use Rattle.hprof_devices.specs.declared.health.WriteFault.TheVariants as write_faults
 use Rattle.hprof_engine.specs.declared.tool_fault.ToolFault.TheVariants as tool
 use Rattle.hprof_engine.specs.FaultText.{IsFaultText}
 use Rattle.hprof_salvage.specs.declared.salvaged.FaultedPart.{FaultedPart}
-use Rattle.hprof_tool.specs.declared.program.refused.Refused.{Refused}
-use Rattle.hprof_tool.specs.declared.program.refused.Refused.TheVariants as refusals
-use Rattle.hprof_tool.specs.Telling.{TellsFaults, IsOfTelling, EndsTelling, line_end}
+use Rattle.hprof_tool.specs.Telling.{TellsFaults, line_end}
 
 -- one fault more is told
 pub told_more : (faults : List FaultedPart) (index : ℕ) (fault : FaultedPart) (text line : List ℕ) → slice_get faults index ≡ Some fault
@@ -33,17 +30,3 @@ pub told_at : (faults : List FaultedPart) (index : ℕ) (default : FaultedPart) 
 told_at faults index default text line within told is =
     subst (λ (n : ℕ). TellsFaults (take n faults) (text ++ (line ++ line_end ∷ []))) (sym (add-one index))
     (told_more faults index (get_or faults index default) text line (slice_get-get_or faults index default within) told is)
-
--- faults that cannot be told, where this is not for want of memory
-pub ends_telling : (IsRemoved : Type 0) (why : Refused) → IsOfTelling why → (why ≡ refusals.OutOfMemory → ⊥) → EndsTelling IsRemoved why
-ends_telling IsRemoved (refusals.Engine (tool.Write write_faults.Failed)) is other = tt
-ends_telling IsRemoved (refusals.Engine (tool.Write write_faults.Stuck)) is other = absurd is
-ends_telling IsRemoved (refusals.Engine (tool.Part index fault)) is other = absurd is
-ends_telling IsRemoved (refusals.Engine tool.NoParts) is other = absurd is
-ends_telling IsRemoved (refusals.Engine tool.IdSizes) is other = absurd is
-ends_telling IsRemoved (refusals.Engine (tool.Conflict key)) is other = absurd is
-ends_telling IsRemoved (refusals.Engine tool.DumpTooLong) is other = absurd is
-ends_telling IsRemoved (refusals.Engine tool.OutOfMemory) is other = absurd is
-ends_telling IsRemoved (refusals.Open index) is other = absurd is
-ends_telling IsRemoved refusals.Create is other = absurd is
-ends_telling IsRemoved refusals.OutOfMemory is other = absurd (other refl)

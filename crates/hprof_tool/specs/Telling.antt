@@ -21,25 +21,18 @@ TellsFaults [] text = text ≡ []
 TellsFaults (fault ∷ faults) text = (line : List ℕ) × (rest : List ℕ) × IsFaultText (tool.Part fault.index fault.fault) line
     × (text ≡ line ++ line_end ∷ rest) × TellsFaults faults rest
 
--- the faults of parts could not be told, or there was no memory for a line
+-- the faults of parts could not be told: the write failed
 abbrev pub IsOfTelling : Refused → Type 0
 IsOfTelling (refusals.Engine (tool.Write write_faults.Failed)) = ⊤
-IsOfTelling refusals.OutOfMemory = ⊤
 IsOfTelling other = ⊥
 
--- so it was with a new file, which was removed again where there was no memory
-abbrev pub EndsTelling : (IsRemoved : Type 0) → Refused → Type 0
-EndsTelling IsRemoved (refusals.Engine (tool.Write write_faults.Failed)) = ⊤
-EndsTelling IsRemoved refusals.OutOfMemory = IsRemoved
-EndsTelling IsRemoved other = ⊥
-
 module _ {F : Type 0} (answered : Answered F) (remaining contents : F → Option (List ℕ)) (names : List (Bor (List ℕ))) (out : List ℕ) where
-  -- what is saved of the files of these names was written to a new one, and then a fault could not be told
+  -- what is saved of the files of these names was written to a new one, which stays, and then a fault could not be told
   pub record CannotTell (why : Refused) : Type 0 where
     pub salvaged : Salvaged
     pub file : F
     pub saved : IsSalvagedFile answered remaining contents names out salvaged file
-    pub ends : EndsTelling (answered.IsRemoved out) why
+    pub failed : IsOfTelling why
 
   -- what a refusal to save what can be saved of them and to tell their faults says: nothing is told where nothing was saved
   --   old, new: the stream on which the faults are told

@@ -8,7 +8,7 @@ ghost use Rattle.hprof_tool.specs.Program.{IsMadeOfStream, IsMadeInFile, IsMadeO
 ghost use Rattle.hprof_tool.specs.SalvagedFiles.{IsSalvagedFile};
 ghost use Rattle.hprof_tool.specs.Streams.{RefusesStream, RefusesReport};
 ghost use Rattle.hprof_tool.specs.Tasks.{DoesTask, RefusesTask};
-ghost use Rattle.hprof_tool.specs.Telling.{TellsFaults, IsOfTelling, EndsTelling, RefusesSalvage};
+ghost use Rattle.hprof_tool.specs.Telling.{TellsFaults, RefusesSalvage};
 ghost use Rattle.hprof_tool.specs.Words.{is_answer, answer_making, is_new_file};
 ghost use Rattle.hprof_tool.specs.declared.program.salvaging.Written.{Written};
 
@@ -68,22 +68,8 @@ fn write_new<P: Product, F: Folder, E: Write>(
     answer_outcome(alloc, make_file(alloc, files, product, out, names), errors)
 }
 
-/// Ends with a refusal to tell the faults of parts: where there was no memory for it, the new file is removed.
-fn end_telling<F: Folder>(files: &F, out: &str, why: Refused) -> Refused
-    requires { IsOfTelling why }
-    ensures { EndsTelling ((F.answered files.now).IsRemoved out.now) result }
-{
-    match why {
-        Refused::OutOfMemory => {
-            files.remove_out(out);
-            Refused::OutOfMemory
-        }
-        why => why,
-    }
-}
-
 /// Saves what can be saved of parts in files in a new file, which it gives back, and then tells the faults of the parts on
-/// `output`. Where a fault cannot be told, the new file stays; where there is no memory for it, the file is removed.
+/// `output`. If a fault cannot be told, the new file stays: what was saved is whole.
 fn salvage_and_tell<F: Folder, O: Write>(
     alloc: Global,
     files: &F,
@@ -99,9 +85,9 @@ fn salvage_and_tell<F: Folder, O: Write>(
         output.old output.new) }
 {
     let written = salvage_file(alloc, files, out, names)?;
-    match tell_faults(alloc, &written.salvaged.faults, output) {
+    match tell_faults(&written.salvaged.faults, output) {
         Ok(()) => Ok(written),
-        Err(why) => Err(end_telling(files, out, why)),
+        Err(why) => Err(why),
     }
 }
 

@@ -142,8 +142,7 @@ const WHY_LEN: usize = 64;
 fn tell_fault<O: Write>(fault: FaultedPart, output: &mut O) -> Result<(), Refused>
     ensures told { OnOk result ((line : List ℕ) × IsFaultText (ToolFault.Part fault.index fault.fault) line
         × Appends (O.contents output.old) (O.contents output.new) (line ++ line_end ∷ [])) }
-    ensures kind { IfErr result IsOfTelling }
-    ensures failed { IfErr result (λ why. why ≡ WRITE_FAILED) }
+    ensures failed { IfErr result IsOfTelling }
 {
     let FaultedPart { index, fault } = fault;
     let text = InlineText::<WHY_LEN>::of(fault);
@@ -154,16 +153,11 @@ fn tell_fault<O: Write>(fault: FaultedPart, output: &mut O) -> Result<(), Refuse
     }
 }
 
-/// Tells the faults of parts, one a line. It takes no memory, so nothing but a fault of the output keeps it from telling them.
-pub(crate) fn tell_faults<O: Write>(
-    _alloc: Global,
-    faults: &[FaultedPart],
-    output: &mut O,
-) -> Result<(), Refused>
+/// Tells the faults of parts, one a line. It takes no memory, so a fault of the output alone keeps it from telling them.
+pub(crate) fn tell_faults<O: Write>(faults: &[FaultedPart], output: &mut O) -> Result<(), Refused>
     ensures told { OnOk result ((text : List ℕ) × TellsFaults faults.now text
         × Appends (O.contents output.old) (O.contents output.new) text) }
-    ensures kind { IfErr result IsOfTelling }
-    ensures failed { IfErr result (λ why. why ≡ WRITE_FAILED) }
+    ensures failed { IfErr result IsOfTelling }
 {
     for fault in faults {
         tell_fault(*fault, output)?;

@@ -18,5 +18,5 @@ returns-in-Err-clause-refused g c = inr (record {
   salvaged = c.in_ok-written.written.salvaged;
   file = c.in_ok-written.written.writer;
   saved = c.in_ok-written.ensures.ok;
-  ends = c.end_telling.ensures;
+  failed = c.in-Err.ensures.failed;
 })
