@@ -12,6 +12,7 @@ pub fn call_laws() {
     hprof_edges::laws::one_list_of_edges();
     hprof_edges::laws::more_facts_keep_edges();
     hprof_live::laws::referrers_only_grow();
+    hprof_live::laws::answers_are_of_parts();
     hprof_reach::laws::one_distance_and_path();
     hprof_reach::laws::path_is_shortest();
     hprof_reach::laws::some_distance_and_path();

@@ -10,3 +10,4 @@ pub mod FactsMore
 pub mod Counted
 pub mod Referrers
 pub mod Outcomes
+pub mod OfParts

@@ -26,7 +26,7 @@ use Rattle.hprof_live.specs.declared.live.Live.{Live}
 use Rattle.hprof_live.specs.declared.live.Live.TheVariants as lives
 use Rattle.hprof_live.specs.declared.live_heap.LiveHeap.{LiveHeap}
 use Rattle.hprof_live.specs.Derived.{AddsFact, IsDerived, keeps_of}
-use Rattle.hprof_live.specs.LiveHeap.{BeginsLive, IsAnswer, IsCurrent, IsDerivedOf, LendsHeap, TakesLive}
+use Rattle.hprof_live.specs.LiveHeap.{BeginsLive, IsAnswer, IsCurrent, IsDerivedOf, IsKindOf, LendsHeap, TakesLive}
 use Rattle.hprof_live.specs.LiveHeap.{outcome_of, seen_by}
 
 -- ---- a fault
@@ -132,6 +132,28 @@ answer_so P Q (Err (refusals.Conflict key)) derived lives.Failed holds is all = 
 answer_so P Q (Err refusals.Failed) derived (lives.Is x) holds is all = holds
 answer_so P Q (Err refusals.Failed) derived lives.InConflict holds is all = holds
 answer_so P Q (Err refusals.Failed) derived lives.Failed holds is all = tt
+
+-- which comes, by the heap that is lent
+pub kind_lent : {X : Type 0} (outcome : Result HeapValue Refusal) (lent : Option (Bor Heap)) (answer : X) → LendsHeap outcome (lives.Is lent)
+    → IsKindOf outcome (lives.Is answer)
+kind_lent (Ok value) lent answer lends = tt
+kind_lent (Err refusals.NoParts) lent answer lends = tt
+kind_lent (Err refusals.IdSizes) lent answer lends = lends
+kind_lent (Err (refusals.Conflict key)) lent answer lends = lends
+kind_lent (Err refusals.Failed) lent answer lends = lends
+
+-- and by what is answered
+pub kind_answered : {X : Type 0} (P : IdSize → List FactValue → X → Type 0) (outcome : Result HeapValue Refusal) (answer : Live X)
+    → IsAnswer P outcome answer → IsKindOf outcome answer
+kind_answered P (Ok heap) (lives.Is x) holds = tt
+kind_answered P (Ok heap) lives.InConflict holds = holds
+kind_answered P (Ok heap) lives.Failed holds = holds
+kind_answered P (Err refusals.NoParts) (lives.Is x) holds = tt
+kind_answered P (Err refusals.NoParts) lives.InConflict holds = holds
+kind_answered P (Err refusals.NoParts) lives.Failed holds = holds
+kind_answered P (Err refusals.IdSizes) answer holds = holds
+kind_answered P (Err (refusals.Conflict key)) answer holds = holds
+kind_answered P (Err refusals.Failed) answer holds = holds
 
 -- before any part it is answered of no facts
 pub answer_of_none : {X : Type 0} (P : IdSize → List FactValue → X → Type 0) (outcome : Result HeapValue Refusal) (answer : X)

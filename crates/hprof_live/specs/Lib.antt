@@ -5,3 +5,4 @@ pub mod Waiting
 pub mod Derived
 pub mod Indexed
 pub mod LiveHeap
+pub mod OfParts

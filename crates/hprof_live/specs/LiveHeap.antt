@@ -41,6 +41,15 @@ IsAnswer P (Err (refusals.Conflict key)) lives.InConflict = ⊤
 IsAnswer P (Err refusals.Failed) lives.Failed = ⊤
 IsAnswer P outcome answer = ⊥
 
+-- which of the three comes, whatever is answered: a fault comes first, then two sizes or two contents of a key
+abbrev pub IsKindOf : {X : Type 0} → Result HeapValue Refusal → Live X → Type 0
+IsKindOf (Ok heap) (lives.Is answer) = ⊤
+IsKindOf (Err refusals.NoParts) (lives.Is answer) = ⊤
+IsKindOf (Err refusals.IdSizes) lives.InConflict = ⊤
+IsKindOf (Err (refusals.Conflict key)) lives.InConflict = ⊤
+IsKindOf (Err refusals.Failed) lives.Failed = ⊤
+IsKindOf outcome answer = ⊥
+
 -- the heap so far is lent; before any part there is none
 abbrev pub LendsHeap : Result HeapValue Refusal → Live (Option (Bor Heap)) → Type 0
 LendsHeap (Ok value) (lives.Is (Some heap)) = (size_of heap.now ≡ value.ids) × (facts_of heap.now ≡ value.facts)

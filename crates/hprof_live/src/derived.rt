@@ -1,6 +1,6 @@
 //! What is derived from facts: known layouts, edges, and how many instances there are.
 
-ghost use Rattle.std.specs.Prelude.{◌≡◌, ◌↔◌, ◌≤◌, ◌++◌, ◌∷◌, ℕ, true, false, List, [], Contains, IsTrue, IfOk, OnOk, drop, vec_len};
+ghost use Rattle.std.specs.Prelude.{◌≡◌, ◌↔◌, ◌≤◌, ◌+◌, ◌++◌, ◌∷◌, ℕ, true, false, List, [], Contains, IsTrue, IfOk, OnOk, drop, vec_len};
 ghost use Rattle.hprof_values.specs.declared.ids.IdSize.{IdSize};
 ghost use Rattle.hprof_items.specs.FactValue.{FactValue, Instance, ObjArray, value_of};
 ghost use Rattle.hprof_lists.specs.Lists.{identifiers_of};
@@ -12,7 +12,7 @@ ghost use Rattle.hprof_laying.specs.Known.{HasLayout, Knows};
 ghost use Rattle.hprof_edges.specs.declared.edge.Edge.{Edge};
 ghost use Rattle.hprof_edges.specs.Collecting.{is_edge_wanted};
 ghost use Rattle.hprof_edges.specs.Edges.{AreEdges, AreReferrers};
-ghost use Rattle.hprof_live.specs.Derived.{AddsFact, CanBeLaid, CannotBeLaid, HasLaid, IsDerived, IsDeriving, IsInstanceOf, IsOther, keeps_of};
+ghost use Rattle.hprof_live.specs.Derived.{AddsFact, CanBeLaid, CannotBeLaid, HasLaid, IsDerived, IsDeriving, IsInstanceOf, IsOther, keeps_of, stopped};
 ghost use Rattle.hprof_live.specs.EdgeSet.{edges_in};
 ghost use Rattle.hprof_live.specs.Indexed.{IsIndexOf};
 ghost use Rattle.hprof_live.specs.Number.{IsNumberOf};
@@ -123,6 +123,7 @@ impl Derived {
             → IsDeriving ids facts self.old laid gone → IsDeriving ids facts self.new (laid ++ instance ∷ []) gone) }
         ensures known { IfOk result (λ is_laid. (sizes : IdSize) (facts : List FactValue) → Knows sizes facts self.old.known
             → IsTrue is_laid ↔ HasLayout facts class) }
+        ensures counted { IfOk result (λ is_laid. is_laid ≡ true → self.new.cuts ≡ stopped (self.old.cuts + 1)) }
         ensures unlaid { IfOk result (λ is_laid. is_laid ≡ false → self.new ≡ record self.old { references = self.new.references }) }
         ensures keeps { OnOk result (keeps_of self.new ≡ keeps_of self.old) }
     {

@@ -47,7 +47,7 @@ fn layout_of_none(alloc: Global, class: u64) -> Layout
 }
 
 impl LiveHeap {
-    ghost use Rattle.hprof_live.specs.LiveHeap.{IsAnswer, IsCurrent, KeepsOnly, LendsHeap, RestsAsItIs};
+    ghost use Rattle.hprof_live.specs.LiveHeap.{IsAnswer, IsCurrent, IsKindOf, KeepsOnly, LendsHeap, RestsAsItIs};
     ghost use Rattle.hprof_live.specs.LiveHeap.{Watches, outcome_of, seen_by};
 
     /// A live heap that was given nothing, and keeps the edges to what is wanted. It takes no memory yet.
@@ -109,7 +109,9 @@ impl LiveHeap {
 
     /// How many instances there are whose class has a known layout: each of them is laid once, and counted then.
     pub fn cuts(&self) -> Live<u64>
-        ensures { IsCurrent self.now → IsAnswer (λ ids facts number. IsNumberOf (CanBeLaid facts) number) (outcome_of self.now) result }
+        ensures kind { IsKindOf (outcome_of self.now) result }
+        ensures value { IsCurrent self.now
+            → IsAnswer (λ ids facts number. IsNumberOf (CanBeLaid facts) number) (outcome_of self.now) result }
     {
         match self.so_far() {
             Live::Failed => Live::Failed,
@@ -121,7 +123,8 @@ impl LiveHeap {
 
     /// How many instances there are whose class has no known layout: it misses a class, or the superclasses run in a circle.
     pub fn unresolved(&self) -> Live<u64>
-        ensures { IsCurrent self.now
+        ensures kind { IsKindOf (outcome_of self.now) result }
+        ensures value { IsCurrent self.now
             → IsAnswer (λ ids facts number. IsNumberOf (CannotBeLaid facts) number) (outcome_of self.now) result }
     {
         match self.so_far() {
@@ -148,6 +151,7 @@ impl LiveHeap {
     /// edges to it that are kept. They are lent, and no memory is taken. Nothing that is told of the live heap changes.
     pub fn referrers_now(&mut self, id: u64) -> Live<&[Edge]>
         ensures* rests { sem 𝓛 (RestsAsItIs self.entry) }
+        ensures kind { IsKindOf (outcome_of self.old) result }
         ensures value { Watches self.old id
             → IsAnswer (λ ids facts edges. AreReferrers ids facts id edges.now) (outcome_of self.old) result }
         // Of any identifier: those of the edges to it that are kept.

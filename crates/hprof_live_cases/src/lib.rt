@@ -1,5 +1,5 @@
 //! Tests of live heaps, through public calls: after each fact, in any order, in long chains and in conflict, beside a plain list that is
-//! searched anew; and of layouts in long chains. It has no code of its own.
+//! searched anew; and of layouts in long chains. [`one_fact`] is a caller that meets each premise of their promises.
 #![tactic(auto)]
 
 #[cfg(test)]
@@ -16,6 +16,7 @@ mod indexes;
 mod instance_200;
 #[cfg(test)]
 mod late;
+pub mod one_fact;
 #[cfg(test)]
 mod orders;
 #[cfg(test)]
