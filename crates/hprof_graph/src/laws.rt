@@ -5,5 +5,7 @@ pub use hprof_edges::laws::{
 };
 pub use hprof_histogram::laws::one_histogram;
 pub use hprof_layouts::laws::{more_facts_keep_layouts, one_answer_of_fields, one_layout};
-pub use hprof_live::laws::referrers_only_grow;
-pub use hprof_reach::laws::{one_distance_and_path, path_is_shortest, some_distance_and_path};
+pub use hprof_live::laws::{answers_are_of_parts, referrers_only_grow};
+pub use hprof_reach::laws::{
+    no_distance_no_walk, one_distance_and_path, path_is_shortest, some_distance_and_path,
+};

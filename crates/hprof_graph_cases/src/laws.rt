@@ -15,5 +15,6 @@ pub fn call_laws() {
     hprof_live::laws::answers_are_of_parts();
     hprof_reach::laws::one_distance_and_path();
     hprof_reach::laws::path_is_shortest();
+    hprof_reach::laws::no_distance_no_walk();
     hprof_reach::laws::some_distance_and_path();
 }
