@@ -1,6 +1,6 @@
 //! Graphs that are lists of edges.
 
-use hprof_walks::Graph;
+use hprof_walks::{Graph, WalksOf};
 use std::alloc::AllocError;
 
 /// Edges, each from the one to the other.
@@ -25,4 +25,17 @@ impl Graph for Edges<'_> {
         }
         Ok(())
     }
+}
+
+/// Walks from starts along edges, which are told by both lists.
+pub(crate) struct AlongEdges;
+
+impl WalksOf for AlongEdges {
+    ghost use Rattle.std.specs.Prelude.{ℕ, List, Contains};
+
+    ghost Told = { List ℕ × List (ℕ × ℕ) };
+
+    ghost starts = { λ told node. Contains told.0 node };
+
+    ghost steps = { λ told from to. Contains told.1 (from, to) };
 }

@@ -1,6 +1,6 @@
 //! The laws of the libraries.
 
-use hprof_walks::laws::{Walks, one_distance, one_path, path_is_shortest};
+use hprof_walks::laws::{Walks, no_distance_no_walk, one_distance, one_path, path_is_shortest};
 
 /// Numbers, each of which leads to the next.
 struct Numbers;
@@ -41,4 +41,5 @@ pub fn call_each() {
     one_distance::<Numbers>();
     one_path::<Numbers>();
     path_is_shortest::<Numbers>();
+    no_distance_no_walk::<Numbers>();
 }

@@ -4,7 +4,7 @@ ghost use Rattle.std.specs.Prelude.{IsTrue};
 ghost use Rattle.std.specs.List.Sorted.{IsStrictlyIncreasing};
 
 use crate::expecting::{equal, equal_at, holds};
-use crate::graphs::Edges;
+use crate::graphs::{AlongEdges, Edges};
 use hprof_walks::{Numbered, Search, search};
 use std::alloc::Global;
 use std::process::Abort;
@@ -48,7 +48,7 @@ fn check_path(
     node: u64,
     expected: Option<&[u64]>,
 ) -> Result<(), Fail> {
-    let path = search.path(alloc, node)?;
+    let path = search.path::<AlongEdges>(alloc, node)?;
     equal_at(
         rt,
         node,
@@ -72,7 +72,7 @@ fn path_to<'a>(paths: &'a [(u64, &'a [u64])], node: u64) -> Option<&'a [u64]> {
 fn check(rt: &impl Abort, alloc: Global, case: &Case<'_>) -> Result<(), Fail> {
     let search = searched(rt, alloc, case)?;
     for (node, distance) in case.distances {
-        equal_at(rt, *node, search.distance(*node), *distance);
+        equal_at(rt, *node, search.distance::<AlongEdges>(*node), *distance);
         check_path(rt, alloc, &search, *node, path_to(case.paths, *node))?;
     }
     Ok(())
