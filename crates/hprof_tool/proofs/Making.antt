@@ -86,7 +86,7 @@ module _ {R : Type 0} (left : R → Option (List ℕ)) (health : R → Health) (
         (Some fault) → (parts : List (List ℕ)) → Tell left old parts → IsRefusal (making_of IsText TooLong TakesRoom TakesMemory) (refused_of fault) parts
     refusal (tool.Part index fault) m parts told = part_refusal left health pulls parts old new index fault
         (m.reads.part index fault refl parts told)
-    refusal tool.NoParts m parts told = no_parts_told left old parts ((m.reads.no_parts (λ e. cc)).0 refl) told
+    refusal tool.NoParts m parts told = no_parts_told left old parts (m.reads.no_parts.0 refl) told
     refusal tool.IdSizes m parts told = m.reads.id_sizes refl parts told
     refusal (tool.Conflict key) m parts told = m.reads.conflict key refl parts told
     refusal (tool.Write fault) m parts told =
@@ -147,7 +147,7 @@ module _ {R : Type 0} (left : R → Option (List ℕ)) (health : R → Health) (
         (end, healths.Failed) (Some (tool.Write write_faults.Failed))
     failed_after keeps m = record {
       reads = record {
-        no_parts = λ had. (λ e. absurd cc, λ none. let no = (m.reads.no_parts (λ e. absurd cc)).1 none in absurd cc);
+        no_parts = (λ e. absurd cc, λ none. let no = m.reads.no_parts.1 none in absurd cc);
         id_sizes = λ e. absurd cc;
         conflict = λ key e. absurd cc;
         part = λ index why e. absurd cc;

@@ -70,7 +70,7 @@ module _ {R W : Type 0} (left : R → Option (List ℕ)) (health : R → Health)
       → length old ≡ 0
   stream_no_parts refused (Some after) stops same =
       let none = no_parts_of stops.fault (sym stops.is ∙ same) in
-      ap length ((stops.makes.1.reads.no_parts (λ e. cc)).0 (ap Some none))
+      ap length (stops.makes.1.reads.no_parts.0 (ap Some none))
   stream_no_parts refused None stops same = let no : ⊥ = cc in absurd no
 
   -- what it leaves
