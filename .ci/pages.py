@@ -83,10 +83,10 @@ def examples():
 
 def shown():
     """The commands that README shows, each with its output."""
-    lines = [line[4:] for line in (ROOT / "README.md").read_text().splitlines() if line.startswith("    ")]
-    starts = [place for place, line in enumerate(lines) if line.startswith("$ ")] + [len(lines)]
-    for start, end in zip(starts, starts[1:]):
-        yield lines[start][2:], lines[start + 1:end]
+    for block in re.findall(r"(?m)(?:^    .*\n)+", (ROOT / "README.md").read_text()):
+        for part in re.split(r"(?m)^    \$ ", block)[1:]:
+            command, *output = re.sub(r"(?m)^    ", "", part).splitlines()
+            yield command, output
 
 
 def outputs():
