@@ -47,7 +47,10 @@ pub(crate) fn write_text<W: Target>(text: &str, target: &mut W) -> Result<(), St
 }
 
 /// Writes a line that was made, if there was memory for it. Where it stops some of it was written, from the front.
-pub(crate) fn write_line<W: Target>(line: Result<String, AllocError>, target: &mut W) -> Result<(), Stop>
+pub(crate) fn write_line<W: Target>(
+    line: Result<String, AllocError>,
+    target: &mut W,
+) -> Result<(), Stop>
     requires { W.health target.old ≡ Well }
     ensures bytes { (text : List ℕ) → IfOk line (λ line. string_bytes line ≡ text)
         → WritesText (W.written target.old) (W.written target.new) result text }

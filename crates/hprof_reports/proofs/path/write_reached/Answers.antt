@@ -1,8 +1,8 @@
 use Rattle.std.proofs.Common.{ℕ, List, Some, subst}
 use Rattle.std.specs.Option.{option_map}
 use Rattle.std.proofs.lemmas.Result.{err_from_is_err_and}
-use Rattle.hprof_walks.specs.Search.{distance_in, path_in}
-use Rattle.hprof_reach.specs.Reaching.{IsDistanceFromRoots, IsPathFromRoots}
+use Rattle.hprof_walks.proofs.Told.{distance_in, path_in, tells_distance, tells_path}
+use Rattle.hprof_reach.specs.Reaching.{IsDistanceFromRoots, IsPathFromRoots, IsStart, IsStep}
 use Rattle.hprof_reports.specs.PathText.{distance_line, nodes_text, reached_text}
 use Rattle.hprof_reports.specs.Stopping.{WritesText}
 use Rattle.hprof_reports.proofs.PathTold.{told}
@@ -17,7 +17,8 @@ returns-in_err-path-clause-bytes g c = λ ids facts is.
     let p = err_from_is_err_and c.from_residual.result c.from_residual.ensures.1 in
     let text = reached_text (distance_in search id) (path_in search id) in (
       text,
-      told ids facts id (distance_in search id) (path_in search id) (is.distance id) (is.path id),
+      told ids facts id (distance_in search id) (path_in search id) (tells_distance (IsStart facts) (IsStep ids facts) search is id)
+          (tells_path (IsStart facts) (IsStep ids facts) search is id),
       text_unwritten c.from_residual.result (g.W.Target.written c.args.target.now) p.0 text p.1,
     )
 
