@@ -1,4 +1,4 @@
-use Rattle.std.proofs.Common.{ℕ, List, Some, subst}
+use Rattle.std.proofs.Common.{ℕ, List, Some, None, subst}
 use Rattle.std.specs.Option.{option_map}
 use Rattle.std.proofs.lemmas.Result.{err_from_is_err_and}
 use Rattle.hprof_walks.proofs.Told.{distance_in, path_in, tells_distance, tells_path}
@@ -8,6 +8,7 @@ use Rattle.hprof_reports.specs.Stopping.{WritesText}
 use Rattle.hprof_reports.proofs.PathTold.{told}
 use Rattle.hprof_reports.proofs.TextWriting.{text_stops, text_then, text_unwritten}
 use Rattle.hprof_reports.proofs.path.write_reached.Goals as goal
+use Rattle.hprof_reports.proofs.path.write_reached.Goals.{in_default-via-in-Some+in_default, in_default-via-in_default}
 
 -- memory was wanted before the first line
 pub returns-in_err-path-clause-bytes : goal.returns-in_err-path-clause-bytes
@@ -53,3 +54,26 @@ returns-in_ok-write_line-in-Some-Some-clause-bytes g c = λ ids facts is.
           (subst (λ (list : List ℕ). WritesText mid new c.write_nodes.result (nodes_text list)) c.deref.ensures.value
           c.write_nodes.ensures.bytes),
     )
+
+-- a distance or a path is missing
+pub returns-in_default-clause-bytes : goal.returns-in_default-clause-bytes
+returns-in_default-clause-bytes g c = λ ids facts is.
+    let id = c.args.id in
+    elim c.in_default.branch [
+      | in_default-via-in-Some+in_default w ↦
+          let distance = w.in_default.field-0-0 in (
+            reached_text (Some distance) None,
+            told ids facts id (Some distance) None
+                (subst (IsDistanceFromRoots ids facts id) w.in_default.is-0 (c.distance-distance.ensures ids facts is))
+                (subst (λ path. IsPathFromRoots ids facts id (option_map (λ nodes. nodes.items) path)) w.in_default.is-1
+                (c.in_ok-path.ensures ids facts is)),
+            c.write_text.ensures.bytes,
+          )
+      | in_default-via-in_default w ↦ (
+        reached_text None (option_map (λ nodes. nodes.items) c.in_ok-path.path),
+        told ids facts id None (option_map (λ nodes. nodes.items) c.in_ok-path.path)
+            (subst (IsDistanceFromRoots ids facts id) w.in_default.is-0 (c.distance-distance.ensures ids facts is))
+            (c.in_ok-path.ensures ids facts is),
+        c.write_text.ensures.bytes,
+      )
+    ]
