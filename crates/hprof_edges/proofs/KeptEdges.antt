@@ -9,8 +9,8 @@ use Rattle.hprof_values.specs.declared.ids.IdSize.{IdSize}
 use Rattle.hprof_items.specs.FactValue.{FactValue}
 use Rattle.hprof_edges.specs.declared.edge.Edge.{Edge}
 use Rattle.hprof_edges.specs.declared.edge_list.EdgeList.{EdgeList}
-use Rattle.hprof_laying.specs.declared.reference.Wanted.{Wanted}
-use Rattle.hprof_laying.specs.declared.reference.Wanted.TheVariants as wanted
+use Rattle.hprof_known_layouts.specs.declared.reference.Wanted.{Wanted}
+use Rattle.hprof_known_layouts.specs.declared.reference.Wanted.TheVariants as wanted
 use Rattle.hprof_edges.specs.contracts.edge.EdgeOrd.TheImpl as edge_ord
 use Rattle.hprof_edges.specs.Collecting.{KeepsOf, PutBehind, is_edge_wanted, kept_in, wanted_by}
 use Rattle.hprof_edges.specs.Edges.{AreEdgesFrom, AreReferrers, IsEdge}

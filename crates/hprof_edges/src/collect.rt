@@ -1,10 +1,10 @@
 //! What edges are put into.
 
 ghost use Rattle.std.specs.Prelude.{◌≡◌, ◌++◌, ◌∷◌, [], List, Bool, true, false, filter, OnOk};
-ghost use Rattle.hprof_laying.specs.References.{is_wanted};
+ghost use Rattle.hprof_known_layouts.specs.References.{is_wanted};
 
 use crate::edge::Edge;
-use hprof_laying::Wanted;
+use hprof_known_layouts::Wanted;
 use std::alloc::AllocError;
 
 /// What edges are put into.

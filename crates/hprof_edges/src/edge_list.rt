@@ -4,7 +4,7 @@ ghost use Rattle.std.specs.Prelude.{◌≡◌, []};
 
 use crate::collect::Collect;
 use crate::edge::Edge;
-use hprof_laying::Wanted;
+use hprof_known_layouts::Wanted;
 use std::alloc::{AllocError, Global};
 
 /// Edges, in the order in which they were put.

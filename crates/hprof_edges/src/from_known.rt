@@ -1,9 +1,9 @@
 //! The edges from an identifier, where layouts are known.
 
 ghost use Rattle.std.specs.Prelude.{◌≡◌, List, OnOk};
-ghost use Rattle.hprof_finding.specs.Classes.{HasNoDump};
-ghost use Rattle.hprof_finding.specs.HeapFacts.{facts_of, size_of};
-ghost use Rattle.hprof_laying.specs.Known.{Knows};
+ghost use Rattle.hprof_lookup.specs.Classes.{HasNoDump};
+ghost use Rattle.hprof_lookup.specs.HeapFacts.{facts_of, size_of};
+ghost use Rattle.hprof_known_layouts.specs.Known.{Knows};
 ghost use Rattle.hprof_edges.specs.declared.edge.Edge.{Edge};
 ghost use Rattle.hprof_edges.specs.Collecting.{PutBehind};
 ghost use Rattle.hprof_edges.specs.DumpEdges.{GivenByObject};
@@ -12,9 +12,9 @@ ghost use Rattle.hprof_edges.specs.Edges.{IsEdge};
 use crate::collect::Collect;
 use crate::of_identifier::put_of_class;
 use crate::of_object::object_edges;
-use hprof_finding::{find_object_near, id_size};
 use hprof_heap::Heap;
-use hprof_laying::{KnownLayouts, Reference};
+use hprof_known_layouts::{KnownLayouts, Reference};
+use hprof_lookup::{find_object_near, id_size};
 use std::alloc::AllocError;
 
 /// Where a class dump and an object dump were found last: near it the next ones are looked for. Whatever these places are, the same is

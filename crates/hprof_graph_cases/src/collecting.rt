@@ -5,8 +5,8 @@ use crate::samples::{CLASS_100, heap_of};
 use hprof_edges::{
     Collect, Edge, EdgeList, Via, class_edges, edge_to_class, field_edges, object_edges, sort_edges,
 };
-use hprof_finding::{find_class, find_object};
-use hprof_laying::{Wanted, known_layouts};
+use hprof_known_layouts::{Wanted, known_layouts};
+use hprof_lookup::{find_class, find_object};
 use hprof_values::IdSize;
 use std::test::*;
 

@@ -2,13 +2,13 @@
 
 use crate::expecting::{equal, equal_at};
 use crate::samples::heap_of;
-use hprof_finding::{
-    ClassRow, ObjectRow, class_name, find_class, find_object, id_size, table_facts, table_len,
-};
 use hprof_heap::Table;
 use hprof_items::{Fact, IdSize};
 use hprof_layouts::{Fields, fields};
 use hprof_lists::{ConstantList, FieldList, IdList, StaticList};
+use hprof_lookup::{
+    ClassRow, ObjectRow, class_name, find_class, find_object, id_size, table_facts, table_len,
+};
 use hprof_values::Basic;
 use std::test::*;
 

@@ -6,7 +6,7 @@ pub fn call_laws() {
     hprof_layouts::laws::one_answer_of_fields();
     hprof_layouts::laws::more_facts_keep_layouts();
     hprof_histogram::laws::one_histogram();
-    hprof_laying::laws::dumps_decide_what_is_known();
+    hprof_known_layouts::laws::dumps_decide_what_is_known();
     hprof_edges::laws::dumps_give_edges();
     hprof_edges::laws::edges_in_order();
     hprof_edges::laws::one_list_of_edges();

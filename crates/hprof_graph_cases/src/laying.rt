@@ -2,8 +2,8 @@
 
 use crate::expecting::{equal, equal_at};
 use crate::samples::{CLASS_99, CLASS_99_BELOW, CLASS_100, INSTANCE_200, heap_of};
-use hprof_finding::find_class;
-use hprof_laying::{KnownLayouts, Reference, Wanted, known_layouts, refers};
+use hprof_known_layouts::{KnownLayouts, Reference, Wanted, known_layouts, refers};
+use hprof_lookup::find_class;
 use hprof_values::{Basic, IdSize};
 use std::test::Fail;
 

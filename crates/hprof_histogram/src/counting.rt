@@ -3,15 +3,15 @@
 ghost use Rattle.std.specs.Prelude.{◌≡◌, length, IfOk, IfSome};
 ghost use Rattle.std.specs.Option.{option_map};
 ghost use Rattle.hprof_items.specs.FactValue.{value_of};
-ghost use Rattle.hprof_finding.specs.HeapFacts.{facts_of, size_of};
+ghost use Rattle.hprof_lookup.specs.HeapFacts.{facts_of, size_of};
 ghost use Rattle.hprof_histogram.specs.Histogram.{object_kind, size_of_object};
 ghost use Rattle.hprof_histogram.specs.CountedKinds.{IsTally};
 
 use crate::counted_kinds::CountedKinds;
 use crate::row::Kind;
-use hprof_finding::{id_size, table_facts, table_len};
 use hprof_heap::{Heap, Table};
 use hprof_items::Fact;
+use hprof_lookup::{id_size, table_facts, table_len};
 use hprof_values::IdSize;
 use std::alloc::{AllocError, Global};
 

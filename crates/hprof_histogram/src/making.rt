@@ -1,15 +1,15 @@
 //! The histogram of a heap.
 
 ghost use Rattle.std.specs.Prelude.{IfOk};
-ghost use Rattle.hprof_finding.specs.HeapFacts.{facts_of, size_of};
+ghost use Rattle.hprof_lookup.specs.HeapFacts.{facts_of, size_of};
 ghost use Rattle.hprof_histogram.specs.Histogram.{IsHistogram};
 
 use crate::counting::count_objects;
 use crate::gathering::rows_of;
 use crate::row::Row;
 use crate::sorting::sort_rows;
-use hprof_finding::id_size;
 use hprof_heap::Heap;
+use hprof_lookup::id_size;
 use std::alloc::{AllocError, Global};
 
 /// How many objects of each kind a heap has, and how many bytes they have. Instances and arrays of objects are counted

@@ -2,14 +2,14 @@
 #![tactic(auto)]
 
 mod chain;
+mod class_layout;
 mod cutting;
 mod field_value;
 pub mod laws;
-mod laying;
 mod object_fields;
 mod slot;
 
+pub use class_layout::layout;
 pub use field_value::{FieldValue, Fields};
-pub use laying::layout;
 pub use object_fields::fields;
 pub use slot::{Layout, Slot};

@@ -11,7 +11,7 @@ use Rattle.hprof_rows.specs.declared.table.Table.TheVariants as tables
 use Rattle.hprof_rows.specs.Facts.{Has}
 use Rattle.hprof_rows.specs.Tables.{facts_of_table, number_of_table, stands_in}
 use Rattle.hprof_rows.proofs.Picking.{picked}
-use Rattle.hprof_laying.specs.Known.{HasLayout}
+use Rattle.hprof_known_layouts.specs.Known.{HasLayout}
 use Rattle.hprof_edges.proofs.PutTogether.{nothing_there}
 use Rattle.hprof_live.specs.declared.derived.Derived.{Derived}
 use Rattle.hprof_live.specs.Derived.{CanBeLaid, CannotBeLaid, IsDerived, IsInstance}

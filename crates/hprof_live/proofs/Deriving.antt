@@ -7,9 +7,9 @@ use Rattle.std.proofs.lemmas.List.Elements.{Contains-append_cases, Contains-appe
 use Rattle.hprof_values.specs.declared.ids.IdSize.{IdSize}
 use Rattle.hprof_items.specs.FactValue.{FactValue, Instance}
 use Rattle.hprof_rows.specs.Facts.{Has}
-use Rattle.hprof_laying.specs.declared.reference.Reference.{Reference}
-use Rattle.hprof_laying.specs.Known.{HasLayout, Knows}
-use Rattle.hprof_laying.proofs.Wakings.{distinct_push}
+use Rattle.hprof_known_layouts.specs.declared.reference.Reference.{Reference}
+use Rattle.hprof_known_layouts.specs.Known.{HasLayout, Knows}
+use Rattle.hprof_known_layouts.proofs.Wakings.{distinct_push}
 use Rattle.hprof_edges.specs.declared.edge.Edge.{Edge}
 use Rattle.hprof_edges.specs.Collecting.{PutBehind}
 use Rattle.hprof_edges.specs.DumpEdges.{IsFieldEdge}

@@ -6,9 +6,9 @@ use Rattle.hprof_values.specs.declared.ids.IdSize.{IdSize}
 use Rattle.hprof_items.specs.FactValue.{FactValue, Instance, ObjArray}
 use Rattle.hprof_rows.specs.Conflict.{IsConsistent}
 use Rattle.hprof_rows.specs.Facts.{Has}
-use Rattle.hprof_finding.specs.Classes.{fact_of_dump}
+use Rattle.hprof_lookup.specs.Classes.{fact_of_dump}
 use Rattle.hprof_layouts.proofs.MoreFacts.{known_stays}
-use Rattle.hprof_laying.specs.Known.{HasLayout}
+use Rattle.hprof_known_layouts.specs.Known.{HasLayout}
 use Rattle.hprof_edges.specs.declared.edge.Edge.{Edge}
 use Rattle.hprof_edges.specs.DumpEdges.{GivenByClass, GivenByObject, IsFieldEdge, IsObjectEdge}
 use Rattle.hprof_edges.specs.Edges.{IsEdge}

@@ -11,20 +11,20 @@ use Rattle.hprof_items.specs.declared.fact.Fact.{Fact}
 use Rattle.hprof_items.specs.declared.fact.Fact.TheVariants as facts
 use Rattle.hprof_items.specs.FactValue.{FactValue, Class, Instance, ObjArray, value_of}
 use Rattle.hprof_rows.specs.declared.key.Key.TheVariants as keys
-use Rattle.hprof_finding.specs.Classes.{ClassDump, HasDump, HasNoDump, fact_of_dump}
-use Rattle.hprof_laying.specs.declared.known.KnownLayouts.{KnownLayouts}
-use Rattle.hprof_laying.specs.declared.reference.Reference.{Reference}
-use Rattle.hprof_laying.specs.Known.{AreWoken, HasDumpMore, HasLayout, Knows}
-use Rattle.hprof_laying.specs.Waking.{put}
-use Rattle.hprof_laying.proofs.KnownPlans.{knows_same}
-use Rattle.hprof_laying.proofs.MoreDumps.{known_stays}
-use Rattle.hprof_laying.proofs.Wakings.{distinct_push, put-here, put-other}
+use Rattle.hprof_lookup.specs.Classes.{ClassDump, HasDump, HasNoDump, fact_of_dump}
+use Rattle.hprof_known_layouts.specs.declared.known.KnownLayouts.{KnownLayouts}
+use Rattle.hprof_known_layouts.specs.declared.reference.Reference.{Reference}
+use Rattle.hprof_known_layouts.specs.Known.{AreWoken, HasDumpMore, HasLayout, Knows}
+use Rattle.hprof_known_layouts.specs.Waking.{put}
+use Rattle.hprof_known_layouts.proofs.KnownPlans.{knows_same}
+use Rattle.hprof_known_layouts.proofs.MoreDumps.{known_stays}
+use Rattle.hprof_known_layouts.proofs.Wakings.{distinct_push, put-here, put-other}
 use Rattle.hprof_edges.specs.declared.edge.Edge.{Edge}
 use Rattle.hprof_edges.specs.Collecting.{PutBehind}
 use Rattle.hprof_edges.specs.DumpEdges.{IsClassEdge, IsEdgeToClass, IsElementEdge}
 use Rattle.hprof_edges.proofs.PutTogether.{put_nothing}
 use Rattle.hprof_edges.proofs.TableEdges.{GivesByClass}
-use Rattle.hprof_finding.proofs.ClassFacts.{dump_in}
+use Rattle.hprof_lookup.proofs.ClassFacts.{dump_in}
 use Rattle.hprof_live.specs.declared.derived.Derived.{Derived}
 use Rattle.hprof_live.specs.declared.edge_set.EdgeSet.{EdgeSet}
 use Rattle.hprof_live.specs.declared.waiting.WaitingInstances.{WaitingInstances}

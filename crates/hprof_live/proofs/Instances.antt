@@ -4,12 +4,12 @@ use Rattle.hprof_items.specs.FactValue.{FactValue, Instance}
 use Rattle.hprof_rows.specs.declared.key.Key.TheVariants as keys
 use Rattle.hprof_rows.specs.Conflict.{IsConsistent}
 use Rattle.hprof_rows.specs.Facts.{Has}
-use Rattle.hprof_finding.proofs.ClassFacts.{one_dump_each}
+use Rattle.hprof_lookup.proofs.ClassFacts.{one_dump_each}
 use Rattle.hprof_layouts.specs.declared.slot.Slot.{Slot}
 use Rattle.hprof_layouts.specs.Layout.{IsKnown, LayoutValue, IsLayout, Known, Missing, Cyclic}
 use Rattle.hprof_layouts.proofs.Layouts.{at_least_one, at_most_one}
 use Rattle.hprof_layouts.proofs.MoreFacts.{known_stays}
-use Rattle.hprof_laying.specs.Known.{HasLayout}
+use Rattle.hprof_known_layouts.specs.Known.{HasLayout}
 use Rattle.hprof_live.specs.Derived.{AddsFact, CanBeLaid, IsInstanceOf}
 
 -- ---- one dump each

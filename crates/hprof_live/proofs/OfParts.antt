@@ -13,10 +13,10 @@ use Rattle.hprof_heap.specs.State.{IsLeastOf}
 use Rattle.hprof_heap.proofs.Gathering.{gathered_stands}
 use Rattle.hprof_heap.proofs.Least.{no_least}
 use Rattle.hprof_heap.proofs.Told.{told}
-use Rattle.hprof_finding.specs.Classes.{fact_of_dump}
+use Rattle.hprof_lookup.specs.Classes.{fact_of_dump}
 use Rattle.hprof_layouts.specs.Layout.{LayoutValue, IsLayout, Known, Missing, Cyclic}
 use Rattle.hprof_layouts.proofs.MoreFacts.{chain_stays, cyclic_stays, known_stays}
-use Rattle.hprof_laying.specs.Known.{HasLayout}
+use Rattle.hprof_known_layouts.specs.Known.{HasLayout}
 use Rattle.hprof_edges.specs.declared.edge.Edge.{Edge}
 use Rattle.hprof_edges.specs.Edges.{AreEdges}
 use Rattle.hprof_edges.proofs.MoreFacts.{edge_stays}

@@ -20,7 +20,7 @@ use Rattle.hprof_heap.specs.declared.standing.Standing.TheVariants as standings
 use Rattle.hprof_heap.specs.Gathering.{Begins, TellsStated, Gathered, IsStated, Takes, TakesHeap, answer_of, begun_heap, gathered, has_other_size, mark_after, marked, same_size}
 use Rattle.hprof_heap.specs.Gathering.{standing_of_answer, unconflicted}
 use Rattle.hprof_heap.specs.Heap.{heap_of}
-use Rattle.hprof_finding.specs.HeapFacts.{facts_of, size_of}
+use Rattle.hprof_lookup.specs.HeapFacts.{facts_of, size_of}
 use Rattle.hprof_live.specs.declared.derived.Derived.{Derived}
 use Rattle.hprof_live.specs.declared.live.Live.{Live}
 use Rattle.hprof_live.specs.declared.live.Live.TheVariants as lives

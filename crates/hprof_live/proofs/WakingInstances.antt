@@ -6,8 +6,8 @@ use Rattle.std.proofs.lemmas.Bool.{cases_eq}
 use Rattle.std.proofs.lemmas.List.Elements.{Contains-append_cases, Contains-append_left, Contains-append_right, Contains-push_cases}
 use Rattle.hprof_values.specs.declared.ids.IdSize.{IdSize}
 use Rattle.hprof_items.specs.FactValue.{FactValue}
-use Rattle.hprof_laying.specs.Waking.{put}
-use Rattle.hprof_laying.proofs.Wakings.{put-here, put-other}
+use Rattle.hprof_known_layouts.specs.Waking.{put}
+use Rattle.hprof_known_layouts.proofs.Wakings.{put-here, put-other}
 use Rattle.hprof_edges.proofs.EdgeMembers.{one_there}
 use Rattle.hprof_edges.proofs.PutTogether.{nothing_there}
 use Rattle.hprof_live.specs.declared.derived.Derived.{Derived}

@@ -8,8 +8,8 @@ use Rattle.hprof_items.specs.FactValue.{FactValue, Instance, ObjArray}
 use Rattle.hprof_rows.specs.Conflict.{IsConsistent}
 use Rattle.hprof_rows.specs.Facts.{Has, SameFacts}
 use Rattle.hprof_rows.specs.Stating.{IsNewAmong}
-use Rattle.hprof_finding.specs.Objects.{HasInstance}
-use Rattle.hprof_laying.specs.Known.{HasLayout, Knows}
+use Rattle.hprof_lookup.specs.Objects.{HasInstance}
+use Rattle.hprof_known_layouts.specs.Known.{HasLayout, Knows}
 use Rattle.hprof_edges.specs.declared.edge.Edge.{Edge}
 use Rattle.hprof_edges.specs.Collecting.{is_edge_wanted}
 use Rattle.hprof_edges.specs.DumpEdges.{GivenByClass, IsEdgeToClass, IsElementEdge, IsFieldEdge}

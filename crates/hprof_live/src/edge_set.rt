@@ -3,7 +3,7 @@
 ghost use Rattle.std.specs.Prelude.{◌≡◌, ◌↔◌, List, [], Contains};
 
 use hprof_edges::{Collect, Edge};
-use hprof_laying::Wanted;
+use hprof_known_layouts::Wanted;
 use std::alloc::{AllocError, Global};
 
 /// The edges to what is wanted of those that it was given, in whatever order.

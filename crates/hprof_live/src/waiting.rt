@@ -1,7 +1,7 @@
 //! Instances that wait for the layout of their class.
 
 ghost use Rattle.std.specs.Prelude.{◌≡◌, ◌∷◌, ◌++◌, ℕ, List, [], IfNone, IfSome, OnOk};
-ghost use Rattle.hprof_laying.specs.Waking.{put};
+ghost use Rattle.hprof_known_layouts.specs.Waking.{put};
 ghost use Rattle.hprof_live.specs.Waiting.{waiting_of};
 
 use std::alloc::{AllocError, Global};

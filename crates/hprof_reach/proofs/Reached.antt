@@ -3,8 +3,8 @@ use Rattle.std.specs.Prelude.{◌↔◌, Contains}
 use Rattle.std.proofs.Common.{◌≡◌, ◌⊎◌, ℕ, List, [], inl, inr, arith, subst}
 use Rattle.hprof_values.specs.declared.ids.IdSize.{IdSize}
 use Rattle.hprof_items.specs.FactValue.{FactValue}
-use Rattle.hprof_walks.specs.declared.kept_search.Search.{Search}
-use Rattle.hprof_walks.specs.Search.{IsSearch}
+use Rattle.hprof_search.specs.declared.kept_search.Search.{Search}
+use Rattle.hprof_search.specs.Search.{IsSearch}
 use Rattle.hprof_reach.specs.Nodes.{IsClassNode, IsObjectNode}
 use Rattle.hprof_reach.specs.Reaching.{IsNode, IsRooted, IsStart, IsStep, Leads}
 use Rattle.hprof_reach.proofs.SameWalks.{same_search}

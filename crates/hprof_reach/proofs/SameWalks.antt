@@ -1,9 +1,9 @@
 -- Walks over the same starts and steps are the same walks, however these are told.
 use Rattle.std.specs.Prelude.{◌↔◌}
 use Rattle.std.proofs.Common.{ℕ, zero, suc, List}
-use Rattle.hprof_walks.specs.declared.kept_search.Search.{Search}
-use Rattle.hprof_walks.specs.Search.{IsSearch, node_at, node_before, nodes_found}
-use Rattle.hprof_walks.specs.Walks.{IsDistance, IsFoundFrom, IsLeastBefore, IsOrder, Reaches}
+use Rattle.hprof_search.specs.declared.kept_search.Search.{Search}
+use Rattle.hprof_search.specs.Search.{IsSearch, node_at, node_before, nodes_found}
+use Rattle.hprof_search.specs.Walks.{IsDistance, IsFoundFrom, IsLeastBefore, IsOrder, Reaches}
 
 module _ (Starts Others : ℕ → Type 0) (Steps OtherSteps : ℕ → ℕ → Type 0) (starts : (node : ℕ) → Starts node → Others node)
     (steps : (from to : ℕ) → Steps from to → OtherSteps from to) where

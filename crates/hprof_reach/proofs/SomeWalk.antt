@@ -8,7 +8,7 @@ use Rattle.std.proofs.lemmas.Cmp.{nat_eq_equiv}
 use Rattle.std.proofs.lemmas.List.{reverse-reverse}
 use Rattle.std.proofs.lemmas.List.Folds.{list_any-append}
 use Rattle.std.proofs.lemmas.Map.Made.{length-le_from_is_member}
-use Rattle.hprof_walks.specs.Walks.{Reaches, IsDistance, HasDistance, IsLeastBefore, IsWayBack, IsPath}
+use Rattle.hprof_search.specs.Walks.{Reaches, IsDistance, HasDistance, IsLeastBefore, IsWayBack, IsPath}
 
 -- ---- lists of numbers
 

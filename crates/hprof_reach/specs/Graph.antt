@@ -1,8 +1,8 @@
 -- What holds of a heap that is gone over as a graph; no public contract speaks of it.
 use Rattle.std.specs.Prelude.{◌↔◌, ℕ, List, Contains}
-use Rattle.hprof_finding.specs.HeapFacts.{facts_of, size_of}
-use Rattle.hprof_laying.specs.Known.{Knows}
-use Rattle.hprof_walks.specs.Numbered.{nodes_in}
+use Rattle.hprof_lookup.specs.HeapFacts.{facts_of, size_of}
+use Rattle.hprof_known_layouts.specs.Known.{Knows}
+use Rattle.hprof_search.specs.Numbered.{nodes_in}
 use Rattle.hprof_reach.specs.declared.heap_graph.HeapGraph.{HeapGraph}
 use Rattle.hprof_reach.specs.Nodes.{IsClassNode}
 

@@ -6,12 +6,12 @@ use Rattle.hprof_values.specs.declared.root.Root.{Root}
 use Rattle.hprof_values.specs.declared.root.Root.TheVariants as roots
 use Rattle.hprof_items.specs.FactValue.{FactValue, Rooted}
 use Rattle.hprof_rows.specs.Facts.{Has}
-use Rattle.hprof_finding.specs.Classes.{ClassDump, HasDump}
-use Rattle.hprof_finding.specs.Objects.{IsObject}
+use Rattle.hprof_lookup.specs.Classes.{ClassDump, HasDump}
+use Rattle.hprof_lookup.specs.Objects.{IsObject}
 use Rattle.hprof_edges.specs.declared.edge.Via.{Via}
 use Rattle.hprof_edges.specs.Edges.{IsEdge}
-use Rattle.hprof_walks.specs.Search.{IsSearch}
-use Rattle.hprof_walks.specs.Walks.{HasDistance, IsPath}
+use Rattle.hprof_search.specs.Search.{IsSearch}
+use Rattle.hprof_search.specs.Walks.{HasDistance, IsPath}
 use Rattle.hprof_reach.specs.declared.reach.Reach.{Reach}
 
 -- the identifier has a class dump, or an object dump

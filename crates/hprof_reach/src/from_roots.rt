@@ -5,7 +5,7 @@ ghost use Rattle.hprof_values.specs.declared.ids.IdSize.{IdSize};
 ghost use Rattle.hprof_items.specs.FactValue.{FactValue};
 ghost use Rattle.hprof_reach.specs.Reaching.{IsStart, IsStep};
 
-use hprof_walks::WalksOf;
+use hprof_search::WalksOf;
 
 /// Walks from the nodes that roots keep alive, along edges to nodes, as facts tell them.
 pub(crate) struct FromRoots;

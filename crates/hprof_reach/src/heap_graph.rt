@@ -3,8 +3,8 @@
 use crate::targets::Targets;
 use hprof_edges::{Near, known_edges, known_object_edges};
 use hprof_heap::Heap;
-use hprof_laying::{KnownLayouts, Reference};
-use hprof_walks::{Graph, Numbered};
+use hprof_known_layouts::{KnownLayouts, Reference};
+use hprof_search::{Graph, Numbered};
 use std::alloc::AllocError;
 use std::mem::swap;
 
@@ -24,7 +24,7 @@ pub(crate) struct HeapGraph<'h> {
 
 impl<'h> HeapGraph<'h> {
     ghost use Rattle.std.specs.Prelude.{◌≡◌, ◌↔◌, ◌++◌, List, [], map, OnOk};
-    ghost use Rattle.hprof_finding.specs.HeapFacts.{facts_of, size_of};
+    ghost use Rattle.hprof_lookup.specs.HeapFacts.{facts_of, size_of};
     ghost use Rattle.hprof_edges.specs.declared.edge.Edge.{Edge};
     ghost use Rattle.hprof_edges.specs.Collecting.{PutBehind};
     ghost use Rattle.hprof_edges.specs.Edges.{IsEdge};
@@ -63,7 +63,7 @@ impl<'h> HeapGraph<'h> {
 }
 
 impl<'h> Graph for HeapGraph<'h> {
-    ghost use Rattle.hprof_finding.specs.HeapFacts.{facts_of, size_of};
+    ghost use Rattle.hprof_lookup.specs.HeapFacts.{facts_of, size_of};
     ghost use Rattle.hprof_reach.specs.Graph.{TellsEdges};
     ghost use Rattle.hprof_reach.specs.Reaching.{Leads};
 

@@ -4,7 +4,7 @@ ghost use Rattle.std.specs.Prelude.{◌≡◌, ◌+◌, ◌<◌, ◌≤◌, ℕ,
 ghost use Rattle.hprof_values.specs.declared.ids.IdSize.{IdSize};
 ghost use Rattle.hprof_items.specs.FactValue.{FactValue};
 ghost use Rattle.hprof_rows.specs.Conflict.{IsConsistent};
-ghost use Rattle.hprof_walks.specs.Walks.{IsLeastBefore, IsWalk};
+ghost use Rattle.hprof_search.specs.Walks.{IsLeastBefore, IsWalk};
 ghost use Rattle.hprof_reach.specs.Reaching.{IsDistanceFromRoots, IsPathFromRoots, IsStart, IsStep};
 
 /// An identifier has one distance, or none, and one path, or none.

@@ -2,15 +2,15 @@
 
 ghost use Rattle.std.specs.Prelude.{◌≡◌, ◌≢◌, ◌↔◌, ◌⊎◌, ℕ, IfOk, OnOk, Contains};
 ghost use Rattle.std.specs.List.Sorted.{IsStrictlyIncreasing};
-ghost use Rattle.hprof_finding.specs.HeapFacts.{facts_of};
-ghost use Rattle.hprof_finding.specs.ObjectRow.{fact_of_object};
-ghost use Rattle.hprof_finding.specs.Objects.{IsObject};
+ghost use Rattle.hprof_lookup.specs.HeapFacts.{facts_of};
+ghost use Rattle.hprof_lookup.specs.ObjectRow.{fact_of_object};
+ghost use Rattle.hprof_lookup.specs.Objects.{IsObject};
 ghost use Rattle.hprof_reach.specs.Nodes.{IsClassNode, IsObjectNode};
 ghost use Rattle.hprof_reach.specs.Reaching.{IsNode};
 
-use hprof_finding::{ObjectRow, table_facts, table_len, to_class_row, to_object_row};
 use hprof_heap::{Heap, Table};
 use hprof_items::Fact;
+use hprof_lookup::{ObjectRow, table_facts, table_len, to_class_row, to_object_row};
 use std::alloc::{AllocError, Global};
 
 /// Puts an identifier behind others, but for 0.

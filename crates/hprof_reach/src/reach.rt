@@ -4,7 +4,7 @@ ghost use Rattle.std.specs.Prelude.{ℕ, List, IfOk};
 ghost use Rattle.std.specs.Option.{option_map};
 ghost use Rattle.hprof_values.specs.declared.ids.IdSize.{IdSize};
 ghost use Rattle.hprof_items.specs.FactValue.{FactValue};
-ghost use Rattle.hprof_finding.specs.HeapFacts.{facts_of, size_of};
+ghost use Rattle.hprof_lookup.specs.HeapFacts.{facts_of, size_of};
 ghost use Rattle.hprof_reach.specs.Reaching.{IsDistanceFromRoots, IsPathFromRoots, IsReach};
 
 use crate::from_roots::FromRoots;
@@ -14,8 +14,8 @@ use crate::starts::starts_of;
 use crate::targets::Targets;
 use hprof_edges::Near;
 use hprof_heap::Heap;
-use hprof_laying::known_layouts;
-use hprof_walks::{Numbered, Search, search};
+use hprof_known_layouts::known_layouts;
+use hprof_search::{Numbered, Search, search};
 use std::alloc::{AllocError, Global};
 
 /// How the classes and objects of a heap are reached from its roots.

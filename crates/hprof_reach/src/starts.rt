@@ -1,12 +1,12 @@
 //! What roots keep alive.
 
 ghost use Rattle.std.specs.Prelude.{◌≡◌, ◌↔◌, ℕ, IfOk, Contains};
-ghost use Rattle.hprof_finding.specs.HeapFacts.{facts_of};
+ghost use Rattle.hprof_lookup.specs.HeapFacts.{facts_of};
 ghost use Rattle.hprof_reach.specs.Reaching.{IsRooted, root_id};
 
-use hprof_finding::{table_facts, table_len};
 use hprof_heap::{Heap, Table};
 use hprof_items::Fact;
+use hprof_lookup::{table_facts, table_len};
 use hprof_values::Root;
 use std::alloc::{AllocError, Global};
 

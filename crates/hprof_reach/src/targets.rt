@@ -1,7 +1,7 @@
 //! What edges lead to.
 
 use hprof_edges::{Collect, Edge};
-use hprof_laying::Wanted;
+use hprof_known_layouts::Wanted;
 use std::alloc::AllocError;
 
 /// The targets of edges that were put, in that order.

@@ -1,6 +1,6 @@
 //! Graphs that are lists of edges.
 
-use hprof_walks::{Graph, WalksOf};
+use hprof_search::{Graph, WalksOf};
 use std::alloc::AllocError;
 
 /// Edges, each from the one to the other.

@@ -1,6 +1,6 @@
 //! The laws of the libraries.
 
-use hprof_walks::laws::{Walks, no_distance_no_walk, one_distance, one_path, path_is_shortest};
+use hprof_search::laws::{Walks, no_distance_no_walk, one_distance, one_path, path_is_shortest};
 
 /// Numbers, each of which leads to the next.
 struct Numbers;

@@ -5,7 +5,7 @@ ghost use Rattle.std.specs.List.Sorted.{IsStrictlyIncreasing};
 
 use crate::expecting::{equal, equal_at, holds};
 use crate::graphs::{AlongEdges, Edges};
-use hprof_walks::{Numbered, Search, search};
+use hprof_search::{Numbered, Search, search};
 use std::alloc::Global;
 use std::process::Abort;
 use std::test::*;

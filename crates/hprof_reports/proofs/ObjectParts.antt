@@ -4,12 +4,12 @@ use Rattle.std.specs.Prelude.{IfNone, IfSome}
 use Rattle.std.specs.Option.{option_map}
 use Rattle.hprof_items.specs.FactValue.{FactValue}
 use Rattle.hprof_rows.specs.Facts.{Has}
-use Rattle.hprof_finding.specs.declared.class_row.ClassRow.{ClassRow}
-use Rattle.hprof_finding.specs.declared.object_row.ObjectRow.{ObjectRow}
-use Rattle.hprof_finding.specs.ClassRow.{dump_of}
-use Rattle.hprof_finding.specs.Classes.{HasDump, HasNoDump}
-use Rattle.hprof_finding.specs.ObjectRow.{fact_of_object}
-use Rattle.hprof_finding.specs.Objects.{IsObject, HasNoObject}
+use Rattle.hprof_lookup.specs.declared.class_row.ClassRow.{ClassRow}
+use Rattle.hprof_lookup.specs.declared.object_row.ObjectRow.{ObjectRow}
+use Rattle.hprof_lookup.specs.ClassRow.{dump_of}
+use Rattle.hprof_lookup.specs.Classes.{HasDump, HasNoDump}
+use Rattle.hprof_lookup.specs.ObjectRow.{fact_of_object}
+use Rattle.hprof_lookup.specs.Objects.{IsObject, HasNoObject}
 use Rattle.hprof_reports.specs.ObjectText.{IsClassFound, IsObjectFound}
 
 -- the class dump that a look-up found, if there is one

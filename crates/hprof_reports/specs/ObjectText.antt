@@ -13,8 +13,8 @@ use Rattle.hprof_lists.specs.Value.{constant_of, static_of, field_of}
 use Rattle.hprof_items.specs.FactValue.{FactValue, Instance, ObjArray, PrimArray}
 use Rattle.hprof_rows.specs.Conflict.{IsConsistent}
 use Rattle.hprof_rows.specs.Facts.{Has}
-use Rattle.hprof_finding.specs.Classes.{ClassDump, HasDump, HasNoDump}
-use Rattle.hprof_finding.specs.Objects.{IsObject, HasNoObject}
+use Rattle.hprof_lookup.specs.Classes.{ClassDump, HasDump, HasNoDump}
+use Rattle.hprof_lookup.specs.Objects.{IsObject, HasNoObject}
 use Rattle.hprof_layouts.specs.declared.field_value.FieldValue.{FieldValue}
 use Rattle.hprof_layouts.specs.Fields.{FieldsValue, Values, Missing, Cyclic, WidthDiffers, AreFields}
 use Rattle.hprof_naming.specs.Naming.{Naming, IsNaming}

@@ -2,7 +2,7 @@
 use Rattle.std.proofs.Common.{◌≡◌, ℕ, List, Option, sym, ap, ◌∙◌}
 use Rattle.hprof_values.specs.declared.ids.IdSize.{IdSize}
 use Rattle.hprof_items.specs.FactValue.{FactValue}
-use Rattle.hprof_walks.proofs.OneWalk.{one_distance, one_path}
+use Rattle.hprof_search.proofs.OneWalk.{one_distance, one_path}
 use Rattle.hprof_reach.specs.Reaching.{IsStart, IsStep}
 use Rattle.hprof_reports.specs.PathText.{IsPathText, reached_text}
 

@@ -2,16 +2,16 @@
 
 ghost use Rattle.std.specs.Prelude.{◌≡◌, ◌+◌, ◌<◌, ◌^◌, IfOk, length, string_bytes};
 ghost use Rattle.hprof_lists.specs.Lists.{constants_left, statics_left, fields_left};
-ghost use Rattle.hprof_finding.specs.HeapFacts.{facts_of, size_of};
-ghost use Rattle.hprof_finding.specs.ClassRow.{dump_of};
+ghost use Rattle.hprof_lookup.specs.HeapFacts.{facts_of, size_of};
+ghost use Rattle.hprof_lookup.specs.ClassRow.{dump_of};
 ghost use Rattle.hprof_naming.specs.Naming.{IsNaming, Naming};
 ghost use Rattle.hprof_reports.specs.ObjectText.{class_line, constant_line, line_from_signers, line_to_loader, own_line, static_line};
 
 use crate::lines::Lines;
 use crate::shown::{bits_text, type_word};
-use hprof_finding::{ClassRow, id_size};
 use hprof_heap::Heap;
 use hprof_lists::{Constant, Constants, Field, OwnFields, Static, Statics};
+use hprof_lookup::{ClassRow, id_size};
 use hprof_naming::{class_label, name_text};
 use hprof_values::IdSize;
 use std::alloc::{AllocError, Global};

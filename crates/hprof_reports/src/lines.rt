@@ -2,7 +2,7 @@
 
 ghost use Rattle.std.specs.Prelude.{◌≡◌, IfOk, List, ℕ, string_bytes};
 ghost use Rattle.hprof_devices.specs.declared.health.Health.TheVariants.{Well};
-ghost use Rattle.hprof_finding.specs.HeapFacts.{facts_of};
+ghost use Rattle.hprof_lookup.specs.HeapFacts.{facts_of};
 ghost use Rattle.hprof_naming.specs.Naming.{IsNaming, Naming};
 ghost use Rattle.hprof_reports.specs.Line.{text_of_lines};
 ghost use Rattle.hprof_reports.specs.Stopping.{LeavesTarget, WritesText};

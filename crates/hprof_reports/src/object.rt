@@ -4,9 +4,9 @@ ghost use Rattle.std.specs.Prelude.{◌≡◌, ℕ, List, IfOk, string_bytes};
 ghost use Rattle.std.specs.Option.{option_map};
 ghost use Rattle.hprof_lists.specs.Lists.{identifiers_of};
 ghost use Rattle.hprof_devices.specs.declared.health.Health.TheVariants.{Well};
-ghost use Rattle.hprof_finding.specs.HeapFacts.{facts_of, size_of};
-ghost use Rattle.hprof_finding.specs.ClassRow.{dump_of};
-ghost use Rattle.hprof_finding.specs.ObjectRow.{fact_of_object};
+ghost use Rattle.hprof_lookup.specs.HeapFacts.{facts_of, size_of};
+ghost use Rattle.hprof_lookup.specs.ClassRow.{dump_of};
+ghost use Rattle.hprof_lookup.specs.ObjectRow.{fact_of_object};
 ghost use Rattle.hprof_layouts.specs.Fields.{AreFields, FieldsValue, fields_value};
 ghost use Rattle.hprof_naming.specs.Naming.{IsNaming, Naming};
 ghost use Rattle.hprof_reports.specs.ObjectText.{IsObjectText, class_text, constants_text, elements_text, fields_text, found_text};
@@ -19,10 +19,10 @@ use crate::lines::{write_line, write_lines};
 use crate::object_lines::{ElementLines, FieldLines, elements_line, instance_line, values_line};
 use hprof_devices::Target;
 use hprof_engine::Stop;
-use hprof_finding::{ClassRow, ObjectRow, find_class, find_object, id_size};
 use hprof_heap::Heap;
 use hprof_layouts::{Fields, fields};
 use hprof_lists::IdList;
+use hprof_lookup::{ClassRow, ObjectRow, find_class, find_object, id_size};
 use std::alloc::{AllocError, Global};
 
 /// Writes a line for each constant of a class.

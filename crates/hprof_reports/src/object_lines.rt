@@ -2,16 +2,16 @@
 
 ghost use Rattle.std.specs.Prelude.{◌≡◌, ◌+◌, ◌<◌, ◌^◌, IfOk, length, string_bytes};
 ghost use Rattle.hprof_lists.specs.Lists.{identifiers_left, identifiers_of};
-ghost use Rattle.hprof_finding.specs.HeapFacts.{facts_of, size_of};
+ghost use Rattle.hprof_lookup.specs.HeapFacts.{facts_of, size_of};
 ghost use Rattle.hprof_naming.specs.Naming.{IsNaming, Naming};
 ghost use Rattle.hprof_reports.specs.ObjectText.{counted_line, element_line, elements_line, field_line, instance_line, values_line};
 
 use crate::lines::Lines;
 use crate::shown::{bits_text, type_word};
-use hprof_finding::id_size;
 use hprof_heap::Heap;
 use hprof_layouts::FieldValue;
 use hprof_lists::{IdList, Ids};
+use hprof_lookup::id_size;
 use hprof_naming::{class_label, name_text};
 use hprof_values::{Basic, IdSize};
 use std::alloc::{AllocError, Global};

@@ -39,10 +39,10 @@ then-Equal Greater = refl
 in_order : (edge other : Edge) → edge_cmp edge other ≡ slice_cmp nat_cmp (numbers_of_edge edge) (numbers_of_edge other)
 in_order edge other =
     ap (λ (o : Ordering). ordering_then (nat_cmp edge.from other.from) (ordering_then o
-        (ordering_then (nat_cmp edge.position other.position) (nat_cmp edge.to other.to)))) (vias_in_order edge.via other.via)
+    (ordering_then (nat_cmp edge.position other.position) (nat_cmp edge.to other.to)))) (vias_in_order edge.via other.via)
     ∙ sym (ap (λ (o : Ordering). ordering_then (nat_cmp edge.from other.from)
-        (ordering_then (nat_cmp (number_of_via edge.via) (number_of_via other.via))
-        (ordering_then (nat_cmp edge.position other.position) o))) (then-Equal (nat_cmp edge.to other.to)))
+    (ordering_then (nat_cmp (number_of_via edge.via) (number_of_via other.via))
+    (ordering_then (nat_cmp edge.position other.position) o))) (then-Equal (nat_cmp edge.to other.to)))
 
 pub returns : goal.returns
 returns c = in_order

@@ -1,6 +1,6 @@
 use Rattle.std.proofs.Common.{◌≡◌, ◌⊎◌, ap, ◌∙◌, subst, List}
 use Rattle.std.specs.Prelude.{◌↔◌, Contains}
-use Rattle.hprof_finding.specs.HeapFacts.{facts_of, size_of}
+use Rattle.hprof_lookup.specs.HeapFacts.{facts_of, size_of}
 use Rattle.hprof_edges.specs.declared.edge.Edge.{Edge}
 use Rattle.hprof_edges.specs.Collecting.{KeepsOf, is_edge_wanted}
 use Rattle.hprof_edges.specs.DumpEdges.{GivenByClass, GivenByObject}

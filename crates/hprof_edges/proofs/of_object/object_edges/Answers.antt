@@ -1,7 +1,7 @@
 use Rattle.std.proofs.Common.{sym, subst}
 use Rattle.hprof_items.specs.FactValue.{Instance}
-use Rattle.hprof_finding.specs.declared.object_row.ObjectRow.{ObjectRow}
-use Rattle.hprof_finding.specs.ObjectRow.{fact_of_object}
+use Rattle.hprof_lookup.specs.declared.object_row.ObjectRow.{ObjectRow}
+use Rattle.hprof_lookup.specs.ObjectRow.{fact_of_object}
 use Rattle.hprof_edges.specs.Collecting.{PutBehind}
 use Rattle.hprof_edges.specs.DumpEdges.{IsEdgeToClass, IsFieldEdge, IsObjectEdge}
 use Rattle.hprof_edges.proofs.PutTogether.{put_both}

@@ -1,4 +1,4 @@
-use Rattle.hprof_walks.proofs.Forth.{no_walk, some_walk}
+use Rattle.hprof_search.proofs.Forth.{no_walk, some_walk}
 use Rattle.hprof_reach.specs.Reaching.{IsStart, IsStep}
 use Rattle.hprof_reach.proofs.laws.no_distance_no_walk.Goals as goal
 

@@ -1,4 +1,4 @@
-use Rattle.hprof_walks.proofs.OneWalk.{one_distance, one_path}
+use Rattle.hprof_search.proofs.OneWalk.{one_distance, one_path}
 use Rattle.hprof_reach.specs.Reaching.{IsStart, IsStep}
 use Rattle.hprof_reach.proofs.laws.one_distance_and_path.Goals as goal
 

@@ -1,4 +1,4 @@
-use Rattle.hprof_walks.proofs.Forth.{path_walks, path_counted, path_shortest, path_least}
+use Rattle.hprof_search.proofs.Forth.{path_walks, path_counted, path_shortest, path_least}
 use Rattle.hprof_reach.specs.Reaching.{IsStart, IsStep}
 use Rattle.hprof_reach.proofs.laws.path_is_shortest.Goals as goal
 

@@ -1,6 +1,6 @@
 use Rattle.std.proofs.Common.{ℕ, List, subst, sym}
 use Rattle.std.specs.Prelude.{◌↔◌, Contains}
-use Rattle.hprof_finding.specs.HeapFacts.{facts_of, size_of}
+use Rattle.hprof_lookup.specs.HeapFacts.{facts_of, size_of}
 use Rattle.hprof_reach.specs.Nodes.{IsClassNode}
 use Rattle.hprof_reach.specs.Reaching.{IsRooted}
 use Rattle.hprof_reach.proofs.Reached.{reached}

@@ -1,7 +1,7 @@
 use Rattle.std.proofs.Common.{◌++◌}
 use Rattle.std.proofs.lemmas.Result.{err_from_is_err_and}
-use Rattle.hprof_finding.specs.ClassRow.{dump_of}
-use Rattle.hprof_finding.specs.HeapFacts.{size_of}
+use Rattle.hprof_lookup.specs.ClassRow.{dump_of}
+use Rattle.hprof_lookup.specs.HeapFacts.{size_of}
 use Rattle.hprof_reports.specs.ObjectText.{class_line, constants_text, statics_text, own_fields_text}
 use Rattle.hprof_reports.proofs.TextWriting.{text_stops, text_then}
 use Rattle.hprof_reports.proofs.object.write_class.Goals as goal

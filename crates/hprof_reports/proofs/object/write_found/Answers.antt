@@ -1,11 +1,11 @@
 use Rattle.std.proofs.Common.{Option, Some, sym, subst}
 use Rattle.std.specs.Option.{option_map}
 use Rattle.std.proofs.lemmas.Result.{err_from_is_err_and}
-use Rattle.hprof_finding.specs.HeapFacts.{size_of}
-use Rattle.hprof_finding.specs.declared.class_row.ClassRow.{ClassRow}
-use Rattle.hprof_finding.specs.declared.object_row.ObjectRow.{ObjectRow}
-use Rattle.hprof_finding.specs.ClassRow.{dump_of}
-use Rattle.hprof_finding.specs.ObjectRow.{fact_of_object}
+use Rattle.hprof_lookup.specs.HeapFacts.{size_of}
+use Rattle.hprof_lookup.specs.declared.class_row.ClassRow.{ClassRow}
+use Rattle.hprof_lookup.specs.declared.object_row.ObjectRow.{ObjectRow}
+use Rattle.hprof_lookup.specs.ClassRow.{dump_of}
+use Rattle.hprof_lookup.specs.ObjectRow.{fact_of_object}
 use Rattle.hprof_reports.specs.ObjectText.{class_text, found_text, object_text}
 use Rattle.hprof_reports.specs.Stopping.{WritesText}
 use Rattle.hprof_reports.proofs.TextWriting.{text_stops, text_then}

@@ -1,7 +1,7 @@
 use Rattle.std.proofs.Common.{ℕ, List, Some, None, subst}
 use Rattle.std.specs.Option.{option_map}
 use Rattle.std.proofs.lemmas.Result.{err_from_is_err_and}
-use Rattle.hprof_walks.proofs.Told.{distance_in, path_in, tells_distance, tells_path}
+use Rattle.hprof_search.proofs.Told.{distance_in, path_in, tells_distance, tells_path}
 use Rattle.hprof_reach.specs.Reaching.{IsDistanceFromRoots, IsPathFromRoots, IsStart, IsStep}
 use Rattle.hprof_reports.specs.PathText.{distance_line, nodes_text, reached_text}
 use Rattle.hprof_reports.specs.Stopping.{WritesText}

@@ -1,4 +1,4 @@
-use Rattle.hprof_finding.specs.HeapFacts.{facts_of}
+use Rattle.hprof_lookup.specs.HeapFacts.{facts_of}
 use Rattle.hprof_naming.proofs.Namings.{naming_exists}
 use Rattle.hprof_reports.proofs.refs.write_refs.Goals as goal
 

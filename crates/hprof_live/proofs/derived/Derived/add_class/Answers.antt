@@ -1,8 +1,8 @@
 use Rattle.std.proofs.Common.{sym, subst, List, ℕ, Contains}
 use Rattle.hprof_values.specs.declared.ids.IdSize.{IdSize}
-use Rattle.hprof_finding.specs.HeapFacts.{facts_of, size_of}
-use Rattle.hprof_finding.specs.ClassRow.{dump_of}
-use Rattle.hprof_laying.specs.Known.{Knows}
+use Rattle.hprof_lookup.specs.HeapFacts.{facts_of, size_of}
+use Rattle.hprof_lookup.specs.ClassRow.{dump_of}
+use Rattle.hprof_known_layouts.specs.Known.{Knows}
 use Rattle.hprof_live.specs.Derived.{HasLaid}
 use Rattle.hprof_live.proofs.FactsMore.{class_added, class_came, class_new, dumps_more}
 use Rattle.hprof_live.proofs.derived.Derived.add_class.Goals as goal

@@ -1,7 +1,7 @@
 use Rattle.std.proofs.Common.{◌≡◌, ◌++◌, ◌∷◌, [], sym, ap, subst}
 use Rattle.hprof_items.specs.FactValue.{Instance}
-use Rattle.hprof_laying.specs.Known.{HasLayout}
-use Rattle.hprof_laying.specs.Waking.{put}
+use Rattle.hprof_known_layouts.specs.Known.{HasLayout}
+use Rattle.hprof_known_layouts.specs.Waking.{put}
 use Rattle.hprof_live.specs.declared.derived.Derived.{Derived}
 use Rattle.hprof_live.specs.declared.waiting.WaitingInstances.{WaitingInstances}
 use Rattle.hprof_live.specs.Derived.{IsDerived}

@@ -1,5 +1,5 @@
 use Rattle.hprof_items.specs.FactValue.{value_of}
-use Rattle.hprof_finding.specs.HeapFacts.{facts_of, size_of}
+use Rattle.hprof_lookup.specs.HeapFacts.{facts_of, size_of}
 use Rattle.hprof_live.proofs.FactsMore.{neither, nothing_added}
 use Rattle.hprof_live.proofs.derived.Derived.add_other.Goals as goal
 

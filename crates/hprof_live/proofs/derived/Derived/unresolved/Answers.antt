@@ -1,5 +1,5 @@
 use Rattle.std.proofs.Common.{arith}
-use Rattle.hprof_finding.specs.HeapFacts.{facts_of, size_of}
+use Rattle.hprof_lookup.specs.HeapFacts.{facts_of, size_of}
 use Rattle.hprof_live.proofs.Counted.{number_waiting}
 use Rattle.hprof_live.proofs.derived.Derived.unresolved.Goals as goal
 

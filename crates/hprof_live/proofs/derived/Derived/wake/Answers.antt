@@ -1,7 +1,7 @@
 use Rattle.std.specs.Vec.Iter.{into_iter_items}
 use Rattle.std.proofs.Common.{◌≡◌, [], ◌++◌, refl, sym, subst, ◌∙◌, arith}
-use Rattle.hprof_finding.specs.HeapFacts.{facts_of, size_of}
-use Rattle.hprof_laying.proofs.Outlines.{no_elements}
+use Rattle.hprof_lookup.specs.HeapFacts.{facts_of, size_of}
+use Rattle.hprof_known_layouts.proofs.Outlines.{no_elements}
 use Rattle.hprof_live.specs.declared.derived.Derived.{Derived}
 use Rattle.hprof_live.specs.Waiting.{waiting_of}
 use Rattle.hprof_live.proofs.WakingInstances.{LaysRest, laid_all, laid_next, laid_or_waited, taken_out}

@@ -1,7 +1,7 @@
 use Rattle.std.specs.Vec.Iter.{into_iter_items}
 use Rattle.std.proofs.Common.{◌≡◌, ℕ, List}
-use Rattle.hprof_finding.specs.HeapFacts.{facts_of, size_of}
-use Rattle.hprof_laying.specs.Known.{HasLayout}
+use Rattle.hprof_lookup.specs.HeapFacts.{facts_of, size_of}
+use Rattle.hprof_known_layouts.specs.Known.{HasLayout}
 use Rattle.hprof_live.specs.Derived.{IsDeriving, keeps_of}
 use Rattle.hprof_live.specs.Waiting.{waiting_of}
 use Rattle.hprof_live.proofs.WakingInstances.{LaysRest}

@@ -1,6 +1,6 @@
 use Rattle.std.proofs.Common.{◌≡◌, ℕ, List, take, Contains}
-use Rattle.hprof_finding.specs.HeapFacts.{facts_of, size_of}
-use Rattle.hprof_laying.specs.Known.{HasLayout}
+use Rattle.hprof_lookup.specs.HeapFacts.{facts_of, size_of}
+use Rattle.hprof_known_layouts.specs.Known.{HasLayout}
 use Rattle.hprof_live.specs.Derived.{HasLaid, IsDeriving, keeps_of}
 use Rattle.hprof_live.proofs.derived.Derived.wake_all.Given as goal
 

@@ -3,7 +3,7 @@ use Rattle.hprof_values.specs.declared.ids.IdSize.{IdSize}
 use Rattle.hprof_items.specs.FactValue.{FactValue, value_of}
 use Rattle.hprof_rows.specs.HeapValue.{HeapValue}
 use Rattle.hprof_heap.specs.Gathering.{answer_of, gathered}
-use Rattle.hprof_finding.specs.HeapFacts.{facts_of, size_of}
+use Rattle.hprof_lookup.specs.HeapFacts.{facts_of, size_of}
 use Rattle.hprof_live.specs.Derived.{AddsFact, IsDerived}
 use Rattle.hprof_live.proofs.Outcomes.{is_lent}
 use Rattle.hprof_live.proofs.live_heap.LiveHeap.derive_any.Goals as goal

@@ -1,7 +1,7 @@
 use Rattle.std.proofs.Common.{◌≡◌, Bool, true, false, ◌||◌, sym, ap, subst, ◌∙◌}
 use Rattle.hprof_heap.specs.Gathering.{Gathered, Gathers, gathered, nothing_gathered}
 use Rattle.hprof_heap.proofs.Gathering.{gathered_stands}
-use Rattle.hprof_finding.specs.HeapFacts.{facts_of, size_of}
+use Rattle.hprof_lookup.specs.HeapFacts.{facts_of, size_of}
 use Rattle.hprof_live.specs.Derived.{keeps_of}
 use Rattle.hprof_live.specs.LiveHeap.{seen_by}
 use Rattle.hprof_live.proofs.Outcomes.{derived_of_heap, failed_outcome, sound_outcome, sound_seen}

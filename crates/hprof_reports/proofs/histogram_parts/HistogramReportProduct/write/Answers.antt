@@ -1,5 +1,5 @@
 use Rattle.hprof_heap.specs.Heap.{heap_of}
-use Rattle.hprof_finding.specs.HeapFacts.{facts_of, size_of}
+use Rattle.hprof_lookup.specs.HeapFacts.{facts_of, size_of}
 use Rattle.hprof_reports.specs.HistogramReporting.{IsHistogramReport}
 use Rattle.hprof_reports.proofs.TextWriting.{text_ends}
 use Rattle.hprof_reports.proofs.histogram_parts.HistogramReportProduct.write.Goals as goal

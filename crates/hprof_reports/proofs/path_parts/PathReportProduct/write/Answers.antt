@@ -1,5 +1,5 @@
 use Rattle.hprof_heap.specs.Heap.{heap_of}
-use Rattle.hprof_finding.specs.HeapFacts.{facts_of, size_of}
+use Rattle.hprof_lookup.specs.HeapFacts.{facts_of, size_of}
 use Rattle.hprof_reports.specs.PathReporting.{IsPathReport}
 use Rattle.hprof_reports.proofs.TextWriting.{text_ends}
 use Rattle.hprof_reports.proofs.path_parts.PathReportProduct.write.Goals as goal

@@ -1,5 +1,0 @@
-use Rattle.hprof_finding.proofs.ClassFacts.{no_class_no_dump}
-use Rattle.hprof_finding.proofs.classes.to_class_row.Goals as goal
-
-pub returns-in_default-clause-none : goal.returns-in_default-clause-none
-returns-in_default-clause-none c = no_class_no_dump c.args.fact.now c.in_default.not-Class

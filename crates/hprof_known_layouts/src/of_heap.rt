@@ -1,0 +1,25 @@
+//! The known layouts of the classes of a heap.
+
+ghost use Rattle.std.specs.Prelude.{IfOk};
+ghost use Rattle.hprof_lookup.specs.HeapFacts.{facts_of, size_of};
+ghost use Rattle.hprof_known_layouts.specs.Known.{Knows};
+
+use crate::known::KnownLayouts;
+use hprof_heap::{Heap, Table};
+use hprof_lookup::{id_size, table_facts, to_class_row};
+use std::alloc::{AllocError, Global};
+
+/// The layouts of the classes of a heap that are known, by one pass over its class dumps. The error is that memory was
+/// refused.
+pub fn known_layouts(alloc: Global, heap: &Heap) -> Result<KnownLayouts, AllocError>
+    ensures { IfOk result (Knows (size_of heap.now) (facts_of heap.now)) }
+{
+    let ids = id_size(heap);
+    let mut known = KnownLayouts::new(alloc);
+    for fact in table_facts(heap, Table::Classes) {
+        if let Some(row) = to_class_row(&fact) {
+            known.come(&row, ids)?;
+        }
+    }
+    Ok(known)
+}

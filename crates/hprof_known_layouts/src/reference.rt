@@ -1,0 +1,45 @@
+//! What the fields of an instance refer to.
+
+ghost use Rattle.std.specs.Prelude.{◌≡◌};
+ghost use Rattle.hprof_known_layouts.specs.References.{is_wanted};
+ghost use Rattle.hprof_known_layouts.specs.Refers.{refers};
+
+use hprof_values::Basic;
+
+/// A field of an instance that refers to something.
+#[derive(Clone, Copy, Debug, PartialEq, Eq)]
+pub struct Reference {
+    /// The place of the field in the layout of its class, counted from 0.
+    pub place: u64,
+    /// The identifier that is its value; 0 where it refers to nothing.
+    pub to: u64,
+}
+
+/// Which references are wanted.
+#[derive(Clone, Copy, Debug, PartialEq, Eq)]
+pub enum Wanted {
+    /// All of them.
+    All,
+    /// Those to this identifier.
+    To(u64),
+}
+
+impl Wanted {
+    /// Whether a reference to that is wanted.
+    #[inline(always)]
+    pub fn wants(self, to: u64) -> bool
+        ensures { result ≡ is_wanted self to }
+    {
+        match self {
+            Wanted::All => true,
+            Wanted::To(id) => to == id,
+        }
+    }
+}
+
+/// Whether the values of the type are identifiers, so that a field of it refers to something.
+pub fn refers(basic: Basic) -> bool
+    ensures { result ≡ refers basic }
+{
+    matches!(basic, Basic::Array | Basic::Object)
+}

@@ -1,0 +1,59 @@
+//! The layout of a class.
+
+ghost use Rattle.std.specs.Prelude.{◌≡◌, ◌++◌, IfOk, OnOk};
+ghost use Rattle.hprof_lookup.specs.HeapFacts.{facts_of};
+ghost use Rattle.hprof_lookup.specs.ClassRow.{dump_of};
+ghost use Rattle.hprof_layouts.specs.Layout.{HasChain, IsKnown, IsLayout, layout_value, own_slots};
+
+use crate::chain::{ChainEnd, chain_end};
+use crate::slot::{Layout, Slot};
+use hprof_heap::Heap;
+use hprof_lookup::{ClassRow, find_class};
+use std::alloc::{AllocError, Global};
+
+/// Puts the slots of a class's own fields behind others.
+fn push_own_slots(slots: &mut Vec<Slot>, row: &ClassRow<'_>) -> Result<(), AllocError>
+    ensures { OnOk result (slots.new.items ≡ slots.old.items ++ own_slots (dump_of row.now)) }
+{
+    for field in row.fields.iter() {
+        slots.push(Slot {
+            class: row.id,
+            name: field.name,
+            basic: field.basic,
+        })?;
+    }
+    Ok(())
+}
+
+/// The slots of a class whose chain comes to 0 after so many classes.
+fn slots_along(
+    alloc: Global,
+    heap: &Heap,
+    class: u64,
+    count: usize,
+) -> Result<Vec<Slot>, AllocError>
+    requires { HasChain (facts_of heap.now) class count }
+    ensures { IfOk result (λ slots. IsKnown (facts_of heap.now) class slots.items) }
+{
+    let mut slots = Vec::new(alloc);
+    let mut at = class;
+    for _passed in 0..count {
+        let Some(row) = find_class(heap, at) else {
+            unreachable!();
+        };
+        push_own_slots(&mut slots, &row)?;
+        at = row.parent;
+    }
+    Ok(slots)
+}
+
+/// The layout of a class. Where it is not known no memory is taken. The error is that memory was refused.
+pub fn layout(alloc: Global, heap: &Heap, class: u64) -> Result<Layout, AllocError>
+    ensures { IfOk result (λ layout. IsLayout (facts_of heap.now) class (layout_value layout)) }
+{
+    match chain_end(heap, class) {
+        ChainEnd::Zero(count) => Ok(Layout::Known(slots_along(alloc, heap, class, count)?)),
+        ChainEnd::Missing(missing) => Ok(Layout::Missing(missing)),
+        ChainEnd::Cyclic => Ok(Layout::Cyclic),
+    }
+}

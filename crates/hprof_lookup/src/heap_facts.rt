@@ -1,0 +1,48 @@
+//! What a heap answers, told by its facts.
+
+ghost use Rattle.std.specs.Prelude.{◌≡◌, length};
+ghost use Rattle.hprof_rows.specs.Conflict.{IsConsistent};
+ghost use Rattle.hprof_rows.specs.Facts.{AllFit};
+ghost use Rattle.hprof_rows.specs.FactsLeft.{facts_left, facts_ids};
+ghost use Rattle.hprof_rows.specs.Order.{IsCanonicalOrder};
+ghost use Rattle.hprof_rows.specs.Tables.{facts_of_table};
+ghost use Rattle.hprof_heap.specs.ClassName.{NamesClass};
+ghost use Rattle.hprof_lookup.specs.HeapFacts.{facts_of, size_of};
+
+use hprof_heap::{Facts, Heap, Table};
+use hprof_values::IdSize;
+
+/// The size of a heap's identifiers.
+#[inline(always)]
+pub fn id_size(heap: &Heap) -> IdSize
+    ensures value { result ≡ size_of heap.now }
+    // What holds of the facts of every heap.
+    ensures fit { AllFit (size_of heap.now) (facts_of heap.now) }
+    ensures ordered { IsCanonicalOrder (facts_of heap.now) }
+    ensures agree { IsConsistent (facts_of heap.now) }
+{
+    heap.ids()
+}
+
+/// The facts of a table, in canonical order, each borrowed from the heap.
+pub fn table_facts(heap: &Heap, table: Table) -> Facts<'_>
+    ensures all { facts_left result ≡ facts_of_table table (facts_of heap.now) }
+    ensures ordered { IsCanonicalOrder (facts_left result) }
+    ensures ids { facts_ids result ≡ size_of heap.now }
+{
+    heap.rows(table)
+}
+
+/// The number of facts in a table.
+pub fn table_len(heap: &Heap, table: Table) -> usize
+    ensures { result ≡ length (facts_of_table table (facts_of heap.now)) }
+{
+    heap.len(table)
+}
+
+/// The name of a class: that which it has in the fact of least serial that loads it; None where none does.
+pub fn class_name(heap: &Heap, class: u64) -> Option<u64>
+    ensures { NamesClass (facts_of heap.now) class result }
+{
+    heap.class_name(class)
+}

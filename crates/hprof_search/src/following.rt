@@ -1,0 +1,29 @@
+//! Targets are followed to nodes that were not found before.
+
+ghost use Rattle.std.specs.Prelude.{◌≡◌, ◌<◌, OnOk, IfSome, length};
+ghost use Rattle.hprof_search.specs.Finds.{Follows, LeadsTo, finds_of};
+
+use crate::numbered::Numbered;
+use crate::trail::Trail;
+use std::alloc::AllocError;
+
+/// Finds the nodes that are among the targets: from one number, or where it is none, as starts, each from its own. Where
+/// memory is refused, nothing holds of what was found.
+#[inline(always)]
+pub(crate) fn follow(
+    numbered: &Numbered,
+    from: Option<usize>,
+    targets: &[u64],
+    trail: &mut Trail,
+) -> Result<(), AllocError>
+    requires from { IfSome from (λ number. number < length numbered.now.nodes.items) }
+    requires as_many { length trail.old.found.items ≡ length numbered.now.nodes.items }
+    ensures { OnOk result (Follows (LeadsTo numbered.now.nodes.items from targets.now) (finds_of trail.old) (finds_of trail.new)) }
+{
+    for target in targets {
+        if let Some(number) = numbered.number_of(*target) {
+            trail.arrive(number, from.unwrap_or(number))?;
+        }
+    }
+    Ok(())
+}

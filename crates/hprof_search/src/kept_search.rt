@@ -1,0 +1,99 @@
+//! What a search keeps, and tells.
+
+use crate::node_hasher::NodeHasher;
+use crate::numbered::find;
+use crate::numbers::Numbers;
+use crate::walks::WalksOf;
+use indexmap::IndexSet;
+use std::alloc::{AllocError, Global};
+use std::hash::BuildHasherDefault;
+
+/// A search by levels that was made: of each node how many steps lead to it from a start, and by which path.
+#[derive(Drop)]
+pub struct Search {
+    /// All nodes, in ascending order. The number of a node is its place here.
+    pub(crate) nodes: Vec<u64>,
+    /// Of each number whether its node was found.
+    pub(crate) found: Vec<bool>,
+    /// Of each number that was found the one that it was found from; of a start, its own.
+    pub(crate) before: Numbers,
+    /// The numbers that were found, in the order in which they were found: by their distances.
+    pub(crate) order: IndexSet<usize, BuildHasherDefault<NodeHasher>>,
+    /// How many levels there were.
+    pub(crate) levels: usize,
+    ghost whole: { IsKept nodes.items found.items (items_in before) order.keys },
+}
+
+ghost use Rattle.hprof_search.specs.Kept.{IsKept};
+ghost use Rattle.hprof_search.specs.Numbers.{items_in};
+
+impl Search {
+    ghost use Rattle.std.specs.Prelude.{◌≡◌, ◌<◌, IfOk, IfSome, length, map};
+    ghost use Rattle.std.specs.Option.{option_map};
+    ghost use Rattle.hprof_search.specs.Search.{IsSearch, node_at};
+    ghost use Rattle.hprof_search.specs.WayBack.{found_in, way_in};
+    ghost use Rattle.hprof_search.specs.Walks.{HasDistance, IsPath};
+
+    // The number of a node, if it was found.
+    fn found_number(&self, node: u64) -> Option<usize>
+        ensures number { result ≡ found_in self.now node }
+        ensures within { IfSome result (λ number. number < length self.now.nodes.items) }
+    {
+        let number = find(&self.nodes, node)?;
+        if self.found[number] {
+            Some(number)
+        } else {
+            None
+        }
+    }
+
+    // The nodes from a number back to a start.
+    fn way_back(&self, alloc: Global, found: usize) -> Result<Vec<u64>, AllocError>
+        requires { found < length self.now.nodes.items }
+        ensures { IfOk result (λ nodes. nodes.items ≡ map (node_at self.now) (way_in self.now found)) }
+    {
+        let mut number = found;
+        let mut nodes = Vec::new(alloc);
+        nodes.push(self.nodes[number])?;
+        for _ in 0..self.levels {
+            let before = self.before.get(number);
+            if before == number {
+                return Ok(nodes);
+            }
+            number = before;
+            nodes.push(self.nodes[number])?;
+        }
+        Ok(nodes)
+    }
+
+    /// The least number of steps that lead to a node from a start; none where no start leads there, as to what is no node.
+    /// It takes no memory.
+    pub fn distance<W: WalksOf>(&self, node: u64) -> Option<u64>
+        ensures { (told : W.Told) → IsSearch (W.starts told) (W.steps told) self.now
+            → HasDistance (W.starts told) (W.steps told) node result }
+    {
+        let mut number = self.found_number(node)?;
+        for steps in 0..self.levels {
+            let before = self.before.get(number);
+            if before == number {
+                return Some(steps as u64);
+            }
+            number = before;
+        }
+        Some(self.levels as u64)
+    }
+
+    /// The path to a node, from a start; none where no start leads there, as to what is no node. From its end each node
+    /// before is the least one of those that are as far off and have a step to it. The error is that memory was refused.
+    pub fn path<W: WalksOf>(&self, alloc: Global, node: u64) -> Result<Option<Vec<u64>>, AllocError>
+        ensures { IfOk result (λ path. (told : W.Told) → IsSearch (W.starts told) (W.steps told) self.now
+            → IsPath (W.starts told) (W.steps told) node (option_map (λ nodes. nodes.items) path)) }
+    {
+        let Some(found) = self.found_number(node) else {
+            return Ok(None);
+        };
+        let mut nodes = self.way_back(alloc, found)?;
+        nodes.reverse();
+        Ok(Some(nodes))
+    }
+}

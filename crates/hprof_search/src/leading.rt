@@ -1,0 +1,36 @@
+//! What the nodes of a level lead to.
+
+ghost use Rattle.std.specs.Prelude.{◌≡◌, ◌↔◌, ◌<◌, ℕ, OnOk, All, length};
+ghost use Rattle.std.specs.List.Sorted.{IsNonDecreasing};
+ghost use Rattle.hprof_search.specs.Finds.{Follows, LeadsOn, finds_of};
+
+use crate::following::follow;
+use crate::graph::Graph;
+use crate::numbered::Numbered;
+use crate::trail::Trail;
+use std::alloc::AllocError;
+
+/// Finds the nodes that the edges of a level lead to. The targets are used to gather them. Where memory is refused, nothing
+/// holds of them, nor of what was found.
+pub(crate) fn lead_on<G: Graph>(
+    graph: &mut G,
+    numbered: &Numbered,
+    level: &[usize],
+    targets: &mut Vec<u64>,
+    trail: &mut Trail,
+) -> Result<(), AllocError>
+    requires stands { G.stands graph.old }
+    requires ascend { IsNonDecreasing level.now }
+    requires within { All (λ number. number < length numbered.now.nodes.items) level.now }
+    requires as_many { length trail.old.found.items ≡ length numbered.now.nodes.items }
+    ensures ok { OnOk result (Follows (LeadsOn (G.leads graph.old) numbered.now.nodes.items level.now) (finds_of trail.old)
+        (finds_of trail.new)) }
+    ensures stays { (node to : ℕ) → G.leads graph.new node to ↔ G.leads graph.old node to }
+    ensures stands { G.stands graph.new }
+{
+    for number in level {
+        graph.targets_of(numbered.nodes[*number], targets)?;
+        follow(numbered, Some(*number), targets, trail)?;
+    }
+    Ok(())
+}

@@ -1,0 +1,57 @@
+//! A hash of node numbers.
+
+ghost use Rattle.std.specs.Prelude.{◌≡◌};
+ghost use Rattle.hprof_search.specs.NodeHash.{hash_of_number, written};
+
+use std::hash::Hasher;
+
+// So many numbers in a row share a group of an index table, which holds as many on average.
+const NUMBERS_OF_A_GROUP: u64 = 9;
+
+// The tag begins there. A table of the greatest size takes the bits below it to choose a group.
+const TAG_BIT: u32 = 28;
+
+/// Hashes node numbers for an `IndexSet`.
+///
+/// The set takes the group from the low bits of the hash, and from its highest byte of 32 bits the tag that tells the
+/// numbers of a group apart. So nine numbers in a row share a group, each with a tag of its own, and the next nine take the
+/// next group: memory is touched in the order of the numbers. Numbers are dense, from 0 on, so that in a set with room for
+/// all of them no group gets more than nine, and no dump can make them collide. Nothing rests on it but speed.
+#[derive(Clone, Copy)]
+pub(crate) struct NodeHasher {
+    number: u64,
+}
+
+impl Default for NodeHasher {
+    ghost is_default = { λ hasher. hasher.number ≡ 0 };
+
+    fn default() -> NodeHasher {
+        NodeHasher { number: 0 }
+    }
+}
+
+impl Hasher for NodeHasher {
+    ghost write = { λ hasher bytes. record { number = written hasher.number bytes } };
+
+    ghost finish = { λ hasher. hash_of_number hasher.number };
+
+    #[inline(always)]
+    fn finish(&self) -> u64 {
+        self.number / NUMBERS_OF_A_GROUP + ((self.number % NUMBERS_OF_A_GROUP + 1) << TAG_BIT)
+    }
+
+    // A number is written as its eight bytes; no other bytes are.
+    #[inline(always)]
+    fn write(&mut self, bytes: &[u8]) {
+        if bytes.len() == 8 {
+            self.number = u64::from_le_bytes([
+                bytes[0], bytes[1], bytes[2], bytes[3], bytes[4], bytes[5], bytes[6], bytes[7],
+            ]);
+        }
+    }
+
+    #[inline(always)]
+    fn write_usize(&mut self, number: usize) {
+        self.number = number as u64;
+    }
+}

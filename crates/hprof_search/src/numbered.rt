@@ -1,0 +1,77 @@
+//! Nodes and their numbers: the number of a node is its place among all nodes.
+
+ghost use Rattle.std.specs.Prelude.{◌≡◌, ◌<◌, ◌≤◌, ◌↔◌, Contains, IfOk, IsTrue, length, slice_index};
+ghost use Rattle.std.specs.List.Sorted.{IsStrictlyIncreasing};
+ghost use Rattle.hprof_search.specs.Kept.{IsMissingAt, number_in};
+
+use crate::hints::Hints;
+use std::alloc::{AllocError, Global};
+
+/// Nodes in ascending order, and hints where they stand, so that the number of a node is mostly found without a search.
+#[derive(Drop)]
+pub struct Numbered {
+    pub(crate) nodes: Vec<u64>,
+    hints: Hints,
+    ghost ascend: { IsStrictlyIncreasing nodes.items },
+}
+
+/// The number of a node, found by halves; none of what is no node.
+pub(crate) fn find(nodes: &[u64], node: u64) -> Option<usize>
+    requires { IsStrictlyIncreasing nodes.now }
+    ensures { result ≡ number_in nodes.now node }
+{
+    nodes.binary_search(&node).ok()
+}
+
+// Whether the node stands at that place.
+#[inline(always)]
+fn stands_at(nodes: &[u64], place: usize, node: u64) -> bool
+    ensures { IsTrue result ↔ (place < length nodes.now) × (slice_index nodes.now place ≡ node) }
+{
+    place < nodes.len() && nodes[place] == node
+}
+
+// Whether the node is none, and would stand at that place.
+#[inline(always)]
+fn is_missing_at(nodes: &[u64], place: usize, node: u64) -> bool
+    requires { place ≤ length nodes.now }
+    ensures { IsTrue result ↔ IsMissingAt nodes.now place node }
+{
+    (place == 0 || nodes[place - 1] < node) && (place == nodes.len() || node < nodes[place])
+}
+
+impl Numbered {
+    ghost use Rattle.hprof_search.specs.Numbered.{nodes_in};
+
+    /// Nodes in ascending order, by their numbers. The error is that memory was refused.
+    pub fn new(alloc: Global, nodes: Vec<u64>) -> Result<Numbered, AllocError>
+        requires { IsStrictlyIncreasing nodes.items }
+        ensures { IfOk result (λ numbered. nodes_in numbered ≡ nodes.items) }
+    {
+        let hints = Hints::new(alloc, &nodes)?;
+        Ok(Numbered { nodes, hints })
+    }
+
+    /// Whether it is one of the nodes.
+    #[inline(always)]
+    pub fn has(&self, node: u64) -> bool
+        ensures { IsTrue result ↔ Contains (nodes_in self.now) node }
+    {
+        self.number_of(node).is_some()
+    }
+
+    /// The number of a node; none of what is no node. Where the hints do not lead there, it is found by halves.
+    #[inline(always)]
+    pub(crate) fn number_of(&self, node: u64) -> Option<usize>
+        ensures { result ≡ number_in (nodes_in self.now) node }
+    {
+        let place = self.hints.place(&self.nodes, node);
+        if stands_at(&self.nodes, place, node) {
+            Some(place)
+        } else if is_missing_at(&self.nodes, place, node) {
+            None
+        } else {
+            find(&self.nodes, node)
+        }
+    }
+}

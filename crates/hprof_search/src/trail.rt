@@ -1,0 +1,84 @@
+//! The nodes that were found, by their numbers: the place of each among all nodes.
+
+ghost use Rattle.std.specs.Prelude.{◌≡◌, ◌≤◌, length};
+ghost use Rattle.hprof_search.specs.Numbers.{items_in, bound_of};
+ghost use Rattle.hprof_search.specs.Kept.{LeadsBack, OrdersFound};
+
+use crate::node_hasher::NodeHasher;
+use crate::numbers::Numbers;
+use indexmap::IndexSet;
+use std::alloc::{AllocError, Global};
+use std::hash::BuildHasherDefault;
+
+/// What was found so far.
+#[derive(Drop)]
+pub(crate) struct Trail {
+    /// Of each number whether its node was found, so that no edge to a node that was found costs a look-up.
+    pub(crate) found: Vec<bool>,
+    /// Of each number that was found the one that it was found from; of a start, its own.
+    pub(crate) before: Numbers,
+    /// The numbers that were found, in the order in which they were found.
+    pub(crate) order: IndexSet<usize, BuildHasherDefault<NodeHasher>>,
+    /// The place in the order where the next level begins.
+    next: usize,
+    ghost paired: { length (items_in before) ≡ length found.items },
+    ghost back: { LeadsBack (items_in before) },
+    ghost fits: { length found.items ≤ bound_of before },
+    ghost ordered: { OrdersFound found.items order.keys },
+    ghost begins: { next ≤ length order.keys },
+}
+
+impl Trail {
+    ghost use Rattle.std.specs.Prelude.{◌≡◌, ◌<◌, ◌↔◌, ℕ, [], false, IfOk, OnOk, Contains, length, nat_eq, replicate};
+    ghost use Rattle.std.specs.List.Sorted.{IsNonDecreasing};
+    ghost use Rattle.std.specs.List.{IsDistinct};
+    ghost use Rattle.hprof_search.specs.Finds.{Arrives, Follows, finds_of, next_in};
+
+    /// Of so many nodes none was found, and there is room for all in the order. The error is that memory was refused.
+    pub(crate) fn new(alloc: Global, count: usize) -> Result<Trail, AllocError>
+        ensures found { IfOk result (λ trail. trail.found.items ≡ replicate count false) }
+        ensures order { IfOk result (λ trail. trail.order.keys ≡ []) }
+    {
+        Ok(Trail {
+            found: vec![in alloc; false; count]?,
+            before: Numbers::new(alloc, count)?,
+            order: IndexSet::with_capacity_and_hasher(alloc, count, BuildHasherDefault::new())?,
+            next: 0,
+        })
+    }
+
+    /// Finds a number from another, if it was not found before, and puts it behind the order then. Where memory is refused,
+    /// nothing holds of what was found.
+    #[inline(always)]
+    pub(crate) fn arrive(&mut self, number: usize, from: usize) -> Result<(), AllocError>
+        requires within { number < length self.old.found.items }
+        requires from_within { from < length self.old.found.items }
+        ensures { OnOk result (Follows (Arrives from number) (finds_of self.old) (finds_of self.new)) }
+    {
+        if !self.found[number] {
+            self.order.insert(number)?;
+            self.found[number] = true;
+            self.before.set(number, from);
+        }
+        Ok(())
+    }
+
+    /// Makes a list the next level, in ascending order. Then the next level is empty, and begins where the order ends. Where
+    /// memory is refused, nothing holds of the list.
+    pub(crate) fn take_next(&mut self, level: &mut Vec<usize>) -> Result<(), AllocError>
+        ensures ascend { OnOk result (IsNonDecreasing level.new.items) }
+        ensures same { OnOk result ((number : ℕ) → Contains level.new.items number ↔ Contains (next_in self.old) number) }
+        ensures as_many { OnOk result (length level.new.items ≡ length (next_in self.old)) }
+        ensures none { OnOk result (next_in self.new ≡ []) }
+        ensures found { self.new.found ≡ self.old.found }
+        ensures before { self.new.before ≡ self.old.before }
+        ensures order { self.new.order ≡ self.old.order }
+        ensures once { IsDistinct nat_eq self.new.order.keys }
+    {
+        level.clear();
+        level.extend_from_slice(&self.order.as_slice()[self.next..])?;
+        level.sort_unstable();
+        self.next = self.order.len();
+        Ok(())
+    }
+}

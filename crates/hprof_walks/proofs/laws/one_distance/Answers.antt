@@ -1,5 +1,0 @@
-use Rattle.hprof_walks.proofs.OneWalk.{one_distance}
-use Rattle.hprof_walks.proofs.laws.one_distance.Goals as goal
-
-pub returns : goal.returns
-returns g c = λ node one other is too. one_distance g.W.Walks.starts g.W.Walks.steps node one other is too
