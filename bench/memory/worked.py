@@ -2,9 +2,11 @@
 """Runs worked cases with each of their requests for memory refused in turn.
 
 A case is read from crates/hprof_worked/stdin by its title, with the names of bytes that it uses. With one request refused all holds, since a
-row has another place to be in; or a line says that memory was wanted; or the call answers that a write failed, since the writers of the table
+row has another place to be in; or a line says that memory ran out; or the call answers that a write failed, since the writers of the table
 keep in memory what they are given. Anything else is wrong. It needs the built program (`rt run` in crates/hprof_worked leaves it as
 out/hprof_worked) and cc. Without titles it runs a case of each call that can want memory. It is no part of the gate.
+
+    bench/memory/worked.py [TITLE..]
 """
 
 import os
@@ -17,6 +19,7 @@ from pathlib import Path
 HERE = Path(__file__).resolve().parent
 CRATE = HERE.parent.parent / "crates" / "hprof_worked"
 PROGRAM = CRATE / "out" / "hprof_worked"
+CALLS = {"join", "join101", "salvage", "check", "histo", "object", "refs", "path", "edges", "layout", "unite", "read", "facts", "$"}
 TITLES = [
     "two names in any order and twice",
     "classes that come late",
@@ -30,7 +33,6 @@ TITLES = [
     "heaps joined in either order",
     "heaps of many tables",
     "the forms of a part",
-    "the facts of a part",
     "a layout whose classes come late",
     "edges where classes come late",
     "names in print",
@@ -49,11 +51,17 @@ def words_of(text):
     return set(re.findall(r"[A-Z][A-Z0-9_]*", re.sub(r"'[^']*'", "", text)))
 
 
+def is_call(line):
+    """Whether the line makes a call."""
+    return line.split(" ")[0] in CALLS
+
+
 def case_of(table, title):
-    """The lines of a case, behind those that name the bytes that it uses."""
+    """The lines of a case, behind those that name the bytes that it uses. Of calls with one result the first is made, once."""
     start = table.index(f"== {title}")
     end = next((place for place in range(start + 1, len(table)) if table[place].startswith("== ")), len(table))
-    lines = table[start:end]
+    lines = [line for before, line in zip(table[start - 1:end], table[start:end]) if not (is_call(before) and is_call(line))]
+    lines = [line for line in lines if line != "by each"]
     used, names = words_of("\n".join(lines)), []
     for line in reversed([line for line in table[:start] if is_name(line)]):
         name, text = line.split(" = ", 1)
