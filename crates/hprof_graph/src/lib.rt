@@ -10,4 +10,4 @@ pub use hprof_edges::{Edge, Via, edges_of, referrers};
 pub use hprof_histogram::{Kind, Row, histogram};
 pub use hprof_layouts::{FieldValue, Fields, Layout, Slot, fields, layout};
 pub use hprof_live::{Index, IndexedHeap, Live, LiveHeap};
-pub use hprof_reach::{Reach, reach_of};
+pub use hprof_reach::{Reach, reach_of as reach};
