@@ -3,7 +3,7 @@
 
 In each page a link leads to a file; a path in backticks is one of the tree; a name in backticks, as `join_to` or `Gatherer::new`, stands in the
 code or the definitions; of `call`: `clause` the clause stands in a file that has the call; each crate that is named is there; and
-DEFINITIONS names each file of definitions. Each command that README shows behind a `$` is run on the sample dumps, and its output compared line for
+DEFINITIONS names each file of definitions, and LIBRARY quotes the examples. Each command that README shows behind a `$` is run on the sample dumps, and its output compared line for
 line, if the program was built. The status is 0 if nothing differs.
 """
 
@@ -75,6 +75,12 @@ def definitions():
     return sorted(named ^ there)
 
 
+def examples():
+    """The example crates that LIBRARY does not quote as they are."""
+    quoted = re.sub(r"(?m)^    ", "", (ROOT / "docs" / "LIBRARY.md").read_text())
+    return [str(path.relative_to(ROOT)) for path in ROOT.glob("crates/example_*/src/main.rt") if path.read_text() not in quoted]
+
+
 def shown():
     """The commands that README shows, each with its output."""
     for block in re.findall(r"(?m)(?:^    .*\n)+", (ROOT / "README.md").read_text()):
@@ -99,6 +105,7 @@ def main():
     files, known = tree()
     faults = [f"{page.relative_to(ROOT)}: {fault}" for page in PAGES for fault in faults_of(page, files, known)]
     faults += [f"docs/DEFINITIONS.md: {place}" for place in definitions()]
+    faults += [f"docs/LIBRARY.md: {path} is not quoted" for path in examples()]
     if PROGRAM.exists():
         faults += [f"README.md: {fault}" for fault in outputs()]
     print(*faults, f"{len(PAGES)} pages, {len(faults)} faults", sep="\n")

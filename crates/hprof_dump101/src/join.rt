@@ -12,7 +12,7 @@ ghost use Rattle.hprof_dump101.specs.Joining101.{dump101_making};
 use crate::dump::write_v101;
 use crate::fault::DumpFault;
 use hprof_devices::{Source, Target};
-use hprof_engine::{Joined, Kept, Product, Stop, ToolFault, make_to};
+use hprof_engine::{Joined, JoinedHeap, Product, ToolFault, WriteStop, make_to};
 use hprof_heap::{Gatherer, Heap};
 use hprof_stream::Limits;
 use std::alloc::Global;
@@ -47,11 +47,11 @@ impl Product for Dump101 {
         _kept: &(),
         heap: &Heap,
         target: &mut W,
-    ) -> Result<(), Stop> {
+    ) -> Result<(), WriteStop> {
         match write_v101(heap, u32::MAX, target) {
             Ok(()) => Ok(()),
-            Err(DumpFault::TooLong) => Err(Stop::TooLong),
-            Err(DumpFault::Write(fault)) => Err(Stop::Write(fault)),
+            Err(DumpFault::TooLong) => Err(WriteStop::TooLong),
+            Err(DumpFault::Write(fault)) => Err(WriteStop::Write(fault)),
         }
     }
 
@@ -64,7 +64,7 @@ pub fn join101_kept<R: Source, W: Target>(
     readers: &mut [R],
     target: &mut W,
     limits: Limits,
-) -> Result<Kept, ToolFault>
+) -> Result<JoinedHeap, ToolFault>
     requires readers { All (λ reader. R.health reader ≡ Well) readers.old }
     requires writer { W.health target.old ≡ Well }
     ensures makes { Makes R.left R.health R.pulls W.written W.health limits dump101_making
@@ -81,7 +81,7 @@ pub fn join101_kept<R: Source, W: Target>(
                 parts: readers.len(),
                 facts: heap.count(),
             };
-            Ok(Kept { joined, heap })
+            Ok(JoinedHeap { joined, heap })
         }
         Err(fault) => Err(fault),
     }

@@ -13,8 +13,8 @@ use Rattle.hprof_stream.specs.declared.summary.PartSummary.{PartSummary}
 use Rattle.hprof_rows.specs.HeapValue.{HeapValue}
 use Rattle.hprof_heap.specs.State.{IsState}
 use Rattle.hprof_engine.specs.declared.tool_fault.ToolFault.{ToolFault}
-use Rattle.hprof_engine.specs.declared.product.Stop.{Stop}
-use Rattle.hprof_engine.specs.declared.product.Stop.TheVariants as stops
+use Rattle.hprof_engine.specs.declared.product.WriteStop.{WriteStop}
+use Rattle.hprof_engine.specs.declared.product.WriteStop.TheVariants as stops
 use Rattle.hprof_engine.specs.Summaries.{AreSummaries}
 use Rattle.hprof_engine.specs.Joining.{Tell, Agree, IsOfReading, IsHindered, IsOkOrConflict}
 use Rattle.hprof_engine.specs.Makes.{Reads, Making, Makes, EndsWriting, IsMadeOf, making_of, fault_of_stop}
@@ -41,7 +41,7 @@ module _ {R W : Type 0} (left : R → Option (List ℕ)) (health : R → Health)
 -- ---- all parts were read, and the writing ended
 
 -- the fault with which the call ends, if any
-abbrev pub fault_of_end : Result (Unit {0}) Stop → Option ToolFault
+abbrev pub fault_of_end : Result (Unit {0}) WriteStop → Option ToolFault
 fault_of_end (Ok done) = None
 fault_of_end (Err stop) = Some (fault_of_stop stop)
 
@@ -52,7 +52,7 @@ ill health faults.Stuck is was = cc
 
 module _ {R : Type 0} (left : R → Option (List ℕ)) (health : R → Health) (pulls : R → ℕ) (limits : Limits) (old new : List R) where
   -- where all parts were read, a stop says nothing else of them
-  stopped : (stop : Stop) → Reads left health pulls limits old new None → Reads left health pulls limits old new (Some (fault_of_stop stop))
+  stopped : (stop : WriteStop) → Reads left health pulls limits old new None → Reads left health pulls limits old new (Some (fault_of_stop stop))
   stopped (stops.Write fault) reads = record {
     no_parts = (λ e. absurd cc, λ none. let no = reads.no_parts.1 none in absurd cc);
     id_sizes = λ e. absurd cc;
@@ -92,7 +92,7 @@ module _ {R : Type 0} (left : R → Option (List ℕ)) (health : R → Health) (
       is = is;
     }
 
-    pub ended : Reads left health pulls limits old new None → (result : Result (Unit {0}) Stop)
+    pub ended : Reads left health pulls limits old new None → (result : Result (Unit {0}) WriteStop)
         → EndsWriting written well (IsText summaries heap) (TooLong heap) TakesMemory before after result
         → Makes left health pulls written well limits (making_of IsText TooLong TakesRoom TakesMemory) old new before after
         (fault_of_end result)

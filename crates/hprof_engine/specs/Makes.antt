@@ -17,8 +17,8 @@ use Rattle.hprof_rows.specs.HeapValue.{HeapValue}
 use Rattle.hprof_heap.specs.State.{IsState, HaveTwoSizes}
 use Rattle.hprof_engine.specs.declared.tool_fault.ToolFault.{ToolFault}
 use Rattle.hprof_engine.specs.declared.tool_fault.ToolFault.TheVariants as tool
-use Rattle.hprof_engine.specs.declared.product.Stop.{Stop}
-use Rattle.hprof_engine.specs.declared.product.Stop.TheVariants as stops
+use Rattle.hprof_engine.specs.declared.product.WriteStop.{WriteStop}
+use Rattle.hprof_engine.specs.declared.product.WriteStop.TheVariants as stops
 use Rattle.hprof_engine.specs.Joining.{Tell, Agree, Disagree, IsAccepted, RefusesPart, AreReadOut, read_count, AreRead, IsHindered}
 use Rattle.hprof_engine.specs.Joining.{IsOkOrConflict, IsBeforeWriting}
 use Rattle.hprof_engine.specs.Summaries.{AreSummaries}
@@ -92,7 +92,7 @@ pub record Makes {R W : Type 0} (left : R → Option (List ℕ)) (health : R →
 -- how the writing of a product of one heap ends
 --   IsText: this is its text;  TooLong: it is refused before the first byte;  TakesMemory: writing it takes memory
 abbrev pub EndsWriting : {W : Type 0} → (W → Option (List ℕ)) → (W → Health) → (IsText : List ℕ → Type 0) → (TooLong TakesMemory : Type 0)
-    → (before after : W) → Result (Unit {0}) Stop → Type 0
+    → (before after : W) → Result (Unit {0}) WriteStop → Type 0
 EndsWriting written well IsText TooLong TakesMemory before after (Ok done) =
     (well after ≡ healths.Well) × ((text : List ℕ) × IsText text × Appends (written before) (written after) text)
 EndsWriting written well IsText TooLong TakesMemory before after (Err (stops.Write fault)) =
@@ -120,7 +120,7 @@ making_of IsText TooLong TakesRoom TakesMemory = record {
 }
 
 -- the fault that a product's stop is
-abbrev pub fault_of_stop : Stop → ToolFault
+abbrev pub fault_of_stop : WriteStop → ToolFault
 fault_of_stop (stops.Write fault) = tool.Write fault
 fault_of_stop stops.OutOfMemory = tool.OutOfMemory
 fault_of_stop stops.TooLong = tool.DumpTooLong

@@ -8,9 +8,9 @@ ghost use Rattle.hprof_heap.specs.Heap.{heap_of};
 ghost use Rattle.hprof_engine.specs.Joining.{Tell, Agree, AreJoined, fault_of};
 ghost use Rattle.hprof_engine.specs.Makes.{Makes, dump_making};
 
-use crate::joined::{Joined, Kept};
+use crate::joined::{Joined, JoinedHeap};
 use crate::make::make_to;
-use crate::product::{Product, Stop};
+use crate::product::{Product, WriteStop};
 use crate::tool_fault::ToolFault;
 use hprof_devices::{Source, Target};
 use hprof_dump::write_canonical;
@@ -48,10 +48,10 @@ impl Product for Dump {
         _kept: &(),
         heap: &Heap,
         target: &mut W,
-    ) -> Result<(), Stop> {
+    ) -> Result<(), WriteStop> {
         match write_canonical(heap, target) {
             Ok(()) => Ok(()),
-            Err(fault) => Err(Stop::Write(fault)),
+            Err(fault) => Err(WriteStop::Write(fault)),
         }
     }
 
@@ -64,7 +64,7 @@ pub fn join_kept<R: Source, W: Target>(
     readers: &mut [R],
     target: &mut W,
     limits: Limits,
-) -> Result<Kept, ToolFault>
+) -> Result<JoinedHeap, ToolFault>
     requires readers { All (λ reader. R.health reader ≡ Well) readers.old }
     requires writer { W.health target.old ≡ Well }
     ensures makes { Makes R.left R.health R.pulls W.written W.health limits dump_making
@@ -83,7 +83,7 @@ pub fn join_kept<R: Source, W: Target>(
                 parts: readers.len(),
                 facts: heap.count(),
             };
-            Ok(Kept { joined, heap })
+            Ok(JoinedHeap { joined, heap })
         }
         Err(fault) => Err(fault),
     }

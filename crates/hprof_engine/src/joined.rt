@@ -13,7 +13,7 @@ pub struct Joined {
 
 /// What was joined, and the heap that was written.
 #[derive(Drop)]
-pub struct Kept {
+pub struct JoinedHeap {
     /// How much was joined.
     pub joined: Joined,
     /// The heap whose dump was written.

@@ -12,9 +12,9 @@ mod summaries;
 mod tool_fault;
 
 pub use join::{Dump, join_kept, join_to};
-pub use joined::{Joined, Kept};
+pub use joined::{Joined, JoinedHeap};
 pub use make::make_to;
-pub use product::{Product, Stop};
+pub use product::{Product, WriteStop};
 pub use read::read_heap;
 pub use summaries::Summaries;
 pub use tool_fault::ToolFault;

@@ -7,7 +7,7 @@ ghost use Rattle.hprof_stream.specs.declared.summary.PartSummary.{PartSummary};
 ghost use Rattle.hprof_engine.specs.Joining.{Tell, Agree, fault_of};
 ghost use Rattle.hprof_engine.specs.Makes.{Makes, making_of, fault_of_stop};
 
-use crate::product::{Product, Stop};
+use crate::product::{Product, WriteStop};
 use crate::read::read_heap;
 use crate::summaries::Summaries;
 use crate::tool_fault::ToolFault;
@@ -17,13 +17,13 @@ use hprof_stream::Limits;
 use std::alloc::Global;
 
 /// The fault that a stop is.
-fn fault_of_stop(stop: Stop) -> ToolFault
+fn fault_of_stop(stop: WriteStop) -> ToolFault
     ensures { result ≡ fault_of_stop stop }
 {
     match stop {
-        Stop::Write(fault) => ToolFault::Write(fault),
-        Stop::TooLong => ToolFault::DumpTooLong,
-        Stop::OutOfMemory => ToolFault::OutOfMemory,
+        WriteStop::Write(fault) => ToolFault::Write(fault),
+        WriteStop::TooLong => ToolFault::DumpTooLong,
+        WriteStop::OutOfMemory => ToolFault::OutOfMemory,
     }
 }
 

@@ -9,7 +9,7 @@ use std::alloc::{AllocError, Global};
 
 /// Why the writing of a product stopped.
 #[derive(Clone, Copy, Debug, PartialEq, Eq)]
-pub enum Stop {
+pub enum WriteStop {
     /// The writer failed or stuck.
     Write(WriteFault),
     /// What is made of the heap is longer than it may be. Nothing was written.
@@ -18,13 +18,13 @@ pub enum Stop {
     OutOfMemory,
 }
 
-impl From<AllocError> for Stop {
-    ghost use Rattle.hprof_engine.specs.declared.product.Stop.TheVariants.{OutOfMemory};
+impl From<AllocError> for WriteStop {
+    ghost use Rattle.hprof_engine.specs.declared.product.WriteStop.TheVariants.{OutOfMemory};
 
     ghost from_gives = { λ _ stop. stop ≡ OutOfMemory };
 
-    fn from(_error: AllocError) -> Stop {
-        Stop::OutOfMemory
+    fn from(_error: AllocError) -> WriteStop {
+        WriteStop::OutOfMemory
     }
 }
 
@@ -66,7 +66,7 @@ pub trait Product {
         kept: &Self::Kept,
         found: &<Self::Gatherer as Gather>::Found,
         target: &mut W,
-    ) -> Result<(), Stop>
+    ) -> Result<(), WriteStop>
         requires well { W.health target.old ≡ Well }
         requires listed { (id : ℕ) → asks self.now id → Self.Gatherer.lists found.now id }
         ensures { (summaries : List PartSummary) → Self.Kept.holds kept.now summaries

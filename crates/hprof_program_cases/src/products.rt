@@ -5,7 +5,7 @@ ghost use Rattle.std.specs.Prelude.{⊤};
 use crate::expecting::equal;
 use crate::samples::{HEADER, readers_of};
 use hprof_devices::{Device, Target};
-use hprof_engine::{Product, Stop, ToolFault, make_to};
+use hprof_engine::{Product, ToolFault, WriteStop, make_to};
 use hprof_heap::{Gatherer, Heap};
 use hprof_stream::Limits;
 use std::alloc::Global;
@@ -15,7 +15,7 @@ use std::test::Fail;
 // A product that nothing is written of: it stops at once.
 #[derive(Clone, Copy)]
 struct Stopped {
-    stop: Stop,
+    stop: WriteStop,
 }
 
 impl Product for Stopped {
@@ -44,14 +44,14 @@ impl Product for Stopped {
         _kept: &(),
         _heap: &Heap,
         target: &mut W,
-    ) -> Result<(), Stop> {
+    ) -> Result<(), WriteStop> {
         match self.stop {
-            Stop::TooLong => Err(Stop::TooLong),
-            Stop::OutOfMemory => match target.push(&[]) {
-                Ok(_) => Err(Stop::OutOfMemory),
-                Err(fault) => Err(Stop::Write(fault)),
+            WriteStop::TooLong => Err(WriteStop::TooLong),
+            WriteStop::OutOfMemory => match target.push(&[]) {
+                Ok(_) => Err(WriteStop::OutOfMemory),
+                Err(fault) => Err(WriteStop::Write(fault)),
             },
-            Stop::Write(_) => Ok(()),
+            WriteStop::Write(_) => Ok(()),
         }
     }
 
@@ -62,7 +62,7 @@ impl Product for Stopped {
 fn check_stopped(
     rt: &impl Abort,
     alloc: Global,
-    stop: Stop,
+    stop: WriteStop,
     expected: ToolFault,
 ) -> Result<(), Fail> {
     let mut readers = readers_of(alloc, &[HEADER])?;
@@ -82,8 +82,8 @@ fn check_stopped(
 #[test]
 fn products_that_stop(rt: HostRuntime) -> Result<(), Fail> {
     let cases = [
-        (Stop::TooLong, ToolFault::DumpTooLong),
-        (Stop::OutOfMemory, ToolFault::OutOfMemory),
+        (WriteStop::TooLong, ToolFault::DumpTooLong),
+        (WriteStop::OutOfMemory, ToolFault::OutOfMemory),
     ];
     for (stop, fault) in cases {
         check_stopped(&rt, rt.alloc(), stop, fault)?;

@@ -6,45 +6,45 @@ use Rattle.std.proofs.KnownBytes.{Appends-nil, Appends-trans}
 use Rattle.hex.specs.Hex.{encode_lower, encode_with, lower_digits}
 use Rattle.hprof_text.proofs.Prints.{encode_with-append}
 use Rattle.hprof_devices.proofs.Writes.{WritesFront, WritesFront-more, WritesFront-then, Pushed}
-use Rattle.hprof_engine.specs.declared.product.Stop.{Stop}
+use Rattle.hprof_engine.specs.declared.product.WriteStop.{WriteStop}
 use Rattle.hprof_reports.specs.Line.{text_of_lines}
 use Rattle.hprof_reports.specs.ObjectText.{contents_text}
-use Rattle.hprof_engine.specs.declared.product.Stop.TheVariants as stops
+use Rattle.hprof_engine.specs.declared.product.WriteStop.TheVariants as stops
 use Rattle.hprof_engine.specs.Makes.{EndsWriting}
 use Rattle.hprof_devices.specs.declared.health.Health.{Health}
 use Rattle.std.specs.Prelude.{⊤}
 use Rattle.hprof_reports.specs.Stopping.{WritesText, LeavesTarget}
 
-module _ {A : Type 0} (r : Result A Stop) where
+module _ {A : Type 0} (r : Result A WriteStop) where
   -- nothing was written before it stopped
-  pub text_unwritten : (old : Option (List ℕ)) (stop : Stop) (text : List ℕ) → r ≡ Err stop → WritesText old old r text
+  pub text_unwritten : (old : Option (List ℕ)) (stop : WriteStop) (text : List ℕ) → r ≡ Err stop → WritesText old old r text
   text_unwritten old stop text e = rw e (0, omega arith, Appends-nil old)
 
   -- a front was written when it stopped
-  pub text_stopped : (old new : Option (List ℕ)) (stop : Stop) (text : List ℕ) → r ≡ Err stop → WritesFront old new text
+  pub text_stopped : (old new : Option (List ℕ)) (stop : WriteStop) (text : List ℕ) → r ≡ Err stop → WritesFront old new text
       → WritesText old new r text
   text_stopped old new stop text e front = rw e front
 
   -- a front of the first text was
-  pub text_stops : (old new : Option (List ℕ)) (stop : Stop) (a b : List ℕ) → r ≡ Err stop → WritesFront old new a
+  pub text_stops : (old new : Option (List ℕ)) (stop : WriteStop) (a b : List ℕ) → r ≡ Err stop → WritesFront old new a
       → WritesText old new r (a ++ b)
   text_stops old new stop a b e front = rw e (WritesFront-more old new a b front)
 
   -- all of the first text was, and nothing of the next
-  pub text_stops_between : (old new : Option (List ℕ)) (stop : Stop) (a b : List ℕ) → r ≡ Err stop → Appends old new a
+  pub text_stops_between : (old new : Option (List ℕ)) (stop : WriteStop) (a b : List ℕ) → r ≡ Err stop → Appends old new a
       → WritesText old new r (a ++ b)
   text_stops_between old new stop a b e first =
       rw e (WritesFront-then old new new a b first (0, omega arith, Appends-nil new))
 
 -- the first text was written, and then the next as far as it went
-pub text_then : {A : Type 0} (r : Result A Stop) (old mid new : Option (List ℕ)) (a b : List ℕ) → Appends old mid a → WritesText mid new r b
+pub text_then : {A : Type 0} (r : Result A WriteStop) (old mid new : Option (List ℕ)) (a b : List ℕ) → Appends old mid a → WritesText mid new r b
     → WritesText old new r (a ++ b)
 text_then (Ok done) old mid new a b first second = Appends-trans old mid new a b first second
 text_then (Err stop) old mid new a b first second = WritesFront-then old mid new a b first second
 
 -- ---- what is pushed
 
-module _ {A : Type 0} (r : Result A Stop) (stop : Stop) (e : r ≡ Err stop) (old mid : Option (List ℕ)) (all rest : List ℕ)
+module _ {A : Type 0} (r : Result A WriteStop) (stop : WriteStop) (e : r ≡ Err stop) (old mid : Option (List ℕ)) (all rest : List ℕ)
     (p : Pushed old mid all rest) where
   -- it stopped between two pieces
   pub pushed_stops : WritesText old mid r all
@@ -81,7 +81,7 @@ no_digits bytes e = rw e refl
 -- ---- how the writing of a report ends
 
 pub text_ends : {W : Type 0} (written : W → Option (List ℕ)) (well : W → Health) (IsText : List ℕ → Type 0) (before after : W)
-    (r : Result (Unit {0}) Stop) (text : List ℕ)
+    (r : Result (Unit {0}) WriteStop) (text : List ℕ)
     → IsText text → WritesText (written before) (written after) r text → LeavesTarget r (well after)
     → EndsWriting written well IsText ⊥ ⊤ before after r
 text_ends written well IsText before after (Ok done) text is writes health = (health, (text, is, writes))

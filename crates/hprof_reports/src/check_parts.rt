@@ -8,7 +8,7 @@ ghost use Rattle.hprof_reports.specs.Checking.{check_making};
 
 use crate::check::write_check;
 use hprof_devices::{Source, Target};
-use hprof_engine::{Product, Stop, ToolFault, make_to};
+use hprof_engine::{Product, ToolFault, WriteStop, make_to};
 use hprof_heap::{Gatherer, Heap};
 use hprof_stream::{Limits, PartSummary};
 use std::alloc::Global;
@@ -43,10 +43,10 @@ impl Product for Check {
         kept: &Vec<PartSummary>,
         heap: &Heap,
         target: &mut W,
-    ) -> Result<(), Stop> {
+    ) -> Result<(), WriteStop> {
         match write_check(kept, heap, target) {
             Ok(()) => Ok(()),
-            Err(fault) => Err(Stop::Write(fault)),
+            Err(fault) => Err(WriteStop::Write(fault)),
         }
     }
 

@@ -9,7 +9,7 @@ ghost use Rattle.hprof_reports.specs.Stopping.{LeavesTarget, WritesText};
 
 use crate::lines::write_text;
 use hprof_devices::{Target, WriteFault, push_all};
-use hprof_engine::Stop;
+use hprof_engine::WriteStop;
 
 /// How many bytes are written at a time.
 const PIECE_LEN: usize = 512;
@@ -43,7 +43,7 @@ fn write_digits<W: Target>(bytes: &[u8], target: &mut W) -> Result<(), WriteFaul
 }
 
 /// Writes the line of an array's contents, where it has any, piece by piece. At a fault some of it was written, from the front.
-pub(crate) fn write_contents<W: Target>(bytes: &[u8], target: &mut W) -> Result<(), Stop>
+pub(crate) fn write_contents<W: Target>(bytes: &[u8], target: &mut W) -> Result<(), WriteStop>
     requires { W.health target.old ≡ Well }
     ensures bytes { WritesText (W.written target.old) (W.written target.new) result (contents_text bytes.now) }
     ensures health { LeavesTarget result (W.health target.new) }
@@ -53,7 +53,7 @@ pub(crate) fn write_contents<W: Target>(bytes: &[u8], target: &mut W) -> Result<
     }
     write_text("bytes ", target)?;
     if let Err(fault) = write_digits(bytes, target) {
-        return Err(Stop::Write(fault));
+        return Err(WriteStop::Write(fault));
     }
     write_text("\n", target)
 }

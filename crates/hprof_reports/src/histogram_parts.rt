@@ -8,7 +8,7 @@ ghost use Rattle.hprof_reports.specs.HistogramReporting.{histogram_making};
 
 use crate::histogram_report::write_histogram;
 use hprof_devices::{Source, Target};
-use hprof_engine::{Product, Stop, ToolFault, make_to};
+use hprof_engine::{Product, ToolFault, WriteStop, make_to};
 use hprof_heap::{Gatherer, Heap};
 use hprof_stream::Limits;
 use std::alloc::Global;
@@ -44,7 +44,7 @@ impl Product for HistogramReport {
         _kept: &(),
         heap: &Heap,
         target: &mut W,
-    ) -> Result<(), Stop> {
+    ) -> Result<(), WriteStop> {
         write_histogram(alloc, heap, target)
     }
 

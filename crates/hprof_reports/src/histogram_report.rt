@@ -10,7 +10,7 @@ ghost use Rattle.hprof_reports.specs.Stopping.{LeavesTarget, WritesText};
 
 use crate::lines::write_line;
 use hprof_devices::Target;
-use hprof_engine::Stop;
+use hprof_engine::WriteStop;
 use hprof_heap::Heap;
 use hprof_histogram::{Kind, Row, histogram};
 use hprof_lookup::id_size;
@@ -82,7 +82,7 @@ fn write_rows<W: Target>(
     names: &ClassNames,
     rows: &[Row],
     target: &mut W,
-) -> Result<(), Stop>
+) -> Result<(), WriteStop>
     requires named { AreClassNames (facts_of heap.now) names.now }
     requires well { W.health target.old ≡ Well }
     ensures bytes { (naming : Naming) → IsNaming (facts_of heap.now) naming
@@ -99,7 +99,11 @@ fn write_rows<W: Target>(
 
 /// Writes the report `histo`: a line for each kind of which a heap has objects, those with the most bytes first. Where it stops,
 /// at a fault or for want of memory, some of it was written, from the front.
-pub fn write_histogram<W: Target>(alloc: Global, heap: &Heap, target: &mut W) -> Result<(), Stop>
+pub fn write_histogram<W: Target>(
+    alloc: Global,
+    heap: &Heap,
+    target: &mut W,
+) -> Result<(), WriteStop>
     requires { W.health target.old ≡ Well }
     ensures bytes { (text : List ℕ) × IsHistogramText (size_of heap.now) (facts_of heap.now) text
         × WritesText (W.written target.old) (W.written target.new) result text }

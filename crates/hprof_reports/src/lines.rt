@@ -8,7 +8,7 @@ ghost use Rattle.hprof_reports.specs.Line.{text_of_lines};
 ghost use Rattle.hprof_reports.specs.Stopping.{LeavesTarget, WritesText};
 
 use hprof_devices::{Target, push_all};
-use hprof_engine::Stop;
+use hprof_engine::WriteStop;
 use std::alloc::{AllocError, Global};
 
 /// Lines on what a heap holds, one after the other.
@@ -35,14 +35,14 @@ pub(crate) trait Lines {
 }
 
 /// Writes a text. At a fault some of it was written, from the front.
-pub(crate) fn write_text<W: Target>(text: &str, target: &mut W) -> Result<(), Stop>
+pub(crate) fn write_text<W: Target>(text: &str, target: &mut W) -> Result<(), WriteStop>
     requires { W.health target.old ≡ Well }
     ensures bytes { WritesText (W.written target.old) (W.written target.new) result text.now }
     ensures health { LeavesTarget result (W.health target.new) }
 {
     match push_all(text.as_bytes(), target) {
         Ok(()) => Ok(()),
-        Err(fault) => Err(Stop::Write(fault)),
+        Err(fault) => Err(WriteStop::Write(fault)),
     }
 }
 
@@ -50,7 +50,7 @@ pub(crate) fn write_text<W: Target>(text: &str, target: &mut W) -> Result<(), St
 pub(crate) fn write_line<W: Target>(
     line: Result<String, AllocError>,
     target: &mut W,
-) -> Result<(), Stop>
+) -> Result<(), WriteStop>
     requires { W.health target.old ≡ Well }
     ensures bytes { (text : List ℕ) → IfOk line (λ line. string_bytes line ≡ text)
         → WritesText (W.written target.old) (W.written target.new) result text }
@@ -58,7 +58,7 @@ pub(crate) fn write_line<W: Target>(
 {
     match line {
         Ok(line) => write_text(&line, target),
-        Err(_) => Err(Stop::OutOfMemory),
+        Err(_) => Err(WriteStop::OutOfMemory),
     }
 }
 
@@ -67,7 +67,7 @@ pub(crate) fn write_lines<L: Lines + Drop, W: Target>(
     alloc: Global,
     mut lines: L,
     target: &mut W,
-) -> Result<(), Stop>
+) -> Result<(), WriteStop>
     requires { W.health target.old ≡ Well }
     ensures bytes { (naming : Naming) → IsNaming (facts_of (L.shows lines)) naming
         → WritesText (W.written target.old) (W.written target.new) result (text_of_lines (L.lines_left lines naming)) }

@@ -18,7 +18,7 @@ use crate::contents::write_contents;
 use crate::lines::{write_line, write_lines};
 use crate::object_lines::{ElementLines, FieldLines, elements_line, instance_line, values_line};
 use hprof_devices::Target;
-use hprof_engine::Stop;
+use hprof_engine::WriteStop;
 use hprof_heap::Heap;
 use hprof_layouts::{Fields, fields};
 use hprof_lists::IdList;
@@ -31,7 +31,7 @@ fn write_constants<W: Target>(
     heap: &Heap,
     row: &ClassRow<'_>,
     target: &mut W,
-) -> Result<(), Stop>
+) -> Result<(), WriteStop>
     requires { W.health target.old ≡ Well }
     ensures bytes { (naming : Naming) → IsNaming (facts_of heap.now) naming
         → WritesText (W.written target.old) (W.written target.new) result
@@ -53,7 +53,7 @@ fn write_statics<W: Target>(
     heap: &Heap,
     row: &ClassRow<'_>,
     target: &mut W,
-) -> Result<(), Stop>
+) -> Result<(), WriteStop>
     requires { W.health target.old ≡ Well }
     ensures bytes { (naming : Naming) → IsNaming (facts_of heap.now) naming
         → WritesText (W.written target.old) (W.written target.new) result
@@ -75,7 +75,7 @@ fn write_own_fields<W: Target>(
     heap: &Heap,
     row: &ClassRow<'_>,
     target: &mut W,
-) -> Result<(), Stop>
+) -> Result<(), WriteStop>
     requires { W.health target.old ≡ Well }
     ensures bytes { (naming : Naming) → IsNaming (facts_of heap.now) naming
         → WritesText (W.written target.old) (W.written target.new) result
@@ -97,7 +97,7 @@ fn write_class<W: Target>(
     heap: &Heap,
     row: &ClassRow<'_>,
     target: &mut W,
-) -> Result<(), Stop>
+) -> Result<(), WriteStop>
     requires { W.health target.old ≡ Well }
     ensures bytes { (naming : Naming) → IsNaming (facts_of heap.now) naming
         → WritesText (W.written target.old) (W.written target.new) result
@@ -130,7 +130,7 @@ fn write_fields<W: Target>(
     heap: &Heap,
     object: u64,
     target: &mut W,
-) -> Result<(), Stop>
+) -> Result<(), WriteStop>
     requires { W.health target.old ≡ Well }
     ensures bytes { (naming : Naming) (shown : FieldsValue) → IsNaming (facts_of heap.now) naming
         → AreFields (size_of heap.now) (facts_of heap.now) object shown
@@ -159,7 +159,7 @@ fn write_elements<W: Target>(
     heap: &Heap,
     elements: &IdList<'_>,
     target: &mut W,
-) -> Result<(), Stop>
+) -> Result<(), WriteStop>
     requires { W.health target.old ≡ Well }
     ensures bytes { (naming : Naming) → IsNaming (facts_of heap.now) naming
         → WritesText (W.written target.old) (W.written target.new) result
@@ -182,7 +182,7 @@ fn write_object_row<W: Target>(
     object: u64,
     row: &ObjectRow<'_>,
     target: &mut W,
-) -> Result<(), Stop>
+) -> Result<(), WriteStop>
     requires { W.health target.old ≡ Well }
     ensures bytes { (naming : Naming) (shown : FieldsValue) → IsNaming (facts_of heap.now) naming
         → AreFields (size_of heap.now) (facts_of heap.now) object shown
@@ -236,7 +236,7 @@ fn write_found<W: Target>(
     class: Option<ClassRow<'_>>,
     object: Option<ObjectRow<'_>>,
     target: &mut W,
-) -> Result<(), Stop>
+) -> Result<(), WriteStop>
     requires { W.health target.old ≡ Well }
     ensures bytes { (naming : Naming) (shown : FieldsValue) → IsNaming (facts_of heap.now) naming
         → AreFields (size_of heap.now) (facts_of heap.now) id shown
@@ -262,7 +262,7 @@ pub fn write_object<W: Target>(
     heap: &Heap,
     id: u64,
     target: &mut W,
-) -> Result<(), Stop>
+) -> Result<(), WriteStop>
     requires { W.health target.old ≡ Well }
     ensures bytes { (text : List ℕ) × IsObjectText (size_of heap.now) (facts_of heap.now) id text
         × WritesText (W.written target.old) (W.written target.new) result text }

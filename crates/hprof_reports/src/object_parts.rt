@@ -8,7 +8,7 @@ ghost use Rattle.hprof_reports.specs.ObjectReporting.{object_making};
 
 use crate::object::write_object;
 use hprof_devices::{Source, Target};
-use hprof_engine::{Product, Stop, ToolFault, make_to};
+use hprof_engine::{Product, ToolFault, WriteStop, make_to};
 use hprof_heap::{Gatherer, Heap};
 use hprof_stream::Limits;
 use std::alloc::Global;
@@ -47,7 +47,7 @@ impl Product for ObjectReport {
         _kept: &(),
         heap: &Heap,
         target: &mut W,
-    ) -> Result<(), Stop> {
+    ) -> Result<(), WriteStop> {
         write_object(alloc, heap, self.id, target)
     }
 

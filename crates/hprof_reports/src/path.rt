@@ -11,7 +11,7 @@ ghost use Rattle.hprof_reports.specs.Stopping.{LeavesTarget, WritesText};
 
 use crate::lines::{write_line, write_text};
 use hprof_devices::Target;
-use hprof_engine::Stop;
+use hprof_engine::WriteStop;
 use hprof_heap::Heap;
 use hprof_lookup::id_size;
 use hprof_reach::{Reach, reach_of};
@@ -32,7 +32,7 @@ fn node_line(alloc: Global, node: u64) -> Result<String, AllocError>
 }
 
 /// Writes a line for each node. Where it stops some of them were written, from the front.
-fn write_nodes<W: Target>(alloc: Global, nodes: &[u64], target: &mut W) -> Result<(), Stop>
+fn write_nodes<W: Target>(alloc: Global, nodes: &[u64], target: &mut W) -> Result<(), WriteStop>
     requires { W.health target.old ≡ Well }
     ensures bytes { WritesText (W.written target.old) (W.written target.new) result (nodes_text nodes.now) }
     ensures health { LeavesTarget result (W.health target.new) }
@@ -52,7 +52,7 @@ fn write_reached<W: Target>(
     reach: &Reach,
     id: u64,
     target: &mut W,
-) -> Result<(), Stop>
+) -> Result<(), WriteStop>
     requires { W.health target.old ≡ Well }
     ensures bytes { (ids : IdSize) (facts : List FactValue) → IsReach ids facts reach.now
         → (text : List ℕ) × IsPathText ids facts id text × WritesText (W.written target.old) (W.written target.new) result text }
@@ -76,7 +76,7 @@ pub fn write_path<W: Target>(
     heap: &Heap,
     id: u64,
     target: &mut W,
-) -> Result<(), Stop>
+) -> Result<(), WriteStop>
     requires { W.health target.old ≡ Well }
     ensures bytes { (text : List ℕ) × IsPathText (size_of heap.now) (facts_of heap.now) id text
         × WritesText (W.written target.old) (W.written target.new) result text }

@@ -9,7 +9,7 @@ ghost use Rattle.hprof_reports.specs.Stopping.{LeavesTarget, WritesText};
 use crate::lines::{Lines, write_lines};
 use hprof_devices::Target;
 use hprof_edges::{Edge, Via};
-use hprof_engine::Stop;
+use hprof_engine::WriteStop;
 use hprof_heap::Heap;
 use std::alloc::{AllocError, Global};
 
@@ -77,7 +77,7 @@ pub fn write_refs<W: Target>(
     heap: &Heap,
     edges: &[Edge],
     target: &mut W,
-) -> Result<(), Stop>
+) -> Result<(), WriteStop>
     requires { W.health target.old ≡ Well }
     ensures bytes { WritesText (W.written target.old) (W.written target.new) result (text_of_lines (map edge_line edges.now)) }
     ensures health { LeavesTarget result (W.health target.new) }

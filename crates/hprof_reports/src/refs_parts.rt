@@ -8,7 +8,7 @@ ghost use Rattle.hprof_reports.specs.RefsReporting.{refs_making};
 
 use crate::refs::write_refs;
 use hprof_devices::{Source, Target};
-use hprof_engine::{Product, Stop, ToolFault, make_to};
+use hprof_engine::{Product, ToolFault, WriteStop, make_to};
 use hprof_live::{IndexedHeap, LiveHeap};
 use hprof_stream::Limits;
 use std::alloc::Global;
@@ -48,7 +48,7 @@ impl Product for RefsReport {
         _kept: &(),
         found: &IndexedHeap,
         target: &mut W,
-    ) -> Result<(), Stop> {
+    ) -> Result<(), WriteStop> {
         write_refs(alloc, &found.heap, found.index.referrers(self.id), target)
     }
 

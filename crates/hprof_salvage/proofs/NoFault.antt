@@ -24,8 +24,8 @@ use Rattle.hprof_heap.specs.State.{IsState}
 use Rattle.hprof_heap.specs.Gathering.{Gathered, Tells}
 use Rattle.hprof_engine.specs.declared.tool_fault.ToolFault.{ToolFault}
 use Rattle.hprof_engine.specs.declared.tool_fault.ToolFault.TheVariants as tool
-use Rattle.hprof_engine.specs.declared.product.Stop.{Stop}
-use Rattle.hprof_engine.specs.declared.product.Stop.TheVariants as stops
+use Rattle.hprof_engine.specs.declared.product.WriteStop.{WriteStop}
+use Rattle.hprof_engine.specs.declared.product.WriteStop.TheVariants as stops
 use Rattle.hprof_engine.specs.Joining.{Tell, Agree, IsAccepted, AreGiven, AreReadOut, RefusesPart, is_want, IsOfReading, IsHindered, IsOkOrConflict}
 use Rattle.hprof_engine.specs.Makes.{Reads, Makes, dump_making, IsDumpText, EndsWriting}
 use Rattle.hprof_engine.specs.Summaries.{AreSummaries}
@@ -291,7 +291,7 @@ module _ {R : Type 0} (left : R → Option (List ℕ)) (health : R → Health) (
                   (its.state.of_parts ∙ told_once parts others (sym have.told ∙ told)) some.1,
             )
 
-        writes : (end : Result (Unit {0}) Stop) → EndsWriting written well (IsDumpText summarised.0 heap) ⊥ ⊥ before after end
+        writes : (end : Result (Unit {0}) WriteStop) → EndsWriting written well (IsDumpText summarised.0 heap) ⊥ ⊥ before after end
             → Makes left health pulls written well limits dump_making old new before after (fault_of_end end)
         writes end ends = ended left health pulls limits old new written well IsDumpText (λ other. ⊥) (λ count. ⊥) ⊥ before after heap
             summarised.0 agrees summarised.1 (all_read parts have.told reads (Ok heap) through sound).0 end ends

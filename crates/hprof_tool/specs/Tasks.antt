@@ -21,15 +21,15 @@ use Rattle.hprof_tool.specs.Words.{is_answer, is_new_file, answer_making}
 -- the word asks for the task; all that is none of these words asks for the canonical dump, and of all the words that the program has
 -- this is `join` alone
 abbrev pub AsksFor : List ℕ → Task → Type 0
-AsksFor word tasks.Pass = ⊥
+AsksFor word tasks.JoinInput = ⊥
 AsksFor word (tasks.Salvage out parts) = word ≡ codes "salvage"
 AsksFor word (tasks.Check parts) = word ≡ codes "check"
 AsksFor word (tasks.Histogram parts) = word ≡ codes "histo"
 AsksFor word (tasks.Ask questions.Object id parts) = word ≡ codes "object"
 AsksFor word (tasks.Ask questions.Path id parts) = word ≡ codes "path"
 AsksFor word (tasks.Ask questions.Refs id parts) = word ≡ codes "refs"
-AsksFor word (tasks.Make files.Dump101 out parts) = word ≡ codes "join101"
-AsksFor word (tasks.Make files.Dump out parts) = (word ≢ codes "salvage") × (word ≢ codes "check") × (word ≢ codes "histo")
+AsksFor word (tasks.Write files.Dump101 out parts) = word ≡ codes "join101"
+AsksFor word (tasks.Write files.Dump out parts) = (word ≢ codes "salvage") × (word ≢ codes "check") × (word ≢ codes "histo")
     × (word ≢ codes "object") × (word ≢ codes "path") × (word ≢ codes "refs") × (word ≢ codes "join101")
 
 -- answered: what came of the names of files
@@ -37,8 +37,8 @@ AsksFor word (tasks.Make files.Dump out parts) = (word ≢ codes "salvage") × (
 module _ {F I O : Type 0} (answered : Answered F) (tells holds : F → Option (List ℕ)) (left : I → Option (List ℕ)) (contents : O → Option (List ℕ)) where
   -- the task is done, and the stream that it may have written to is that now
   abbrev pub DoesTask : Task → (input : I) → (old new : O) → Type 0
-  DoesTask tasks.Pass input old new = IsMadeOfStream IsDump left contents input old new
-  DoesTask (tasks.Make product out parts) input old new =
+  DoesTask tasks.JoinInput input old new = IsMadeOfStream IsDump left contents input old new
+  DoesTask (tasks.Write product out parts) input old new =
       ((written : F) × IsMadeInFile (IsMadeOf (is_new_file product)) answered tells holds parts.items out.now written) × (new ≡ old)
   DoesTask (tasks.Salvage out parts) input old new = (salvaged : Salvaged)
       × ((file : F) × IsSalvagedFile answered tells holds parts.items out.now salvaged file)
@@ -50,8 +50,8 @@ module _ {F I O : Type 0} (answered : Answered F) (tells holds : F → Option (L
 
   -- the task is refused, and so much is left of the stream
   abbrev pub RefusesTask : Task → (input : I) → (old : O) → Refused → (new : Option O) → Type 0
-  RefusesTask tasks.Pass input old why new = RefusesStream left contents input old why new
-  RefusesTask (tasks.Make product out parts) input old why new = new ≡ Some old
+  RefusesTask tasks.JoinInput input old why new = RefusesStream left contents input old why new
+  RefusesTask (tasks.Write product out parts) input old why new = new ≡ Some old
   RefusesTask (tasks.Salvage out parts) input old why new =
       (after : O) × (new ≡ Some after) × RefusesSalvage answered tells holds parts.items out.now old after why
   RefusesTask (tasks.Check parts) input old why new = RefusesReport check_making answered tells contents parts.items old why new

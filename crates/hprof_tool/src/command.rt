@@ -10,10 +10,10 @@ use std::alloc::{AllocError, Global};
 #[derive(Drop)]
 pub(crate) enum Task<'a> {
     /// To join the part on standard input, to standard output.
-    Pass,
-    /// To make something of the parts in files, in a new file.
-    Make {
-        /// What to make.
+    JoinInput,
+    /// To write a dump of the parts in files to a new file.
+    Write {
+        /// Which dump.
         product: NewFile,
         /// The name of the new file.
         out: &'a str,
@@ -78,12 +78,20 @@ fn parts_arg<'a>(alloc: Global) -> Arg<'a> {
 }
 
 /// A command that reports on parts.
-fn reporting<'a>(alloc: Global, name: &'a str, about: &'a str) -> Result<Command<'a>, AllocError> {
+fn reporting_command<'a>(
+    alloc: Global,
+    name: &'a str,
+    about: &'a str,
+) -> Result<Command<'a>, AllocError> {
     Command::new(alloc, name).about(about).arg(parts_arg(alloc))
 }
 
 /// A command that writes a new file that is made of parts.
-fn making<'a>(alloc: Global, name: &'a str, about: &'a str) -> Result<Command<'a>, AllocError> {
+fn writing_command<'a>(
+    alloc: Global,
+    name: &'a str,
+    about: &'a str,
+) -> Result<Command<'a>, AllocError> {
     let out = Arg::new(alloc, "out")
         .value_name("OUT")
         .help("The new file for the dump")
@@ -96,7 +104,11 @@ fn making<'a>(alloc: Global, name: &'a str, about: &'a str) -> Result<Command<'a
 }
 
 /// A command that reports on an identifier.
-fn asking<'a>(alloc: Global, name: &'a str, about: &'a str) -> Result<Command<'a>, AllocError> {
+fn asking_command<'a>(
+    alloc: Global,
+    name: &'a str,
+    about: &'a str,
+) -> Result<Command<'a>, AllocError> {
     let id = Arg::new(alloc, "id")
         .value_name("ID")
         .help("The identifier of a class or an object, in hexadecimal")
@@ -115,38 +127,38 @@ fn command<'a>(alloc: Global) -> Result<Command<'a>, AllocError> {
             "Reads and joins Java heap dumps; without a command, from standard input to standard output",
         )
         .disable_help_subcommand(true)
-        .subcommand(making(
+        .subcommand(writing_command(
             alloc,
             "join",
             "Joins parts of a Java heap into one canonical dump",
         )?)?
-        .subcommand(making(
+        .subcommand(writing_command(
             alloc,
             "join101",
             "Joins parts of a Java heap into one dump for tools that read JAVA PROFILE 1.0.1 alone",
         )?)?
-        .subcommand(making(
+        .subcommand(writing_command(
             alloc,
             "salvage",
             "Saves what is whole in damaged parts of a Java heap, and says what is wrong with them",
         )?)?
-        .subcommand(reporting(alloc, "check", "Says how many facts the parts have")?)?
-        .subcommand(reporting(
+        .subcommand(reporting_command(alloc, "check", "Says how many facts the parts have")?)?
+        .subcommand(reporting_command(
             alloc,
             "histo",
             "Says how many objects of each class there are, and how many bytes they have",
         )?)?
-        .subcommand(asking(
+        .subcommand(asking_command(
             alloc,
             "object",
             "Says what the class and the object of an identifier hold",
         )?)?
-        .subcommand(asking(
+        .subcommand(asking_command(
             alloc,
             "path",
             "Says how few references lead to an identifier from a root, and by which path",
         )?)?
-        .subcommand(asking(alloc, "refs", "Says what refers to an identifier")?)
+        .subcommand(asking_command(alloc, "refs", "Says what refers to an identifier")?)
 }
 
 /// The names of the parts that were given to a command.
@@ -183,12 +195,12 @@ fn task_named<'a>(alloc: Global, name: &str, words: &ArgMatches<'a>) -> Result<T
             id,
             parts,
         },
-        "join101" => Task::Make {
+        "join101" => Task::Write {
             product: NewFile::Dump101,
             out,
             parts,
         },
-        _ => Task::Make {
+        _ => Task::Write {
             product: NewFile::Dump,
             out,
             parts,
@@ -200,7 +212,7 @@ fn task_named<'a>(alloc: Global, name: &str, words: &ArgMatches<'a>) -> Result<T
 pub(crate) fn task_of<'a>(alloc: Global, words: &'a [String]) -> Result<Task<'a>, Error> {
     let matches = command(alloc)?.try_get_matches_from(words)?;
     let Some((name, words)) = matches.subcommand() else {
-        return Ok(Task::Pass);
+        return Ok(Task::JoinInput);
     };
     Ok(task_named(alloc, name, words)?)
 }

@@ -9,7 +9,7 @@ mod status;
 
 pub use hprof_devices::{Device, Health, Source, Target};
 pub use hprof_dump101::{join101_kept, join101_to};
-pub use hprof_engine::{Joined, Kept, ToolFault, join_kept, join_to};
+pub use hprof_engine::{Joined, JoinedHeap, ToolFault, join_kept, join_to};
 pub use hprof_heap::Heap;
 pub use hprof_reports::{check_to, histo_to, object_to, path_to, refs_to};
 pub use hprof_salvage::{FaultedPart, Salvaged, SalvagedHeap, salvage_kept, salvage_to};

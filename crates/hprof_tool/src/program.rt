@@ -20,7 +20,7 @@ use hprof_dump101::Dump101;
 use hprof_engine::{Dump, Product};
 use hprof_reports::{Check, HistogramReport, ObjectReport, PathReport, RefsReport};
 use hprof_text::parse_id;
-use joining::{join_stream, make_file, report_files};
+use joining::{join_stream, report_files, write_file};
 use refused::Refused;
 use salvaging::{Written, salvage_file, tell_faults};
 use std::alloc::Global;
@@ -32,12 +32,12 @@ use std::rt::Files;
 mod answers;
 mod folder;
 mod joining;
-mod making;
 mod refused;
 mod salvaging;
+mod writing;
 
 /// Joins the part on `input` to `output`, which it gives back.
-fn pass<I: Read + Drop, O: Write + Drop, E: Write>(
+fn join_input<I: Read + Drop, O: Write + Drop, E: Write>(
     alloc: Global,
     input: I,
     output: O,
@@ -53,7 +53,7 @@ fn pass<I: Read + Drop, O: Write + Drop, E: Write>(
 }
 
 /// Writes what is made of parts in files to a new file.
-fn write_new<P: Product, F: Folder, E: Write>(
+fn write_new_file<P: Product, F: Folder, E: Write>(
     alloc: Global,
     files: &F,
     product: &P,
@@ -65,7 +65,7 @@ fn write_new<P: Product, F: Folder, E: Write>(
         × IsMadeInFile (IsMadeOf (P.is_text product.now)) (F.answered files.now) F.File.remaining F.File.contents names.now out.now written }
     ensures understood { result ≢ Status.NotUnderstood }
 {
-    answer_outcome(alloc, make_file(alloc, files, product, out, names), errors)
+    answer_outcome(alloc, write_file(alloc, files, product, out, names), errors)
 }
 
 /// Saves what can be saved of parts in files in a new file, which it gives back, and then tells the faults of the parts on
@@ -139,7 +139,7 @@ fn report<P: Product, F: Folder, O: Write + Drop, E: Write>(
 }
 
 /// Makes what is asked for of parts in files, in a new file.
-fn make<F: Folder, E: Write>(
+fn write_dump<F: Folder, E: Write>(
     alloc: Global,
     files: &F,
     product: NewFile,
@@ -152,8 +152,8 @@ fn make<F: Folder, E: Write>(
     ensures understood { result ≢ Status.NotUnderstood }
 {
     match product {
-        NewFile::Dump => write_new(alloc, files, &Dump, out, names, errors),
-        NewFile::Dump101 => write_new(alloc, files, &Dump101, out, names, errors),
+        NewFile::Dump => write_new_file(alloc, files, &Dump, out, names, errors),
+        NewFile::Dump101 => write_new_file(alloc, files, &Dump101, out, names, errors),
     }
 }
 
@@ -211,13 +211,13 @@ fn perform<F: Folder, I: Read + Drop, O: Write + Drop, E: Write>(
     ensures understood { result.status ≡ Status.NotUnderstood → result.output ≡ Some output }
 {
     match task {
-        Task::Pass => pass(alloc, input, output, errors),
-        Task::Make {
+        Task::JoinInput => join_input(alloc, input, output, errors),
+        Task::Write {
             product,
             out,
             parts,
         } => Ended {
-            status: make(alloc, files, product, out, &parts, errors),
+            status: write_dump(alloc, files, product, out, &parts, errors),
             output: Some(output),
         },
         Task::Salvage { out, parts } => Ended {

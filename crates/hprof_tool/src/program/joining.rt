@@ -10,8 +10,8 @@ ghost use Rattle.hprof_tool.specs.Program.{IsOfMaking, IsOfOpening};
 ghost use Rattle.hprof_tool.specs.Streams.{RefusesStream, RefusesReport};
 
 use crate::program::folder::Folder;
-use crate::program::making::make_buffered;
 use crate::program::refused::{Refused, Stopped};
+use crate::program::writing::write_through_buffer;
 use hprof_devices::Device;
 use hprof_engine::{Dump, Product, ToolFault};
 use std::alloc::Global;
@@ -34,7 +34,7 @@ pub(crate) fn join_stream<I: Read + Drop, O: Write + Drop>(
             writer: Some(output),
         });
     };
-    make_buffered(alloc, &Dump, &mut part, output)
+    write_through_buffer(alloc, &Dump, &mut part, output)
 }
 
 /// Opens the parts in order.
@@ -60,7 +60,7 @@ pub(crate) fn open_parts<F: Folder>(
 
 /// Writes what is made of parts in files to a new file, which it gives back. After a refusal by the engine the new file is
 /// removed.
-pub(crate) fn make_file<P: Product, F: Folder>(
+pub(crate) fn write_file<P: Product, F: Folder>(
     alloc: Global,
     files: &F,
     product: &P,
@@ -78,7 +78,7 @@ pub(crate) fn make_file<P: Product, F: Folder>(
     let Ok(file) = files.create_out(out) else {
         return Err(Refused::Create);
     };
-    match make_buffered(alloc, product, &mut parts, file) {
+    match write_through_buffer(alloc, product, &mut parts, file) {
         Ok(file) => Ok(file),
         Err(stopped) => {
             files.remove_out(out);
@@ -111,5 +111,5 @@ pub(crate) fn report_files<P: Product, F: Folder, O: Write + Drop>(
             });
         }
     };
-    make_buffered(alloc, report, &mut parts, output)
+    write_through_buffer(alloc, report, &mut parts, output)
 }

@@ -13,8 +13,8 @@ ghost use Rattle.hprof_tool.specs.Telling.{TellsFaults, IsOfTelling, line_end};
 
 use crate::program::folder::Folder;
 use crate::program::joining::open_parts;
-use crate::program::making::{BUFFER_LEN, end_of_writing};
 use crate::program::refused::{Refused, WRITE_FAILED};
+use crate::program::writing::{BUFFER_LEN, end_of_writing};
 use hprof_devices::{Device, Source};
 use hprof_engine::ToolFault;
 use hprof_salvage::{FaultedPart, Salvaged, salvage_kept};

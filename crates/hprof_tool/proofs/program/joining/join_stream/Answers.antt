@@ -11,14 +11,14 @@ pub returns-clause-ok : goal.returns-clause-ok
 returns-clause-ok g c =
     let one : c.deref_mut.result.now ≡ c.new.result ∷ [] = c.deref_mut.ensures.value ∙ c.in-Ok.ensures.items
     ∙ ap (λ (ds : List (Device g.row.I.Denot)). ds ++ c.new.result ∷ []) c.new-part.ensures.items in
-    if_ok_more _ _ c.make_buffered.result
+    if_ok_more _ _ c.write_through_buffer.result
     (λ written makes part told. (makes.1.ok refl).1 (part ∷ []) (one_told g.I.Read.remaining c.deref_mut.result.now c.new.result
-    c.args.input part one c.new.ensures.inner told)) c.make_buffered.ensures.ok
+    c.args.input part one c.new.ensures.inner told)) c.write_through_buffer.ensures.ok
 
 pub returns-clause-kind : goal.returns-clause-kind
-returns-clause-kind g c = if_err_more _ _ c.make_buffered.result
+returns-clause-kind g c = if_err_more _ _ c.write_through_buffer.result
     (λ stopped stops. stream_kind _ _ _ _ _ IsDumpText (λ heap. ⊥) (λ parts. ⊥) ⊥ _ _ stopped.why stopped.writer stops)
-    c.make_buffered.ensures.stops
+    c.write_through_buffer.ensures.stops
 
 pub returns-clause-refused : goal.returns-clause-refused
 returns-clause-refused g c =
@@ -26,9 +26,9 @@ returns-clause-refused g c =
     ∙ ap (λ (ds : List (Device g.row.I.Denot)). ds ++ c.new.result ∷ []) c.new-part.ensures.items in
     let told_by = λ (part : List ℕ) (told : g.I.Read.remaining c.args.input ≡ Some part). one_told g.I.Read.remaining c.deref_mut.result.now
     c.new.result c.args.input part one c.new.ensures.inner told in
-    if_err_more _ _ c.make_buffered.result (λ stopped stops. (
+    if_err_more _ _ c.write_through_buffer.result (λ stopped stops. (
       λ part told. stream_refusal _ _ _ _ _ IsDumpText (λ heap. ⊥) (λ parts. ⊥) ⊥ _ _ stopped.why stopped.writer stops (part ∷ [])
           (told_by part told),
       stream_left _ _ _ _ _ IsDumpText (λ heap. ⊥) (λ parts. ⊥) ⊥ _ _ (IsFrontOfStream IsDump g.I.Read.remaining c.args.input)
           (λ held holds writes part told. writes (part ∷ []) (told_by part told)) stopped.why stopped.writer stops,
-    )) c.make_buffered.ensures.stops
+    )) c.write_through_buffer.ensures.stops

@@ -14,13 +14,13 @@ returns-clause-ok g c =
     let answered = g.F.Folder.answered c.args.files.now in
     let opened = subst (λ (parts : List (Device _)). AreOpened answered c.args.names.now parts) (sym c.deref_mut.ensures.value)
     c.in-Ok.ensures.opened in
-    if_ok_more _ _ c.make_buffered.result
-    (λ written makes. record { parts = c.deref_mut.result.now; opened = opened; holds = (makes.1.ok refl).1 }) c.make_buffered.ensures.ok
+    if_ok_more _ _ c.write_through_buffer.result
+    (λ written makes. record { parts = c.deref_mut.result.now; opened = opened; holds = (makes.1.ok refl).1 }) c.write_through_buffer.ensures.ok
 
 pub returns-clause-no_parts : goal.returns-clause-no_parts
-returns-clause-no_parts g c = if_err_more _ _ c.make_buffered.result
+returns-clause-no_parts g c = if_err_more _ _ c.write_through_buffer.result
     (λ stopped stops same. sym c.in-Ok.ensures.count ∙ ap length (sym c.deref_mut.ensures.value)
-    ∙ stream_no_parts _ _ _ _ _ _ _ _ _ _ _ stopped.why stopped.writer stops same) c.make_buffered.ensures.stops
+    ∙ stream_no_parts _ _ _ _ _ _ _ _ _ _ _ stopped.why stopped.writer stops same) c.write_through_buffer.ensures.stops
 
 pub returns-clause-refused : goal.returns-clause-refused
 returns-clause-refused g c =
@@ -33,13 +33,13 @@ returns-clause-refused g c =
     let parts = c.deref_mut.result.now in
     let opened = subst (λ (parts : List (Device _)). AreOpened answered c.args.names.now parts) (sym c.deref_mut.ensures.value)
     c.in-Ok.ensures.opened in
-    if_err_more _ _ c.make_buffered.result (λ stopped stops. (
+    if_err_more _ _ c.write_through_buffer.result (λ stopped stops. (
       of_reporting (making_of is_text too_long room memory) answered left c.args.names.now parts opened stopped.why
           (stream_kind _ _ _ _ _ is_text too_long room memory _ _ stopped.why stopped.writer stops)
           (stream_refusal _ _ _ _ _ is_text too_long room memory _ _ stopped.why stopped.writer stops),
       stream_left _ _ _ _ _ is_text too_long room memory _ _ (IsFrontOfFiles (IsMadeOf is_text) answered left c.args.names.now)
           (λ held holds writes. record { parts = parts; opened = opened; holds = writes }) stopped.why stopped.writer stops,
-    )) c.make_buffered.ensures.stops
+    )) c.write_through_buffer.ensures.stops
 
 pub returns-in-Err-clause-refused : goal.returns-in-Err-clause-refused
 returns-in-Err-clause-refused g c =

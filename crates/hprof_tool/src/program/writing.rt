@@ -26,7 +26,7 @@ const WRITE_FAILED: ToolFault = ToolFault::Write(WriteFault::Failed);
 
 /// What making came to, with the writer and the bytes that did not reach it.
 #[derive(Drop)]
-struct Making<W> {
+struct Writing<W> {
     outcome: Result<(), ToolFault>,
     writer: W,
     unwritten: Vec<u8>,
@@ -55,7 +55,7 @@ pub(crate) fn end_of_writing<T: Drop, W: Write + Drop>(
 
 /// Makes something of the parts of the readers, without the heap, which need not be freed row by row, since the process
 /// ends.
-fn make<P: Product, R: Source, W: Write + Drop>(
+fn write_product<P: Product, R: Source, W: Write + Drop>(
     alloc: Global,
     product: &P,
     readers: &mut [R],
@@ -78,12 +78,12 @@ fn make<P: Product, R: Source, W: Write + Drop>(
 
 /// Makes something of the parts of the readers into a buffered writer, and flushes it. A buffer that is dropped would
 /// write once more what it holds, so it is taken apart.
-fn make_into<P: Product, R: Source, W: Write + Drop>(
+fn write_and_flush<P: Product, R: Source, W: Write + Drop>(
     alloc: Global,
     product: &P,
     readers: &mut [R],
     buffered: BufWriter<W>,
-) -> Making<W>
+) -> Writing<W>
     requires { All (λ reader. R.health reader ≡ Well) readers.old }
     ensures makes { MakesStream R.left R.health R.pulls
         (making_of (P.is_text product.now) (P.is_too_long product.now) P.Kept.takes_room (P.takes_memory product.now))
@@ -93,11 +93,11 @@ fn make_into<P: Product, R: Source, W: Write + Drop>(
     ensures untouched { IsBeforeWriting (fault_of result.outcome) → result.writer ≡ writer_inner buffered }
 {
     let mut target = Device::new(buffered);
-    let made = make(alloc, product, readers, &mut target);
+    let made = write_product(alloc, product, readers, &mut target);
     let mut buffered = target.into_inner();
     let outcome = end_of_writing(made, &mut buffered);
     let (writer, unwritten) = buffered.into_parts();
-    Making {
+    Writing {
         outcome,
         writer,
         unwritten,
@@ -105,7 +105,7 @@ fn make_into<P: Product, R: Source, W: Write + Drop>(
 }
 
 /// Makes something of the parts of the readers into a writer, and gives the writer back.
-pub(crate) fn make_buffered<P: Product, R: Source, W: Write + Drop>(
+pub(crate) fn write_through_buffer<P: Product, R: Source, W: Write + Drop>(
     alloc: Global,
     product: &P,
     readers: &mut [R],
@@ -125,11 +125,11 @@ pub(crate) fn make_buffered<P: Product, R: Source, W: Write + Drop>(
             writer: None,
         });
     };
-    let Making {
+    let Writing {
         outcome,
         writer,
         unwritten,
-    } = make_into(alloc, product, readers, buffered);
+    } = write_and_flush(alloc, product, readers, buffered);
     // To free this large block behind the rows would make the allocator go over all of them.
     mem::forget(unwritten);
     match outcome {

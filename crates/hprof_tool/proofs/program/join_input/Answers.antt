@@ -1,6 +1,6 @@
 use Rattle.hprof_tool.specs.Streams.{RefusesStream}
 use Rattle.hprof_tool.proofs.Ends.{done_of_stream, refused_of_stream}
-use Rattle.hprof_tool.proofs.program.pass.Goals as goal
+use Rattle.hprof_tool.proofs.program.join_input.Goals as goal
 
 pub returns-clause-done : goal.returns-clause-done
 returns-clause-done g c = done_of_stream _ c.join_stream.result c.answer_stream.result c.join_stream.ensures.ok

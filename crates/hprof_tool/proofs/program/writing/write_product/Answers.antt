@@ -4,7 +4,7 @@ use Rattle.hprof_devices.specs.Device.{inner_of, health_of}
 use Rattle.hprof_stream.specs.declared.limits.Limits.{Limits}
 use Rattle.hprof_engine.specs.Makes.{Makes, making_of}
 use Rattle.hprof_tool.proofs.Making.{are_usual}
-use Rattle.hprof_tool.proofs.program.making.make.Goals as goal
+use Rattle.hprof_tool.proofs.program.writing.write_product.Goals as goal
 
 pub returns-in-Err : goal.returns-in-Err
 returns-in-Err g c =

@@ -6,7 +6,7 @@ use Rattle.hprof_tool.specs.Folder.{AreOpened}
 use Rattle.hprof_tool.specs.declared.program.refused.Refused.TheVariants as refusals
 use Rattle.hprof_tool.proofs.Files.{not_of_engine, of_opening, if_the_error, of_making}
 use Rattle.hprof_tool.proofs.Streams.{stream_refusal, stream_kind, stream_no_parts}
-use Rattle.hprof_tool.proofs.program.joining.make_file.Goals as goal
+use Rattle.hprof_tool.proofs.program.joining.write_file.Goals as goal
 
 pub returns-in_err-parts-clause-no_parts : goal.returns-in_err-parts-clause-no_parts
 returns-in_err-parts-clause-no_parts g c = λ same.
@@ -20,15 +20,15 @@ returns-in_err-parts-clause-refused g c =
     if_the_error _ c.from_residual.result c.in_err-parts.field-0.0 (of_opening making _ _ _ _ _ c.in_err-parts.ensures.kind)
     c.from_residual.ensures.1
 
-pub returns-in-Ok-make_buffered-clause-ok : goal.returns-in-Ok-make_buffered-clause-ok
-returns-in-Ok-make_buffered-clause-ok g c = (
+pub returns-in-Ok-write_through_buffer-clause-ok : goal.returns-in-Ok-write_through_buffer-clause-ok
+returns-in-Ok-write_through_buffer-clause-ok g c = (
   c.in-Ok.file,
   c.in-Ok.ensures.created,
   record {
     parts = c.deref_mut.result.now;
     opened = subst (λ (parts : List (Device _)). AreOpened (g.F.Folder.answered c.args.files.now) c.args.names.now parts)
         (sym c.deref_mut.ensures.value) c.in_ok-parts.ensures.opened;
-    holds = (c.in-Ok-make_buffered.ensures.ok.1.ok refl).1;
+    holds = (c.in-Ok-write_through_buffer.ensures.ok.1.ok refl).1;
   },
 )
 

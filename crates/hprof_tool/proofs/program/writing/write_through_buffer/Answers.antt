@@ -5,12 +5,12 @@ use Rattle.hprof_engine.specs.declared.tool_fault.ToolFault.{ToolFault}
 use Rattle.hprof_engine.specs.Joining.{IsBeforeWriting, fault_of}
 use Rattle.hprof_engine.specs.Makes.{making_of}
 use Rattle.hprof_tool.proofs.Making.{none_added, same_stream}
-use Rattle.hprof_tool.proofs.program.making.make_buffered.Goals as goal
+use Rattle.hprof_tool.proofs.program.writing.write_through_buffer.Goals as goal
 
 pub returns-in-Ok-outcome-clause-ok : goal.returns-in-Ok-outcome-clause-ok
 returns-in-Ok-outcome-clause-ok g c =
     let contents = g.W.Write.contents in
-    let made = c.make_into-outcome in
+    let made = c.write_and_flush-outcome in
     let making = making_of (g.P.Product.is_text c.args.product.now) (g.P.Product.is_too_long c.args.product.now)
     g.P.Kept.Summaries.takes_room (g.P.Product.takes_memory c.args.product.now) in
     let empty : writer_contents contents c.in-Ok.buffered ≡ contents c.args.writer =
@@ -24,7 +24,7 @@ returns-in-Ok-outcome-clause-ok g c =
 pub returns-in-Err : goal.returns-in-Err
 returns-in-Err g c =
     let contents = g.W.Write.contents in
-    let made = c.make_into-outcome in
+    let made = c.write_and_flush-outcome in
     let making = making_of (g.P.Product.is_text c.args.product.now) (g.P.Product.is_too_long c.args.product.now)
     g.P.Kept.Summaries.takes_room (g.P.Product.takes_memory c.args.product.now) in
     let empty : writer_contents contents c.in-Ok.buffered ≡ contents c.args.writer =

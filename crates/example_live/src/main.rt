@@ -1,0 +1,30 @@
+//! Reads a part into a heap that keeps its references, and prints what refers to an object.
+#![tactic(auto)]
+
+use hprof_devices::Device;
+use hprof_graph::{Live, LiveHeap};
+use hprof_stream::{Limits, read_part};
+use std::io;
+
+/// A part with an array 17 of the class 100, whose one element is 16.
+const PART: &[u8] = b"JAVA PROFILE 1.0.2\0\0\0\0\x04\0\0\0\0\0\0\0\x01\x1c\0\0\0\0\0\0\0\x15\
+    \x22\0\0\0\x11\0\0\0\x01\0\0\0\x01\0\0\0\x64\0\0\0\x10";
+
+fn main(rt: HostRuntime) -> io::Result<()> {
+    let alloc = rt.alloc();
+    let mut live = LiveHeap::new(alloc);
+    let mut part = Device::new(PART);
+    if let Err(fault) = read_part(alloc, &mut part, Limits::usual(), &mut live) {
+        return println!(rt; "{fault}");
+    }
+    let Live::Is(edges) = live.referrers_now(16) else {
+        return println!(rt; "the facts do not agree");
+    };
+    for edge in edges {
+        println!(rt;
+            "{} refers to 16, by {:?}, at {}",
+            edge.from, edge.via, edge.position
+        )?;
+    }
+    Ok(())
+}

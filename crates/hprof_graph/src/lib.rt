@@ -1,0 +1,13 @@
+//! Questions over a heap: layouts of classes, fields of objects, references, the class histogram, paths from the GC roots, and a heap that
+//! answers while its facts still come.
+//!
+//! This crate has no code. It gives the calls of the crates that answer, under one name, with their laws.
+#![tactic(auto)]
+
+pub mod laws;
+
+pub use hprof_edges::{Edge, Via, edges_of, referrers};
+pub use hprof_histogram::{Kind, Row, histogram};
+pub use hprof_layouts::{FieldValue, Fields, Layout, Slot, fields, layout};
+pub use hprof_live::{Index, IndexedHeap, Live, LiveHeap};
+pub use hprof_reach::{Reach, reach_of as reach};
