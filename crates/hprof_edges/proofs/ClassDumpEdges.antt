@@ -3,7 +3,7 @@ use Rattle.std.specs.Prelude.{◌≢◌, ◌↔◌, map, slice_get}
 use Rattle.std.proofs.Common.{◌≡◌, ℕ, List, ◌++◌, Contains, Some, refl, sym, subst, inl, inr}
 use Rattle.std.proofs.lemmas.List.Elements.{Contains-append_cases, Contains-append_left, Contains-append_right}
 use Rattle.hprof_lists.specs.declared.entry.Entry.{Entry}
-use Rattle.hprof_lookup.specs.Classes.{ClassDump}
+use Rattle.hprof_lookup.specs.Classes.{ClassValue}
 use Rattle.hprof_edges.specs.declared.edge.Via.{Via}
 use Rattle.hprof_edges.specs.declared.edge.Via.TheVariants as vias
 use Rattle.hprof_edges.specs.declared.edge.Edge.{Edge}
@@ -13,7 +13,7 @@ use Rattle.hprof_edges.specs.Edges.{EntryRefers}
 use Rattle.hprof_edges.proofs.EdgeMembers.{only_there, there_once, numbered_is, is_numbered, at_position}
 use Rattle.hprof_edges.proofs.Targets.{constants_same, statics_same, entry_refers, entry_target}
 
-module _ (dump : ClassDump) where
+module _ (dump : ClassValue) where
   -- ---- what is put is given
 
   named_is : (via : Via) (to : ℕ) (edge : Edge) → ClassRefers dump via 0 to → Contains (named_edge dump via to) edge → IsClassEdge dump edge

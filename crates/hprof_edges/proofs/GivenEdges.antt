@@ -4,7 +4,7 @@ use Rattle.std.proofs.Common.{◌≡◌, ◌⊎◌, ℕ, List, refl, sym, subst,
 use Rattle.hprof_values.specs.declared.ids.IdSize.{IdSize}
 use Rattle.hprof_items.specs.FactValue.{FactValue, Instance, ObjArray}
 use Rattle.hprof_rows.specs.Facts.{Has}
-use Rattle.hprof_lookup.specs.Classes.{ClassDump, HasDump}
+use Rattle.hprof_lookup.specs.Classes.{ClassValue, HasDump}
 use Rattle.hprof_edges.specs.declared.edge.Via.{Via}
 use Rattle.hprof_edges.specs.declared.edge.Via.TheVariants as vias
 use Rattle.hprof_edges.specs.declared.edge.Edge.{Edge}
@@ -14,8 +14,8 @@ use Rattle.hprof_edges.specs.Edges.{IsEdge, OfDump, Refers}
 module _ (ids : IdSize) (facts : List FactValue) where
   -- ---- from an edge to a dump
 
-  by_dump : (from : ℕ) (via : Via) (position to : ℕ) (P : ClassDump → Type 0) → to ≢ 0 → OfDump facts from P
-      → ((dump : ClassDump) → P dump → ClassRefers dump via position to)
+  by_dump : (from : ℕ) (via : Via) (position to : ℕ) (P : ClassValue → Type 0) → to ≢ 0 → OfDump facts from P
+      → ((dump : ClassValue) → P dump → ClassRefers dump via position to)
       → GivenByClass facts (record { from = from; via = via; position = position; to = to })
   by_dump from via position to P not_zero of gives = record {
     dump = of.dump;
@@ -60,7 +60,7 @@ module _ (ids : IdSize) (facts : List FactValue) where
 
   -- ---- from a class dump to an edge
 
-  dump_refers : (dump : ClassDump) → HasDump facts dump → (via : Via) (position to : ℕ) → ClassRefers dump via position to
+  dump_refers : (dump : ClassValue) → HasDump facts dump → (via : Via) (position to : ℕ) → ClassRefers dump via position to
       → Refers ids facts dump.id via position to
   dump_refers dump has vias.Class position to is = absurd is
   dump_refers dump has vias.Parent position to is = (is.0, record { dump = dump; has = has; id = refl; holds = is.1 })

@@ -3,7 +3,7 @@ use Rattle.std.proofs.Common.{ℕ, List, inl, inr}
 use Rattle.hprof_values.specs.declared.ids.IdSize.{IdSize}
 use Rattle.hprof_items.specs.FactValue.{FactValue, Instance, ObjArray}
 use Rattle.hprof_rows.specs.Facts.{Has}
-use Rattle.hprof_lookup.specs.Classes.{ClassDump, fact_of_dump}
+use Rattle.hprof_lookup.specs.Classes.{ClassValue, fact_of_class}
 use Rattle.hprof_lookup.specs.Objects.{HasInstance, HasElements}
 use Rattle.hprof_layouts.specs.declared.field_value.FieldValue.{FieldValue}
 use Rattle.hprof_layouts.specs.Fields.{HasValues}
@@ -26,8 +26,8 @@ module _ (facts more : List FactValue) (all : (fact : FactValue) → Has facts f
   class_stays object class (inl is) = inl (is.0, instance_stays object class is.0 is.1)
   class_stays object class (inr is) = inr (is.0, elements_stay object class is.0 is.1)
 
-  dump_stays : (class : ℕ) (P : ClassDump → Type 0) → OfDump facts class P → OfDump more class P
-  dump_stays class P is = record { dump = is.dump; has = all (fact_of_dump is.dump) is.has; id = is.id; holds = is.holds }
+  dump_stays : (class : ℕ) (P : ClassValue → Type 0) → OfDump facts class P → OfDump more class P
+  dump_stays class P is = record { dump = is.dump; has = all (fact_of_class is.dump) is.has; id = is.id; holds = is.holds }
 
   values_stay : (ids : IdSize) (class : ℕ) (bytes : List ℕ) (values : List FieldValue) → HasValues ids facts class bytes values
       → HasValues ids more class bytes values

@@ -5,7 +5,7 @@ use Rattle.hprof_values.specs.declared.ids.IdSize.{IdSize}
 use Rattle.hprof_values.specs.declared.basic.Basic.{Basic}
 use Rattle.hprof_items.specs.FactValue.{FactValue, Instance, ObjArray, PrimArray}
 use Rattle.hprof_rows.specs.declared.key.Key.TheVariants as keys
-use Rattle.hprof_lookup.specs.Classes.{ClassDump, HasDump, HasNoDump}
+use Rattle.hprof_lookup.specs.Classes.{ClassValue, HasDump, HasNoDump}
 use Rattle.hprof_lookup.specs.Objects.{HasNoObject, IsObject}
 use Rattle.hprof_lookup.proofs.ObjectFacts.{IsOnlyObject}
 use Rattle.hprof_layouts.proofs.FieldAnswers.{dump_of_instance}
@@ -18,14 +18,14 @@ use Rattle.hprof_edges.proofs.GivenEdges.{class_edge_back, edge_given, object_ed
 -- ---- a class dump
 
 module _ (facts : List FactValue) (class : ℕ) where
-  pub by_class : (dump : ClassDump) → HasDump facts dump → dump.id ≡ class
-      → ((other : ClassDump) → HasDump facts other → other.id ≡ class → dump ≡ other) → (edge : Edge)
+  pub by_class : (dump : ClassValue) → HasDump facts dump → dump.id ≡ class
+      → ((other : ClassValue) → HasDump facts other → other.id ≡ class → dump ≡ other) → (edge : Edge)
       → ((edge.from ≡ class) × GivenByClass facts edge) ↔ IsClassEdge dump edge
   by_class dump has is_class only edge = (there, back) where
     there : (edge.from ≡ class) × GivenByClass facts edge → IsClassEdge dump edge
     there given =
         let g = given.1 in
-        subst (λ (d : ClassDump). IsClassEdge d edge) (sym (only g.dump g.has (sym g.edge_is.from_is ∙ given.0))) g.edge_is
+        subst (λ (d : ClassValue). IsClassEdge d edge) (sym (only g.dump g.has (sym g.edge_is.from_is ∙ given.0))) g.edge_is
 
     back : IsClassEdge dump edge → (edge.from ≡ class) × GivenByClass facts edge
     back is = (is.from_is ∙ is_class, record { dump = dump; has = has; edge_is = is })

@@ -11,7 +11,7 @@ use Rattle.hprof_rows.specs.Facts.{Has}
 use Rattle.hprof_rows.specs.Tables.{facts_of_table, number_of_table, stands_in}
 use Rattle.hprof_rows.proofs.FactSets.{Has-back, Has-front, Has-parts}
 use Rattle.hprof_rows.proofs.Picking.{picked, picked_is}
-use Rattle.hprof_lookup.specs.Classes.{ClassDump, fact_of_dump}
+use Rattle.hprof_lookup.specs.Classes.{ClassValue, fact_of_class}
 use Rattle.hprof_lookup.proofs.ClassFacts.{dump_in}
 use Rattle.hprof_layouts.proofs.Walks.{dump_in_table}
 use Rattle.hprof_edges.specs.declared.edge.Edge.{Edge}
@@ -86,26 +86,26 @@ module _ (P : FactValue → Edge → Type 0) where
 
 -- the fact is a class dump, which gives it
 pub record GivesByClass (fact : FactValue) (edge : Edge) : Type 0 where
-  pub dump : ClassDump
-  pub is : fact_of_dump dump ≡ fact
+  pub dump : ClassValue
+  pub is : fact_of_class dump ≡ fact
   pub edge_is : IsClassEdge dump edge
 
 -- one class dump and its edges
-pub gives_dump : (dump : ClassDump) (fact : FactValue) → fact_of_dump dump ≡ fact → (edge : Edge)
+pub gives_dump : (dump : ClassValue) (fact : FactValue) → fact_of_class dump ≡ fact → (edge : Edge)
     → GivesByClass fact edge ↔ IsClassEdge dump edge
 gives_dump dump fact is edge = (
-  λ gives. subst (λ (d : ClassDump). IsClassEdge d edge) (ap dump_in (gives.is ∙ sym is)) gives.edge_is,
+  λ gives. subst (λ (d : ClassValue). IsClassEdge d edge) (ap dump_in (gives.is ∙ sym is)) gives.edge_is,
   λ edge_is. record { dump = dump; is = is; edge_is = edge_is },
 )
 
-pub no_dump_no_edge : (fact : FactValue) → ((dump : ClassDump) → fact_of_dump dump ≡ fact → ⊥) → (edge : Edge) → GivesByClass fact edge → ⊥
+pub no_dump_no_edge : (fact : FactValue) → ((dump : ClassValue) → fact_of_class dump ≡ fact → ⊥) → (edge : Edge) → GivesByClass fact edge → ⊥
 no_dump_no_edge fact none edge gives = none gives.dump gives.is
 
 pub class_table : (facts : List FactValue) (edge : Edge)
     → GivenByClass facts edge ↔ IsGiven GivesByClass (facts_of_table tables.Classes facts) edge
 class_table facts edge = (
   λ given. record {
-    fact = fact_of_dump given.dump;
+    fact = fact_of_class given.dump;
     has = dump_in_table facts given.dump given.has;
     gives = record { dump = given.dump; is = refl; edge_is = given.edge_is };
   },

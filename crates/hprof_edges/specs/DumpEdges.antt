@@ -3,7 +3,7 @@ use Rattle.std.specs.Prelude.{◌≡◌, ◌≢◌, ◌⊎◌, ℕ, List, Some, 
 use Rattle.hprof_values.specs.declared.ids.IdSize.{IdSize}
 use Rattle.hprof_items.specs.FactValue.{FactValue, Instance, ObjArray}
 use Rattle.hprof_rows.specs.Facts.{Has}
-use Rattle.hprof_lookup.specs.Classes.{ClassDump, HasDump}
+use Rattle.hprof_lookup.specs.Classes.{ClassValue, HasDump}
 use Rattle.hprof_lookup.specs.Objects.{HasInstance}
 use Rattle.hprof_known_layouts.specs.References.{HasReference}
 use Rattle.hprof_edges.specs.declared.edge.Via.{Via}
@@ -14,7 +14,7 @@ use Rattle.hprof_edges.specs.Edges.{EntryRefers}
 -- ---- a class dump
 
 -- by way of that, at that place, the dump refers to it
-abbrev pub ClassRefers : ClassDump → Via → ℕ → ℕ → Type 0
+abbrev pub ClassRefers : ClassValue → Via → ℕ → ℕ → Type 0
 ClassRefers dump vias.Class position to = ⊥
 ClassRefers dump vias.Parent position to = (position ≡ 0) × (dump.parent ≡ to)
 ClassRefers dump vias.Loader position to = (position ≡ 0) × (dump.loader ≡ to)
@@ -26,7 +26,7 @@ ClassRefers dump vias.Field position to = ⊥
 ClassRefers dump vias.Element position to = ⊥
 
 -- the class dump gives the edge
-pub record IsClassEdge (dump : ClassDump) (edge : Edge) : Type 0 where
+pub record IsClassEdge (dump : ClassValue) (edge : Edge) : Type 0 where
   pub not_zero : edge.to ≢ 0
   pub from_is : edge.from ≡ dump.id
   pub refers_is : ClassRefers dump edge.via edge.position edge.to
@@ -65,7 +65,7 @@ IsObjectEdge ids facts fact edge = ⊥
 
 -- one of the class dumps gives it
 pub record GivenByClass (facts : List FactValue) (edge : Edge) : Type 0 where
-  pub dump : ClassDump
+  pub dump : ClassValue
   pub has : HasDump facts dump
   pub edge_is : IsClassEdge dump edge
 

@@ -4,7 +4,7 @@ use Rattle.hprof_values.specs.declared.basic.Basic.{Basic}
 use Rattle.hprof_lists.specs.declared.entry.Entry.{Entry}
 use Rattle.hprof_lists.specs.Value.{constant_of, static_of}
 use Rattle.hprof_layouts.specs.declared.field_value.FieldValue.{FieldValue}
-use Rattle.hprof_lookup.specs.Classes.{ClassDump}
+use Rattle.hprof_lookup.specs.Classes.{ClassValue}
 use Rattle.hprof_known_layouts.specs.declared.reference.Reference.{Reference}
 use Rattle.hprof_known_layouts.specs.Refers.{refers}
 use Rattle.hprof_edges.specs.declared.edge.Via.{Via}
@@ -45,11 +45,11 @@ reference_edges from (reference ∷ references) =
 
 -- ---- of a class
 
-abbrev pub named_edge : ClassDump → Via → ℕ → List Edge
+abbrev pub named_edge : ClassValue → Via → ℕ → List Edge
 named_edge dump via to = unless_zero (record { from = dump.id; via = via; position = 0; to = to })
 
 -- to its superclass, its loader, its signers and its domain
-abbrev pub named_edges : ClassDump → List Edge
+abbrev pub named_edges : ClassValue → List Edge
 named_edges dump =
     named_edge dump vias.Parent dump.parent
     ++ (named_edge dump vias.Loader dump.loader

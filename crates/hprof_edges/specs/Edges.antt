@@ -5,7 +5,7 @@ use Rattle.std.specs.List.Sorted.{IsStrictlySortedBy}
 use Rattle.hprof_values.specs.declared.ids.IdSize.{IdSize}
 use Rattle.hprof_lists.specs.declared.entry.Entry.{Entry}
 use Rattle.hprof_items.specs.FactValue.{FactValue}
-use Rattle.hprof_lookup.specs.Classes.{ClassDump, HasDump}
+use Rattle.hprof_lookup.specs.Classes.{ClassValue, HasDump}
 use Rattle.hprof_lookup.specs.Objects.{HasInstance, HasElements}
 use Rattle.hprof_known_layouts.specs.References.{HasReference}
 use Rattle.hprof_known_layouts.specs.Refers.{refers}
@@ -20,8 +20,8 @@ HasClass facts object class = ((bytes : List ℕ) × HasInstance facts object cl
     ⊎ ((elements : List ℕ) × HasElements facts object class elements)
 
 -- the class has a dump, of which that holds
-pub record OfDump (facts : List FactValue) (class : ℕ) (P : ClassDump → Type 0) : Type 0 where
-  pub dump : ClassDump
+pub record OfDump (facts : List FactValue) (class : ℕ) (P : ClassValue → Type 0) : Type 0 where
+  pub dump : ClassValue
   pub has : HasDump facts dump
   pub id : dump.id ≡ class
   pub holds : P dump

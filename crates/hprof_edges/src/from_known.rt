@@ -53,10 +53,10 @@ fn put_of_known_object<C: Collect>(
         → PutBehind (C.holds into.new) edges (λ edge. (edge.from ≡ id) × GivenByObject (size_of heap.now) (facts_of heap.now) edge)) }
     ensures keeps { OnOk result (C.keeps into.new ≡ C.keeps into.old) }
 {
-    let Some(row) = find_object_near(heap, id, near) else {
+    let Some(dump) = find_object_near(heap, id, near) else {
         return Ok(());
     };
-    object_edges(known, &row, id_size(heap), references, into)?;
+    object_edges(known, &dump, id_size(heap), references, into)?;
     Ok(())
 }
 

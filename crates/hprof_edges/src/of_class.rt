@@ -1,7 +1,7 @@
 //! The edges of a class.
 
 ghost use Rattle.std.specs.Prelude.{◌≡◌, ◌++◌, List, OnOk};
-ghost use Rattle.hprof_lookup.specs.ClassRow.{dump_of};
+ghost use Rattle.hprof_lookup.specs.ClassDump.{class_value};
 ghost use Rattle.hprof_edges.specs.declared.edge.Edge.{Edge};
 ghost use Rattle.hprof_edges.specs.Collecting.{PutBehind};
 ghost use Rattle.hprof_edges.specs.DumpEdges.{IsClassEdge};
@@ -10,7 +10,7 @@ ghost use Rattle.hprof_edges.specs.EdgeLists.{named_edges};
 use crate::collect::Collect;
 use crate::edge::{Edge, Via};
 use crate::putting::{put_constants, put_edge, put_statics};
-use hprof_lookup::ClassRow;
+use hprof_lookup::ClassDump;
 use std::alloc::AllocError;
 
 /// The edge of a class by way of one of the identifiers that its dump has for what it belongs to.
@@ -26,27 +26,27 @@ fn named_edge(class: u64, via: Via, to: u64) -> Edge
 }
 
 /// Puts the edges of a class to its superclass, its loader, its signers and its domain.
-fn put_named<C: Collect>(row: &ClassRow<'_>, into: &mut C) -> Result<(), AllocError>
+fn put_named<C: Collect>(dump: &ClassDump<'_>, into: &mut C) -> Result<(), AllocError>
     ensures holds { OnOk result ((edges : List Edge) → C.holds into.old edges
-        → C.holds into.new (edges ++ named_edges (dump_of row.now))) }
+        → C.holds into.new (edges ++ named_edges (class_value dump.now))) }
     ensures keeps { OnOk result (C.keeps into.new ≡ C.keeps into.old) }
 {
-    put_edge(named_edge(row.id, Via::Parent, row.parent), into)?;
-    put_edge(named_edge(row.id, Via::Loader, row.loader), into)?;
-    put_edge(named_edge(row.id, Via::Signers, row.signers), into)?;
-    put_edge(named_edge(row.id, Via::Domain, row.domain), into)?;
+    put_edge(named_edge(dump.id, Via::Parent, dump.parent), into)?;
+    put_edge(named_edge(dump.id, Via::Loader, dump.loader), into)?;
+    put_edge(named_edge(dump.id, Via::Signers, dump.signers), into)?;
+    put_edge(named_edge(dump.id, Via::Domain, dump.domain), into)?;
     Ok(())
 }
 
 /// Puts the edges of a class dump into what collects them: to its superclass, its loader, its signers and its domain, and
 /// by its constants and static fields. Where memory is refused, nothing holds of what collects them.
-pub fn class_edges<C: Collect>(row: &ClassRow<'_>, into: &mut C) -> Result<(), AllocError>
+pub fn class_edges<C: Collect>(dump: &ClassDump<'_>, into: &mut C) -> Result<(), AllocError>
     ensures holds { OnOk result ((edges : List Edge) → C.holds into.old edges
-        → PutBehind (C.holds into.new) edges (IsClassEdge (dump_of row.now))) }
+        → PutBehind (C.holds into.new) edges (IsClassEdge (class_value dump.now))) }
     ensures keeps { OnOk result (C.keeps into.new ≡ C.keeps into.old) }
 {
-    put_named(row, into)?;
-    put_constants(row.id, row.constants, into)?;
-    put_statics(row.id, row.statics, into)?;
+    put_named(dump, into)?;
+    put_constants(dump.id, dump.constants, into)?;
+    put_statics(dump.id, dump.statics, into)?;
     Ok(())
 }

@@ -17,7 +17,7 @@ use crate::sorting::sort_edges;
 use hprof_heap::Heap;
 use hprof_known_layouts::Wanted;
 use hprof_layouts::{Fields, fields};
-use hprof_lookup::{ObjectRow, find_class_near, find_object, id_size};
+use hprof_lookup::{ObjectDump, find_class_near, find_object, id_size};
 use std::alloc::{AllocError, Global};
 
 /// Puts the edges that the class dump of an identifier gives, if there is one.
@@ -31,10 +31,10 @@ pub(crate) fn put_of_class<C: Collect>(
         → PutBehind (C.holds into.new) edges (λ edge. (edge.from ≡ id) × GivenByClass (facts_of heap.now) edge)) }
     ensures keeps { OnOk result (C.keeps into.new ≡ C.keeps into.old) }
 {
-    let Some(row) = find_class_near(heap, id, near) else {
+    let Some(dump) = find_class_near(heap, id, near) else {
         return Ok(());
     };
-    class_edges(&row, into)?;
+    class_edges(&dump, into)?;
     Ok(())
 }
 
@@ -71,13 +71,13 @@ fn put_of_object<C: Collect>(
 {
     match find_object(heap, id) {
         None => Ok(()),
-        Some(ObjectRow::Instance { class, .. }) => {
+        Some(ObjectDump::Instance { class, .. }) => {
             edge_to_class(id, class, into)?;
             put_of_fields(alloc, heap, id, into)?;
             Ok(())
         }
         Some(
-            ObjectRow::ObjArray {
+            ObjectDump::ObjArray {
                 class,
                 elements,
                 ..
@@ -87,7 +87,7 @@ fn put_of_object<C: Collect>(
             Ok(())
         }
         // What is in an array of numbers refers to nothing.
-        Some(ObjectRow::PrimArray { .. }) => Ok(()),
+        Some(ObjectDump::PrimArray { .. }) => Ok(()),
     }
 }
 

@@ -4,7 +4,7 @@ ghost use Rattle.std.specs.Prelude.{◌≡◌, ◌↔◌, ◌⊎◌, false, List
 ghost use Rattle.hprof_values.specs.declared.ids.IdSize.{IdSize};
 ghost use Rattle.hprof_items.specs.FactValue.{FactValue};
 ghost use Rattle.hprof_lists.specs.Lists.{identifiers_of};
-ghost use Rattle.hprof_lookup.specs.ObjectRow.{fact_of_object};
+ghost use Rattle.hprof_lookup.specs.ObjectDump.{fact_of_object};
 ghost use Rattle.hprof_known_layouts.specs.Known.{HasLayout, Knows};
 ghost use Rattle.hprof_edges.specs.declared.edge.Edge.{Edge};
 ghost use Rattle.hprof_edges.specs.Collecting.{PutBehind};
@@ -15,7 +15,7 @@ use crate::edge::{Edge, Via};
 use crate::putting::{put_edge, put_elements, put_references};
 use hprof_known_layouts::{KnownLayouts, Reference};
 use hprof_lists::IdList;
-use hprof_lookup::ObjectRow;
+use hprof_lookup::ObjectDump;
 use hprof_values::IdSize;
 use std::alloc::AllocError;
 
@@ -89,17 +89,17 @@ pub fn array_edges<C: Collect>(
 /// refused, nothing holds of what collects them.
 pub fn object_edges<C: Collect>(
     known: &KnownLayouts,
-    row: &ObjectRow<'_>,
+    dump: &ObjectDump<'_>,
     ids: IdSize,
     references: &mut Vec<Reference>,
     into: &mut C,
 ) -> Result<(), AllocError>
     ensures holds { OnOk result ((facts : List FactValue) (edges : List Edge) → Knows ids facts known.now → C.holds into.old edges
-        → PutBehind (C.holds into.new) edges (IsObjectEdge ids facts (fact_of_object row.now))) }
+        → PutBehind (C.holds into.new) edges (IsObjectEdge ids facts (fact_of_object dump.now))) }
     ensures keeps { OnOk result (C.keeps into.new ≡ C.keeps into.old) }
 {
-    match *row {
-        ObjectRow::Instance {
+    match *dump {
+        ObjectDump::Instance {
             id,
             class,
             bytes,
@@ -109,7 +109,7 @@ pub fn object_edges<C: Collect>(
             field_edges(known, id, class, bytes, ids, references, into)?;
             Ok(())
         }
-        ObjectRow::ObjArray {
+        ObjectDump::ObjArray {
             id,
             class,
             elements,
@@ -119,6 +119,6 @@ pub fn object_edges<C: Collect>(
             Ok(())
         }
         // What is in an array of numbers refers to nothing.
-        ObjectRow::PrimArray { .. } => Ok(()),
+        ObjectDump::PrimArray { .. } => Ok(()),
     }
 }

@@ -16,7 +16,7 @@ use crate::of_object::object_edges;
 use crate::sorting::sort_edges;
 use hprof_heap::{Heap, Table};
 use hprof_known_layouts::{KnownLayouts, Wanted, known_layouts};
-use hprof_lookup::{id_size, table_facts, to_class_row, to_object_row};
+use hprof_lookup::{id_size, table_facts, to_class_dump, to_object_dump};
 use std::alloc::{AllocError, Global};
 
 /// Puts the edges that the class dumps of a heap give.
@@ -26,8 +26,8 @@ fn put_of_classes<C: Collect>(heap: &Heap, into: &mut C) -> Result<(), AllocErro
     ensures keeps { OnOk result (C.keeps into.new ≡ C.keeps into.old) }
 {
     for fact in table_facts(heap, Table::Classes) {
-        if let Some(row) = to_class_row(&fact) {
-            class_edges(&row, into)?;
+        if let Some(dump) = to_class_dump(&fact) {
+            class_edges(&dump, into)?;
         }
     }
     Ok(())
@@ -47,8 +47,8 @@ fn put_of_objects<C: Collect>(
     let ids = id_size(heap);
     let mut references = Vec::new(alloc);
     for fact in table_facts(heap, Table::Objects) {
-        if let Some(row) = to_object_row(&fact) {
-            object_edges(known, &row, ids, &mut references, into)?;
+        if let Some(dump) = to_object_dump(&fact) {
+            object_edges(known, &dump, ids, &mut references, into)?;
         }
     }
     Ok(())

@@ -7,7 +7,7 @@ use hprof_items::{Fact, IdSize};
 use hprof_layouts::{Fields, fields};
 use hprof_lists::{ConstantList, FieldList, IdList, StaticList};
 use hprof_lookup::{
-    ClassRow, ObjectRow, class_name, find_class, find_object, id_size, table_facts, table_len,
+    ClassDump, ObjectDump, class_name, find_class, find_object, id_size, table_facts, table_len,
 };
 use hprof_values::Basic;
 use std::test::*;
@@ -28,7 +28,7 @@ const SUBS: [&[u8]; 4] = [
 fn classes(rt: HostRuntime) -> Result<(), Fail> {
     let ids = IdSize::Four;
     let heap = heap_of(rt.alloc(), &SUBS)?;
-    let row = ClassRow {
+    let row = ClassDump {
         id: 95,
         trace: 1,
         parent: 100,
@@ -63,19 +63,19 @@ fn reason_in(fields: &Fields) -> &'static str {
 fn objects(rt: HostRuntime) -> Result<(), Fail> {
     let alloc = rt.alloc();
     let heap = heap_of(alloc, &SUBS)?;
-    let instance = ObjectRow::Instance {
+    let instance = ObjectDump::Instance {
         id: 97,
         trace: 1,
         class: 95,
         bytes: b"ab",
     };
-    let array = ObjectRow::ObjArray {
+    let array = ObjectDump::ObjArray {
         id: 98,
         trace: 1,
         class: 100,
         elements: IdList::new(b"\0\0\0\x63", IdSize::Four).ok_or("no list")?,
     };
-    let numbers = ObjectRow::PrimArray {
+    let numbers = ObjectDump::PrimArray {
         id: 99,
         trace: 1,
         elem: Basic::Char,

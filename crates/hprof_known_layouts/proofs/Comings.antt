@@ -3,7 +3,7 @@ use Rattle.std.specs.Prelude.{◌≢◌}
 use Rattle.std.proofs.Common.{◌≡◌, ℕ, List, [], ◌∷◌, ◌++◌, Contains, Option, refl, sym, ap, subst, ◌∙◌, inl, inr}
 use Rattle.hprof_values.specs.declared.ids.IdSize.{IdSize}
 use Rattle.hprof_items.specs.FactValue.{FactValue}
-use Rattle.hprof_lookup.specs.Classes.{ClassDump, HasNoDump}
+use Rattle.hprof_lookup.specs.Classes.{ClassValue, HasNoDump}
 use Rattle.hprof_layouts.specs.Layout.{own_slots}
 use Rattle.hprof_known_layouts.specs.declared.known.KnownLayouts.{KnownLayouts}
 use Rattle.hprof_known_layouts.specs.declared.known.Waiting.{Waiting}
@@ -35,7 +35,7 @@ are_woken ids facts more known other woken knew knows woke = record { each = λ 
     ]
   ]
 
-module _ (ids : IdSize) (facts more : List FactValue) (known : KnownLayouts) (knows : Knows ids facts known) (dump : ClassDump)
+module _ (ids : IdSize) (facts more : List FactValue) (known : KnownLayouts) (knows : Knows ids facts known) (dump : ClassValue)
     (new : HasNoDump facts dump.id) (are : HasDumpMore facts dump more) where
   -- a dump of class 0
   pub zero_comes : dump.id ≡ 0 → Knows ids more known

@@ -6,7 +6,7 @@ use Rattle.std.proofs.Common.{inl, inr, arith}
 use Rattle.std.proofs.lemmas.Bool.{cases_eq}
 use Rattle.hprof_values.specs.declared.ids.IdSize.{IdSize}
 use Rattle.hprof_items.specs.FactValue.{FactValue}
-use Rattle.hprof_lookup.specs.Classes.{ClassDump, HasDump}
+use Rattle.hprof_lookup.specs.Classes.{ClassValue, HasDump}
 use Rattle.hprof_layouts.specs.declared.slot.Slot.{Slot}
 use Rattle.hprof_layouts.specs.Chain.{IsChain}
 use Rattle.hprof_layouts.specs.Layout.{IsKnown, own_slots}
@@ -41,7 +41,7 @@ one_plan found plan other e f = let same : Some plan ≡ Some other = sym e ∙ 
 module _ (ids : IdSize) (facts : List FactValue) (plans : ℕ → Option Plan) (waits : ℕ → List Waiting)
     (stands : PlansStand ids facts plans waits []) where
   -- a class whose chain comes to 0 has a plan
-  pub known_planned : (class : ℕ) (dumps : List ClassDump) → IsChain facts class dumps 0 → class ≢ 0 → IsPlanned plans class
+  pub known_planned : (class : ℕ) (dumps : List ClassValue) → IsChain facts class dumps 0 → class ≢ 0 → IsPlanned plans class
   known_planned class [] chain not_zero = absurd (not_zero chain)
   known_planned class (dump ∷ dumps) chain not_zero =
       elim (stands.all dump chain.2 (λ e. not_zero (sym chain.1 ∙ e))) [
@@ -76,7 +76,7 @@ module _ (ids : IdSize) (facts : List FactValue) (plans : ℕ → Option Plan) (
       not_both (plans waiting.class) planned.0 planned.1 no.1
 
   -- each class that has a dump and no known layout waits
-  pub unknown_waits : (dump : ClassDump) → HasDump facts dump → (HasLayout facts dump.id → ⊥) → Waits waits dump
+  pub unknown_waits : (dump : ClassValue) → HasDump facts dump → (HasLayout facts dump.id → ⊥) → Waits waits dump
   unknown_waits dump has unknown =
       let not_zero : dump.id ≢ 0 = λ e. unknown (subst (HasLayout facts) (sym e) ([], known_zero facts)) in
       elim (stands.all dump has not_zero) [
@@ -176,7 +176,7 @@ ready_by plans class t not_zero e = (there, back) where
 -- ---- no facts
 
 -- a layout that is known over no facts is that of class 0
-known_nowhere : (class : ℕ) (dumps : List ClassDump) → IsChain [] class dumps 0 → class ≡ 0
+known_nowhere : (class : ℕ) (dumps : List ClassValue) → IsChain [] class dumps 0 → class ≡ 0
 known_nowhere class [] chain = chain
 known_nowhere class (dump ∷ dumps) chain = absurd chain.2
 
@@ -196,7 +196,7 @@ knows_nothing ids known no_plans no_waits = record {
 -- ---- other facts with the same dumps
 
 pub knows_same : (ids : IdSize) (facts more : List FactValue) (known : KnownLayouts)
-    → ((dump : ClassDump) → HasDump more dump ↔ HasDump facts dump) → Knows ids facts known → Knows ids more known
+    → ((dump : ClassValue) → HasDump more dump ↔ HasDump facts dump) → Knows ids facts known → Knows ids more known
 knows_same ids facts more known same knows = record {
   each = λ one other has too e. knows.each one other (back one has) (back other too) e;
   planned = λ class slots not_zero is.
@@ -209,10 +209,10 @@ knows_same ids facts more known same knows = record {
   all_wait = λ dump has unknown. knows.all_wait dump (back dump has) (λ layout. unknown (there_known dump.id layout));
   once = knows.once;
 } where
-  there : (dump : ClassDump) → HasDump facts dump → HasDump more dump
+  there : (dump : ClassValue) → HasDump facts dump → HasDump more dump
   there dump has = (same dump).1 has
 
-  back : (dump : ClassDump) → HasDump more dump → HasDump facts dump
+  back : (dump : ClassValue) → HasDump more dump → HasDump facts dump
   back dump has = (same dump).0 has
 
   there_known : (class : ℕ) → HasLayout facts class → HasLayout more class

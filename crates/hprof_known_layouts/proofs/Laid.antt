@@ -7,7 +7,7 @@ use Rattle.std.proofs.Common.{◌≡◌, ℕ, ◌+◌, ◌^◌, ◌<◌, ◌≤�
 use Rattle.std.proofs.Common.{append_assoc, inl, inr, arith, length-append, length-drop}
 use Rattle.hprof_values.specs.declared.ids.IdSize.{IdSize}
 use Rattle.hprof_items.specs.FactValue.{FactValue}
-use Rattle.hprof_lookup.specs.Classes.{ClassDump}
+use Rattle.hprof_lookup.specs.Classes.{ClassValue}
 use Rattle.hprof_layouts.specs.declared.slot.Slot.{Slot}
 use Rattle.hprof_layouts.specs.declared.field_value.FieldValue.{FieldValue}
 use Rattle.hprof_layouts.specs.Fields.{HasValues, width_of_slots}
@@ -71,7 +71,7 @@ module _ (ids : IdSize) (facts : List FactValue) (which : Wanted) (answer : List
         let own = own_slots is.dump ++ is.more in
         let dumps : here.dump ≡ is.dump = knows.each here.dump is.dump here.has is.has (here.id ∙ sym is.id) in
         let wide : 0 < width_of_slots ids (own_slots is.dump) =
-        subst (λ (d : ClassDump). 0 < width_of_slots ids (own_slots d)) dumps here.some in
+        subst (λ (d : ClassValue). 0 < width_of_slots ids (own_slots d)) dumps here.some in
         let wider : width_of_slots ids own ≡ width_of_slots ids (own_slots is.dump) + width_of_slots ids is.more =
         width-append ids (own_slots is.dump) is.more in
         let width : planned.plan.own.width ≡ width_of_slots ids own = is.own_are.width_is in

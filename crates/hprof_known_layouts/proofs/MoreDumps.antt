@@ -2,7 +2,7 @@
 use Rattle.std.proofs.Common.{ℕ, List, [], ◌∷◌, Option, Some, None}
 use Rattle.hprof_values.specs.declared.ids.IdSize.{IdSize}
 use Rattle.hprof_items.specs.FactValue.{FactValue}
-use Rattle.hprof_lookup.specs.Classes.{ClassDump, HasDump}
+use Rattle.hprof_lookup.specs.Classes.{ClassValue, HasDump}
 use Rattle.hprof_layouts.specs.declared.slot.Slot.{Slot}
 use Rattle.hprof_layouts.specs.Chain.{IsChain}
 use Rattle.hprof_layouts.specs.Layout.{IsKnown}
@@ -12,8 +12,8 @@ use Rattle.hprof_known_layouts.specs.declared.plan.Plan.{Plan}
 use Rattle.hprof_known_layouts.specs.Known.{IsWaiting}
 use Rattle.hprof_known_layouts.specs.Plan.{IsFirstJump, IsJump, IsPlan}
 
-module _ (facts more : List FactValue) (all : (dump : ClassDump) → HasDump facts dump → HasDump more dump) where
-  pub chain_stays : (class end : ℕ) (dumps : List ClassDump) → IsChain facts class dumps end → IsChain more class dumps end
+module _ (facts more : List FactValue) (all : (dump : ClassValue) → HasDump facts dump → HasDump more dump) where
+  pub chain_stays : (class end : ℕ) (dumps : List ClassValue) → IsChain facts class dumps end → IsChain more class dumps end
   chain_stays class end [] chain = chain
   chain_stays class end (dump ∷ dumps) chain = (chain.0, chain.1, all dump chain.2, chain_stays dump.parent end dumps chain.3)
 

@@ -7,7 +7,7 @@ use Rattle.std.proofs.Common.{◌≡◌, ℕ, ◌==◌, ◌+◌, ◌<◌, min, B
 use Rattle.std.proofs.Common.{refl, sym, ap, subst, ◌∙◌, append_assoc, arith, length-append}
 use Rattle.hprof_values.specs.declared.ids.IdSize.{IdSize}
 use Rattle.hprof_items.specs.FactValue.{FactValue}
-use Rattle.hprof_lookup.specs.Classes.{ClassDump, HasDump}
+use Rattle.hprof_lookup.specs.Classes.{ClassValue, HasDump}
 use Rattle.hprof_lookup.proofs.ClassFacts.{OneDumpEach}
 use Rattle.hprof_layouts.specs.declared.slot.Slot.{Slot}
 use Rattle.hprof_layouts.specs.Fields.{width_of_slots}
@@ -43,7 +43,7 @@ module _ (facts : List FactValue) where
   zero_known slots is = is.slots_are ∙ ap slots_of (stopped_list facts 0 0 is.dumps (stops_zero facts) is.chain)
 
   -- one class more
-  pub known_below : (dump : ClassDump) (slots : List Slot) → dump.id ≢ 0 → HasDump facts dump → IsKnown facts dump.parent slots
+  pub known_below : (dump : ClassValue) (slots : List Slot) → dump.id ≢ 0 → HasDump facts dump → IsKnown facts dump.parent slots
       → IsKnown facts dump.id (own_slots dump ++ slots)
   known_below dump slots not_zero has is = record {
     dumps = dump ∷ is.dumps;
@@ -66,7 +66,7 @@ no_elements (x ∷ xs) e = absurd (omega arith)
 module _ (ids : IdSize) (facts : List FactValue) where
   -- ---- from above to below
 
-  plan_is : (dump : ClassDump) (own : OwnLayout) (slots : List Slot) (outline : Outline) (place : ℕ) → dump.id ≢ 0 → HasDump facts dump
+  plan_is : (dump : ClassValue) (own : OwnLayout) (slots : List Slot) (outline : Outline) (place : ℕ) → dump.id ≢ 0 → HasDump facts dump
       → IsOwn ids (own_slots dump) own → IsKnown facts dump.parent slots → IsOutline ids facts slots outline
       → IsPlan ids facts dump.id (own_slots dump ++ slots) (plan_below outline place own)
   plan_is dump own slots outline place not_zero has own_are known is = record {

@@ -13,7 +13,7 @@ use Rattle.std.proofs.Common.{◌≡◌, ℕ, ◌==◌, Bool, true, false, cond,
 use Rattle.std.proofs.Common.{refl, sym, ap, subst, ◌∙◌, ◌⊎◌, inl, inr}
 use Rattle.hprof_values.specs.declared.ids.IdSize.{IdSize}
 use Rattle.hprof_items.specs.FactValue.{FactValue}
-use Rattle.hprof_lookup.specs.Classes.{ClassDump, HasDump, HasNoDump}
+use Rattle.hprof_lookup.specs.Classes.{ClassValue, HasDump, HasNoDump}
 use Rattle.hprof_layouts.specs.declared.slot.Slot.{Slot}
 use Rattle.hprof_layouts.specs.Layout.{IsKnown, own_slots}
 use Rattle.hprof_known_layouts.specs.declared.own_fields.OwnLayout.{OwnLayout}
@@ -171,19 +171,19 @@ module _ (ids : IdSize) (facts : List FactValue) (plans : ℕ → Option Plan) (
 -- ---- a class that comes
 
 module _ (ids : IdSize) (facts more : List FactValue) (plans : ℕ → Option Plan) (waits : ℕ → List Waiting)
-    (stands : PlansStand ids facts plans waits []) (dump : ClassDump) (new : HasNoDump facts dump.id)
+    (stands : PlansStand ids facts plans waits []) (dump : ClassValue) (new : HasNoDump facts dump.id)
     (are : HasDumpMore facts dump more) where
-  stays : (other : ClassDump) → HasDump facts other → HasDump more other
+  stays : (other : ClassValue) → HasDump facts other → HasDump more other
   stays other has = (are other).1 (inl has)
 
-  each_more : (one other : ClassDump) → HasDump more one → HasDump more other → one.id ≡ other.id → one ≡ other
+  each_more : (one other : ClassValue) → HasDump more one → HasDump more other → one.id ≡ other.id → one ≡ other
   each_more one other has too same = elim ((are one).0 has) [
     | inl was ↦ elim ((are other).0 too) [
       | inl was_too ↦ stands.each one other was was_too same
-      | inr is ↦ absurd (new one was (same ∙ ap (λ (d : ClassDump). d.id) is))
+      | inr is ↦ absurd (new one was (same ∙ ap (λ (d : ClassValue). d.id) is))
     ]
     | inr is ↦ elim ((are other).0 too) [
-      | inl was_too ↦ absurd (new other was_too (sym same ∙ ap (λ (d : ClassDump). d.id) is))
+      | inl was_too ↦ absurd (new other was_too (sym same ∙ ap (λ (d : ClassValue). d.id) is))
       | inr is_too ↦ is ∙ sym is_too
     ]
   ]
@@ -203,7 +203,7 @@ module _ (ids : IdSize) (facts more : List FactValue) (plans : ℕ → Option Pl
     unplanned = stands.unplanned;
     all = λ other has not_zero. elim ((are other).0 has) [
       | inl was ↦ stands.all other was not_zero
-      | inr is ↦ absurd (not_zero (ap (λ (d : ClassDump). d.id) is ∙ is_zero))
+      | inr is ↦ absurd (not_zero (ap (λ (d : ClassValue). d.id) is ∙ is_zero))
     ];
     closed = stands.closed;
     once = stands.once;
@@ -352,7 +352,7 @@ module _ (ids : IdSize) (facts : List FactValue) (plans : ℕ → Option Plan) (
   others_apart superclass waiting there same =
       let is = stands.waits_are superclass waiting (was_there superclass waiting there) in
       let dumps : is.dump ≡ first_is.dump = stands.each is.dump first_is.dump is.has first_is.has (is.id ∙ same ∙ sym first_is.id) in
-      let here : superclass ≡ class = sym is.parent ∙ ap (λ (d : ClassDump). d.parent) dumps ∙ first_is.parent in
+      let here : superclass ≡ class = sym is.parent ∙ ap (λ (d : ClassValue). d.parent) dumps ∙ first_is.parent in
       let in_rest = subst (λ (l : List Waiting). Contains l waiting) (put-here waits class rest superclass here) there in
       let once = subst IsOnceEach (put-here waits class (first ∷ rest) class refl) (stands.once class) in
       apart_from_first first rest waiting once in_rest same
@@ -386,7 +386,7 @@ module _ (ids : IdSize) (facts : List FactValue) (plans : ℕ → Option Plan) (
     | inr other ↦ (planned.0, put-other plans first.class (Some plan_first) at other ∙ planned.1)
   ]
 
-  all_after : (dump : ClassDump) → HasDump facts dump → dump.id ≢ 0 → IsPlanned plans_after dump.id ⊎ Waits after dump
+  all_after : (dump : ClassValue) → HasDump facts dump → dump.id ≢ 0 → IsPlanned plans_after dump.id ⊎ Waits after dump
   all_after dump has not_zero = elim (stands.all dump has not_zero) [
     | inl planned ↦ inl (planned_after dump.id planned)
     | inr waiting ↦ elim (is_there dump.parent waiting.waiting waiting.there) [

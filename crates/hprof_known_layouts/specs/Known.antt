@@ -7,7 +7,7 @@ use Rattle.std.specs.BTreeMap.{get}
 use Rattle.hprof_tables.specs.HintedMap.{value_in}
 use Rattle.hprof_values.specs.declared.ids.IdSize.{IdSize}
 use Rattle.hprof_items.specs.FactValue.{FactValue}
-use Rattle.hprof_lookup.specs.Classes.{ClassDump, HasDump}
+use Rattle.hprof_lookup.specs.Classes.{ClassValue, HasDump}
 use Rattle.hprof_layouts.specs.declared.slot.Slot.{Slot}
 use Rattle.hprof_layouts.specs.Layout.{IsKnown, own_slots}
 use Rattle.hprof_known_layouts.specs.declared.known.KnownLayouts.{KnownLayouts}
@@ -22,8 +22,8 @@ abbrev pub HasLayout : List FactValue → ℕ → Type 0
 HasLayout facts class = (slots : List Slot) × IsKnown facts class slots
 
 -- the last facts have the class dumps of the first, and this one
-abbrev pub HasDumpMore : List FactValue → ClassDump → List FactValue → Type 0
-HasDumpMore facts row more = (dump : ClassDump) → HasDump more dump ↔ (HasDump facts dump ⊎ (dump ≡ row))
+abbrev pub HasDumpMore : List FactValue → ClassValue → List FactValue → Type 0
+HasDumpMore facts row more = (dump : ClassValue) → HasDump more dump ↔ (HasDump facts dump ⊎ (dump ≡ row))
 
 -- ---- what is kept
 
@@ -54,14 +54,14 @@ pub record ArePlans (ids : IdSize) (facts : List FactValue) (plans : ℕ → Opt
 
 -- what waits is a class that has a dump, with that superclass
 pub record IsWaiting (ids : IdSize) (facts : List FactValue) (superclass : ℕ) (waiting : Waiting) : Type 0 where
-  pub dump : ClassDump
+  pub dump : ClassValue
   pub has : HasDump facts dump
   pub id : dump.id ≡ waiting.class
   pub parent : dump.parent ≡ superclass
   pub own_are : IsOwn ids (own_slots dump) waiting.own
 
 -- a dump's class waits for its superclass
-pub record Waits (waits : ℕ → List Waiting) (dump : ClassDump) : Type 0 where
+pub record Waits (waits : ℕ → List Waiting) (dump : ClassValue) : Type 0 where
   pub waiting : Waiting
   pub there : Contains (waits dump.parent) waiting
   pub id : waiting.class ≡ dump.id
@@ -73,7 +73,7 @@ IsOnceEach list = IsDistinct nat_eq (map (λ waiting. waiting.class) list)
 -- what is known over these facts
 pub record Knows (ids : IdSize) (facts : List FactValue) (known : KnownLayouts) : Type 0 where
   -- no class has two dumps
-  pub each : (one other : ClassDump) → HasDump facts one → HasDump facts other → one.id ≡ other.id → one ≡ other
+  pub each : (one other : ClassValue) → HasDump facts one → HasDump facts other → one.id ≡ other.id → one ≡ other
   -- each class whose layout is known has a plan, of its slots; class 0 needs none
   pub planned : (class : ℕ) (slots : List Slot) → class ≢ 0 → IsKnown facts class slots → HasPlan ids facts (plan_of known) class slots
   -- the layout of each class that has a plan is known
@@ -82,7 +82,7 @@ pub record Knows (ids : IdSize) (facts : List FactValue) (known : KnownLayouts) 
   pub waits : (superclass : ℕ) (waiting : Waiting) → Contains (waiting_below known superclass) waiting
       → IsWaiting ids facts superclass waiting × ¬ HasLayout facts waiting.class
   -- each such class waits
-  pub all_wait : (dump : ClassDump) → HasDump facts dump → ¬ HasLayout facts dump.id → Waits (waiting_below known) dump
+  pub all_wait : (dump : ClassValue) → HasDump facts dump → ¬ HasLayout facts dump.id → Waits (waiting_below known) dump
   -- and once
   pub once : (superclass : ℕ) → IsOnceEach (waiting_below known superclass)
 

@@ -3,7 +3,7 @@ use Rattle.std.specs.Prelude.{◌≡◌, ◌≢◌, ◌==◌, ℕ, ◌+◌, ◌-
 use Rattle.std.specs.Option.{option_map}
 use Rattle.hprof_values.specs.declared.ids.IdSize.{IdSize}
 use Rattle.hprof_items.specs.FactValue.{FactValue}
-use Rattle.hprof_lookup.specs.Classes.{ClassDump, HasDump}
+use Rattle.hprof_lookup.specs.Classes.{ClassValue, HasDump}
 use Rattle.hprof_layouts.specs.declared.slot.Slot.{Slot}
 use Rattle.hprof_layouts.specs.Layout.{IsKnown, own_slots}
 use Rattle.hprof_layouts.specs.Fields.{width_of_slots}
@@ -24,7 +24,7 @@ most_wide = 2 ^ 128 - 1
 
 -- no class has two dumps
 abbrev pub NoTwoDumps : List FactValue → Type 0
-NoTwoDumps facts = (one other : ClassDump) → HasDump facts one → HasDump facts other → one.id ≡ other.id → one ≡ other
+NoTwoDumps facts = (one other : ClassValue) → HasDump facts one → HasDump facts other → one.id ≡ other.id → one ≡ other
 
 -- ---- what it means
 
@@ -38,7 +38,7 @@ pub record IsJump (ids : IdSize) (facts : List FactValue) (slots : List Slot) (j
   pub place_is : jump.place ≡ min (length before) most
   pub not_zero : jump.class ≢ 0
   pub known : IsKnown facts jump.class rest
-  pub dump : ClassDump
+  pub dump : ClassValue
   pub has : HasDump facts dump
   pub id : dump.id ≡ jump.class
   pub some : 0 < width_of_slots ids (own_slots dump)
@@ -56,7 +56,7 @@ pub record IsOutline (ids : IdSize) (facts : List FactValue) (slots : List Slot)
 -- the plan of a class whose layout has these slots: its own, more behind them that are kept together with them, and those that are left
 pub record IsPlan (ids : IdSize) (facts : List FactValue) (class : ℕ) (slots : List Slot) (plan : Plan) : Type 0 where
   pub not_zero : class ≢ 0
-  pub dump : ClassDump
+  pub dump : ClassValue
   pub has : HasDump facts dump
   pub id : dump.id ≡ class
   pub known : IsKnown facts class slots
@@ -71,7 +71,7 @@ pub record IsPlan (ids : IdSize) (facts : List FactValue) (class : ℕ) (slots :
 
 -- the plan of a class that has these own fields, below a layout that has these slots
 abbrev pub IsPlanBelow : IdSize → List FactValue → List Slot → OwnLayout → Plan → Type 0
-IsPlanBelow ids facts slots own plan = (dump : ClassDump) → dump.id ≢ 0 → HasDump facts dump → IsOwn ids (own_slots dump) own
+IsPlanBelow ids facts slots own plan = (dump : ClassValue) → dump.id ≢ 0 → HasDump facts dump → IsOwn ids (own_slots dump) own
     → IsKnown facts dump.parent slots → IsPlan ids facts dump.id (own_slots dump ++ slots) plan
 
 -- ---- how one comes from another

@@ -4,7 +4,7 @@ use Rattle.std.specs.List.{IsDistinct}
 use Rattle.std.specs.BTreeMap.{values}
 use Rattle.hprof_values.specs.declared.ids.IdSize.{IdSize}
 use Rattle.hprof_items.specs.FactValue.{FactValue}
-use Rattle.hprof_lookup.specs.Classes.{ClassDump, HasDump}
+use Rattle.hprof_lookup.specs.Classes.{ClassValue, HasDump}
 use Rattle.hprof_layouts.specs.declared.slot.Slot.{Slot}
 use Rattle.hprof_known_layouts.specs.declared.known.KnownLayouts.{KnownLayouts}
 use Rattle.hprof_known_layouts.specs.declared.known.Waiting.{Waiting}
@@ -26,7 +26,7 @@ CanWake plans class = (class ≡ 0) ⊎ IsPlanned plans class
 -- plans and what waits, where those are still to be woken that wait for some classes
 pub record PlansStand (ids : IdSize) (facts : List FactValue) (plans : ℕ → Option Plan) (waits : ℕ → List Waiting) (pending : List ℕ)
     : Type 0 where
-  pub each : (one other : ClassDump) → HasDump facts one → HasDump facts other → one.id ≡ other.id → one ≡ other
+  pub each : (one other : ClassValue) → HasDump facts one → HasDump facts other → one.id ≡ other.id → one ≡ other
   -- each plan is right
   pub plans_are : (class : ℕ) (plan : Plan) → plans class ≡ Some plan → (slots : List Slot) × HasPlan ids facts plans class slots
   -- what waits has a dump and no plan
@@ -34,7 +34,7 @@ pub record PlansStand (ids : IdSize) (facts : List FactValue) (plans : ℕ → O
   pub unplanned : (superclass : ℕ) (waiting : Waiting) → Contains (waits superclass) waiting
       → (waiting.class ≢ 0) × (plans waiting.class ≡ None)
   -- each class that has a dump has a plan or waits
-  pub all : (dump : ClassDump) → HasDump facts dump → dump.id ≢ 0 → IsPlanned plans dump.id ⊎ Waits waits dump
+  pub all : (dump : ClassValue) → HasDump facts dump → dump.id ≢ 0 → IsPlanned plans dump.id ⊎ Waits waits dump
   -- none waits for a class that is ready, but for those
   pub closed : (superclass : ℕ) (waiting : Waiting) → Contains (waits superclass) waiting
       → Contains pending superclass ⊎ ((superclass ≢ 0) × (plans superclass ≡ None))

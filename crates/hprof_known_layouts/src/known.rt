@@ -5,7 +5,7 @@ ghost use Rattle.std.specs.Prelude.{Option, Some, vec_len};
 ghost use Rattle.std.specs.Option.{option_copied};
 ghost use Rattle.hprof_values.specs.declared.ids.IdSize.{IdSize};
 ghost use Rattle.hprof_items.specs.FactValue.{FactValue};
-ghost use Rattle.hprof_lookup.specs.ClassRow.{dump_of};
+ghost use Rattle.hprof_lookup.specs.ClassDump.{class_value};
 ghost use Rattle.hprof_lookup.specs.Classes.{HasNoDump};
 ghost use Rattle.hprof_layouts.specs.declared.slot.Slot.{Slot};
 ghost use Rattle.hprof_layouts.specs.Fields.{width_of_slots};
@@ -19,7 +19,7 @@ ghost use Rattle.hprof_known_layouts.specs.Waking.{CanWake, IsWaking, Wakes, num
 use crate::own_fields::{OwnLayout, own_fields};
 use crate::plan::{Jump, Outline, Plan};
 use crate::reference::{Reference, Wanted};
-use hprof_lookup::ClassRow;
+use hprof_lookup::ClassDump;
 use hprof_tables::HintedMap;
 use hprof_values::IdSize;
 use std::alloc::{AllocError, Global};
@@ -96,21 +96,21 @@ impl KnownLayouts {
 
     /// Takes a class dump that came, the first of its class, where identifiers have that size. It gives the classes whose
     /// layouts become known by it, each once. The error is that memory was refused; nothing holds then of what is kept.
-    pub fn come(&mut self, row: &ClassRow<'_>, ids: IdSize) -> Result<Vec<u64>, AllocError>
-        ensures ok { OnOk result ((facts more : List FactValue) → Knows ids facts self.old → HasNoDump facts row.now.id
-            → HasDumpMore facts (dump_of row.now) more → Knows ids more self.new) }
-        ensures woken { IfOk result (λ woken. (facts more : List FactValue) → Knows ids facts self.old → HasNoDump facts row.now.id
-            → HasDumpMore facts (dump_of row.now) more → AreWoken facts more woken.items) }
+    pub fn come(&mut self, dump: &ClassDump<'_>, ids: IdSize) -> Result<Vec<u64>, AllocError>
+        ensures ok { OnOk result ((facts more : List FactValue) → Knows ids facts self.old → HasNoDump facts dump.now.id
+            → HasDumpMore facts (class_value dump.now) more → Knows ids more self.new) }
+        ensures woken { IfOk result (λ woken. (facts more : List FactValue) → Knows ids facts self.old → HasNoDump facts dump.now.id
+            → HasDumpMore facts (class_value dump.now) more → AreWoken facts more woken.items) }
     {
         let mut woken = Vec::new(self.alloc);
         // A dump of class 0 is no class of any chain.
-        if row.id == 0 {
+        if dump.id == 0 {
             return Ok(woken);
         }
-        let own = own_fields(self.alloc, row, ids)?;
-        self.wait(row.parent, row.id, own)?;
-        if self.is_ready(row.parent) {
-            self.wake_below(row.parent, &mut woken)?;
+        let own = own_fields(self.alloc, dump, ids)?;
+        self.wait(dump.parent, dump.id, own)?;
+        if self.is_ready(dump.parent) {
+            self.wake_below(dump.parent, &mut woken)?;
             self.wake_all(&mut woken)?;
         }
         Ok(woken)

@@ -6,7 +6,7 @@ ghost use Rattle.hprof_known_layouts.specs.Known.{Knows};
 
 use crate::known::KnownLayouts;
 use hprof_heap::{Heap, Table};
-use hprof_lookup::{id_size, table_facts, to_class_row};
+use hprof_lookup::{id_size, table_facts, to_class_dump};
 use std::alloc::{AllocError, Global};
 
 /// The layouts of the classes of a heap that are known, by one pass over its class dumps. The error is that memory was
@@ -17,8 +17,8 @@ pub fn known_layouts(alloc: Global, heap: &Heap) -> Result<KnownLayouts, AllocEr
     let ids = id_size(heap);
     let mut known = KnownLayouts::new(alloc);
     for fact in table_facts(heap, Table::Classes) {
-        if let Some(row) = to_class_row(&fact) {
-            known.come(&row, ids)?;
+        if let Some(dump) = to_class_dump(&fact) {
+            known.come(&dump, ids)?;
         }
     }
     Ok(known)

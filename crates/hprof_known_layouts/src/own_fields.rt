@@ -4,7 +4,7 @@ ghost use Rattle.std.specs.Prelude.{◌≡◌, ◌++◌, ◌+◌, ◌≤◌, ◌
 ghost use Rattle.std.specs.Option.{SomeIff};
 ghost use Rattle.byteorder.specs.Endian.{big_number};
 ghost use Rattle.hprof_values.specs.Ids.{width_of};
-ghost use Rattle.hprof_lookup.specs.ClassRow.{dump_of};
+ghost use Rattle.hprof_lookup.specs.ClassDump.{class_value};
 ghost use Rattle.hprof_layouts.specs.declared.slot.Slot.{Slot};
 ghost use Rattle.hprof_layouts.specs.Fields.{width_of_slots};
 ghost use Rattle.hprof_layouts.specs.Layout.{own_slots};
@@ -14,7 +14,7 @@ ghost use Rattle.hprof_known_layouts.specs.References.{wanted_of};
 ghost use Rattle.hprof_known_layouts.specs.Refers.{NoneRefers};
 
 use crate::reference::{Reference, Wanted, refers};
-use hprof_lookup::ClassRow;
+use hprof_lookup::ClassDump;
 use hprof_values::IdSize;
 use hprof_values::number::id_at;
 use std::alloc::{AllocError, Global};
@@ -45,17 +45,17 @@ pub(crate) struct OwnLayout {
 /// The own fields of a class, where identifiers have that size.
 pub(crate) fn own_fields(
     alloc: Global,
-    row: &ClassRow<'_>,
+    dump: &ClassDump<'_>,
     ids: IdSize,
 ) -> Result<OwnLayout, AllocError>
-    ensures { IfOk result (IsOwn ids (own_slots (dump_of row.now))) }
+    ensures { IfOk result (IsOwn ids (own_slots (class_value dump.now))) }
 {
     // They are 65,535 at most: that is told with the size of identifiers among them.
-    let _size = row.fields.id_size();
+    let _size = dump.fields.id_size();
     let mut references = Vec::new(alloc);
     let mut width = 0;
     let mut count = 0;
-    for field in row.fields.iter() {
+    for field in dump.fields.iter() {
         if refers(field.basic) {
             references.push(OwnReference {
                 offset: width,

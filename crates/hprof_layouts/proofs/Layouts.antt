@@ -5,7 +5,7 @@ use Rattle.std.proofs.Common.{inl, inr, arith, length-append}
 use Rattle.std.proofs.lemmas.List.{append-nil}
 use Rattle.std.proofs.lemmas.Bool.{cases_order}
 use Rattle.hprof_items.specs.FactValue.{FactValue}
-use Rattle.hprof_lookup.specs.Classes.{ClassDump}
+use Rattle.hprof_lookup.specs.Classes.{ClassValue}
 use Rattle.hprof_lookup.proofs.ClassFacts.{OneDumpEach, Found, NotFound, look_up}
 use Rattle.hprof_layouts.specs.Chain.{IsChain}
 use Rattle.hprof_layouts.specs.Layout.{LayoutValue, Known, Missing, Cyclic, IsLayout, IsCyclic, slots_of}
@@ -16,30 +16,30 @@ use Rattle.hprof_layouts.proofs.Rings.{longer_turns}
 
 module _ (facts : List FactValue) where
   -- two chains that end for good are one
-  pub record SameChain (dumps others : List ClassDump) (end last : ℕ) : Type 0 where
+  pub record SameChain (dumps others : List ClassValue) (end last : ℕ) : Type 0 where
     pub lists : dumps ≡ others
     pub ends : end ≡ last
 
-  pub one_chain : OneDumpEach facts → (class end last : ℕ) (dumps others : List ClassDump) → Stops facts end → Stops facts last
+  pub one_chain : OneDumpEach facts → (class end last : ℕ) (dumps others : List ClassValue) → Stops facts end → Stops facts last
       → IsChain facts class dumps end → IsChain facts class others last → SameChain dumps others end last
   one_chain one class end last dumps others stops stops_too chain too = elim (beside facts one class dumps others end last chain too) [
     | First rest e left ↦
         let none = stopped_list facts end last rest stops left in
         record {
-          lists = sym (append-nil dumps) ∙ ap (λ (l : List ClassDump). dumps ++ l) (sym none) ∙ sym e;
+          lists = sym (append-nil dumps) ∙ ap (λ (l : List ClassValue). dumps ++ l) (sym none) ∙ sym e;
           ends = stopped_end facts end last rest stops left;
         }
     | Second rest e left ↦
         let none = stopped_list facts last end rest stops_too left in
         record {
-          lists = e ∙ ap (λ (l : List ClassDump). others ++ l) none ∙ append-nil others;
+          lists = e ∙ ap (λ (l : List ClassValue). others ++ l) none ∙ append-nil others;
           ends = sym (stopped_end facts last end rest stops_too left);
         }
   ]
 
   -- a chain from a ring does not end for good
-  turns_on : OneDumpEach facts → (again end : ℕ) (ring : List ClassDump) → ring ≢ [] → IsChain facts again ring again → Stops facts end
-      → (bound : ℕ) (rest : List ClassDump) → length rest < bound → IsChain facts again rest end → ⊥
+  turns_on : OneDumpEach facts → (again end : ℕ) (ring : List ClassValue) → ring ≢ [] → IsChain facts again ring again → Stops facts end
+      → (bound : ℕ) (rest : List ClassValue) → length rest < bound → IsChain facts again rest end → ⊥
   turns_on one again end ring some turns stops zero rest lt chain = absurd (omega arith)
   turns_on one again end ring some turns stops (suc bound) rest lt chain = elim (beside facts one again ring rest again end turns chain) [
     | First more e left ↦
@@ -52,14 +52,14 @@ module _ (facts : List FactValue) where
         let same : end ≡ again = stopped_end facts end again more stops left in
         no_ring end ring some stops (subst (λ (c : ℕ). IsChain facts c ring c) (sym same) turns)
   ] where
-    empty : (l : List ClassDump) → length l ≡ 0 → l ≡ []
+    empty : (l : List ClassValue) → length l ≡ 0 → l ≡ []
     empty [] e = refl
     empty (d ∷ l) e = absurd (omega arith)
 
-    no_ring : (end : ℕ) (ring : List ClassDump) → ring ≢ [] → Stops facts end → IsChain facts end ring end → ⊥
+    no_ring : (end : ℕ) (ring : List ClassValue) → ring ≢ [] → Stops facts end → IsChain facts end ring end → ⊥
     no_ring end ring some stops turns = some (stopped_list facts end end ring stops turns)
 
-  no_end : OneDumpEach facts → (class end : ℕ) (dumps : List ClassDump) → IsCyclic facts class → Stops facts end
+  no_end : OneDumpEach facts → (class end : ℕ) (dumps : List ClassValue) → IsCyclic facts class → Stops facts end
       → IsChain facts class dumps end → ⊥
   no_end one class end dumps cyclic stops chain = elim (beside facts one class cyclic.dumps dumps cyclic.again end cyclic.chain chain) [
     | First rest e left ↦
@@ -98,7 +98,7 @@ module _ (facts : List FactValue) where
 -- some layout, or a chain so much longer
 pub data Walked (facts : List FactValue) (class count : ℕ) : Type 0 where
   Ended : (layout : LayoutValue) → IsLayout facts class layout → Walked facts class count
-  Long : (dumps : List ClassDump) (at : ℕ) → IsChain facts class dumps at → length dumps ≡ count → Walked facts class count
+  Long : (dumps : List ClassValue) (at : ℕ) → IsChain facts class dumps at → length dumps ≡ count → Walked facts class count
 
 walked : (facts : List FactValue) (class count : ℕ) → Walked facts class count
 walked facts class zero = Long [] class refl refl

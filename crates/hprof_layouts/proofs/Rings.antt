@@ -10,11 +10,11 @@ use Rattle.std.proofs.lemmas.Map.Made.{length-le_from_is_member}
 use Rattle.std.proofs.lemmas.List.{length-map}
 use Rattle.hprof_items.specs.FactValue.{FactValue, Class}
 use Rattle.hprof_rows.specs.Facts.{Has}
-use Rattle.hprof_lookup.specs.Classes.{ClassDump, HasDump, fact_of_dump}
+use Rattle.hprof_lookup.specs.Classes.{ClassValue, HasDump, fact_of_class}
 use Rattle.hprof_layouts.specs.Chain.{IsChain}
 use Rattle.hprof_layouts.specs.Layout.{IsCyclic}
 
-abbrev pub ids_of : List ClassDump → List ℕ
+abbrev pub ids_of : List ClassValue → List ℕ
 ids_of dumps = map (λ dump. dump.id) dumps
 
 -- the identifier of a class dump
@@ -23,12 +23,12 @@ class_id (Class id trace parent loader signers domain reserved1 reserved2 size c
 class_id fact = 0
 
 pub record ChainTo (facts : List FactValue) (class end : ℕ) : Type 0 where
-  pub dumps : List ClassDump
+  pub dumps : List ClassValue
   pub chain : IsChain facts class dumps end
 
 module _ (facts : List FactValue) where
   -- a chain comes to each class that it has a dump of
-  pub chain_to : (class end id : ℕ) (dumps : List ClassDump) → IsChain facts class dumps end
+  pub chain_to : (class end id : ℕ) (dumps : List ClassValue) → IsChain facts class dumps end
       → list_any (λ other. id == other) (ids_of dumps) ≡ true → ChainTo facts class id
   chain_to class end id [] chain e = absurd cc
   chain_to class end id (dump ∷ dumps) chain e = elim (or_cases (id == dump.id) (list_any (λ other. id == other) (ids_of dumps)) e) [
@@ -47,7 +47,7 @@ module _ (facts : List FactValue) where
       ] e
 
   -- either no class comes twice, or the chain turns
-  pub repeats : (class end : ℕ) (dumps : List ClassDump) → IsChain facts class dumps end
+  pub repeats : (class end : ℕ) (dumps : List ClassValue) → IsChain facts class dumps end
       → IsDistinct (λ one other. one == other) (ids_of dumps) ⊎ IsCyclic facts class
   unfolding IsDistinct
   repeats class end [] chain = inl tt
@@ -78,14 +78,14 @@ module _ (facts : List FactValue) where
   ]
 
   -- the classes of a chain are among the class dumps
-  is_among : (id : ℕ) (classes : List FactValue) (dump : ClassDump) → Has classes (fact_of_dump dump) → id ≡ dump.id
+  is_among : (id : ℕ) (classes : List FactValue) (dump : ClassValue) → Has classes (fact_of_class dump) → id ≡ dump.id
       → is_member (λ one other. one == other) (map class_id classes) id ≡ true
   is_among id [] dump has e = absurd has
   is_among id (first ∷ classes) dump (inl same) e = or_left _ _ (eq-eqb id (class_id first) (e ∙ ap class_id same))
   is_among id (first ∷ classes) dump (inr has) e = or_right _ _ (is_among id classes dump has e)
 
-  all_among : (classes : List FactValue) → ((dump : ClassDump) → HasDump facts dump → Has classes (fact_of_dump dump))
-      → (class end : ℕ) (dumps : List ClassDump) → IsChain facts class dumps end → (id : ℕ)
+  all_among : (classes : List FactValue) → ((dump : ClassValue) → HasDump facts dump → Has classes (fact_of_class dump))
+      → (class end : ℕ) (dumps : List ClassValue) → IsChain facts class dumps end → (id : ℕ)
       → is_member (λ one other. one == other) (ids_of dumps) id ≡ true
       → is_member (λ one other. one == other) (map class_id classes) id ≡ true
   all_among classes are class end [] chain id e = absurd cc
@@ -96,14 +96,14 @@ module _ (facts : List FactValue) where
       ]
 
   -- a chain longer than there are class dumps turns
-  pub longer_turns : (classes : List FactValue) → ((dump : ClassDump) → HasDump facts dump → Has classes (fact_of_dump dump))
-      → (class end : ℕ) (dumps : List ClassDump) → IsChain facts class dumps end → length classes < length dumps → IsCyclic facts class
+  pub longer_turns : (classes : List FactValue) → ((dump : ClassValue) → HasDump facts dump → Has classes (fact_of_class dump))
+      → (class end : ℕ) (dumps : List ClassValue) → IsChain facts class dumps end → length classes < length dumps → IsCyclic facts class
   longer_turns classes are class end dumps chain long = elim (repeats class end dumps chain) [
     | inr cyclic ↦ cyclic
     | inl distinct ↦
         let few = length-le_from_is_member nat_eq_equiv (ids_of dumps) (map class_id classes) distinct
         (all_among classes are class end dumps chain) in
-        let counted = length-map dumps (λ (dump : ClassDump). dump.id) in
+        let counted = length-map dumps (λ (dump : ClassValue). dump.id) in
         let counted_too = length-map classes class_id in
         absurd (omega (arith, few, counted, counted_too))
   ]

@@ -8,7 +8,7 @@ use Rattle.hprof_rows.specs.declared.table.Table.TheVariants as tables
 use Rattle.hprof_rows.specs.Facts.{Has}
 use Rattle.hprof_rows.specs.Tables.{stands_in, number_of_table, facts_of_table}
 use Rattle.hprof_rows.proofs.Picking.{picked}
-use Rattle.hprof_lookup.specs.Classes.{ClassDump, HasDump, HasNoDump, fact_of_dump}
+use Rattle.hprof_lookup.specs.Classes.{ClassValue, HasDump, HasNoDump, fact_of_class}
 use Rattle.hprof_layouts.specs.declared.slot.Slot.{Slot}
 use Rattle.hprof_layouts.specs.Chain.{IsChain}
 use Rattle.hprof_layouts.specs.Layout.{HasChain, IsKnown, IsMissing, IsCyclic, own_slots, slots_of}
@@ -16,16 +16,16 @@ use Rattle.hprof_layouts.proofs.Chains.{chain_more}
 use Rattle.hprof_layouts.proofs.Rings.{longer_turns}
 
 -- a class dump is among the facts of its table
-pub dump_in_table : (facts : List FactValue) (dump : ClassDump) → HasDump facts dump
-    → Has (facts_of_table tables.Classes facts) (fact_of_dump dump)
+pub dump_in_table : (facts : List FactValue) (dump : ClassValue) → HasDump facts dump
+    → Has (facts_of_table tables.Classes facts) (fact_of_class dump)
 dump_in_table facts dump has =
-    picked (stands_in (number_of_table tables.Classes)) facts (fact_of_dump dump) (record { has = has; passes = refl })
+    picked (stands_in (number_of_table tables.Classes)) facts (fact_of_class dump) (record { has = has; passes = refl })
 
 -- ---- up the chain
 
 -- so many classes were passed, no more than there are
 pub record Walking (facts : List FactValue) (class at passed classes : ℕ) : Type 0 where
-  pub dumps : List ClassDump
+  pub dumps : List ClassValue
   pub chain : IsChain facts class dumps at
   pub counted : length dumps ≡ passed
   pub few : passed ≤ classes
@@ -36,7 +36,7 @@ pub walking_none : (facts : List FactValue) (class classes : ℕ) → classes �
 walking_none facts class classes all = record { dumps = []; chain = refl; counted = refl; few = omega arith; all = all }
 
 module _ (facts : List FactValue) (class at passed classes : ℕ) (walking : Walking facts class at passed classes) where
-  pub walked_more : (dump : ClassDump) → at ≢ 0 → HasDump facts dump → dump.id ≡ at → passed < classes
+  pub walked_more : (dump : ClassValue) → at ≢ 0 → HasDump facts dump → dump.id ≡ at → passed < classes
       → Walking facts class dump.parent (passed + 1) classes
   walked_more dump not_zero has is lt = record {
     dumps = walking.dumps ++ dump ∷ [];
@@ -46,7 +46,7 @@ module _ (facts : List FactValue) (class at passed classes : ℕ) (walking : Wal
     all = walking.all;
   }
 
-  pub walked_round : (dump : ClassDump) → at ≢ 0 → HasDump facts dump → dump.id ≡ at → passed ≡ classes → IsCyclic facts class
+  pub walked_round : (dump : ClassValue) → at ≢ 0 → HasDump facts dump → dump.id ≡ at → passed ≡ classes → IsCyclic facts class
   walked_round dump not_zero has is full =
       let longer = chain_more facts class walking.dumps at dump walking.chain not_zero is has in
       let counted = length-append walking.dumps (dump ∷ []) in
@@ -67,9 +67,9 @@ module _ (facts : List FactValue) (class at passed classes : ℕ) (walking : Wal
 
 -- the chain came to the mark, and on from it
 pub record Marked (facts : List FactValue) (class mark at : ℕ) : Type 0 where
-  pub before : List ClassDump
+  pub before : List ClassValue
   pub to_mark : IsChain facts class before mark
-  pub since : List ClassDump
+  pub since : List ClassValue
   pub onward : IsChain facts mark since at
 
 -- so many classes were passed, among them the mark
@@ -85,7 +85,7 @@ watching_none facts class classes all = record {
 }
 
 module _ (facts : List FactValue) (class at passed classes mark : ℕ) (watching : Watching facts class at passed classes mark)
-    (dump : ClassDump) (not_zero : at ≢ 0) (has : HasDump facts dump) (is : dump.id ≡ at) where
+    (dump : ClassValue) (not_zero : at ≢ 0) (has : HasDump facts dump) (is : dump.id ≡ at) where
   -- the mark stays, or is the class that was come to
   pub watched_more : passed < classes → (next : ℕ) → (next ≡ mark) ⊎ (next ≡ dump.parent)
       → Watching facts class dump.parent (passed + 1) classes next
@@ -127,7 +127,7 @@ module _ (facts : List FactValue) (class at passed classes mark : ℕ) (watching
 
 -- behind the slots come those of the classes that are left, so many
 pub record Gathering (facts : List FactValue) (class at left : ℕ) (slots : List Slot) : Type 0 where
-  pub rest : List ClassDump
+  pub rest : List ClassValue
   pub chain : IsChain facts at rest 0
   pub counted : length rest ≡ left
   pub known : IsKnown facts class (slots ++ slots_of rest)
@@ -145,26 +145,26 @@ pub gathering_some : (facts : List FactValue) (class at left : ℕ) (slots : Lis
     → HasNoDump facts at → ⊥
 gathering_some facts class at left slots gathering lt none =
     go gathering.rest gathering.chain (let c = gathering.counted in omega arith) where
-      go : (rest : List ClassDump) → IsChain facts at rest 0 → 0 < length rest → ⊥
+      go : (rest : List ClassValue) → IsChain facts at rest 0 → 0 < length rest → ⊥
       go [] chain lt = omega arith
       go (dump ∷ rest) chain lt = none dump chain.2 chain.1
 
-pub gathered_more : (facts : List FactValue) (class at left : ℕ) (slots : List Slot) (dump : ClassDump)
-    → Gathering facts class at left slots → 0 < left → ((other : ClassDump) → HasDump facts other → other.id ≡ at → dump ≡ other)
+pub gathered_more : (facts : List FactValue) (class at left : ℕ) (slots : List Slot) (dump : ClassValue)
+    → Gathering facts class at left slots → 0 < left → ((other : ClassValue) → HasDump facts other → other.id ≡ at → dump ≡ other)
     → Gathering facts class dump.parent (left - 1) (slots ++ own_slots dump)
 gathered_more facts class at left slots dump gathering lt only =
     go gathering.rest gathering.chain gathering.counted gathering.known where
-      go : (rest : List ClassDump) → IsChain facts at rest 0 → length rest ≡ left → IsKnown facts class (slots ++ slots_of rest)
+      go : (rest : List ClassValue) → IsChain facts at rest 0 → length rest ≡ left → IsKnown facts class (slots ++ slots_of rest)
           → Gathering facts class dump.parent (left - 1) (slots ++ own_slots dump)
       go [] chain counted known = absurd (omega arith)
       go (other ∷ rest) chain counted known =
           let same : dump ≡ other = only other chain.2 chain.1 in
           record {
             rest = rest;
-            chain = subst (λ (d : ClassDump). IsChain facts d.parent rest 0) (sym same) chain.3;
+            chain = subst (λ (d : ClassValue). IsChain facts d.parent rest 0) (sym same) chain.3;
             counted = omega arith;
             known = subst (λ (l : List Slot). IsKnown facts class l)
-                (ap (λ (d : ClassDump). slots ++ (own_slots d ++ slots_of rest)) (sym same)
+                (ap (λ (d : ClassValue). slots ++ (own_slots d ++ slots_of rest)) (sym same)
                 ∙ sym (append_assoc slots (own_slots dump) (slots_of rest)))
                 known;
           }
@@ -172,6 +172,6 @@ gathered_more facts class at left slots dump gathering lt only =
 pub gathered_all : (facts : List FactValue) (class at left : ℕ) (slots : List Slot) → Gathering facts class at left slots → left ≡ 0
     → IsKnown facts class slots
 gathered_all facts class at left slots gathering e = go gathering.rest (gathering.counted ∙ e) gathering.known where
-  go : (rest : List ClassDump) → length rest ≡ 0 → IsKnown facts class (slots ++ slots_of rest) → IsKnown facts class slots
+  go : (rest : List ClassValue) → length rest ≡ 0 → IsKnown facts class (slots ++ slots_of rest) → IsKnown facts class slots
   go [] counted known = subst (IsKnown facts class) (append-nil slots) known
   go (dump ∷ rest) counted known = absurd (omega arith)

@@ -10,7 +10,7 @@ use Rattle.hprof_layouts.specs.declared.slot.Layout.{Layout}
 use Rattle.hprof_layouts.specs.declared.slot.Layout.TheVariants as layouts
 use Rattle.hprof_layouts.specs.declared.chain.ChainEnd.{ChainEnd}
 use Rattle.hprof_layouts.specs.declared.chain.ChainEnd.TheVariants as ends
-use Rattle.hprof_lookup.specs.Classes.{ClassDump, HasNoDump}
+use Rattle.hprof_lookup.specs.Classes.{ClassValue, HasNoDump}
 use Rattle.hprof_layouts.specs.Chain.{IsChain}
 
 -- the slot of an own field of a class
@@ -18,11 +18,11 @@ abbrev pub slot_of : ℕ → Field → Slot
 slot_of class field = record { class = class; name = field.name; basic = field.basic }
 
 -- the slots of the own fields of a class
-abbrev pub own_slots : ClassDump → List Slot
+abbrev pub own_slots : ClassValue → List Slot
 own_slots dump = map (slot_of dump.id) (map field_of dump.fields)
 
 -- the slots of the own fields of each class, in the order of the chain
-abbrev pub slots_of : List ClassDump → List Slot
+abbrev pub slots_of : List ClassValue → List Slot
 slots_of dumps = flat_map own_slots dumps
 
 -- a layout as a value
@@ -38,27 +38,27 @@ layout_value layouts.Cyclic = Cyclic
 
 -- the chain comes to 0: these are the slots
 pub record IsKnown (facts : List FactValue) (class : ℕ) (slots : List Slot) : Type 0 where
-  pub dumps : List ClassDump
+  pub dumps : List ClassValue
   pub chain : IsChain facts class dumps 0
   pub slots_are : slots ≡ slots_of dumps
 
 -- the chain comes to 0, through so many classes
 pub record HasChain (facts : List FactValue) (class count : ℕ) : Type 0 where
-  pub dumps : List ClassDump
+  pub dumps : List ClassValue
   pub chain : IsChain facts class dumps 0
   pub counted : length dumps ≡ count
 
 -- the chain comes to a class that has no dump
 pub record IsMissing (facts : List FactValue) (class missing : ℕ) : Type 0 where
-  pub dumps : List ClassDump
+  pub dumps : List ClassValue
   pub chain : IsChain facts class dumps missing
   pub not_zero : missing ≢ 0
   pub no_dump : HasNoDump facts missing
 
 -- the chain comes to a class, and to it again
 pub record IsCyclic (facts : List FactValue) (class : ℕ) : Type 0 where
-  pub dumps : List ClassDump
-  pub ring : List ClassDump
+  pub dumps : List ClassValue
+  pub ring : List ClassValue
   pub again : ℕ
   pub chain : IsChain facts class dumps again
   pub turns : IsChain facts again ring again

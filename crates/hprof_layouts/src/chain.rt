@@ -53,17 +53,17 @@ pub(crate) fn chain_end(heap: &Heap, class: u64) -> ChainEnd
     let mut passed = 0;
     let mut mark = Mark { class, before: 0 };
     while at != 0 {
-        let Some(row) = find_class(heap, at) else {
+        let Some(dump) = find_class(heap, at) else {
             return ChainEnd::Missing(at);
         };
         if passed == classes {
             return ChainEnd::Cyclic;
         }
-        if row.parent == mark.class {
+        if dump.parent == mark.class {
             return ChainEnd::Cyclic;
         }
         passed += 1;
-        at = row.parent;
+        at = dump.parent;
         mark = mark.behind(passed, at);
     }
     ChainEnd::Zero(passed)

@@ -2,22 +2,22 @@
 
 ghost use Rattle.std.specs.Prelude.{◌≡◌, ◌++◌, IfOk, OnOk};
 ghost use Rattle.hprof_lookup.specs.HeapFacts.{facts_of};
-ghost use Rattle.hprof_lookup.specs.ClassRow.{dump_of};
+ghost use Rattle.hprof_lookup.specs.ClassDump.{class_value};
 ghost use Rattle.hprof_layouts.specs.Layout.{HasChain, IsKnown, IsLayout, layout_value, own_slots};
 
 use crate::chain::{ChainEnd, chain_end};
 use crate::slot::{Layout, Slot};
 use hprof_heap::Heap;
-use hprof_lookup::{ClassRow, find_class};
+use hprof_lookup::{ClassDump, find_class};
 use std::alloc::{AllocError, Global};
 
 /// Puts the slots of a class's own fields behind others.
-fn push_own_slots(slots: &mut Vec<Slot>, row: &ClassRow<'_>) -> Result<(), AllocError>
-    ensures { OnOk result (slots.new.items ≡ slots.old.items ++ own_slots (dump_of row.now)) }
+fn push_own_slots(slots: &mut Vec<Slot>, dump: &ClassDump<'_>) -> Result<(), AllocError>
+    ensures { OnOk result (slots.new.items ≡ slots.old.items ++ own_slots (class_value dump.now)) }
 {
-    for field in row.fields.iter() {
+    for field in dump.fields.iter() {
         slots.push(Slot {
-            class: row.id,
+            class: dump.id,
             name: field.name,
             basic: field.basic,
         })?;
@@ -38,11 +38,11 @@ fn slots_along(
     let mut slots = Vec::new(alloc);
     let mut at = class;
     for _passed in 0..count {
-        let Some(row) = find_class(heap, at) else {
+        let Some(dump) = find_class(heap, at) else {
             unreachable!();
         };
-        push_own_slots(&mut slots, &row)?;
-        at = row.parent;
+        push_own_slots(&mut slots, &dump)?;
+        at = dump.parent;
     }
     Ok(slots)
 }

@@ -9,7 +9,7 @@ use crate::cutting::{cut, width_of_slots};
 use crate::field_value::Fields;
 use crate::slot::Layout;
 use hprof_heap::Heap;
-use hprof_lookup::{ObjectRow, find_object, id_size};
+use hprof_lookup::{ObjectDump, find_object, id_size};
 use std::alloc::{AllocError, Global};
 
 /// The fields of an instance of a class that has these bytes.
@@ -42,10 +42,10 @@ pub fn fields(alloc: Global, heap: &Heap, object: u64) -> Result<Fields, AllocEr
 {
     match find_object(heap, object) {
         None => Ok(Fields::NoObject),
-        Some(ObjectRow::Instance { class, bytes, .. }) => {
+        Some(ObjectDump::Instance { class, bytes, .. }) => {
             instance_fields(alloc, heap, class, bytes)
         }
-        Some(ObjectRow::ObjArray { .. }) => Ok(Fields::NotAnInstance),
-        Some(ObjectRow::PrimArray { .. }) => Ok(Fields::NotAnInstance),
+        Some(ObjectDump::ObjArray { .. }) => Ok(Fields::NotAnInstance),
+        Some(ObjectDump::PrimArray { .. }) => Ok(Fields::NotAnInstance),
     }
 }

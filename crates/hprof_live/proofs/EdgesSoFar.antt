@@ -6,7 +6,7 @@ use Rattle.hprof_values.specs.declared.ids.IdSize.{IdSize}
 use Rattle.hprof_items.specs.FactValue.{FactValue, Instance, ObjArray}
 use Rattle.hprof_rows.specs.Conflict.{IsConsistent}
 use Rattle.hprof_rows.specs.Facts.{Has}
-use Rattle.hprof_lookup.specs.Classes.{fact_of_dump}
+use Rattle.hprof_lookup.specs.Classes.{fact_of_class}
 use Rattle.hprof_layouts.proofs.MoreFacts.{known_stays}
 use Rattle.hprof_known_layouts.specs.Known.{HasLayout}
 use Rattle.hprof_edges.specs.declared.edge.Edge.{Edge}
@@ -147,7 +147,7 @@ module _ (ids : IdSize) (before : List FactValue) (fact : FactValue) (facts : Li
   with_fact edge = (there, back) where
     there : IsEdgeSoFar ids facts laid edge
         → IsEdgeSoFar ids before laid edge ⊎ (GivesByClass fact edge ⊎ GivesSoFar ids facts laid fact edge)
-    there (inl by_class) = elim (was_or_is before fact facts adds (fact_of_dump by_class.dump) by_class.has) [
+    there (inl by_class) = elim (was_or_is before fact facts adds (fact_of_class by_class.dump) by_class.has) [
       | inl same ↦ inr (inl (record { dump = by_class.dump; is = same; edge_is = by_class.edge_is }))
       | inr had ↦ inl (inl (record { dump = by_class.dump; has = had; edge_is = by_class.edge_is }))
     ]
@@ -160,7 +160,7 @@ module _ (ids : IdSize) (before : List FactValue) (fact : FactValue) (facts : Li
         → IsEdgeSoFar ids facts laid edge
     back (inl (inl by_class)) = inl (record {
       dump = by_class.dump;
-      has = stays before fact facts adds (fact_of_dump by_class.dump) by_class.has;
+      has = stays before fact facts adds (fact_of_class by_class.dump) by_class.has;
       edge_is = by_class.edge_is;
     })
     back (inl (inr given)) = inr (record {

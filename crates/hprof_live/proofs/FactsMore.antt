@@ -11,7 +11,7 @@ use Rattle.hprof_items.specs.declared.fact.Fact.{Fact}
 use Rattle.hprof_items.specs.declared.fact.Fact.TheVariants as facts
 use Rattle.hprof_items.specs.FactValue.{FactValue, Class, Instance, ObjArray, value_of}
 use Rattle.hprof_rows.specs.declared.key.Key.TheVariants as keys
-use Rattle.hprof_lookup.specs.Classes.{ClassDump, HasDump, HasNoDump, fact_of_dump}
+use Rattle.hprof_lookup.specs.Classes.{ClassValue, HasDump, HasNoDump, fact_of_class}
 use Rattle.hprof_known_layouts.specs.declared.known.KnownLayouts.{KnownLayouts}
 use Rattle.hprof_known_layouts.specs.declared.reference.Reference.{Reference}
 use Rattle.hprof_known_layouts.specs.Known.{AreWoken, HasDumpMore, HasLayout, Knows}
@@ -82,15 +82,15 @@ module _ (ids : IdSize) (before : List FactValue) (fact : FactValue) (facts : Li
 
   -- ---- any fact but a class dump
 
-  module _ (no_dump : (dump : ClassDump) → fact_of_dump dump ≡ fact → ⊥) where
-    dump_was : (dump : ClassDump) → HasDump facts dump → HasDump before dump
-    dump_was dump has = elim (was_or_is before fact facts adds (fact_of_dump dump) has) [
+  module _ (no_dump : (dump : ClassValue) → fact_of_class dump ≡ fact → ⊥) where
+    dump_was : (dump : ClassValue) → HasDump facts dump → HasDump before dump
+    dump_was dump has = elim (was_or_is before fact facts adds (fact_of_class dump) has) [
       | inl same ↦ absurd (no_dump dump same)
       | inr had ↦ had
     ]
 
-    pub same_dumps : (dump : ClassDump) → HasDump facts dump ↔ HasDump before dump
-    same_dumps dump = (dump_was dump, stays before fact facts adds (fact_of_dump dump))
+    pub same_dumps : (dump : ClassValue) → HasDump facts dump ↔ HasDump before dump
+    same_dumps dump = (dump_was dump, stays before fact facts adds (fact_of_class dump))
 
     -- nothing more is known
     pub layout_was : (class : ℕ) → HasLayout facts class → HasLayout before class
@@ -155,7 +155,7 @@ is_other (facts.ObjArray id trace class elements) no_instance no_array = no_arra
 is_other fact no_instance no_array = tt
 
 -- a fact that is no class dump, no instance and no array of objects
-pub neither : (fact : Fact) → ((dump : ClassDump) → fact_of_dump dump ≡ value_of fact → ⊥) → IsOther fact → NothingToDerive (value_of fact)
+pub neither : (fact : Fact) → ((dump : ClassValue) → fact_of_class dump ≡ value_of fact → ⊥) → IsOther fact → NothingToDerive (value_of fact)
 neither (facts.Class id trace parent loader signers domain reserved1 reserved2 size constants statics fields) no_dump other =
     no_dump (dump_in (value_of (facts.Class id trace parent loader signers domain reserved1 reserved2 size constants statics fields))) refl
 neither (facts.Instance id trace class bytes) no_dump other = other
@@ -172,7 +172,7 @@ pub array_added : (ids : IdSize) (before facts : List FactValue) (id trace class
 array_added ids before facts id trace class elements adds derived is set puts =
     derives_other ids before (ObjArray id trace class elements) facts adds derived (λ dump same. no_dump dump same) is
     (λ instance other of bytes same. no_instance instance other of bytes same) set puts where
-      no_dump : (dump : ClassDump) → fact_of_dump dump ≡ ObjArray id trace class elements → ⊥
+      no_dump : (dump : ClassValue) → fact_of_class dump ≡ ObjArray id trace class elements → ⊥
       no_dump dump same = cc
 
       no_instance : (instance other of : ℕ) (bytes : List ℕ) → Instance instance other of bytes ≡ ObjArray id trace class elements → ⊥
@@ -180,24 +180,24 @@ array_added ids before facts id trace class elements adds derived is set puts =
 
 -- ---- a class dump
 
-module _ (ids : IdSize) (before facts : List FactValue) (dump : ClassDump) (adds : AddsFact before (fact_of_dump dump) facts) where
-  no_instance_class : (instance trace class : ℕ) (bytes : List ℕ) → Instance instance trace class bytes ≡ fact_of_dump dump → ⊥
+module _ (ids : IdSize) (before facts : List FactValue) (dump : ClassValue) (adds : AddsFact before (fact_of_class dump) facts) where
+  no_instance_class : (instance trace class : ℕ) (bytes : List ℕ) → Instance instance trace class bytes ≡ fact_of_class dump → ⊥
   no_instance_class instance trace class bytes same = cc
 
   pub class_new : HasNoDump before dump.id
   class_new other has same =
-      adds.new.is_new (fact_of_dump other) has
+      adds.new.is_new (fact_of_class other) has
       (record { key = keys.Class dump.id; key_of_one = ap (λ (n : ℕ). Some (keys.Class n)) same; key_of_other = refl })
 
   pub dumps_more : HasDumpMore before dump facts
   dumps_more other = (
-    λ has. elim (was_or_is before (fact_of_dump dump) facts adds (fact_of_dump other) has) [
+    λ has. elim (was_or_is before (fact_of_class dump) facts adds (fact_of_class other) has) [
       | inl same ↦ inr (ap dump_in same)
       | inr had ↦ inl had
     ],
     λ either. elim either [
-      | inl had ↦ stays before (fact_of_dump dump) facts adds (fact_of_dump other) had
-      | inr same ↦ subst (λ (d : ClassDump). HasDump facts d) (sym same) (is_there before (fact_of_dump dump) facts adds)
+      | inl had ↦ stays before (fact_of_class dump) facts adds (fact_of_class other) had
+      | inr same ↦ subst (λ (d : ClassValue). HasDump facts d) (sym same) (is_there before (fact_of_class dump) facts adds)
     ],
   )
 
@@ -206,11 +206,11 @@ module _ (ids : IdSize) (before facts : List FactValue) (dump : ClassDump) (adds
         → ((edges : List Edge) → SetOf derived.set edges → PutBehind (SetOf set) edges (IsClassEdge dump)) → (known : KnownLayouts)
         → Knows ids facts known → IsDeriving ids facts (record derived { set = set; known = known }) is.laid is.laid
     class_came set puts known knows =
-        derives_more ids before (fact_of_dump dump) facts adds derived is no_instance_class set (IsClassEdge dump) puts
+        derives_more ids before (fact_of_class dump) facts adds derived is no_instance_class set (IsClassEdge dump) puts
         (λ edge. (
           λ of_class. inl (record { dump = dump; is = refl; edge_is = of_class }),
           λ either. elim either [
-            | inl by_class ↦ subst (λ (d : ClassDump). IsClassEdge d edge) (ap dump_in by_class.is) by_class.edge_is
+            | inl by_class ↦ subst (λ (d : ClassValue). IsClassEdge d edge) (ap dump_in by_class.is) by_class.edge_is
             | inr none ↦ absurd none
           ],
         )) known knows
@@ -221,10 +221,10 @@ module _ (ids : IdSize) (before facts : List FactValue) (dump : ClassDump) (adds
     class_added new woken are has = record {
       laid = has.laid;
       deriving_is = has.deriving_is;
-      whole = λ instance can. elim (layout_or_not before (agreed before (fact_of_dump dump) facts adds) can.class) [
+      whole = λ instance can. elim (layout_or_not before (agreed before (fact_of_class dump) facts adds) can.class) [
         | inl had ↦ has.stays instance (is.whole instance (record {
           class = can.class;
-          is_of = was_instance ids before (fact_of_dump dump) facts adds derived is no_instance_class instance can.class can.is_of;
+          is_of = was_instance ids before (fact_of_class dump) facts adds derived is no_instance_class instance can.class can.is_of;
           layout = had;
         }))
         | inr had_none ↦ has.woken can.class instance ((are.each can.class).1 (can.layout, had_none)) can.is_of
@@ -238,7 +238,7 @@ module _ (ids : IdSize) (before facts : List FactValue) (instance trace class : 
   abbrev comer : FactValue
   comer = Instance instance trace class bytes
 
-  no_dump_instance : (dump : ClassDump) → fact_of_dump dump ≡ comer → ⊥
+  no_dump_instance : (dump : ClassValue) → fact_of_class dump ≡ comer → ⊥
   no_dump_instance dump same = cc
 
   -- it was none before

@@ -13,7 +13,7 @@ use Rattle.hprof_heap.specs.State.{IsLeastOf}
 use Rattle.hprof_heap.proofs.Gathering.{gathered_stands}
 use Rattle.hprof_heap.proofs.Least.{no_least}
 use Rattle.hprof_heap.proofs.Told.{told}
-use Rattle.hprof_lookup.specs.Classes.{fact_of_dump}
+use Rattle.hprof_lookup.specs.Classes.{fact_of_class}
 use Rattle.hprof_layouts.specs.Layout.{LayoutValue, IsLayout, Known, Missing, Cyclic}
 use Rattle.hprof_layouts.proofs.MoreFacts.{chain_stays, cyclic_stays, known_stays}
 use Rattle.hprof_known_layouts.specs.Known.{HasLayout}
@@ -76,7 +76,7 @@ module _ (facts others : List FactValue) (same : SameFacts facts others) where
     dumps = is.dumps;
     chain = chain_stays facts others there class missing is.dumps is.chain;
     not_zero = is.not_zero;
-    no_dump = λ dump has. is.no_dump dump (back (fact_of_dump dump) has);
+    no_dump = λ dump has. is.no_dump dump (back (fact_of_class dump) has);
   }
   layout_same class Cyclic is = cyclic_stays facts others there class is
 

@@ -6,8 +6,8 @@ ghost use Rattle.hprof_items.specs.FactValue.{FactValue, Instance, ObjArray, val
 ghost use Rattle.hprof_lists.specs.Lists.{identifiers_of};
 ghost use Rattle.hprof_rows.specs.Facts.{Has};
 ghost use Rattle.hprof_lookup.specs.HeapFacts.{facts_of, size_of};
-ghost use Rattle.hprof_lookup.specs.ClassRow.{dump_of};
-ghost use Rattle.hprof_lookup.specs.Classes.{fact_of_dump};
+ghost use Rattle.hprof_lookup.specs.ClassDump.{class_value};
+ghost use Rattle.hprof_lookup.specs.Classes.{fact_of_class};
 ghost use Rattle.hprof_known_layouts.specs.Known.{HasLayout, Knows};
 ghost use Rattle.hprof_edges.specs.declared.edge.Edge.{Edge};
 ghost use Rattle.hprof_edges.specs.Collecting.{is_edge_wanted};
@@ -27,7 +27,7 @@ use hprof_heap::{Heap, Table};
 use hprof_items::Fact;
 use hprof_known_layouts::{KnownLayouts, Reference, Wanted};
 use hprof_lists::IdList;
-use hprof_lookup::{ClassRow, ObjectRow, find_object, id_size, table_len, to_class_row};
+use hprof_lookup::{ClassDump, ObjectDump, find_object, id_size, table_len, to_class_dump};
 use hprof_values::IdSize;
 use std::alloc::{AllocError, Global};
 
@@ -152,7 +152,7 @@ impl Derived {
         ensures keeps { OnOk result (keeps_of self.new ≡ keeps_of self.old) }
     {
         match find_object(heap, instance) {
-            Some(ObjectRow::Instance { class, bytes, .. }) => {
+            Some(ObjectDump::Instance { class, bytes, .. }) => {
                 self.lay(id_size(heap), instance, class, bytes)?;
                 Ok(())
             }
@@ -192,14 +192,14 @@ impl Derived {
     }
 
     /// Takes a class dump that is new to the heap.
-    fn add_class(&mut self, heap: &Heap, row: &ClassRow<'_>) -> Result<(), AllocError>
+    fn add_class(&mut self, heap: &Heap, dump: &ClassDump<'_>) -> Result<(), AllocError>
         ensures adds { OnOk result ((before : List FactValue)
-            → AddsFact before (fact_of_dump (dump_of row.now)) (facts_of heap.now)
+            → AddsFact before (fact_of_class (class_value dump.now)) (facts_of heap.now)
             → IsDerived (size_of heap.now) before self.old → IsDerived (size_of heap.now) (facts_of heap.now) self.new) }
         ensures keeps { OnOk result (keeps_of self.new ≡ keeps_of self.old) }
     {
-        class_edges(row, &mut self.set)?;
-        let woken = self.known.come(row, id_size(heap))?;
+        class_edges(dump, &mut self.set)?;
+        let woken = self.known.come(dump, id_size(heap))?;
         self.wake_all(heap, &woken)?;
         Ok(())
     }
@@ -214,8 +214,8 @@ impl Derived {
             → IsDerived (size_of heap.now) before self.old → IsDerived (size_of heap.now) (facts_of heap.now) self.new) }
         ensures keeps { OnOk result (keeps_of self.new ≡ keeps_of self.old) }
     {
-        if let Some(row) = to_class_row(fact) {
-            self.add_class(heap, &row)?;
+        if let Some(dump) = to_class_dump(fact) {
+            self.add_class(heap, &dump)?;
         }
         Ok(())
     }

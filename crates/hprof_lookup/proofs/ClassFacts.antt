@@ -14,14 +14,14 @@ use Rattle.hprof_rows.specs.Key.{has_key, key_of}
 use Rattle.hprof_rows.specs.Conflict.{IsConsistent}
 use Rattle.hprof_rows.proofs.Keys.{is_key-true, true-is_key}
 use Rattle.hprof_rows.proofs.Picking.{found, not_found}
-use Rattle.hprof_lookup.specs.Classes.{ClassDump, HasDump, HasNoDump, fact_of_dump}
+use Rattle.hprof_lookup.specs.Classes.{ClassValue, HasDump, HasNoDump, fact_of_class}
 
 -- no class has two dumps; so it is where facts agree
 abbrev pub OneDumpEach : List FactValue → Type 0
-OneDumpEach facts = (one other : ClassDump) → HasDump facts one → HasDump facts other → one.id ≡ other.id → one ≡ other
+OneDumpEach facts = (one other : ClassValue) → HasDump facts one → HasDump facts other → one.id ≡ other.id → one ≡ other
 
 -- what a class dump says
-abbrev pub dump_in : FactValue → ClassDump
+abbrev pub dump_in : FactValue → ClassValue
 dump_in (Class id trace parent loader signers domain reserved1 reserved2 size constants statics fields) = record {
   id = id;
   trace = trace;
@@ -54,29 +54,29 @@ dump_in fact = record {
 -- facts that agree have one dump of each class
 pub one_dump_each : (facts : List FactValue) → IsConsistent facts → OneDumpEach facts
 one_dump_each facts agree one other has has_other same =
-    ap dump_in (agree (keys.Class one.id) (fact_of_dump one) (fact_of_dump other) has has_other refl
+    ap dump_in (agree (keys.Class one.id) (fact_of_class one) (fact_of_class other) has has_other refl
     (ap (λ (id : ℕ). Some (keys.Class id)) (sym same)))
 
 -- ---- by the key
 
 -- a dump of the class has its key
-pub dump_key : (class : ℕ) (dump : ClassDump) → dump.id ≡ class → has_key (keys.Class class) (fact_of_dump dump) ≡ true
+pub dump_key : (class : ℕ) (dump : ClassValue) → dump.id ≡ class → has_key (keys.Class class) (fact_of_class dump) ≡ true
 dump_key class dump e = true-is_key (keys.Class class) (Some (keys.Class dump.id)) (ap (λ (id : ℕ). Some (keys.Class id)) e)
 
 -- a dump with its key is one of the class
-pub key_dump : (class : ℕ) (dump : ClassDump) → has_key (keys.Class class) (fact_of_dump dump) ≡ true → dump.id ≡ class
+pub key_dump : (class : ℕ) (dump : ClassValue) → has_key (keys.Class class) (fact_of_class dump) ≡ true → dump.id ≡ class
 key_dump class dump e =
     let same : Some (keys.Class dump.id) ≡ Some (keys.Class class) = is_key-true (keys.Class class) (Some (keys.Class dump.id)) e in
     cc
 
 pub none_found : (facts : List FactValue) (class : ℕ) → find (has_key (keys.Class class)) facts ≡ None → HasNoDump facts class
 none_found facts class e dump has is =
-    not_found (has_key (keys.Class class)) facts (fact_of_dump dump) e has (dump_key class dump is)
+    not_found (has_key (keys.Class class)) facts (fact_of_class dump) e has (dump_key class dump is)
 
 -- the fact is a dump of the class
 pub record IsDump (class : ℕ) (fact : FactValue) : Type 0 where
-  pub dump : ClassDump
-  pub is : fact_of_dump dump ≡ fact
+  pub dump : ClassValue
+  pub is : fact_of_class dump ≡ fact
   pub id : dump.id ≡ class
 
 -- so it is where it has its key
@@ -102,7 +102,7 @@ key_is_dump class (PrimArray id trace elem bytes) e = absurd cc
 pub no_class_no_dump : (fact : Fact)
     → ((id trace parent loader signers domain reserved1 reserved2 size : ℕ) (constants : ConstantList) (statics : StaticList)
     (fields : FieldList) → fact ≡ facts.Class id trace parent loader signers domain reserved1 reserved2 size constants statics fields → ⊥)
-    → (dump : ClassDump) → fact_of_dump dump ≡ value_of fact → ⊥
+    → (dump : ClassValue) → fact_of_class dump ≡ value_of fact → ⊥
 no_class_no_dump (facts.Class id trace parent loader signers domain reserved1 reserved2 size constants statics fields) none dump e =
     none id trace parent loader signers domain reserved1 reserved2 size constants statics fields refl
 no_class_no_dump (facts.Name id text) none dump e = cc
@@ -120,7 +120,7 @@ no_class_no_dump (facts.PrimArray id trace elem bytes) none dump e = cc
 -- ---- a class has a dump or none
 
 pub data Lookup (facts : List FactValue) (class : ℕ) : Type 0 where
-  Found : (dump : ClassDump) → HasDump facts dump → dump.id ≡ class → Lookup facts class
+  Found : (dump : ClassValue) → HasDump facts dump → dump.id ≡ class → Lookup facts class
   NotFound : HasNoDump facts class → Lookup facts class
 
 pub look_up : (facts : List FactValue) (class : ℕ) → Lookup facts class

@@ -5,7 +5,7 @@ use Rattle.hprof_items.specs.FactValue.{FactValue, Class}
 use Rattle.hprof_rows.specs.Facts.{Has}
 
 -- what a class dump says
-pub record ClassDump : Type 0 where
+pub record ClassValue : Type 0 where
   pub id : ℕ
   pub trace : ℕ
   pub parent : ℕ
@@ -20,14 +20,14 @@ pub record ClassDump : Type 0 where
   pub fields : List Entry
 
 -- the fact that it is
-abbrev pub fact_of_dump : ClassDump → FactValue
-fact_of_dump dump = Class dump.id dump.trace dump.parent dump.loader dump.signers dump.domain dump.reserved1 dump.reserved2 dump.size
+abbrev pub fact_of_class : ClassValue → FactValue
+fact_of_class dump = Class dump.id dump.trace dump.parent dump.loader dump.signers dump.domain dump.reserved1 dump.reserved2 dump.size
     dump.constants dump.statics dump.fields
 
 -- the dump is one of the facts
-abbrev pub HasDump : List FactValue → ClassDump → Type 0
-HasDump facts dump = Has facts (fact_of_dump dump)
+abbrev pub HasDump : List FactValue → ClassValue → Type 0
+HasDump facts dump = Has facts (fact_of_class dump)
 
 -- none of the facts is a dump of the class
 abbrev pub HasNoDump : List FactValue → ℕ → Type 0
-HasNoDump facts class = (dump : ClassDump) → HasDump facts dump → dump.id ≢ class
+HasNoDump facts class = (dump : ClassValue) → HasDump facts dump → dump.id ≢ class

@@ -1,6 +1,6 @@
 pub mod HeapFacts
 pub mod Classes
-pub mod ClassRow
+pub mod ClassDump
 pub mod Objects
-pub mod ObjectRow
+pub mod ObjectDump
 pub mod Names

@@ -9,10 +9,10 @@ ghost use Rattle.hprof_rows.specs.Facts.{Has};
 ghost use Rattle.hprof_rows.specs.Key.{has_key};
 ghost use Rattle.hprof_lookup.specs.HeapFacts.{facts_of, size_of};
 ghost use Rattle.hprof_lookup.specs.Objects.{IsObject, HasNoObject};
-ghost use Rattle.hprof_lookup.specs.ObjectRow.{ElementsHave, fact_of_object};
+ghost use Rattle.hprof_lookup.specs.ObjectDump.{ElementsHave, fact_of_object};
 
 use crate::heap_facts::id_size;
-use crate::object_row::ObjectRow;
+use crate::object_dump::ObjectDump;
 use hprof_heap::Heap;
 use hprof_items::Fact;
 
@@ -25,13 +25,13 @@ fn object_fact<'a>(heap: &'a Heap, object: u64, near: &mut usize) -> Option<Fact
     heap.object_near(object, near)
 }
 
-/// The row of a fact that is an object dump; there is none of another fact.
+/// The dump of a fact that is an object dump; there is none of another fact.
 #[inline(always)]
-pub fn to_object_row<'a>(fact: &Fact<'a>) -> Option<ObjectRow<'a>>
-    ensures found { IfSome result (λ row. fact_of_object row ≡ value_of fact.now) }
+pub fn to_object_dump<'a>(fact: &Fact<'a>) -> Option<ObjectDump<'a>>
+    ensures found { IfSome result (λ dump. fact_of_object dump ≡ value_of fact.now) }
     ensures none { IfNone result ((object : ℕ) → IsObject object (value_of fact.now) → ⊥) }
     // The size of its list stays.
-    ensures lists { IfSome result (λ row. (ids : IdSize) → ListsHave ids fact.now → ElementsHave ids row) }
+    ensures lists { IfSome result (λ dump. (ids : IdSize) → ListsHave ids fact.now → ElementsHave ids dump) }
 {
     match *fact {
         Fact::Instance {
@@ -39,7 +39,7 @@ pub fn to_object_row<'a>(fact: &Fact<'a>) -> Option<ObjectRow<'a>>
             trace,
             class,
             bytes,
-        } => Some(ObjectRow::Instance {
+        } => Some(ObjectDump::Instance {
             id,
             trace,
             class,
@@ -50,7 +50,7 @@ pub fn to_object_row<'a>(fact: &Fact<'a>) -> Option<ObjectRow<'a>>
             trace,
             class,
             elements,
-        } => Some(ObjectRow::ObjArray {
+        } => Some(ObjectDump::ObjArray {
             id,
             trace,
             class,
@@ -61,7 +61,7 @@ pub fn to_object_row<'a>(fact: &Fact<'a>) -> Option<ObjectRow<'a>>
             trace,
             elem,
             bytes,
-        } => Some(ObjectRow::PrimArray {
+        } => Some(ObjectDump::PrimArray {
             id,
             trace,
             elem,
@@ -72,13 +72,13 @@ pub fn to_object_row<'a>(fact: &Fact<'a>) -> Option<ObjectRow<'a>>
 }
 
 /// The dump of an object; None where the heap has none.
-pub fn find_object(heap: &Heap, object: u64) -> Option<ObjectRow<'_>>
-    ensures found { IfSome result (λ row. Has (facts_of heap.now) (fact_of_object row)) }
-    ensures id { IfSome result (λ row. IsObject object (fact_of_object row)) }
+pub fn find_object(heap: &Heap, object: u64) -> Option<ObjectDump<'_>>
+    ensures found { IfSome result (λ dump. Has (facts_of heap.now) (fact_of_object dump)) }
+    ensures id { IfSome result (λ dump. IsObject object (fact_of_object dump)) }
     ensures lists { IfSome result (ElementsHave (size_of heap.now)) }
     // It is the only one.
-    ensures only { IfSome result (λ row. (fact : FactValue) → Has (facts_of heap.now) fact → IsObject object fact
-        → fact_of_object row ≡ fact) }
+    ensures only { IfSome result (λ dump. (fact : FactValue) → Has (facts_of heap.now) fact → IsObject object fact
+        → fact_of_object dump ≡ fact) }
     ensures none { IfNone result (HasNoObject (facts_of heap.now) object) }
 {
     find_object_near(heap, object, &mut 0)
@@ -86,21 +86,21 @@ pub fn find_object(heap: &Heap, object: u64) -> Option<ObjectRow<'_>>
 
 /// The dump of an object, as `find_object` finds it, which is looked for near a place, as a class is by `find_class_near`.
 #[inline(always)]
-pub fn find_object_near<'a>(heap: &'a Heap, object: u64, near: &mut usize) -> Option<ObjectRow<'a>>
-    ensures found { IfSome result (λ row. Has (facts_of heap.now) (fact_of_object row)) }
-    ensures id { IfSome result (λ row. IsObject object (fact_of_object row)) }
+pub fn find_object_near<'a>(heap: &'a Heap, object: u64, near: &mut usize) -> Option<ObjectDump<'a>>
+    ensures found { IfSome result (λ dump. Has (facts_of heap.now) (fact_of_object dump)) }
+    ensures id { IfSome result (λ dump. IsObject object (fact_of_object dump)) }
     ensures lists { IfSome result (ElementsHave (size_of heap.now)) }
     // It is the only one.
-    ensures only { IfSome result (λ row. (fact : FactValue) → Has (facts_of heap.now) fact → IsObject object fact
-        → fact_of_object row ≡ fact) }
+    ensures only { IfSome result (λ dump. (fact : FactValue) → Has (facts_of heap.now) fact → IsObject object fact
+        → fact_of_object dump ≡ fact) }
     ensures none { IfNone result (HasNoObject (facts_of heap.now) object) }
 {
     // Facts of a heap agree: that is told with the size.
     let _ids = id_size(heap);
     let fact = object_fact(heap, object, near)?;
-    let Some(row) = to_object_row(&fact) else {
+    let Some(dump) = to_object_dump(&fact) else {
         // A fact with the key of an object is its dump.
         unreachable!();
     };
-    Some(row)
+    Some(dump)
 }

@@ -15,7 +15,7 @@ use Rattle.hprof_rows.specs.Facts.{Has}
 use Rattle.hprof_rows.specs.Tables.{facts_of_table, number_of_table, stands_in}
 use Rattle.hprof_rows.proofs.FactSets.{Has-back, Has-front, Has-parts}
 use Rattle.hprof_rows.proofs.Picking.{picked, picked_is}
-use Rattle.hprof_lookup.specs.Classes.{ClassDump, fact_of_dump}
+use Rattle.hprof_lookup.specs.Classes.{ClassValue, fact_of_class}
 use Rattle.hprof_lookup.specs.Objects.{IsObject}
 use Rattle.hprof_lookup.proofs.ClassFacts.{dump_in}
 use Rattle.hprof_layouts.proofs.Walks.{dump_in_table}
@@ -107,18 +107,18 @@ same_given Given Other first list same are id = (
 -- the fact is a dump of the class, which is a node
 pub record GivesClass (fact : FactValue) (id : ℕ) : Type 0 where
   pub not_zero : id ≢ 0
-  pub dump : ClassDump
-  pub is : fact_of_dump dump ≡ fact
+  pub dump : ClassValue
+  pub is : fact_of_class dump ≡ fact
   pub id_is : dump.id ≡ id
 
-pub gives_class : (dump : ClassDump) (fact : FactValue) → fact_of_dump dump ≡ fact → (id : ℕ)
+pub gives_class : (dump : ClassValue) (fact : FactValue) → fact_of_class dump ≡ fact → (id : ℕ)
     → GivesClass fact id ↔ ((id ≢ 0) × (dump.id ≡ id))
 gives_class dump fact is id = (
-  λ gives. (gives.not_zero, subst (λ (d : ClassDump). d.id ≡ id) (ap dump_in (gives.is ∙ sym is)) gives.id_is),
+  λ gives. (gives.not_zero, subst (λ (d : ClassValue). d.id ≡ id) (ap dump_in (gives.is ∙ sym is)) gives.id_is),
   λ both. record { not_zero = both.0; dump = dump; is = is; id_is = both.1 },
 )
 
-pub no_dump_no_class : (fact : FactValue) → ((dump : ClassDump) → fact_of_dump dump ≡ fact → ⊥) → (id : ℕ) → GivesClass fact id → ⊥
+pub no_dump_no_class : (fact : FactValue) → ((dump : ClassValue) → fact_of_class dump ≡ fact → ⊥) → (id : ℕ) → GivesClass fact id → ⊥
 no_dump_no_class fact none id gives = none gives.dump gives.is
 
 pub class_nodes : (facts : List FactValue) (id : ℕ) → IsGiven GivesClass (facts_of_table tables.Classes facts) id ↔ IsClassNode facts id
@@ -132,7 +132,7 @@ class_nodes facts id = (
     ),
   ),
   λ node. record {
-    fact = fact_of_dump node.1.0;
+    fact = fact_of_class node.1.0;
     has = dump_in_table facts node.1.0 node.1.1;
     gives = record { not_zero = node.0; dump = node.1.0; is = refl; id_is = node.1.2 };
   },

@@ -2,12 +2,12 @@
 use Rattle.std.specs.Prelude.{◌≡◌, ◌≢◌, ℕ, List}
 use Rattle.hprof_items.specs.FactValue.{FactValue}
 use Rattle.hprof_rows.specs.Facts.{Has}
-use Rattle.hprof_lookup.specs.Classes.{ClassDump, HasDump}
+use Rattle.hprof_lookup.specs.Classes.{ClassValue, HasDump}
 use Rattle.hprof_lookup.specs.Objects.{IsObject}
 
 -- it has a class dump
 abbrev pub IsClassNode : List FactValue → ℕ → Type 0
-IsClassNode facts id = (id ≢ 0) × ((dump : ClassDump) × HasDump facts dump × (dump.id ≡ id))
+IsClassNode facts id = (id ≢ 0) × ((dump : ClassValue) × HasDump facts dump × (dump.id ≡ id))
 
 -- it has an object dump
 abbrev pub IsObjectNode : List FactValue → ℕ → Type 0

@@ -6,7 +6,7 @@ use Rattle.hprof_values.specs.declared.root.Root.{Root}
 use Rattle.hprof_values.specs.declared.root.Root.TheVariants as roots
 use Rattle.hprof_items.specs.FactValue.{FactValue, Rooted}
 use Rattle.hprof_rows.specs.Facts.{Has}
-use Rattle.hprof_lookup.specs.Classes.{ClassDump, HasDump}
+use Rattle.hprof_lookup.specs.Classes.{ClassValue, HasDump}
 use Rattle.hprof_lookup.specs.Objects.{IsObject}
 use Rattle.hprof_edges.specs.declared.edge.Via.{Via}
 use Rattle.hprof_edges.specs.Edges.{IsEdge}
@@ -16,7 +16,7 @@ use Rattle.hprof_reach.specs.declared.reach.Reach.{Reach}
 
 -- the identifier has a class dump, or an object dump
 abbrev pub IsDumped : List FactValue → ℕ → Type 0
-IsDumped facts id = ((dump : ClassDump) × HasDump facts dump × (dump.id ≡ id)) ⊎ ((fact : FactValue) × Has facts fact × IsObject id fact)
+IsDumped facts id = ((dump : ClassValue) × HasDump facts dump × (dump.id ≡ id)) ⊎ ((fact : FactValue) × Has facts fact × IsObject id fact)
 
 -- it is a node: it has a dump, and is not 0
 abbrev pub IsNode : List FactValue → ℕ → Type 0

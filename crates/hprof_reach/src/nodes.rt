@@ -3,14 +3,14 @@
 ghost use Rattle.std.specs.Prelude.{◌≡◌, ◌≢◌, ◌↔◌, ◌⊎◌, ℕ, IfOk, OnOk, Contains};
 ghost use Rattle.std.specs.List.Sorted.{IsStrictlyIncreasing};
 ghost use Rattle.hprof_lookup.specs.HeapFacts.{facts_of};
-ghost use Rattle.hprof_lookup.specs.ObjectRow.{fact_of_object};
+ghost use Rattle.hprof_lookup.specs.ObjectDump.{fact_of_object};
 ghost use Rattle.hprof_lookup.specs.Objects.{IsObject};
 ghost use Rattle.hprof_reach.specs.Nodes.{IsClassNode, IsObjectNode};
 ghost use Rattle.hprof_reach.specs.Reaching.{IsNode};
 
 use hprof_heap::{Heap, Table};
 use hprof_items::Fact;
-use hprof_lookup::{ObjectRow, table_facts, table_len, to_class_row, to_object_row};
+use hprof_lookup::{ObjectDump, table_facts, table_len, to_class_dump, to_object_dump};
 use std::alloc::{AllocError, Global};
 
 /// Puts an identifier behind others, but for 0.
@@ -24,13 +24,13 @@ fn push_node(nodes: &mut Vec<u64>, id: u64) -> Result<(), AllocError>
 }
 
 /// The identifier of an object dump.
-fn id_of(row: &ObjectRow<'_>) -> u64
-    ensures { IsObject result (fact_of_object row.now) }
+fn id_of(dump: &ObjectDump<'_>) -> u64
+    ensures { IsObject result (fact_of_object dump.now) }
 {
-    match *row {
-        ObjectRow::Instance { id, .. } => id,
-        ObjectRow::ObjArray { id, .. } => id,
-        ObjectRow::PrimArray { id, .. } => id,
+    match *dump {
+        ObjectDump::Instance { id, .. } => id,
+        ObjectDump::ObjArray { id, .. } => id,
+        ObjectDump::PrimArray { id, .. } => id,
     }
 }
 
@@ -40,8 +40,8 @@ fn push_classes(heap: &Heap, nodes: &mut Vec<u64>) -> Result<(), AllocError>
         ↔ (Contains nodes.old.items node ⊎ IsClassNode (facts_of heap.now) node)) }
 {
     for fact in table_facts(heap, Table::Classes) {
-        if let Some(row) = to_class_row(&fact) {
-            push_node(nodes, row.id)?;
+        if let Some(dump) = to_class_dump(&fact) {
+            push_node(nodes, dump.id)?;
         }
     }
     Ok(())
@@ -55,8 +55,8 @@ fn push_objects(heap: &Heap, nodes: &mut Vec<u64>) -> Result<(), AllocError>
     let mut facts = table_facts(heap, Table::Objects);
     let mut fact = Fact::End { thread: 0 };
     while facts.next_into(&mut fact) {
-        if let Some(row) = to_object_row(&fact) {
-            push_node(nodes, id_of(&row))?;
+        if let Some(dump) = to_object_dump(&fact) {
+            push_node(nodes, id_of(&dump))?;
         }
     }
     Ok(())

@@ -4,22 +4,22 @@ use Rattle.std.specs.Prelude.{IfNone, IfSome}
 use Rattle.std.specs.Option.{option_map}
 use Rattle.hprof_items.specs.FactValue.{FactValue}
 use Rattle.hprof_rows.specs.Facts.{Has}
-use Rattle.hprof_lookup.specs.declared.class_row.ClassRow.{ClassRow}
-use Rattle.hprof_lookup.specs.declared.object_row.ObjectRow.{ObjectRow}
-use Rattle.hprof_lookup.specs.ClassRow.{dump_of}
+use Rattle.hprof_lookup.specs.declared.class_dump.ClassDump.{ClassDump}
+use Rattle.hprof_lookup.specs.declared.object_dump.ObjectDump.{ObjectDump}
+use Rattle.hprof_lookup.specs.ClassDump.{class_value}
 use Rattle.hprof_lookup.specs.Classes.{HasDump, HasNoDump}
-use Rattle.hprof_lookup.specs.ObjectRow.{fact_of_object}
+use Rattle.hprof_lookup.specs.ObjectDump.{fact_of_object}
 use Rattle.hprof_lookup.specs.Objects.{IsObject, HasNoObject}
 use Rattle.hprof_reports.specs.ObjectText.{IsClassFound, IsObjectFound}
 
 -- the class dump that a look-up found, if there is one
-pub class_is_found : (facts : List FactValue) (id : ℕ) (row : Option ClassRow) → IfSome row (λ r. HasDump facts (dump_of r))
-    → IfSome row (λ r. r.id ≡ id) → IfNone row (HasNoDump facts id) → IsClassFound facts id (option_map dump_of row)
+pub class_is_found : (facts : List FactValue) (id : ℕ) (row : Option ClassDump) → IfSome row (λ r. HasDump facts (class_value r))
+    → IfSome row (λ r. r.id ≡ id) → IfNone row (HasNoDump facts id) → IsClassFound facts id (option_map class_value row)
 class_is_found facts id (Some row) found same none = (found, same)
 class_is_found facts id None found same none = none
 
 -- the object dump
-pub object_is_found : (facts : List FactValue) (id : ℕ) (row : Option ObjectRow) → IfSome row (λ r. Has facts (fact_of_object r))
+pub object_is_found : (facts : List FactValue) (id : ℕ) (row : Option ObjectDump) → IfSome row (λ r. Has facts (fact_of_object r))
     → IfSome row (λ r. IsObject id (fact_of_object r)) → IfNone row (HasNoObject facts id)
     → IsObjectFound facts id (option_map fact_of_object row)
 object_is_found facts id (Some row) found same none = (found, same)

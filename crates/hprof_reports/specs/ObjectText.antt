@@ -13,7 +13,7 @@ use Rattle.hprof_lists.specs.Value.{constant_of, static_of, field_of}
 use Rattle.hprof_items.specs.FactValue.{FactValue, Instance, ObjArray, PrimArray}
 use Rattle.hprof_rows.specs.Conflict.{IsConsistent}
 use Rattle.hprof_rows.specs.Facts.{Has}
-use Rattle.hprof_lookup.specs.Classes.{ClassDump, HasDump, HasNoDump}
+use Rattle.hprof_lookup.specs.Classes.{ClassValue, HasDump, HasNoDump}
 use Rattle.hprof_lookup.specs.Objects.{IsObject, HasNoObject}
 use Rattle.hprof_layouts.specs.declared.field_value.FieldValue.{FieldValue}
 use Rattle.hprof_layouts.specs.Fields.{FieldsValue, Values, Missing, Cyclic, WidthDiffers, AreFields}
@@ -24,15 +24,15 @@ use Rattle.hprof_reports.specs.Shown.{type_word, bits_text}
 -- ---- a class dump
 
 -- the line of a class, in two halves
-abbrev pub line_from_signers : ClassDump → List ℕ → List ℕ
+abbrev pub line_from_signers : ClassValue → List ℕ → List ℕ
 line_from_signers dump label = line_of (codes "signers" ∷ id_digits dump.signers ∷ codes "domain" ∷ id_digits dump.domain
     ∷ codes "size" ∷ decimal dump.size ∷ label ∷ [])
 
-abbrev pub line_to_loader : ClassDump → List ℕ → List ℕ
+abbrev pub line_to_loader : ClassValue → List ℕ → List ℕ
 line_to_loader dump end = codes "class " ++ (id_digits dump.id ++ (codes " super " ++ (id_digits dump.parent
     ++ (codes " loader " ++ (id_digits dump.loader ++ (codes " " ++ end))))))
 
-abbrev pub class_line : Naming → ClassDump → List ℕ
+abbrev pub class_line : Naming → ClassValue → List ℕ
 class_line naming dump = line_of (codes "class" ∷ id_digits dump.id ∷ codes "super" ∷ id_digits dump.parent
     ∷ codes "loader" ∷ id_digits dump.loader ∷ codes "signers" ∷ id_digits dump.signers ∷ codes "domain" ∷ id_digits dump.domain
     ∷ codes "size" ∷ decimal dump.size ∷ naming.label dump.id ∷ [])
@@ -49,17 +49,17 @@ abbrev pub own_line : Naming → ℕ → Field → List ℕ
 own_line naming place field = line_of (codes "own" ∷ decimal place ∷ type_word field.basic ∷ naming.name_text field.name ∷ [])
 
 -- a line for each constant, each static field, each own field
-abbrev pub constants_text : IdSize → ClassDump → List ℕ
+abbrev pub constants_text : IdSize → ClassValue → List ℕ
 constants_text ids dump = text_of_lines (each_line (constant_line ids) 0 (map constant_of dump.constants))
 
-abbrev pub statics_text : Naming → IdSize → ClassDump → List ℕ
+abbrev pub statics_text : Naming → IdSize → ClassValue → List ℕ
 statics_text naming ids dump = text_of_lines (each_line (static_line naming ids) 0 (map static_of dump.statics))
 
-abbrev pub own_fields_text : Naming → ClassDump → List ℕ
+abbrev pub own_fields_text : Naming → ClassValue → List ℕ
 own_fields_text naming dump = text_of_lines (each_line (own_line naming) 0 (map field_of dump.fields))
 
 -- all that is said of the class
-abbrev pub class_text : Naming → IdSize → ClassDump → List ℕ
+abbrev pub class_text : Naming → IdSize → ClassValue → List ℕ
 class_text naming ids dump =
     class_line naming dump ++ (constants_text ids dump ++ (statics_text naming ids dump ++ own_fields_text naming dump))
 
@@ -119,7 +119,7 @@ object_text naming ids fields other = []
 -- ---- the whole
 
 -- the class dump of the identifier, if there is one
-abbrev pub IsClassFound : List FactValue → ℕ → Option ClassDump → Type 0
+abbrev pub IsClassFound : List FactValue → ℕ → Option ClassValue → Type 0
 IsClassFound facts id (Some dump) = HasDump facts dump × (dump.id ≡ id)
 IsClassFound facts id None = HasNoDump facts id
 
@@ -131,7 +131,7 @@ IsObjectFound facts id None = HasNoObject facts id
 abbrev pub nothing_line : ℕ → List ℕ
 nothing_line id = line_of (codes "nothing at" ∷ id_digits id ∷ [])
 
-abbrev pub found_text : Naming → IdSize → ℕ → FieldsValue → Option ClassDump → Option FactValue → List ℕ
+abbrev pub found_text : Naming → IdSize → ℕ → FieldsValue → Option ClassValue → Option FactValue → List ℕ
 found_text naming ids id fields None None = nothing_line id
 found_text naming ids id fields (Some dump) None = class_text naming ids dump
 found_text naming ids id fields None (Some fact) = object_text naming ids fields fact
@@ -142,7 +142,7 @@ pub record IsObjectText (ids : IdSize) (facts : List FactValue) (id : ℕ) (text
   pub agree : IsConsistent facts
   pub naming : Naming
   pub is_naming : IsNaming facts naming
-  pub class : Option ClassDump
+  pub class : Option ClassValue
   pub class_found : IsClassFound facts id class
   pub object : Option FactValue
   pub object_found : IsObjectFound facts id object

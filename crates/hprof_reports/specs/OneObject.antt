@@ -4,7 +4,7 @@ use Rattle.hprof_values.specs.declared.ids.IdSize.{IdSize}
 use Rattle.hprof_items.specs.FactValue.{FactValue}
 use Rattle.hprof_rows.specs.declared.key.Key.TheVariants as keys
 use Rattle.hprof_rows.specs.Conflict.{IsConsistent}
-use Rattle.hprof_lookup.specs.Classes.{ClassDump}
+use Rattle.hprof_lookup.specs.Classes.{ClassValue}
 use Rattle.hprof_lookup.proofs.ClassFacts.{one_dump_each}
 use Rattle.hprof_layouts.specs.Fields.{FieldsValue}
 use Rattle.hprof_layouts.proofs.FieldAnswers.{fields_once}
@@ -14,7 +14,7 @@ use Rattle.hprof_reports.specs.ObjectText.{IsClassFound, IsObjectFound, found_te
 
 module _ (facts : List FactValue) (agree : IsConsistent facts) (id : ℕ) where
   -- one class dump is found, or none
-  one_class : (one other : Option ClassDump) → IsClassFound facts id one → IsClassFound facts id other → one ≡ other
+  one_class : (one other : Option ClassValue) → IsClassFound facts id one → IsClassFound facts id other → one ≡ other
   one_class (Some one) (Some other) is is_too = ap Some (one_dump_each facts agree one other is.0 is_too.0 (is.1 ∙ sym is_too.1))
   one_class (Some one) None is none = absurd (none one is.0 is.1)
   one_class None (Some other) none is = absurd (none other is.0 is.1)
@@ -37,5 +37,5 @@ one_object ids facts id one other is is_too =
     let object = one_object_found facts agree id is.object is_too.object is.object_found is_too.object_found in
     is.is ∙ ap (λ (n : Naming). found_text n ids id is.fields is.class is.object) naming
     ∙ ap (λ (f : FieldsValue). found_text is_too.naming ids id f is.class is.object) fields
-    ∙ ap (λ (c : Option ClassDump). found_text is_too.naming ids id is_too.fields c is.object) class
+    ∙ ap (λ (c : Option ClassValue). found_text is_too.naming ids id is_too.fields c is.object) class
     ∙ ap (λ (o : Option FactValue). found_text is_too.naming ids id is_too.fields is_too.class o) object ∙ sym is_too.is

@@ -3,7 +3,7 @@
 ghost use Rattle.std.specs.Prelude.{◌≡◌, ◌+◌, ◌<◌, ◌^◌, IfOk, length, string_bytes};
 ghost use Rattle.hprof_lists.specs.Lists.{constants_left, statics_left, fields_left};
 ghost use Rattle.hprof_lookup.specs.HeapFacts.{facts_of, size_of};
-ghost use Rattle.hprof_lookup.specs.ClassRow.{dump_of};
+ghost use Rattle.hprof_lookup.specs.ClassDump.{class_value};
 ghost use Rattle.hprof_naming.specs.Naming.{IsNaming, Naming};
 ghost use Rattle.hprof_reports.specs.ObjectText.{class_line, constant_line, line_from_signers, line_to_loader, own_line, static_line};
 
@@ -11,34 +11,34 @@ use crate::lines::Lines;
 use crate::shown::{bits_text, type_word};
 use hprof_heap::Heap;
 use hprof_lists::{Constant, Constants, Field, OwnFields, Static, Statics};
-use hprof_lookup::{ClassRow, id_size};
+use hprof_lookup::{ClassDump, id_size};
 use hprof_naming::{class_label, name_text};
 use hprof_values::IdSize;
 use std::alloc::{AllocError, Global};
 
 /// The line of a class that has this label, from its signers on.
-fn line_from_signers(alloc: Global, row: &ClassRow<'_>, label: &str) -> Result<String, AllocError>
-    ensures { IfOk result (λ line. string_bytes line ≡ line_from_signers (dump_of row.now) label.now) }
+fn line_from_signers(alloc: Global, dump: &ClassDump<'_>, label: &str) -> Result<String, AllocError>
+    ensures { IfOk result (λ line. string_bytes line ≡ line_from_signers (class_value dump.now) label.now) }
 {
-    let ClassRow {
+    let ClassDump {
         signers,
         domain,
         size,
         ..
-    } = *row;
+    } = *dump;
     format!(in alloc; "signers {signers:x} domain {domain:x} size {size} {label}\n")
 }
 
 /// The line of a class, of which the end is given.
-fn line_to_loader(alloc: Global, row: &ClassRow<'_>, end: &str) -> Result<String, AllocError>
-    ensures { IfOk result (λ line. string_bytes line ≡ line_to_loader (dump_of row.now) end.now) }
+fn line_to_loader(alloc: Global, dump: &ClassDump<'_>, end: &str) -> Result<String, AllocError>
+    ensures { IfOk result (λ line. string_bytes line ≡ line_to_loader (class_value dump.now) end.now) }
 {
-    let ClassRow {
+    let ClassDump {
         id,
         parent,
         loader,
         ..
-    } = *row;
+    } = *dump;
     format!(in alloc; "class {id:x} super {parent:x} loader {loader:x} {end}")
 }
 
@@ -46,14 +46,14 @@ fn line_to_loader(alloc: Global, row: &ClassRow<'_>, end: &str) -> Result<String
 pub(crate) fn class_line(
     alloc: Global,
     heap: &Heap,
-    row: &ClassRow<'_>,
+    dump: &ClassDump<'_>,
 ) -> Result<String, AllocError>
     ensures { (naming : Naming) → IsNaming (facts_of heap.now) naming
-        → IfOk result (λ line. string_bytes line ≡ class_line naming (dump_of row.now)) }
+        → IfOk result (λ line. string_bytes line ≡ class_line naming (class_value dump.now)) }
 {
-    let label = class_label(alloc, heap, row.id)?;
-    let end = line_from_signers(alloc, row, &label)?;
-    line_to_loader(alloc, row, &end)
+    let label = class_label(alloc, heap, dump.id)?;
+    let end = line_from_signers(alloc, dump, &label)?;
+    line_to_loader(alloc, dump, &end)
 }
 
 /// The line of the constant at that place.

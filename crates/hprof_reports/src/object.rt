@@ -5,8 +5,8 @@ ghost use Rattle.std.specs.Option.{option_map};
 ghost use Rattle.hprof_lists.specs.Lists.{identifiers_of};
 ghost use Rattle.hprof_devices.specs.declared.health.Health.TheVariants.{Well};
 ghost use Rattle.hprof_lookup.specs.HeapFacts.{facts_of, size_of};
-ghost use Rattle.hprof_lookup.specs.ClassRow.{dump_of};
-ghost use Rattle.hprof_lookup.specs.ObjectRow.{fact_of_object};
+ghost use Rattle.hprof_lookup.specs.ClassDump.{class_value};
+ghost use Rattle.hprof_lookup.specs.ObjectDump.{fact_of_object};
 ghost use Rattle.hprof_layouts.specs.Fields.{AreFields, FieldsValue, fields_value};
 ghost use Rattle.hprof_naming.specs.Naming.{IsNaming, Naming};
 ghost use Rattle.hprof_reports.specs.ObjectText.{IsObjectText, class_text, constants_text, elements_text, fields_text, found_text};
@@ -22,26 +22,26 @@ use hprof_engine::WriteStop;
 use hprof_heap::Heap;
 use hprof_layouts::{Fields, fields};
 use hprof_lists::IdList;
-use hprof_lookup::{ClassRow, ObjectRow, find_class, find_object, id_size};
+use hprof_lookup::{ClassDump, ObjectDump, find_class, find_object, id_size};
 use std::alloc::{AllocError, Global};
 
 /// Writes a line for each constant of a class.
 fn write_constants<W: Target>(
     alloc: Global,
     heap: &Heap,
-    row: &ClassRow<'_>,
+    dump: &ClassDump<'_>,
     target: &mut W,
 ) -> Result<(), WriteStop>
     requires { W.health target.old ≡ Well }
     ensures bytes { (naming : Naming) → IsNaming (facts_of heap.now) naming
         → WritesText (W.written target.old) (W.written target.new) result
-        (constants_text (size_of heap.now) (dump_of row.now)) }
+        (constants_text (size_of heap.now) (class_value dump.now)) }
     ensures health { LeavesTarget result (W.health target.new) }
 {
-    let _len = row.constants.len();
+    let _len = dump.constants.len();
     let lines = ConstantLines {
         heap,
-        constants: row.constants.iter(),
+        constants: dump.constants.iter(),
         place: 0,
     };
     write_lines(alloc, lines, target)
@@ -51,19 +51,19 @@ fn write_constants<W: Target>(
 fn write_statics<W: Target>(
     alloc: Global,
     heap: &Heap,
-    row: &ClassRow<'_>,
+    dump: &ClassDump<'_>,
     target: &mut W,
 ) -> Result<(), WriteStop>
     requires { W.health target.old ≡ Well }
     ensures bytes { (naming : Naming) → IsNaming (facts_of heap.now) naming
         → WritesText (W.written target.old) (W.written target.new) result
-        (statics_text naming (size_of heap.now) (dump_of row.now)) }
+        (statics_text naming (size_of heap.now) (class_value dump.now)) }
     ensures health { LeavesTarget result (W.health target.new) }
 {
-    let _len = row.statics.len();
+    let _len = dump.statics.len();
     let lines = StaticLines {
         heap,
-        statics: row.statics.iter(),
+        statics: dump.statics.iter(),
         place: 0,
     };
     write_lines(alloc, lines, target)
@@ -73,19 +73,19 @@ fn write_statics<W: Target>(
 fn write_own_fields<W: Target>(
     alloc: Global,
     heap: &Heap,
-    row: &ClassRow<'_>,
+    dump: &ClassDump<'_>,
     target: &mut W,
 ) -> Result<(), WriteStop>
     requires { W.health target.old ≡ Well }
     ensures bytes { (naming : Naming) → IsNaming (facts_of heap.now) naming
         → WritesText (W.written target.old) (W.written target.new) result
-        (own_fields_text naming (dump_of row.now)) }
+        (own_fields_text naming (class_value dump.now)) }
     ensures health { LeavesTarget result (W.health target.new) }
 {
-    let _len = row.fields.len();
+    let _len = dump.fields.len();
     let lines = OwnLines {
         heap,
-        fields: row.fields.iter(),
+        fields: dump.fields.iter(),
         place: 0,
     };
     write_lines(alloc, lines, target)
@@ -95,19 +95,19 @@ fn write_own_fields<W: Target>(
 fn write_class<W: Target>(
     alloc: Global,
     heap: &Heap,
-    row: &ClassRow<'_>,
+    dump: &ClassDump<'_>,
     target: &mut W,
 ) -> Result<(), WriteStop>
     requires { W.health target.old ≡ Well }
     ensures bytes { (naming : Naming) → IsNaming (facts_of heap.now) naming
         → WritesText (W.written target.old) (W.written target.new) result
-        (class_text naming (size_of heap.now) (dump_of row.now)) }
+        (class_text naming (size_of heap.now) (class_value dump.now)) }
     ensures health { LeavesTarget result (W.health target.new) }
 {
-    write_line(class_line(alloc, heap, row), target)?;
-    write_constants(alloc, heap, row, target)?;
-    write_statics(alloc, heap, row, target)?;
-    write_own_fields(alloc, heap, row, target)
+    write_line(class_line(alloc, heap, dump), target)?;
+    write_constants(alloc, heap, dump, target)?;
+    write_statics(alloc, heap, dump, target)?;
+    write_own_fields(alloc, heap, dump, target)
 }
 
 /// Why an object has no fields, in a line; nothing where it is no instance.
@@ -176,22 +176,22 @@ fn write_elements<W: Target>(
 }
 
 /// Writes what an object dump says.
-fn write_object_row<W: Target>(
+fn write_object_dump<W: Target>(
     alloc: Global,
     heap: &Heap,
     object: u64,
-    row: &ObjectRow<'_>,
+    dump: &ObjectDump<'_>,
     target: &mut W,
 ) -> Result<(), WriteStop>
     requires { W.health target.old ≡ Well }
     ensures bytes { (naming : Naming) (shown : FieldsValue) → IsNaming (facts_of heap.now) naming
         → AreFields (size_of heap.now) (facts_of heap.now) object shown
         → WritesText (W.written target.old) (W.written target.new) result
-        (object_text naming (size_of heap.now) shown (fact_of_object row.now)) }
+        (object_text naming (size_of heap.now) shown (fact_of_object dump.now)) }
     ensures health { LeavesTarget result (W.health target.new) }
 {
-    match *row {
-        ObjectRow::Instance {
+    match *dump {
+        ObjectDump::Instance {
             id,
             class,
             bytes,
@@ -200,7 +200,7 @@ fn write_object_row<W: Target>(
             write_line(instance_line(alloc, heap, id, class, bytes), target)?;
             write_fields(alloc, heap, object, target)
         }
-        ObjectRow::ObjArray {
+        ObjectDump::ObjArray {
             id,
             class,
             elements,
@@ -209,7 +209,7 @@ fn write_object_row<W: Target>(
             write_line(elements_line(alloc, heap, id, class, &elements), target)?;
             write_elements(alloc, heap, &elements, target)
         }
-        ObjectRow::PrimArray {
+        ObjectDump::PrimArray {
             id,
             elem,
             bytes,
@@ -233,24 +233,24 @@ fn write_found<W: Target>(
     alloc: Global,
     heap: &Heap,
     id: u64,
-    class: Option<ClassRow<'_>>,
-    object: Option<ObjectRow<'_>>,
+    class: Option<ClassDump<'_>>,
+    object: Option<ObjectDump<'_>>,
     target: &mut W,
 ) -> Result<(), WriteStop>
     requires { W.health target.old ≡ Well }
     ensures bytes { (naming : Naming) (shown : FieldsValue) → IsNaming (facts_of heap.now) naming
         → AreFields (size_of heap.now) (facts_of heap.now) id shown
         → WritesText (W.written target.old) (W.written target.new) result
-        (found_text naming (size_of heap.now) id shown (option_map dump_of class.entry) (option_map fact_of_object object.entry)) }
+        (found_text naming (size_of heap.now) id shown (option_map class_value class.entry) (option_map fact_of_object object.entry)) }
     ensures health { LeavesTarget result (W.health target.new) }
 {
     match (class, object) {
         (None, None) => write_line(nothing_line(alloc, id), target),
-        (Some(row), None) => write_class(alloc, heap, &row, target),
-        (None, Some(row)) => write_object_row(alloc, heap, id, &row, target),
-        (Some(row), Some(object)) => {
-            write_class(alloc, heap, &row, target)?;
-            write_object_row(alloc, heap, id, &object, target)
+        (Some(dump), None) => write_class(alloc, heap, &dump, target),
+        (None, Some(dump)) => write_object_dump(alloc, heap, id, &dump, target),
+        (Some(dump), Some(object)) => {
+            write_class(alloc, heap, &dump, target)?;
+            write_object_dump(alloc, heap, id, &object, target)
         }
     }
 }

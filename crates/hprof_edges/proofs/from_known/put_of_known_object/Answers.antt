@@ -1,7 +1,7 @@
 use Rattle.std.proofs.Common.{refl, sym, subst}
 use Rattle.hprof_values.specs.declared.ids.IdSize.{IdSize}
 use Rattle.hprof_lookup.specs.HeapFacts.{facts_of, size_of}
-use Rattle.hprof_lookup.specs.ObjectRow.{fact_of_object}
+use Rattle.hprof_lookup.specs.ObjectDump.{fact_of_object}
 use Rattle.hprof_lookup.proofs.ObjectFacts.{IsOnlyObject}
 use Rattle.hprof_known_layouts.specs.Known.{Knows}
 use Rattle.hprof_edges.specs.Collecting.{PutBehind}
@@ -22,7 +22,7 @@ pub returns-clause-holds : goal.returns-clause-holds
 returns-clause-holds g c = λ edges knows held.
     let size = size_of c.args.heap.now in
     let facts = facts_of c.args.heap.now in
-    let fact = fact_of_object c.in-Some.row in
+    let fact = fact_of_object c.in-Some.dump in
     let found = c.in-Some.ensures in
     let only : IsOnlyObject facts c.args.id fact = record { has = found.found; id = found.id; only = found.only } in
     let after = g.C.Collect.holds c.object_edges.new.into in

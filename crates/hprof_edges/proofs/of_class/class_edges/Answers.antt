@@ -1,5 +1,5 @@
 use Rattle.std.proofs.Common.{◌++◌, subst, ◌∙◌, append_assoc}
-use Rattle.hprof_lookup.specs.ClassRow.{dump_of}
+use Rattle.hprof_lookup.specs.ClassDump.{class_value}
 use Rattle.hprof_edges.specs.declared.edge.Via.TheVariants as vias
 use Rattle.hprof_edges.specs.EdgeLists.{named_edges, numbered, targets_of_constants, targets_of_statics}
 use Rattle.hprof_edges.proofs.ClassDumpEdges.{class_dump_edges}
@@ -7,7 +7,7 @@ use Rattle.hprof_edges.proofs.of_class.class_edges.Goals as goal
 
 pub returns-clause-holds : goal.returns-clause-holds
 returns-clause-holds g c = λ edges held.
-    let dump = dump_of c.args.row.now in
+    let dump = class_value c.args.dump.now in
     let named = named_edges dump in
     let constants = numbered dump.id vias.Constant 0 (targets_of_constants dump.constants) in
     let statics = numbered dump.id vias.Fixed 0 (targets_of_statics dump.statics) in

@@ -1,9 +1,9 @@
 use Rattle.std.proofs.Common.{◌⊎◌, subst}
 use Rattle.hprof_items.specs.FactValue.{Instance, ObjArray, PrimArray}
 use Rattle.hprof_lists.specs.Lists.{identifiers_of}
-use Rattle.hprof_lookup.specs.declared.object_row.ObjectRow.{ObjectRow}
+use Rattle.hprof_lookup.specs.declared.object_dump.ObjectDump.{ObjectDump}
 use Rattle.hprof_lookup.specs.HeapFacts.{facts_of, size_of}
-use Rattle.hprof_lookup.specs.ObjectRow.{fact_of_object}
+use Rattle.hprof_lookup.specs.ObjectDump.{fact_of_object}
 use Rattle.hprof_lookup.proofs.ObjectFacts.{IsOnlyObject}
 use Rattle.hprof_edges.specs.declared.edge.Edge.{Edge}
 use Rattle.hprof_edges.specs.DumpEdges.{GivenByInstance, IsEdgeToClass, IsElementEdge}
@@ -23,7 +23,7 @@ returns-in_ok-put_of_fields-in-Some-Instance-clause-holds g c = λ edges held.
     let object = c.args.id in
     let at = c.in-Some-Instance in
     let only : IsOnlyObject facts object (Instance at.field-0-0 at.field-0-1 at.class at.field-0-3.now) =
-    subst (λ (row : ObjectRow). IsOnlyObject facts object (fact_of_object row)) at.field-0-is
+    subst (λ (row : ObjectDump). IsOnlyObject facts object (fact_of_object row)) at.field-0-is
     (record { has = at.ensures.found; id = at.ensures.id; only = at.ensures.only }) in
     let after = g.C.Collect.holds c.put_of_fields.new.into in
     put_same edges after (λ (edge : Edge). IsEdgeToClass object at.class edge ⊎ GivenByInstance ids facts object edge) _
@@ -40,7 +40,7 @@ returns-in_ok-array_edges-in-Some-ObjArray-clause-holds g c = λ edges held.
     let at = c.in-Some-ObjArray in
     let elements = identifiers_of at.elements in
     let only : IsOnlyObject facts object (ObjArray at.field-0-0 at.field-0-1 at.class elements) =
-    subst (λ (row : ObjectRow). IsOnlyObject facts object (fact_of_object row)) at.field-0-is
+    subst (λ (row : ObjectDump). IsOnlyObject facts object (fact_of_object row)) at.field-0-is
     (record { has = at.ensures.found; id = at.ensures.id; only = at.ensures.only }) in
     put_same edges (g.C.Collect.holds c.array_edges.new.into)
     (λ (edge : Edge). IsEdgeToClass object at.class edge ⊎ IsElementEdge object elements edge) _
@@ -54,7 +54,7 @@ returns-in-Some-PrimArray-clause-holds g c = λ edges held.
     let object = c.args.id in
     let at = c.in-Some-PrimArray in
     let only : IsOnlyObject facts object (PrimArray at.field-0-0 at.field-0-1 at.field-0-2 at.field-0-3.now) =
-    subst (λ (row : ObjectRow). IsOnlyObject facts object (fact_of_object row)) at.field-0-is
+    subst (λ (row : ObjectDump). IsOnlyObject facts object (fact_of_object row)) at.field-0-is
     (record { has = at.ensures.found; id = at.ensures.id; only = at.ensures.only }) in
     put_nothing edges (g.C.Collect.holds c.args.into.now) _ held
     (by_numbers ids facts object at.field-0-0 at.field-0-1 at.field-0-2 at.field-0-3.now only)

@@ -1,7 +1,7 @@
 use Rattle.std.proofs.Common.{sym, subst}
 use Rattle.hprof_items.specs.FactValue.{Instance}
-use Rattle.hprof_lookup.specs.declared.object_row.ObjectRow.{ObjectRow}
-use Rattle.hprof_lookup.specs.ObjectRow.{fact_of_object}
+use Rattle.hprof_lookup.specs.declared.object_dump.ObjectDump.{ObjectDump}
+use Rattle.hprof_lookup.specs.ObjectDump.{fact_of_object}
 use Rattle.hprof_edges.specs.Collecting.{PutBehind}
 use Rattle.hprof_edges.specs.DumpEdges.{IsEdgeToClass, IsFieldEdge, IsObjectEdge}
 use Rattle.hprof_edges.proofs.PutTogether.{put_both}
@@ -11,7 +11,7 @@ pub returns-in_ok-field_edges-in-Instance-clause-holds : goal.returns-in_ok-fiel
 returns-in_ok-field_edges-in-Instance-clause-holds g c = λ facts edges knows held.
     let at = c.in-Instance in
     let after = g.C.Collect.holds c.field_edges.new.into in
-    subst (λ (row : ObjectRow). PutBehind after edges (IsObjectEdge c.args.ids facts (fact_of_object row))) (sym at.is)
+    subst (λ (row : ObjectDump). PutBehind after edges (IsObjectEdge c.args.ids facts (fact_of_object row))) (sym at.is)
     (put_both edges (g.C.Collect.holds c.edge_to_class.new.into) after (IsEdgeToClass at.id at.class)
     (IsFieldEdge c.args.ids facts at.id at.class at.bytes.now)
     (IsObjectEdge c.args.ids facts (Instance at.id at.trace at.class at.bytes.now))
@@ -22,5 +22,5 @@ returns-in_ok-field_edges-in-Instance-clause-holds g c = λ facts edges knows he
 pub returns-in_ok-array_edges-in-ObjArray-clause-holds : goal.returns-in_ok-array_edges-in-ObjArray-clause-holds
 returns-in_ok-array_edges-in-ObjArray-clause-holds g c = λ facts edges knows held.
     let after = g.C.Collect.holds c.array_edges.new.into in
-    subst (λ (row : ObjectRow). PutBehind after edges (IsObjectEdge c.args.ids facts (fact_of_object row))) (sym c.in-ObjArray.is)
+    subst (λ (row : ObjectDump). PutBehind after edges (IsObjectEdge c.args.ids facts (fact_of_object row))) (sym c.in-ObjArray.is)
     (c.in_ok-array_edges-in-ObjArray.ensures.holds edges held)

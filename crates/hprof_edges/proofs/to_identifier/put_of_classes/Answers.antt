@@ -3,7 +3,7 @@ use Rattle.hprof_items.specs.FactValue.{value_of}
 use Rattle.hprof_rows.specs.declared.table.Table.TheVariants as tables
 use Rattle.hprof_rows.specs.FactsLeft.{facts_left}
 use Rattle.hprof_rows.specs.Tables.{facts_of_table}
-use Rattle.hprof_lookup.specs.ClassRow.{dump_of}
+use Rattle.hprof_lookup.specs.ClassDump.{class_value}
 use Rattle.hprof_lookup.specs.HeapFacts.{facts_of}
 use Rattle.hprof_edges.specs.DumpEdges.{IsClassEdge}
 use Rattle.hprof_edges.proofs.TableEdges.{GivesByClass, GoneOver, class_table, gives_dump, gone_over_all, gone_over_none, gone_over_one}
@@ -24,14 +24,14 @@ loop-fact-init g c = record {
 pub loop-fact-preserved-in-Continue-1 : goal.loop-fact-preserved-in-Continue-1
 loop-fact-preserved-in-Continue-1 g c = record {
   put = λ edges held.
-      let dump = dump_of c.in-Some-to_class_row.row in
+      let dump = class_value c.in-Some-to_class_dump.dump in
       let fact = value_of c.in-Some.fact in
       let after = g.C.Collect.holds c.class_edges.new.into in
       gone_over_one GivesByClass (g.C.Collect.holds c.loop-fact.into) after edges
       (facts_of_table tables.Classes (facts_of c.args.heap.now)) (facts_left c.loop-fact.fact-iterator) (facts_left c.next.new.self) fact
       (c.loop-fact.invariant.put edges held) c.in-Some.ensures.steps.0
       (λ longer held_more. put_same longer after (IsClassEdge dump) (GivesByClass fact)
-      (c.in_ok-class_edges.ensures.holds longer held_more) (gives_dump dump fact c.in-Some-to_class_row.ensures.found));
+      (c.in_ok-class_edges.ensures.holds longer held_more) (gives_dump dump fact c.in-Some-to_class_dump.ensures.found));
   keeps = c.in_ok-class_edges.ensures.keeps ∙ c.loop-fact.invariant.keeps;
 }
 

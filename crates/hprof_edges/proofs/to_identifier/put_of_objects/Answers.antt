@@ -5,7 +5,7 @@ use Rattle.hprof_rows.specs.declared.table.Table.TheVariants as tables
 use Rattle.hprof_rows.specs.FactsLeft.{facts_left}
 use Rattle.hprof_rows.specs.Tables.{facts_of_table}
 use Rattle.hprof_lookup.specs.HeapFacts.{facts_of, size_of}
-use Rattle.hprof_lookup.specs.ObjectRow.{fact_of_object}
+use Rattle.hprof_lookup.specs.ObjectDump.{fact_of_object}
 use Rattle.hprof_known_layouts.specs.Known.{Knows}
 use Rattle.hprof_edges.specs.Collecting.{PutBehind}
 use Rattle.hprof_edges.specs.DumpEdges.{IsObjectEdge}
@@ -30,14 +30,14 @@ loop-fact-preserved-in-Continue-1 g c = record {
   put = λ edges knows held.
       let facts = facts_of c.args.heap.now in
       let size = size_of c.args.heap.now in
-      let row = c.in-Some-to_object_row.row in
+      let row = c.in-Some-to_object_dump.dump in
       let fact = value_of c.in-Some.fact in
       let after = g.C.Collect.holds c.object_edges.new.into in
       gone_over_one (IsObjectEdge size facts) (g.C.Collect.holds c.loop-fact.into) after edges
       (facts_of_table tables.Objects facts) (facts_left c.loop-fact.fact-iterator) (facts_left c.next.new.self) fact
       (c.loop-fact.invariant.put edges knows held) c.in-Some.ensures.steps.0
       (λ longer held_more.
-      subst (λ (f : FactValue). PutBehind after longer (IsObjectEdge size facts f)) c.in-Some-to_object_row.ensures.found
+      subst (λ (f : FactValue). PutBehind after longer (IsObjectEdge size facts f)) c.in-Some-to_object_dump.ensures.found
       (subst (λ (i : IdSize). PutBehind after longer (IsObjectEdge i facts (fact_of_object row))) c.id_size-ids.ensures.value
       (c.in_ok-object_edges.ensures.holds facts longer
       (subst (λ (i : IdSize). Knows i facts c.args.known.now) (sym c.id_size-ids.ensures.value) knows) held_more)));

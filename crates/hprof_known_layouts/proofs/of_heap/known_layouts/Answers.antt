@@ -5,19 +5,19 @@ use Rattle.hprof_rows.specs.declared.table.Table.TheVariants as tables
 use Rattle.hprof_rows.specs.FactsLeft.{facts_left}
 use Rattle.hprof_rows.specs.Order.{IsCanonicalOrder}
 use Rattle.hprof_rows.specs.Tables.{facts_of_table}
-use Rattle.hprof_lookup.specs.ClassRow.{dump_of}
+use Rattle.hprof_lookup.specs.ClassDump.{class_value}
 use Rattle.hprof_lookup.specs.HeapFacts.{facts_of}
 use Rattle.hprof_known_layouts.specs.Known.{Knows}
 use Rattle.hprof_known_layouts.proofs.TableDumps.{all_came, came_more, came_other}
 use Rattle.hprof_known_layouts.proofs.of_heap.known_layouts.Goals as goal
 
-pub loop-fact-preserved-in-Some-to_class_row : goal.loop-fact-preserved-in-Some-to_class_row
-loop-fact-preserved-in-Some-to_class_row c =
+pub loop-fact-preserved-in-Some-to_class_dump : goal.loop-fact-preserved-in-Some-to_class_dump
+loop-fact-preserved-in-Some-to_class_dump c =
     let table = facts_of_table tables.Classes (facts_of c.args.heap.now) in
     let given = c.table_facts-fact-items.ensures in
     came_more c.id_size-ids.result table (facts_left c.loop-fact.fact-iterator) (facts_left c.next.new.self) c.loop-fact.known
-    c.come.new.self (value_of c.in-Some.fact) c.loop-fact.invariant c.in-Some.ensures.steps.0 (dump_of c.in-Some-to_class_row.row)
-    c.in-Some-to_class_row.ensures.found (subst IsCanonicalOrder given.all given.ordered) c.in_ok-come.ensures.ok
+    c.come.new.self (value_of c.in-Some.fact) c.loop-fact.invariant c.in-Some.ensures.steps.0 (class_value c.in-Some-to_class_dump.dump)
+    c.in-Some-to_class_dump.ensures.found (subst IsCanonicalOrder given.all given.ordered) c.in_ok-come.ensures.ok
 
 pub loop-fact-preserved : goal.loop-fact-preserved
 loop-fact-preserved c =

@@ -2,12 +2,12 @@ use Rattle.std.specs.Prelude.{map}
 use Rattle.hprof_lists.specs.Lists.{fields_left}
 use Rattle.hprof_lists.specs.Value.{field_of}
 use Rattle.hprof_layouts.specs.Layout.{slot_of}
-use Rattle.hprof_lookup.specs.ClassRow.{dump_of}
+use Rattle.hprof_lookup.specs.ClassDump.{class_value}
 use Rattle.hprof_layouts.specs.Layout.{own_slots}
 use Rattle.hprof_known_layouts.proofs.Gathered.{Gathered}
 use Rattle.hprof_known_layouts.proofs.own_fields.own_fields.Given as goal
 
 abbrev pub invariant-loop-field : goal.invariant-loop-field
 invariant-loop-field l =
-    Gathered l.ids (own_slots (dump_of l.row)) (map (slot_of l.row.id) (map field_of (fields_left l.field-iterator))) l.width l.count
+    Gathered l.ids (own_slots (class_value l.dump)) (map (slot_of l.dump.id) (map field_of (fields_left l.field-iterator))) l.width l.count
     l.references.items

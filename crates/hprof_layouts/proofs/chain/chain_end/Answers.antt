@@ -1,6 +1,6 @@
 use Rattle.std.proofs.Common.{◌<◌, arith}
 use Rattle.hprof_lookup.specs.HeapFacts.{facts_of}
-use Rattle.hprof_lookup.specs.ClassRow.{dump_of}
+use Rattle.hprof_lookup.specs.ClassDump.{class_value}
 use Rattle.hprof_layouts.proofs.Walks.{walked_round, watching_none, watched_more, watched_round}
 use Rattle.hprof_layouts.proofs.chain.chain_end.Goals as goal
 
@@ -12,15 +12,15 @@ loop-at-preserved c =
     let invariant = c.loop-at.invariant in
     let few = invariant.walking.few in
     let lt : c.loop-at.passed < c.table_len-classes.result = omega arith in
-    watched_more (facts_of c.args.heap.now) c.args.class _ _ _ _ invariant (dump_of c.in-Some.row) c.loop-at-test.true
+    watched_more (facts_of c.args.heap.now) c.args.class _ _ _ _ invariant (class_value c.in-Some.dump) c.loop-at-test.true
     c.in-Some.ensures.found c.in-Some.ensures.id lt _ c.behind-mark.ensures
 
 pub returns-then-passed-classes : goal.returns-then-passed-classes
 returns-then-passed-classes c =
-    walked_round (facts_of c.args.heap.now) c.args.class _ _ _ c.loop-at.invariant.walking (dump_of c.in-Some.row) c.loop-at-test.true
+    walked_round (facts_of c.args.heap.now) c.args.class _ _ _ c.loop-at.invariant.walking (class_value c.in-Some.dump) c.loop-at-test.true
     c.in-Some.ensures.found c.in-Some.ensures.id c.if-passed-classes.true
 
 pub returns-then-row-mark : goal.returns-then-row-mark
 returns-then-row-mark c =
-    watched_round (facts_of c.args.heap.now) c.args.class _ _ _ _ c.loop-at.invariant (dump_of c.in-Some.row) c.loop-at-test.true
-    c.in-Some.ensures.found c.in-Some.ensures.id c.if-row-mark.true
+    watched_round (facts_of c.args.heap.now) c.args.class _ _ _ _ c.loop-at.invariant (class_value c.in-Some.dump) c.loop-at-test.true
+    c.in-Some.ensures.found c.in-Some.ensures.id c.if-dump-mark.true

@@ -2,10 +2,10 @@ use Rattle.std.specs.Prelude.{map}
 use Rattle.std.proofs.Common.{◌≡◌, ◌++◌}
 use Rattle.hprof_lists.specs.Lists.{fields_left}
 use Rattle.hprof_lists.specs.Value.{field_of}
-use Rattle.hprof_lookup.specs.ClassRow.{dump_of}
+use Rattle.hprof_lookup.specs.ClassDump.{class_value}
 use Rattle.hprof_layouts.specs.Layout.{own_slots, slot_of}
 use Rattle.hprof_layouts.proofs.class_layout.push_own_slots.Given as goal
 
 abbrev pub invariant-loop-field : goal.invariant-loop-field
 invariant-loop-field l =
-    l.slots.items ++ map (slot_of l.row.id) (map field_of (fields_left l.field-iterator)) ≡ l.fn.slots.items ++ own_slots (dump_of l.row)
+    l.slots.items ++ map (slot_of l.dump.id) (map field_of (fields_left l.field-iterator)) ≡ l.fn.slots.items ++ own_slots (class_value l.dump)

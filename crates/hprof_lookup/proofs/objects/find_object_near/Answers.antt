@@ -5,7 +5,7 @@ use Rattle.hprof_rows.specs.Key.{has_key, key_of}
 use Rattle.hprof_rows.proofs.Keys.{is_key-true}
 use Rattle.hprof_rows.proofs.Picking.{found}
 use Rattle.hprof_lookup.specs.HeapFacts.{facts_of}
-use Rattle.hprof_lookup.specs.ObjectRow.{fact_of_object}
+use Rattle.hprof_lookup.specs.ObjectDump.{fact_of_object}
 use Rattle.hprof_lookup.proofs.ObjectFacts.{IsOnlyObject, none_found, object_found}
 use Rattle.hprof_lookup.proofs.objects.find_object_near.Goals as goal
 
@@ -21,7 +21,7 @@ unreachable-requires c =
     (is_key-true (keys.Object c.args.object) (key_of (value_of c.in_ok-fact.fact)) is.passes)
 
 -- the fact that was found
-abbrev is_there : (c : goal.In-Some) → IsOnlyObject (facts_of c.args.heap.now) c.args.object (fact_of_object c.in-Some.row)
+abbrev is_there : (c : goal.In-Some) → IsOnlyObject (facts_of c.args.heap.now) c.args.object (fact_of_object c.in-Some.dump)
 is_there c =
     subst (λ (fact : FactValue). IsOnlyObject (facts_of c.args.heap.now) c.args.object fact) (sym c.in-Some.ensures.found)
     (object_found (facts_of c.args.heap.now) c.args.object (value_of c.in_ok-fact.fact) c.id_size-ids.ensures.agree

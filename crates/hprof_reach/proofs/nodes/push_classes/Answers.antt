@@ -3,7 +3,7 @@ use Rattle.hprof_items.specs.FactValue.{value_of}
 use Rattle.hprof_rows.specs.declared.table.Table.TheVariants as tables
 use Rattle.hprof_rows.specs.FactsLeft.{facts_left}
 use Rattle.hprof_rows.specs.Tables.{facts_of_table}
-use Rattle.hprof_lookup.specs.ClassRow.{dump_of}
+use Rattle.hprof_lookup.specs.ClassDump.{class_value}
 use Rattle.hprof_lookup.specs.HeapFacts.{facts_of}
 use Rattle.hprof_reach.specs.Nodes.{IsClassNode}
 use Rattle.hprof_reach.proofs.TableNodes.{GivesClass, GoneOver, IsGiven, class_nodes, gives_class, gone_over_all, gone_over_none}
@@ -26,7 +26,7 @@ loop-fact-preserved-in-Continue-1 c =
     (facts_of_table tables.Classes (facts_of c.args.heap.now)) (facts_left c.loop-fact.fact-iterator) (facts_left c.next.new.self) fact
     c.loop-fact.invariant c.in-Some.ensures.steps.0
     (same_given _ (GivesClass fact) c.loop-fact.nodes.items after
-    (λ id. let is = gives_class (dump_of c.in-Some-to_class_row.row) fact c.in-Some-to_class_row.ensures.found id in (is.1, is.0))
+    (λ id. let is = gives_class (class_value c.in-Some-to_class_dump.dump) fact c.in-Some-to_class_dump.ensures.found id in (is.1, is.0))
     c.in_ok-push_node.ensures)
 
 pub loop-fact-preserved : goal.loop-fact-preserved

@@ -1,6 +1,6 @@
 use Rattle.std.proofs.Common.{◌++◌}
 use Rattle.std.proofs.lemmas.Result.{err_from_is_err_and}
-use Rattle.hprof_lookup.specs.ClassRow.{dump_of}
+use Rattle.hprof_lookup.specs.ClassDump.{class_value}
 use Rattle.hprof_lookup.specs.HeapFacts.{size_of}
 use Rattle.hprof_reports.specs.ObjectText.{class_line, constants_text, statics_text, own_fields_text}
 use Rattle.hprof_reports.proofs.TextWriting.{text_stops, text_then}
@@ -8,7 +8,7 @@ use Rattle.hprof_reports.proofs.object.write_class.Goals as goal
 
 pub returns-in_err-write_line-clause-bytes : goal.returns-in_err-write_line-clause-bytes
 returns-in_err-write_line-clause-bytes g c = λ naming is.
-    let dump = dump_of c.args.row.now in
+    let dump = class_value c.args.dump.now in
     let ids = size_of c.args.heap.now in
     let p = err_from_is_err_and c.from_residual.result c.from_residual.ensures.1 in
     text_stops c.from_residual.result (g.W.Target.written c.args.target.now) (g.W.Target.written c.write_line.new.target) p.0 (class_line naming dump)
@@ -17,7 +17,7 @@ returns-in_err-write_line-clause-bytes g c = λ naming is.
 
 pub returns-in_err-write_constants-clause-bytes : goal.returns-in_err-write_constants-clause-bytes
 returns-in_err-write_constants-clause-bytes g c = λ naming is.
-    let dump = dump_of c.args.row.now in
+    let dump = class_value c.args.dump.now in
     let ids = size_of c.args.heap.now in
     let r = c.from_residual-in_err-write_constants.result in
     let p = err_from_is_err_and r c.from_residual-in_err-write_constants.ensures.1 in
@@ -29,7 +29,7 @@ returns-in_err-write_constants-clause-bytes g c = λ naming is.
 
 pub returns-in_err-write_statics-clause-bytes : goal.returns-in_err-write_statics-clause-bytes
 returns-in_err-write_statics-clause-bytes g c = λ naming is.
-    let dump = dump_of c.args.row.now in
+    let dump = class_value c.args.dump.now in
     let ids = size_of c.args.heap.now in
     let r = c.from_residual-in_err-write_statics.result in
     let p = err_from_is_err_and r c.from_residual-in_err-write_statics.ensures.1 in
@@ -43,7 +43,7 @@ returns-in_err-write_statics-clause-bytes g c = λ naming is.
 
 pub returns-clause-bytes : goal.returns-clause-bytes
 returns-clause-bytes g c = λ naming is.
-    let dump = dump_of c.args.row.now in
+    let dump = class_value c.args.dump.now in
     let ids = size_of c.args.heap.now in
     let r = c.write_own_fields.result in
     text_then r (g.W.Target.written c.args.target.now) (g.W.Target.written c.write_line.new.target) (g.W.Target.written c.write_own_fields.new.target) (class_line naming dump)

@@ -2,10 +2,10 @@ use Rattle.std.proofs.Common.{Option, Some, sym, subst}
 use Rattle.std.specs.Option.{option_map}
 use Rattle.std.proofs.lemmas.Result.{err_from_is_err_and}
 use Rattle.hprof_lookup.specs.HeapFacts.{size_of}
-use Rattle.hprof_lookup.specs.declared.class_row.ClassRow.{ClassRow}
-use Rattle.hprof_lookup.specs.declared.object_row.ObjectRow.{ObjectRow}
-use Rattle.hprof_lookup.specs.ClassRow.{dump_of}
-use Rattle.hprof_lookup.specs.ObjectRow.{fact_of_object}
+use Rattle.hprof_lookup.specs.declared.class_dump.ClassDump.{ClassDump}
+use Rattle.hprof_lookup.specs.declared.object_dump.ObjectDump.{ObjectDump}
+use Rattle.hprof_lookup.specs.ClassDump.{class_value}
+use Rattle.hprof_lookup.specs.ObjectDump.{fact_of_object}
 use Rattle.hprof_reports.specs.ObjectText.{class_text, found_text, object_text}
 use Rattle.hprof_reports.specs.Stopping.{WritesText}
 use Rattle.hprof_reports.proofs.TextWriting.{text_stops, text_then}
@@ -17,22 +17,22 @@ returns-in_err-write_class-in-Some-Some-clause-bytes g c = λ naming shown is ar
     let it = c.in-Some-Some in
     let r = c.from_residual.result in
     let p = err_from_is_err_and r c.from_residual.ensures.1 in
-    subst (λ (class : Option ClassRow). WritesText (g.W.Target.written c.args.target.now) (g.W.Target.written c.write_class-in-Some-Some.new.target) r
-    (found_text naming ids c.args.id shown (option_map dump_of class) (option_map fact_of_object c.args.object))) (sym it.is-0)
-    (subst (λ (object : Option ObjectRow). WritesText (g.W.Target.written c.args.target.now) (g.W.Target.written c.write_class-in-Some-Some.new.target) r
-    (found_text naming ids c.args.id shown (Some (dump_of it.row)) (option_map fact_of_object object))) (sym it.is-1)
-    (text_stops r (g.W.Target.written c.args.target.now) (g.W.Target.written c.write_class-in-Some-Some.new.target) p.0 (class_text naming ids (dump_of it.row))
+    subst (λ (class : Option ClassDump). WritesText (g.W.Target.written c.args.target.now) (g.W.Target.written c.write_class-in-Some-Some.new.target) r
+    (found_text naming ids c.args.id shown (option_map class_value class) (option_map fact_of_object c.args.object))) (sym it.is-0)
+    (subst (λ (object : Option ObjectDump). WritesText (g.W.Target.written c.args.target.now) (g.W.Target.written c.write_class-in-Some-Some.new.target) r
+    (found_text naming ids c.args.id shown (Some (class_value it.dump)) (option_map fact_of_object object))) (sym it.is-1)
+    (text_stops r (g.W.Target.written c.args.target.now) (g.W.Target.written c.write_class-in-Some-Some.new.target) p.0 (class_text naming ids (class_value it.dump))
     (object_text naming ids shown (fact_of_object it.object)) p.1 (c.in_err-write_class-in-Some-Some.ensures.bytes naming is)))
 
 pub returns-in_ok-write_class-in-Some-Some-clause-bytes : goal.returns-in_ok-write_class-in-Some-Some-clause-bytes
 returns-in_ok-write_class-in-Some-Some-clause-bytes g c = λ naming shown is are.
     let ids = size_of c.args.heap.now in
     let it = c.in-Some-Some in
-    let r = c.write_object_row-in-Some-Some.result in
-    subst (λ (class : Option ClassRow). WritesText (g.W.Target.written c.args.target.now) (g.W.Target.written c.write_object_row-in-Some-Some.new.target) r
-    (found_text naming ids c.args.id shown (option_map dump_of class) (option_map fact_of_object c.args.object))) (sym it.is-0)
-    (subst (λ (object : Option ObjectRow). WritesText (g.W.Target.written c.args.target.now) (g.W.Target.written c.write_object_row-in-Some-Some.new.target) r
-    (found_text naming ids c.args.id shown (Some (dump_of it.row)) (option_map fact_of_object object))) (sym it.is-1)
-    (text_then r (g.W.Target.written c.args.target.now) (g.W.Target.written c.write_class-in-Some-Some.new.target) (g.W.Target.written c.write_object_row-in-Some-Some.new.target) (class_text naming ids (dump_of it.row))
+    let r = c.write_object_dump-in-Some-Some.result in
+    subst (λ (class : Option ClassDump). WritesText (g.W.Target.written c.args.target.now) (g.W.Target.written c.write_object_dump-in-Some-Some.new.target) r
+    (found_text naming ids c.args.id shown (option_map class_value class) (option_map fact_of_object c.args.object))) (sym it.is-0)
+    (subst (λ (object : Option ObjectDump). WritesText (g.W.Target.written c.args.target.now) (g.W.Target.written c.write_object_dump-in-Some-Some.new.target) r
+    (found_text naming ids c.args.id shown (Some (class_value it.dump)) (option_map fact_of_object object))) (sym it.is-1)
+    (text_then r (g.W.Target.written c.args.target.now) (g.W.Target.written c.write_class-in-Some-Some.new.target) (g.W.Target.written c.write_object_dump-in-Some-Some.new.target) (class_text naming ids (class_value it.dump))
     (object_text naming ids shown (fact_of_object it.object)) (c.in_ok-write_class-in-Some-Some.ensures.bytes naming is)
-    (c.write_object_row-in-Some-Some.ensures.bytes naming shown is are)))
+    (c.write_object_dump-in-Some-Some.ensures.bytes naming shown is are)))

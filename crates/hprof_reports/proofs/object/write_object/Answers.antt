@@ -1,8 +1,8 @@
 use Rattle.std.proofs.Common.{refl}
 use Rattle.std.specs.Option.{option_map}
 use Rattle.hprof_lookup.specs.HeapFacts.{facts_of, size_of}
-use Rattle.hprof_lookup.specs.ClassRow.{dump_of}
-use Rattle.hprof_lookup.specs.ObjectRow.{fact_of_object}
+use Rattle.hprof_lookup.specs.ClassDump.{class_value}
+use Rattle.hprof_lookup.specs.ObjectDump.{fact_of_object}
 use Rattle.hprof_layouts.proofs.FieldAnswers.{fields_exist}
 use Rattle.hprof_naming.proofs.Namings.{naming_exists}
 use Rattle.hprof_reports.specs.ObjectText.{found_text}
@@ -18,12 +18,12 @@ returns-clause-bytes g c =
     let shown = fields_exist ids facts id in
     let class = c.find_class-class in
     let object = c.find_object-object in (
-      found_text naming.0 ids id shown.0 (option_map dump_of class.result) (option_map fact_of_object object.result),
+      found_text naming.0 ids id shown.0 (option_map class_value class.result) (option_map fact_of_object object.result),
       record {
         agree = c.id_size-ids.ensures.agree;
         naming = naming.0;
         is_naming = naming.1;
-        class = option_map dump_of class.result;
+        class = option_map class_value class.result;
         class_found = class_is_found facts id class.result class.ensures.found class.ensures.id class.ensures.none;
         object = option_map fact_of_object object.result;
         object_found = object_is_found facts id object.result object.ensures.found object.ensures.id object.ensures.none;

@@ -1,7 +1,7 @@
 use Rattle.std.proofs.Common.{sym, subst, List, ℕ, Contains}
 use Rattle.hprof_values.specs.declared.ids.IdSize.{IdSize}
 use Rattle.hprof_lookup.specs.HeapFacts.{facts_of, size_of}
-use Rattle.hprof_lookup.specs.ClassRow.{dump_of}
+use Rattle.hprof_lookup.specs.ClassDump.{class_value}
 use Rattle.hprof_known_layouts.specs.Known.{Knows}
 use Rattle.hprof_live.specs.Derived.{HasLaid}
 use Rattle.hprof_live.proofs.FactsMore.{class_added, class_came, class_new, dumps_more}
@@ -11,7 +11,7 @@ pub returns-clause-adds : goal.returns-clause-adds
 returns-clause-adds c = λ before adds is.
     let ids = size_of c.args.heap.now in
     let facts = facts_of c.args.heap.now in
-    let dump = dump_of c.args.row.now in
+    let dump = class_value c.args.dump.now in
     let derived = c.args.self.now in
     let size = c.id_size.ensures.value in
     let knew = subst (λ (i : IdSize). Knows i before derived.known) (sym size) is.deriving_is.knows in

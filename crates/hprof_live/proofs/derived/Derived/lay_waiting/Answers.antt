@@ -3,7 +3,7 @@ use Rattle.hprof_values.specs.declared.ids.IdSize.{IdSize}
 use Rattle.hprof_items.specs.FactValue.{Instance}
 use Rattle.hprof_rows.specs.Facts.{Has}
 use Rattle.hprof_lookup.specs.HeapFacts.{facts_of}
-use Rattle.hprof_lookup.specs.ObjectRow.{fact_of_object}
+use Rattle.hprof_lookup.specs.ObjectDump.{fact_of_object}
 use Rattle.hprof_known_layouts.specs.Known.{HasLayout}
 use Rattle.hprof_live.specs.Derived.{IsDeriving}
 use Rattle.hprof_live.proofs.derived.Derived.lay_waiting.Goals as goal

@@ -4,7 +4,7 @@ use hprof_lists::{ConstantList, FieldList, StaticList};
 
 /// What a class dump says. Its lists borrow from the heap.
 #[derive(Clone, Copy, Debug, PartialEq, Eq)]
-pub struct ClassRow<'a> {
+pub struct ClassDump<'a> {
     /// The class object.
     pub id: u64,
     /// The serial of the stack trace.

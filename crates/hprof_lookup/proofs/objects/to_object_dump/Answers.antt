@@ -1,5 +1,5 @@
 use Rattle.hprof_lookup.proofs.ObjectFacts.{is_object_fact}
-use Rattle.hprof_lookup.proofs.objects.to_object_row.Goals as goal
+use Rattle.hprof_lookup.proofs.objects.to_object_dump.Goals as goal
 
 pub returns-in_default-clause-none : goal.returns-in_default-clause-none
 returns-in_default-clause-none c = λ object is.

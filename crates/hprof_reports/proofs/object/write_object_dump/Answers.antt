@@ -5,12 +5,12 @@ use Rattle.std.proofs.lemmas.Result.{err_from_is_err_and}
 use Rattle.hprof_values.specs.declared.ids.IdSize.{IdSize}
 use Rattle.hprof_lists.specs.Lists.{identifiers_of}
 use Rattle.hprof_lookup.specs.HeapFacts.{size_of}
-use Rattle.hprof_lookup.specs.declared.object_row.ObjectRow.{ObjectRow}
-use Rattle.hprof_lookup.specs.ObjectRow.{fact_of_object}
+use Rattle.hprof_lookup.specs.declared.object_dump.ObjectDump.{ObjectDump}
+use Rattle.hprof_lookup.specs.ObjectDump.{fact_of_object}
 use Rattle.hprof_reports.specs.ObjectText.{object_text, instance_line, fields_text, elements_line, elements_text, values_line, contents_text}
 use Rattle.hprof_reports.specs.Stopping.{WritesText}
 use Rattle.hprof_reports.proofs.TextWriting.{text_stops, text_then}
-use Rattle.hprof_reports.proofs.object.write_object_row.Goals as goal
+use Rattle.hprof_reports.proofs.object.write_object_dump.Goals as goal
 
 pub returns-in_err-write_line-in-Instance-clause-bytes : goal.returns-in_err-write_line-in-Instance-clause-bytes
 returns-in_err-write_line-in-Instance-clause-bytes g c = λ naming shown is are.
@@ -19,7 +19,7 @@ returns-in_err-write_line-in-Instance-clause-bytes g c = λ naming shown is are.
     let r = c.from_residual.result in
     let p = err_from_is_err_and r c.from_residual.ensures.1 in
     let made = c.instance_line.ensures naming is in
-    subst (λ (row : ObjectRow). WritesText (g.W.Target.written c.args.target.now) (g.W.Target.written c.write_line.new.target) r (object_text naming ids shown (fact_of_object row))) (sym it.is)
+    subst (λ (row : ObjectDump). WritesText (g.W.Target.written c.args.target.now) (g.W.Target.written c.write_line.new.target) r (object_text naming ids shown (fact_of_object row))) (sym it.is)
     (text_stops r (g.W.Target.written c.args.target.now) (g.W.Target.written c.write_line.new.target) p.0 (instance_line naming it.id it.class it.bytes.now) (fields_text naming ids shown) p.1
     (c.in_err-write_line-in-Instance.ensures.bytes (instance_line naming it.id it.class it.bytes.now) made))
 
@@ -29,7 +29,7 @@ returns-in_ok-write_line-in-Instance-clause-bytes g c = λ naming shown is are.
     let it = c.in-Instance in
     let r = c.write_fields.result in
     let made = c.instance_line.ensures naming is in
-    subst (λ (row : ObjectRow). WritesText (g.W.Target.written c.args.target.now) (g.W.Target.written c.write_fields.new.target) r (object_text naming ids shown (fact_of_object row))) (sym it.is)
+    subst (λ (row : ObjectDump). WritesText (g.W.Target.written c.args.target.now) (g.W.Target.written c.write_fields.new.target) r (object_text naming ids shown (fact_of_object row))) (sym it.is)
     (text_then r (g.W.Target.written c.args.target.now) (g.W.Target.written c.write_line.new.target) (g.W.Target.written c.write_fields.new.target) (instance_line naming it.id it.class it.bytes.now) (fields_text naming ids shown)
     (c.in_ok-write_line-in-Instance.ensures.bytes (instance_line naming it.id it.class it.bytes.now) made) (c.write_fields.ensures.bytes naming shown is are))
 
@@ -40,7 +40,7 @@ returns-in_err-write_line-in-ObjArray-clause-bytes g c = λ naming shown is are.
     let r = c.from_residual-in_err-write_line-in-ObjArray.result in
     let p = err_from_is_err_and r c.from_residual-in_err-write_line-in-ObjArray.ensures.1 in
     let made = c.elements_line.ensures naming is in
-    subst (λ (row : ObjectRow). WritesText (g.W.Target.written c.args.target.now) (g.W.Target.written c.write_line-in-ObjArray.new.target) r (object_text naming ids shown (fact_of_object row))) (sym it.is)
+    subst (λ (row : ObjectDump). WritesText (g.W.Target.written c.args.target.now) (g.W.Target.written c.write_line-in-ObjArray.new.target) r (object_text naming ids shown (fact_of_object row))) (sym it.is)
     (text_stops r (g.W.Target.written c.args.target.now) (g.W.Target.written c.write_line-in-ObjArray.new.target) p.0 (elements_line naming it.id it.class (identifiers_of it.elements)) (elements_text (identifiers_of it.elements)) p.1
     (c.in_err-write_line-in-ObjArray.ensures.bytes (elements_line naming it.id it.class (identifiers_of it.elements)) made))
 
@@ -50,7 +50,7 @@ returns-in_ok-write_line-in-ObjArray-clause-bytes g c = λ naming shown is are.
     let it = c.in-ObjArray in
     let r = c.write_elements.result in
     let made = c.elements_line.ensures naming is in
-    subst (λ (row : ObjectRow). WritesText (g.W.Target.written c.args.target.now) (g.W.Target.written c.write_elements.new.target) r (object_text naming ids shown (fact_of_object row))) (sym it.is)
+    subst (λ (row : ObjectDump). WritesText (g.W.Target.written c.args.target.now) (g.W.Target.written c.write_elements.new.target) r (object_text naming ids shown (fact_of_object row))) (sym it.is)
     (text_then r (g.W.Target.written c.args.target.now) (g.W.Target.written c.write_line-in-ObjArray.new.target) (g.W.Target.written c.write_elements.new.target) (elements_line naming it.id it.class (identifiers_of it.elements)) (elements_text (identifiers_of it.elements))
     (c.in_ok-write_line-in-ObjArray.ensures.bytes (elements_line naming it.id it.class (identifiers_of it.elements)) made) (c.write_elements.ensures.bytes naming is))
 
@@ -62,7 +62,7 @@ returns-in_err-write_line-in-PrimArray-clause-bytes g c = λ naming shown is are
     let p = err_from_is_err_and r c.from_residual-in_err-write_line-in-PrimArray.ensures.1 in
     let made = subst (λ (size : IdSize). IfOk c.values_line.result (λ line. string_bytes line ≡ values_line size it.id it.elem it.bytes.now))
     c.id_size.ensures.value c.values_line.ensures in
-    subst (λ (row : ObjectRow). WritesText (g.W.Target.written c.args.target.now) (g.W.Target.written c.write_line-in-PrimArray.new.target) r (object_text naming ids shown (fact_of_object row))) (sym it.is)
+    subst (λ (row : ObjectDump). WritesText (g.W.Target.written c.args.target.now) (g.W.Target.written c.write_line-in-PrimArray.new.target) r (object_text naming ids shown (fact_of_object row))) (sym it.is)
     (text_stops r (g.W.Target.written c.args.target.now) (g.W.Target.written c.write_line-in-PrimArray.new.target) p.0 (values_line ids it.id it.elem it.bytes.now) (contents_text it.bytes.now) p.1
     (c.in_err-write_line-in-PrimArray.ensures.bytes (values_line ids it.id it.elem it.bytes.now) made))
 
@@ -73,6 +73,6 @@ returns-in_ok-write_line-in-PrimArray-clause-bytes g c = λ naming shown is are.
     let r = c.write_contents.result in
     let made = subst (λ (size : IdSize). IfOk c.values_line.result (λ line. string_bytes line ≡ values_line size it.id it.elem it.bytes.now))
     c.id_size.ensures.value c.values_line.ensures in
-    subst (λ (row : ObjectRow). WritesText (g.W.Target.written c.args.target.now) (g.W.Target.written c.write_contents.new.target) r (object_text naming ids shown (fact_of_object row))) (sym it.is)
+    subst (λ (row : ObjectDump). WritesText (g.W.Target.written c.args.target.now) (g.W.Target.written c.write_contents.new.target) r (object_text naming ids shown (fact_of_object row))) (sym it.is)
     (text_then r (g.W.Target.written c.args.target.now) (g.W.Target.written c.write_line-in-PrimArray.new.target) (g.W.Target.written c.write_contents.new.target) (values_line ids it.id it.elem it.bytes.now) (contents_text it.bytes.now)
     (c.in_ok-write_line-in-PrimArray.ensures.bytes (values_line ids it.id it.elem it.bytes.now) made) c.write_contents.ensures.bytes)

@@ -5,7 +5,7 @@ use hprof_values::Basic;
 
 /// What an object dump says. Its bytes and elements borrow from the heap.
 #[derive(Clone, Copy, Debug, PartialEq, Eq)]
-pub enum ObjectRow<'a> {
+pub enum ObjectDump<'a> {
     /// An instance of a class.
     Instance {
         /// The instance.

@@ -1,0 +1,27 @@
+-- A class dump as it lies in a heap.
+use Rattle.std.specs.Prelude.{◌≡◌}
+use Rattle.hprof_values.specs.declared.ids.IdSize.{IdSize}
+use Rattle.hprof_lists.specs.Lists.{constants_of, constants_size, statics_of, statics_size, fields_of, fields_size}
+use Rattle.hprof_lookup.specs.declared.class_dump.ClassDump.{ClassDump}
+use Rattle.hprof_lookup.specs.Classes.{ClassValue}
+
+-- what it says
+abbrev pub class_value : ClassDump → ClassValue
+class_value dump = record {
+  id = dump.id;
+  trace = dump.trace;
+  parent = dump.parent;
+  loader = dump.loader;
+  signers = dump.signers;
+  domain = dump.domain;
+  reserved1 = dump.reserved1;
+  reserved2 = dump.reserved2;
+  size = dump.size;
+  constants = constants_of dump.constants;
+  statics = statics_of dump.statics;
+  fields = fields_of dump.fields;
+}
+
+-- its lists have identifiers of that size
+abbrev pub ClassListsHave : IdSize → ClassDump → Type 0
+ClassListsHave ids dump = (constants_size dump.constants ≡ ids) × (statics_size dump.statics ≡ ids) × (fields_size dump.fields ≡ ids)
