@@ -11,7 +11,7 @@ use Rattle.hprof_values.specs.Ids.{width_of, IsBytes}
 use Rattle.hprof_values.specs.FieldGroups.{field_bytes, fields_in, Bounds, ◌>>=◌, reached, IsWithin}
 use Rattle.hprof_lists.specs.Entries.{list_bytes, ListFits, list_in, list_end}
 use Rattle.hprof_items.specs.FactValue.{FactValue, Class}
-use Rattle.hprof_items.specs.ClassValue.{class_widths, class_lists, class_of, class_at}
+use Rattle.hprof_items.specs.ClassDump.{class_widths, class_lists, class_of, class_at}
 use Rattle.hprof_items.specs.SubRecord.{class_numbers, dump_bytes, DumpFits, IsDumpOf}
 use Rattle.hprof_values.proofs.Numbers.{IsBytes-drop}
 use Rattle.hprof_values.proofs.FieldGroups.{length-fields, fields_again, fields_rest, fields_fit, fields_found, then_ok, then_next}

@@ -26,7 +26,7 @@ use Rattle.hprof_items.specs.FactValue.{PrimArray, value_of, ListsHave}
 use Rattle.hprof_items.specs.declared.fact.Fact.{Fact}
 use Rattle.hprof_items.specs.Spelling.{longest_body, Fits}
 use Rattle.hprof_items.specs.SubReading.{bounds_within, IsSubRead}
-use Rattle.hprof_items.specs.ClassValue.{class_widths, class_of, class_at}
+use Rattle.hprof_items.specs.ClassDump.{class_widths, class_of, class_at}
 use Rattle.hprof_items.specs.SubRecord.{cut, instance_widths, instance_at, obj_array_widths, obj_array_at, prim_array_widths, prim_array_at}
 use Rattle.hprof_items.specs.SubRecord.{element_type, root_of, root_at, dump_at, judged_tag, tag_at, sub_at, dump_bytes, DumpFits}
 use Rattle.hprof_items.specs.SubRecord.{is_root_tag, tag_of_dump, IsDumpOf, IsSubOf}
@@ -48,7 +48,7 @@ tag_again tags.RootSticky = refl
 tag_again tags.RootBlock = refl
 tag_again tags.RootMonitor = refl
 tag_again tags.RootThreadObject = refl
-tag_again tags.ClassValue = refl
+tag_again tags.ClassDump = refl
 tag_again tags.InstanceDump = refl
 tag_again tags.ObjArrayDump = refl
 tag_again tags.PrimArrayDump = refl
@@ -173,7 +173,7 @@ prim_array_tag ids bounds bytes fact n e =
     (λ end. last_tag (made front elem) end fact n tags.PrimArrayDump refl))) e
 
 class_tag : (ids : IdSize) (bounds : Bounds) (bytes : List ℕ) (fact : FactValue) (n : ℕ) → class_at ids bounds bytes ≡ Ok (fact, n)
-    → tag_of_dump fact ≡ tags.ClassValue
+    → tag_of_dump fact ≡ tags.ClassDump
 unfolding class_at
 class_tag ids bounds bytes fact n e =
     let numbers : List ℕ = fields_in (class_widths ids) (drop 1 bytes) in
@@ -183,18 +183,18 @@ class_tag ids bounds bytes fact n e =
     Ok (made at s f, end) in
     then_tag (reached bounds 1 (class_widths ids))
     (λ (at : ℕ). list_end ids kinds.Constant bounds bytes at >>= λ (s : ℕ). list_end ids kinds.Static bounds bytes s >>= λ (f : ℕ).
-    last at s f) fact n tags.ClassValue
+    last at s f) fact n tags.ClassDump
     (λ at. then_tag (list_end ids kinds.Constant bounds bytes at) (λ (s : ℕ). list_end ids kinds.Static bounds bytes s >>= λ (f : ℕ).
-    last at s f) fact n tags.ClassValue
-    (λ s. then_tag (list_end ids kinds.Static bounds bytes s) (λ (f : ℕ). last at s f) fact n tags.ClassValue
-    (λ f. then_tag (list_end ids kinds.Field bounds bytes f) (λ (end : ℕ). Ok (made at s f, end)) fact n tags.ClassValue (λ end.
-    last_tag (made at s f) end fact n tags.ClassValue refl)))) e
+    last at s f) fact n tags.ClassDump
+    (λ s. then_tag (list_end ids kinds.Static bounds bytes s) (λ (f : ℕ). last at s f) fact n tags.ClassDump
+    (λ f. then_tag (list_end ids kinds.Field bounds bytes f) (λ (end : ℕ). Ok (made at s f, end)) fact n tags.ClassDump (λ end.
+    last_tag (made at s f) end fact n tags.ClassDump refl)))) e
 
 -- what is read is spelled so
 read_found : (ids : IdSize) (tag : SubTag) (bounds : Bounds) (bytes : List ℕ) (fact : FactValue) (n : ℕ) → IsBytes bytes
     → bounds.there ≤ length bytes
     → dump_at ids tag bounds bytes ≡ Ok (fact, n) → IsRead ids tag bounds bytes fact n
-read_found ids tags.ClassValue bounds bytes fact n are there e = record {
+read_found ids tags.ClassDump bounds bytes fact n are there e = record {
   is = class_found ids bounds bytes fact n are there e;
   tagged =
       class_tag ids bounds bytes fact n e;

@@ -156,7 +156,7 @@ along_answer ids bounds bytes x fact m n e is =
 pub numbers_same : (ids : IdSize) (tag : SubTag) (bytes : List ℕ) → is_root_tag tag ≡ true
     → (root_numbers (root_of tag (fields_in (root_fields ids tag) bytes)) ≡ fields_in (root_fields ids tag) bytes)
     × (tag_of_root (root_of tag (fields_in (root_fields ids tag) bytes)) ≡ tag)
-numbers_same ids tags.ClassValue bytes e = absurd cc
+numbers_same ids tags.ClassDump bytes e = absurd cc
 numbers_same ids tags.InstanceDump bytes e = absurd cc
 numbers_same ids tags.ObjArrayDump bytes e = absurd cc
 numbers_same ids tags.PrimArrayDump bytes e = absurd cc
@@ -172,7 +172,7 @@ root_first ids tags.RootSticky = refl
 root_first ids tags.RootBlock = refl
 root_first ids tags.RootMonitor = refl
 root_first ids tags.RootThreadObject = refl
-root_first ids tags.ClassValue = refl
+root_first ids tags.ClassDump = refl
 root_first ids tags.InstanceDump = refl
 root_first ids tags.ObjArrayDump = refl
 root_first ids tags.PrimArrayDump = refl

@@ -14,7 +14,7 @@ use Rattle.hprof_values.specs.BoundedBytes.{bounds_of}
 use Rattle.hprof_values.proofs.FieldGroups.{then_more, then_next, then_stop, reached_more}
 use Rattle.hprof_items.specs.declared.walk.Walk.TheVariants.{Front, Entries}
 use Rattle.hprof_items.specs.FactValue.{FactValue}
-use Rattle.hprof_items.specs.ClassValue.{class_widths, class_of, class_at}
+use Rattle.hprof_items.specs.ClassDump.{class_widths, class_of, class_at}
 use Rattle.hprof_items.specs.SubRecord.{dump_at, tag_at}
 use Rattle.hprof_items.specs.Walk.{end_of_read, behind, walked, FindsSame, StopsAt, count_at, class_count}
 use Rattle.hprof_items.proofs.WalksReads.{tag_more, then_assoc, sub_parts}
@@ -82,7 +82,7 @@ class_counted ids bounds bytes =
     ∙ then_assoc (reached bounds 1 (class_widths ids)) (count_at bounds bytes) (listed ids kinds.Constant bounds bytes)
 
 -- a class whose fields and first count are there is walked on from its first constant
-pub class_entered : (ids : IdSize) (item : BoundedBytes) (left begin : ℕ) → tag_at (bounds_of item) item.bytes.now ≡ Ok tags.ClassValue
+pub class_entered : (ids : IdSize) (item : BoundedBytes) (left begin : ℕ) → tag_at (bounds_of item) item.bytes.now ≡ Ok tags.ClassDump
     → class_count ids (bounds_of item) item.bytes.now ≡ Ok (left, begin)
     → FindsSame ids item (Entries kinds.Constant left begin) Front
 unfolding walked
@@ -90,26 +90,26 @@ class_entered ids item left begin tagged e = λ more.
     let bytes = item.bytes.now ++ more in
     let longer = later item more in
     let there : (bounds_of item).there ≤ length item.bytes.now = omega arith in
-    let tag = settled_ok _ _ tags.ClassValue (tag_more (bounds_of item) item.bytes.now more there) tagged in
+    let tag = settled_ok _ _ tags.ClassDump (tag_more (bounds_of item) item.bytes.now more there) tagged in
     let count = settled_ok _ _ (left, begin)
     (then_more (reached (bounds_of item) 1 (class_widths ids)) (reached longer 1 (class_widths ids))
     (count_at (bounds_of item) item.bytes.now) (count_at longer bytes)
     (reached_more (bounds_of item) 1 (length more) (class_widths ids))
     (λ front. count_settled (bounds_of item) item.bytes.now more front there)) e in
-    sym (front_tagged ids tags.ClassValue longer bytes tag ∙ class_counted ids longer bytes
+    sym (front_tagged ids tags.ClassDump longer bytes tag ∙ class_counted ids longer bytes
     ∙ then_next (class_count ids longer bytes) (listed ids kinds.Constant longer bytes) (left, begin) count)
 
 -- fields or a count that are not there stop the walk
-pub class_stopped : (ids : IdSize) (bounds : Bounds) (bytes : List ℕ) (stop : Stop) → tag_at bounds bytes ≡ Ok tags.ClassValue
+pub class_stopped : (ids : IdSize) (bounds : Bounds) (bytes : List ℕ) (stop : Stop) → tag_at bounds bytes ≡ Ok tags.ClassDump
     → class_count ids bounds bytes ≡ Err stop
     → walked ids bounds bytes Front ≡ Err stop
 class_stopped ids bounds bytes stop tagged e =
-    front_tagged ids tags.ClassValue bounds bytes tagged ∙ class_counted ids bounds bytes
+    front_tagged ids tags.ClassDump bounds bytes tagged ∙ class_counted ids bounds bytes
     ∙ then_stop (class_count ids bounds bytes) (listed ids kinds.Constant bounds bytes) stop e
 
 -- what is no class is tested at once
 pub tested_at_once : (ids : IdSize) (item : BoundedBytes) (tag : SubTag) (answer : Result ℕ Stop)
-    → tag_at (bounds_of item) item.bytes.now ≡ Ok tag → (tag ≡ tags.ClassValue → ⊥)
+    → tag_at (bounds_of item) item.bytes.now ≡ Ok tag → (tag ≡ tags.ClassDump → ⊥)
     → IfErr answer (StopsAt ids item Front)
 tested_at_once ids item tag (Ok end) tagged other = tt
-tested_at_once ids item tag (Err stop) tagged other = λ class. let same : tag ≡ tags.ClassValue = cc in absurd (other same)
+tested_at_once ids item tag (Err stop) tagged other = λ class. let same : tag ≡ tags.ClassDump = cc in absurd (other same)

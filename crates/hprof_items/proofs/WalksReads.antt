@@ -20,7 +20,7 @@ use Rattle.hprof_lists.specs.Lists.{ids_in}
 use Rattle.hprof_values.specs.Root.{root_fields}
 use Rattle.hprof_values.specs.SubTag.{tag_of_code}
 use Rattle.hprof_items.specs.FactValue.{FactValue, Rooted, Instance, ObjArray, PrimArray}
-use Rattle.hprof_items.specs.ClassValue.{class_widths, class_of, class_at}
+use Rattle.hprof_items.specs.ClassDump.{class_widths, class_of, class_at}
 use Rattle.hprof_items.specs.SubRecord.{instance_widths, obj_array_widths, prim_array_widths, root_of, root_at, cut, instance_at}
 use Rattle.hprof_items.specs.SubRecord.{obj_array_at, element_type, prim_array_at, dump_at, judged_tag, sub_at, tag_at}
 use Rattle.hprof_values.proofs.FieldGroups.{sum_widths, then_more, reached_passed, reached_more}
@@ -156,7 +156,7 @@ class_more ids bounds bytes more there =
 
 dump_more : (ids : IdSize) (tag : SubTag) (bounds : Bounds) (bytes more : List ℕ) → bounds.there ≤ length bytes
     → IsSettled (dump_at ids tag bounds bytes) (dump_at ids tag (with_more bounds (length more)) (bytes ++ more))
-dump_more ids tags.ClassValue bounds bytes more there = class_more ids bounds bytes more there
+dump_more ids tags.ClassDump bounds bytes more there = class_more ids bounds bytes more there
 dump_more ids tags.InstanceDump bounds bytes more there = instance_more ids bounds bytes more there
 dump_more ids tags.ObjArrayDump bounds bytes more there = obj_array_more ids bounds bytes more there
 dump_more ids tags.PrimArrayDump bounds bytes more there = prim_array_more ids bounds bytes more there

@@ -2,7 +2,7 @@ pub mod Header
 pub mod Head
 pub mod FactValue
 pub mod RecordBody
-pub mod ClassValue
+pub mod ClassDump
 pub mod Fronts
 pub mod SubRecord
 pub mod Walk

@@ -20,7 +20,7 @@ use Rattle.hprof_values.specs.Root.{tag_of_root, root_fields, root_bytes, RootFi
 use Rattle.hprof_lists.specs.Lists.{id_widths, ids_in}
 use Rattle.hprof_lists.specs.declared.entry.EntryKind.TheVariants as kinds
 use Rattle.hprof_lists.specs.Entries.{ListFits}
-use Rattle.hprof_items.specs.ClassValue.{class_widths, class_lists, class_at}
+use Rattle.hprof_items.specs.ClassDump.{class_widths, class_lists, class_at}
 use Rattle.hprof_items.specs.FactValue.{FactValue, Rooted, Class, Instance, ObjArray, PrimArray}
 
 -- ---- the fields behind the tag
@@ -98,7 +98,7 @@ prim_array_at ids bounds bytes =
 
 -- the sub-record of that tag, behind it
 abbrev pub dump_at : IdSize → SubTag → Bounds → List ℕ → Result (FactValue × ℕ) Stop
-dump_at ids tags.ClassValue bounds bytes = class_at ids bounds bytes
+dump_at ids tags.ClassDump bounds bytes = class_at ids bounds bytes
 dump_at ids tags.InstanceDump bounds bytes = instance_at ids bounds bytes
 dump_at ids tags.ObjArrayDump bounds bytes = obj_array_at ids bounds bytes
 dump_at ids tags.PrimArrayDump bounds bytes = prim_array_at ids bounds bytes
@@ -146,7 +146,7 @@ prim_array_numbers ids id trace elem bytes = id ∷ trace ∷ length bytes / wid
 abbrev pub dump_bytes : IdSize → FactValue → List ℕ
 dump_bytes ids (Rooted root) = root_bytes ids root
 dump_bytes ids (Class id trace parent loader signers domain reserved1 reserved2 size constants statics fields) =
-    tagged_bytes tags.ClassValue (class_widths ids) (class_numbers id trace parent loader signers domain reserved1 reserved2 size)
+    tagged_bytes tags.ClassDump (class_widths ids) (class_numbers id trace parent loader signers domain reserved1 reserved2 size)
     (class_lists ids constants statics fields)
 dump_bytes ids (Instance id trace class bytes) =
     tagged_bytes tags.InstanceDump (instance_widths ids) (instance_numbers id trace class bytes) bytes
@@ -175,7 +175,7 @@ DumpFits ids _ = ⊥
 -- the tag of the sub-record that states the fact; of a record's, no tag is meant
 abbrev pub tag_of_dump : FactValue → SubTag
 tag_of_dump (Rooted root) = tag_of_root root
-tag_of_dump (Class id trace parent loader signers domain reserved1 reserved2 size constants statics fields) = tags.ClassValue
+tag_of_dump (Class id trace parent loader signers domain reserved1 reserved2 size constants statics fields) = tags.ClassDump
 tag_of_dump (Instance id trace class bytes) = tags.InstanceDump
 tag_of_dump (ObjArray id trace class elements) = tags.ObjArrayDump
 tag_of_dump (PrimArray id trace elem bytes) = tags.PrimArrayDump
@@ -183,7 +183,7 @@ tag_of_dump _ = tags.RootUnknown
 
 -- the tags of roots
 abbrev pub is_root_tag : SubTag → Bool
-is_root_tag tags.ClassValue = false
+is_root_tag tags.ClassDump = false
 is_root_tag tags.InstanceDump = false
 is_root_tag tags.ObjArrayDump = false
 is_root_tag tags.PrimArrayDump = false

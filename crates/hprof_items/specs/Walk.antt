@@ -13,7 +13,7 @@ use Rattle.hprof_values.specs.BoundedBytes.{bounds_of}
 use Rattle.hprof_items.specs.declared.walk.Walk.{Walk}
 use Rattle.hprof_items.specs.declared.walk.Walk.TheVariants.{Front, Entries}
 use Rattle.hprof_items.specs.FactValue.{FactValue}
-use Rattle.hprof_items.specs.ClassValue.{class_widths}
+use Rattle.hprof_items.specs.ClassDump.{class_widths}
 use Rattle.hprof_items.specs.SubRecord.{tag_at, sub_at}
 
 -- the end, without the fact
@@ -62,7 +62,7 @@ class_count ids bounds bytes = reached bounds 1 (class_widths ids) >>= λ front.
 -- what the walk comes to next stops it so: an entry, the count of the next list, or the fields of a class with the
 -- count of its constants; what else there may be at the front is tested at once
 abbrev pub StopsIn : IdSize → Bounds → List ℕ → Walk → Stop → Type 0
-StopsIn ids bounds bytes Front stop = tag_at bounds bytes ≡ Ok tags.ClassValue → class_count ids bounds bytes ≡ Err stop
+StopsIn ids bounds bytes Front stop = tag_at bounds bytes ≡ Ok tags.ClassDump → class_count ids bounds bytes ≡ Err stop
 StopsIn ids bounds bytes (Entries kind zero at) stop = (kind ≢ kinds.Field) × (count_at bounds bytes at ≡ Err stop)
 StopsIn ids bounds bytes (Entries kind (suc left) at) stop = entry_end ids kind bounds bytes at ≡ Err stop
 

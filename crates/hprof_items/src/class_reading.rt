@@ -5,7 +5,7 @@ ghost use Rattle.hprof_values.specs.FieldGroups.{fields_in};
 ghost use Rattle.hprof_values.specs.BoundedBytes.{bounds_of};
 ghost use Rattle.hprof_values.specs.declared.ids.IdSize.{IdSize};
 ghost use Rattle.hprof_lists.specs.Lists.{constants_of, constants_size, statics_of, statics_size, fields_of, fields_size};
-ghost use Rattle.hprof_items.specs.ClassValue.{class_widths, class_of, class_at};
+ghost use Rattle.hprof_items.specs.ClassDump.{class_widths, class_of, class_at};
 ghost use Rattle.hprof_items.specs.Fronts.{class_front};
 ghost use Rattle.hprof_items.specs.FactValue.{value_of, ListsHave};
 
@@ -85,7 +85,7 @@ fn class_of<'a>(
 
 /// The class at the front, and where it ends. Few items are one, so it stands apart from the reading of the others, and takes
 /// the item by value: the others keep it out of memory.
-#[tactic(auto, unfolding(crate::specs::ClassValue::class_at))]
+#[tactic(auto, unfolding(crate::specs::ClassDump::class_at))]
 #[inline(never)]
 fn whole_class<'a>(item: BoundedBytes<'a>, ids: IdSize) -> Result<(Fact<'a>, usize), Stop>
     ensures fact { MatchResult result

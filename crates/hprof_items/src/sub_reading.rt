@@ -27,7 +27,7 @@ fn read_behind<'a>(
     ensures lists { OnOk result (ListsHave ids fact.new) }
 {
     match tag {
-        SubTag::ClassValue => read_class(item, ids, fact),
+        SubTag::ClassDump => read_class(item, ids, fact),
         SubTag::InstanceDump => read_instance(item, ids, fact),
         SubTag::ObjArrayDump => read_obj_array(item, ids, fact),
         SubTag::PrimArrayDump => read_prim_array(item, ids, fact),

@@ -123,7 +123,7 @@ fn class_count(item: &BoundedBytes<'_>, ids: IdSize) -> Result<(usize, usize), S
 
 /// The end of a sub-record that is no class.
 fn plain_end(item: &BoundedBytes<'_>, tag: SubTag, ids: IdSize) -> Result<usize, Stop>
-    requires { tag ≢ SubTag.ClassValue }
+    requires { tag ≢ SubTag.ClassDump }
     ensures { result ≡ end_of_read (dump_at ids tag (bounds_of item.now) item.now.bytes.now) }
 {
     let mut fact = Fact::End { thread: 0 };
@@ -146,7 +146,7 @@ fn pass_front(item: &BoundedBytes<'_>, ids: IdSize) -> (Walk, Result<usize, Stop
         Ok(tag) => tag,
         Err(stop) => return (Walk::Front, Err(stop)),
     };
-    let SubTag::ClassValue = tag else {
+    let SubTag::ClassDump = tag else {
         return (Walk::Front, plain_end(item, tag, ids));
     };
     match class_count(item, ids) {

@@ -1,7 +1,7 @@
 //! Parts of thousands of facts, and thousands of parts.
 
 use crate::expecting::{equal, equal_bytes, equal_text};
-use crate::pieces::class_value;
+use crate::pieces::dump_of;
 use crate::samples::{END, HEADER, NAME_1_A, bytes_of, fed, readers_of};
 use hprof_devices::Device;
 use hprof_engine::{Joined, join_to};
@@ -62,7 +62,7 @@ fn thousands_of_facts_in_pieces_of_seven(rt: HostRuntime) -> Result<(), Fail> {
         .ok_or("the part is whole")?;
     let found = (summary.records, summary.facts, summary.ended, dump.len());
     equal(&rt, found, (3_000, 3_000, false, 42_040));
-    equal_bytes(&rt, &class_value(rt.alloc(), gatherer)?, &dump);
+    equal_bytes(&rt, &dump_of(rt.alloc(), gatherer)?, &dump);
     Ok(())
 }
 

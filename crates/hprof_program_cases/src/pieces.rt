@@ -10,7 +10,7 @@ use std::alloc::Global;
 use std::test::Fail;
 
 /// The canonical dump of what the gatherer has.
-pub(crate) fn class_value(alloc: Global, gatherer: Gatherer) -> Result<Vec<u8>, Fail> {
+pub(crate) fn dump_of(alloc: Global, gatherer: Gatherer) -> Result<Vec<u8>, Fail> {
     let heap = gatherer.finish().ok().ok_or("the facts agree")?;
     let mut target = Device::new(Vec::new(alloc));
     write_canonical(&heap, &mut target)
@@ -46,7 +46,7 @@ fn the_plain_part_whole_in_threes_and_byte_by_byte(rt: HostRuntime) -> Result<()
             .ok_or("whole")?;
         let found = (summary.records, summary.facts, summary.ended);
         equal(&rt, found, (3, 4, false));
-        equal_bytes(&rt, &class_value(rt.alloc(), gatherer)?, PLAIN_DUMP);
+        equal_bytes(&rt, &dump_of(rt.alloc(), gatherer)?, PLAIN_DUMP);
         equal(&rt, most_buffered(rt.alloc(), PLAIN, piece_len)?, most);
     }
     Ok(())

@@ -19,7 +19,7 @@ use Rattle.hprof_values.specs.FieldGroups.{Bounds, ◌>>=◌, field_end, fields_
 use Rattle.hprof_values.specs.Ids.{width_of}
 use Rattle.hprof_values.specs.Root.{root_fields}
 use Rattle.hprof_values.specs.SubTag.{tag_of_code}
-use Rattle.hprof_items.specs.ClassValue.{class_widths, class_of, class_at}
+use Rattle.hprof_items.specs.ClassDump.{class_widths, class_of, class_at}
 use Rattle.hprof_items.specs.FactValue.{FactValue, Rooted, Instance, ObjArray, PrimArray}
 use Rattle.hprof_items.specs.SubRecord.{instance_widths, obj_array_widths, prim_array_widths, root_of, root_at, cut, instance_at}
 use Rattle.hprof_items.specs.SubRecord.{obj_array_at, element_type, prim_array_at, dump_at, judged_tag, sub_at}
@@ -171,7 +171,7 @@ prim_array_stops ids bounds bytes =
     (λ end. tt)))
 
 dump_stops : (ids : IdSize) (tag : SubTag) (bounds : Bounds) (bytes : List ℕ) → StopsIn bounds (dump_at ids tag bounds bytes)
-dump_stops ids tags.ClassValue bounds bytes = class_stops ids bounds bytes
+dump_stops ids tags.ClassDump bounds bytes = class_stops ids bounds bytes
 dump_stops ids tags.InstanceDump bounds bytes = instance_stops ids bounds bytes
 dump_stops ids tags.ObjArrayDump bounds bytes = obj_array_stops ids bounds bytes
 dump_stops ids tags.PrimArrayDump bounds bytes = prim_array_stops ids bounds bytes

@@ -17,7 +17,7 @@ use Rattle.hprof_lists.specs.Lists.{ids_in}
 use Rattle.hprof_values.specs.Root.{root_fields}
 use Rattle.hprof_values.specs.SubTag.{tag_of_code}
 use Rattle.hprof_values.proofs.FieldGroups.{sum_widths, then_ok, reached_passed}
-use Rattle.hprof_items.specs.ClassValue.{class_widths, class_of, class_at}
+use Rattle.hprof_items.specs.ClassDump.{class_widths, class_of, class_at}
 use Rattle.hprof_items.specs.FactValue.{FactValue, Rooted, Instance, ObjArray, PrimArray}
 use Rattle.hprof_items.specs.SubRecord.{instance_widths, obj_array_widths, prim_array_widths, root_of, root_at, cut, instance_at}
 use Rattle.hprof_items.specs.SubRecord.{obj_array_at, element_type, prim_array_at, dump_at, judged_tag, sub_at}
@@ -134,7 +134,7 @@ prim_array_ends ids bounds bytes =
 
 dump_ends : (ids : IdSize) (tag : SubTag) (bounds : Bounds) (bytes : List ℕ) → 1 ≤ bounds.longest
     → Ends bounds (dump_at ids tag bounds bytes)
-dump_ends ids tags.ClassValue bounds bytes some = class_ends ids bounds bytes
+dump_ends ids tags.ClassDump bounds bytes some = class_ends ids bounds bytes
 dump_ends ids tags.InstanceDump bounds bytes some = instance_ends ids bounds bytes
 dump_ends ids tags.ObjArrayDump bounds bytes some = obj_array_ends ids bounds bytes
 dump_ends ids tags.PrimArrayDump bounds bytes some = prim_array_ends ids bounds bytes

@@ -19,7 +19,7 @@ use Rattle.hprof_values.specs.Ids.{width_of}
 use Rattle.hprof_lists.specs.Lists.{ids_in}
 use Rattle.hprof_values.specs.Root.{root_fields}
 use Rattle.hprof_values.specs.SubTag.{tag_of_code}
-use Rattle.hprof_items.specs.ClassValue.{class_widths, class_of, class_at}
+use Rattle.hprof_items.specs.ClassDump.{class_widths, class_of, class_at}
 use Rattle.hprof_items.specs.FactValue.{FactValue, Rooted, Instance, ObjArray, PrimArray}
 use Rattle.hprof_items.specs.SubRecord.{instance_widths, obj_array_widths, prim_array_widths, root_of, root_at, cut, instance_at}
 use Rattle.hprof_items.specs.SubRecord.{obj_array_at, element_type, prim_array_at, dump_at, judged_tag, sub_at}
@@ -184,7 +184,7 @@ module _ (less : ℕ) (bounds : Bounds) (le : less ≤ bounds.longest) where
 
   dump_cut : (ids : IdSize) (tag : SubTag) (bytes : List ℕ)
       → IsCut (dump_at ids tag (with_limit bounds less) bytes) (dump_at ids tag bounds bytes)
-  dump_cut ids tags.ClassValue bytes = class_cut ids bytes
+  dump_cut ids tags.ClassDump bytes = class_cut ids bytes
   dump_cut ids tags.InstanceDump bytes = instance_cut ids bytes
   dump_cut ids tags.ObjArrayDump bytes = obj_array_cut ids bytes
   dump_cut ids tags.PrimArrayDump bytes = prim_array_cut ids bytes

@@ -13,7 +13,7 @@ code_of_tag tags.RootSticky = 0x05
 code_of_tag tags.RootBlock = 0x06
 code_of_tag tags.RootMonitor = 0x07
 code_of_tag tags.RootThreadObject = 0x08
-code_of_tag tags.ClassValue = 0x20
+code_of_tag tags.ClassDump = 0x20
 code_of_tag tags.InstanceDump = 0x21
 code_of_tag tags.ObjArrayDump = 0x22
 code_of_tag tags.PrimArrayDump = 0x23
@@ -22,7 +22,7 @@ code_of_tag tags.RootUnknown = 0xff
 abbrev pub all_tags : List SubTag
 all_tags = tags.RootJniGlobal ∷ tags.RootJniLocal ∷ tags.RootJavaFrame ∷ tags.RootNativeStack ∷ tags.RootSticky ∷ tags.RootBlock
     ∷ tags.RootMonitor ∷ tags.RootThreadObject
-    ∷ tags.ClassValue ∷ tags.InstanceDump ∷ tags.ObjArrayDump ∷ tags.PrimArrayDump ∷ tags.RootUnknown ∷ []
+    ∷ tags.ClassDump ∷ tags.InstanceDump ∷ tags.ObjArrayDump ∷ tags.PrimArrayDump ∷ tags.RootUnknown ∷ []
 
 -- the tag that a byte stands for
 abbrev pub tag_of_code : ℕ → Option SubTag

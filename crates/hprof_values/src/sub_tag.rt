@@ -22,7 +22,7 @@ pub enum SubTag {
     /// A thread object.
     RootThreadObject,
     /// A class.
-    ClassValue,
+    ClassDump,
     /// An instance.
     InstanceDump,
     /// An array of objects.
@@ -50,7 +50,7 @@ impl SubTag {
             SubTag::RootBlock => 0x06,
             SubTag::RootMonitor => 0x07,
             SubTag::RootThreadObject => 0x08,
-            SubTag::ClassValue => 0x20,
+            SubTag::ClassDump => 0x20,
             SubTag::InstanceDump => 0x21,
             SubTag::ObjArrayDump => 0x22,
             SubTag::PrimArrayDump => 0x23,
@@ -73,7 +73,7 @@ impl SubTag {
             0x06 => Some(SubTag::RootBlock),
             0x07 => Some(SubTag::RootMonitor),
             0x08 => Some(SubTag::RootThreadObject),
-            0x20 => Some(SubTag::ClassValue),
+            0x20 => Some(SubTag::ClassDump),
             0x21 => Some(SubTag::InstanceDump),
             0x22 => Some(SubTag::ObjArrayDump),
             0x23 => Some(SubTag::PrimArrayDump),

@@ -13,7 +13,7 @@ use Rattle.hprof_lists.specs.declared.entry.EntryKind.{EntryKind}
 use Rattle.hprof_lists.specs.declared.entry.EntryKind.TheVariants as kinds
 use Rattle.hprof_lists.specs.Entries.{IsEntryList, entries_bytes, list_bytes, ListFits}
 use Rattle.hprof_items.specs.declared.fact.Fact.{Fact}
-use Rattle.hprof_items.specs.ClassValue.{class_widths, class_lists}
+use Rattle.hprof_items.specs.ClassDump.{class_widths, class_lists}
 use Rattle.hprof_items.specs.FactValue.{value_of}
 use Rattle.hprof_items.specs.Spelling.{longest_body, spelled_as, spelling}
 use Rattle.hprof_items.specs.SubRecord.{tagged_bytes}
@@ -36,29 +36,29 @@ list_is ids kind entries count bytes list =
 
 -- a class with its tag, its fields and its lists
 pub class_spelled : (ids : IdSize) (tag : ℕ) (numbers : List ℕ) (constants statics own : List Entry) (first second third : ℕ)
-    (a b c : List ℕ) → tag ≡ code_of_tag tags.ClassValue → IsList ids kinds.Constant constants first a
+    (a b c : List ℕ) → tag ≡ code_of_tag tags.ClassDump → IsList ids kinds.Constant constants first a
     → IsList ids kinds.Static statics second b → IsList ids kinds.Field own third c
-    → tagged_bytes tags.ClassValue (class_widths ids) numbers (class_lists ids constants statics own)
+    → tagged_bytes tags.ClassDump (class_widths ids) numbers (class_lists ids constants statics own)
     ≡ field_bytes (1 ∷ class_widths ids) (tag ∷ numbers) ++ (counted first a ++ (counted second b ++ counted third c))
 class_spelled ids tag numbers constants statics own first second third a b c same one two three =
     let rest : List ℕ = counted second b ++ counted third c in
     let begun : List ℕ = list_bytes ids kinds.Constant constants in
     sym (
     ap (λ (t : ℕ). field_bytes (1 ∷ class_widths ids) (t ∷ numbers) ++ (counted first a ++ rest)) same
-    ∙ ap (λ (l : List ℕ). tagged_bytes tags.ClassValue (class_widths ids) numbers (l ++ rest)) (list_is ids kinds.Constant constants first a one)
-    ∙ ap (λ (l : List ℕ). tagged_bytes tags.ClassValue (class_widths ids) numbers (begun ++ (l ++ counted third c)))
+    ∙ ap (λ (l : List ℕ). tagged_bytes tags.ClassDump (class_widths ids) numbers (l ++ rest)) (list_is ids kinds.Constant constants first a one)
+    ∙ ap (λ (l : List ℕ). tagged_bytes tags.ClassDump (class_widths ids) numbers (begun ++ (l ++ counted third c)))
     (list_is ids kinds.Static statics second b two)
-    ∙ ap (λ (l : List ℕ). tagged_bytes tags.ClassValue (class_widths ids) numbers (begun ++ (list_bytes ids kinds.Static statics ++ l)))
+    ∙ ap (λ (l : List ℕ). tagged_bytes tags.ClassDump (class_widths ids) numbers (begun ++ (list_bytes ids kinds.Static statics ++ l)))
     (list_is ids kinds.Field own third c three)
     )
 
 -- it fits if its tag and its fields do, since its lists are never too long
-pub class_fitting : (ids : IdSize) (tag : ℕ) (numbers : List ℕ) (constants statics own : List Entry) → tag ≡ code_of_tag tags.ClassValue
+pub class_fitting : (ids : IdSize) (tag : ℕ) (numbers : List ℕ) (constants statics own : List Entry) → tag ≡ code_of_tag tags.ClassDump
     → ListFits ids kinds.Constant constants × ListFits ids kinds.Static statics × ListFits ids kinds.Field own
     → FitFields (1 ∷ class_widths ids) (tag ∷ numbers)
     ↔ ((FitFields (class_widths ids) numbers × ListFits ids kinds.Constant constants × ListFits ids kinds.Static statics
     × ListFits ids kinds.Field own)
-    × (length (tagged_bytes tags.ClassValue (class_widths ids) numbers (class_lists ids constants statics own)) ≤ longest_body))
+    × (length (tagged_bytes tags.ClassDump (class_widths ids) numbers (class_lists ids constants statics own)) ≤ longest_body))
 class_fitting ids tag numbers constants statics own same lists =
     let code : tag < 256 ^ 1 = omega (arith, same) in (
       λ fits. (

@@ -13,7 +13,7 @@ use Rattle.hprof_lists.specs.Entries.{entries_bytes, list_bytes, ListFits}
 use Rattle.hprof_values.specs.FieldGroups.{field_bytes, FitFields}
 use Rattle.hprof_lists.proofs.EntryLists.{entries_most}
 use Rattle.hprof_values.proofs.FieldGroups.{length-fields}
-use Rattle.hprof_items.specs.ClassValue.{class_widths, class_lists}
+use Rattle.hprof_items.specs.ClassDump.{class_widths, class_lists}
 use Rattle.hprof_items.specs.Spelling.{longest_body}
 use Rattle.hprof_items.specs.SubRecord.{tagged_bytes}
 
@@ -47,11 +47,11 @@ width_most Eight = omega arith
 -- a class is never too long
 pub class_short : (ids : IdSize) (numbers : List ℕ) (constants statics fields : List Entry) → FitFields (class_widths ids) numbers
     → ListFits ids kinds.Constant constants → ListFits ids kinds.Static statics → ListFits ids kinds.Field fields
-    → length (tagged_bytes tags.ClassValue (class_widths ids) numbers (class_lists ids constants statics fields)) ≤ longest_body
+    → length (tagged_bytes tags.ClassDump (class_widths ids) numbers (class_lists ids constants statics fields)) ≤ longest_body
 class_short ids numbers constants statics fields fits first second third =
     omega (
       arith,
-      length-tagged tags.ClassValue (class_widths ids) numbers (class_lists ids constants statics fields) fits,
+      length-tagged tags.ClassDump (class_widths ids) numbers (class_lists ids constants statics fields) fits,
       length-lists ids constants statics fields,
       sum_class ids,
       width_most ids,

@@ -7,7 +7,7 @@ use Rattle.hprof_values.specs.FieldGroups.{field_bytes, FitFields}
 use Rattle.hprof_values.specs.Numbers.{number_widths, number_values}
 use Rattle.hprof_items.specs.declared.fact.Fact.{Fact}
 use Rattle.hprof_items.specs.FactValue.{value_of, ListsHave}
-use Rattle.hprof_items.specs.ClassValue.{class_widths}
+use Rattle.hprof_items.specs.ClassDump.{class_widths}
 use Rattle.hprof_items.specs.RecordBody.{record_of}
 use Rattle.hprof_items.specs.Spelling.{Fits}
 use Rattle.hprof_items.specs.SubRecord.{dump_bytes}

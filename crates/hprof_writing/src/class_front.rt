@@ -60,7 +60,7 @@ fn lists_fit(
 /// The front of the class's sub-record. There is none where a list of it has identifiers of another size. The lists
 /// are never too long.
 pub(crate) fn class_front<'a>(fact: &Fact<'a>, ids: IdSize) -> Option<ClassFront<'a>>
-    requires is { object_of (value_of fact.now) ≡ Some tags.ClassValue }
+    requires is { object_of (value_of fact.now) ≡ Some tags.ClassDump }
     ensures some { IfSome result (λ front. IsClassFront ids fact.now front.fields (counted front.constants.count front.constants.bytes.now)
         (counted front.statics.count front.statics.bytes.now) (counted front.own.count front.own.bytes.now)) }
     ensures none { result ≡ None → ListsHave ids fact.now → ⊥ }
@@ -87,7 +87,7 @@ pub(crate) fn class_front<'a>(fact: &Fact<'a>, ids: IdSize) -> Option<ClassFront
     }
     Some(ClassFront {
         fields: [
-            One(SubTag::ClassValue.code()),
+            One(SubTag::ClassDump.code()),
             Id(id),
             Four(trace),
             Id(parent),

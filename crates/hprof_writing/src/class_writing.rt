@@ -40,7 +40,7 @@ pub(crate) fn write_class<W: Target>(
     ids: IdSize,
     target: &mut W,
 ) -> Result<(), WriteFault>
-    requires is { object_of (value_of fact.now) ≡ Some tags.ClassValue }
+    requires is { object_of (value_of fact.now) ≡ Some tags.ClassDump }
     requires well { W.health target.old ≡ Well }
     requires fits { Fits ids (value_of fact.now) }
     requires lists { ListsHave ids fact.now }

@@ -44,7 +44,7 @@ pub(crate) fn sub_len(fact: &Fact<'_>, ids: IdSize) -> usize
 
 /// The number of bytes in the sub-record of a class.
 pub(crate) fn class_len(fact: &Fact<'_>, ids: IdSize) -> usize
-    requires is { object_of (value_of fact.now) ≡ Some tags.ClassValue }
+    requires is { object_of (value_of fact.now) ≡ Some tags.ClassDump }
     requires fits { Fits ids (value_of fact.now) }
     requires lists { ListsHave ids fact.now }
     ensures { result ≡ length (spelling ids (value_of fact.now)) }

@@ -27,7 +27,7 @@ pub(crate) fn sub_fits(fact: &Fact<'_>, ids: IdSize) -> bool
 
 /// Whether a class has a spelling. Its lists are never too long.
 pub(crate) fn class_fits(fact: &Fact<'_>, ids: IdSize) -> bool
-    requires { object_of (value_of fact.now) ≡ Some tags.ClassValue }
+    requires { object_of (value_of fact.now) ≡ Some tags.ClassDump }
     ensures { IsTrue result ↔ (Fits ids (value_of fact.now) × ListsHave ids fact.now) }
 {
     let Some(front) = class_front(fact, ids) else {

@@ -21,14 +21,14 @@ returns-in_default c =
       placed = tt;
       kept = λ more. refl;
       end = c.plain_end.ensures ∙ sym (front_tagged c.args.ids c.in-Ok.tag (bounds_of item) item.bytes.now tagged);
-      stands = tested_at_once c.args.ids item c.in-Ok.tag c.plain_end.result tagged c.in_default.not-ClassValue;
+      stands = tested_at_once c.args.ids item c.in-Ok.tag c.plain_end.result tagged c.in_default.not-ClassDump;
     }
 
 pub returns-in-Ok-class_count-clause-kept : goal.returns-in-Ok-class_count-clause-kept
 returns-in-Ok-class_count-clause-kept c =
     let item = c.args.item.now in
-    let tagged : tag_at (bounds_of item) item.bytes.now ≡ Ok tags.ClassValue = sym c.read_tag.ensures ∙ c.in-Ok.is
-    ∙ ap Ok c.in-ClassValue.is in
+    let tagged : tag_at (bounds_of item) item.bytes.now ≡ Ok tags.ClassDump = sym c.read_tag.ensures ∙ c.in-Ok.is
+    ∙ ap Ok c.in-ClassDump.is in
     let count = sym c.class_count.ensures ∙ c.in-Ok-class_count.is in
     let entered = class_entered c.args.ids item c.in-Ok-class_count.left c.in-Ok-class_count.at tagged count in
     λ more. c.pass_lists.ensures.kept more ∙ entered more
@@ -38,16 +38,16 @@ returns-in-Ok-class_count-clause-end c =
     let item = c.args.item.now in
     let left = c.in-Ok-class_count.left in
     let at = c.in-Ok-class_count.at in
-    let tagged : tag_at (bounds_of item) item.bytes.now ≡ Ok tags.ClassValue = sym c.read_tag.ensures ∙ c.in-Ok.is
-    ∙ ap Ok c.in-ClassValue.is in
+    let tagged : tag_at (bounds_of item) item.bytes.now ≡ Ok tags.ClassDump = sym c.read_tag.ensures ∙ c.in-Ok.is
+    ∙ ap Ok c.in-ClassDump.is in
     let entered = class_entered c.args.ids item left at tagged (sym c.class_count.ensures ∙ c.in-Ok-class_count.is) in
     c.pass_lists.ensures.end ∙ found_now c.args.ids item (Entries kinds.Constant left at) Front entered
 
 pub returns-in-Err-class_count-clause-end : goal.returns-in-Err-class_count-clause-end
 returns-in-Err-class_count-clause-end c =
     let item = c.args.item.now in
-    let tagged : tag_at (bounds_of item) item.bytes.now ≡ Ok tags.ClassValue = sym c.read_tag.ensures ∙ c.in-Ok.is
-    ∙ ap Ok c.in-ClassValue.is in
+    let tagged : tag_at (bounds_of item) item.bytes.now ≡ Ok tags.ClassDump = sym c.read_tag.ensures ∙ c.in-Ok.is
+    ∙ ap Ok c.in-ClassDump.is in
     let count = sym c.class_count.ensures ∙ c.in-Err-class_count.is in
     sym (class_stopped c.args.ids (bounds_of item) item.bytes.now c.in-Err-class_count.stop tagged count)
 
