@@ -8,12 +8,12 @@ use Rattle.hprof_histogram.specs.declared.row.Kind.TheVariants.{Class}
 use Rattle.hprof_histogram.specs.declared.row.Row.{Row}
 use Rattle.hprof_histogram.specs.declared.counted.Counted.{Counted}
 use Rattle.hprof_histogram.specs.Histogram.{same_kind}
-use Rattle.hprof_histogram.specs.CountedKinds.{class_dumps, element_types, has_objects, type_rows}
+use Rattle.hprof_histogram.specs.CountedKinds.{class_rows, element_types, has_objects, type_rows}
 use Rattle.hprof_histogram.proofs.RowOrder.{same_row_kind}
 
 -- all rows that there may be
 abbrev pub candidates : List (ℕ × Counted) → List Counted → List Row
-candidates entries types = class_dumps entries ++ type_rows types element_types
+candidates entries types = class_rows entries ++ type_rows types element_types
 
 -- what passes a test keeps what holds of each
 all_filter : {X : Type 0} (P : X → Type 0) (test : X → Bool) (xs : List X) → AllByRecursion P xs → AllByRecursion P (filter test xs)

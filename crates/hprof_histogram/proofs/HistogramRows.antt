@@ -23,7 +23,7 @@ use Rattle.hprof_histogram.specs.declared.row.Row.{Row}
 use Rattle.hprof_histogram.specs.declared.counted.Counted.{Counted}
 use Rattle.hprof_histogram.specs.declared.counted_kinds.CountedKinds.{CountedKinds}
 use Rattle.hprof_histogram.specs.Histogram.{object_kind, is_kind, of_kind, row_cmp, CountsKind, IsHistogram}
-use Rattle.hprof_histogram.specs.CountedKinds.{IsTally, counted_in, nothing, kept_of, type_of, row_of, has_objects, class_dumps}
+use Rattle.hprof_histogram.specs.CountedKinds.{IsTally, counted_in, nothing, kept_of, type_of, row_of, has_objects, class_rows}
 use Rattle.hprof_histogram.specs.CountedKinds.{type_rows, element_types}
 use Rattle.hprof_histogram.proofs.CandidateRows.{candidates}
 use Rattle.hprof_histogram.proofs.Members.{IsIn, Contains-from_in, in_back, in_filter, in_from_slice_get, in_front, in_map}
@@ -72,8 +72,8 @@ module _ (tally : CountedKinds) (apart : IsDistinct nat_eq (keys_in tally.classe
   abbrev IsOfTally : Row → Type 0
   IsOfTally row = row ≡ row_of row.kind (counted_in tally row.kind)
 
-  class_dump_of_tally : (class : ℕ) (counted : Counted) → kept_of tally.classes class ≡ counted → IsOfTally (row_of (Class class) counted)
-  class_dump_of_tally class counted kept = ap (row_of (Class class)) (sym kept)
+  class_row_of_tally : (class : ℕ) (counted : Counted) → kept_of tally.classes class ≡ counted → IsOfTally (row_of (Class class) counted)
+  class_row_of_tally class counted kept = ap (row_of (Class class)) (sym kept)
 
   entries_kept : All (λ (entry : ℕ × Counted). kept_of tally.classes entry.0 ≡ entry.1) (rows_in tally.classes)
   entries_kept = All-from_get_or (λ (entry : ℕ × Counted). kept_of tally.classes entry.0 ≡ entry.1) (rows_in tally.classes) (0, nothing) (λ place lt.
@@ -85,10 +85,10 @@ module _ (tally : CountedKinds) (apart : IsDistinct nat_eq (keys_in tally.classe
 
   candidates_of_tally : All IsOfTally (candidates (rows_in tally.classes) tally.types)
   candidates_of_tally =
-      All-append IsOfTally (class_dumps (rows_in tally.classes)) (type_rows tally.types element_types)
+      All-append IsOfTally (class_rows (rows_in tally.classes)) (type_rows tally.types element_types)
       (All-map IsOfTally (λ (entry : ℕ × Counted). row_of (Class entry.0) entry.1) (rows_in tally.classes)
       (All-weaker (λ (entry : ℕ × Counted). kept_of tally.classes entry.0 ≡ entry.1) (λ entry. IsOfTally (row_of (Class entry.0) entry.1))
-      (λ entry kept. class_dump_of_tally entry.0 entry.1 kept) (rows_in tally.classes) entries_kept))
+      (λ entry kept. class_row_of_tally entry.0 entry.1 kept) (rows_in tally.classes) entries_kept))
       (All-map IsOfTally (λ (elem : Basic). row_of (Prim elem) (type_of tally.types elem)) element_types
       (All-from_get_or (λ elem. IsOfTally (row_of (Prim elem) (type_of tally.types elem))) element_types basics.Array (λ place lt. refl)))
 
@@ -108,9 +108,9 @@ module _ (tally : CountedKinds) (apart : IsDistinct nat_eq (keys_in tally.classe
       pub has : IsIn row rows
       pub is_of : row.kind ≡ kind
 
-    class_dump : (class : ℕ) → 0 < (counted_in tally (Class class)).count
+    class_row : (class : ℕ) → 0 < (counted_in tally (Class class)).count
         → HasRow (filter has_objects (candidates (rows_in tally.classes) tally.types)) (Class class)
-    class_dump class some = found (value_in tally.classes class) refl where
+    class_row class some = found (value_in tally.classes class) refl where
       found : (o : Option Counted) → value_in tally.classes class ≡ o
           → HasRow (filter has_objects (candidates (rows_in tally.classes) tally.types)) (Class class)
       found None e =
@@ -123,7 +123,7 @@ module _ (tally : CountedKinds) (apart : IsDistinct nat_eq (keys_in tally.classe
           ap (λ (o : Option Counted). unwrap_or o nothing) e in
           let row = row_of (Class at.1) counted in
           let passes : has_objects row ≡ true = lt-ltb 0 counted.count (omega (arith, some, ap (λ (c : Counted). c.count) here)) in
-          let in_rows = in_front (class_dumps (rows_in tally.classes)) (type_rows tally.types element_types) row
+          let in_rows = in_front (class_rows (rows_in tally.classes)) (type_rows tally.types element_types) row
           (in_map (λ (entry : ℕ × Counted). row_of (Class entry.0) entry.1) (rows_in tally.classes) (at.1, counted)
           (in_from_slice_get (rows_in tally.classes) at.0 (at.1, counted) at.2)) in
           record {
@@ -136,7 +136,7 @@ module _ (tally : CountedKinds) (apart : IsDistinct nat_eq (keys_in tally.classe
         → HasRow (filter has_objects (candidates (rows_in tally.classes) tally.types)) (Prim elem)
     type_row elem has some =
         let row = row_of (Prim elem) (type_of tally.types elem) in
-        let in_rows = in_back (class_dumps (rows_in tally.classes)) (type_rows tally.types element_types) row
+        let in_rows = in_back (class_rows (rows_in tally.classes)) (type_rows tally.types element_types) row
         (in_map (λ (e : Basic). row_of (Prim e) (type_of tally.types e)) element_types elem has) in
         record {
           row = row;
@@ -147,7 +147,7 @@ module _ (tally : CountedKinds) (apart : IsDistinct nat_eq (keys_in tally.classe
     kind_row : AllFit ids facts → (fact : FactValue) (kind : Kind) → Has facts fact → object_kind fact ≡ Some kind
         → HasRow (filter has_objects (candidates (rows_in tally.classes) tally.types)) kind
     kind_row fit fact (Class class) has own =
-        class_dump class (omega (arith, some_counted (Class class) facts fact has own, ap (λ (c : Counted). c.count) (is (Class class))))
+        class_row class (omega (arith, some_counted (Class class) facts fact has own, ap (λ (c : Counted). c.count) (is (Class class))))
     kind_row fit fact (Prim elem) has own =
         type_row elem (type_listed ids fact elem (fit fact has) own)
         (omega (arith, some_counted (Prim elem) facts fact has own, ap (λ (c : Counted). c.count) (is (Prim elem))))

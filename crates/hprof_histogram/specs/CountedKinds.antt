@@ -65,8 +65,8 @@ abbrev pub has_objects : Row → Bool
 has_objects row = nat_lt 0 row.count
 
 -- a row for each class of a map, and for each type
-abbrev pub class_dumps : List (ℕ × Counted) → List Row
-class_dumps entries = map (λ entry. row_of (Class entry.0) entry.1) entries
+abbrev pub class_rows : List (ℕ × Counted) → List Row
+class_rows entries = map (λ entry. row_of (Class entry.0) entry.1) entries
 
 abbrev pub type_rows : List Counted → List Basic → List Row
 type_rows types elems = map (λ elem. row_of (Prim elem) (type_of types elem)) elems

@@ -3,7 +3,7 @@
 ghost use Rattle.std.specs.Prelude.{◌≡◌, ◌++◌, ◌∷◌, [], OnOk, IfOk, nat_eq};
 ghost use Rattle.std.specs.List.{IsDistinct, filter};
 ghost use Rattle.hprof_tables.specs.HintedMap.{keys_in, rows_in};
-ghost use Rattle.hprof_histogram.specs.CountedKinds.{class_dumps, element_types, has_objects, row_of, type_rows};
+ghost use Rattle.hprof_histogram.specs.CountedKinds.{class_rows, element_types, has_objects, row_of, type_rows};
 
 use crate::counted::Counted;
 use crate::counted_kinds::{CountedKinds, TYPES};
@@ -37,7 +37,7 @@ fn push_row(rows: &mut Vec<Row>, kind: Kind, counted: Counted) -> Result<(), All
 
 /// Puts the rows of classes behind others.
 fn push_classes(rows: &mut Vec<Row>, classes: &HintedMap<Counted>) -> Result<(), AllocError>
-    ensures { OnOk result (rows.new.items ≡ rows.old.items ++ filter has_objects (class_dumps (rows_in classes.now))) }
+    ensures { OnOk result (rows.new.items ≡ rows.old.items ++ filter has_objects (class_rows (rows_in classes.now))) }
 {
     for row in classes.rows() {
         push_row(rows, Kind::Class(row.0), row.1)?;
@@ -57,7 +57,7 @@ fn push_types(rows: &mut Vec<Row>, types: &[Counted; TYPES]) -> Result<(), Alloc
 
 /// The rows of what was counted: those of classes, and then those of types.
 pub(crate) fn rows_of(alloc: Global, tally: &CountedKinds) -> Result<Vec<Row>, AllocError>
-    ensures rows { IfOk result (λ rows. rows.items ≡ filter has_objects (class_dumps (rows_in tally.now.classes))
+    ensures rows { IfOk result (λ rows. rows.items ≡ filter has_objects (class_rows (rows_in tally.now.classes))
         ++ filter has_objects (type_rows tally.now.types element_types)) }
     ensures apart { IsDistinct nat_eq (keys_in tally.now.classes) }
 {

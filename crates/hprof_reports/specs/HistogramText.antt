@@ -28,15 +28,15 @@ array_word basics.Int = codes "int[]"
 array_word basics.Long = codes "long[]"
 
 -- the bytes and the number of the objects of a class that has this label
-abbrev pub class_dump_line : (bytes count class : ℕ) → List ℕ → List ℕ
-class_dump_line bytes count class label = line_of (decimal bytes ∷ decimal count ∷ id_digits class ∷ label ∷ [])
+abbrev pub class_row_line : (bytes count class : ℕ) → List ℕ → List ℕ
+class_row_line bytes count class label = line_of (decimal bytes ∷ decimal count ∷ id_digits class ∷ label ∷ [])
 
 -- those of arrays of a type
 abbrev pub array_row_line : (bytes count : ℕ) → Basic → List ℕ
 array_row_line bytes count elem = line_of (decimal bytes ∷ decimal count ∷ codes "-" ∷ array_word elem ∷ [])
 
 abbrev pub kind_line : Naming → (bytes count : ℕ) → Kind → List ℕ
-kind_line naming bytes count (Class class) = class_dump_line bytes count class (naming.label class)
+kind_line naming bytes count (Class class) = class_row_line bytes count class (naming.label class)
 kind_line naming bytes count (Prim elem) = array_row_line bytes count elem
 
 abbrev pub row_line : Naming → Row → List ℕ

@@ -5,7 +5,7 @@ ghost use Rattle.hprof_devices.specs.declared.health.Health.TheVariants.{Well};
 ghost use Rattle.hprof_lookup.specs.HeapFacts.{facts_of, size_of};
 ghost use Rattle.hprof_naming.specs.ClassNames.{AreClassNames};
 ghost use Rattle.hprof_naming.specs.Naming.{IsNaming, Naming};
-ghost use Rattle.hprof_reports.specs.HistogramText.{IsHistogramText, array_row_line, array_word, class_dump_line, row_line, rows_text};
+ghost use Rattle.hprof_reports.specs.HistogramText.{IsHistogramText, array_row_line, array_word, class_row_line, row_line, rows_text};
 ghost use Rattle.hprof_reports.specs.Stopping.{LeavesTarget, WritesText};
 
 use crate::lines::write_line;
@@ -19,14 +19,14 @@ use hprof_values::Basic;
 use std::alloc::{AllocError, Global};
 
 /// The line of a row of a class that has this label.
-fn class_dump_line(
+fn class_row_line(
     alloc: Global,
     bytes: u128,
     count: u64,
     class: u64,
     label: &str,
 ) -> Result<String, AllocError>
-    ensures { IfOk result (λ line. string_bytes line ≡ class_dump_line bytes count class label.now) }
+    ensures { IfOk result (λ line. string_bytes line ≡ class_row_line bytes count class label.now) }
 {
     format!(in alloc; "{bytes} {count} {class:x} {label}\n")
 }
@@ -69,7 +69,7 @@ fn row_line(alloc: Global, heap: &Heap, names: &ClassNames, row: &Row) -> Result
     match kind {
         Kind::Class(class) => {
             let label = label_of(alloc, heap, names.name_of(class))?;
-            class_dump_line(alloc, bytes, count, class, &label)
+            class_row_line(alloc, bytes, count, class, &label)
         }
         Kind::Prim(elem) => array_row_line(alloc, bytes, count, elem),
     }

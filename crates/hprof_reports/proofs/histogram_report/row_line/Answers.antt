@@ -4,7 +4,7 @@ use Rattle.std.specs.String.{string_bytes}
 use Rattle.hprof_lookup.specs.HeapFacts.{facts_of}
 use Rattle.hprof_histogram.specs.declared.row.Kind.{Kind}
 use Rattle.hprof_naming.proofs.Namings.{one_label}
-use Rattle.hprof_reports.specs.HistogramText.{class_dump_line, kind_line}
+use Rattle.hprof_reports.specs.HistogramText.{class_row_line, kind_line}
 use Rattle.hprof_reports.proofs.histogram_report.row_line.Goals as goal
 
 pub returns-in_ok-label-in-Class : goal.returns-in_ok-label-in-Class
@@ -14,6 +14,6 @@ returns-in_ok-label-in-Class c = λ naming is.
     let row = c.args.row.now in
     let same = one_label facts c.id_size-ids.ensures.agree class (string_bytes c.in_ok-label-in-Class.label) (naming.label class)
     (c.name_of.result, c.name_of.ensures facts c.requires, c.in_ok-label-in-Class.ensures) (is.labels class) in
-    subst (λ (kind : Kind). IfOk c.class_dump_line.result (λ line. string_bytes line ≡ kind_line naming row.bytes row.count kind)) (sym c.in-Class.is)
-    (subst (λ (label : List ℕ). IfOk c.class_dump_line.result (λ line. string_bytes line ≡ class_dump_line row.bytes row.count class label))
-    (c.deref.ensures ∙ same) c.class_dump_line.ensures)
+    subst (λ (kind : Kind). IfOk c.class_row_line.result (λ line. string_bytes line ≡ kind_line naming row.bytes row.count kind)) (sym c.in-Class.is)
+    (subst (λ (label : List ℕ). IfOk c.class_row_line.result (λ line. string_bytes line ≡ class_row_line row.bytes row.count class label))
+    (c.deref.ensures ∙ same) c.class_row_line.ensures)
