@@ -4,6 +4,7 @@ ghost use Rattle.std.specs.Prelude.{◌≡◌};
 ghost use Rattle.hprof_devices.specs.declared.health.Health.TheVariants.{Well};
 ghost use Rattle.hprof_devices.specs.Device.{EndsRead, EndsWrite};
 
+use crate::flush::Flush;
 use crate::health::{Health, ReadFault, WriteFault};
 use crate::source::Source;
 use crate::target::Target;
@@ -67,7 +68,10 @@ fn end_of_read(answer: io::Result<usize>) -> (Result<usize, ReadFault>, Health)
 }
 
 /// What std's answer to a write comes to, of a piece of that length.
-fn end_of_write(answer: io::Result<usize>, length: usize) -> (Result<usize, WriteFault>, Health)
+pub(crate) fn end_of_write(
+    answer: io::Result<usize>,
+    length: usize,
+) -> (Result<usize, WriteFault>, Health)
     ensures { EndsWrite answer length result.0 result.1 }
 {
     match answer {
@@ -101,5 +105,22 @@ impl<T: Write> Target for Device<T> {
         let (outcome, health) = end_of_write(self.inner.write(piece), piece.len());
         self.health = health;
         outcome
+    }
+}
+
+impl<T: Write> Flush for Device<T> {
+    ghost use Rattle.std.specs.Prelude.{⊤};
+
+    // Of what a flush does std tells nothing.
+    ghost flushed = { λ d. ⊤ };
+
+    fn flush(&mut self) -> Result<(), WriteFault> {
+        match self.inner.flush() {
+            Ok(()) => Ok(()),
+            Err(_) => {
+                self.health = Health::Failed;
+                Err(WriteFault::Failed)
+            }
+        }
     }
 }

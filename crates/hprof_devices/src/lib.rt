@@ -2,13 +2,17 @@
 //! devices that make them of readers and writers. No call of this crate takes memory.
 #![tactic(auto)]
 
+mod buffered;
 mod device;
+mod flush;
 mod health;
 mod pushing;
 mod source;
 mod target;
 
+pub use buffered::BufferedDevice;
 pub use device::Device;
+pub use flush::Flush;
 pub use health::{Health, ReadFault, WriteFault};
 pub use pushing::push_all;
 pub use source::Source;

@@ -1,0 +1,24 @@
+//! What bytes are written to that may hold them back.
+
+ghost use Rattle.std.specs.Prelude.{OnOk};
+ghost use Rattle.std.specs.Io.KnownBytes.{Keeps};
+ghost use Rattle.hprof_devices.specs.Device.{LeavesHealth};
+
+use crate::health::WriteFault;
+use crate::target::Target;
+
+/// A target that may hold bytes back until it is flushed.
+pub trait Flush: Target {
+    ghost use Rattle.std.specs.Prelude.{◌≡◌};
+    ghost use Rattle.hprof_devices.specs.declared.health.Health.TheVariants.{Well};
+
+    // It holds no byte back.
+    ghost flushed: { Self → Type 0 };
+
+    /// Passes on all bytes that it holds back. What was written stays the same.
+    fn flush(&mut self) -> Result<(), WriteFault>
+        requires { Self.health self.old ≡ Well }
+        ensures bytes { Keeps (Self.written self.old) (Self.written self.new) }
+        ensures flushed { OnOk result (flushed self.new) }
+        ensures health { LeavesHealth result (Self.health self.new) };
+}

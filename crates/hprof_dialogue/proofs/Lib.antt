@@ -1,0 +1,7 @@
+pub mod LineLemmas
+pub mod KeptLines
+pub mod Hearing
+pub mod Dialogues
+pub mod OneLine
+pub mod OneQuestion
+pub mod OneText

@@ -1,0 +1,15 @@
+use Rattle.std.proofs.Common.{sym, subst}
+use Rattle.hprof_dialogue.specs.Answering.{AreAnswers}
+use Rattle.hprof_dialogue.proofs.Hearing.{answers_then}
+use Rattle.hprof_dialogue.proofs.OneText.{answers_once, answers_split}
+use Rattle.hprof_dialogue.proofs.laws.answers_are_one_text.Goals as goal
+
+pub returns-clause-one : goal.returns-clause-one
+returns-clause-one g c = answers_once (g.A.Answers.is_answer c.args.answers.now) (g.met.A.Answers.one_answer c.args.answers.now)
+
+pub returns-clause-together : goal.returns-clause-together
+returns-clause-together g c = λ lines more text. (
+  answers_split (g.A.Answers.is_answer c.args.answers.now) lines more text,
+  λ it. subst (AreAnswers (g.A.Answers.is_answer c.args.answers.now) _) (sym it.4)
+      (answers_then (g.A.Answers.is_answer c.args.answers.now) lines more it.0 it.1 it.2 it.3),
+)

@@ -1,0 +1,4 @@
+pub mod Lines
+pub mod Asked
+pub mod Answering
+pub mod Dialogue

@@ -1,0 +1,31 @@
+//! Laws of the definitions. None of these functions does anything.
+
+ghost use Rattle.std.specs.Prelude.{◌≡◌, ◌↔◌, ◌++◌, [], ℕ, List};
+ghost use Rattle.hprof_dialogue.specs.declared.question.Question.{Question};
+ghost use Rattle.hprof_dialogue.specs.Answering.{AreAnswers};
+ghost use Rattle.hprof_dialogue.specs.Asked.{Asks};
+ghost use Rattle.hprof_dialogue.specs.Lines.{AreFirstLines, AreLines};
+
+use crate::dialogue::Answers;
+
+/// Bytes have one list of lines. Behind bytes whose last line ends with a line feed the lines of more bytes follow.
+pub fn bytes_have_one_list_of_lines()
+    ensures one { (bytes : List ℕ) (one other : List (List ℕ)) → AreLines bytes one → AreLines bytes other → one ≡ other }
+    ensures more { (bytes more : List ℕ) (lines others : List (List ℕ)) → AreFirstLines bytes lines [] → AreLines more others
+        → AreLines (bytes ++ more) (lines ++ others) }
+{}
+
+/// A line asks one thing.
+pub fn a_line_asks_one_thing()
+    ensures { (line : List ℕ) (one other : Question) → Asks line one → Asks line other → one ≡ other }
+{}
+
+/// The answers to lines are one text. To ask two lists of lines one after the other is to ask them together: no answer depends
+/// on what was asked before.
+pub fn answers_are_one_text<A: Answers>(answers: &A)
+    ensures one { (lines : List (List ℕ)) (one other : List ℕ) → AreAnswers (A.is_answer answers.now) lines one
+        → AreAnswers (A.is_answer answers.now) lines other → one ≡ other }
+    ensures together { (lines more : List (List ℕ)) (text : List ℕ) → AreAnswers (A.is_answer answers.now) (lines ++ more) text
+        ↔ ((first : List ℕ) × (then : List ℕ) × AreAnswers (A.is_answer answers.now) lines first
+        × AreAnswers (A.is_answer answers.now) more then × (text ≡ first ++ then)) }
+{}

@@ -1,0 +1,173 @@
+//! What a line asks.
+
+ghost use Rattle.std.specs.Prelude.{◌≡◌, ◌≢◌, ◌↔◌, ◌++◌, ℕ, List, IsTrue, MatchOption, take, ◌∷◌, []};
+ghost use Rattle.std.specs.Option.{SomeIff};
+ghost use Rattle.hprof_text.specs.Identifier.{IsIdText, id_value};
+ghost use Rattle.hprof_dialogue.specs.Asked.{Asks, AsksOf, IsQuestion, IsWord, word_of};
+ghost use Rattle.hprof_dialogue.specs.Lines.{IsBeforeFeed};
+
+use hprof_text::parse_id;
+
+/// The length of the longest line that is understood, in bytes.
+pub(crate) const LONGEST_LINE: usize = 4096;
+
+/// A question of one word.
+#[derive(Clone, Copy, Debug, PartialEq, Eq)]
+pub enum OneWord {
+    /// `help`: what can be asked.
+    Help,
+    /// `check`: what was read of each part, and what the heap has.
+    Check,
+    /// `histo`: the class histogram.
+    Histogram,
+}
+
+/// What can be asked of an identifier.
+#[derive(Clone, Copy, Debug, PartialEq, Eq)]
+pub enum Subject {
+    /// `object`: the contents of its class and its object.
+    Object,
+    /// `refs`: each reference to it.
+    Refs,
+    /// `path`: the shortest path from a GC root.
+    Path,
+}
+
+/// What a line asks.
+#[derive(Clone, Copy, Debug, PartialEq, Eq)]
+pub enum Question {
+    /// The line is empty.
+    Nothing,
+    /// The line is one word.
+    Word(OneWord),
+    /// That of an identifier.
+    Of(Subject, u64),
+    /// Something of a word that is no identifier.
+    NoIdentifier,
+    /// None of these.
+    NotUnderstood,
+}
+
+/// Returns the question that is this one word.
+fn one_word(line: &[u8]) -> Option<OneWord>
+    ensures { MatchOption result ((one : OneWord) → line.now ≢ word_of one) (λ one. line.now ≡ word_of one) }
+{
+    if line == b"help".as_slice() {
+        return Some(OneWord::Help);
+    }
+    if line == b"check".as_slice() {
+        return Some(OneWord::Check);
+    }
+    if line == b"histo".as_slice() {
+        return Some(OneWord::Histogram);
+    }
+    None
+}
+
+/// Returns the bytes behind that front, if the bytes begin with it.
+fn behind<'a>(line: &'a [u8], front: &[u8]) -> Option<&'a [u8]>
+    ensures { MatchOption result ((rest : List ℕ) → line.now ≢ front.now ++ rest) (λ rest. line.now ≡ front.now ++ rest.now) }
+{
+    line.strip_prefix(front)
+}
+
+/// Returns whether bytes are a word.
+fn is_word(bytes: &[u8]) -> bool
+    ensures { IsTrue result ↔ IsWord bytes.now }
+{
+    for byte in bytes {
+        if *byte == b' ' {
+            return false;
+        }
+    }
+    !bytes.is_empty()
+}
+
+/// Returns the word behind that front, if the line is the front and a word.
+fn word_behind<'a>(line: &'a [u8], front: &[u8]) -> Option<&'a [u8]>
+    ensures { MatchOption result ((word : List ℕ) → line.now ≡ front.now ++ word → IsWord word → ⊥)
+        (λ word. (line.now ≡ front.now ++ word.now) × IsWord word.now) }
+{
+    let word = behind(line, front)?;
+    if is_word(word) { Some(word) } else { None }
+}
+
+/// Returns what is asked of which word, if the line asks something of one.
+fn subject_of(line: &[u8]) -> Option<(Subject, &[u8])>
+    ensures { MatchOption result ((subject : Subject) (word : List ℕ) → AsksOf line.now subject word → ⊥)
+        (λ it. AsksOf line.now it.0 it.1.now) }
+{
+    if let Some(word) = word_behind(line, b"object ") {
+        return Some((Subject::Object, word));
+    }
+    if let Some(word) = word_behind(line, b"refs ") {
+        return Some((Subject::Refs, word));
+    }
+    if let Some(word) = word_behind(line, b"path ") {
+        return Some((Subject::Path, word));
+    }
+    None
+}
+
+/// Returns the identifier that bytes write, if they write one.
+fn id_of(word: &[u8]) -> Option<u64>
+    ensures { SomeIff result (IsIdText word.now) (id_value word.now) }
+{
+    match str::from_utf8(word) {
+        Ok(text) => parse_id(text),
+        Err(_) => None,
+    }
+}
+
+/// Returns what the words of a line ask.
+fn asked(line: &[u8]) -> Question
+    ensures { IsQuestion line.now result }
+{
+    if line.is_empty() {
+        return Question::Nothing;
+    }
+    if let Some(one) = one_word(line) {
+        return Question::Word(one);
+    }
+    let Some((subject, word)) = subject_of(line) else {
+        return Question::NotUnderstood;
+    };
+    match id_of(word) {
+        Some(id) => Question::Of(subject, id),
+        None => Question::NoIdentifier,
+    }
+}
+
+/// Returns what a line asks. A line of more than 4,096 bytes is not understood.
+pub fn question_of(line: &[u8]) -> Question
+    ensures { Asks line.now result }
+{
+    if line.len() > LONGEST_LINE {
+        return Question::NotUnderstood;
+    }
+    asked(line)
+}
+
+/// Returns the bytes before a return, if the bytes end with one.
+fn before_return(bytes: &[u8]) -> Option<&[u8]>
+    ensures { MatchOption result ((front : List ℕ) → bytes.now ≢ front ++ 13 ∷ []) (λ front. bytes.now ≡ front.now ++ 13 ∷ []) }
+{
+    bytes.strip_suffix(b"\r")
+}
+
+/// Returns what a line asks that ended with a line feed. Of the bytes before the feed these were kept.
+pub(crate) fn ended_question(kept: &[u8]) -> Question
+    ensures { (before line : List ℕ) → kept.now ≡ take 4098 before → IsBeforeFeed before line → Asks line result }
+{
+    match before_return(kept) {
+        Some(line) => question_of(line),
+        None => question_of(kept),
+    }
+}
+
+/// Returns what a line asks that did not end. Of its bytes these were kept.
+pub(crate) fn last_question(kept: &[u8]) -> Question
+    ensures { (line : List ℕ) → kept.now ≡ take 4098 line → Asks line result }
+{
+    question_of(kept)
+}
