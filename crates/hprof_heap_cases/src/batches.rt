@@ -4,33 +4,10 @@ use crate::expecting::{equal, holds};
 use crate::samples::{array, heap_of};
 use hprof_devices::Device;
 use hprof_dump::Batch;
+use hprof_fixtures::Counting;
 use hprof_items::{Fact, IdSize};
 use hprof_values::{Basic, Root};
-use std::io;
-use std::io::Write;
 use std::test::*;
-
-// A writer that counts its writes. A write of no bytes fails.
-#[derive(Drop)]
-struct Counted {
-    bytes: Vec<u8>,
-    writes: u64,
-}
-
-impl Write for Counted {
-    fn write(&mut self, bytes: &[u8]) -> io::Result<usize> {
-        if bytes.is_empty() {
-            return Err(io::Error::from(io::ErrorKind::Other));
-        }
-        self.bytes.extend_from_slice(bytes)?;
-        self.writes = self.writes.saturating_add(1);
-        Ok(bytes.len())
-    }
-
-    fn flush(&mut self) -> io::Result<()> {
-        Ok(())
-    }
-}
 
 // Of a batch that takes a root and two arrays, the root is written at once, and the arrays together.
 #[test]
@@ -41,10 +18,7 @@ fn arrays_wait_in_a_batch(rt: HostRuntime) -> Result<(), Fail> {
         Fact::Root(Root::Sticky { id: 16 }),
     ];
     let heap = heap_of(&rt, rt.alloc(), IdSize::Four, &facts)?;
-    let mut device = Device::new(Counted {
-        bytes: Vec::new(rt.alloc()),
-        writes: 0,
-    });
+    let mut device = Device::new(Counting::new(rt.alloc()));
     let mut rows = heap.sub_rows();
     let ids = rows.ids();
     let (Some(root), Some(first), Some(second)) = (rows.next(), rows.next(), rows.next()) else {

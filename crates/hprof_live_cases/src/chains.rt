@@ -1,7 +1,7 @@
 //! Chains of 1,000 classes, each with one own field, and an instance of the first.
 
 use crate::answers::{Read, Shape, expect_counts, expect_fields, expect_layout, expect_layout_now};
-use crate::dumps::{Dump, give};
+use hprof_fixtures::{Dump, give};
 use hprof_heap::{Gatherer, Heap};
 use hprof_layouts::{FieldValue, Slot};
 use hprof_live::{Live, LiveHeap};

@@ -1,8 +1,8 @@
 //! Indexes, and live heaps that watch one identifier.
 
 use crate::answers::{edge, expect_indexed, expect_referrers};
-use crate::dumps::{Dump, give_all};
 use hprof_edges::{Edge, Via};
+use hprof_fixtures::{Dump, give_all};
 use hprof_live::LiveHeap;
 use std::alloc::Global;
 use std::process::Abort;

@@ -1,7 +1,7 @@
 //! The instance 200 of class 100, whose superclass is 99.
 
-use crate::dumps::{Dump, NO_CLASS, Whole};
 use hprof_edges::{Edge, Via};
+use hprof_fixtures::{Dump, NO_CLASS, Whole};
 use hprof_layouts::Slot;
 use hprof_values::Basic;
 

@@ -1,12 +1,12 @@
 //! What a live heap answers after each fact, where classes come late, and what is found at the end.
 
 use crate::answers::{Shape, expect_counts, expect_indexed, expect_layout_now, expect_referrers};
-use crate::dumps::{Dump, give};
 use crate::expecting::equal;
 use crate::instance_200::{
     ALONE, BYTE, INSTANCE, LAID, LOWER, SLOT_OF_99, SLOTS, TO_CLASS, TO_PARENT, UPPER,
 };
 use hprof_edges::{Edge, Via};
+use hprof_fixtures::{Dump, give};
 use hprof_layouts::Slot;
 use hprof_live::{Live, LiveHeap};
 use hprof_values::Basic;

@@ -7,8 +7,6 @@ mod answers;
 #[cfg(test)]
 mod chains;
 #[cfg(test)]
-mod dumps;
-#[cfg(test)]
 mod expecting;
 #[cfg(test)]
 mod indexes;

@@ -1,10 +1,10 @@
 //! Random orders of small heaps: after each fact all that is asked is compared with a plain list, which is searched anew.
 
 use crate::answers::{expect_counts, expect_layout_now, expect_referrers, shape_of};
-use crate::dumps::{Dump, NO_CLASS, Whole, give};
 use crate::expecting::{equal, equal_at};
 use crate::plain_list::{count_instances, edges_from, edges_in, edges_to, layout_in};
 use hprof_edges::{Edge, edges_of, referrers};
+use hprof_fixtures::{Dump, NO_CLASS, Whole, give};
 use hprof_heap::{Key, Refusal};
 use hprof_items::Fact;
 use hprof_live::{Live, LiveHeap};

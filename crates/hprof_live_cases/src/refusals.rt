@@ -1,10 +1,10 @@
 //! What a live heap answers before any part, where two sizes were begun or a key has two contents, and after a fault.
 
 use crate::answers::{Shape, expect_counts, expect_layout_now, expect_referrers, live_shape};
-use crate::dumps::{give_all, header_of};
 use crate::expecting::{equal, equal_at};
 use crate::instance_200::{INSTANCE, LAID, LOWER, OTHER_UPPER, SLOTS, UPPER};
 use hprof_edges::Edge;
+use hprof_fixtures::{give_all, header_of};
 use hprof_heap::{Key, Refusal};
 use hprof_items::IdSize;
 use hprof_live::{Live, LiveHeap};

@@ -1,8 +1,8 @@
 //! The program on the real disk.
 
 use crate::expecting::{equal_at, equal_bytes, holds};
-use crate::samples::{END, HEADER, NAME_1_A, bytes_of};
 use crate::words::words_of;
+use hprof_fixtures::{END, HEADER, NAME_1_A, bytes_of};
 use hprof_tool::run;
 use std::alloc::{AllocError, Global};
 use std::process::Abort;

@@ -2,9 +2,10 @@
 
 use crate::expecting::{equal, equal_bytes, equal_text};
 use crate::pieces::dump_of;
-use crate::samples::{END, HEADER, NAME_1_A, bytes_of, fed, readers_of};
+use crate::samples::{fed, readers_of};
 use hprof_devices::Device;
 use hprof_engine::{Joined, join_to};
+use hprof_fixtures::{END, HEADER, NAME_1_A, bytes_of};
 use hprof_heap::Gatherer;
 use hprof_reports::check_to;
 use hprof_stream::Limits;

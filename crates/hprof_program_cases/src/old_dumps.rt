@@ -1,10 +1,11 @@
 //! The 1.0.1 dump of a heap, with a limit for its sub-records.
 
 use crate::expecting::equal_at;
-use crate::samples::{HEADER, NAME_1_A, PLAIN, PLAIN_101, bytes_of, readers_of, record};
+use crate::samples::readers_of;
 use hprof_devices::Device;
 use hprof_dump101::{DumpFault, write_v101};
 use hprof_engine::read_heap;
+use hprof_fixtures::{HEADER, NAME_1_A, PLAIN, PLAIN_101, bytes_of, record};
 use hprof_heap::{Gatherer, Heap};
 use hprof_stream::Limits;
 use std::alloc::Global;

@@ -1,9 +1,10 @@
 //! A part that is fed in pieces.
 
 use crate::expecting::{equal, equal_bytes};
-use crate::samples::{PLAIN, PLAIN_DUMP, fed};
+use crate::samples::fed;
 use hprof_devices::Device;
 use hprof_dump::write_canonical;
+use hprof_fixtures::{PLAIN, PLAIN_DUMP};
 use hprof_heap::Gatherer;
 use hprof_stream::{Limits, PartReader};
 use std::alloc::Global;

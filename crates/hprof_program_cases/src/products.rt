@@ -3,9 +3,10 @@
 ghost use Rattle.std.specs.Prelude.{⊤};
 
 use crate::expecting::equal;
-use crate::samples::{HEADER, readers_of};
+use crate::samples::readers_of;
 use hprof_devices::{Device, Target};
 use hprof_engine::{Product, ToolFault, WriteStop, make_to};
+use hprof_fixtures::HEADER;
 use hprof_heap::{Gatherer, Heap};
 use hprof_stream::Limits;
 use std::alloc::Global;

@@ -1,9 +1,9 @@
 //! In how many writes a dump and a report go out.
 
 use crate::expecting::{equal, equal_at};
-use crate::samples::{END, HEADER, PLAIN, bytes_of};
 use hprof_devices::{Device, WriteFault};
 use hprof_engine::{ToolFault, join_to};
+use hprof_fixtures::{END, HEADER, PLAIN, bytes_of};
 use hprof_reports::check_to;
 use hprof_stream::Limits;
 use std::alloc::{AllocError, Global};

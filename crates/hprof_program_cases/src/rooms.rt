@@ -2,9 +2,10 @@
 
 use crate::expecting::{equal, equal_at};
 use crate::pushes::TALLY;
-use crate::samples::{HEADER, NAME_1_A, NAME_1_B, bytes_of, readers_of, record};
+use crate::samples::readers_of;
 use hprof_devices::Device;
 use hprof_engine::{Joined, ToolFault, join_to};
+use hprof_fixtures::{HEADER, NAME_1_A, NAME_1_B, bytes_of, record};
 use hprof_heap::Key;
 use hprof_reports::check_to;
 use hprof_stream::Limits;

@@ -2,7 +2,7 @@
 
 use crate::expecting::equal_at;
 use crate::pushes::{TALLY, Tally};
-use crate::samples::{HEADER, NAME_1_A, NAME_1_B, bytes_of};
+use hprof_fixtures::{HEADER, NAME_1_A, NAME_1_B, bytes_of};
 use hprof_tool::run;
 use std::alloc::Global;
 use std::io;

@@ -2,14 +2,13 @@
 
 use crate::expecting::{equal, equal_at};
 use hprof_devices::Device;
+use hprof_fixtures::Counting;
 use hprof_items::{
     Basic, ConstantList, Fact, FieldList, HEAD_LEN, HeadKind, IdList, IdSize, Reason, Root,
     StaticList, Step, Stop, read_body, read_body_into, read_head, read_sub, read_sub_into,
 };
 use hprof_writing::{fits, spelled_len, write_fact};
 use std::alloc::Global;
-use std::io;
-use std::io::Write;
 use std::process::Abort;
 use std::test::*;
 
@@ -40,30 +39,6 @@ fn facts_in_one_place(rt: HostRuntime) {
         stops,
         (Err(past), Err(Stop::TooLong), Err(Stop::Short)),
     );
-}
-
-// A writer that takes all, and counts its calls. A write of no bytes fails.
-#[derive(Drop)]
-struct Counting {
-    bytes: Vec<u8>,
-    writes: u64,
-    flushes: u64,
-}
-
-impl Write for Counting {
-    fn write(&mut self, buf: &[u8]) -> io::Result<usize> {
-        if buf.is_empty() {
-            return Err(io::Error::from(io::ErrorKind::Other));
-        }
-        self.bytes.extend_from_slice(buf)?;
-        self.writes = self.writes.saturating_add(1);
-        Ok(buf.len())
-    }
-
-    fn flush(&mut self) -> io::Result<()> {
-        self.flushes = self.flushes.saturating_add(1);
-        Ok(())
-    }
 }
 
 // The fact of a record, whose bytes these are. It is the same by itself and in a place.
@@ -108,11 +83,7 @@ fn check_written(
     let fact = fact.ok_or("no fact")?;
     assert!(rt; fits(&fact, ids), "{bytes:?}");
     let len = spelled_len(&fact, ids);
-    let mut device = Device::new(Counting {
-        bytes: Vec::new(alloc),
-        writes: 0,
-        flushes: 0,
-    });
+    let mut device = Device::new(Counting::new(alloc));
     let written = write_fact(&fact, ids, &mut device);
     let counting = device.into_inner();
     equal(

@@ -3,7 +3,8 @@
 ghost use Rattle.std.specs.Prelude.{◌<◌};
 
 use crate::expecting::{equal, equal_at};
-use crate::samples::{HEADER, PART, Seen, feed_in};
+use crate::samples::{HEADER, Seen, feed_in};
+use hprof_fixtures::PLAIN;
 use hprof_items::Reason;
 use hprof_stream::{Limits, PartFault, PartReader, PartSummary};
 use std::alloc::{AllocError, Global};
@@ -118,7 +119,7 @@ fn a_class_is_walked_on_from_where_it_was_cut(rt: HostRuntime) -> Result<(), Fai
     let class = greatest_class(rt.alloc())?;
     let mut sink = Seen::new(rt.alloc(), 1);
     let mut reader = PartReader::new(rt.alloc(), Limits::usual());
-    let header = feed_in(&mut reader, &PART[..31], 31, &mut sink);
+    let header = feed_in(&mut reader, &PLAIN[..31], 31, &mut sink);
     let fed = feed_in(&mut reader, &class, 1, &mut sink);
     equal(
         &rt,
@@ -148,7 +149,7 @@ fn feed_long(rt: &HostRuntime, body: &[u8], len: usize) -> Result<(u64, usize, P
     let before = size(rt)?;
     let mut sink = Seen::new(rt.alloc(), 0);
     let mut reader = PartReader::new(rt.alloc(), Limits::usual());
-    feed_in(&mut reader, &PART[..31], 31, &mut sink)?;
+    feed_in(&mut reader, &PLAIN[..31], 31, &mut sink)?;
     feed_in(&mut reader, b"\x7f\0\0\0\0\x04\0\0\0", 9, &mut sink)?;
     let held = feed_in(&mut reader, body, len, &mut sink)?;
     let grown = size(rt)?.saturating_sub(before);

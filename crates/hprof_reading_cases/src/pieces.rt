@@ -1,7 +1,8 @@
 //! Parts that are fed in pieces.
 
 use crate::expecting::{equal, equal_at};
-use crate::samples::{HEADER, PART, Seen, feed_in};
+use crate::samples::{HEADER, Seen, feed_in};
+use hprof_fixtures::PLAIN;
 use hprof_items::{Header, IdSize, Reason};
 use hprof_stream::{Limits, PartFault, PartReader, PartSummary};
 use std::alloc::Global;
@@ -81,7 +82,7 @@ fn summary(ids: IdSize, records: u64, facts: u64, ended: bool) -> PartSummary {
 fn parts_in_pieces(rt: HostRuntime) {
     let alloc = rt.alloc();
     let plain = summary(IdSize::Four, 3, 4, false);
-    reads(&rt, alloc, PART, plain, &[2, 1, 16, 0], [30, 30]);
+    reads(&rt, alloc, PLAIN, plain, &[2, 1, 16, 0], [30, 30]);
     let dump = summary(IdSize::Four, 5, 7, true);
     let numbers = [0, 0, 0, 100, 200, 17, 16];
     reads(&rt, alloc, DUMP, dump, &numbers, [65, 67]);
@@ -126,7 +127,7 @@ fn a_reader_that_failed(rt: HostRuntime) {
             magic,
             None,
         ),
-        (&PART[..31], SEGMENT, [30, 8, 0], 5, past, Some(HEADER)),
+        (&PLAIN[..31], SEGMENT, [30, 8, 0], 5, past, Some(HEADER)),
     ] {
         let mut sink = Seen::new(rt.alloc(), 0);
         let mut reader = PartReader::new(rt.alloc(), Limits::usual());
@@ -167,7 +168,7 @@ fn records_that_are_passed_over(rt: HostRuntime) {
     ] {
         let mut sink = Seen::new(rt.alloc(), 0);
         let mut reader = PartReader::new(rt.alloc(), Limits::usual());
-        let header = feed_in(&mut reader, &PART[..31], 31, &mut sink);
+        let header = feed_in(&mut reader, &PLAIN[..31], 31, &mut sink);
         // Its head: nothing is held from its last byte on.
         let most = feed_in(&mut reader, b"\x7f\0\0\0\0\0\x01\x86", 1, &mut sink);
         let head = feed_in(&mut reader, b"\xa0", 1, &mut sink);
@@ -186,7 +187,7 @@ fn records_that_are_passed_over(rt: HostRuntime) {
     for len in [65_536, 7, 3, 1] {
         let mut sink = Seen::new(rt.alloc(), 0);
         let mut reader = PartReader::new(rt.alloc(), Limits::usual());
-        let header = feed_in(&mut reader, &PART[..31], 31, &mut sink);
+        let header = feed_in(&mut reader, &PLAIN[..31], 31, &mut sink);
         let fed = feed_in(&mut reader, part, len, &mut sink);
         let few = fed.is_ok_and(|held| held <= 8);
         let want = summary(IdSize::Four, 3, 0, true);

@@ -1,4 +1,4 @@
-//! A part, a sink, and feeding in pieces.
+//! A sink, and feeding in pieces.
 
 ghost use Rattle.std.specs.Prelude.{◌<◌};
 ghost use Rattle.hprof_stream.specs.Reader.{IsReady};
@@ -7,15 +7,7 @@ use hprof_items::{Fact, Header, IdSize, Version};
 use hprof_stream::{PartFault, PartReader, Sink, SinkFault};
 use std::alloc::Global;
 
-/// A header, two names, and a segment with a byte array and a root.
-pub(crate) const PART: &[u8; 89] = b"JAVA PROFILE 1.0.2\0\0\0\0\x04\0\0\0\0\0\0\0\x01\
-    \x01\0\0\0\0\0\0\0\x05\0\0\0\x02\x42\
-    \x01\0\0\0\0\0\0\0\x05\0\0\0\x01\x41\
-    \x1c\0\0\0\0\0\0\0\x15\
-    \x23\0\0\0\x10\0\0\0\x01\0\0\0\x02\x08\x01\x02\
-    \x05\0\0\0\x10";
-
-/// Its header.
+/// The header of the plain part.
 pub(crate) const HEADER: Header = Header {
     version: Version::V102,
     ids: IdSize::Four,

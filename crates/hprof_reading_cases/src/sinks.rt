@@ -1,8 +1,9 @@
 //! Sinks that refuse: how often they are called, and what is told of it.
 
 use crate::expecting::{equal, equal_at};
-use crate::samples::{HEADER, PART, Seen};
+use crate::samples::{HEADER, Seen};
 use hprof_devices::Device;
+use hprof_fixtures::PLAIN;
 use hprof_items::{Fact, Header, IdSize};
 use hprof_stream::{Limits, PartFault, PartReader, Sink, SinkFault, read_part};
 use std::test::*;
@@ -68,7 +69,7 @@ fn a_sink_that_refused_is_not_called_again(rt: HostRuntime) {
     for refused in REFUSED {
         let mut sink = Counting::new(refused);
         let mut reader = PartReader::new(rt.alloc(), Limits::usual());
-        let fed = reader.feed(PART, &mut sink);
+        let fed = reader.feed(PLAIN, &mut sink);
         let fault = PartFault::Sink(SinkFault::Failed);
         equal_at(
             &rt,
@@ -76,7 +77,7 @@ fn a_sink_that_refused_is_not_called_again(rt: HostRuntime) {
             (fed, sink.calls, reader.buffered()),
             (Err(fault), refused, 0),
         );
-        let again = reader.feed(PART, &mut sink);
+        let again = reader.feed(PLAIN, &mut sink);
         let header = reader.header();
         let failed = PartFault::Failed;
         equal_at(
@@ -86,7 +87,7 @@ fn a_sink_that_refused_is_not_called_again(rt: HostRuntime) {
             (Err(failed), Some(HEADER), Err(failed), refused),
         );
         let mut sink = Counting::new(refused);
-        let mut source = Device::new(PART.as_slice());
+        let mut source = Device::new(PLAIN.as_slice());
         let read = read_part(rt.alloc(), &mut source, Limits::usual(), &mut sink);
         equal_at(&rt, refused, (read, sink.calls), (Err(fault), refused));
     }
@@ -98,7 +99,7 @@ fn a_sink_without_memory(rt: HostRuntime) -> Result<(), Fail> {
     // The header and both names, and the whole part.
     for len in [59, 89] {
         let mut sink = Seen::new(rt.alloc(), 1);
-        let mut source = Device::new(&PART[..len]);
+        let mut source = Device::new(&PLAIN[..len]);
         let read = read_part(rt.alloc(), &mut source, Limits::usual(), &mut sink);
         equal_at(
             &rt,

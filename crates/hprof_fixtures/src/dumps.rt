@@ -13,7 +13,7 @@ use std::test::Fail;
 
 /// What a sub-record states.
 #[derive(Clone, Copy)]
-pub(crate) enum Dump<'a> {
+pub enum Dump<'a> {
     /// A class, its superclass and its own fields.
     Class(u64, u64, &'a [u8]),
     /// A class with all that is told of it.
@@ -28,20 +28,29 @@ pub(crate) enum Dump<'a> {
 
 /// A class with all that is told of it.
 #[derive(Clone, Copy)]
-pub(crate) struct Whole<'a> {
-    pub(crate) id: u64,
-    pub(crate) parent: u64,
-    pub(crate) loader: u64,
-    pub(crate) signers: u64,
-    pub(crate) domain: u64,
-    pub(crate) size: u32,
-    pub(crate) constants: &'a [u8],
-    pub(crate) statics: &'a [u8],
-    pub(crate) fields: &'a [u8],
+pub struct Whole<'a> {
+    /// The class.
+    pub id: u64,
+    /// Its superclass.
+    pub parent: u64,
+    /// Its class loader.
+    pub loader: u64,
+    /// Its signers.
+    pub signers: u64,
+    /// Its protection domain.
+    pub domain: u64,
+    /// The instance size that the dump states.
+    pub size: u32,
+    /// The entries of its constants.
+    pub constants: &'a [u8],
+    /// The entries of its static fields.
+    pub statics: &'a [u8],
+    /// The entries of its own fields.
+    pub fields: &'a [u8],
 }
 
 /// A class of which nothing is told but what a test tells.
-pub(crate) const NO_CLASS: Whole<'_> = Whole {
+pub const NO_CLASS: Whole<'_> = Whole {
     id: 0,
     parent: 0,
     loader: 0,
@@ -82,7 +91,7 @@ fn objects_fact(id: u64, class: u64, elements: &[u8]) -> Option<Fact<'_>> {
 
 impl<'a> Dump<'a> {
     /// The fact of the sub-record, with the trace serial 1; None where its bytes are no list.
-    pub(crate) fn fact(self) -> Option<Fact<'a>> {
+    pub fn fact(self) -> Option<Fact<'a>> {
         match self {
             Dump::Class(id, parent, fields) => class_fact(Whole {
                 id,
@@ -109,7 +118,7 @@ impl<'a> Dump<'a> {
 }
 
 /// A header of a part with identifiers of that size.
-pub(crate) fn header_of(ids: IdSize) -> Header
+pub fn header_of(ids: IdSize) -> Header
     ensures { result.ids ≡ ids }
 {
     Header {
@@ -145,17 +154,13 @@ fn give_fact<S: Sink>(alloc: Global, sink: &mut S, fact: &Fact<'_>) -> Result<()
 }
 
 /// Gives a dump to a sink.
-pub(crate) fn give<S: Sink>(alloc: Global, sink: &mut S, dump: Dump<'_>) -> Result<(), Fail> {
+pub fn give<S: Sink>(alloc: Global, sink: &mut S, dump: Dump<'_>) -> Result<(), Fail> {
     let fact = dump.fact().ok_or("no list")?;
     give_fact(alloc, sink, &fact)
 }
 
 /// Gives dumps to a sink, in their order.
-pub(crate) fn give_all<S: Sink>(
-    alloc: Global,
-    sink: &mut S,
-    dumps: &[Dump<'_>],
-) -> Result<(), Fail> {
+pub fn give_all<S: Sink>(alloc: Global, sink: &mut S, dumps: &[Dump<'_>]) -> Result<(), Fail> {
     for dump in dumps {
         give(alloc, sink, *dump)?;
     }
