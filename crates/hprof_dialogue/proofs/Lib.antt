@@ -5,3 +5,4 @@ pub mod Dialogues
 pub mod OneLine
 pub mod OneQuestion
 pub mod OneText
+pub mod SomeQuestion

@@ -3,6 +3,7 @@ use Rattle.std.proofs.Common.{◌≡◌, ℕ, List, [], ◌∷◌, ◌++◌, ref
 use Rattle.hprof_dialogue.specs.declared.question.Question.{Question}
 use Rattle.hprof_dialogue.specs.Answering.{AreAnswers, IsLineAnswer}
 use Rattle.hprof_dialogue.proofs.OneQuestion.{asks_once}
+use Rattle.hprof_dialogue.proofs.SomeQuestion.{some_question}
 
 module _ (IsAnswer : Question → List ℕ → Type 0)
     (once : (question : Question) (one other : List ℕ) → IsAnswer question one → IsAnswer question other → one ≡ other) where
@@ -30,4 +31,16 @@ answers_split IsAnswer (line ∷ lines) more text (answer, rest, is, are, e) =
       (answer, it.0, is, it.2, refl),
       it.3,
       e ∙ ap (λ (l : List ℕ). answer ++ l) it.4 ∙ sym (append_assoc answer it.0 it.1),
+    )
+
+-- and there is one
+pub some_answers : (IsAnswer : Question → List ℕ → Type 0) → ((question : Question) → (text : List ℕ) × IsAnswer question text)
+    → (lines : List (List ℕ)) → (text : List ℕ) × AreAnswers IsAnswer lines text
+some_answers IsAnswer some [] = ([], refl)
+some_answers IsAnswer some (line ∷ lines) =
+    let question = some_question line in
+    let answer = some question.0 in
+    let rest = some_answers IsAnswer some lines in (
+      answer.0 ++ rest.0,
+      (answer.0, rest.0, record { question = question.0; asks = question.1; is = answer.1 }, rest.1, refl),
     )

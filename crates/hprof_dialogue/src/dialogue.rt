@@ -48,7 +48,10 @@ pub trait Answers {
         ensures health { LeavesWriter result (W.health target.new) }
         ensures kept { keeps self.now kept.new };
 
-    // A question has one answer.
+    // A question has an answer.
+    ghost some_answer: { (answers : Self) (question : Question) → (text : List ℕ) × is_answer answers question text };
+
+    // And no other.
     ghost one_answer: { (answers : Self) (question : Question) (one other : List ℕ)
         → is_answer answers question one → is_answer answers question other → one ≡ other };
 }

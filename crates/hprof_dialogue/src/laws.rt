@@ -17,12 +17,14 @@ pub fn bytes_have_one_list_of_lines()
 
 /// A line asks one thing.
 pub fn a_line_asks_one_thing()
-    ensures { (line : List ℕ) (one other : Question) → Asks line one → Asks line other → one ≡ other }
+    ensures some { (line : List ℕ) → (question : Question) × Asks line question }
+    ensures one { (line : List ℕ) (one other : Question) → Asks line one → Asks line other → one ≡ other }
 {}
 
-/// The answers to lines are one text. To ask two lists of lines one after the other is to ask them together: no answer depends
+/// The answers to lines are one text, and there is one. To ask two lists of lines one after the other is to ask them together: no answer depends
 /// on what was asked before.
 pub fn answers_are_one_text<A: Answers>(answers: &A)
+    ensures some { (lines : List (List ℕ)) → (text : List ℕ) × AreAnswers (A.is_answer answers.now) lines text }
     ensures one { (lines : List (List ℕ)) (one other : List ℕ) → AreAnswers (A.is_answer answers.now) lines one
         → AreAnswers (A.is_answer answers.now) lines other → one ≡ other }
     ensures together { (lines more : List (List ℕ)) (text : List ℕ) → AreAnswers (A.is_answer answers.now) (lines ++ more) text

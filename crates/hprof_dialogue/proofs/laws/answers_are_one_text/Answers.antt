@@ -1,8 +1,11 @@
 use Rattle.std.proofs.Common.{sym, subst}
 use Rattle.hprof_dialogue.specs.Answering.{AreAnswers}
 use Rattle.hprof_dialogue.proofs.Hearing.{answers_then}
-use Rattle.hprof_dialogue.proofs.OneText.{answers_once, answers_split}
+use Rattle.hprof_dialogue.proofs.OneText.{answers_once, answers_split, some_answers}
 use Rattle.hprof_dialogue.proofs.laws.answers_are_one_text.Goals as goal
+
+pub returns-clause-some : goal.returns-clause-some
+returns-clause-some g c = some_answers (g.A.Answers.is_answer c.args.answers.now) (g.met.A.Answers.some_answer c.args.answers.now)
 
 pub returns-clause-one : goal.returns-clause-one
 returns-clause-one g c = answers_once (g.A.Answers.is_answer c.args.answers.now) (g.met.A.Answers.one_answer c.args.answers.now)
