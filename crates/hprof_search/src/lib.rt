@@ -17,5 +17,6 @@ mod walks;
 pub use graph::Graph;
 pub use kept_search::Search;
 pub use numbered::Numbered;
+pub use numbers::Numbers;
 pub use searching::search;
 pub use walks::WalksOf;

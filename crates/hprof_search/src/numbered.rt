@@ -52,6 +52,21 @@ impl Numbered {
         Ok(Numbered { nodes, hints })
     }
 
+    /// Returns the number of nodes.
+    pub fn len(&self) -> usize
+        ensures { result ≡ length (nodes_in self.now) }
+    {
+        self.nodes.len()
+    }
+
+    /// Returns the node that has a number.
+    pub fn node(&self, number: usize) -> u64
+        requires { number < length (nodes_in self.now) }
+        ensures { result ≡ slice_index (nodes_in self.now) number }
+    {
+        self.nodes[number]
+    }
+
     /// Whether it is one of the nodes.
     #[inline(always)]
     pub fn has(&self, node: u64) -> bool
@@ -62,7 +77,7 @@ impl Numbered {
 
     /// The number of a node; none of what is no node. Where the hints do not lead there, it is found by halves.
     #[inline(always)]
-    pub(crate) fn number_of(&self, node: u64) -> Option<usize>
+    pub fn number_of(&self, node: u64) -> Option<usize>
         ensures { result ≡ number_in (nodes_in self.now) node }
     {
         let place = self.hints.place(&self.nodes, node);

@@ -1,6 +1,6 @@
 //! Lists of numbers that take few bytes.
 
-ghost use Rattle.std.specs.Prelude.{◌≡◌, ◌<◌, ◌≤◌, IfOk, length, replicate, slice_index, slice_set};
+ghost use Rattle.std.specs.Prelude.{◌≡◌, ◌<◌, ◌≤◌, ◌++◌, ◌∷◌, [], IfOk, OnOk, length, replicate, slice_index, slice_set};
 ghost use Rattle.hprof_search.specs.Numbers.{items_in, bound_of};
 
 use std::alloc::{AllocError, Global};
@@ -8,9 +8,9 @@ use std::alloc::{AllocError, Global};
 // How many numbers fit four bytes.
 const NARROW: usize = 1 << 32;
 
-/// Numbers, of four bytes each where that is enough.
+/// Numbers, of four bytes each if that is enough.
 #[derive(Drop)]
-pub(crate) enum Numbers {
+pub enum Numbers {
     /// Of four bytes each.
     Narrow(Vec<u32>),
     /// Of eight bytes each.
@@ -18,22 +18,56 @@ pub(crate) enum Numbers {
 }
 
 impl Numbers {
-    /// So many zeros. In place of each a number can be put that is less than how many there are. The error is that memory was
-    /// refused.
-    pub(crate) fn new(alloc: Global, count: usize) -> Result<Numbers, AllocError>
+    /// Returns so many zeros, in the place of which numbers below the bound can be put. The error is that memory ran out.
+    pub fn zeros(alloc: Global, count: usize, bound: usize) -> Result<Numbers, AllocError>
         ensures items { IfOk result (λ numbers. items_in numbers ≡ replicate count 0) }
-        ensures bound { IfOk result (λ numbers. count ≤ bound_of numbers) }
+        ensures bound { IfOk result (λ numbers. bound ≤ bound_of numbers) }
     {
-        if count <= NARROW {
+        if bound <= NARROW {
             Ok(Numbers::Narrow(vec![in alloc; 0; count]?))
         } else {
             Ok(Numbers::Wide(vec![in alloc; 0; count]?))
         }
     }
 
-    /// The number at a place.
+    /// Returns an empty list, to which numbers below the bound can be pushed. It takes no memory.
+    pub fn empty(alloc: Global, bound: usize) -> Numbers
+        ensures items { items_in result ≡ [] }
+        ensures bound { bound ≤ bound_of result }
+    {
+        if bound <= NARROW {
+            Numbers::Narrow(Vec::new(alloc))
+        } else {
+            Numbers::Wide(Vec::new(alloc))
+        }
+    }
+
+    /// Returns how many there are.
+    pub fn len(&self) -> usize
+        ensures { result ≡ length (items_in self.now) }
+    {
+        match self {
+            Numbers::Narrow(items) => items.len(),
+            Numbers::Wide(items) => items.len(),
+        }
+    }
+
+    /// Puts a number behind the others. If memory runs out, nothing holds of them.
+    pub fn push(&mut self, number: usize) -> Result<(), AllocError>
+        requires fits { number < bound_of self.old }
+        ensures items { OnOk result (items_in self.new ≡ items_in self.old ++ number ∷ []) }
+        ensures bound { OnOk result (bound_of self.new ≡ bound_of self.old) }
+    {
+        match self {
+            Numbers::Narrow(items) => items.push(number as u32)?,
+            Numbers::Wide(items) => items.push(number as u64)?,
+        }
+        Ok(())
+    }
+
+    /// Returns the number at a place.
     #[inline(always)]
-    pub(crate) fn get(&self, place: usize) -> usize
+    pub fn get(&self, place: usize) -> usize
         requires { place < length (items_in self.now) }
         ensures { result ≡ slice_index (items_in self.now) place }
     {
@@ -45,7 +79,7 @@ impl Numbers {
 
     /// Puts a number at a place.
     #[inline(always)]
-    pub(crate) fn set(&mut self, place: usize, number: usize)
+    pub fn set(&mut self, place: usize, number: usize)
         requires within { place < length (items_in self.old) }
         requires fits { number < bound_of self.old }
         ensures items { items_in self.new ≡ slice_set (items_in self.old) place number }

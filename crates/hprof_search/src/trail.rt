@@ -41,7 +41,7 @@ impl Trail {
     {
         Ok(Trail {
             found: vec![in alloc; false; count]?,
-            before: Numbers::new(alloc, count)?,
+            before: Numbers::zeros(alloc, count, count)?,
             order: IndexSet::with_capacity_and_hasher(alloc, count, BuildHasherDefault::new())?,
             next: 0,
         })
