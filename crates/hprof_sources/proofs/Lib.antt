@@ -1,0 +1,5 @@
+pub mod Counting
+pub mod Filling
+pub mod Starting
+pub mod Ending
+pub mod Pairing

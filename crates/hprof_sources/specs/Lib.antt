@@ -1,0 +1,4 @@
+pub mod Counts
+pub mod Lists
+pub mod Pairs
+pub mod Sources
