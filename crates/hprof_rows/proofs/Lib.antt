@@ -12,6 +12,7 @@ pub mod HeapRows
 pub mod KeptObjects
 pub mod ReadBack
 pub mod SameHeaps
+pub mod EachTable
 pub mod Differing
 pub mod Roots
 pub mod NumberRows
