@@ -12,7 +12,8 @@ ghost use Rattle.hprof_heap.specs.Tables.{rows_in_tables};
 
 use crate::tables::Tables;
 use hprof_items::Fact;
-use hprof_rows::{Facts, SubRows, Table, kept_fact, spelled_fact};
+use hprof_rows::{Facts, RootSet, SubRows, Table, kept_fact, spelled_fact};
+use hprof_tables::{BytesTable, Relation};
 use hprof_values::IdSize;
 use std::alloc::Global;
 
@@ -40,7 +41,20 @@ impl Heap {
         ensures { heap_of result ≡ record { ids = ids; millis = millis; facts = [] } }
     {
         Heap {
-            tables: Tables::new(alloc, ids, millis),
+            tables: Tables {
+                ids,
+                millis,
+                names: BytesTable::new(alloc),
+                loads: Relation::new(alloc),
+                unloads: Relation::new(alloc),
+                frames: Relation::new(alloc),
+                traces: Relation::new(alloc),
+                starts: Relation::new(alloc),
+                ends: Relation::new(alloc),
+                roots: RootSet::new(alloc),
+                classes: BytesTable::new(alloc),
+                objects: BytesTable::new(alloc),
+            },
         }
     }
 

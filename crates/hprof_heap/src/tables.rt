@@ -1,13 +1,12 @@
 //! The ten tables of a heap.
 
-ghost use Rattle.std.specs.Prelude.{◌≡◌, []};
+ghost use Rattle.std.specs.Prelude.{◌≡◌};
 ghost use Rattle.hprof_rows.specs.EachTable.{count_at};
 ghost use Rattle.hprof_heap.specs.Tables.{rows_in_tables, AreRowsOf};
 
 use hprof_rows::{FrameRow, KeyRow, LoadRow, RootSet, StartRow, Table, TableRows, TraceRow};
 use hprof_tables::{BytesTable, Relation};
 use hprof_values::IdSize;
-use std::alloc::Global;
 
 mod comparing;
 mod joining;
@@ -31,39 +30,6 @@ pub(crate) struct Tables {
 }
 
 impl Tables {
-    /// Tables without rows. They take no memory yet.
-    pub(crate) fn new(alloc: Global, ids: IdSize, millis: u64) -> Self
-        ensures { rows_in_tables result ≡ record {
-          ids = ids;
-          millis = millis;
-          names = [];
-          loads = [];
-          unloads = [];
-          frames = [];
-          traces = [];
-          starts = [];
-          ends = [];
-          roots = [];
-          classes = [];
-          objects = [];
-        } }
-    {
-        Tables {
-            ids,
-            millis,
-            names: BytesTable::new(alloc),
-            loads: Relation::new(alloc),
-            unloads: Relation::new(alloc),
-            frames: Relation::new(alloc),
-            traces: Relation::new(alloc),
-            starts: Relation::new(alloc),
-            ends: Relation::new(alloc),
-            roots: RootSet::new(alloc),
-            classes: BytesTable::new(alloc),
-            objects: BytesTable::new(alloc),
-        }
-    }
-
     /// The number of rows of a table.
     pub(crate) fn len(&self, table: Table) -> usize
         ensures { result ≡ count_at table (rows_in_tables self.now) }

@@ -40,10 +40,16 @@ use Rattle.hprof_rows.proofs.Keys.{place_of_key}
 use Rattle.hprof_rows.proofs.KeptObjects.{object_again}
 use Rattle.hprof_rows.proofs.Roots.{roots_tried, roots_kept, roots_unseen}
 use Rattle.hprof_rows.proofs.RowFacts.{rows_tried, rows_kept, tried_right, right_found}
-use Rattle.hprof_rows.proofs.SameHeaps.{from_contents}
 use Rattle.hprof_rows.proofs.Stating.{StatesAmong, with_facts}
 use Rattle.hprof_rows.proofs.Tables.{IsOf, table_at, with_table}
 use Rattle.hprof_rows.proofs.UnionRows.{contents_right, right_contents}
+
+-- facts are known by keys and contents
+from_contents : {V : Type 0} (fact : ℕ → List ℕ → FactValue) (content : V → List ℕ) (rows : List (ℕ × V))
+    → facts_of_rows fact content rows ≡ facts_of_rows fact the_bytes (contents_of content rows)
+from_contents fact content [] = refl
+from_contents fact content (row ∷ rows) =
+    ap (λ (rest : List FactValue). fact row.0 (content row.1) ∷ rest) (from_contents fact content rows)
 
 -- in two steps or in one it is the same
 pub map_twice : {A : Type 0} (content : A → List ℕ) (fact : List ℕ → FactValue) (found : Option A)
@@ -57,12 +63,12 @@ map_twice content fact (Some row) = refl
 pub facts_at : (table : Table) → IsKeyed table → (rows : HeapRows)
     → table_at (tables_of rows) (number_of_table table) ≡ facts_of_rows (fact_at rows.ids table) the_bytes (contents_at table rows)
 facts_at tables.Names keyed rows = refl
-facts_at tables.Loads keyed rows = from_contents rows.ids 1 load_fact load_numbers rows.loads
-facts_at tables.Unloads keyed rows = from_contents rows.ids 2 unload_fact no_content rows.unloads
-facts_at tables.Frames keyed rows = from_contents rows.ids 3 frame_fact frame_numbers rows.frames
-facts_at tables.Traces keyed rows = from_contents rows.ids 4 (trace_fact rows.ids) trace_content rows.traces
-facts_at tables.Starts keyed rows = from_contents rows.ids 5 start_fact start_numbers rows.starts
-facts_at tables.Ends keyed rows = from_contents rows.ids 6 end_fact no_content rows.ends
+facts_at tables.Loads keyed rows = from_contents load_fact load_numbers rows.loads
+facts_at tables.Unloads keyed rows = from_contents unload_fact no_content rows.unloads
+facts_at tables.Frames keyed rows = from_contents frame_fact frame_numbers rows.frames
+facts_at tables.Traces keyed rows = from_contents (trace_fact rows.ids) trace_content rows.traces
+facts_at tables.Starts keyed rows = from_contents start_fact start_numbers rows.starts
+facts_at tables.Ends keyed rows = from_contents end_fact no_content rows.ends
 facts_at tables.Roots keyed rows = absurd keyed
 facts_at tables.Classes keyed rows = refl
 facts_at tables.Objects keyed rows = refl

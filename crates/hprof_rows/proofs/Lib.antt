@@ -11,8 +11,8 @@ pub mod Tables
 pub mod HeapRows
 pub mod KeptObjects
 pub mod ReadBack
-pub mod SameHeaps
 pub mod EachTable
+pub mod SameHeaps
 pub mod Differing
 pub mod Roots
 pub mod NumberRows
