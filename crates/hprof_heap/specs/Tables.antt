@@ -1,5 +1,5 @@
 -- What the tables of a heap show.
-use Rattle.std.specs.Prelude.{◌≡◌}
+use Rattle.std.specs.Prelude.{◌≡◌, ℕ, Option, None}
 use Rattle.hprof_tables.specs.BytesTable.{byte_rows, byte_rows_left}
 use Rattle.hprof_tables.specs.Relation.{rows_of}
 use Rattle.hprof_tables.specs.Rows.{rows_left}
@@ -7,6 +7,7 @@ use Rattle.hprof_rows.specs.declared.table.Table.{Table}
 use Rattle.hprof_rows.specs.declared.table.Table.TheVariants as tables
 use Rattle.hprof_rows.specs.declared.table_rows.TableRows.{TableRows}
 use Rattle.hprof_rows.specs.declared.table_rows.TableRows.TheVariants as lists
+use Rattle.hprof_rows.specs.EachTable.{DiffersFirst}
 use Rattle.hprof_rows.specs.HeapRows.{HeapRows}
 use Rattle.hprof_rows.specs.RootSet.{roots_of}
 use Rattle.hprof_heap.specs.declared.tables.Tables.{Tables}
@@ -41,3 +42,8 @@ AreRowsOf tables.Roots rows (lists.Roots left) = left ≡ rows.roots
 AreRowsOf tables.Classes rows (lists.Classes left) = byte_rows_left left ≡ rows.classes
 AreRowsOf tables.Objects rows (lists.Objects left) = byte_rows_left left ≡ rows.objects
 AreRowsOf table rows left = ⊥
+
+-- the least key at which one of them differs from that of others; roots have no keys, so that none differs
+abbrev pub Differs : Table → HeapRows → HeapRows → Option ℕ → Type 0
+Differs tables.Roots one other found = found ≡ None
+Differs table one other found = DiffersFirst table one other found

@@ -1,7 +1,6 @@
 //! Comparing a table with that of others.
 
-ghost use Rattle.hprof_rows.specs.EachTable.{DiffersFirst};
-ghost use Rattle.hprof_heap.specs.Tables.{rows_in_tables};
+ghost use Rattle.hprof_heap.specs.Tables.{Differs, rows_in_tables};
 
 use super::Tables;
 use hprof_rows::Table;
@@ -9,7 +8,7 @@ use hprof_rows::Table;
 impl Tables {
     /// The least key under which both have a row in a table, with different contents. Roots have no keys.
     pub(crate) fn first_difference(&self, table: Table, other: &Tables) -> Option<u64>
-        ensures { DiffersFirst table (rows_in_tables self.now) (rows_in_tables other.now) result }
+        ensures { Differs table (rows_in_tables self.now) (rows_in_tables other.now) result }
     {
         match table {
             Table::Names => self.names.first_difference(&other.names),

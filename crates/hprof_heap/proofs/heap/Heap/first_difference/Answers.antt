@@ -1,11 +1,13 @@
-use Rattle.std.proofs.Common.{◌≡◌, ◌<◌, ℕ, zero, suc, ◌+◌, [], ◌∷◌, Option, Some, get_or, refl, sym, ap, subst, ◌∙◌, arith}
+use Rattle.std.proofs.Common.{◌≡◌, ◌<◌, ℕ, zero, suc, ◌+◌, [], ◌∷◌, Option, Some, None, get_or, refl, sym, ap, subst, ◌∙◌, arith}
+use Rattle.hprof_tables.specs.SideBySide.{IsFirstDifference}
 use Rattle.hprof_rows.specs.declared.table.Table.{Table}
-use Rattle.hprof_rows.specs.declared.table.Table.TheVariants.{Names, Loads, Frames, Traces, Starts, Classes, Objects}
+use Rattle.hprof_rows.specs.declared.table.Table.TheVariants.{Names, Loads, Frames, Traces, Starts, Roots, Classes, Objects}
 use Rattle.hprof_rows.specs.EachTable.{DiffersFirst, IsNumberIn, key_in}
 use Rattle.hprof_rows.specs.HeapRows.{HeapRows}
 use Rattle.hprof_rows.proofs.Differing.{NoneBelow, none_fewer, none_agree, first_least, first_fits}
 use Rattle.hprof_rows.proofs.EachTable.{table_of_rank}
 use Rattle.hprof_heap.specs.Heap.{rows_in}
+use Rattle.hprof_heap.specs.Tables.{Differs}
 use Rattle.hprof_heap.proofs.heap.Heap.first_difference.Goals as goal
 
 -- the tables are in the order of their ranks
@@ -22,9 +24,17 @@ in_order (suc (suc (suc (suc (suc zero))))) lt = refl
 in_order (suc (suc (suc (suc (suc (suc zero)))))) lt = refl
 in_order (suc (suc (suc (suc (suc (suc (suc rank))))))) lt = absurd (omega arith)
 
-differs : (one other : HeapRows) (rank : ℕ) (found : Option ℕ) → rank < 7 → DiffersFirst (keyed rank) one other found
+differs_first : (table : Table) (one other : HeapRows) (found : Option ℕ) → Differs table one other found
+    → DiffersFirst table one other found
+differs_first Roots one other found e = record {
+  first = subst (IsFirstDifference [] []) (sym e) (λ key d. let none : None ≡ Some d.content = d.has_content in absurd cc);
+}
+differs_first table one other found first = first
+
+differs : (one other : HeapRows) (rank : ℕ) (found : Option ℕ) → rank < 7 → Differs (keyed rank) one other found
     → DiffersFirst (table_of_rank rank) one other found
-differs one other rank found lt first = subst (λ (table : Table). DiffersFirst table one other found) (in_order rank lt) first
+differs one other rank found lt first =
+    subst (λ (table : Table). DiffersFirst table one other found) (in_order rank lt) (differs_first (keyed rank) one other found first)
 
 pub key_under-requires : goal.key_under-requires
 key_under-requires c =
