@@ -5,7 +5,6 @@ use Rattle.hprof_rows.specs.Key.{has_key, key_of}
 use Rattle.hprof_rows.proofs.Keys.{is_key-true}
 use Rattle.hprof_rows.proofs.Picking.{IsPicked, found}
 use Rattle.hprof_lookup.specs.HeapFacts.{facts_of, size_of}
-use Rattle.hprof_lookup.specs.Classes.{fact_of_class}
 use Rattle.hprof_lookup.specs.ClassDump.{class_value}
 use Rattle.hprof_lookup.proofs.ClassFacts.{class_found, key_is_dump, key_dump, no_class_found}
 use Rattle.hprof_lookup.proofs.classes.find_class_near.Goals as goal

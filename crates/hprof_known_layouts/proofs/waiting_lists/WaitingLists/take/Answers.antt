@@ -1,6 +1,5 @@
-use Rattle.hprof_known_layouts.proofs.Maps.{counted-taken, waiting-updated}
-use Rattle.hprof_known_layouts.specs.declared.waiting_lists.WaitingLists.{WaitingLists}
 use Rattle.std.proofs.Common.{None}
+use Rattle.hprof_known_layouts.proofs.Maps.{counted-taken, waiting-updated}
 use Rattle.hprof_known_layouts.proofs.waiting_lists.WaitingLists.take.Goals as goal
 
 pub returns-clause-taken : goal.returns-clause-taken
