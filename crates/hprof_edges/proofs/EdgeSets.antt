@@ -5,8 +5,8 @@ use Rattle.std.proofs.lemmas.List.Elements.{Contains-append_left, Contains-push,
 use Rattle.hprof_edges.specs.declared.edge.Edge.{Edge}
 use Rattle.hprof_known_layouts.specs.declared.reference.Wanted.{Wanted}
 use Rattle.hprof_edges.specs.Collecting.{is_edge_wanted}
-use Rattle.hprof_live.specs.declared.edge_set.EdgeSet.{EdgeSet}
-use Rattle.hprof_live.specs.EdgeSet.{SetOf, edges_in, wanted_in}
+use Rattle.hprof_edges.specs.declared.edge_set.EdgeSet.{EdgeSet}
+use Rattle.hprof_edges.specs.EdgeSet.{SetOf, edges_in, wanted_in}
 
 module _ (set other : EdgeSet) (edge : Edge) (same : wanted_in other ≡ wanted_in set) where
   wants_still : (one : Edge) → is_edge_wanted (wanted_in set) one ≡ true → is_edge_wanted (wanted_in other) one ≡ true

@@ -1,6 +1,6 @@
 use Rattle.std.proofs.Common.{refl, sym, ◌∙◌}
-use Rattle.hprof_live.proofs.EdgeSets.{set_more, set_same}
-use Rattle.hprof_live.proofs.edge_set.EdgeSetCollect.put.Goals as goal
+use Rattle.hprof_edges.proofs.EdgeSets.{set_more, set_same}
+use Rattle.hprof_edges.proofs.edge_set.EdgeSetCollect.put.Goals as goal
 
 pub returns-in_ok-push-clause-holds : goal.returns-in_ok-push-clause-holds
 returns-in_ok-push-clause-holds c = λ edges of.

@@ -1,23 +1,25 @@
-//! Edges in whatever order.
+//! Edges in any order.
 
-ghost use Rattle.std.specs.Prelude.{◌≡◌, ◌↔◌, List, [], Contains};
+ghost use Rattle.std.specs.Prelude.{◌≡◌, []};
 
-use hprof_edges::{Collect, Edge};
+use crate::collect::Collect;
+use crate::edge::Edge;
 use hprof_known_layouts::Wanted;
 use std::alloc::{AllocError, Global};
 
-/// The edges to what is wanted of those that it was given, in whatever order.
+/// The edges to what is wanted, of those that were put.
 #[derive(Drop)]
-pub(crate) struct EdgeSet {
-    pub(crate) edges: Vec<Edge>,
+pub struct EdgeSet {
+    /// The edges, in any order. One that was put twice may stand there twice.
+    pub edges: Vec<Edge>,
     wanted: Wanted,
 }
 
 impl EdgeSet {
-    ghost use Rattle.hprof_live.specs.EdgeSet.{SetOf, wanted_in};
+    ghost use Rattle.hprof_edges.specs.EdgeSet.{SetOf, wanted_in};
 
-    /// A set that was given nothing. It takes no memory yet.
-    pub(crate) fn new(alloc: Global, wanted: Wanted) -> EdgeSet
+    /// Creates a set without edges, which keeps those to what is wanted. Allocates nothing.
+    pub fn new(alloc: Global, wanted: Wanted) -> EdgeSet
         ensures none { SetOf result [] }
         ensures wanted { wanted_in result ≡ wanted }
     {
@@ -31,7 +33,7 @@ impl EdgeSet {
 /// It keeps the edges to what is wanted.
 impl Collect for EdgeSet {
     ghost use Rattle.hprof_edges.specs.Collecting.{is_edge_wanted};
-    ghost use Rattle.hprof_live.specs.EdgeSet.{SetOf, set_alike, wanted_in};
+    ghost use Rattle.hprof_edges.specs.EdgeSet.{SetOf, set_alike, wanted_in};
 
     ghost holds = { SetOf };
 
