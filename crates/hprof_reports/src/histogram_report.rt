@@ -1,4 +1,4 @@
-//! The report `histo`: how many objects of each kind a heap has, and how many bytes they have.
+//! The report `histo`: the number of objects of each class and array type, and their bytes.
 
 ghost use Rattle.std.specs.Prelude.{◌≡◌, ℕ, List, IfOk, string_bytes};
 ghost use Rattle.hprof_devices.specs.declared.health.Health.TheVariants.{Well};
@@ -97,8 +97,8 @@ fn write_rows<W: Target>(
     Ok(())
 }
 
-/// Writes the report `histo`: a line for each kind of which a heap has objects, those with the most bytes first. Where it stops,
-/// at a fault or for want of memory, some of it was written, from the front.
+/// Writes the report `histo`: a line for each class and each array type that has objects, those with the most bytes first. If
+/// the writer fails or memory runs out, the bytes written are the beginning of the report.
 pub fn write_histogram<W: Target>(
     alloc: Global,
     heap: &Heap,

@@ -1,4 +1,4 @@
-//! The report `path`: how far from the roots an identifier is, and by which path they lead there.
+//! The report `path`: the distance of an identifier from the GC roots, and the shortest path to it.
 
 ghost use Rattle.std.specs.Prelude.{◌≡◌, ℕ, List, IfOk, string_bytes};
 ghost use Rattle.hprof_devices.specs.declared.health.Health.TheVariants.{Well};
@@ -69,8 +69,8 @@ fn write_reached<W: Target>(
     }
 }
 
-/// Writes the report `path` on an identifier: its distance from the roots, and then each node of its path in a line of its own,
-/// or that no root leads there. Where it stops, at a fault or for want of memory, some of it was written, from the front.
+/// Writes the report `path` on an identifier: its distance from the GC roots, then a line for each node of the shortest path,
+/// or that no root reaches it. If the writer fails or memory runs out, the bytes written are the beginning of the report.
 pub fn write_path<W: Target>(
     alloc: Global,
     heap: &Heap,
