@@ -6,7 +6,7 @@ ghost use Rattle.hprof_lookup.specs.HeapFacts.{facts_of};
 ghost use Rattle.hprof_naming.specs.Naming.{IsLabel, IsLabelOf, IsNameText, IsNaming, Naming};
 
 use hprof_heap::Heap;
-use hprof_lookup::{class_name, find_name, id_size};
+use hprof_lookup::{class_name, find_name, holds_of_heap};
 use hprof_text::printed;
 use std::alloc::{AllocError, Global};
 
@@ -24,8 +24,7 @@ pub fn name_text(alloc: Global, heap: &Heap, name: u64) -> Result<String, AllocE
     ensures named { (naming : Naming) → IsNaming (facts_of heap.now) naming
         → IfOk result (λ text. string_bytes text ≡ naming.name_text name) }
 {
-    // Facts of a heap agree: that is told with the size.
-    let _ids = id_size(heap);
+    holds_of_heap(heap);
     match find_name(heap, name) {
         Some(bytes) => printed(alloc, bytes),
         None => missing_name(alloc, name),
@@ -48,7 +47,6 @@ pub fn class_label(alloc: Global, heap: &Heap, class: u64) -> Result<String, All
     ensures named { (naming : Naming) → IsNaming (facts_of heap.now) naming
         → IfOk result (λ text. string_bytes text ≡ naming.label class) }
 {
-    // Facts of a heap agree: that is told with the size.
-    let _ids = id_size(heap);
+    holds_of_heap(heap);
     label_of(alloc, heap, class_name(heap, class))
 }

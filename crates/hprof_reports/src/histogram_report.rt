@@ -13,7 +13,7 @@ use hprof_devices::Target;
 use hprof_engine::WriteStop;
 use hprof_heap::Heap;
 use hprof_histogram::{Kind, Row, histogram};
-use hprof_lookup::id_size;
+use hprof_lookup::holds_of_heap;
 use hprof_naming::{ClassNames, label_of};
 use hprof_values::Basic;
 use std::alloc::{AllocError, Global};
@@ -63,8 +63,7 @@ fn row_line(alloc: Global, heap: &Heap, names: &ClassNames, row: &Row) -> Result
     ensures { (naming : Naming) → IsNaming (facts_of heap.now) naming
         → IfOk result (λ line. string_bytes line ≡ row_line naming row.now) }
 {
-    // Facts of a heap agree: that is told with the size.
-    let _ids = id_size(heap);
+    holds_of_heap(heap);
     let Row { kind, count, bytes } = *row;
     match kind {
         Kind::Class(class) => {
@@ -109,8 +108,7 @@ pub fn write_histogram<W: Target>(
         × WritesText (W.written target.old) (W.written target.new) result text }
     ensures health { LeavesTarget result (W.health target.new) }
 {
-    // Facts of a heap agree: that is told with the size.
-    let _ids = id_size(heap);
+    holds_of_heap(heap);
     let rows = histogram(alloc, heap)?;
     let names = ClassNames::of(alloc, heap)?;
     write_rows(alloc, heap, &names, &rows, target)

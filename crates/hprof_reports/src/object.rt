@@ -20,7 +20,7 @@ use hprof_devices::Target;
 use hprof_engine::WriteStop;
 use hprof_heap::Heap;
 use hprof_layouts::{Fields, fields};
-use hprof_lookup::{ClassDump, ObjectDump, find_class, find_object, id_size};
+use hprof_lookup::{ClassDump, ObjectDump, find_class, find_object, holds_of_heap, id_size};
 use std::alloc::{AllocError, Global};
 
 /// Writes what a class dump says.
@@ -76,8 +76,7 @@ fn write_fields<W: Target>(
         (fields_text naming (size_of heap.now) shown) }
     ensures health { LeavesTarget result (W.health target.new) }
 {
-    // Facts of a heap agree: that is told with the size.
-    let _ids = id_size(heap);
+    holds_of_heap(heap);
     match fields(alloc, heap, object)? {
         Fields::Values(values) => {
             let values = values.as_slice();
@@ -180,8 +179,7 @@ pub fn write_object<W: Target>(
         × WritesText (W.written target.old) (W.written target.new) result text }
     ensures health { LeavesTarget result (W.health target.new) }
 {
-    // Facts of a heap agree: that is told with the size.
-    let _ids = id_size(heap);
+    holds_of_heap(heap);
     let class = find_class(heap, id);
     let object = find_object(heap, id);
     write_found(alloc, heap, id, class, object, target)

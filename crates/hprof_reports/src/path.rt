@@ -13,7 +13,7 @@ use crate::lines::{write_line, write_text};
 use hprof_devices::Target;
 use hprof_engine::WriteStop;
 use hprof_heap::Heap;
-use hprof_lookup::id_size;
+use hprof_lookup::holds_of_heap;
 use hprof_reach::{Reach, reach_of};
 use std::alloc::{AllocError, Global};
 
@@ -82,8 +82,7 @@ pub fn write_path<W: Target>(
         × WritesText (W.written target.old) (W.written target.new) result text }
     ensures health { LeavesTarget result (W.health target.new) }
 {
-    // Facts of a heap agree: that is told with the size.
-    let _ids = id_size(heap);
+    holds_of_heap(heap);
     let reach = reach_of(alloc, heap)?;
     write_reached(alloc, &reach, id, target)
 }

@@ -15,7 +15,7 @@ returns-in-Values-clause-bytes g c = λ naming shown is are.
     let ids = size_of c.args.heap.now in
     let facts = facts_of c.args.heap.now in
     let found = subst (λ (why : Fields). AreFields ids facts c.args.object (fields_value why)) c.in-Values.is c.in_ok-why.ensures in
-    let same = fields_once ids facts c.args.object shown (Values c.in-Values.values.items) c.id_size-ids.ensures.agree are found in
+    let same = fields_once ids facts c.args.object shown (Values c.in-Values.values.items) c.holds_of_heap.ensures.agree are found in
     subst (λ (fields : FieldsValue). WritesText (g.W.Target.written c.args.target.now) (g.W.Target.written c.write_entries.new.target)
     c.write_entries.result (fields_text naming ids fields)) (sym same)
     (c.write_entries.ensures.bytes naming c.in-Values.values.items is c.as_slice-values.ensures.value)
@@ -36,7 +36,7 @@ returns-in_default g c = record {
       let ids = size_of c.args.heap.now in
       let facts = facts_of c.args.heap.now in
       let why = c.in_ok-why.why in
-      let same = fields_once ids facts c.args.object shown (fields_value why) c.id_size-ids.ensures.agree are c.in_ok-why.ensures in
+      let same = fields_once ids facts c.args.object shown (fields_value why) c.holds_of_heap.ensures.agree are c.in_ok-why.ensures in
       subst (λ (fields : FieldsValue). WritesText (g.W.Target.written c.args.target.now) (g.W.Target.written c.write_line.new.target) c.write_line.result (fields_text naming ids fields)) (sym same)
       (rw (no_values naming ids why c.in_default.not-Values)
       (c.write_line.ensures.bytes (why_no_fields (fields_value why)) c.no_fields_line.ensures));
