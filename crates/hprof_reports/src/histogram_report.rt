@@ -5,10 +5,11 @@ ghost use Rattle.hprof_devices.specs.declared.health.Health.TheVariants.{Well};
 ghost use Rattle.hprof_lookup.specs.HeapFacts.{facts_of, size_of};
 ghost use Rattle.hprof_naming.specs.ClassNames.{AreClassNames};
 ghost use Rattle.hprof_naming.specs.Naming.{IsNaming, Naming};
-ghost use Rattle.hprof_reports.specs.HistogramText.{IsHistogramText, array_row_line, array_word, class_row_line, row_line, rows_text};
+ghost use Rattle.hprof_reports.specs.HistogramText.{IsHistogramText, array_row_line, class_row_line, row_line, rows_text};
 ghost use Rattle.hprof_reports.specs.Stopping.{LeavesTarget, WritesText};
 
 use crate::lines::write_line;
+use crate::shown::type_word;
 use hprof_devices::Target;
 use hprof_engine::WriteStop;
 use hprof_heap::Heap;
@@ -31,30 +32,12 @@ fn class_row_line(
     format!(in alloc; "{bytes} {count} {class:x} {label}\n")
 }
 
-/// The word for arrays of that type.
-fn array_word(elem: Basic) -> &'static str
-    ensures { result.now ≡ array_word elem }
-{
-    match elem {
-        Basic::Array => "array[]",
-        Basic::Object => "object[]",
-        Basic::Boolean => "boolean[]",
-        Basic::Char => "char[]",
-        Basic::Float => "float[]",
-        Basic::Double => "double[]",
-        Basic::Byte => "byte[]",
-        Basic::Short => "short[]",
-        Basic::Int => "int[]",
-        Basic::Long => "long[]",
-    }
-}
-
 /// The line of a row of arrays of that type.
 fn array_row_line(alloc: Global, bytes: u128, count: u64, elem: Basic) -> Result<String, AllocError>
     ensures { IfOk result (λ line. string_bytes line ≡ array_row_line bytes count elem) }
 {
-    let word = array_word(elem);
-    format!(in alloc; "{bytes} {count} - {word}\n")
+    let word = type_word(elem);
+    format!(in alloc; "{bytes} {count} - {word}[]\n")
 }
 
 /// The line of a row. The error is that memory was refused.
