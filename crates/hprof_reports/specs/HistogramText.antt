@@ -21,7 +21,7 @@ class_row_line bytes count class label = line_of (decimal bytes ∷ decimal coun
 -- those of arrays of a type
 abbrev pub array_row_line : (bytes count : ℕ) → Basic → List ℕ
 array_row_line bytes count elem =
-    decimal bytes ++ codes " " ++ decimal count ++ codes " - " ++ type_word elem ++ codes "[]\n"
+    decimal bytes ++ (codes " " ++ (decimal count ++ (codes " - " ++ (type_word elem ++ codes "[]\n"))))
 
 abbrev pub kind_line : Naming → (bytes count : ℕ) → Kind → List ℕ
 kind_line naming bytes count (Class class) = class_row_line bytes count class (naming.label class)
