@@ -143,6 +143,7 @@ fn finish<A: Answers, W: Flush>(
     ensures bytes { (bytes : List ℕ) (start : Option (List ℕ)) → Heard (A.is_answer answers.now) bytes start (W.written target.old) line.now
         → Finishes (A.is_answer answers.now) bytes start (W.written target.new) result }
     ensures health { LeavesWriter result (W.health target.new) }
+    ensures flushed { OnOk result (W.flushed target.new) }
     ensures kept { A.keeps answers.now kept.new }
 {
     answer_last(alloc, answers, kept, line, target)?;
@@ -167,6 +168,7 @@ fn take_lines<A: Answers, Q: Asker<W>, W: Flush>(
     requires room { KEPT ≤ vec_capacity line.old }
     ensures dialogue { EndsDialogue (A.is_answer answers.now) Q.left Q.health Q.pulls W.written W.health
         questions.old questions.new target.old target.new result }
+    ensures flushed { OnOk result (W.flushed target.new) }
     ensures kept { A.keeps answers.now kept.new }
 {
     'turns: for _turn in 0..u64::MAX {
@@ -189,7 +191,7 @@ fn take_lines<A: Answers, Q: Asker<W>, W: Flush>(
 }
 
 /// Takes the lines of the questions and answers each, until there are no more. All answers so far are flushed before more is
-/// read. Of a line no more than its first bytes are kept.
+/// read, and all of them at the end. Of a line no more than its first bytes are kept.
 pub fn converse<A: Answers, Q: Asker<W>, W: Flush>(
     alloc: Global,
     answers: &A,
@@ -202,6 +204,7 @@ pub fn converse<A: Answers, Q: Asker<W>, W: Flush>(
     requires kept { A.keeps answers.now kept.old }
     ensures dialogue { EndsDialogue (A.is_answer answers.now) Q.left Q.health Q.pulls W.written W.health
         questions.old questions.new target.old target.new result }
+    ensures flushed { OnOk result (W.flushed target.new) }
     ensures kept { A.keeps answers.now kept.new }
 {
     let mut piece = vec![in alloc; 0u8; PIECE_LEN]?;

@@ -1,6 +1,6 @@
 //! Which nodes lead to a node.
 
-ghost use Rattle.std.specs.Prelude.{◌≡◌, ◌<◌, ◌≤◌, ◌+◌, ℕ, MatchOption, length, slice_index};
+ghost use Rattle.std.specs.Prelude.{◌≡◌, ◌<◌, ◌≤◌, ◌+◌, ℕ, IfNone, IfSome, MatchOption, length, slice_index};
 ghost use Rattle.hprof_search.specs.Numbered.{nodes_in};
 ghost use Rattle.hprof_search.specs.Numbers.{items_in};
 
@@ -41,8 +41,11 @@ impl Sources {
 
     /// Returns the node at a place, if one stands there.
     pub fn node_at(&self, place: usize) -> Option<u64>
-        ensures { (from to : ℕ) → place < end_of self.now to → number_at self.now place < length (nodes_of self.now)
+        ensures listed { (from to : ℕ) → place < end_of self.now to → number_at self.now place < length (nodes_of self.now)
             → slice_index (nodes_of self.now) (number_at self.now place) ≡ from → MatchOption result ⊥ (λ node. node ≡ from) }
+        ensures stands { IfSome result (λ node. place < length (items_in self.now.lists.items)
+            × (number_at self.now place < length (nodes_of self.now)) × (node ≡ slice_index (nodes_of self.now) (number_at self.now place))) }
+        ensures none { IfNone result (place < length (items_in self.now.lists.items) → number_at self.now place < length (nodes_of self.now) → ⊥) }
     {
         if self.lists.items.len() <= place {
             return None;
