@@ -7,6 +7,7 @@ pub mod ClassDumpEdges
 pub mod ObjectDumpEdges
 pub mod GivenEdges
 pub mod MoreFacts
+pub mod EdgeSets
 pub mod KeptEdges
 pub mod OnlyDumps
 pub mod TableEdges

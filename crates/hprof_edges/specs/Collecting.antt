@@ -1,7 +1,6 @@
 -- What collects edges was given.
-use Rattle.std.specs.Prelude.{◌≡◌, ◌↔◌, Bool, List, ◌++◌, filter, Contains}
+use Rattle.std.specs.Prelude.{◌↔◌, Bool, List, ◌++◌, Contains}
 use Rattle.hprof_edges.specs.declared.edge.Edge.{Edge}
-use Rattle.hprof_edges.specs.declared.edge_list.EdgeList.{EdgeList}
 use Rattle.hprof_known_layouts.specs.declared.reference.Wanted.{Wanted}
 use Rattle.hprof_known_layouts.specs.References.{is_wanted}
 
@@ -11,19 +10,6 @@ pub record PutBehind (holds : List Edge → Type 0) (edges : List Edge) (P : Edg
   pub holds_more : holds (edges ++ more)
   pub exact : (edge : Edge) → Contains more edge ↔ P edge
 
--- ---- a list of edges
-
 -- whether an edge is wanted, by what it refers to
 abbrev pub is_edge_wanted : Wanted → Edge → Bool
 is_edge_wanted which edge = is_wanted which edge.to
-
--- which references the list wants; the edges that it has
-abbrev pub wanted_by : EdgeList → Wanted
-wanted_by list = list.wanted
-
-abbrev pub kept_in : EdgeList → List Edge
-kept_in list = list.edges.items
-
--- the list was given these edges, and has those of them that are wanted
-abbrev pub KeepsOf : EdgeList → List Edge → Type 0
-KeepsOf list edges = kept_in list ≡ filter (is_edge_wanted (wanted_by list)) edges

@@ -7,7 +7,7 @@ use crate::edge::Edge;
 use hprof_known_layouts::Wanted;
 use std::alloc::AllocError;
 
-/// What edges are put into.
+/// A type that edges are put into.
 pub trait Collect {
     ghost use Rattle.hprof_edges.specs.declared.edge.Edge.{Edge};
 
@@ -21,11 +21,11 @@ pub trait Collect {
     ghost same_kept: { (collects : Self) (one other : List Edge) → filter (keeps collects) one ≡ filter (keeps collects) other
         → holds collects one → holds collects other };
 
-    /// Which edges it wants, by what they refer to: of others it keeps none.
+    /// Returns which edges it wants, by what they refer to. Of others it keeps none.
     fn wanted(&self) -> Wanted
         ensures { (edge : Edge) → is_wanted result edge.to ≡ false → keeps self.now edge ≡ false };
 
-    /// Takes an edge. Where memory is refused, nothing holds of it.
+    /// Takes an edge. If memory runs out, nothing holds of it.
     fn put(&mut self, edge: Edge) -> Result<(), AllocError>
         ensures holds { OnOk result ((edges : List Edge) → holds self.old edges → holds self.new (edges ++ edge ∷ [])) }
         ensures keeps { OnOk result (keeps self.new ≡ keeps self.old) };

@@ -1,6 +1,6 @@
 //! A reference from one class or object to another.
 
-/// What of a class or an object refers. Ordered as they stand here.
+/// The kind of a reference: what of the class or object refers. Ordered as they stand here.
 #[derive(Clone, Copy, Debug, PartialEq, Eq, PartialOrd, Ord)]
 pub enum Via {
     /// The class of an instance or of an array of objects.

@@ -17,8 +17,8 @@ use hprof_known_layouts::{KnownLayouts, Reference};
 use hprof_lookup::{find_object_near, id_size};
 use std::alloc::AllocError;
 
-/// Where a class dump and an object dump were found last: near it the next ones are looked for. Whatever these places are, the same is
-/// found.
+/// The places where a class dump and an object dump were found last. The next ones are looked for near them; the answers are the same
+/// for all places.
 #[derive(Clone, Copy, Debug, PartialEq, Eq)]
 pub struct Near {
     /// The place of the class dump.
@@ -60,9 +60,10 @@ fn put_of_known_object<C: Collect>(
     Ok(())
 }
 
-/// Puts all edges from an identifier into what collects them, where the layouts of the heap's classes are known. Its class dump
-/// and its object dump are looked up, near where the last ones were found. The references are room that is used again. Where memory
-/// is refused, nothing holds of what collects them.
+/// Puts all edges from an identifier into `into`. `known` has the layouts of the heap's classes.
+///
+/// Its class dump and its object dump are looked up, near where the last ones were found. `references` is room that is used again. If
+/// memory runs out, nothing holds of `into`.
 pub fn known_edges<C: Collect>(
     heap: &Heap,
     known: &KnownLayouts,
@@ -80,7 +81,7 @@ pub fn known_edges<C: Collect>(
     Ok(())
 }
 
-/// Puts all edges from an identifier that has no class dump, as [`known_edges`] does: its object dump alone is looked up, near a place.
+/// Puts all edges from an identifier that has no class dump, as [`known_edges`] does. Its object dump alone is looked up, near a place.
 pub fn known_object_edges<C: Collect>(
     heap: &Heap,
     known: &KnownLayouts,

@@ -3,7 +3,7 @@
 
 mod collect;
 mod edge;
-mod edge_list;
+mod edge_set;
 mod from_known;
 pub mod laws;
 mod of_class;
@@ -15,7 +15,7 @@ mod to_identifier;
 
 pub use collect::Collect;
 pub use edge::{Edge, Via};
-pub use edge_list::EdgeList;
+pub use edge_set::EdgeSet;
 pub use from_known::{Near, known_edges, known_object_edges};
 pub use of_class::class_edges;
 pub use of_identifier::edges_of;

@@ -13,7 +13,7 @@ use crate::putting::{put_constants, put_edge, put_statics};
 use hprof_lookup::ClassDump;
 use std::alloc::AllocError;
 
-/// The edge of a class by way of one of the identifiers that its dump has for what it belongs to.
+/// Returns the edge from a class to one of the identifiers that its dump names.
 fn named_edge(class: u64, via: Via, to: u64) -> Edge
     ensures { result ≡ record { from = class; via = via; position = 0; to = to } }
 {
@@ -38,8 +38,8 @@ fn put_named<C: Collect>(dump: &ClassDump<'_>, into: &mut C) -> Result<(), Alloc
     Ok(())
 }
 
-/// Puts the edges of a class dump into what collects them: to its superclass, its loader, its signers and its domain, and
-/// by its constants and static fields. Where memory is refused, nothing holds of what collects them.
+/// Puts the edges of a class dump into `into`: to its superclass, its loader, its signers and its domain, and by its constants and
+/// static fields. If memory runs out, nothing holds of `into`.
 pub fn class_edges<C: Collect>(dump: &ClassDump<'_>, into: &mut C) -> Result<(), AllocError>
     ensures holds { OnOk result ((edges : List Edge) → C.holds into.old edges
         → PutBehind (C.holds into.new) edges (IsClassEdge (class_value dump.now))) }

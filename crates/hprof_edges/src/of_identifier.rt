@@ -9,7 +9,7 @@ ghost use Rattle.hprof_edges.specs.Edges.{AreEdgesFrom};
 
 use crate::collect::Collect;
 use crate::edge::Edge;
-use crate::edge_list::EdgeList;
+use crate::edge_set::EdgeSet;
 use crate::of_class::class_edges;
 use crate::of_object::{array_edges, edge_to_class};
 use crate::putting::put_values;
@@ -17,7 +17,7 @@ use crate::sorting::sort_edges;
 use hprof_heap::Heap;
 use hprof_known_layouts::Wanted;
 use hprof_layouts::{Fields, fields};
-use hprof_lookup::{ObjectDump, find_class_near, find_object, id_size};
+use hprof_lookup::{ObjectDump, find_class_near, find_object, holds_of_heap};
 use std::alloc::{AllocError, Global};
 
 /// Puts the edges that the class dump of an identifier gives, if there is one.
@@ -49,8 +49,7 @@ fn put_of_fields<C: Collect>(
         → PutBehind (C.holds into.new) edges (GivenByInstance (size_of heap.now) (facts_of heap.now) id)) }
     ensures keeps { OnOk result (C.keeps into.new ≡ C.keeps into.old) }
 {
-    // Facts of a heap agree: that is told with the size.
-    let _ids = id_size(heap);
+    holds_of_heap(heap);
     let Fields::Values(values) = fields(alloc, heap, id)? else {
         return Ok(());
     };
@@ -91,15 +90,17 @@ fn put_of_object<C: Collect>(
     }
 }
 
-/// All edges from an identifier, in order, each once. Its class dump and its object dump are looked up, and the layout of
-/// its class alone is found.
+/// Returns all edges from an identifier, in order, each once.
+///
+/// Its class dump and its object dump are looked up, and the layout of its class alone is found. If memory runs out, the answer is
+/// `AllocError`.
 pub fn edges_of(alloc: Global, heap: &Heap, id: u64) -> Result<Vec<Edge>, AllocError>
     ensures { IfOk result (λ edges. AreEdgesFrom (size_of heap.now) (facts_of heap.now) id edges.items) }
 {
-    let mut list = EdgeList::new(alloc, Wanted::All);
-    put_of_class(heap, id, &mut 0, &mut list)?;
-    put_of_object(alloc, heap, id, &mut list)?;
-    let mut edges = list.into_edges();
+    let mut set = EdgeSet::new(alloc, Wanted::All);
+    put_of_class(heap, id, &mut 0, &mut set)?;
+    put_of_object(alloc, heap, id, &mut set)?;
+    let mut edges = set.edges;
     sort_edges(&mut edges);
     Ok(edges)
 }

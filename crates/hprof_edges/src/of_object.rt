@@ -19,8 +19,7 @@ use hprof_lookup::ObjectDump;
 use hprof_values::IdSize;
 use std::alloc::AllocError;
 
-/// Puts the edge of an instance or of an array of objects to its class; there is none to class 0. What collects edges is given it if
-/// it wants it.
+/// Puts the edge of an instance or of an array of objects to its class into `into`, if `into` wants it. There is none to class 0.
 #[inline(always)]
 pub fn edge_to_class<C: Collect>(object: u64, class: u64, into: &mut C) -> Result<(), AllocError>
     ensures holds { OnOk result ((edges : List Edge) → C.holds into.old edges
@@ -40,9 +39,9 @@ pub fn edge_to_class<C: Collect>(object: u64, class: u64, into: &mut C) -> Resul
     Ok(())
 }
 
-/// Puts the edges of an instance by its fields, and tells whether the layout of its class is known. Where it is not, nothing is
-/// put; nor where it has another number of bytes than these. What collects them is given those that it wants. The references are
-/// room that is used again.
+/// Puts the edges of an instance by its fields into `into`, as far as it wants them, and returns whether the layout of its class is known.
+///
+/// Nothing is put if the layout is not known, or has another number of bytes than the instance. `references` is room that is used again.
 #[inline(always)]
 pub fn field_edges<C: Collect>(
     known: &KnownLayouts,
@@ -67,8 +66,7 @@ pub fn field_edges<C: Collect>(
     Ok(true)
 }
 
-/// Puts the edges of an array of objects: to its class, and by its elements. Where memory is refused, nothing holds of what
-/// collects them.
+/// Puts the edges of an array of objects into `into`: to its class, and by its elements. If memory runs out, nothing holds of `into`.
 pub fn array_edges<C: Collect>(
     array: u64,
     class: u64,
@@ -84,9 +82,10 @@ pub fn array_edges<C: Collect>(
     Ok(())
 }
 
-/// Puts the edges of an object dump into what collects them: to its class, by the fields of an instance whose class has a
-/// known layout, by the elements of an array of objects. The references are room that is used again. Where memory is
-/// refused, nothing holds of what collects them.
+/// Puts the edges of an object dump into `into`: to its class, by the fields of an instance whose class has a known layout, by the
+/// elements of an array of objects.
+///
+/// `references` is room that is used again. If memory runs out, nothing holds of `into`.
 pub fn object_edges<C: Collect>(
     known: &KnownLayouts,
     dump: &ObjectDump<'_>,

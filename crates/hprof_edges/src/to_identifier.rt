@@ -10,7 +10,7 @@ ghost use Rattle.hprof_edges.specs.Edges.{AreReferrers, IsEdge};
 
 use crate::collect::Collect;
 use crate::edge::Edge;
-use crate::edge_list::EdgeList;
+use crate::edge_set::EdgeSet;
 use crate::of_class::class_edges;
 use crate::of_object::object_edges;
 use crate::sorting::sort_edges;
@@ -66,17 +66,19 @@ fn put_all<C: Collect>(alloc: Global, heap: &Heap, into: &mut C) -> Result<(), A
     Ok(())
 }
 
-/// All edges to an identifier, in order, each once; there are none to 0. All class dumps and object dumps are gone over
-/// once, and memory is taken for the edges and for what is kept of each class.
+/// Returns all edges to an identifier, in order, each once. There are none to 0.
+///
+/// All class dumps and object dumps are gone over once. Memory is taken for the edges and for the plan of each class; if it runs out,
+/// the answer is `AllocError`.
 pub fn referrers(alloc: Global, heap: &Heap, id: u64) -> Result<Vec<Edge>, AllocError>
     ensures { IfOk result (λ edges. AreReferrers (size_of heap.now) (facts_of heap.now) id edges.items) }
 {
     if id == 0 {
         return Ok(Vec::new(alloc));
     }
-    let mut list = EdgeList::new(alloc, Wanted::To(id));
-    put_all(alloc, heap, &mut list)?;
-    let mut edges = list.into_edges();
+    let mut set = EdgeSet::new(alloc, Wanted::To(id));
+    put_all(alloc, heap, &mut set)?;
+    let mut edges = set.edges;
     sort_edges(&mut edges);
     Ok(edges)
 }

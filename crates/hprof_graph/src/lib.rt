@@ -9,5 +9,5 @@ pub mod laws;
 pub use hprof_edges::{Edge, Via, edges_of, referrers};
 pub use hprof_histogram::{Kind, Row, histogram};
 pub use hprof_layouts::{FieldValue, Fields, Layout, Slot, fields, layout};
-pub use hprof_live::{Index, IndexedHeap, Live, LiveHeap};
+pub use hprof_live::{Index, Live, LiveHeap};
 pub use hprof_reach::{Reach, reach_of as reach};

@@ -3,7 +3,7 @@
 use crate::expecting::equal;
 use crate::samples::{CLASS_100, heap_of};
 use hprof_edges::{
-    Collect, Edge, EdgeList, Via, class_edges, edge_to_class, field_edges, object_edges, sort_edges,
+    Collect, Edge, EdgeSet, Via, class_edges, edge_to_class, field_edges, object_edges, sort_edges,
 };
 use hprof_known_layouts::{Wanted, known_layouts};
 use hprof_lookup::{find_class, find_object};
@@ -29,15 +29,15 @@ fn lists(rt: HostRuntime) -> Result<(), Fail> {
         edge(1, Via::Fixed, 1, 3),
         edge(2, Via::Class, 0, 1),
     ];
-    let mut all = EdgeList::new(rt.alloc(), Wanted::All);
-    let mut wanted = EdgeList::new(rt.alloc(), Wanted::To(3));
+    let mut all = EdgeSet::new(rt.alloc(), Wanted::All);
+    let mut wanted = EdgeSet::new(rt.alloc(), Wanted::To(3));
     for place in [3, 1, 4, 0, 2, 1, 4] {
         all.put(edges[place])?;
         wanted.put(edges[place])?;
     }
     let kept = [edges[3], edges[1], edges[1]];
-    equal(&rt, wanted.edges(), kept.as_slice());
-    let mut sorted = all.into_edges();
+    equal(&rt, wanted.edges.as_slice(), kept.as_slice());
+    let mut sorted = all.edges;
     equal(&rt, sorted.len(), 7);
     sort_edges(&mut sorted);
     equal(&rt, sorted.as_slice(), edges.as_slice());
@@ -57,7 +57,7 @@ fn edges_of_rows(rt: HostRuntime) -> Result<(), Fail> {
     let heap = heap_of(rt.alloc(), &[CLASS_100, NARROW_99, NARROW_200])?;
     let known = known_layouts(rt.alloc(), &heap)?;
     let mut references = Vec::new(rt.alloc());
-    let mut list = EdgeList::new(rt.alloc(), Wanted::All);
+    let mut list = EdgeSet::new(rt.alloc(), Wanted::All);
     let ids = IdSize::Four;
     if let (Some(class), Some(object)) = (find_class(&heap, 100), find_object(&heap, 200)) {
         class_edges(&class, &mut list)?;
@@ -74,6 +74,6 @@ fn edges_of_rows(rt: HostRuntime) -> Result<(), Fail> {
         edge(300, Via::Class, 0, 100),
         edge(300, Via::Field, 1, 201),
     ];
-    equal(&rt, list.edges(), edges.as_slice());
+    equal(&rt, list.edges.as_slice(), edges.as_slice());
     Ok(())
 }

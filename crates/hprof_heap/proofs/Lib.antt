@@ -6,5 +6,6 @@ pub mod Gathering
 pub mod Told
 pub mod Joins
 pub mod TableOrder
+pub mod TableRows
 pub mod JoinTables
 pub mod JoinHeaps

@@ -20,8 +20,8 @@ states_ids (Err f) heap new fact s e = ap (λ (h : HeapValue). h.ids) e
 
 -- a heap that keeps its size stays that of the size that was begun last
 pub steady_after : (old : Option Heap) (heap new : Heap) (begun : Option IdSize) (two : Bool) → IsSteady old begun two → old ≡ Some heap
-    → new.ids ≡ heap.ids → IsSteady (Some new) begun two
+    → new.tables.ids ≡ heap.tables.ids → IsSteady (Some new) begun two
 steady_after old heap new begun true steady e same = tt
 steady_after old heap new begun false steady e same =
-    let begun-is : begun ≡ Some heap.ids = subst (λ (o : Option Heap). IsSteady o begun false) e steady in
+    let begun-is : begun ≡ Some heap.tables.ids = subst (λ (o : Option Heap). IsSteady o begun false) e steady in
     begun-is ∙ ap (λ (ids : IdSize). Some ids) (sym same)

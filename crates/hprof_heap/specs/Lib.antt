@@ -1,4 +1,5 @@
 pub mod State
+pub mod Tables
 pub mod Heap
 pub mod ClassName
 pub mod Steady

@@ -9,7 +9,7 @@ use Rattle.hprof_heap.specs.declared.heap.Heap.{Heap}
 abbrev pub IsSteady : Option Heap → Option IdSize → Bool → Type 0
 IsSteady heap begun true = ⊤
 IsSteady None begun false = begun ≡ None
-IsSteady (Some heap) begun false = begun ≡ Some heap.ids
+IsSteady (Some heap) begun false = begun ≡ Some heap.tables.ids
 
 -- it has at most one proof
 pub IsSteady-prop : (heap : Option Heap) (begun : Option IdSize) (two : Bool) → IsProp (IsSteady heap begun two)

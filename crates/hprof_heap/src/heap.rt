@@ -8,15 +8,11 @@ ghost use Rattle.hprof_rows.specs.Key.{has_key};
 ghost use Rattle.hprof_rows.specs.HeapRows.{AreHeap, AreHeap-prop, HaveSameRecords, HaveSameSubs};
 ghost use Rattle.hprof_rows.specs.HeapValue.{IsHeap};
 ghost use Rattle.hprof_rows.specs.Order.{IsCanonicalOrder};
-ghost use Rattle.hprof_tables.specs.Relation.{rows_of};
-ghost use Rattle.hprof_rows.specs.RootSet.{roots_of};
-ghost use Rattle.hprof_tables.specs.BytesTable.{byte_rows};
+ghost use Rattle.hprof_heap.specs.Tables.{rows_in_tables};
 
+use crate::tables::Tables;
 use hprof_items::Fact;
-use hprof_rows::{
-    Facts, FrameRow, KeyRow, LoadRow, RootSet, StartRow, SubRows, Table, TableRows, TraceRow,
-    kept_fact, spelled_fact,
-};
+use hprof_rows::{Facts, RootSet, SubRows, Table, kept_fact, spelled_fact};
 use hprof_tables::{BytesTable, Relation};
 use hprof_values::IdSize;
 use std::alloc::Global;
@@ -28,38 +24,13 @@ mod stating;
 /// A size of identifiers, a time, and a set of facts in which no key has two contents.
 #[derive(Drop)]
 pub struct Heap {
-    ids: IdSize,
-    millis: u64,
-    names: BytesTable,
-    loads: Relation<LoadRow>,
-    unloads: Relation<KeyRow>,
-    frames: Relation<FrameRow>,
-    traces: Relation<TraceRow>,
-    starts: Relation<StartRow>,
-    ends: Relation<KeyRow>,
-    roots: RootSet,
-    classes: BytesTable,
-    objects: BytesTable,
-    ghost sound: { AreHeap (record {
-      ids = ids;
-      millis = millis;
-      names = byte_rows names;
-      loads = rows_of loads;
-      unloads = rows_of unloads;
-      frames = rows_of frames;
-      traces = rows_of traces;
-      starts = rows_of starts;
-      ends = rows_of ends;
-      roots = roots_of roots;
-      classes = byte_rows classes;
-      objects = byte_rows objects;
-    }) } by { AreHeap-prop _ },
+    tables: Tables,
+    ghost sound: { AreHeap (rows_in_tables tables) } by { AreHeap-prop _ },
 }
 
 impl Heap {
     ghost use Rattle.hprof_rows.specs.Tables.{facts_of_table};
     ghost use Rattle.hprof_heap.specs.Heap.{heap_of, rows_in};
-    ghost use Rattle.hprof_rows.specs.TableRows.{AreReadable, facts_in_rows};
     ghost use Rattle.hprof_heap.specs.ClassName.{NamesClass};
     ghost use Rattle.hprof_rows.specs.FactsLeft.{facts_left, facts_ids};
     ghost use Rattle.hprof_rows.specs.SubFacts.{sub_facts};
@@ -70,18 +41,20 @@ impl Heap {
         ensures { heap_of result ≡ record { ids = ids; millis = millis; facts = [] } }
     {
         Heap {
-            ids,
-            millis,
-            names: BytesTable::new(alloc),
-            loads: Relation::new(alloc),
-            unloads: Relation::new(alloc),
-            frames: Relation::new(alloc),
-            traces: Relation::new(alloc),
-            starts: Relation::new(alloc),
-            ends: Relation::new(alloc),
-            roots: RootSet::new(alloc),
-            classes: BytesTable::new(alloc),
-            objects: BytesTable::new(alloc),
+            tables: Tables {
+                ids,
+                millis,
+                names: BytesTable::new(alloc),
+                loads: Relation::new(alloc),
+                unloads: Relation::new(alloc),
+                frames: Relation::new(alloc),
+                traces: Relation::new(alloc),
+                starts: Relation::new(alloc),
+                ends: Relation::new(alloc),
+                roots: RootSet::new(alloc),
+                classes: BytesTable::new(alloc),
+                objects: BytesTable::new(alloc),
+            },
         }
     }
 
@@ -89,7 +62,7 @@ impl Heap {
     pub(crate) fn keep_earlier(&mut self, millis: u64)
         ensures { heap_of self.new ≡ record (heap_of self.old) { millis = min (heap_of self.old).millis millis } }
     {
-        self.millis = self.millis.min(millis);
+        self.tables.millis = self.tables.millis.min(millis);
     }
 
     /// The size of its identifiers.
@@ -98,21 +71,21 @@ impl Heap {
         // What every heap keeps: its facts have spellings, and stand in order, each key once.
         ensures sound { IsHeap (heap_of self.now) }
     {
-        self.ids
+        self.tables.ids
     }
 
     /// Its time: milliseconds since 1 January 1970, 0:00 GMT.
     pub fn millis(&self) -> u64
         ensures { result ≡ (heap_of self.now).millis }
     {
-        self.millis
+        self.tables.millis
     }
 
     /// The name with that identifier.
     pub fn name(&self, id: u64) -> Option<Fact<'_>>
         ensures { option_map value_of result ≡ find (has_key (keys.Name id)) (heap_of self.now).facts }
     {
-        let text = self.names.get(id)?;
+        let text = self.tables.names.get(id)?;
         Some(Fact::Name { id, text })
     }
 
@@ -120,7 +93,7 @@ impl Heap {
     pub fn load(&self, serial: u32) -> Option<Fact<'_>>
         ensures { option_map value_of result ≡ find (has_key (keys.Load serial)) (heap_of self.now).facts }
     {
-        let row = self.loads.get(serial as u64)?;
+        let row = self.tables.loads.get(serial as u64)?;
         Some(row.fact(serial))
     }
 
@@ -128,7 +101,7 @@ impl Heap {
     pub fn class_name(&self, class: u64) -> Option<u64>
         ensures { NamesClass (heap_of self.now).facts class result }
     {
-        for (_serial, row) in self.loads.rows() {
+        for (_serial, row) in self.tables.loads.rows() {
             if row.class == class {
                 return Some(row.name);
             }
@@ -140,7 +113,7 @@ impl Heap {
     pub fn frame(&self, id: u64) -> Option<Fact<'_>>
         ensures { option_map value_of result ≡ find (has_key (keys.Frame id)) (heap_of self.now).facts }
     {
-        let row = self.frames.get(id)?;
+        let row = self.tables.frames.get(id)?;
         Some(row.fact(id))
     }
 
@@ -148,7 +121,7 @@ impl Heap {
     pub fn thread(&self, serial: u32) -> Option<Fact<'_>>
         ensures { option_map value_of result ≡ find (has_key (keys.Thread serial)) (heap_of self.now).facts }
     {
-        let row = self.starts.get(serial as u64)?;
+        let row = self.tables.starts.get(serial as u64)?;
         Some(row.fact(serial))
     }
 
@@ -157,8 +130,8 @@ impl Heap {
         ensures value { option_map value_of result ≡ find (has_key (keys.Trace serial)) (heap_of self.now).facts }
         ensures lists { IfSome result (ListsHave (heap_of self.now).ids) }
     {
-        let row = self.traces.get(serial as u64)?;
-        Some(row.fact(serial, self.ids))
+        let row = self.tables.traces.get(serial as u64)?;
+        Some(row.fact(serial, self.tables.ids))
     }
 
     /// The class with that identifier.
@@ -177,8 +150,8 @@ impl Heap {
         ensures value { option_map value_of result ≡ find (has_key (keys.Class id)) (heap_of self.now).facts }
         ensures lists { IfSome result (ListsHave (heap_of self.now).ids) }
     {
-        let bytes = self.classes.get_near(id, near)?;
-        Some(spelled_fact(bytes, self.ids))
+        let bytes = self.tables.classes.get_near(id, near)?;
+        Some(spelled_fact(bytes, self.tables.ids))
     }
 
     /// The instance or the array with that identifier.
@@ -196,27 +169,8 @@ impl Heap {
         ensures value { option_map value_of result ≡ find (has_key (keys.Object id)) (heap_of self.now).facts }
         ensures lists { IfSome result (ListsHave (heap_of self.now).ids) }
     {
-        let kept = self.objects.get_near(id, near)?;
-        Some(kept_fact(id, kept, self.ids))
-    }
-
-    /// The rows of a table.
-    fn table_rows(&self, table: Table) -> TableRows<'_>
-        ensures all { facts_in_rows (heap_of self.now).ids result ≡ facts_of_table table (heap_of self.now).facts }
-        ensures readable { AreReadable (heap_of self.now).ids result }
-    {
-        match table {
-            Table::Names => TableRows::Names(self.names.rows()),
-            Table::Loads => TableRows::Loads(self.loads.rows()),
-            Table::Unloads => TableRows::Unloads(self.unloads.rows()),
-            Table::Frames => TableRows::Frames(self.frames.rows()),
-            Table::Traces => TableRows::Traces(self.traces.rows()),
-            Table::Starts => TableRows::Starts(self.starts.rows()),
-            Table::Ends => TableRows::Ends(self.ends.rows()),
-            Table::Roots => TableRows::Roots(self.roots.iter()),
-            Table::Classes => TableRows::Classes(self.classes.rows()),
-            Table::Objects => TableRows::Objects(self.objects.rows()),
-        }
+        let kept = self.tables.objects.get_near(id, near)?;
+        Some(kept_fact(id, kept, self.tables.ids))
     }
 
     /// The facts of a table, in canonical order, each borrowed from the heap.
@@ -225,7 +179,7 @@ impl Heap {
         ensures ordered { IsCanonicalOrder (facts_left result) }
         ensures ids { facts_ids result ≡ (heap_of self.now).ids }
     {
-        Facts::new(self.ids, self.table_rows(table))
+        Facts::new(self.tables.ids, self.tables.rows(table))
     }
 
     /// The sub-records, in canonical order, as they are kept.
@@ -234,10 +188,10 @@ impl Heap {
         ensures ids { subs_ids result ≡ (heap_of self.now).ids }
     {
         SubRows::new(
-            self.ids,
-            self.roots.iter(),
-            self.classes.rows(),
-            self.objects.rows(),
+            self.tables.ids,
+            self.tables.roots.iter(),
+            self.tables.classes.rows(),
+            self.tables.objects.rows(),
         )
     }
 
@@ -245,55 +199,44 @@ impl Heap {
     pub(crate) fn same_records(&self, other: &Heap) -> bool
         ensures { IsTrue result ↔ HaveSameRecords (rows_in self.now) (rows_in other.now) }
     {
-        self.names.same(&other.names)
-            && self.loads.same(&other.loads)
-            && self.unloads.same(&other.unloads)
-            && self.frames.same(&other.frames)
-            && self.traces.same(&other.traces)
-            && self.starts.same(&other.starts)
-            && self.ends.same(&other.ends)
+        self.tables.names.same(&other.tables.names)
+            && self.tables.loads.same(&other.tables.loads)
+            && self.tables.unloads.same(&other.tables.unloads)
+            && self.tables.frames.same(&other.tables.frames)
+            && self.tables.traces.same(&other.tables.traces)
+            && self.tables.starts.same(&other.tables.starts)
+            && self.tables.ends.same(&other.tables.ends)
     }
 
     /// Whether both have the same rows of sub-records.
     pub(crate) fn same_subs(&self, other: &Heap) -> bool
         ensures { IsTrue result ↔ HaveSameSubs (rows_in self.now) (rows_in other.now) }
     {
-        self.roots.same(&other.roots)
-            && self.classes.same(&other.classes)
-            && self.objects.same(&other.objects)
+        self.tables.roots.same(&other.tables.roots)
+            && self.tables.classes.same(&other.tables.classes)
+            && self.tables.objects.same(&other.tables.objects)
     }
 
     /// The number of facts in a table.
     pub fn len(&self, table: Table) -> usize
         ensures { result ≡ length (facts_of_table table (heap_of self.now).facts) }
     {
-        match table {
-            Table::Names => self.names.len(),
-            Table::Loads => self.loads.len(),
-            Table::Unloads => self.unloads.len(),
-            Table::Frames => self.frames.len(),
-            Table::Traces => self.traces.len(),
-            Table::Starts => self.starts.len(),
-            Table::Ends => self.ends.len(),
-            Table::Roots => self.roots.len(),
-            Table::Classes => self.classes.len(),
-            Table::Objects => self.objects.len(),
-        }
+        self.tables.len(table)
     }
 
     /// The number of its facts.
     pub fn count(&self) -> u128
         ensures { result ≡ length (heap_of self.now).facts }
     {
-        self.names.len() as u128
-            + self.loads.len() as u128
-            + self.unloads.len() as u128
-            + self.frames.len() as u128
-            + self.traces.len() as u128
-            + self.starts.len() as u128
-            + self.ends.len() as u128
-            + self.roots.len() as u128
-            + self.classes.len() as u128
-            + self.objects.len() as u128
+        self.tables.names.len() as u128
+            + self.tables.loads.len() as u128
+            + self.tables.unloads.len() as u128
+            + self.tables.frames.len() as u128
+            + self.tables.traces.len() as u128
+            + self.tables.starts.len() as u128
+            + self.tables.ends.len() as u128
+            + self.tables.roots.len() as u128
+            + self.tables.classes.len() as u128
+            + self.tables.objects.len() as u128
     }
 }

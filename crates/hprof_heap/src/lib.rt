@@ -8,6 +8,7 @@ mod heap;
 mod join_refusal;
 pub mod laws;
 mod standing;
+mod tables;
 
 pub use comparing::same;
 pub use gather::Gather;

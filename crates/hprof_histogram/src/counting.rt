@@ -11,11 +11,11 @@ use crate::counted_kinds::CountedKinds;
 use crate::row::Kind;
 use hprof_heap::{Heap, Table};
 use hprof_items::Fact;
-use hprof_lookup::{id_size, table_facts, table_len};
+use hprof_lookup::{holds_of_heap, id_size, table_facts};
 use hprof_values::IdSize;
 use std::alloc::{AllocError, Global};
 
-/// How many bytes these are.
+/// Returns the number of bytes.
 #[inline(always)]
 fn size_of_bytes(bytes: &[u8]) -> u128
     ensures { result ≡ length bytes.now }
@@ -23,7 +23,7 @@ fn size_of_bytes(bytes: &[u8]) -> u128
     bytes.len() as u128
 }
 
-/// The kind of an object, and how many bytes it has.
+/// Returns the kind of an object and the number of its bytes, or `None` for a fact that is no object dump.
 #[inline(always)]
 fn object_of(fact: &Fact<'_>, ids: IdSize) -> Option<(Kind, u128)>
     ensures kind { option_map (λ object. object.0) result ≡ object_kind (value_of fact.now) }
@@ -49,8 +49,8 @@ pub(crate) fn count_objects(alloc: Global, heap: &Heap) -> Result<CountedKinds, 
     ensures { IfOk result (IsTally (size_of heap.now) (facts_of heap.now)) }
 {
     let ids = id_size(heap);
-    // How many objects there are fits a number: that is told with their count.
-    let _objects = table_len(heap, Table::Objects);
+    // A number can count the objects.
+    holds_of_heap(heap);
     let mut tally = CountedKinds::new(alloc);
     let mut facts = table_facts(heap, Table::Objects);
     let mut fact = Fact::End { thread: 0 };

@@ -37,7 +37,8 @@ fn push_row(rows: &mut Vec<Row>, kind: Kind, counted: Counted) -> Result<(), All
 
 /// Puts the rows of classes behind others.
 fn push_classes(rows: &mut Vec<Row>, classes: &HintedMap<Counted>) -> Result<(), AllocError>
-    ensures { OnOk result (rows.new.items ≡ rows.old.items ++ filter has_objects (class_rows (rows_in classes.now))) }
+    ensures rows { OnOk result (rows.new.items ≡ rows.old.items ++ filter has_objects (class_rows (rows_in classes.now))) }
+    ensures apart { OnOk result (IsDistinct nat_eq (keys_in classes.now)) }
 {
     for row in classes.rows() {
         push_row(rows, Kind::Class(row.0), row.1)?;
@@ -55,15 +56,14 @@ fn push_types(rows: &mut Vec<Row>, types: &[Counted; TYPES]) -> Result<(), Alloc
     Ok(())
 }
 
-/// The rows of what was counted: those of classes, and then those of types.
+/// Returns the rows of what was counted: those of classes, and then those of types.
 pub(crate) fn rows_of(alloc: Global, tally: &CountedKinds) -> Result<Vec<Row>, AllocError>
     ensures rows { IfOk result (λ rows. rows.items ≡ filter has_objects (class_rows (rows_in tally.now.classes))
         ++ filter has_objects (type_rows tally.now.types element_types)) }
-    ensures apart { IsDistinct nat_eq (keys_in tally.now.classes) }
+    // Each class stands there once.
+    ensures apart { OnOk result (IsDistinct nat_eq (keys_in tally.now.classes)) }
 {
     let most = tally.classes.len() + ELEMENT_TYPES.len();
-    // Each class stands there once: that is told with the rows.
-    let _classes = tally.classes.rows();
     let mut rows = Vec::with_capacity(alloc, most)?;
     push_classes(&mut rows, &tally.classes)?;
     push_types(&mut rows, &tally.types)?;

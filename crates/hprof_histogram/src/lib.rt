@@ -1,4 +1,4 @@
-//! The histogram of a heap: how many objects of each kind it has, and how many bytes they have.
+//! The class histogram of a heap: the number of objects of each kind, and the number of their bytes.
 #![tactic(auto)]
 
 mod counted;

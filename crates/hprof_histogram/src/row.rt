@@ -11,13 +11,13 @@ pub enum Kind {
     Prim(Basic),
 }
 
-/// How many objects of a kind there are.
+/// The objects of a kind: their number, and the number of their bytes.
 #[derive(Clone, Copy, Debug, PartialEq, Eq)]
 pub struct Row {
     /// Their kind.
     pub kind: Kind,
     /// Their number, which is not 0.
     pub count: u64,
-    /// How many bytes their fields and elements have.
+    /// The number of bytes of their fields and elements.
     pub bytes: u128,
 }

@@ -11,7 +11,8 @@ use Rattle.hprof_known_layouts.specs.declared.own_fields.OwnLayout.{OwnLayout}
 use Rattle.hprof_known_layouts.specs.declared.plan.Plan.{Plan}
 use Rattle.hprof_known_layouts.specs.Known.{AreWoken, HasDumpMore, HasLayout, Knows, plan_of, waiting_below}
 use Rattle.hprof_known_layouts.specs.OwnFields.{IsOwn}
-use Rattle.hprof_known_layouts.specs.Waking.{CanWake, IsWaking, PlansStand, Wakes, Woke, put}
+use Rattle.hprof_known_layouts.specs.Waking.{CanWake, IsWaking, PlansStand, Wakes, Woke}
+use Rattle.hprof_known_layouts.specs.WaitingLists.{put}
 use Rattle.hprof_known_layouts.proofs.KnownPlans.{known_ready, knows_standing, not_both, standing_knows}
 use Rattle.hprof_known_layouts.proofs.Outlines.{known_zero}
 use Rattle.hprof_known_layouts.proofs.Wakings.{stands_open, stands_waiting, stands_zero, woke_none}

@@ -13,7 +13,8 @@ use Rattle.hprof_known_layouts.specs.declared.known.Waiting.{Waiting}
 use Rattle.hprof_known_layouts.specs.declared.plan.Plan.{Plan}
 use Rattle.hprof_known_layouts.specs.Known.{plan_of, waiting_below}
 use Rattle.hprof_known_layouts.specs.Plan.{IsPlanBelow}
-use Rattle.hprof_known_layouts.specs.Waking.{CanWake, IsWaking, PlansStand, Wakes, Woke, put}
+use Rattle.hprof_known_layouts.specs.Waking.{CanWake, IsWaking, PlansStand, Wakes, Woke}
+use Rattle.hprof_known_layouts.specs.WaitingLists.{put}
 use Rattle.hprof_known_layouts.proofs.Wakings.{first_unplanned, put-put, put-same, stands_without, stands_woken, woke_more}
 
 module _ (ids : IdSize) (facts : List FactValue) (before : ℕ → Option Plan) (class : ℕ) (pending old : List ℕ) where

@@ -22,7 +22,8 @@ use Rattle.hprof_known_layouts.specs.declared.plan.Plan.{Plan}
 use Rattle.hprof_known_layouts.specs.Known.{HasDumpMore, HasPlan, IsOnceEach, IsWaiting, Waits}
 use Rattle.hprof_known_layouts.specs.OwnFields.{IsOwn}
 use Rattle.hprof_known_layouts.specs.Plan.{IsOutline, IsPlan, IsPlanBelow, outline_at}
-use Rattle.hprof_known_layouts.specs.Waking.{IsPlanned, CanWake, PlansStand, Woke, put}
+use Rattle.hprof_known_layouts.specs.Waking.{IsPlanned, CanWake, PlansStand, Woke}
+use Rattle.hprof_known_layouts.specs.WaitingLists.{put}
 use Rattle.hprof_known_layouts.proofs.KnownPlans.{There, Nowhere, look, not_both}
 use Rattle.hprof_known_layouts.proofs.MoreDumps.{plan_stays, waiting_stays}
 use Rattle.hprof_known_layouts.proofs.Outlines.{known_zero, outline_is}

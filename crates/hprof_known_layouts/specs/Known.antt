@@ -1,9 +1,6 @@
 -- What known layouts know.
-use Rattle.std.specs.Prelude.{◌≡◌, ◌≢◌, ◌⊎◌, ◌↔◌, ℕ, List, [], map, nat_eq, Option, Some, Contains}
+use Rattle.std.specs.Prelude.{◌≡◌, ◌≢◌, ◌⊎◌, ◌↔◌, ℕ, List, map, nat_eq, Option, Some, Contains}
 use Rattle.std.specs.List.{IsDistinct}
-use Rattle.std.specs.Option.{option_map_or}
-use Rattle.std.specs.Ordering.{nat_cmp}
-use Rattle.std.specs.BTreeMap.{get}
 use Rattle.hprof_tables.specs.HintedMap.{value_in}
 use Rattle.hprof_values.specs.declared.ids.IdSize.{IdSize}
 use Rattle.hprof_items.specs.FactValue.{FactValue}
@@ -16,6 +13,7 @@ use Rattle.hprof_known_layouts.specs.declared.plan.Outline.{Outline}
 use Rattle.hprof_known_layouts.specs.declared.plan.Plan.{Plan}
 use Rattle.hprof_known_layouts.specs.OwnFields.{IsOwn}
 use Rattle.hprof_known_layouts.specs.Plan.{IsPlan, NoTwoDumps, outline_at}
+use Rattle.hprof_known_layouts.specs.WaitingLists.{waiting_for}
 
 -- the layout of the class is known
 abbrev pub HasLayout : List FactValue → ℕ → Type 0
@@ -33,7 +31,7 @@ plan_of known class = value_in known.plans class
 
 -- the classes that wait for their superclass
 abbrev pub waiting_below : KnownLayouts → ℕ → List Waiting
-waiting_below known superclass = option_map_or (λ list. list.items) (get nat_cmp known.waiting superclass) []
+waiting_below known = waiting_for known.waiting
 
 -- with that laying the instances of the class begins
 abbrev pub IsOutlineOf : KnownLayouts → ℕ → Outline → Type 0

@@ -1,4 +1,5 @@
 pub mod Refers
+pub mod WaitingLists
 pub mod OwnFields
 pub mod Plan
 pub mod Known

@@ -1,7 +1,6 @@
 -- What stands while classes that wait are woken.
-use Rattle.std.specs.Prelude.{◌≡◌, ◌≢◌, ◌⊎◌, ◌==◌, ◌++◌, ℕ, List, nat_eq, Option, Some, None, Contains, if◌then◌else◌, sum_by, length}
+use Rattle.std.specs.Prelude.{◌≡◌, ◌≢◌, ◌⊎◌, ◌++◌, ℕ, List, nat_eq, Option, Some, None, Contains}
 use Rattle.std.specs.List.{IsDistinct}
-use Rattle.std.specs.BTreeMap.{values}
 use Rattle.hprof_values.specs.declared.ids.IdSize.{IdSize}
 use Rattle.hprof_items.specs.FactValue.{FactValue}
 use Rattle.hprof_lookup.specs.Classes.{ClassValue, HasDump}
@@ -10,10 +9,7 @@ use Rattle.hprof_known_layouts.specs.declared.known.KnownLayouts.{KnownLayouts}
 use Rattle.hprof_known_layouts.specs.declared.known.Waiting.{Waiting}
 use Rattle.hprof_known_layouts.specs.declared.plan.Plan.{Plan}
 use Rattle.hprof_known_layouts.specs.Known.{HasPlan, IsWaiting, Waits, IsOnceEach, plan_of, waiting_below}
-
--- a function with another value at a place
-abbrev pub put : {X : Type 0} → (ℕ → X) → ℕ → X → ℕ → X
-put f place value at = if place == at then value else f at
+use Rattle.hprof_known_layouts.specs.WaitingLists.{number_in}
 
 -- there is a plan of the class
 abbrev pub IsPlanned : (ℕ → Option Plan) → ℕ → Type 0
@@ -60,6 +56,6 @@ pub record Wakes (ids : IdSize) (facts : List FactValue) (before : ℕ → Optio
   pub woken_are : new ≡ old ++ more
   pub waking : IsWaking ids facts before known new (pending ++ more)
 
--- how many wait
+-- the number of classes that wait
 abbrev pub number_waiting : KnownLayouts → ℕ
-number_waiting known = sum_by (λ list. length list.items) (values known.waiting)
+number_waiting known = number_in known.waiting

@@ -10,20 +10,20 @@ ghost use Rattle.hprof_lookup.specs.Classes.{HasNoDump};
 ghost use Rattle.hprof_layouts.specs.declared.slot.Slot.{Slot};
 ghost use Rattle.hprof_layouts.specs.Fields.{width_of_slots};
 ghost use Rattle.hprof_known_layouts.specs.declared.plan.Plan.{Plan};
-ghost use Rattle.hprof_known_layouts.specs.Known.{ArePlans, AreWoken, HasDumpMore, HasLayout, IsOutlineOf, Knows, plan_of, waiting_below};
+ghost use Rattle.hprof_known_layouts.specs.Known.{ArePlans, AreWoken, HasDumpMore, HasLayout, IsOutlineOf, Knows, plan_of};
 ghost use Rattle.hprof_known_layouts.specs.OwnFields.{references_in};
 ghost use Rattle.hprof_known_layouts.specs.Plan.{IsJump, IsOutline, IsPlan, IsPlanBelow};
 ghost use Rattle.hprof_known_layouts.specs.References.{AreWanted, wanted_of};
-ghost use Rattle.hprof_known_layouts.specs.Waking.{CanWake, IsWaking, Wakes, number_waiting, put};
+ghost use Rattle.hprof_known_layouts.specs.Waking.{CanWake, IsWaking, Wakes, number_waiting};
 
 use crate::own_fields::{OwnLayout, own_fields};
 use crate::plan::{Jump, Outline, Plan};
 use crate::reference::{Reference, Wanted};
+use crate::waiting_lists::WaitingLists;
 use hprof_lookup::ClassDump;
 use hprof_tables::HintedMap;
 use hprof_values::IdSize;
 use std::alloc::{AllocError, Global};
-use std::collections::BTreeMap;
 
 /// A class that came, and whose layout is not known.
 #[derive(Drop)]
@@ -34,24 +34,24 @@ struct Waiting {
     own: OwnLayout,
 }
 
-/// Of each class whose layout is known, what laying its instances needs. A class that came waits until the layout of its
-/// superclass is known.
+/// The plan of each class whose layout is known, with which its instances are laid. A class that came waits until the layout of
+/// its superclass is known.
 #[derive(Drop)]
 pub struct KnownLayouts {
     alloc: Global,
     plans: HintedMap<Plan>,
-    waiting: BTreeMap<u64, Vec<Waiting>>,
+    waiting: WaitingLists<Waiting>,
 }
 
 impl KnownLayouts {
-    /// The layouts that are known where no class came. It takes no memory yet.
+    /// Creates what is known of no classes. Allocates nothing.
     pub fn new(alloc: Global) -> KnownLayouts
         ensures { (ids : IdSize) → Knows ids [] result }
     {
         KnownLayouts {
             alloc,
             plans: HintedMap::new(alloc),
-            waiting: BTreeMap::new(alloc),
+            waiting: WaitingLists::new(alloc),
         }
     }
 
@@ -71,7 +71,7 @@ impl KnownLayouts {
         class == 0 || self.plans.contains_key(class)
     }
 
-    /// The outline of the layout of a class, if it is known: those of the classes below it are made with it.
+    /// Returns the outline of the layout of a class, if it is known: the plans of the classes below it are made with it.
     fn outline(&self, class: u64) -> Option<Outline>
         ensures some { IfSome result (λ outline. IsOutlineOf self.now class outline) }
         ensures ready { IfNone result (CanWake (plan_of self.now) class → ⊥) }
@@ -83,7 +83,7 @@ impl KnownLayouts {
         }
     }
 
-    /// The plan of a class that was put in at that place. Whatever the place is, the same is found.
+    /// Returns the plan of a class, and looks for it at that place first. The answer is the same for every place.
     #[inline(always)]
     fn plan_at(&self, class: u64, at: usize) -> Option<&Plan>
         ensures { option_copied result ≡ plan_of self.now class }
@@ -94,8 +94,9 @@ impl KnownLayouts {
         }
     }
 
-    /// Takes a class dump that came, the first of its class, where identifiers have that size. It gives the classes whose
-    /// layouts become known by it, each once. The error is that memory was refused; nothing holds then of what is kept.
+    /// Takes a class dump, the first of its class, and returns the classes whose layouts become known by it, each once.
+    ///
+    /// Identifiers have the size `ids`. If memory runs out, nothing holds of what is kept.
     pub fn come(&mut self, dump: &ClassDump<'_>, ids: IdSize) -> Result<Vec<u64>, AllocError>
         ensures ok { OnOk result ((facts more : List FactValue) → Knows ids facts self.old → HasNoDump facts dump.now.id
             → HasDumpMore facts (class_value dump.now) more → Knows ids more self.new) }
@@ -108,7 +109,13 @@ impl KnownLayouts {
             return Ok(woken);
         }
         let own = own_fields(self.alloc, dump, ids)?;
-        self.wait(dump.parent, dump.id, own)?;
+        self.waiting.add(
+            dump.parent,
+            Waiting {
+                class: dump.id,
+                own,
+            },
+        )?;
         if self.is_ready(dump.parent) {
             self.wake_below(dump.parent, &mut woken)?;
             self.wake_all(&mut woken)?;
@@ -116,23 +123,7 @@ impl KnownLayouts {
         Ok(woken)
     }
 
-    /// Lets a class wait for its superclass.
-    fn wait(&mut self, superclass: u64, class: u64, own: OwnLayout) -> Result<(), AllocError>
-        ensures waits { OnOk result (waiting_below self.new ≡ put (waiting_below self.old) superclass
-            (waiting_below self.old superclass ++ record { class = class; own = own } ∷ [])) }
-        ensures plans { plan_of self.new ≡ plan_of self.old }
-    {
-        let mut list = match self.waiting.remove(&superclass) {
-            None => Vec::new(self.alloc),
-            Some(list) => list,
-        };
-        list.push(Waiting { class, own })?;
-        self.waiting.insert(superclass, list)?;
-        Ok(())
-    }
-
-    /// The plan of a class with these own fields, below a class of that outline. It is put in at that place. The error is
-    /// that memory was refused.
+    /// Returns the plan of a class with these own fields, below a class of that outline. It is put in at that place.
     fn make_plan(&self, outline: Outline, at: usize, own: OwnLayout) -> Result<Plan, AllocError>
         ensures { IfOk result (λ plan. (ids : IdSize) (facts : List FactValue) (slots : List Slot) → ArePlans ids facts (plan_of self.now)
             → IsOutline ids facts slots outline → IsPlanBelow ids facts slots own plan) }
@@ -148,7 +139,7 @@ impl KnownLayouts {
         Ok(plan)
     }
 
-    /// Makes plans of the classes that wait for a class that has one, and puts them behind other classes.
+    /// Makes plans of the classes that wait for a class that has one, and puts these classes behind `woken`.
     fn wake_below(&mut self, class: u64, woken: &mut Vec<u64>) -> Result<(), AllocError>
         ensures ok { OnOk result ((ids : IdSize) (facts : List FactValue) (before : ℕ → Option Plan) (pending : List ℕ)
             → CanWake (plan_of self.old) class → IsWaking ids facts before self.old woken.old.items (class ∷ pending)
@@ -158,7 +149,7 @@ impl KnownLayouts {
         let Some(outline) = self.outline(class) else {
             return Ok(());
         };
-        let Some(waiting) = self.waiting.remove(&class) else {
+        let Some(waiting) = self.waiting.take(class) else {
             return Ok(());
         };
         for Waiting { class: below, own } in waiting {
@@ -184,7 +175,7 @@ impl KnownLayouts {
         Ok(())
     }
 
-    /// The plan of the class that a jump goes to, where the fields that it keeps together lie within so many bytes.
+    /// Returns the plan of the class that a jump goes to, if the fields that the plan keeps together lie within `room` bytes.
     #[inline(always)]
     fn landing(&self, jump: Jump, room: usize) -> Option<&Plan>
         ensures plan { IfSome result (λ plan. plan_of self.now jump.class ≡ Some plan.now) }
@@ -201,8 +192,8 @@ impl KnownLayouts {
         Some(plan)
     }
 
-    /// Puts what slots refer to behind other references, as far as it is wanted. The bytes are their values, so many fields stand
-    /// before them, and none of them refers to anything before the class that the jump goes to.
+    /// Puts what slots refer to behind other references, as far as it is wanted. The bytes are the values of the slots, and `place`
+    /// fields stand before them. None of the slots refers to anything before the class that the jump goes to.
     fn lay_above(
         &self,
         first: Jump,
@@ -237,7 +228,7 @@ impl KnownLayouts {
     }
 
     /// Puts what an instance refers to behind other references, as far as it is wanted. Its class has the plan, and its slots
-    /// these bytes.
+    /// have these bytes.
     #[inline(always)]
     fn lay_plan(
         &self,
@@ -263,10 +254,11 @@ impl KnownLayouts {
         Ok(())
     }
 
-    /// Puts what an instance of a class refers to that has these bytes, as far as it is wanted, in the place of other
-    /// references, in the order of its fields, and tells whether the layout of the class is known. Where it is not, or has
-    /// another number of bytes, there is nothing. The class is looked up once. The error is that memory was refused; nothing
-    /// holds then of the references.
+    /// Sets `references` to what an instance of the class refers to, as far as it is wanted, and returns whether the layout of the
+    /// class is known.
+    ///
+    /// `bytes` are the instance's, and the references come in the order of its fields. There are none if the layout is not known, or has
+    /// another number of bytes. The class is looked up once. If memory runs out, nothing holds of the references.
     #[inline(always)]
     pub fn lay(
         &self,

@@ -7,7 +7,9 @@ mod of_heap;
 mod own_fields;
 mod plan;
 mod reference;
+mod waiting_lists;
 
 pub use known::KnownLayouts;
 pub use of_heap::known_layouts;
 pub use reference::{Reference, Wanted, refers};
+pub use waiting_lists::WaitingLists;

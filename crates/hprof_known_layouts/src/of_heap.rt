@@ -9,8 +9,8 @@ use hprof_heap::{Heap, Table};
 use hprof_lookup::{id_size, table_facts, to_class_dump};
 use std::alloc::{AllocError, Global};
 
-/// The layouts of the classes of a heap that are known, by one pass over its class dumps. The error is that memory was
-/// refused.
+/// Returns the layouts of a heap's classes that are known, in one pass over its class dumps. If memory runs out, the answer is
+/// `AllocError`.
 pub fn known_layouts(alloc: Global, heap: &Heap) -> Result<KnownLayouts, AllocError>
     ensures { IfOk result (Knows (size_of heap.now) (facts_of heap.now)) }
 {

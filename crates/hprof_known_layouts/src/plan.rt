@@ -1,4 +1,54 @@
-//! What is kept of a class whose layout is known.
+//! Plans: what laying the instances of a class needs, once its layout is known.
+//!
+//! The *layout* of a class is the list of its slots: its own fields, then those of its superclass, and so on. To *lay* an instance is to
+//! find the references among its bytes by the layout of its class. The *plan* of a class lists where they are, so that laying costs the
+//! references of the instance, and neither its classes nor its fields. A *jump* names the next class above that has own fields that refer
+//! to something, and the bytes and fields that lie before them. The *outline* of a class is what the plans of its subclasses need of it.
+//!
+//! # Example
+//!
+//! Identifiers have 4 bytes. The dumps of three classes come from the top down:
+//!
+//! ```text
+//! class C           { Object c; }
+//! class B extends C { byte b; }
+//! class A extends B { int x; Object a; }
+//! ```
+//!
+//! The layout of A has 13 bytes. Each slot has its place in it, and its offset in the bytes of an instance:
+//!
+//! ```text
+//! place   0     1     2     3
+//! slot    x     a     b     c
+//! offset  0     4     8     9
+//! ```
+//!
+//! The plan of each class, in the order in which they are made, and its outline. `own` is written {width, count, references}, a reference
+//! (offset, place), and a jump {class, at, offset, place}:
+//!
+//! ```text
+//!    at  width  own                          above           outline: width, first
+//! C   0      4  {4, 1, [(0, 0)]}             none                     4, jump {C, 0, 0, 0}
+//! B   1      5  {1, 1, []}                   {C, 0, 0, 0}             5, jump {C, 0, 1, 1}
+//! A   2     13  {13, 4, [(4, 1), (9, 3)]}    none                    13, jump {A, 2, 0, 0}
+//! ```
+//!
+//! - [`Plan::below`] makes the plan of B of its own fields and the outline of C. B has no reference, so `above` is the jump to C: 0 bytes
+//!   and 0 fields behind B's own.
+//! - [`Plan::outline`] of B gives the same jump from before B's own fields: 1 byte and 1 field further.
+//! - [`Plan::below`] gives A its own fields {8, 2, [(4, 1)]} and, as `above`, the jump of B's outline. [`Plan::join`] then keeps the fields
+//!   of C's plan together with them: `c` lies behind 8 + 1 bytes and 2 + 1 fields, and nothing is left above. It does so if the plan has a
+//!   reference already, and the two have at most 32.
+//!
+//! Instances are laid by `KnownLayouts::lay`:
+//!
+//! - An instance of A has 13 bytes. A's plan alone lays it: the identifiers at the offsets 4 and 9 are its references, by the fields at the
+//!   places 1 and 3.
+//! - An instance of B has 5 bytes. B's own byte refers to nothing, so `lay_plan` cuts it off, and goes on with the jump {C, 0, 0, 0} and
+//!   the 4 bytes that are left. `landing` gives the plan of C, whose 4 bytes lie within them. `lay_above` takes the identifier at its
+//!   offset 0 for the reference by the field at the place 1 + 0.
+//! - If A and C had more than 32 references, A's plan would keep {8, 2, ..} with the jump {C, 0, 1, 1}: `lay_above` would skip the byte and
+//!   the field of B behind A's own 8 bytes, and lay C's behind them.
 
 ghost use Rattle.std.specs.Prelude.{◌≡◌, ℕ, List, Some, OnOk};
 ghost use Rattle.hprof_values.specs.declared.ids.IdSize.{IdSize};
@@ -9,25 +59,25 @@ ghost use Rattle.hprof_known_layouts.specs.Plan.{IsPlan, NoTwoDumps, jump_behind
 use crate::own_fields::OwnLayout;
 use std::alloc::AllocError;
 
-/// A class that has own fields that refer to something, and what lies before its own fields.
+/// Where laying goes on: a class that has own fields that refer to something, and what lies before its own fields.
 #[derive(Clone, Copy, Debug, PartialEq, Eq)]
 pub(crate) struct Jump {
     /// The class.
     pub(crate) class: u64,
-    /// The place of its plan. It speeds a look-up alone.
+    /// The place of its plan, which only speeds up finding it.
     pub(crate) at: usize,
-    /// How many bytes lie before; the greatest number stands for all from it on.
+    /// The number of bytes before them; `usize::MAX` stands for all numbers from it on.
     pub(crate) offset: usize,
-    /// How many fields lie before; the greatest number stands for all from it on.
+    /// The number of fields before them; `u64::MAX` stands for all numbers from it on.
     pub(crate) place: u64,
 }
 
-/// What the classes below a class need of its layout.
+/// What the plans of the classes below a class need of its layout.
 #[derive(Clone, Copy, Debug, PartialEq, Eq)]
 pub(crate) struct Outline {
-    /// How many bytes all slots have; the greatest number stands for all from it on.
+    /// The number of bytes of all slots; `u128::MAX` stands for all numbers from it on.
     pub(crate) width: u128,
-    /// The first class along the chain that has own fields that refer to something.
+    /// The first class along the chain of superclasses that has own fields that refer to something.
     pub(crate) first: Option<Jump>,
 }
 
@@ -36,17 +86,17 @@ pub(crate) struct Outline {
 pub(crate) struct Plan {
     /// The place at which it is put in.
     pub(crate) at: usize,
-    /// How many bytes all slots have; the greatest number stands for all from it on.
+    /// The number of bytes of all slots; `u128::MAX` stands for all numbers from it on.
     pub(crate) width: u128,
-    /// Its own fields, and those of classes above it so far as they are kept together with them.
+    /// Its own fields, and those of the classes above it that are kept together with them.
     pub(crate) own: OwnLayout,
-    /// The first class above those that has own fields that refer to something. What lies before is counted from behind
-    /// all those fields on.
+    /// The first class above those that has own fields that refer to something. Its bytes and fields before are counted from the end of
+    /// `own`.
     pub(crate) above: Option<Jump>,
 }
 
 impl Jump {
-    /// The same class from own fields of so many bytes on that stand before.
+    /// Returns the jump to the same class from before these own fields.
     fn behind(self, own: &OwnLayout) -> Jump
         ensures { result ≡ jump_behind own.now self }
     {
@@ -60,7 +110,7 @@ impl Jump {
 }
 
 impl Outline {
-    /// That of a layout that has no slots.
+    /// Returns the outline of a layout without slots.
     pub(crate) fn of_nothing() -> Outline
         ensures { result ≡ no_outline }
     {
@@ -72,7 +122,7 @@ impl Outline {
 }
 
 impl Plan {
-    /// The plan of a class with these own fields, below a class. It is put in at that place.
+    /// Returns the plan of a class with these own fields, below a class of that outline. It is put in at that place.
     pub(crate) fn below(outline: Outline, at: usize, own: OwnLayout) -> Plan
         ensures { result ≡ plan_below outline at own }
     {
@@ -84,8 +134,8 @@ impl Plan {
         }
     }
 
-    /// Keeps the fields of the plan that it jumps to, and those between, together with its own, where few of all refer to
-    /// something. The error is that memory was refused; nothing holds then of the plan.
+    /// Keeps the fields of the plan that it jumps to, and those between, together with its own, if few of all refer to something.
+    /// If memory runs out, nothing holds of the plan.
     pub(crate) fn join(&mut self, jump: Jump, above: &Plan) -> Result<(), AllocError>
         ensures { OnOk result ((ids : IdSize) (facts : List FactValue) (class : ℕ) (slots others : List Slot) → NoTwoDumps facts
             → IsPlan ids facts class slots self.old → self.old.above ≡ Some jump → IsPlan ids facts jump.class others above.now
@@ -99,7 +149,7 @@ impl Plan {
         Ok(())
     }
 
-    /// What the classes below the class need.
+    /// Returns what the plans of the classes below the class need.
     pub(crate) fn outline(&self, class: u64) -> Outline
         ensures { result ≡ outline_of class self.now }
     {

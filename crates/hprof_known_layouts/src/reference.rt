@@ -25,7 +25,7 @@ pub enum Wanted {
 }
 
 impl Wanted {
-    /// Whether a reference to that is wanted.
+    /// Returns whether a reference to that identifier is wanted.
     #[inline(always)]
     pub fn wants(self, to: u64) -> bool
         ensures { result ≡ is_wanted self to }
@@ -37,7 +37,7 @@ impl Wanted {
     }
 }
 
-/// Whether the values of the type are identifiers, so that a field of it refers to something.
+/// Returns whether the values of the type are identifiers, so that a field of it refers to something.
 pub fn refers(basic: Basic) -> bool
     ensures { result ≡ refers basic }
 {

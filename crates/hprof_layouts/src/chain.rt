@@ -10,7 +10,7 @@ use hprof_lookup::{find_class, table_len};
 /// Where the chain of a class ends.
 #[derive(Clone, Copy, Debug, PartialEq, Eq)]
 pub(crate) enum ChainEnd {
-    /// At 0, after so many classes.
+    /// At 0, after this number of classes.
     Zero(usize),
     /// At a class that has no dump.
     Missing(u64),
@@ -23,12 +23,12 @@ pub(crate) enum ChainEnd {
 struct Mark {
     /// The class.
     class: u64,
-    /// How many classes were passed before it.
+    /// The number of classes that were passed before it.
     before: usize,
 }
 
 impl Mark {
-    /// The mark behind so many classes: each time twice as many were passed, the class that was come to. So a circle is found
+    /// Returns the mark behind `passed` classes: each time twice as many were passed, the class that was come to. So a circle is found
     /// within a few rounds of it, and none of its classes is looked up more often.
     fn behind(self, passed: usize, at: u64) -> Mark
         ensures { (result.class ≡ self.class) ⊎ (result.class ≡ at) }
@@ -43,8 +43,8 @@ impl Mark {
     }
 }
 
-/// Where the chain of a class ends. It takes no memory: a chain that comes to a mark again is a circle, and so is one that is
-/// longer than there are class dumps.
+/// Returns where the chain of a class ends. A chain that comes to a mark again is a circle, and so is one that is longer than the number
+/// of class dumps. Nothing is allocated.
 pub(crate) fn chain_end(heap: &Heap, class: u64) -> ChainEnd
     ensures { EndsAs (facts_of heap.now) class result }
 {

@@ -25,7 +25,7 @@ fn push_own_slots(slots: &mut Vec<Slot>, dump: &ClassDump<'_>) -> Result<(), All
     Ok(())
 }
 
-/// The slots of a class whose chain comes to 0 after so many classes.
+/// Returns the slots of a class whose chain of superclasses comes to 0 after `count` classes.
 fn slots_along(
     alloc: Global,
     heap: &Heap,
@@ -47,7 +47,8 @@ fn slots_along(
     Ok(slots)
 }
 
-/// The layout of a class. Where it is not known no memory is taken. The error is that memory was refused.
+/// Returns the layout of a class, or why it has none. Memory is taken for a known layout alone; if it runs out, the answer is
+/// `AllocError`.
 pub fn layout(alloc: Global, heap: &Heap, class: u64) -> Result<Layout, AllocError>
     ensures { IfOk result (λ layout. IsLayout (facts_of heap.now) class (layout_value layout)) }
 {

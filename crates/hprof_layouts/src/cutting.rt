@@ -9,7 +9,7 @@ use hprof_values::IdSize;
 use hprof_values::number::bits_at;
 use std::alloc::{AllocError, Global};
 
-/// How many bytes the values of slots have.
+/// Returns the number of bytes of the values of slots.
 pub(crate) fn width_of_slots(slots: &[Slot], ids: IdSize) -> u128
     ensures { result ≡ width_of_slots ids slots.now }
 {
@@ -20,7 +20,7 @@ pub(crate) fn width_of_slots(slots: &[Slot], ids: IdSize) -> u128
     width
 }
 
-/// The values of slots that fill the bytes.
+/// Returns the values of slots that fill the bytes.
 pub(crate) fn cut(
     alloc: Global,
     slots: &[Slot],

@@ -24,7 +24,7 @@ pub enum Fields {
     Missing(u64),
     /// The superclasses of its class run in a circle.
     Cyclic,
-    /// The slots of its class have so many bytes, and the instance another number.
+    /// The slots of its class have this number of bytes, and the instance another one.
     WidthDiffers(u128),
     /// The object is an array.
     NotAnInstance,

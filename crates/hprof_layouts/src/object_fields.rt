@@ -12,7 +12,7 @@ use hprof_heap::Heap;
 use hprof_lookup::{ObjectDump, find_object, id_size};
 use std::alloc::{AllocError, Global};
 
-/// The fields of an instance of a class that has these bytes.
+/// Returns the fields of an instance of a class that has these bytes.
 fn instance_fields(
     alloc: Global,
     heap: &Heap,
@@ -36,7 +36,7 @@ fn instance_fields(
     }
 }
 
-/// The fields of an object. The error is that memory was refused.
+/// Returns the fields of an object with their values, or why it has none. If memory runs out, the answer is `AllocError`.
 pub fn fields(alloc: Global, heap: &Heap, object: u64) -> Result<Fields, AllocError>
     ensures { IfOk result (λ fields. AreFields (size_of heap.now) (facts_of heap.now) object (fields_value fields)) }
 {

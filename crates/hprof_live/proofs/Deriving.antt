@@ -10,15 +10,15 @@ use Rattle.hprof_rows.specs.Facts.{Has}
 use Rattle.hprof_known_layouts.specs.declared.reference.Reference.{Reference}
 use Rattle.hprof_known_layouts.specs.Known.{HasLayout, Knows}
 use Rattle.hprof_known_layouts.proofs.Wakings.{distinct_push}
+use Rattle.hprof_known_layouts.specs.WaitingLists.{waiting_for}
 use Rattle.hprof_edges.specs.declared.edge.Edge.{Edge}
 use Rattle.hprof_edges.specs.Collecting.{PutBehind}
 use Rattle.hprof_edges.specs.DumpEdges.{IsFieldEdge}
 use Rattle.hprof_edges.proofs.PutTogether.{nothing_there}
+use Rattle.hprof_edges.specs.declared.edge_set.EdgeSet.{EdgeSet}
+use Rattle.hprof_edges.specs.EdgeSet.{SetOf}
 use Rattle.hprof_live.specs.declared.derived.Derived.{Derived}
-use Rattle.hprof_live.specs.declared.edge_set.EdgeSet.{EdgeSet}
 use Rattle.hprof_live.specs.Derived.{CanBeLaid, IsDerived, IsDeriving, IsEdgeSoFar, stopped}
-use Rattle.hprof_live.specs.EdgeSet.{SetOf}
-use Rattle.hprof_live.specs.Waiting.{waiting_of}
 use Rattle.hprof_live.proofs.EdgesSoFar.{with_fields}
 
 -- edges behind others
@@ -135,7 +135,7 @@ same_set ids facts derived set same is =
 -- ---- no facts
 
 pub derives_nothing : (ids : IdSize) (derived : Derived) → Knows ids [] derived.known → SetOf derived.set []
-    → ((class : ℕ) → waiting_of derived.waiting class ≡ []) → derived.cuts ≡ 0 → derived.instances ≡ 0 → IsDerived ids [] derived
+    → ((class : ℕ) → waiting_for derived.waiting class ≡ []) → derived.cuts ≡ 0 → derived.instances ≡ 0 → IsDerived ids [] derived
 unfolding IsDistinct
 derives_nothing ids derived knows set_of none cuts instances = record {
   laid = [];

@@ -15,22 +15,21 @@ use Rattle.hprof_lookup.specs.Classes.{ClassValue, HasDump, HasNoDump, fact_of_c
 use Rattle.hprof_known_layouts.specs.declared.known.KnownLayouts.{KnownLayouts}
 use Rattle.hprof_known_layouts.specs.declared.reference.Reference.{Reference}
 use Rattle.hprof_known_layouts.specs.Known.{AreWoken, HasDumpMore, HasLayout, Knows}
-use Rattle.hprof_known_layouts.specs.Waking.{put}
+use Rattle.hprof_known_layouts.specs.WaitingLists.{put, waiting_for}
 use Rattle.hprof_known_layouts.proofs.KnownPlans.{knows_same}
 use Rattle.hprof_known_layouts.proofs.MoreDumps.{known_stays}
 use Rattle.hprof_known_layouts.proofs.Wakings.{distinct_push, put-here, put-other}
+use Rattle.hprof_known_layouts.specs.declared.waiting_lists.WaitingLists.{WaitingLists}
 use Rattle.hprof_edges.specs.declared.edge.Edge.{Edge}
 use Rattle.hprof_edges.specs.Collecting.{PutBehind}
 use Rattle.hprof_edges.specs.DumpEdges.{IsClassEdge, IsEdgeToClass, IsElementEdge}
 use Rattle.hprof_edges.proofs.PutTogether.{put_nothing}
 use Rattle.hprof_edges.proofs.TableEdges.{GivesByClass}
+use Rattle.hprof_edges.specs.declared.edge_set.EdgeSet.{EdgeSet}
+use Rattle.hprof_edges.specs.EdgeSet.{SetOf}
 use Rattle.hprof_lookup.proofs.ClassFacts.{dump_in}
 use Rattle.hprof_live.specs.declared.derived.Derived.{Derived}
-use Rattle.hprof_live.specs.declared.edge_set.EdgeSet.{EdgeSet}
-use Rattle.hprof_live.specs.declared.waiting.WaitingInstances.{WaitingInstances}
 use Rattle.hprof_live.specs.Derived.{IsOther, AddsFact, GivesSoFar, HasLaid, IsDerived, IsDeriving, IsEdgeSoFar, IsInstance, IsInstanceOf}
-use Rattle.hprof_live.specs.EdgeSet.{SetOf}
-use Rattle.hprof_live.specs.Waiting.{waiting_of}
 use Rattle.hprof_live.proofs.Deriving.{appended, stopped_more}
 use Rattle.hprof_live.proofs.EdgesSoFar.{with_fact}
 use Rattle.hprof_live.proofs.Instances.{instance_stays, instance_was, laid_stays, layout_or_not, one_class, agreed, stays, was_or_is, is_there}
@@ -275,7 +274,7 @@ module _ (ids : IdSize) (before facts : List FactValue) (instance trace class : 
       ],
     )
 
-    waits_still : (of other : ℕ) → Contains (waiting_of derived.waiting of) other
+    waits_still : (of other : ℕ) → Contains (waiting_for derived.waiting of) other
         ↔ (IsInstanceOf facts other of × (Contains (is.laid ++ instance ∷ []) other → ⊥))
     waits_still of other = (
       λ there.
@@ -349,17 +348,17 @@ module _ (ids : IdSize) (before facts : List FactValue) (instance trace class : 
     }
 
     -- or it waits
-    module _ (unknown : HasLayout facts class → ⊥) (references : Vec Reference Global) (waiting : WaitingInstances)
-        (waits : waiting_of waiting ≡ put (waiting_of derived.waiting) class (waiting_of derived.waiting class ++ instance ∷ [])) where
-      here : (of : ℕ) → of ≡ class → waiting_of waiting of ≡ waiting_of derived.waiting class ++ instance ∷ []
+    module _ (unknown : HasLayout facts class → ⊥) (references : Vec Reference Global) (waiting : WaitingLists ℕ)
+        (waits : waiting_for waiting ≡ put (waiting_for derived.waiting) class (waiting_for derived.waiting class ++ instance ∷ [])) where
+      here : (of : ℕ) → of ≡ class → waiting_for waiting of ≡ waiting_for derived.waiting class ++ instance ∷ []
       here of same =
           ap (λ (w : ℕ → List ℕ). w of) waits
-          ∙ put-here (waiting_of derived.waiting) class (waiting_of derived.waiting class ++ instance ∷ []) of same
+          ∙ put-here (waiting_for derived.waiting) class (waiting_for derived.waiting class ++ instance ∷ []) of same
 
-      elsewhere : (of : ℕ) → of ≢ class → waiting_of waiting of ≡ waiting_of derived.waiting of
+      elsewhere : (of : ℕ) → of ≢ class → waiting_for waiting of ≡ waiting_for derived.waiting of
       elsewhere of apart =
           ap (λ (w : ℕ → List ℕ). w of) waits
-          ∙ put-other (waiting_of derived.waiting) class (waiting_of derived.waiting class ++ instance ∷ []) of apart
+          ∙ put-other (waiting_for derived.waiting) class (waiting_for derived.waiting class ++ instance ∷ []) of apart
 
       is_class : (other : ℕ) → IsInstanceOf facts instance other → other ≡ class
       is_class other is_of = one_class facts adds.agree instance other class is_of is_one
@@ -367,9 +366,9 @@ module _ (ids : IdSize) (before facts : List FactValue) (instance trace class : 
       abbrev Waits : ℕ → ℕ → Type 0
       Waits of other = IsInstanceOf facts other of × (Contains is.laid other → ⊥)
 
-      waits_here : (other : ℕ) → Contains (waiting_of derived.waiting class ++ instance ∷ []) other ↔ Waits class other
+      waits_here : (other : ℕ) → Contains (waiting_for derived.waiting class ++ instance ∷ []) other ↔ Waits class other
       waits_here other = (
-        λ there. elim (Contains-push_cases (waiting_of derived.waiting class) instance other there) [
+        λ there. elim (Contains-push_cases (waiting_for derived.waiting class) instance other there) [
           | inl earlier ↦
               let was = (is.deriving_is.waits class other).0 earlier in
               (instance_stays before comer facts adds other class was.0, was.1)
@@ -379,14 +378,14 @@ module _ (ids : IdSize) (before facts : List FactValue) (instance trace class : 
           )
         ],
         λ both. elim (this_or_earlier other class both.0) [
-          | inl same ↦ subst (Contains (waiting_of derived.waiting class ++ instance ∷ [])) (sym same)
-              (Contains-push (waiting_of derived.waiting class) instance)
-          | inr had ↦ Contains-append_left (waiting_of derived.waiting class) (instance ∷ []) other
+          | inl same ↦ subst (Contains (waiting_for derived.waiting class ++ instance ∷ [])) (sym same)
+              (Contains-push (waiting_for derived.waiting class) instance)
+          | inr had ↦ Contains-append_left (waiting_for derived.waiting class) (instance ∷ []) other
               ((is.deriving_is.waits class other).1 (had, both.1))
         ],
       )
 
-      waits_elsewhere : (of other : ℕ) → of ≢ class → Contains (waiting_of derived.waiting of) other ↔ Waits of other
+      waits_elsewhere : (of other : ℕ) → of ≢ class → Contains (waiting_for derived.waiting of) other ↔ Waits of other
       waits_elsewhere of other apart = (
         λ there.
             let was = (is.deriving_is.waits of other).0 there in
@@ -397,18 +396,18 @@ module _ (ids : IdSize) (before facts : List FactValue) (instance trace class : 
         ],
       )
 
-      wait_now : (of other : ℕ) → Contains (waiting_of waiting of) other ↔ Waits of other
+      wait_now : (of other : ℕ) → Contains (waiting_for waiting of) other ↔ Waits of other
       wait_now of other = elim (cases_eq of class) [
         | inl same ↦ subst (λ (l : List ℕ). Contains l other ↔ Waits of other) (sym (here of same))
-            (subst (λ (c : ℕ). Contains (waiting_of derived.waiting class ++ instance ∷ []) other ↔ Waits c other) (sym same)
+            (subst (λ (c : ℕ). Contains (waiting_for derived.waiting class ++ instance ∷ []) other ↔ Waits c other) (sym same)
             (waits_here other))
         | inr apart ↦ subst (λ (l : List ℕ). Contains l other ↔ Waits of other) (sym (elsewhere of apart)) (waits_elsewhere of other apart)
       ]
 
-      wait_once : (of : ℕ) → IsDistinct nat_eq (waiting_of waiting of)
+      wait_once : (of : ℕ) → IsDistinct nat_eq (waiting_for waiting of)
       wait_once of = elim (cases_eq of class) [
         | inl same ↦ subst (IsDistinct nat_eq) (sym (here of same))
-            (distinct_push (waiting_of derived.waiting class) instance (is.deriving_is.waits_once class)
+            (distinct_push (waiting_for derived.waiting class) instance (is.deriving_is.waits_once class)
             (λ there. was_none class ((is.deriving_is.waits class instance).0 there).0))
         | inr apart ↦ subst (IsDistinct nat_eq) (sym (elsewhere of apart)) (is.deriving_is.waits_once of)
       ]

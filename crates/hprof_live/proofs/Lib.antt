@@ -1,5 +1,4 @@
 pub mod Members
-pub mod EdgeSets
 pub mod ByTargetOrder
 pub mod MovedBehind
 pub mod Instances

@@ -1,5 +1,5 @@
 -- What a live heap comes to, as headers and facts are given.
-use Rattle.std.specs.Prelude.{◌≢◌}
+use Rattle.std.specs.Prelude.{◌≢◌, IfOk}
 use Rattle.std.specs.Option.{option_map}
 use Rattle.std.specs.Result.{result_ok}
 use Rattle.std.proofs.Common.{◌≡◌, Bool, true, false, not, cond, min, ◌||◌, List, [], Option, Some, None, Result, Ok, Err, Bor, refl, sym, ap, subst}
@@ -28,6 +28,7 @@ use Rattle.hprof_live.specs.declared.live_heap.LiveHeap.{LiveHeap}
 use Rattle.hprof_live.specs.Derived.{AddsFact, IsDerived, keeps_of}
 use Rattle.hprof_live.specs.LiveHeap.{BeginsLive, IsAnswer, IsCurrent, IsDerivedOf, IsKindOf, LendsHeap, TakesLive}
 use Rattle.hprof_live.specs.LiveHeap.{outcome_of, seen_by}
+use Rattle.hprof_live.specs.Mapped.{MapsTo}
 
 -- ---- a fault
 
@@ -102,15 +103,47 @@ is_lent (Err refusal) heap e = absurd cc
 
 -- ---- answers
 
--- what holds of any facts is answered of those so far
-pub answer_any : {X : Type 0} (P : IdSize → List FactValue → X → Type 0) (outcome : Result HeapValue Refusal) (lent : Option (Bor Heap))
-    (answer : X) → LendsHeap outcome (lives.Is lent) → ((ids : IdSize) (facts : List FactValue) → P ids facts answer)
-    → IsAnswer P outcome (lives.Is answer)
-answer_any P (Ok value) lent answer lends all = all value.ids value.facts
-answer_any P (Err refusals.NoParts) lent answer lends all = λ ids. all ids []
-answer_any P (Err refusals.IdSizes) lent answer lends all = lends
-answer_any P (Err (refusals.Conflict key)) lent answer lends all = lends
-answer_any P (Err refusals.Failed) lent answer lends all = lends
+-- what a function gives of the heap that is lent is answered of the facts so far
+module _ {X : Type 0} (P : IdSize → List FactValue → X → Type 0) (gives : Option (Bor Heap) → X → Type 0)
+    (some : (heap : Bor Heap) (x : X) → gives (Some heap) x → P (size_of heap.now) (facts_of heap.now) x)
+    (none : (x : X) → gives None x → (ids : IdSize) → P ids [] x) where
+  pub answer_mapped : (outcome : Result HeapValue Refusal) (lent : Live (Option (Bor Heap))) (answer : Live X) → LendsHeap outcome lent
+      → MapsTo gives lent answer → IsAnswer P outcome answer
+  answer_mapped (Ok value) (lives.Is (Some heap)) (lives.Is x) lends maps =
+      subst (λ (ids : IdSize). P ids value.facts x) lends.0
+      (subst (λ (facts : List FactValue). P (size_of heap.now) facts x) lends.1 (some heap x maps))
+  answer_mapped (Ok value) (lives.Is (Some heap)) lives.InConflict lends maps = maps
+  answer_mapped (Ok value) (lives.Is (Some heap)) lives.Failed lends maps = maps
+  answer_mapped (Ok value) (lives.Is None) answer lends maps = absurd lends
+  answer_mapped (Ok value) lives.InConflict answer lends maps = absurd lends
+  answer_mapped (Ok value) lives.Failed answer lends maps = absurd lends
+  answer_mapped (Err refusals.NoParts) (lives.Is None) (lives.Is x) lends maps = none x maps
+  answer_mapped (Err refusals.NoParts) (lives.Is None) lives.InConflict lends maps = maps
+  answer_mapped (Err refusals.NoParts) (lives.Is None) lives.Failed lends maps = maps
+  answer_mapped (Err refusals.NoParts) (lives.Is (Some heap)) answer lends maps = absurd lends
+  answer_mapped (Err refusals.NoParts) lives.InConflict answer lends maps = absurd lends
+  answer_mapped (Err refusals.NoParts) lives.Failed answer lends maps = absurd lends
+  answer_mapped (Err refusals.IdSizes) (lives.Is lent) answer lends maps = absurd lends
+  answer_mapped (Err refusals.IdSizes) lives.InConflict (lives.Is x) lends maps = maps
+  answer_mapped (Err refusals.IdSizes) lives.InConflict lives.InConflict lends maps = tt
+  answer_mapped (Err refusals.IdSizes) lives.InConflict lives.Failed lends maps = maps
+  answer_mapped (Err refusals.IdSizes) lives.Failed answer lends maps = absurd lends
+  answer_mapped (Err (refusals.Conflict key)) (lives.Is lent) answer lends maps = absurd lends
+  answer_mapped (Err (refusals.Conflict key)) lives.InConflict (lives.Is x) lends maps = maps
+  answer_mapped (Err (refusals.Conflict key)) lives.InConflict lives.InConflict lends maps = tt
+  answer_mapped (Err (refusals.Conflict key)) lives.InConflict lives.Failed lends maps = maps
+  answer_mapped (Err (refusals.Conflict key)) lives.Failed answer lends maps = absurd lends
+  answer_mapped (Err refusals.Failed) (lives.Is lent) answer lends maps = absurd lends
+  answer_mapped (Err refusals.Failed) lives.InConflict answer lends maps = absurd lends
+  answer_mapped (Err refusals.Failed) lives.Failed (lives.Is x) lends maps = maps
+  answer_mapped (Err refusals.Failed) lives.Failed lives.InConflict lends maps = maps
+  answer_mapped (Err refusals.Failed) lives.Failed lives.Failed lends maps = tt
+
+  -- and of a function that may run out of memory
+  pub answer_tried : {E : Type 0} (outcome : Result HeapValue Refusal) (lent : Live (Option (Bor Heap))) (tried : Result (Live X) E)
+      → LendsHeap outcome lent → IfOk tried (MapsTo gives lent) → IfOk tried (IsAnswer P outcome)
+  answer_tried outcome lent (Ok answer) lends maps = answer_mapped outcome lent answer lends maps
+  answer_tried outcome lent (Err e) lends maps = tt
 
 -- what follows from an answer, where that is derived
 pub answer_so : {X : Type 0} (P Q : IdSize → List FactValue → X → Type 0) (outcome : Result HeapValue Refusal) (derived : Derived)
@@ -133,16 +166,7 @@ answer_so P Q (Err refusals.Failed) derived (lives.Is x) holds is all = holds
 answer_so P Q (Err refusals.Failed) derived lives.InConflict holds is all = holds
 answer_so P Q (Err refusals.Failed) derived lives.Failed holds is all = tt
 
--- which comes, by the heap that is lent
-pub kind_lent : {X : Type 0} (outcome : Result HeapValue Refusal) (lent : Option (Bor Heap)) (answer : X) → LendsHeap outcome (lives.Is lent)
-    → IsKindOf outcome (lives.Is answer)
-kind_lent (Ok value) lent answer lends = tt
-kind_lent (Err refusals.NoParts) lent answer lends = tt
-kind_lent (Err refusals.IdSizes) lent answer lends = lends
-kind_lent (Err (refusals.Conflict key)) lent answer lends = lends
-kind_lent (Err refusals.Failed) lent answer lends = lends
-
--- and by what is answered
+-- which comes, by what is answered
 pub kind_answered : {X : Type 0} (P : IdSize → List FactValue → X → Type 0) (outcome : Result HeapValue Refusal) (answer : Live X)
     → IsAnswer P outcome answer → IsKindOf outcome answer
 kind_answered P (Ok heap) (lives.Is x) holds = tt
@@ -154,15 +178,6 @@ kind_answered P (Err refusals.NoParts) lives.Failed holds = holds
 kind_answered P (Err refusals.IdSizes) answer holds = holds
 kind_answered P (Err (refusals.Conflict key)) answer holds = holds
 kind_answered P (Err refusals.Failed) answer holds = holds
-
--- before any part it is answered of no facts
-pub answer_of_none : {X : Type 0} (P : IdSize → List FactValue → X → Type 0) (outcome : Result HeapValue Refusal) (answer : X)
-    → LendsHeap outcome (lives.Is None) → ((ids : IdSize) → P ids [] answer) → IsAnswer P outcome (lives.Is answer)
-answer_of_none P (Ok value) answer lends all = absurd lends
-answer_of_none P (Err refusals.NoParts) answer lends all = all
-answer_of_none P (Err refusals.IdSizes) answer lends all = lends
-answer_of_none P (Err (refusals.Conflict key)) answer lends all = lends
-answer_of_none P (Err refusals.Failed) answer lends all = lends
 
 -- ---- a header
 

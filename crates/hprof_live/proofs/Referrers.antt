@@ -7,11 +7,11 @@ use Rattle.hprof_items.specs.FactValue.{FactValue}
 use Rattle.hprof_edges.specs.declared.edge.Edge.{Edge}
 use Rattle.hprof_edges.specs.contracts.edge.EdgeOrd.TheImpl as edge_ord
 use Rattle.hprof_edges.specs.Edges.{AreEdges, AreReferrers, IsEdge}
+use Rattle.hprof_edges.specs.EdgeSet.{edges_in}
 use Rattle.hprof_live.specs.declared.derived.Derived.{Derived}
 use Rattle.hprof_live.specs.declared.indexed.Index.{Index}
 use Rattle.hprof_live.specs.ByTarget.{IsByTarget}
 use Rattle.hprof_live.specs.Derived.{IsDerived, keeps_of}
-use Rattle.hprof_live.specs.EdgeSet.{edges_in}
 use Rattle.hprof_live.specs.Indexed.{IsIndexOf, IsIndexTo}
 use Rattle.hprof_live.proofs.EdgesSoFar.{all_so_far}
 

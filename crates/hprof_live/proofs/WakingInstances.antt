@@ -6,14 +6,13 @@ use Rattle.std.proofs.lemmas.Bool.{cases_eq}
 use Rattle.std.proofs.lemmas.List.Elements.{Contains-append_cases, Contains-append_left, Contains-append_right, Contains-push_cases}
 use Rattle.hprof_values.specs.declared.ids.IdSize.{IdSize}
 use Rattle.hprof_items.specs.FactValue.{FactValue}
-use Rattle.hprof_known_layouts.specs.Waking.{put}
+use Rattle.hprof_known_layouts.specs.WaitingLists.{put, waiting_for}
 use Rattle.hprof_known_layouts.proofs.Wakings.{put-here, put-other}
+use Rattle.hprof_known_layouts.specs.declared.waiting_lists.WaitingLists.{WaitingLists}
 use Rattle.hprof_edges.proofs.EdgeMembers.{one_there}
 use Rattle.hprof_edges.proofs.PutTogether.{nothing_there}
 use Rattle.hprof_live.specs.declared.derived.Derived.{Derived}
-use Rattle.hprof_live.specs.declared.waiting.WaitingInstances.{WaitingInstances}
 use Rattle.hprof_live.specs.Derived.{HasLaid, IsDeriving, IsInstanceOf}
-use Rattle.hprof_live.specs.Waiting.{waiting_of}
 use Rattle.hprof_live.proofs.Deriving.{gone_so}
 use Rattle.hprof_live.proofs.Instances.{one_class}
 use Rattle.hprof_live.proofs.Members.{member_or_not, not_in_rest}
@@ -37,28 +36,28 @@ rest_once x xs once = once.1
 
 module _ (ids : IdSize) (facts : List FactValue) (derived : Derived) (before : List ℕ) (class : ℕ) where
   -- they are taken in hand
-  module _ (is : IsDeriving ids facts derived before before) (waiting : WaitingInstances)
-      (taken : waiting_of waiting ≡ put (waiting_of derived.waiting) class []) (list : List ℕ)
-      (given : list ≡ waiting_of derived.waiting class) where
+  module _ (is : IsDeriving ids facts derived before before) (waiting : WaitingLists ℕ)
+      (taken : waiting_for waiting ≡ put (waiting_for derived.waiting) class []) (list : List ℕ)
+      (given : list ≡ waiting_for derived.waiting class) where
     here : (instance : ℕ) → Contains list instance ↔ (IsInstanceOf facts instance class × (Contains before instance → ⊥))
     here instance =
         subst (λ (l : List ℕ). Contains l instance ↔ (IsInstanceOf facts instance class × (Contains before instance → ⊥))) (sym given)
         (is.waits class instance)
 
-    none_waits : (instance : ℕ) → Contains (waiting_of waiting class) instance → ⊥
+    none_waits : (instance : ℕ) → Contains (waiting_for waiting class) instance → ⊥
     none_waits instance there =
         nothing_there instance
         (subst (λ (l : List ℕ). Contains l instance)
-        (ap (λ (w : ℕ → List ℕ). w class) taken ∙ put-here (waiting_of derived.waiting) class [] class refl) there)
+        (ap (λ (w : ℕ → List ℕ). w class) taken ∙ put-here (waiting_for derived.waiting) class [] class refl) there)
 
-    others_wait : (other : ℕ) → other ≢ class → waiting_of waiting other ≡ waiting_of derived.waiting other
-    others_wait other apart = ap (λ (w : ℕ → List ℕ). w other) taken ∙ put-other (waiting_of derived.waiting) class [] other apart
+    others_wait : (other : ℕ) → other ≢ class → waiting_for waiting other ≡ waiting_for derived.waiting other
+    others_wait other apart = ap (λ (w : ℕ → List ℕ). w other) taken ∙ put-other (waiting_for derived.waiting) class [] other apart
 
-    still_waits : (other instance : ℕ) → Contains (waiting_of waiting other) instance
+    still_waits : (other instance : ℕ) → Contains (waiting_for waiting other) instance
         ↔ (IsInstanceOf facts instance other × (Contains (before ++ list) instance → ⊥))
     still_waits other instance = elim (cases_eq other class) [
       | inl same ↦ (
-        λ there. absurd (none_waits instance (subst (λ (c : ℕ). Contains (waiting_of waiting c) instance) same there)),
+        λ there. absurd (none_waits instance (subst (λ (c : ℕ). Contains (waiting_for waiting c) instance) same there)),
         λ both. absurd (both.1 (Contains-append_right before list instance ((here instance).1 (
           subst (IsInstanceOf facts instance) same both.0,
           λ was. both.1 (Contains-append_left before list instance was),
@@ -78,10 +77,10 @@ module _ (ids : IdSize) (facts : List FactValue) (derived : Derived) (before : L
       )
     ]
 
-    waits_once : (other : ℕ) → IsDistinct nat_eq (waiting_of waiting other)
+    waits_once : (other : ℕ) → IsDistinct nat_eq (waiting_for waiting other)
     waits_once other = elim (cases_eq other class) [
       | inl same ↦ subst (IsDistinct nat_eq)
-          (sym (ap (λ (w : ℕ → List ℕ). w other) taken ∙ put-here (waiting_of derived.waiting) class [] other same)) nothing_twice
+          (sym (ap (λ (w : ℕ → List ℕ). w other) taken ∙ put-here (waiting_for derived.waiting) class [] other same)) nothing_twice
       | inr apart ↦ subst (IsDistinct nat_eq) (sym (others_wait other apart)) (is.waits_once other)
     ]
 
@@ -175,7 +174,7 @@ module _ (ids : IdSize) (facts : List FactValue) (derived : Derived) (before : L
 
 -- an instance of the class was laid, or waited
 pub laid_or_waited : (ids : IdSize) (facts : List FactValue) (derived : Derived) (before : List ℕ) (class : ℕ)
-    → IsDeriving ids facts derived before before → (list : List ℕ) → list ≡ waiting_of derived.waiting class → (instance : ℕ)
+    → IsDeriving ids facts derived before before → (list : List ℕ) → list ≡ waiting_for derived.waiting class → (instance : ℕ)
     → IsInstanceOf facts instance class → Contains (before ++ list) instance
 laid_or_waited ids facts derived before class is list given instance is_of = elim (member_or_not before instance) [
   | inl was ↦ Contains-append_left before list instance was

@@ -10,12 +10,12 @@ use Rattle.hprof_rows.specs.Facts.{Has, SameFacts}
 use Rattle.hprof_rows.specs.Stating.{IsNewAmong}
 use Rattle.hprof_lookup.specs.Objects.{HasInstance}
 use Rattle.hprof_known_layouts.specs.Known.{HasLayout, Knows}
+use Rattle.hprof_known_layouts.specs.WaitingLists.{waiting_for}
 use Rattle.hprof_edges.specs.declared.edge.Edge.{Edge}
 use Rattle.hprof_edges.specs.Collecting.{is_edge_wanted}
 use Rattle.hprof_edges.specs.DumpEdges.{GivenByClass, IsEdgeToClass, IsElementEdge, IsFieldEdge}
+use Rattle.hprof_edges.specs.EdgeSet.{SetOf, wanted_in}
 use Rattle.hprof_live.specs.declared.derived.Derived.{Derived}
-use Rattle.hprof_live.specs.EdgeSet.{SetOf, wanted_in}
-use Rattle.hprof_live.specs.Waiting.{waiting_of}
 
 -- ---- instances
 
@@ -91,9 +91,9 @@ pub record IsDeriving (ids : IdSize) (facts : List FactValue) (derived : Derived
   pub set_of : SetOf derived.set given
   pub given_are : (edge : Edge) → Contains given edge ↔ IsEdgeSoFar ids facts laid edge
   -- the others wait for their class, each once
-  pub waits : (class instance : ℕ) → Contains (waiting_of derived.waiting class) instance
+  pub waits : (class instance : ℕ) → Contains (waiting_for derived.waiting class) instance
       ↔ (IsInstanceOf facts instance class × ¬ Contains gone instance)
-  pub waits_once : (class : ℕ) → IsDistinct nat_eq (waiting_of derived.waiting class)
+  pub waits_once : (class : ℕ) → IsDistinct nat_eq (waiting_for derived.waiting class)
   -- those that are laid can be, and are counted
   pub laid_are : (instance : ℕ) → Contains laid instance → CanBeLaid facts instance
   pub laid_once : IsDistinct nat_eq laid

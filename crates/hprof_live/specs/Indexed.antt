@@ -3,12 +3,12 @@ use Rattle.std.specs.Prelude.{◌≡◌, ◌↔◌, ℕ, Bool, true, List, Conta
 use Rattle.hprof_values.specs.declared.ids.IdSize.{IdSize}
 use Rattle.hprof_items.specs.FactValue.{FactValue}
 use Rattle.hprof_rows.specs.HeapValue.{HeapValue}
+use Rattle.hprof_heap.specs.declared.heap.Heap.{Heap}
 use Rattle.hprof_heap.specs.Heap.{heap_of}
 use Rattle.hprof_lookup.specs.HeapFacts.{facts_of, size_of}
 use Rattle.hprof_edges.specs.declared.edge.Edge.{Edge}
 use Rattle.hprof_edges.specs.Edges.{IsEdge}
 use Rattle.hprof_live.specs.declared.indexed.Index.{Index}
-use Rattle.hprof_live.specs.declared.indexed.IndexedHeap.{IndexedHeap}
 use Rattle.hprof_live.specs.ByTarget.{IsByTarget}
 
 -- the index has the edges to that identifier, and no others to it
@@ -21,10 +21,10 @@ pub record IsIndexOf (ids : IdSize) (facts : List FactValue) (keeps : Edge → B
   pub sorted : IsByTarget index.edges.items
   pub exact : (edge : Edge) → Contains index.edges.items edge ↔ (IsEdge ids facts edge × (keeps edge ≡ true))
 
--- the heap as a value
-abbrev pub indexed_heap : IndexedHeap → HeapValue
-indexed_heap found = heap_of found.heap
+-- the heap of the pair, as a value
+abbrev pub indexed_heap : (Heap × Index) → HeapValue
+indexed_heap found = heap_of found.0
 
 -- the index beside the heap is of its facts
-abbrev pub ListsTo : IndexedHeap → ℕ → Type 0
-ListsTo found id = IsIndexTo (size_of found.heap) (facts_of found.heap) id found.index
+abbrev pub ListsTo : (Heap × Index) → ℕ → Type 0
+ListsTo found id = IsIndexTo (size_of found.0) (facts_of found.0) id found.1

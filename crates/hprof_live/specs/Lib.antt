@@ -1,8 +1,7 @@
 pub mod Number
-pub mod EdgeSet
 pub mod ByTarget
-pub mod Waiting
 pub mod Derived
 pub mod Indexed
+pub mod Mapped
 pub mod LiveHeap
 pub mod OfParts

@@ -1,4 +1,4 @@
-//! What is derived from facts: known layouts, edges, and how many instances there are.
+//! What is derived from facts: known layouts, edges, and the number of instances.
 
 ghost use Rattle.std.specs.Prelude.{◌≡◌, ◌↔◌, ◌≤◌, ◌+◌, ◌++◌, ◌∷◌, ℕ, true, false, List, [], Contains, IsTrue, IfOk, OnOk, drop, vec_len};
 ghost use Rattle.hprof_values.specs.declared.ids.IdSize.{IdSize};
@@ -12,22 +12,20 @@ ghost use Rattle.hprof_known_layouts.specs.Known.{HasLayout, Knows};
 ghost use Rattle.hprof_edges.specs.declared.edge.Edge.{Edge};
 ghost use Rattle.hprof_edges.specs.Collecting.{is_edge_wanted};
 ghost use Rattle.hprof_edges.specs.Edges.{AreEdges, AreReferrers};
+ghost use Rattle.hprof_edges.specs.EdgeSet.{edges_in};
 ghost use Rattle.hprof_live.specs.Derived.{AddsFact, CanBeLaid, CannotBeLaid, HasLaid, IsDerived, IsDeriving, IsInstanceOf, IsOther, keeps_of, stopped};
-ghost use Rattle.hprof_live.specs.EdgeSet.{edges_in};
 ghost use Rattle.hprof_live.specs.Indexed.{IsIndexOf};
 ghost use Rattle.hprof_live.specs.Number.{IsNumberOf};
 
 use crate::behind::bring_behind;
 use crate::by_target::sort_by_target;
-use crate::edge_set::EdgeSet;
 use crate::indexed::Index;
-use crate::waiting::WaitingInstances;
-use hprof_edges::{Edge, array_edges, class_edges, edge_to_class, field_edges};
-use hprof_heap::{Heap, Table};
+use hprof_edges::{Edge, EdgeSet, array_edges, class_edges, edge_to_class, field_edges};
+use hprof_heap::Heap;
 use hprof_items::Fact;
-use hprof_known_layouts::{KnownLayouts, Reference, Wanted};
+use hprof_known_layouts::{KnownLayouts, Reference, WaitingLists, Wanted};
 use hprof_lists::IdList;
-use hprof_lookup::{ClassDump, ObjectDump, find_object, id_size, table_len, to_class_dump};
+use hprof_lookup::{ClassDump, ObjectDump, find_object, holds_of_heap, id_size, to_class_dump};
 use hprof_values::IdSize;
 use std::alloc::{AllocError, Global};
 
@@ -35,7 +33,7 @@ use std::alloc::{AllocError, Global};
 #[derive(Drop)]
 pub(crate) struct Derived {
     known: KnownLayouts,
-    waiting: WaitingInstances,
+    waiting: WaitingLists<u64>,
     set: EdgeSet,
     references: Vec<Reference>,
     instances: u64,
@@ -50,7 +48,7 @@ impl Derived {
     {
         Derived {
             known: KnownLayouts::new(alloc),
-            waiting: WaitingInstances::new(alloc),
+            waiting: WaitingLists::new(alloc),
             set: EdgeSet::new(alloc, wanted),
             references: Vec::new(alloc),
             instances: 0,
@@ -58,21 +56,21 @@ impl Derived {
         }
     }
 
-    /// How many instances were laid, where the heap is of the facts so far.
+    /// Returns the number of instances that were laid. The heap is of the facts so far.
     pub(crate) fn cuts(&self, heap: &Heap) -> u64
         ensures { IsDerived (size_of heap.now) (facts_of heap.now) self.now → IsNumberOf (CanBeLaid (facts_of heap.now)) result }
     {
-        // The number of objects is no greater than a count may be, so neither is this one, which never stopped.
-        let _objects = table_len(heap, Table::Objects);
+        // A number can count the objects, so this count never stopped.
+        holds_of_heap(heap);
         self.cuts
     }
 
-    /// How many instances wait, where the heap is of the facts so far.
+    /// Returns the number of instances that wait. The heap is of the facts so far.
     pub(crate) fn unresolved(&self, heap: &Heap) -> u64
         ensures { IsDerived (size_of heap.now) (facts_of heap.now) self.now → IsNumberOf (CannotBeLaid (facts_of heap.now)) result }
     {
         // As in `cuts`, neither count stopped.
-        let _objects = table_len(heap, Table::Objects);
+        holds_of_heap(heap);
         self.instances.saturating_sub(self.cuts)
     }
 

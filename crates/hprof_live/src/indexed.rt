@@ -1,4 +1,4 @@
-//! A heap, and what refers to what in it.
+//! What refers to what in a heap, by what is referred to.
 
 ghost use Rattle.std.specs.Prelude.{◌≡◌, Bool, true, List};
 ghost use Rattle.hprof_values.specs.declared.ids.IdSize.{IdSize};
@@ -9,17 +9,17 @@ ghost use Rattle.hprof_live.specs.Indexed.{IsIndexOf, IsIndexTo};
 
 use crate::by_target::edges_to;
 use hprof_edges::Edge;
-use hprof_heap::Heap;
 
-/// The edges of a heap, by what they refer to.
+/// The edges of a heap that were watched, by what they refer to.
 #[derive(Drop)]
 pub struct Index {
     pub(crate) edges: Vec<Edge>,
 }
 
 impl Index {
-    /// The edges to an identifier, in order, each once; there are none to 0. Where some edges alone are kept, it is those of them. They are
-    /// lent, and found by halves.
+    /// Returns the edges to an identifier, in order, each once. There are none to 0.
+    ///
+    /// An index that keeps some of the edges alone answers those of them. They are found by binary search, and nothing is allocated.
     pub fn referrers(&self, id: u64) -> &[Edge]
         ensures value { (ids : IdSize) (facts : List FactValue) → IsIndexTo ids facts id self.now → AreReferrers ids facts id result.now }
         // Of an index that keeps some of the edges: those of them to the identifier.
@@ -28,13 +28,4 @@ impl Index {
     {
         edges_to(&self.edges, id)
     }
-}
-
-/// A heap, with an index of its edges.
-#[derive(Drop)]
-pub struct IndexedHeap {
-    /// The heap.
-    pub heap: Heap,
-    /// Its edges that were watched.
-    pub index: Index,
 }

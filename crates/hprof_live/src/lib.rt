@@ -4,13 +4,11 @@
 mod behind;
 mod by_target;
 mod derived;
-mod edge_set;
 mod indexed;
 pub mod laws;
 mod live;
 mod live_heap;
-mod waiting;
 
-pub use indexed::{Index, IndexedHeap};
+pub use indexed::Index;
 pub use live::Live;
 pub use live_heap::LiveHeap;

@@ -9,13 +9,13 @@ ghost use Rattle.hprof_lookup.specs.HeapFacts.{facts_of, size_of};
 ghost use Rattle.hprof_layouts.specs.Layout.{IsLayout, layout_value};
 ghost use Rattle.hprof_edges.specs.Collecting.{is_edge_wanted};
 ghost use Rattle.hprof_edges.specs.Edges.{AreEdges, AreReferrers};
-ghost use Rattle.hprof_live.specs.EdgeSet.{edges_in};
+ghost use Rattle.hprof_edges.specs.EdgeSet.{edges_in};
 ghost use Rattle.hprof_live.specs.Number.{IsNumberOf};
 ghost use Rattle.hprof_live.specs.Derived.{AddsFact, CanBeLaid, CannotBeLaid, IsDerived, keeps_of};
 ghost use Rattle.hprof_live.specs.Indexed.{IsIndexOf, ListsTo, indexed_heap};
 
 use crate::derived::Derived;
-use crate::indexed::IndexedHeap;
+use crate::indexed::Index;
 use crate::live::Live;
 use hprof_edges::Edge;
 use hprof_heap::{Gather, Gatherer, Heap, Refusal, Standing, Stated};
@@ -25,10 +25,12 @@ use hprof_layouts::{Layout, layout};
 use hprof_stream::{Sink, SinkFault};
 use std::alloc::{AllocError, Global};
 
-/// Takes the headers and facts of any number of parts, and keeps the layouts of classes and the edges of the facts so far, in
-/// whatever order classes, superclasses and instances come. Each instance is laid once. A query is answered of the facts so
-/// far, before any part of no facts; where they do not agree, or two sizes of identifiers were begun, it is `InConflict`, and
-/// after a fault `Failed`, which comes first.
+/// A heap that answers while its facts come. It takes the headers and facts of any number of parts, and keeps the layouts of classes and
+/// the edges of the facts so far.
+///
+/// Classes, superclasses and instances may come in any order, and each instance is laid once. A query is answered of the facts so far,
+/// before any part of no facts. It is `InConflict` if the facts do not agree or two sizes of identifiers were begun, and `Failed` after a
+/// fault, which comes first.
 #[derive(Drop)]
 pub struct LiveHeap {
     gatherer: Gatherer,
@@ -50,7 +52,7 @@ impl LiveHeap {
     ghost use Rattle.hprof_live.specs.LiveHeap.{IsAnswer, IsCurrent, IsKindOf, KeepsOnly, LendsHeap, RestsAsItIs};
     ghost use Rattle.hprof_live.specs.LiveHeap.{Watches, outcome_of, seen_by};
 
-    /// A live heap that was given nothing, and keeps the edges to what is wanted. It takes no memory yet.
+    /// Creates a live heap that was given nothing, and keeps the edges to what is wanted. Allocates nothing.
     fn wanting(alloc: Global, wanted: Wanted) -> LiveHeap
         ensures nothing { seen_by result ≡ nothing_gathered }
         ensures current { IsCurrent result }
@@ -63,7 +65,7 @@ impl LiveHeap {
         }
     }
 
-    /// A live heap that was given nothing. It takes no memory yet.
+    /// Creates a live heap that was given nothing. Allocates nothing.
     pub fn new(alloc: Global) -> LiveHeap
         ensures nothing { seen_by result ≡ nothing_gathered }
         ensures watches { (id : ℕ) → Watches result id }
@@ -71,7 +73,7 @@ impl LiveHeap {
         LiveHeap::wanting(alloc, Wanted::All)
     }
 
-    /// The same, but that of the edges those to one identifier alone are kept.
+    /// Creates a live heap, as [`LiveHeap::new`] does, that keeps the edges to one identifier alone.
     pub fn watching(alloc: Global, id: u64) -> LiveHeap
         ensures nothing { seen_by result ≡ nothing_gathered }
         ensures watches { Watches result id }
@@ -80,7 +82,7 @@ impl LiveHeap {
         LiveHeap::wanting(alloc, Wanted::To(id))
     }
 
-    /// The heap of the facts so far; None before any part.
+    /// Returns the heap of the facts so far, or `None` before any part.
     fn so_far(&self) -> Live<Option<&Heap>>
         ensures { LendsHeap (outcome_of self.now) result }
     {
@@ -95,60 +97,53 @@ impl LiveHeap {
         }
     }
 
-    /// The layout of a class. The error is that memory was refused; asked again, it answers the same as before.
+    /// Returns the layout of a class, of the facts so far. If memory runs out, the answer is `AllocError`, and a later call answers as
+    /// if this one had not been made.
     pub fn layout_now(&self, alloc: Global, class: u64) -> Result<Live<Layout>, AllocError>
         ensures { IfOk result (IsAnswer (λ ids facts layout. IsLayout facts class (layout_value layout)) (outcome_of self.now)) }
     {
-        match self.so_far() {
-            Live::Failed => Ok(Live::Failed),
-            Live::InConflict => Ok(Live::InConflict),
-            Live::Is(None) => Ok(Live::Is(layout_of_none(alloc, class))),
-            Live::Is(Some(heap)) => Ok(Live::Is(layout(alloc, heap, class)?)),
-        }
+        self.so_far().try_map(|heap| match heap {
+            None => Ok(layout_of_none(alloc, class)),
+            Some(heap) => layout(alloc, heap, class),
+        })
     }
 
-    /// How many instances there are whose class has a known layout: each of them is laid once, and counted then.
+    /// Returns the number of instances whose class has a known layout. Each of them is laid once, and counted then.
     pub fn cuts(&self) -> Live<u64>
         ensures kind { IsKindOf (outcome_of self.now) result }
         ensures value { IsCurrent self.now
             → IsAnswer (λ ids facts number. IsNumberOf (CanBeLaid facts) number) (outcome_of self.now) result }
     {
-        match self.so_far() {
-            Live::Failed => Live::Failed,
-            Live::InConflict => Live::InConflict,
-            Live::Is(None) => Live::Is(0),
-            Live::Is(Some(heap)) => Live::Is(self.derived.cuts(heap)),
-        }
+        self.so_far().map(|heap| match heap {
+            None => 0,
+            Some(heap) => self.derived.cuts(heap),
+        })
     }
 
-    /// How many instances there are whose class has no known layout: it misses a class, or the superclasses run in a circle.
+    /// Returns the number of instances whose class has no known layout: it misses a class, or the superclasses run in a circle.
     pub fn unresolved(&self) -> Live<u64>
         ensures kind { IsKindOf (outcome_of self.now) result }
         ensures value { IsCurrent self.now
             → IsAnswer (λ ids facts number. IsNumberOf (CannotBeLaid facts) number) (outcome_of self.now) result }
     {
-        match self.so_far() {
-            Live::Failed => Live::Failed,
-            Live::InConflict => Live::InConflict,
-            Live::Is(None) => Live::Is(0),
-            Live::Is(Some(heap)) => Live::Is(self.derived.unresolved(heap)),
-        }
+        self.so_far().map(|heap| match heap {
+            None => 0,
+            Some(heap) => self.derived.unresolved(heap),
+        })
     }
 
-    /// What is answered of the edges that are kept, from a place on.
+    /// Lends the edges that are kept, from a place on.
     fn lend_edges(&self, start: usize) -> Live<&[Edge]>
         requires { start ≤ vec_len self.now.derived.set.edges }
         ensures { IsAnswer (λ ids facts edges. edges.now ≡ drop start (edges_in self.now.derived.set)) (outcome_of self.now) result }
     {
-        match self.so_far() {
-            Live::Failed => Live::Failed,
-            Live::InConflict => Live::InConflict,
-            Live::Is(_) => Live::Is(self.derived.edges_from(start)),
-        }
+        self.so_far().map(|_| self.derived.edges_from(start))
     }
 
-    /// The edges to an identifier that is watched, in order, each once; there are none to 0. Of another identifier, those of the
-    /// edges to it that are kept. They are lent, and no memory is taken. Nothing that is told of the live heap changes.
+    /// Lends the edges to an identifier that is watched, in order, each once. There are none to 0.
+    ///
+    /// Of another identifier it lends those of the edges to it that are kept. Nothing is allocated, and nothing that is told of the live
+    /// heap changes.
     pub fn referrers_now(&mut self, id: u64) -> Live<&[Edge]>
         ensures* rests { sem 𝓛 (RestsAsItIs self.entry) }
         ensures kind { IsKindOf (outcome_of self.old) result }
@@ -199,15 +194,16 @@ impl LiveHeap {
         self.derive_any(fact)
     }
 
-    /// The heap of all facts that were given, with an index of its edges that were watched. A fault comes first, then no
-    /// parts, then two sizes, then a conflict. It takes no memory.
-    pub fn finish(self) -> Result<IndexedHeap, Refusal>
+    /// Returns the heap of all facts that were given, and an index of its edges that were watched.
+    ///
+    /// A fault is told first, then that there were no parts, then two sizes of identifiers, then a conflict. Nothing is allocated.
+    pub fn finish(self) -> Result<(Heap, Index), Refusal>
         ensures answer { seen_in indexed_heap result ≡ outcome_of self }
         ensures told { (parts : List Given) → Gathers nothing_gathered parts (seen_by self) → Tells parts (seen_in indexed_heap result) }
         ensures listed { IfOk result (λ found. (id : ℕ) → Watches self id → ListsTo found id) }
         // All of them: those edges that are kept.
         ensures kept { IfOk result (λ found. IsCurrent self
-            → IsIndexOf (size_of found.heap) (facts_of found.heap) (keeps_of self.derived) found.index) }
+            → IsIndexOf (size_of found.0) (facts_of found.0) (keeps_of self.derived) found.1) }
     {
         let LiveHeap {
             gatherer,
@@ -219,10 +215,7 @@ impl LiveHeap {
         }
         match gatherer.finish() {
             Err(refusal) => Err(refusal),
-            Ok(heap) => Ok(IndexedHeap {
-                heap,
-                index: derived.into_index(),
-            }),
+            Ok(heap) => Ok((heap, derived.into_index())),
         }
     }
 }
@@ -269,7 +262,7 @@ impl Sink for LiveHeap {
     }
 }
 
-/// The heap, with an index of its edges that were watched.
+/// It gives the heap, and an index of its edges that were watched.
 impl Gather for LiveHeap {
     ghost use Rattle.hprof_live.specs.LiveHeap.{Watches, seen_by, watches_on};
     ghost use Rattle.hprof_live.specs.Indexed.{ListsTo, indexed_heap};
@@ -282,9 +275,9 @@ impl Gather for LiveHeap {
 
     ghost lists = { ListsTo };
 
-    type Found = IndexedHeap;
+    type Found = (Heap, Index);
 
-    fn finish(self) -> Result<IndexedHeap, Refusal> {
+    fn finish(self) -> Result<(Heap, Index), Refusal> {
         LiveHeap::finish(self)
     }
 

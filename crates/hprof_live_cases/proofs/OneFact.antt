@@ -3,9 +3,10 @@ use Rattle.std.specs.Prelude.{IfOk}
 use Rattle.std.proofs.Common.{◌≡◌, ℕ, List, Result, Ok, Err, refl, subst}
 use Rattle.hprof_values.specs.declared.ids.IdSize.{IdSize}
 use Rattle.hprof_items.specs.FactValue.{FactValue}
+use Rattle.hprof_heap.specs.declared.heap.Heap.{Heap}
 use Rattle.hprof_heap.specs.declared.standing.Refusal.{Refusal}
 use Rattle.hprof_heap.specs.Gathering.{Given, all_given}
-use Rattle.hprof_live.specs.declared.indexed.IndexedHeap.{IndexedHeap}
+use Rattle.hprof_live.specs.declared.indexed.Index.{Index}
 use Rattle.hprof_live.specs.declared.live.Live.{Live}
 use Rattle.hprof_live.specs.declared.live.Live.TheVariants as lives
 use Rattle.hprof_live.specs.declared.live_heap.LiveHeap.{LiveHeap}
@@ -15,7 +16,7 @@ use Rattle.hprof_live.specs.OfParts.{Disagree, HoldsOf, IsAnswerOf}
 use Rattle.hprof_live_cases.specs.OneFact.{live_map}
 
 -- an identifier that was watched is listed
-pub listed_so : (id : ℕ) (live : LiveHeap) (found : Result IndexedHeap Refusal) → Watches live id
+pub listed_so : (id : ℕ) (live : LiveHeap) (found : Result (Heap × Index) Refusal) → Watches live id
     → IfOk found (λ found. (other : ℕ) → Watches live other → ListsTo found other) → IfOk found (λ found. ListsTo found id)
 listed_so id live (Ok found) watches lists = lists id watches
 listed_so id live (Err refusal) watches lists = tt

@@ -27,8 +27,8 @@ fn expect_edges(
     let mut live = live;
     give_all(alloc, &mut live, &DUMPS)?;
     expect_referrers(rt, &mut live, expected);
-    let found = live.finish()?;
-    expect_indexed(rt, &found.index, expected);
+    let (_, index) = live.finish()?;
+    expect_indexed(rt, &index, expected);
     Ok(())
 }
 

@@ -146,11 +146,11 @@ fn go_all(rt: &impl Abort, alloc: Global, steps: &[Step<'_>], count: u128) -> Re
     for step in steps {
         go(rt, alloc, &mut live, step)?;
     }
-    let found = live.finish()?;
+    let (heap, index) = live.finish()?;
     if let Some(step) = steps.last() {
-        expect_indexed(rt, &found.index, step.3);
+        expect_indexed(rt, &index, step.3);
     }
-    equal(rt, found.heap.count(), count);
+    equal(rt, heap.count(), count);
     Ok(())
 }
 

@@ -9,11 +9,11 @@ ghost use Rattle.hprof_live.specs.LiveHeap.{Watches, seen_by};
 ghost use Rattle.hprof_live_cases.specs.OneFact.{AreOfParts, live_map, one_fact};
 
 use hprof_edges::Edge;
-use hprof_heap::Refusal;
+use hprof_heap::{Heap, Refusal};
 use hprof_items::{Fact, Header, Step, read_sub};
 use hprof_layouts::Layout;
 use hprof_live::laws::answers_are_of_parts;
-use hprof_live::{IndexedHeap, Live, LiveHeap};
+use hprof_live::{Index, Live, LiveHeap};
 use hprof_stream::{Sink, SinkFault};
 use std::alloc::Global;
 
@@ -30,8 +30,8 @@ pub struct Answers<'a> {
     pub unresolved: Live<u64>,
     /// The number of edges to that identifier.
     pub referrers: Live<usize>,
-    /// The heap, with its edges.
-    pub found: Result<IndexedHeap, Refusal>,
+    /// The heap, with an index of its edges.
+    pub found: Result<(Heap, Index), Refusal>,
 }
 
 /// Gives a new live heap a part of one fact.

@@ -149,13 +149,13 @@ fn expect_found(
     live: LiveHeap,
     edges: &[Edge],
 ) -> Result<(), Fail> {
-    let found = live.finish()?;
+    let (heap, index) = live.finish()?;
     for id in 0..16 {
         let to = edges_to(alloc, edges, id)?;
-        equal_at(rt, id, found.index.referrers(id), to.as_slice());
-        equal_at(rt, id, referrers(alloc, &found.heap, id)?, to);
+        equal_at(rt, id, index.referrers(id), to.as_slice());
+        equal_at(rt, id, referrers(alloc, &heap, id)?, to);
         let from = edges_from(alloc, edges, id)?;
-        equal_at(rt, id, edges_of(alloc, &found.heap, id)?, from);
+        equal_at(rt, id, edges_of(alloc, &heap, id)?, from);
     }
     Ok(())
 }

@@ -1,6 +1,7 @@
 -- Class dumps that are found by their keys.
 use Rattle.std.specs.List.{find}
-use Rattle.std.proofs.Common.{◌≡◌, ℕ, true, List, [], Option, Some, None, refl, sym, ap, subst}
+use Rattle.std.proofs.Common.{◌≡◌, ℕ, true, List, [], Option, Some, None, refl, sym, ap, subst, ◌∙◌}
+use Rattle.hprof_values.specs.declared.ids.IdSize.{IdSize}
 use Rattle.hprof_lists.specs.declared.lists.constants.ConstantList.{ConstantList}
 use Rattle.hprof_lists.specs.declared.lists.statics.StaticList.{StaticList}
 use Rattle.hprof_lists.specs.declared.lists.fields.FieldList.{FieldList}
@@ -14,7 +15,9 @@ use Rattle.hprof_rows.specs.Key.{has_key, key_of}
 use Rattle.hprof_rows.specs.Conflict.{IsConsistent}
 use Rattle.hprof_rows.proofs.Keys.{is_key-true, true-is_key}
 use Rattle.hprof_rows.proofs.Picking.{found, not_found}
+use Rattle.hprof_lookup.specs.declared.class_dump.ClassDump.{ClassDump}
 use Rattle.hprof_lookup.specs.Classes.{ClassValue, HasDump, HasNoDump, fact_of_class}
+use Rattle.hprof_lookup.specs.ClassDump.{ClassListsHave, IsFoundClass, class_value}
 
 -- no class has two dumps; so it is where facts agree
 abbrev pub OneDumpEach : List FactValue → Type 0
@@ -72,6 +75,22 @@ key_dump class dump e =
 pub none_found : (facts : List FactValue) (class : ℕ) → find (has_key (keys.Class class)) facts ≡ None → HasNoDump facts class
 none_found facts class e dump has is =
     not_found (has_key (keys.Class class)) facts (fact_of_class dump) e has (dump_key class dump is)
+
+-- ---- what is found
+
+pub no_class_found : (ids : IdSize) (facts : List FactValue) (class : ℕ) → find (has_key (keys.Class class)) facts ≡ None
+    → IsFoundClass ids facts class None
+no_class_found ids facts class e = record { found = tt; id = tt; lists = tt; only = tt; none = none_found facts class e }
+
+pub class_found : (ids : IdSize) (facts : List FactValue) (class : ℕ) (dump : ClassDump) → IsConsistent facts
+    → HasDump facts (class_value dump) → dump.id ≡ class → ClassListsHave ids dump → IsFoundClass ids facts class (Some dump)
+class_found ids facts class dump agree has is lists = record {
+  found = has;
+  id = is;
+  lists = lists;
+  only = λ other has_other is_other. one_dump_each facts agree (class_value dump) other has has_other (is ∙ sym is_other);
+  none = tt;
+}
 
 -- the fact is a dump of the class
 pub record IsDump (class : ℕ) (fact : FactValue) : Type 0 where

@@ -2,6 +2,7 @@
 use Rattle.std.specs.List.{find}
 use Rattle.std.proofs.Common.{◌≡◌, ℕ, List, Option, Some, None, refl, Bor}
 use Rattle.hprof_values.specs.declared.basic.Basic.{Basic}
+use Rattle.hprof_values.specs.declared.ids.IdSize.{IdSize}
 use Rattle.hprof_lists.specs.declared.lists.ids.IdList.{IdList}
 use Rattle.hprof_items.specs.declared.fact.Fact.{Fact}
 use Rattle.hprof_items.specs.declared.fact.Fact.TheVariants as facts
@@ -12,7 +13,9 @@ use Rattle.hprof_rows.specs.Facts.{Has}
 use Rattle.hprof_rows.specs.Key.{has_key, key_of}
 use Rattle.hprof_rows.proofs.Keys.{is_key-true, true-is_key}
 use Rattle.hprof_rows.proofs.Picking.{found, not_found}
+use Rattle.hprof_lookup.specs.declared.object_dump.ObjectDump.{ObjectDump}
 use Rattle.hprof_lookup.specs.Objects.{IsObject, HasNoObject}
+use Rattle.hprof_lookup.specs.ObjectDump.{ElementsHave, IsFoundObject, fact_of_object}
 
 -- the fact is the only dump of the object
 pub record IsOnlyObject (facts : List FactValue) (object : ℕ) (fact : FactValue) : Type 0 where
@@ -21,9 +24,9 @@ pub record IsOnlyObject (facts : List FactValue) (object : ℕ) (fact : FactValu
   pub only : (other : FactValue) → Has facts other → IsObject object other → fact ≡ other
 
 -- so it is where it is found, if the facts agree
-pub object_found : (facts : List FactValue) (object : ℕ) (fact : FactValue) → IsConsistent facts
+pub only_object : (facts : List FactValue) (object : ℕ) (fact : FactValue) → IsConsistent facts
     → find (has_key (keys.Object object)) facts ≡ Some fact → IsOnlyObject facts object fact
-object_found facts object fact agree e =
+only_object facts object fact agree e =
     let is = found (has_key (keys.Object object)) facts fact e in
     let id = is_key-true (keys.Object object) (key_of fact) is.passes in
     record {
@@ -35,6 +38,16 @@ object_found facts object fact agree e =
 pub none_found : (facts : List FactValue) (object : ℕ) → find (has_key (keys.Object object)) facts ≡ None → HasNoObject facts object
 none_found facts object e fact has is =
     not_found (has_key (keys.Object object)) facts fact e has (true-is_key (keys.Object object) (key_of fact) is)
+
+-- ---- what is found
+
+pub no_object_found : (ids : IdSize) (facts : List FactValue) (object : ℕ) → find (has_key (keys.Object object)) facts ≡ None
+    → IsFoundObject ids facts object None
+no_object_found ids facts object e = record { found = tt; id = tt; lists = tt; only = tt; none = none_found facts object e }
+
+pub object_found : (ids : IdSize) (facts : List FactValue) (object : ℕ) (dump : ObjectDump)
+    → IsOnlyObject facts object (fact_of_object dump) → ElementsHave ids dump → IsFoundObject ids facts object (Some dump)
+object_found ids facts object dump is lists = record { found = is.has; id = is.id; lists = lists; only = is.only; none = tt }
 
 -- a fact in hand with the key of an object is an object dump
 pub is_object_fact : (object : ℕ) (fact : Fact) → IsObject object (value_of fact)

@@ -8,26 +8,25 @@ ghost use Rattle.hprof_rows.specs.Key.{has_key};
 ghost use Rattle.hprof_lookup.specs.HeapFacts.{facts_of};
 ghost use Rattle.hprof_lookup.specs.Names.{HasName, HasNoName};
 
-use crate::heap_facts::id_size;
+use crate::heap_facts::holds_of_heap;
 use hprof_heap::Heap;
 use hprof_items::Fact;
 
-/// The fact with the key of a name.
+/// Returns the fact with the key of a name.
 fn name_fact(heap: &Heap, name: u64) -> Option<Fact<'_>>
     ensures { option_map value_of result ≡ find (has_key (keys.Name name)) (facts_of heap.now) }
 {
     heap.name(name)
 }
 
-/// The bytes of a name; None where the heap does not have it.
+/// Returns the bytes of a name, or `None` if the heap does not have it.
 pub fn find_name(heap: &Heap, name: u64) -> Option<&[u8]>
     ensures found { IfSome result (λ bytes. HasName (facts_of heap.now) name bytes.now) }
     // They are the only ones.
     ensures only { IfSome result (λ bytes. (other : List ℕ) → HasName (facts_of heap.now) name other → bytes.now ≡ other) }
     ensures none { IfNone result (HasNoName (facts_of heap.now) name) }
 {
-    // Facts of a heap agree: that is told with the size.
-    let _ids = id_size(heap);
+    holds_of_heap(heap);
     match name_fact(heap, name)? {
         Fact::Name { text, .. } => Some(text),
         // A fact with the key of a name is one.

@@ -3,20 +3,19 @@
 ghost use Rattle.std.specs.Prelude.{◌≡◌, ℕ, IfNone, IfSome, find};
 ghost use Rattle.std.specs.Option.{option_map};
 ghost use Rattle.hprof_values.specs.declared.ids.IdSize.{IdSize};
-ghost use Rattle.hprof_items.specs.FactValue.{FactValue, ListsHave, value_of};
+ghost use Rattle.hprof_items.specs.FactValue.{ListsHave, value_of};
 ghost use Rattle.hprof_rows.specs.declared.key.Key.TheVariants as keys;
-ghost use Rattle.hprof_rows.specs.Facts.{Has};
 ghost use Rattle.hprof_rows.specs.Key.{has_key};
 ghost use Rattle.hprof_lookup.specs.HeapFacts.{facts_of, size_of};
-ghost use Rattle.hprof_lookup.specs.Objects.{IsObject, HasNoObject};
-ghost use Rattle.hprof_lookup.specs.ObjectDump.{ElementsHave, fact_of_object};
+ghost use Rattle.hprof_lookup.specs.Objects.{IsObject};
+ghost use Rattle.hprof_lookup.specs.ObjectDump.{ElementsHave, IsFoundObject, fact_of_object};
 
-use crate::heap_facts::id_size;
+use crate::heap_facts::holds_of_heap;
 use crate::object_dump::ObjectDump;
 use hprof_heap::Heap;
 use hprof_items::Fact;
 
-/// The fact with the key of an object.
+/// Returns the fact with the key of an object.
 #[inline(always)]
 fn object_fact<'a>(heap: &'a Heap, object: u64, near: &mut usize) -> Option<Fact<'a>>
     ensures value { option_map value_of result ≡ find (has_key (keys.Object object)) (facts_of heap.now) }
@@ -25,7 +24,7 @@ fn object_fact<'a>(heap: &'a Heap, object: u64, near: &mut usize) -> Option<Fact
     heap.object_near(object, near)
 }
 
-/// The dump of a fact that is an object dump; there is none of another fact.
+/// Returns the dump of a fact that is an object dump, or `None` for another fact.
 #[inline(always)]
 pub fn to_object_dump<'a>(fact: &Fact<'a>) -> Option<ObjectDump<'a>>
     ensures found { IfSome result (λ dump. fact_of_object dump ≡ value_of fact.now) }
@@ -71,32 +70,22 @@ pub fn to_object_dump<'a>(fact: &Fact<'a>) -> Option<ObjectDump<'a>>
     }
 }
 
-/// The dump of an object; None where the heap has none.
+/// Returns the dump of an object, or `None` if the heap has none.
 pub fn find_object(heap: &Heap, object: u64) -> Option<ObjectDump<'_>>
-    ensures found { IfSome result (λ dump. Has (facts_of heap.now) (fact_of_object dump)) }
-    ensures id { IfSome result (λ dump. IsObject object (fact_of_object dump)) }
-    ensures lists { IfSome result (ElementsHave (size_of heap.now)) }
-    // It is the only one.
-    ensures only { IfSome result (λ dump. (fact : FactValue) → Has (facts_of heap.now) fact → IsObject object fact
-        → fact_of_object dump ≡ fact) }
-    ensures none { IfNone result (HasNoObject (facts_of heap.now) object) }
+    ensures { IsFoundObject (size_of heap.now) (facts_of heap.now) object result }
 {
     find_object_near(heap, object, &mut 0)
 }
 
-/// The dump of an object, as `find_object` finds it, which is looked for near a place, as a class is by `find_class_near`.
+/// Returns the dump of an object, as [`find_object`] does, and looks for it near a place first.
+///
+/// `near` is set to the place of the dump, so that objects that are asked for in order of their identifiers are found one behind the other.
+/// The answer is the same for every `near`.
 #[inline(always)]
 pub fn find_object_near<'a>(heap: &'a Heap, object: u64, near: &mut usize) -> Option<ObjectDump<'a>>
-    ensures found { IfSome result (λ dump. Has (facts_of heap.now) (fact_of_object dump)) }
-    ensures id { IfSome result (λ dump. IsObject object (fact_of_object dump)) }
-    ensures lists { IfSome result (ElementsHave (size_of heap.now)) }
-    // It is the only one.
-    ensures only { IfSome result (λ dump. (fact : FactValue) → Has (facts_of heap.now) fact → IsObject object fact
-        → fact_of_object dump ≡ fact) }
-    ensures none { IfNone result (HasNoObject (facts_of heap.now) object) }
+    ensures { IsFoundObject (size_of heap.now) (facts_of heap.now) object result }
 {
-    // Facts of a heap agree: that is told with the size.
-    let _ids = id_size(heap);
+    holds_of_heap(heap);
     let fact = object_fact(heap, object, near)?;
     let Some(dump) = to_object_dump(&fact) else {
         // A fact with the key of an object is its dump.

@@ -1,4 +1,4 @@
-//! How objects are reached from roots: how few references lead to each, and by which path.
+//! How objects are reached from the GC roots: the least number of references that lead to each, and by which path.
 #![tactic(auto)]
 
 mod from_roots;

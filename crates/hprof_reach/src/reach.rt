@@ -18,22 +18,25 @@ use hprof_known_layouts::known_layouts;
 use hprof_search::{Numbered, Search, search};
 use std::alloc::{AllocError, Global};
 
-/// How the classes and objects of a heap are reached from its roots.
+/// How the classes and objects of a heap are reached from its GC roots: distances and paths.
 #[derive(Drop)]
 pub struct Reach {
     search: Search,
 }
 
 impl Reach {
-    /// How few references lead to an identifier from a root; None where none do, or it has no dump. It takes no memory.
+    /// Returns the least number of references that lead from a GC root to an identifier, or `None` if no root leads there or it has
+    /// no dump. Nothing is allocated.
     pub fn distance(&self, id: u64) -> Option<u64>
         ensures { (ids : IdSize) (facts : List FactValue) → IsReach ids facts self.now → IsDistanceFromRoots ids facts id result }
     {
         self.search.distance::<FromRoots>(id)
     }
 
-    /// The path to an identifier from a root: a shortest one, and from its end back each is the least that it could be; None
-    /// where no root leads there. The error is that memory was refused.
+    /// Returns a shortest path from a GC root to an identifier, or `None` if no root leads there.
+    ///
+    /// Of several shortest paths it is the one whose nodes, from its end back, are the least that they can be. If memory runs out, the
+    /// answer is `AllocError`.
     pub fn path(&self, alloc: Global, id: u64) -> Result<Option<Vec<u64>>, AllocError>
         ensures { IfOk result (λ path. (ids : IdSize) (facts : List FactValue) → IsReach ids facts self.now
             → IsPathFromRoots ids facts id (option_map (λ nodes. nodes.items) path)) }
@@ -42,8 +45,8 @@ impl Reach {
     }
 }
 
-/// How the classes and objects of a heap are reached from its roots. Each reference is looked at once. The error is that memory
-/// was refused.
+/// Searches a heap from its GC roots, by the number of references. Each reference is looked at once. If memory runs out, the answer is
+/// `AllocError`.
 pub fn reach_of(alloc: Global, heap: &Heap) -> Result<Reach, AllocError>
     ensures { IfOk result (IsReach (size_of heap.now) (facts_of heap.now)) }
 {

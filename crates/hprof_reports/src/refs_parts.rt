@@ -9,7 +9,8 @@ ghost use Rattle.hprof_reports.specs.RefsReporting.{refs_making};
 use crate::refs::write_refs;
 use hprof_devices::{Source, Target};
 use hprof_engine::{Product, ToolFault, WriteStop, make_to};
-use hprof_live::{IndexedHeap, LiveHeap};
+use hprof_heap::Heap;
+use hprof_live::{Index, LiveHeap};
 use hprof_stream::Limits;
 use std::alloc::Global;
 
@@ -46,10 +47,11 @@ impl Product for RefsReport {
         &self,
         alloc: Global,
         _kept: &(),
-        found: &IndexedHeap,
+        found: &(Heap, Index),
         target: &mut W,
     ) -> Result<(), WriteStop> {
-        write_refs(alloc, &found.heap, found.index.referrers(self.id), target)
+        let (heap, index) = found;
+        write_refs(alloc, heap, index.referrers(self.id), target)
     }
 
     ghost one_text = { λ report summaries heap. one_refs heap.ids heap.facts report.id };

@@ -1,39 +1,29 @@
 -- Where the facts of two heaps differ: at the keys at which their tables differ.
-use Rattle.std.proofs.Common.{◌≡◌, ◌≢◌, ℕ, zero, suc, ◌<◌, true, false, List, [], ◌∷◌, ◌++◌, find, Option, Some, None, refl, sym, ap, subst}
+use Rattle.std.proofs.Common.{◌≡◌, ◌≢◌, ℕ, zero, suc, ◌<◌, ◌≤◌, true, false, List, ◌++◌, find, Option, Some, None, refl, sym, ap, subst}
 use Rattle.std.proofs.Common.{◌∙◌, inl, inr, arith}
-use Rattle.std.specs.Prelude.{pos, ⊤}
-use Rattle.std.specs.Option.{option_map, MatchOption, IsSomeAnd}
-use Rattle.std.specs.Ordering.{nat_cmp}
-use Rattle.std.specs.BTreeMap.{is_at}
+use Rattle.std.specs.Prelude.{⊤}
+use Rattle.std.specs.Option.{option_map}
 use Rattle.std.proofs.lemmas.Bool.{cases_lt}
-use Rattle.std.proofs.lemmas.Map.Made.{lookup-map_values}
 use Rattle.hprof_values.specs.declared.ids.IdSize.{IdSize}
-use Rattle.hprof_items.specs.FactValue.{FactValue, Name, Load, Frame, Trace, Start, Class, Instance}
+use Rattle.hprof_items.specs.FactValue.{FactValue}
 use Rattle.hprof_items.specs.Spelling.{Fits}
-use Rattle.hprof_tables.specs.Spans.{the_bytes}
-use Rattle.hprof_tables.specs.Relation.{contents_of}
 use Rattle.hprof_tables.specs.SideBySide.{DifferAt, IsFirstDifference}
 use Rattle.hprof_tables.specs.SortedRows.{row_at}
 use Rattle.hprof_rows.specs.declared.key.Key.{Key}
 use Rattle.hprof_rows.specs.declared.key.Key.TheVariants as keys
 use Rattle.hprof_rows.specs.Conflict.{IsConsistent, HasConflict, IsLeastConflict}
-use Rattle.hprof_rows.specs.Content.{content_of, load_fact, frame_fact, trace_fact, start_fact, spelled_fact, object_fact, facts_of_rows}
-use Rattle.hprof_rows.specs.Content.{AreRight}
+use Rattle.hprof_rows.specs.Content.{content_of}
+use Rattle.hprof_rows.specs.EachTable.{DiffersFirst, contents_at, key_in, IsNumberIn}
 use Rattle.hprof_rows.specs.Facts.{Has, AllFit}
 use Rattle.hprof_rows.specs.HeapRows.{HeapRows, AreHeap, tables_of}
 use Rattle.hprof_rows.specs.Key.{key_of, rank_of, number_of, key_le, has_key}
-use Rattle.hprof_rows.specs.NumberRows.{load_numbers, frame_numbers, start_numbers}
-use Rattle.hprof_rows.specs.Order.{order_of}
 use Rattle.hprof_rows.specs.Tables.{joined}
-use Rattle.hprof_rows.specs.TraceRow.{trace_content}
 use Rattle.hprof_rows.proofs.FactEquality.{one_or_two}
 use Rattle.hprof_rows.proofs.FactSets.{Has-parts, Has-front, Has-back}
-use Rattle.hprof_rows.proofs.HeapRows.{names_right, loads_right, frames_right, starts_right, look_up_row, found_fits}
+use Rattle.hprof_rows.proofs.EachTable.{table_of_rank, table_of_key, fact_of_key, look_up_key, right_key, key_fits}
 use Rattle.hprof_rows.proofs.Inserting.{find-Some, find-None}
-use Rattle.hprof_rows.proofs.Keys.{key_le-true, true-key_le, key_le-total, place_of_key, is_key-true, true-is_key, IsUpTo}
+use Rattle.hprof_rows.proofs.Keys.{key_le-true, true-key_le, key_le-total, is_key-true, true-is_key, IsUpTo}
 use Rattle.hprof_rows.proofs.Order.{order_agrees}
-use Rattle.hprof_rows.proofs.RowFacts.{right_found}
-use Rattle.hprof_rows.proofs.Tables.{table_at}
 
 -- ---- facts of one key in two lists
 
@@ -134,28 +124,6 @@ made_of : {A B : Type 0} (make : A → B) (found : Option A) (made : B) → opti
 made_of make None made e = absurd cc
 made_of make (Some of) made e = record { of = of; is_found = refl; is_made = cc }
 
-none_made : {A B : Type 0} (make : A → B) (found : Option A) → option_map make found ≡ None → found ≡ None
-none_made make None e = refl
-none_made make (Some of) e = absurd cc
-
--- what a call answers that makes it of what was found, where something was
-pub made_by_call : {A B : Type 0} (make : A → B) (found : Option A) (answer : Option B) (gives : A → B → Type 0)
-    → MatchOption found (answer ≡ None) (λ of. IsSomeAnd answer (gives of)) → ((of : A) (made : B) → gives of made → made ≡ make of)
-    → answer ≡ option_map make found
-made_by_call make None answer gives cases follows = cases
-made_by_call make (Some of) None gives cases follows = absurd cases
-made_by_call {B = B} make (Some of) (Some made) gives cases follows = ap (λ (b : B). Some b) (follows of made cases)
-
--- in two steps or in one it is the same
-map_twice : {A : Type 0} (content : A → List ℕ) (fact : List ℕ → FactValue) (found : Option A)
-    → option_map (λ row. fact (content row)) found ≡ option_map fact (option_map content found)
-map_twice content fact None = refl
-map_twice content fact (Some row) = refl
-
-map_bytes : (found : Option (List ℕ)) → found ≡ option_map the_bytes found
-map_bytes None = refl
-map_bytes (Some bytes) = refl
-
 -- the fact of a key among facts is that of the content that was found, from which it can be read back
 pub record IsKept (ids : IdSize) (facts : List FactValue) (key : Key) (fact : List ℕ → FactValue) (found : Option (List ℕ)) : Type 0 where
   pub finds : find (has_key key) facts ≡ option_map fact found
@@ -187,72 +155,11 @@ module _ (ids : IdSize) (facts others : List FactValue) (key : Key) (fact : List
     differ = λ e. d.differ (sym (kept.again d.content d.has_content) ∙ ap (content_of ids) e ∙ other_kept.again d.other d.has_other);
   }
 
--- ---- the tables whose facts have keys
-
--- the keys and contents of the rows of the keys of a rank
-abbrev pub rows_of_rank : HeapRows → ℕ → List (ℕ × List ℕ)
-rows_of_rank rows zero = rows.names
-rows_of_rank rows (suc zero) = contents_of load_numbers rows.loads
-rows_of_rank rows (suc (suc zero)) = contents_of frame_numbers rows.frames
-rows_of_rank rows (suc (suc (suc zero))) = contents_of trace_content rows.traces
-rows_of_rank rows (suc (suc (suc (suc zero)))) = contents_of start_numbers rows.starts
-rows_of_rank rows (suc (suc (suc (suc (suc zero))))) = rows.classes
-rows_of_rank rows (suc (suc (suc (suc (suc (suc rank)))))) = rows.objects
-
--- the fact of a key and a content
-abbrev pub fact_of_key : IdSize → Key → List ℕ → FactValue
-fact_of_key ids (keys.Name id) content = Name id content
-fact_of_key ids (keys.Load serial) content = load_fact serial content
-fact_of_key ids (keys.Frame id) content = frame_fact id content
-fact_of_key ids (keys.Trace serial) content = trace_fact ids serial content
-fact_of_key ids (keys.Thread serial) content = start_fact serial content
-fact_of_key ids (keys.Class id) content = spelled_fact ids id content
-fact_of_key ids (keys.Object id) content = object_fact ids id content
-
--- what is found in a table is kept among the facts of the heap
-module _ {V : Type 0} (rows : HeapRows) (are : AreHeap rows) (table number : ℕ) (key : Key) (fact : ℕ → List ℕ → FactValue)
-    (content : V → List ℕ) (of_table : List (ℕ × V))
-    (any : FactValue) (at : place_of_key key ≡ table ∷ number ∷ []) (at_any : order_of any ≡ table ∷ number ∷ [])
-    (right : AreRight rows.ids table fact content of_table)
-    (facts : table_at (tables_of rows) table ≡ facts_of_rows fact content of_table) where
-  kept_by : (found : Option (List ℕ)) → found ≡ option_map content (row_at number of_table)
-      → IsKept rows.ids (joined (tables_of rows)) key (fact number) found
-  kept_by found e = record {
-    finds = look_up_row rows table number key fact content of_table any (row_at number of_table) are at at_any right facts refl
-        ∙ map_twice content (fact number) (row_at number of_table) ∙ ap (option_map (fact number)) (sym e);
-    again = λ bytes is.
-        let row = made_of content (row_at number of_table) bytes (sym e ∙ is) in
-        subst (λ (b : List ℕ). content_of rows.ids (fact number b) ≡ b) row.is_made
-        (right_found rows.ids table fact content of_table number row.of right row.is_found).1;
-  }
-
-  kept_contents : IsKept rows.ids (joined (tables_of rows)) key (fact number) (row_at number (contents_of content of_table))
-  kept_contents = kept_by (row_at number (contents_of content of_table)) (lookup-map_values content (is_at (nat_cmp number)) of_table)
-
--- so is what is found under any key
+-- what is found under a key is kept among the facts of a heap
 pub key_kept : (rows : HeapRows) → AreHeap rows → (key : Key)
-    → IsKept rows.ids (joined (tables_of rows)) key (fact_of_key rows.ids key) (row_at (number_of key) (rows_of_rank rows (rank_of key)))
-key_kept rows are (keys.Name id) =
-    kept_by rows are 0 id (keys.Name id) Name the_bytes rows.names (Name id []) refl refl (names_right rows.ids rows.names) refl
-    (row_at id rows.names) (map_bytes (row_at id rows.names))
-key_kept rows are (keys.Load serial) =
-    kept_contents rows are 1 serial (keys.Load serial) load_fact load_numbers rows.loads (Load serial 0 0 0) refl refl
-    (loads_right rows.ids rows.loads) refl
-key_kept rows are (keys.Frame id) =
-    kept_contents rows are 3 id (keys.Frame id) frame_fact frame_numbers rows.frames (Frame id 0 0 0 0 (pos 0)) refl refl
-    (frames_right rows.ids rows.frames) refl
-key_kept rows are (keys.Trace serial) =
-    kept_contents rows are 4 serial (keys.Trace serial) (trace_fact rows.ids) trace_content rows.traces (Trace serial 0 []) refl refl
-    are.traces refl
-key_kept rows are (keys.Thread serial) =
-    kept_contents rows are 5 serial (keys.Thread serial) start_fact start_numbers rows.starts (Start serial 0 0 0 0 0) refl refl
-    (starts_right rows.ids rows.starts) refl
-key_kept rows are (keys.Class id) =
-    kept_by rows are 8 id (keys.Class id) (spelled_fact rows.ids) the_bytes rows.classes (Class id 0 0 0 0 0 0 0 0 [] [] []) refl refl
-    are.classes refl (row_at id rows.classes) (map_bytes (row_at id rows.classes))
-key_kept rows are (keys.Object id) =
-    kept_by rows are 9 id (keys.Object id) (object_fact rows.ids) the_bytes rows.objects (Instance id 0 0 []) refl refl
-    are.objects refl (row_at id rows.objects) (map_bytes (row_at id rows.objects))
+    → IsKept rows.ids (joined (tables_of rows)) key (fact_of_key rows.ids key) (row_at (number_of key) (contents_at (table_of_key key) rows))
+key_kept rows are key =
+    record { finds = look_up_key rows are key; again = λ content is. (right_key rows are key content is).1 }
 
 -- ---- two heaps of one size
 
@@ -266,99 +173,116 @@ rank_lt (keys.Thread serial) = omega arith
 rank_lt (keys.Class id) = omega arith
 rank_lt (keys.Object id) = omega arith
 
+-- their tables of the keys of a rank differ at a number
+abbrev pub DifferUnder : HeapRows → HeapRows → ℕ → ℕ → Type 0
+DifferUnder one other rank number = DifferAt (contents_at (table_of_rank rank) one) (contents_at (table_of_rank rank) other) number
+
+-- no table of the keys of a lesser rank differs
+abbrev pub NoneBelow : HeapRows → HeapRows → ℕ → Type 0
+NoneBelow one other zero = ⊤
+NoneBelow one other (suc rank) = NoneBelow one other rank × ((number : ℕ) → DifferUnder one other rank number → ⊥)
+
+pub none_fewer : (one other : HeapRows) (rank more : ℕ) → rank ≤ more → NoneBelow one other more → NoneBelow one other rank
+none_fewer one other rank zero le none =
+    let same : zero ≡ rank = omega arith in subst (NoneBelow one other) same none
+none_fewer one other rank (suc more) le none = elim (cases_lt more rank) [
+  | inl lt ↦
+      let same : suc more ≡ rank = omega arith in
+      subst (NoneBelow one other) same none
+  | inr ge ↦ none_fewer one other rank more ge none.0
+]
+
 module _ (one other : HeapRows) (are : AreHeap one) (others_are : AreHeap other) (same : one.ids ≡ other.ids) where
   -- the facts of both
   abbrev both : List FactValue
   both = joined (tables_of one) ++ joined (tables_of other)
 
-  -- their tables of the keys of a rank differ at a number
-  abbrev DifferUnder : ℕ → ℕ → Type 0
-  DifferUnder rank number = DifferAt (rows_of_rank one rank) (rows_of_rank other rank) number
-
-  other_kept : (key : Key)
-      → IsKept one.ids (joined (tables_of other)) key (fact_of_key one.ids key) (row_at (number_of key) (rows_of_rank other (rank_of key)))
+  other_kept : (key : Key) → IsKept one.ids (joined (tables_of other)) key (fact_of_key one.ids key)
+      (row_at (number_of key) (contents_at (table_of_key key) other))
   other_kept key =
-      subst (λ (i : IdSize).
-      IsKept i (joined (tables_of other)) key (fact_of_key i key) (row_at (number_of key) (rows_of_rank other (rank_of key))))
-      (sym same) (key_kept other others_are key)
+      subst (λ (i : IdSize). IsKept i (joined (tables_of other)) key (fact_of_key i key)
+      (row_at (number_of key) (contents_at (table_of_key key) other))) (sym same) (key_kept other others_are key)
 
   -- they have a conflict where their tables differ
-  pub conflict_differs : (key : Key) → HasConflict both key → DifferUnder (rank_of key) (number_of key)
+  conflict_differs : (key : Key) → HasConflict both key → DifferUnder one other (rank_of key) (number_of key)
   conflict_differs key c =
       found_differ one.ids (joined (tables_of one)) (joined (tables_of other)) key (fact_of_key one.ids key)
-      (rows_of_rank one (rank_of key)) (rows_of_rank other (rank_of key)) (number_of key) (key_kept one are key) (other_kept key)
+      (contents_at (table_of_key key) one) (contents_at (table_of_key key) other) (number_of key) (key_kept one are key) (other_kept key)
       (conflict_found (joined (tables_of one)) (joined (tables_of other)) key (order_agrees (joined (tables_of one)) are.heap.ordered)
       (order_agrees (joined (tables_of other)) others_are.heap.ordered) c)
 
-  pub differs_conflict : (key : Key) → DifferUnder (rank_of key) (number_of key) → HasConflict both key
+  differs_conflict : (key : Key) → DifferUnder one other (rank_of key) (number_of key) → HasConflict both key
   differs_conflict key d =
       found_conflict (joined (tables_of one)) (joined (tables_of other)) key
       (differ_found one.ids (joined (tables_of one)) (joined (tables_of other)) key (fact_of_key one.ids key)
-      (rows_of_rank one (rank_of key)) (rows_of_rank other (rank_of key)) (number_of key) (key_kept one are key) (other_kept key) d)
+      (contents_at (table_of_key key) one) (contents_at (table_of_key key) other) (number_of key) (key_kept one are key) (other_kept key) d)
 
-  -- no table of the keys of a lesser rank differs
-  abbrev pub NoneBelow : ℕ → Type 0
-  NoneBelow zero = ⊤
-  NoneBelow (suc rank) = NoneBelow rank × ((number : ℕ) → DifferUnder rank number → ⊥)
-
-  -- so that no key of a lesser rank has a conflict
-  none_below : (rank : ℕ) → NoneBelow rank → (key : Key) → rank_of key < rank → HasConflict both key → ⊥
+  -- no key of a lesser rank has a conflict
+  none_below : (rank : ℕ) → NoneBelow one other rank → (key : Key) → rank_of key < rank → HasConflict both key → ⊥
   none_below zero none key lt c = absurd (omega arith)
   none_below (suc rank) none key lt c = elim (cases_lt (rank_of key) rank) [
     | inl less ↦ none_below rank none.0 key less c
     | inr more ↦
         let e : rank_of key ≡ rank = omega arith in
-        none.1 (number_of key) (subst (λ (r : ℕ). DifferUnder r (number_of key)) e (conflict_differs key c))
+        none.1 (number_of key) (subst (λ (r : ℕ). DifferUnder one other r (number_of key)) e (conflict_differs key c))
   ]
 
   -- where no table differs, the facts of both agree
-  none_agree : NoneBelow 7 → IsConsistent both
+  pub none_agree : NoneBelow one other 7 → IsConsistent both
   none_agree none =
       no_conflict_agrees one.ids both
       (AllFit-append one.ids (joined (tables_of one)) (joined (tables_of other)) are.heap.fit
       (subst (λ (i : IdSize). AllFit i (joined (tables_of other))) (sym same) others_are.heap.fit))
       (λ key c. none_below 7 none key (rank_lt key) c)
 
-  module _ (key : Key) (none : NoneBelow (rank_of key))
-      (first : IsFirstDifference (rows_of_rank one (rank_of key)) (rows_of_rank other (rank_of key)) (Some (number_of key))) where
+  module _ (key : Key) (none : NoneBelow one other (rank_of key))
+      (first : IsFirstDifference (contents_at (table_of_key key) one) (contents_at (table_of_key key) other) (Some (number_of key))) where
     -- a conflict at a key that comes no later is at that key
     up_to : (more : Key) → IsUpTo (rank_of more) (number_of more) (rank_of key) (number_of key) → HasConflict both more
         → key_le key more ≡ true
     up_to more (inl lt) c = absurd (none_below (rank_of key) none more lt c)
     up_to more (inr le) c = elim (cases_lt (number_of more) (number_of key)) [
-      | inl lt ↦ absurd (first.1 (number_of more) lt (subst (λ (r : ℕ). DifferUnder r (number_of more)) le.0 (conflict_differs more c)))
+      | inl lt ↦ absurd
+          (first.1 (number_of more) lt (subst (λ (r : ℕ). DifferUnder one other r (number_of more)) le.0 (conflict_differs more c)))
       | inr ge ↦ true-key_le key more (inr (sym le.0, ge))
     ]
 
     -- where the first table that differs does so first, there is the least conflict
-    first_is_least : IsLeastConflict both key
-    first_is_least = record {
-      conflict = differs_conflict key first.0;
-      least = λ more c. elim (key_le-total key more) [
-        | inl le ↦ le
-        | inr ge ↦ up_to more (key_le-true more key ge) c
-      ];
-    }
+    least_is : (answer : Key) → Some key ≡ Some answer → IsLeastConflict both answer
+    least_is answer e =
+        let it : key ≡ answer = cc in
+        subst (IsLeastConflict both) it (record {
+          conflict = differs_conflict key first.0;
+          least = λ more c. elim (key_le-total key more) [
+            | inl le ↦ le
+            | inr ge ↦ up_to more (key_le-true more key ge) c
+          ];
+        })
 
-    pub first_least : (answer : Key) → Some key ≡ Some answer → IsLeastConflict both answer
-    first_least answer e = let it : key ≡ answer = cc in subst (IsLeastConflict both) it first_is_least
+  module _ (number : ℕ) where
+    -- where the table of a rank differs at the number first
+    pub first_least : (rank : ℕ) → rank < 7 → NoneBelow one other rank → DiffersFirst (table_of_rank rank) one other (Some number) → (key : Key)
+        → key_in (table_of_rank rank) number ≡ Some key → IsLeastConflict both key
+    first_least zero lt none first key e = least_is (keys.Name number) none first.first key e
+    first_least (suc zero) lt none first key e = least_is (keys.Load number) none first.first key e
+    first_least (suc (suc zero)) lt none first key e = least_is (keys.Frame number) none first.first key e
+    first_least (suc (suc (suc zero))) lt none first key e = least_is (keys.Trace number) none first.first key e
+    first_least (suc (suc (suc (suc zero)))) lt none first key e = least_is (keys.Thread number) none first.first key e
+    first_least (suc (suc (suc (suc (suc zero))))) lt none first key e = least_is (keys.Class number) none first.first key e
+    first_least (suc (suc (suc (suc (suc (suc zero)))))) lt none first key e = least_is (keys.Object number) none first.first key e
+    first_least (suc (suc (suc (suc (suc (suc (suc rank))))))) lt none first key e = absurd (omega arith)
 
-  -- what is found in the last table is the answer, where no table before it differs
-  module _ (found : Option ℕ) (answer : Option Key) (none : NoneBelow 6) (first : IsFirstDifference one.objects other.objects found)
-      (made : answer ≡ option_map keys.Object found) where
-    pub last_agree : answer ≡ None → IsConsistent both
-    last_agree e =
-        let nothing : found ≡ None = none_made keys.Object found (sym made ∙ e) in
-        none_agree (none, subst (IsFirstDifference one.objects other.objects) nothing first)
+    -- the fact of a key at which they differ fits
+    differ_fits : (key : Key) (d : DifferUnder one other (rank_of key) (number_of key)) → Fits one.ids (fact_of_key one.ids key d.content)
+    differ_fits key d = key_fits one are key d.content d.has_content
 
-    pub last_least : (key : Key) → answer ≡ Some key → IsLeastConflict both key
-    last_least key e =
-        let object = made_of keys.Object found key (sym made ∙ e) in
-        first_least (keys.Object object.of) none (subst (IsFirstDifference one.objects other.objects) object.is_found first) key
-        (ap (λ (k : Key). Some k) object.is_made)
-
-  -- the fact of a key at which they differ fits
-  pub differ_fits : (key : Key) (d : DifferUnder (rank_of key) (number_of key)) → Fits one.ids (fact_of_key one.ids key d.content)
-  differ_fits key d =
-      found_fits one (has_key key) (fact_of_key one.ids key d.content) are
-      ((key_kept one are key).finds ∙ ap (option_map (fact_of_key one.ids key)) d.has_content)
+    -- so the number is one of the table's keys
+    pub first_fits : (rank : ℕ) → rank < 7 → DiffersFirst (table_of_rank rank) one other (Some number) → IsNumberIn (table_of_rank rank) number
+    first_fits zero lt first = tt
+    first_fits (suc zero) lt first = (differ_fits (keys.Load number) first.first.0).0.numbers.0
+    first_fits (suc (suc zero)) lt first = tt
+    first_fits (suc (suc (suc zero))) lt first = (differ_fits (keys.Trace number) first.first.0).0.numbers.0
+    first_fits (suc (suc (suc (suc zero)))) lt first = (differ_fits (keys.Thread number) first.first.0).0.numbers.0
+    first_fits (suc (suc (suc (suc (suc zero))))) lt first = tt
+    first_fits (suc (suc (suc (suc (suc (suc zero)))))) lt first = tt
+    first_fits (suc (suc (suc (suc (suc (suc (suc rank))))))) lt first = absurd (omega arith)

@@ -95,34 +95,19 @@ all_of_roots (root ∷ roots) = (root_of_table root, all_of_roots roots)
 
 -- the facts of each table stand in it
 pub heap_tables : (rows : HeapRows) → AreHeap rows → AreTables 0 (tables_of rows)
-heap_tables rows are = (
-  all_of_rows rows.ids 0 Name the_bytes rows.names (names_right rows.ids rows.names),
-  (
-    all_of_rows rows.ids 1 load_fact load_numbers rows.loads (loads_right rows.ids rows.loads),
-    (
-      all_of_rows rows.ids 2 unload_fact no_content rows.unloads (unloads_right rows.ids rows.unloads),
-      (
-        all_of_rows rows.ids 3 frame_fact frame_numbers rows.frames (frames_right rows.ids rows.frames),
-        (
-          all_of_rows rows.ids 4 (trace_fact rows.ids) trace_content rows.traces are.traces,
-          (
-            all_of_rows rows.ids 5 start_fact start_numbers rows.starts (starts_right rows.ids rows.starts),
-            (
-              all_of_rows rows.ids 6 end_fact no_content rows.ends (ends_right rows.ids rows.ends),
-              (
-                all_of_roots rows.roots,
-                (
-                  all_of_rows rows.ids 8 (spelled_fact rows.ids) the_bytes rows.classes are.classes,
-                  (all_of_rows rows.ids 9 (object_fact rows.ids) the_bytes rows.objects are.objects, tt),
-                ),
-              ),
-            ),
-          ),
-        ),
-      ),
-    ),
-  ),
-)
+heap_tables rows are =
+    let ids = rows.ids in
+    let names = all_of_rows ids 0 Name the_bytes rows.names (names_right ids rows.names) in
+    let loads = all_of_rows ids 1 load_fact load_numbers rows.loads (loads_right ids rows.loads) in
+    let unloads = all_of_rows ids 2 unload_fact no_content rows.unloads (unloads_right ids rows.unloads) in
+    let frames = all_of_rows ids 3 frame_fact frame_numbers rows.frames (frames_right ids rows.frames) in
+    let traces = all_of_rows ids 4 (trace_fact ids) trace_content rows.traces are.traces in
+    let starts = all_of_rows ids 5 start_fact start_numbers rows.starts (starts_right ids rows.starts) in
+    let ends = all_of_rows ids 6 end_fact no_content rows.ends (ends_right ids rows.ends) in
+    let roots = all_of_roots rows.roots in
+    let classes = all_of_rows ids 8 (spelled_fact ids) the_bytes rows.classes are.classes in
+    let objects = all_of_rows ids 9 (object_fact ids) the_bytes rows.objects are.objects in
+    (names, (loads, (unloads, (frames, (traces, (starts, (ends, (roots, (classes, (objects, tt))))))))))
 
 -- ---- stating into one table
 

@@ -11,6 +11,7 @@ pub mod Tables
 pub mod HeapRows
 pub mod KeptObjects
 pub mod ReadBack
+pub mod EachTable
 pub mod SameHeaps
 pub mod Differing
 pub mod Roots

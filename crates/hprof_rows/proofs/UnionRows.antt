@@ -1,7 +1,6 @@
 -- The facts of two tables as one: those of the rows of both, where facts at one place are the same.
-use Rattle.std.proofs.Common.{◌≡◌, ◌≢◌, ◌<◌, ◌⊎◌, ℕ, true, List, [], ◌∷◌, ◌++◌, map, Option, Some, None, Result, Ok, Err, refl, sym, ap}
+use Rattle.std.proofs.Common.{◌≡◌, ◌≢◌, ◌<◌, ◌⊎◌, ℕ, true, List, [], ◌∷◌, ◌++◌, map, Option, Some, None, refl, sym, ap}
 use Rattle.std.proofs.Common.{subst, ◌∙◌, inl, inr, arith}
-use Rattle.std.specs.Prelude.{IfOk, OnErr}
 use Rattle.std.specs.List.{AllByRecursion}
 use Rattle.std.specs.List.Sorted.{IsStrictlySortedBy}
 use Rattle.std.specs.Option.{option_or}
@@ -15,14 +14,13 @@ use Rattle.hprof_tables.specs.SortedRows.{AreKeys, row_at, IsAscending}
 use Rattle.hprof_tables.specs.Union.{AreUnion}
 use Rattle.hprof_tables.proofs.SortedRows.{ascending_cons, ascending_head, ascending_tail, row_at-here, row_at-past}
 use Rattle.hprof_tables.proofs.Unions.{union_rows}
-use Rattle.hprof_rows.specs.Content.{facts_of_rows, IsRight, AreRight}
+use Rattle.hprof_rows.specs.Content.{IsRight, AreRight}
 use Rattle.hprof_rows.specs.Facts.{Has, SameFacts}
 use Rattle.hprof_rows.specs.Order.{IsBefore, IsCanonicalOrder}
 use Rattle.hprof_rows.proofs.FactSets.{Has-parts, Has-front, Has-back}
 use Rattle.hprof_rows.proofs.Keys.{same_place}
 use Rattle.hprof_rows.proofs.Order.{is_before-true}
 use Rattle.hprof_rows.proofs.RowFacts.{before_by, same_place_by, right_found}
-use Rattle.hprof_rows.proofs.SameHeaps.{from_contents}
 
 -- no rows ascend
 nothing_ascends : (V : Type 0) → IsAscending {V = V} []
@@ -181,9 +179,6 @@ module _ (ids : IdSize) (table : ℕ) (fact : ℕ → List ℕ → FactValue) wh
 -- ---- rows of any content
 
 module _ {V : Type 0} (ids : IdSize) (table : ℕ) (fact : ℕ → List ℕ → FactValue) (content : V → List ℕ) where
-  abbrev facts : List (ℕ × V) → List FactValue
-  facts rows = facts_of_rows fact content rows
-
   abbrev RightRows : List (ℕ × V) → Type 0
   RightRows rows = AreRight ids table fact content rows
 
@@ -192,34 +187,6 @@ module _ {V : Type 0} (ids : IdSize) (table : ℕ) (fact : ℕ → List ℕ → 
   contents_right [] right = tt
   contents_right (row ∷ rows) right = (right.0, contents_right rows right.1)
 
-  right_contents : (rows : List (ℕ × V)) → Right ids table fact (contents_of content rows) → RightRows rows
+  pub right_contents : (rows : List (ℕ × V)) → Right ids table fact (contents_of content rows) → RightRows rows
   right_contents [] right = tt
   right_contents (row ∷ rows) right = (right.0, right_contents rows right.1)
-
-  module _ (old other : List (ℕ × V)) (right : RightRows old) (right_too : RightRows other) where
-    -- rows that are those of both
-    abbrev pub AreOfBoth : List (ℕ × V) → Type 0
-    AreOfBoth new = AreUnion (contents_of content old) (contents_of content other) (contents_of content new)
-
-    -- state the facts of both
-    pub union_facts : (new : List (ℕ × V)) → IsCanonicalOrder (facts old) → IsCanonicalOrder (facts other)
-        → AgreeAtPlaces (facts old) (facts other) → AreOfBoth new → IsTableOfBoth (facts old) (facts other) (facts new)
-    union_facts new ordered ordered_too agree union =
-        let first = contents_right old right in
-        let second = contents_right other right_too in
-        let e = from_contents ids table fact content old in
-        let f = from_contents ids table fact content other in
-        rw (e, f, from_contents ids table fact content new) (union_stated ids table fact (contents_of content old)
-        (contents_of content other)
-        (contents_of content new) first second union
-        (ascending_of ids table fact (contents_of content old) first (subst IsCanonicalOrder e ordered))
-        (ascending_of ids table fact (contents_of content other) second (subst IsCanonicalOrder f ordered_too))
-        (rw (← e, ← f) agree))
-
-    -- and are right; where memory was refused they are those of the first
-    pub tried_union_right : {A E : Type 0} (r : Result A E) (new : List (ℕ × V)) → IfOk r (λ _. AreOfBoth new)
-        → OnErr r (new ≡ old) → RightRows new
-    tried_union_right (Ok done) new ok err =
-        right_contents new (union_right ids table fact (contents_of content old) (contents_of content other) (contents_of content new)
-        (contents_right old right) (contents_right other right_too) ok)
-    tried_union_right (Err e) new ok err = rw err right

@@ -14,6 +14,7 @@ pub mod Stating
 pub mod HeapRows
 pub mod RootSet
 pub mod TableRows
+pub mod EachTable
 pub mod FactsLeft
 pub mod SubRow
 pub mod SubRows

@@ -3,10 +3,39 @@
 ghost use Rattle.std.specs.Prelude.{◌≡◌, ◌++◌, None, Some};
 ghost use Rattle.hprof_rows.specs.declared.key.Key.{Key};
 ghost use Rattle.hprof_rows.specs.Conflict.{IsConsistent, IsLeastConflict};
+ghost use Rattle.hprof_rows.specs.EachTable.{IsNumberIn, key_in};
 ghost use Rattle.hprof_heap.specs.Heap.{heap_of};
 
 use super::Heap;
-use hprof_rows::Key;
+use hprof_rows::{Key, Table};
+
+/// The tables whose facts have keys, in the order of the keys.
+const KEYED: [Table; 7] = [
+    Table::Names,
+    Table::Loads,
+    Table::Frames,
+    Table::Traces,
+    Table::Starts,
+    Table::Classes,
+    Table::Objects,
+];
+
+/// The key of the facts under a number of a table.
+fn key_under(table: Table, number: u64) -> Option<Key>
+    requires { IsNumberIn table number }
+    ensures { result ≡ key_in table number }
+{
+    match table {
+        Table::Names => Some(Key::Name(number)),
+        Table::Loads => Some(Key::Load(number as u32)),
+        Table::Frames => Some(Key::Frame(number)),
+        Table::Traces => Some(Key::Trace(number as u32)),
+        Table::Starts => Some(Key::Thread(number as u32)),
+        Table::Classes => Some(Key::Class(number)),
+        Table::Objects => Some(Key::Object(number)),
+        Table::Unloads | Table::Ends | Table::Roots => None,
+    }
+}
 
 impl Heap {
     /// The least key under which both have facts that differ. The tables of both are gone over side by side, each once.
@@ -15,26 +44,11 @@ impl Heap {
         ensures none { result ≡ None → IsConsistent ((heap_of self.now).facts ++ (heap_of other.now).facts) }
         ensures some { (key : Key) → result ≡ Some key → IsLeastConflict ((heap_of self.now).facts ++ (heap_of other.now).facts) key }
     {
-        if let Some(id) = self.names.first_difference(&other.names) {
-            return Some(Key::Name(id));
+        for table in &KEYED {
+            if let Some(number) = self.tables.first_difference(*table, &other.tables) {
+                return key_under(*table, number);
+            }
         }
-        if let Some(serial) = self.loads.first_difference(&other.loads) {
-            return Some(Key::Load(serial as u32));
-        }
-        if let Some(id) = self.frames.first_difference(&other.frames) {
-            return Some(Key::Frame(id));
-        }
-        if let Some(serial) = self.traces.first_difference(&other.traces) {
-            return Some(Key::Trace(serial as u32));
-        }
-        if let Some(serial) = self.starts.first_difference(&other.starts) {
-            return Some(Key::Thread(serial as u32));
-        }
-        if let Some(id) = self.classes.first_difference(&other.classes) {
-            return Some(Key::Class(id));
-        }
-        self.objects
-            .first_difference(&other.objects)
-            .map(Key::Object)
+        None
     }
 }

@@ -34,18 +34,7 @@ impl Heap {
         ensures err { OnErr result (heap_of self.new ≡ heap_of self.old) }
         ensures absent { OnErr result (LacksFactIn table (heap_of self.old) (heap_of other.now)) }
     {
-        match table {
-            Table::Names => self.names.join(&other.names),
-            Table::Loads => self.loads.join(&other.loads),
-            Table::Unloads => self.unloads.join(&other.unloads),
-            Table::Frames => self.frames.join(&other.frames),
-            Table::Traces => self.traces.join(&other.traces),
-            Table::Starts => self.starts.join(&other.starts),
-            Table::Ends => self.ends.join(&other.ends),
-            Table::Roots => self.roots.join(&other.roots),
-            Table::Classes => self.classes.join(&other.classes),
-            Table::Objects => self.objects.join(&other.objects),
-        }
+        self.tables.join(table, &other.tables)
     }
 
     /// Takes the facts of another heap, table by table. Where memory is refused, it has some of them.
@@ -69,7 +58,7 @@ impl Heap {
     pub fn join(&mut self, other: &Heap) -> Result<(), JoinRefusal>
         ensures { JoinsInto (heap_of self.old) (heap_of other.now) result (heap_of self.new) }
     {
-        if self.ids != other.ids {
+        if self.tables.ids != other.tables.ids {
             return Err(JoinRefusal::IdSizes);
         }
         if let Some(key) = self.first_difference(other) {
@@ -78,7 +67,7 @@ impl Heap {
         if self.join_tables(other).is_err() {
             return Err(JoinRefusal::OutOfMemory);
         }
-        self.keep_earlier(other.millis);
+        self.keep_earlier(other.tables.millis);
         Ok(())
     }
 }

@@ -25,7 +25,7 @@ pub returns-in_default : goal.returns-in_default
 returns-in_default g c = record {
   holds = λ edges held.
       put_nothing edges (g.C.Collect.holds c.args.into.now) (GivenByInstance (size_of c.args.heap.now) (facts_of c.args.heap.now) c.args.id) held
-      (no_values (size_of c.args.heap.now) (facts_of c.args.heap.now) c.args.id c.id_size-ids.ensures.agree _ c.in_ok-values.ensures
+      (no_values (size_of c.args.heap.now) (facts_of c.args.heap.now) c.args.id c.holds_of_heap.ensures.agree _ c.in_ok-values.ensures
       (other_answer _ c.in_default.not-Values));
   keeps = refl;
 }
@@ -39,6 +39,6 @@ returns-clause-holds g c = λ edges held.
     record {
       more = numbered c.args.id vias.Field 0 (targets_of_values values);
       holds_more = c.in_ok-put_values.ensures.holds edges held;
-      exact = by_values ids facts c.args.id c.id_size-ids.ensures.agree values
+      exact = by_values ids facts c.args.id c.holds_of_heap.ensures.agree values
           (subst (λ (list : List FieldValue). AreFields ids facts c.args.id (Values list)) (sym c.deref.ensures.value) are);
     }

@@ -1,7 +1,5 @@
-use Rattle.std.proofs.Common.{ap, ◌∙◌, subst, List}
-use Rattle.std.specs.Prelude.{◌↔◌, Contains}
+use Rattle.std.proofs.Common.{ap, ◌∙◌}
 use Rattle.hprof_lookup.specs.HeapFacts.{facts_of, size_of}
-use Rattle.hprof_edges.specs.declared.edge.Edge.{Edge}
 use Rattle.hprof_edges.specs.Collecting.{is_edge_wanted}
 use Rattle.hprof_edges.proofs.KeptEdges.{edges_to, none_to_zero}
 use Rattle.hprof_edges.proofs.to_identifier.referrers.Goals as goal
@@ -14,7 +12,6 @@ pub returns : goal.returns
 returns c =
     edges_to (size_of c.args.heap.now) (facts_of c.args.heap.now) c.args.id c.put_all.new.into c.sort_edges.new.edges.items
     c.sort_edges.ensures.ascend
-    (λ edge. subst (λ (l : List Edge). Contains c.sort_edges.new.edges.items edge ↔ Contains l edge) c.into_edges-edges.ensures
-    (c.sort_edges.ensures.same edge))
-    (c.in_ok-put_all.ensures.holds _ c.new-list.ensures.none)
-    (c.in_ok-put_all.ensures.keeps ∙ ap is_edge_wanted c.new-list.ensures.wanted)
+    c.sort_edges.ensures.same
+    (c.in_ok-put_all.ensures.holds _ c.new-set.ensures.none)
+    (c.in_ok-put_all.ensures.keeps ∙ ap is_edge_wanted c.new-set.ensures.wanted)

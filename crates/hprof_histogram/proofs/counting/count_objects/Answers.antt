@@ -1,4 +1,4 @@
-use Rattle.std.proofs.Common.{◌<◌, ◌^◌, sym, ap, subst, ◌∙◌, arith}
+use Rattle.std.proofs.Common.{length, refl, sym, ap, subst, ◌∙◌}
 use Rattle.hprof_items.specs.FactValue.{value_of}
 use Rattle.hprof_rows.specs.declared.table.Table.TheVariants as tables
 use Rattle.hprof_rows.specs.FactsLeft.{facts_left}
@@ -14,11 +14,10 @@ count-requires c =
     let ids = size_of c.args.heap.now in
     let facts = facts_of c.args.heap.now in
     let fact = value_of c.next_into.new.fact in
-    let few : c.table_len-objects.result < 2 ^ 64 = omega arith in
     room_for_one ids (facts_of_table tables.Objects facts) (facts_left c.next_into.new.self) c.loop-facts.tally fact c.in-Some.kind
     c.in-Some.size (sym c.in-Some.ensures.kind)
     (c.in-Some.ensures.size ∙ ap (λ size. size_of_object size fact) c.id_size-ids.ensures.value)
-    (room_of_all ids facts c.table_len-objects.result c.id_size-ids.ensures.fit c.table_len-objects.ensures few)
+    (room_of_all ids facts (length (facts_of_table tables.Objects facts)) c.id_size-ids.ensures.fit refl c.holds_of_heap.ensures.few)
     (subst (IsTallyTo ids (facts_of_table tables.Objects facts) c.loop-facts.tally) (c.next_into.ensures.some c.loop-facts-test.true) c.loop-facts.invariant)
 
 pub loop-facts-preserved-in-Continue-1 : goal.loop-facts-preserved-in-Continue-1

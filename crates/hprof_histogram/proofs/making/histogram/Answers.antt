@@ -26,5 +26,5 @@ returns c =
     c.in_ok-rows.ensures.rows
     ∙ sym (filter-append has_objects (class_rows (rows_in tally.classes)) (type_rows tally.types element_types)) in
     rows_are_histogram tally c.in_ok-rows.ensures.apart (size_of c.args.heap.now) (facts_of c.args.heap.now)
-    c.in_ok-tally.ensures c.id_size-ids.ensures.fit after
+    c.in_ok-tally.ensures c.holds_of_heap.ensures.fit after
     (subst (λ before. IsPermutation before after) same c.sort_rows.ensures.same) c.sort_rows.ensures.ascend

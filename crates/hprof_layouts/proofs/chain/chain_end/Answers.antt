@@ -20,7 +20,7 @@ returns-then-passed-classes c =
     walked_round (facts_of c.args.heap.now) c.args.class _ _ _ c.loop-at.invariant.walking (class_value c.in-Some.dump) c.loop-at-test.true
     c.in-Some.ensures.found c.in-Some.ensures.id c.if-passed-classes.true
 
-pub returns-then-row-mark : goal.returns-then-row-mark
-returns-then-row-mark c =
+pub returns-then-dump-mark : goal.returns-then-dump-mark
+returns-then-dump-mark c =
     watched_round (facts_of c.args.heap.now) c.args.class _ _ _ _ c.loop-at.invariant (class_value c.in-Some.dump) c.loop-at-test.true
     c.in-Some.ensures.found c.in-Some.ensures.id c.if-dump-mark.true

@@ -32,4 +32,4 @@ returns-clause-found c = is_there c
 
 pub returns-clause-only : goal.returns-clause-only
 returns-clause-only c = λ other has.
-    one_name (facts_of c.args.heap.now) c.args.name c.in-Name.text.now other c.id_size-ids.ensures.agree (is_there c) has
+    one_name (facts_of c.args.heap.now) c.args.name c.in-Name.text.now other c.holds_of_heap.ensures.agree (is_there c) has

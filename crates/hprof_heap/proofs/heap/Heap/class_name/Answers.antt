@@ -8,12 +8,12 @@ use Rattle.hprof_heap.proofs.heap.Heap.class_name.Goals as goal
 
 pub loop-serial-init : goal.loop-serial-init
 loop-serial-init c = rw c.into_iter-serial-iterator.ensures.into_iter_gives
-    (passed_nothing c.args.class (rows_of c.args.self.now.loads) (rows_left c.rows-serial-items.result) c.rows-serial-items.ensures.all
+    (passed_nothing c.args.class (rows_of c.args.self.now.tables.loads) (rows_left c.rows-serial-items.result) c.rows-serial-items.ensures.all
     c.rows-serial-items.ensures.ascending)
 
 pub loop-serial-preserved : goal.loop-serial-preserved
 loop-serial-preserved c =
-    passed_one c.args.class (rows_of c.args.self.now.loads) _ (c.in-Some._serial, c.in-Some.row.now) (rows_left c.next.new.self)
+    passed_one c.args.class (rows_of c.args.self.now.tables.loads) _ (c.in-Some._serial, c.in-Some.row.now) (rows_left c.next.new.self)
     c.in-Some.ensures.steps
     c.loop-serial.invariant c.if-row-class.false
 
@@ -22,12 +22,12 @@ returns-then-row-class c =
     let heap = c.args.self.now in
     let row : ℕ × LoadRow = (c.in-Some._serial, c.in-Some.row.now) in
     named_among (rows_in heap) c.args.class (Some row.1.name) heap.sound
-    (passed_named c.args.class (rows_of heap.loads) _ row (rows_left c.next.new.self) c.in-Some.ensures.steps c.loop-serial.invariant
+    (passed_named c.args.class (rows_of heap.tables.loads) _ row (rows_left c.next.new.self) c.in-Some.ensures.steps c.loop-serial.invariant
     c.if-row-class.true)
 
 pub returns : goal.returns
 returns c =
     let heap = c.args.self.now in
     named_among (rows_in heap) c.args.class None heap.sound
-    (passed_all c.args.class (rows_of heap.loads) (rows_left c.loop-serial._serial-iterator) c.in-None.ensures.steps.0
+    (passed_all c.args.class (rows_of heap.tables.loads) (rows_left c.loop-serial._serial-iterator) c.in-None.ensures.steps.0
     c.loop-serial.invariant)

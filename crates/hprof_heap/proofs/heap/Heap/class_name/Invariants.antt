@@ -4,4 +4,4 @@ use Rattle.hprof_heap.proofs.ClassName.{Passed}
 use Rattle.hprof_heap.proofs.heap.Heap.class_name.Given as goal
 
 abbrev pub invariant-loop-serial : goal.invariant-loop-serial
-invariant-loop-serial l = Passed l.fn.class (rows_of l.fn.self.loads) (rows_left l._serial-iterator)
+invariant-loop-serial l = Passed l.fn.class (rows_of l.fn.self.tables.loads) (rows_left l._serial-iterator)

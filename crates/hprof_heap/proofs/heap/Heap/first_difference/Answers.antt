@@ -1,130 +1,75 @@
-use Rattle.std.proofs.Common.{arith, ◌<◌, ◌^◌}
-use Rattle.hprof_rows.specs.declared.key.Key.TheVariants as keys
+use Rattle.std.proofs.Common.{◌≡◌, ◌<◌, ℕ, zero, suc, ◌+◌, [], ◌∷◌, Option, Some, None, get_or, refl, sym, ap, subst, ◌∙◌, arith}
+use Rattle.hprof_tables.specs.SideBySide.{IsFirstDifference}
+use Rattle.hprof_rows.specs.declared.table.Table.{Table}
+use Rattle.hprof_rows.specs.declared.table.Table.TheVariants.{Names, Loads, Frames, Traces, Starts, Roots, Classes, Objects}
+use Rattle.hprof_rows.specs.EachTable.{DiffersFirst, IsNumberIn, key_in}
+use Rattle.hprof_rows.specs.HeapRows.{HeapRows}
+use Rattle.hprof_rows.proofs.Differing.{NoneBelow, none_fewer, none_agree, first_least, first_fits}
+use Rattle.hprof_rows.proofs.EachTable.{table_of_rank}
 use Rattle.hprof_heap.specs.Heap.{rows_in}
-use Rattle.hprof_rows.proofs.Differing.{first_least, last_agree, last_least, differ_fits, made_by_call}
+use Rattle.hprof_heap.specs.Tables.{Differs}
 use Rattle.hprof_heap.proofs.heap.Heap.first_difference.Goals as goal
+
+-- the tables are in the order of their ranks
+abbrev keyed : ℕ → Table
+keyed rank = get_or (Names ∷ Loads ∷ Frames ∷ Traces ∷ Starts ∷ Classes ∷ Objects ∷ []) rank Names
+
+in_order : (rank : ℕ) → rank < 7 → keyed rank ≡ table_of_rank rank
+in_order zero lt = refl
+in_order (suc zero) lt = refl
+in_order (suc (suc zero)) lt = refl
+in_order (suc (suc (suc zero))) lt = refl
+in_order (suc (suc (suc (suc zero)))) lt = refl
+in_order (suc (suc (suc (suc (suc zero))))) lt = refl
+in_order (suc (suc (suc (suc (suc (suc zero)))))) lt = refl
+in_order (suc (suc (suc (suc (suc (suc (suc rank))))))) lt = absurd (omega arith)
+
+differs_first : (table : Table) (one other : HeapRows) (found : Option ℕ) → Differs table one other found
+    → DiffersFirst table one other found
+differs_first Roots one other found e = record {
+  first = subst (IsFirstDifference [] []) (sym e) (λ key d. let none : None ≡ Some d.content = d.has_content in absurd cc);
+}
+differs_first table one other found first = first
+
+differs : (one other : HeapRows) (rank : ℕ) (found : Option ℕ) → rank < 7 → Differs (keyed rank) one other found
+    → DiffersFirst (table_of_rank rank) one other found
+differs one other rank found lt first =
+    subst (λ (table : Table). DiffersFirst table one other found) (in_order rank lt) (differs_first (keyed rank) one other found first)
+
+pub key_under-requires : goal.key_under-requires
+key_under-requires c =
+    let one = c.args.self.now in
+    let other = c.args.other.now in
+    let rank = c.loop-table.table-index in
+    let number = c.in-Some.number in
+    let lt = c.loop-table-test.true in
+    subst (λ (table : Table). IsNumberIn table number) (sym (in_order rank lt))
+    (first_fits (rows_in one) (rows_in other) one.sound other.sound c.requires number rank lt
+    (differs (rows_in one) (rows_in other) rank (Some number) lt c.in-Some.ensures))
 
 pub returns-in-Some-clause-some : goal.returns-in-Some-clause-some
 returns-in-Some-clause-some c =
     let one = c.args.self.now in
     let other = c.args.other.now in
-    first_least (rows_in one) (rows_in other) one.sound other.sound c.requires (keys.Name c.in-Some.id)
-    tt c.in-Some.ensures
+    let rank = c.loop-table.table-index in
+    let number = c.in-Some.number in
+    let lt = c.loop-table-test.true in
+    λ key e. first_least (rows_in one) (rows_in other) one.sound other.sound c.requires number rank lt c.loop-table.invariant
+    (differs (rows_in one) (rows_in other) rank (Some number) lt c.in-Some.ensures) key
+    (ap (λ (table : Table). key_in table number) (sym (in_order rank lt)) ∙ sym c.key_under.ensures ∙ e)
 
-pub overflow_cast-result : goal.overflow_cast-result
-overflow_cast-result c =
-    let one = c.args.self.now in
-    let other = c.args.other.now in
-    let fits = differ_fits (rows_in one) (rows_in other) one.sound other.sound c.requires
-    (keys.Load c.in-Some-first_difference.serial) c.in-Some-first_difference.ensures.0 in
-    let lt : c.in-Some-first_difference.serial < 256 ^ 4 = fits.0.numbers.0 in
-    omega arith
-
-pub returns-in-Some-first_difference-clause-some : goal.returns-in-Some-first_difference-clause-some
-returns-in-Some-first_difference-clause-some c =
-    let one = c.args.self.now in
-    let other = c.args.other.now in
-    first_least (rows_in one) (rows_in other) one.sound other.sound c.requires (keys.Load c.in-Some-first_difference.serial)
-    (tt, c.in_default.ensures) c.in-Some-first_difference.ensures
-
-pub returns-in-Some-first_difference-2-clause-some : goal.returns-in-Some-first_difference-2-clause-some
-returns-in-Some-first_difference-2-clause-some c =
-    let one = c.args.self.now in
-    let other = c.args.other.now in
-    first_least (rows_in one) (rows_in other) one.sound other.sound c.requires (keys.Frame c.in-Some-first_difference-2.id)
-    ((tt, c.in_default.ensures), c.in_default-first_difference.ensures) c.in-Some-first_difference-2.ensures
-
-pub overflow_cast-result-in-Some-first_difference-3 : goal.overflow_cast-result-in-Some-first_difference-3
-overflow_cast-result-in-Some-first_difference-3 c =
-    let one = c.args.self.now in
-    let other = c.args.other.now in
-    let fits = differ_fits (rows_in one) (rows_in other) one.sound other.sound c.requires
-    (keys.Trace c.in-Some-first_difference-3.serial) c.in-Some-first_difference-3.ensures.0 in
-    let lt : c.in-Some-first_difference-3.serial < 256 ^ 4 = fits.0.numbers.0 in
-    omega arith
-
-pub returns-in-Some-first_difference-3-clause-some : goal.returns-in-Some-first_difference-3-clause-some
-returns-in-Some-first_difference-3-clause-some c =
-    let one = c.args.self.now in
-    let other = c.args.other.now in
-    first_least (rows_in one) (rows_in other) one.sound other.sound c.requires (keys.Trace c.in-Some-first_difference-3.serial)
-    (((tt, c.in_default.ensures), c.in_default-first_difference.ensures), c.in_default-first_difference-2.ensures)
-    c.in-Some-first_difference-3.ensures
-
-pub overflow_cast-result-in-Some-first_difference-4 : goal.overflow_cast-result-in-Some-first_difference-4
-overflow_cast-result-in-Some-first_difference-4 c =
-    let one = c.args.self.now in
-    let other = c.args.other.now in
-    let fits = differ_fits (rows_in one) (rows_in other) one.sound other.sound c.requires
-    (keys.Thread c.in-Some-first_difference-4.serial) c.in-Some-first_difference-4.ensures.0 in
-    let lt : c.in-Some-first_difference-4.serial < 256 ^ 4 = fits.0.numbers.0 in
-    omega arith
-
-pub returns-in-Some-first_difference-4-clause-some : goal.returns-in-Some-first_difference-4-clause-some
-returns-in-Some-first_difference-4-clause-some c =
-    let one = c.args.self.now in
-    let other = c.args.other.now in
-    first_least (rows_in one) (rows_in other) one.sound other.sound c.requires (keys.Thread c.in-Some-first_difference-4.serial) (
-      (
-        ((tt, c.in_default.ensures), c.in_default-first_difference.ensures),
-        c.in_default-first_difference-2.ensures,
-      ),
-      c.in_default-first_difference-3.ensures,
-    )
-    c.in-Some-first_difference-4.ensures
-
-pub returns-in-Some-first_difference-5-clause-some : goal.returns-in-Some-first_difference-5-clause-some
-returns-in-Some-first_difference-5-clause-some c =
-    let one = c.args.self.now in
-    let other = c.args.other.now in
-    first_least (rows_in one) (rows_in other) one.sound other.sound c.requires (keys.Class c.in-Some-first_difference-5.id) (
-      (
-        (
-          ((tt, c.in_default.ensures), c.in_default-first_difference.ensures),
-          c.in_default-first_difference-2.ensures,
-        ),
-        c.in_default-first_difference-3.ensures,
-      ),
-      c.in_default-first_difference-4.ensures,
-    )
-    c.in-Some-first_difference-5.ensures
+pub loop-table-preserved : goal.loop-table-preserved
+loop-table-preserved c =
+    let one = rows_in c.args.self.now in
+    let other = rows_in c.args.other.now in
+    let rank = c.loop-table.table-index in
+    let next : suc rank ≡ rank + 1 = omega arith in
+    subst (NoneBelow one other) next
+    (c.loop-table.invariant, (differs one other rank _ c.loop-table-test.true c.in_default.ensures).first)
 
 pub returns-clause-none : goal.returns-clause-none
 returns-clause-none c =
     let one = c.args.self.now in
     let other = c.args.other.now in
-    last_agree (rows_in one) (rows_in other) one.sound other.sound c.requires c.first_difference-7.result c.map.result (
-      (
-        (
-          (
-            ((tt, c.in_default.ensures), c.in_default-first_difference.ensures),
-            c.in_default-first_difference-2.ensures,
-          ),
-          c.in_default-first_difference-3.ensures,
-        ),
-        c.in_default-first_difference-4.ensures,
-      ),
-      c.in_default-first_difference-5.ensures,
-    )
-    c.first_difference-7.ensures
-    (made_by_call keys.Object c.first_difference-7.result c.map.result _ c.map.ensures.cases (λ of answer gives. gives))
-
-pub returns-clause-some : goal.returns-clause-some
-returns-clause-some c =
-    let one = c.args.self.now in
-    let other = c.args.other.now in
-    last_least (rows_in one) (rows_in other) one.sound other.sound c.requires c.first_difference-7.result c.map.result (
-      (
-        (
-          (
-            ((tt, c.in_default.ensures), c.in_default-first_difference.ensures),
-            c.in_default-first_difference-2.ensures,
-          ),
-          c.in_default-first_difference-3.ensures,
-        ),
-        c.in_default-first_difference-4.ensures,
-      ),
-      c.in_default-first_difference-5.ensures,
-    )
-    c.first_difference-7.ensures
-    (made_by_call keys.Object c.first_difference-7.result c.map.result _ c.map.ensures.cases (λ of answer gives. gives))
+    λ nothing. none_agree (rows_in one) (rows_in other) one.sound other.sound c.requires
+    (none_fewer (rows_in one) (rows_in other) 7 c.loop-table.table-index c.loop-table-test.false c.loop-table.invariant)

@@ -3,7 +3,7 @@ use Rattle.hprof_heap.proofs.heap.Heap.join.Goals as goal
 
 pub returns-in-Some : goal.returns-in-Some
 returns-in-Some c =
-    let one_size : c.args.self.now.ids ≡ c.args.other.now.ids = search rules in
+    let one_size : c.args.self.now.tables.ids ≡ c.args.other.now.tables.ids = search rules in
     (one_size, c.first_difference.ensures.some c.in-Some.key c.in-Some.is, refl)
 
 pub returns-then-is_err : goal.returns-then-is_err

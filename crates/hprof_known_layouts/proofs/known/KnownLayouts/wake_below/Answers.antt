@@ -6,31 +6,36 @@ use Rattle.hprof_known_layouts.specs.declared.known.KnownLayouts.{KnownLayouts}
 use Rattle.hprof_known_layouts.specs.declared.known.Waiting.{Waiting}
 use Rattle.hprof_known_layouts.specs.Plan.{IsOutline, IsPlanBelow}
 use Rattle.hprof_known_layouts.specs.Known.{plan_of, waiting_below}
-use Rattle.hprof_known_layouts.specs.Waking.{put}
+use Rattle.hprof_known_layouts.specs.WaitingLists.{put}
 use Rattle.hprof_known_layouts.proofs.Hands.{InHand, hand_begins, hand_ends, hand_more, none_in_hand}
-use Rattle.hprof_known_layouts.proofs.Maps.{counted-taken, list_in, waiting-same, waiting-taken}
 use Rattle.hprof_known_layouts.proofs.Outlines.{no_elements}
-use Rattle.hprof_known_layouts.proofs.Wakings.{put-here, ready_outline}
+use Rattle.hprof_known_layouts.proofs.Wakings.{put-here, put-same, ready_outline}
 use Rattle.hprof_known_layouts.proofs.known.KnownLayouts.wake_below.Goals as goal
 
-pub returns-in_default-remove-clause-ok : goal.returns-in_default-remove-clause-ok
-returns-in_default-remove-clause-ok c = λ ids facts before pending ready waking.
+pub returns-in_default-take-clause-ok : goal.returns-in_default-take-clause-ok
+returns-in_default-take-clause-ok c = λ ids facts before pending ready waking.
     let known = c.args.self.now in
-    let other : KnownLayouts = record known { waiting = c.remove.new.self } in
+    let other : KnownLayouts = record known { waiting = c.take.new.self } in
+    let none = c.in_default-take.ensures.none in
     none_in_hand ids facts before c.args.class pending c.args.woken.now.items known other refl
-    (waiting-same known other c.in_default-remove.ensures.unchanged)
-    (ap list_in (sym c.in_default-remove.ensures.value)) waking
+    (c.in_default-take.ensures.taken ∙ put-same (waiting_below known) c.args.class [] none) none waking
+
+pub returns-in_default-take-clause-counted : goal.returns-in_default-take-clause-counted
+returns-in_default-take-clause-counted c =
+    let none = ap (λ (l : List Waiting). length l) c.in_default-take.ensures.none in
+    let counted = c.in_default-take.ensures.counted in
+    omega arith
 
 pub loop-below-init : goal.loop-below-init
 loop-below-init c =
     let known = c.args.self.now in
-    let other : KnownLayouts = record known { waiting = c.remove.new.self } in
-    let taken = waiting-taken known other c.args.class c.in-Some-remove.ensures.updates.0 in
-    let list : waiting_below known c.args.class ≡ c.in-Some-remove.waiting.items = ap list_in (sym c.in-Some-remove.ensures.value) in
+    let other : KnownLayouts = record known { waiting = c.take.new.self } in
+    let taken = c.in-Some-take.ensures.taken in
+    let list : waiting_below known c.args.class ≡ c.in-Some-take.waiting.items = sym c.in-Some-take.ensures.some in
     let given : waiting_below known c.args.class ≡ into_iter_items c.into_iter-below-iterator.result =
     list ∙ sym c.into_iter-below-iterator.ensures.into_iter_gives.0 in
     let lengths = ap (λ (l : List Waiting). length l) given in
-    let counted = counted-taken known other c.args.class c.in-Some-remove.ensures.entries in
+    let counted = c.in-Some-take.ensures.counted in
     record {
       taken = ap (λ (w : ℕ → List Waiting). w c.args.class) taken ∙ put-here (waiting_below known) c.args.class [] c.args.class refl;
       counted = omega arith;

@@ -1,11 +1,10 @@
-use Rattle.std.proofs.Common.{◌≡◌, ◌++◌, ◌∷◌, [], sym, ap, subst}
+use Rattle.std.proofs.Common.{◌≡◌, ◌++◌, ◌∷◌, ℕ, [], sym, ap, subst}
 use Rattle.hprof_items.specs.FactValue.{Instance}
 use Rattle.hprof_known_layouts.specs.Known.{HasLayout}
-use Rattle.hprof_known_layouts.specs.Waking.{put}
+use Rattle.hprof_known_layouts.specs.WaitingLists.{put, waiting_for}
+use Rattle.hprof_known_layouts.specs.declared.waiting_lists.WaitingLists.{WaitingLists}
 use Rattle.hprof_live.specs.declared.derived.Derived.{Derived}
-use Rattle.hprof_live.specs.declared.waiting.WaitingInstances.{WaitingInstances}
 use Rattle.hprof_live.specs.Derived.{IsDerived}
-use Rattle.hprof_live.specs.Waiting.{waiting_of}
 use Rattle.hprof_live.proofs.Instances.{is_there}
 use Rattle.hprof_live.proofs.FactsMore.{instance_came, instance_laid, instance_waits, was_not_laid}
 use Rattle.hprof_live.proofs.derived.Derived.add_instance.Goals as goal
@@ -44,8 +43,8 @@ returns-clause-adds c = λ before facts trace adds is.
     let unlaid = c.in_ok-lay.ensures.unlaid c.if-branch.false in
     let unknown : HasLayout facts class → ⊥ = λ layout.
     (let laid = (c.in_ok-lay.ensures.known ids facts came.knows).1 layout in let is_not = c.if-branch.false in cc) in
-    let waits : waiting_of c.add.new.self ≡ put (waiting_of derived.waiting) class (waiting_of derived.waiting class ++ instance ∷ []) =
-    subst (λ (w : WaitingInstances). waiting_of c.add.new.self ≡ put (waiting_of w) class (waiting_of w class ++ instance ∷ []))
+    let waits : waiting_for c.add.new.self ≡ put (waiting_for derived.waiting) class (waiting_for derived.waiting class ++ instance ∷ []) =
+    subst (λ (w : WaitingLists ℕ). waiting_for c.add.new.self ≡ put (waiting_for w) class (waiting_for w class ++ instance ∷ []))
     (ap (λ (d : Derived). d.waiting) unlaid) c.in_ok-add.ensures in
     subst (λ (d : Derived). IsDerived ids facts (record d { waiting = c.add.new.self })) (sym unlaid)
     (instance_waits ids before facts instance trace class bytes adds derived is set

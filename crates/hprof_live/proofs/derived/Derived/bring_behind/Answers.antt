@@ -1,6 +1,6 @@
 use Rattle.std.proofs.Common.{drop, refl}
+use Rattle.hprof_edges.proofs.EdgeSets.{set_sorted}
 use Rattle.hprof_live.proofs.Deriving.{same_set}
-use Rattle.hprof_live.proofs.EdgeSets.{set_sorted}
 use Rattle.hprof_live.proofs.Referrers.{kept_referrers, referrers_are}
 use Rattle.hprof_live.proofs.derived.Derived.bring_behind.Goals as goal
 

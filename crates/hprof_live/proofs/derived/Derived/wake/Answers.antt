@@ -2,8 +2,8 @@ use Rattle.std.specs.Vec.Iter.{into_iter_items}
 use Rattle.std.proofs.Common.{◌≡◌, [], ◌++◌, refl, sym, subst, ◌∙◌, arith}
 use Rattle.hprof_lookup.specs.HeapFacts.{facts_of, size_of}
 use Rattle.hprof_known_layouts.proofs.Outlines.{no_elements}
+use Rattle.hprof_known_layouts.specs.WaitingLists.{waiting_for}
 use Rattle.hprof_live.specs.declared.derived.Derived.{Derived}
-use Rattle.hprof_live.specs.Waiting.{waiting_of}
 use Rattle.hprof_live.proofs.WakingInstances.{LaysRest, laid_all, laid_next, laid_or_waited, taken_out}
 use Rattle.hprof_live.proofs.derived.Derived.wake.Goals as goal
 
@@ -14,7 +14,7 @@ returns-in_default-clause-lays c = λ before layout is.
     let derived = c.args.self.now in
     let class = c.args.class in
     let new : Derived = record derived { waiting = c.take.new.self } in
-    let given : [] ≡ waiting_of derived.waiting class = sym c.in_default.ensures.none in
+    let given : [] ≡ waiting_for derived.waiting class = sym c.in_default.ensures.none in
     laid_all ids facts new before class [] (taken_out ids facts derived before class is c.take.new.self c.in_default.ensures.taken [] given)
     (λ instance is_of. laid_or_waited ids facts derived before class is [] given instance is_of)
 
@@ -26,7 +26,7 @@ loop-instance-init c = record {
       let facts = facts_of c.args.heap.now in
       let derived = c.args.self.now in
       let class = c.args.class in
-      let list = waiting_of derived.waiting class in
+      let list = waiting_for derived.waiting class in
       let given : list ≡ into_iter_items c.into_iter-instance-iterator.result =
       sym c.in-Some.ensures.some ∙ sym c.into_iter-instance-iterator.ensures.into_iter_gives.0 in
       subst (LaysRest ids facts (record derived { waiting = c.take.new.self }) before class list) given
@@ -40,7 +40,7 @@ loop-instance-preserved c = record {
       let ids = size_of c.args.heap.now in
       let facts = facts_of c.args.heap.now in
       let class = c.args.class in
-      let list = waiting_of c.args.self.now.waiting class in
+      let list = waiting_for c.args.self.now.waiting class in
       let instance = c.in-Some-instance.instance in
       let later = into_iter_items c.next.new.self in
       let at = subst (LaysRest ids facts c.loop-instance.self before class list) c.in-Some-instance.ensures.steps.0
@@ -55,7 +55,7 @@ returns-clause-lays c = λ before layout is.
     let ids = size_of c.args.heap.now in
     let facts = facts_of c.args.heap.now in
     let class = c.args.class in
-    let list = waiting_of c.args.self.now.waiting class in
+    let list = waiting_for c.args.self.now.waiting class in
     let len = c.loop-instance.instance-iterator.rest.ok.0 in
     let ended = c.in-None.ensures.steps.0 in
     let none : into_iter_items c.loop-instance.instance-iterator ≡ [] =

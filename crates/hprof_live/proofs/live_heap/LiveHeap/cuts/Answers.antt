@@ -1,22 +1,26 @@
-use Rattle.std.proofs.Common.{[], Bor, Option, subst}
-use Rattle.hprof_heap.specs.declared.heap.Heap.{Heap}
-use Rattle.hprof_live.specs.declared.live.Live.TheVariants as lives
-use Rattle.hprof_live.specs.Derived.{CanBeLaid}
-use Rattle.hprof_live.specs.LiveHeap.{LendsHeap, outcome_of}
+use Rattle.std.specs.Prelude.{⊤}
+use Rattle.std.proofs.Common.{◌≡◌, [], sym, subst, rules}
+use Rattle.hprof_live.specs.Derived.{CanBeLaid, IsDerived}
+use Rattle.hprof_live.specs.LiveHeap.{outcome_of}
 use Rattle.hprof_live.specs.Number.{IsNumberOf}
 use Rattle.hprof_live.proofs.Counted.{no_number}
-use Rattle.hprof_live.proofs.Outcomes.{answer_of_none, kind_lent}
+use Rattle.hprof_live.proofs.Outcomes.{answer_mapped, answer_so, kind_answered}
 use Rattle.hprof_live.proofs.live_heap.LiveHeap.cuts.Goals as goal
 
-pub returns-in-Is-None-clause-value : goal.returns-in-Is-None-clause-value
-returns-in-Is-None-clause-value c = λ current.
-    answer_of_none (λ ids facts number. IsNumberOf (CanBeLaid facts) number) (outcome_of c.args.self.now) 0
-    (subst (λ (lent : Option (Bor Heap)). LendsHeap (outcome_of c.args.self.now) (lives.Is lent)) c.in-Is-None.field-0-is c.in-Is-None.ensures)
-    (λ ids. no_number (CanBeLaid []) (λ id can. absurd can.is_of.1.has))
+pub returns-clause-kind : goal.returns-clause-kind
+returns-clause-kind c =
+    kind_answered (λ ids facts number. ⊤) (outcome_of c.args.self.now) c.map.result
+    (answer_mapped (λ ids facts number. ⊤) _ (λ heap number gives. tt) (λ number gives ids. tt) (outcome_of c.args.self.now) c.so_far.result
+    c.map.result c.so_far.ensures c.map.ensures)
 
-pub returns-in-Is-None-clause-kind : goal.returns-in-Is-None-clause-kind
-returns-in-Is-None-clause-kind c = kind_lent (outcome_of c.args.self.now) c.in-Is-None.field-0 0 c.in-Is-None.ensures
-
-pub returns-in-Is-Some-clause-kind : goal.returns-in-Is-Some-clause-kind
-returns-in-Is-Some-clause-kind c =
-    kind_lent (outcome_of c.args.self.now) c.in-Is-Some.field-0 c.cuts.result c.in-Is-Some.ensures
+pub returns-clause-value : goal.returns-clause-value
+returns-clause-value c = λ current.
+    let derived = c.args.self.now.derived in
+    answer_so (λ ids facts number. IsDerived ids facts derived → IsNumberOf (CanBeLaid facts) number)
+    (λ ids facts number. IsNumberOf (CanBeLaid facts) number) (outcome_of c.args.self.now) derived c.map.result
+    (answer_mapped (λ ids facts number. IsDerived ids facts derived → IsNumberOf (CanBeLaid facts) number) _ (λ heap number gives. search rules)
+    (λ number gives ids is. (
+    let zero : number ≡ 0 = search rules in
+    subst (IsNumberOf (CanBeLaid [])) (sym zero) (no_number (CanBeLaid []) (λ id can. absurd can.is_of.1.has))))
+    (outcome_of c.args.self.now) c.so_far.result c.map.result c.so_far.ensures c.map.ensures) current.derived
+    (λ ids facts number is holds. holds is)

@@ -5,9 +5,9 @@ use Rattle.hprof_rows.specs.HeapValue.{HeapValue}
 use Rattle.hprof_heap.specs.declared.standing.Refusal.{Refusal}
 use Rattle.hprof_edges.specs.declared.edge.Edge.{Edge}
 use Rattle.hprof_edges.specs.Edges.{AreEdges, AreReferrers}
+use Rattle.hprof_edges.specs.EdgeSet.{edges_in}
 use Rattle.hprof_live.specs.declared.derived.Derived.{Derived}
 use Rattle.hprof_live.specs.Derived.{keeps_of}
-use Rattle.hprof_live.specs.EdgeSet.{edges_in}
 use Rattle.hprof_live.specs.LiveHeap.{IsAnswer, outcome_of}
 use Rattle.hprof_live.proofs.Outcomes.{answer_so, current_stays, kind_answered, outcome_stays}
 use Rattle.hprof_live.proofs.live_heap.LiveHeap.referrers_now.Goals as goal

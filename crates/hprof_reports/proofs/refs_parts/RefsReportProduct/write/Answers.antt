@@ -11,7 +11,7 @@ use Rattle.hprof_reports.proofs.refs_parts.RefsReportProduct.write.Goals as goal
 pub returns : goal.returns
 unfolding facts_of size_of
 returns g c = λ summaries kept.
-    let heap = heap_of c.args.found.now.heap in
+    let heap = heap_of c.args.found.now.0 in
     let edges = c.referrers.result.now in
     let id = c.args.self.now.id in
     text_ends g.W.Target.written g.W.Target.health (IsRefsReport id summaries heap) c.args.target.now c.write_refs.new.target

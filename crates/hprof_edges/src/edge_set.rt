@@ -1,0 +1,56 @@
+//! Edges in any order.
+
+ghost use Rattle.std.specs.Prelude.{◌≡◌, []};
+
+use crate::collect::Collect;
+use crate::edge::Edge;
+use hprof_known_layouts::Wanted;
+use std::alloc::{AllocError, Global};
+
+/// The edges to what is wanted, of those that were put.
+#[derive(Drop)]
+pub struct EdgeSet {
+    /// The edges, in any order. One that was put twice may stand there twice.
+    pub edges: Vec<Edge>,
+    wanted: Wanted,
+}
+
+impl EdgeSet {
+    ghost use Rattle.hprof_edges.specs.EdgeSet.{SetOf, wanted_in};
+
+    /// Creates a set without edges, which keeps those to what is wanted. Allocates nothing.
+    pub fn new(alloc: Global, wanted: Wanted) -> EdgeSet
+        ensures none { SetOf result [] }
+        ensures wanted { wanted_in result ≡ wanted }
+    {
+        EdgeSet {
+            edges: Vec::new(alloc),
+            wanted,
+        }
+    }
+}
+
+/// It keeps the edges to what is wanted.
+impl Collect for EdgeSet {
+    ghost use Rattle.hprof_edges.specs.Collecting.{is_edge_wanted};
+    ghost use Rattle.hprof_edges.specs.EdgeSet.{SetOf, set_alike, wanted_in};
+
+    ghost holds = { SetOf };
+
+    ghost keeps = { λ set. is_edge_wanted (wanted_in set) };
+
+    ghost same_kept = { set_alike };
+
+    #[inline(always)]
+    fn wanted(&self) -> Wanted {
+        self.wanted
+    }
+
+    #[inline(always)]
+    fn put(&mut self, edge: Edge) -> Result<(), AllocError> {
+        if self.wanted.wants(edge.to) {
+            self.edges.push(edge)?;
+        }
+        Ok(())
+    }
+}

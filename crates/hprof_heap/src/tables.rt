@@ -1,0 +1,68 @@
+//! The ten tables of a heap.
+
+ghost use Rattle.std.specs.Prelude.{◌≡◌};
+ghost use Rattle.hprof_rows.specs.EachTable.{count_at};
+ghost use Rattle.hprof_heap.specs.Tables.{rows_in_tables, AreRowsOf};
+
+use hprof_rows::{FrameRow, KeyRow, LoadRow, RootSet, StartRow, Table, TableRows, TraceRow};
+use hprof_tables::{BytesTable, Relation};
+use hprof_values::IdSize;
+
+mod comparing;
+mod joining;
+mod stating;
+
+/// The size of a heap's identifiers, its time and its tables. [`Heap`](crate::Heap) keeps that they go together.
+#[derive(Drop)]
+pub(crate) struct Tables {
+    pub(crate) ids: IdSize,
+    pub(crate) millis: u64,
+    pub(crate) names: BytesTable,
+    pub(crate) loads: Relation<LoadRow>,
+    pub(crate) unloads: Relation<KeyRow>,
+    pub(crate) frames: Relation<FrameRow>,
+    pub(crate) traces: Relation<TraceRow>,
+    pub(crate) starts: Relation<StartRow>,
+    pub(crate) ends: Relation<KeyRow>,
+    pub(crate) roots: RootSet,
+    pub(crate) classes: BytesTable,
+    pub(crate) objects: BytesTable,
+}
+
+impl Tables {
+    /// The number of rows of a table.
+    pub(crate) fn len(&self, table: Table) -> usize
+        ensures { result ≡ count_at table (rows_in_tables self.now) }
+    {
+        match table {
+            Table::Names => self.names.len(),
+            Table::Loads => self.loads.len(),
+            Table::Unloads => self.unloads.len(),
+            Table::Frames => self.frames.len(),
+            Table::Traces => self.traces.len(),
+            Table::Starts => self.starts.len(),
+            Table::Ends => self.ends.len(),
+            Table::Roots => self.roots.len(),
+            Table::Classes => self.classes.len(),
+            Table::Objects => self.objects.len(),
+        }
+    }
+
+    /// The rows of a table.
+    pub(crate) fn rows(&self, table: Table) -> TableRows<'_>
+        ensures { AreRowsOf table (rows_in_tables self.now) result }
+    {
+        match table {
+            Table::Names => TableRows::Names(self.names.rows()),
+            Table::Loads => TableRows::Loads(self.loads.rows()),
+            Table::Unloads => TableRows::Unloads(self.unloads.rows()),
+            Table::Frames => TableRows::Frames(self.frames.rows()),
+            Table::Traces => TableRows::Traces(self.traces.rows()),
+            Table::Starts => TableRows::Starts(self.starts.rows()),
+            Table::Ends => TableRows::Ends(self.ends.rows()),
+            Table::Roots => TableRows::Roots(self.roots.iter()),
+            Table::Classes => TableRows::Classes(self.classes.rows()),
+            Table::Objects => TableRows::Objects(self.objects.rows()),
+        }
+    }
+}

@@ -1,0 +1,28 @@
+//! Joining a table with that of others.
+
+ghost use Rattle.hprof_rows.specs.EachTable.{JoinsTable};
+ghost use Rattle.hprof_heap.specs.Tables.{rows_in_tables};
+
+use super::Tables;
+use hprof_rows::Table;
+use std::alloc::AllocError;
+
+impl Tables {
+    /// Takes the rows of one table of others whose keys are new. Where memory is refused, nothing changes.
+    pub(crate) fn join(&mut self, table: Table, other: &Tables) -> Result<(), AllocError>
+        ensures { JoinsTable table (rows_in_tables self.old) (rows_in_tables other.now) result (rows_in_tables self.new) }
+    {
+        match table {
+            Table::Names => self.names.join(&other.names),
+            Table::Loads => self.loads.join(&other.loads),
+            Table::Unloads => self.unloads.join(&other.unloads),
+            Table::Frames => self.frames.join(&other.frames),
+            Table::Traces => self.traces.join(&other.traces),
+            Table::Starts => self.starts.join(&other.starts),
+            Table::Ends => self.ends.join(&other.ends),
+            Table::Roots => self.roots.join(&other.roots),
+            Table::Classes => self.classes.join(&other.classes),
+            Table::Objects => self.objects.join(&other.objects),
+        }
+    }
+}
