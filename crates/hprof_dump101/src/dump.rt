@@ -33,11 +33,11 @@ fn write_dump<W: Target>(heap: &Heap, len: u32, target: &mut W) -> Result<(), Wr
     write_heap_dump(heap, len, target)
 }
 
-/// Writes the 1.0.1 dump: the header of version 1.0.1 with the heap's size and time, the heap's facts in order, those of
-/// sub-records in one heap dump, where there are some. It takes no memory and flushes nothing.
+/// Writes the 1.0.1 dump of a heap: the header of version 1.0.1 with the heap's identifier size and time, the facts that
+/// records state, in order, and one HEAP_DUMP record with all sub-records, if there are any. It allocates and flushes nothing.
 ///
-/// It is too long exactly where the sub-records have more than `max_body` bytes together, which is found before the first byte
-/// is written. At a fault of the writer some of the dump was written, from the front.
+/// - `TooLong`: the sub-records have more than `max_body` bytes together. Nothing was written.
+/// - `Write`: the writer failed or stuck. The bytes written are the beginning of the dump.
 pub fn write_v101<W: Target>(heap: &Heap, max_body: u32, target: &mut W) -> Result<(), DumpFault>
     requires { W.health target.old ≡ Well }
     ensures too_long { (result ≡ Err TooLong) ↔ IsTooLong max_body (heap_of heap.now).ids (heap_of heap.now).facts }

@@ -2,7 +2,7 @@
 
 use hprof_devices::WriteFault;
 
-/// Why the 1.0.1 dump of a heap was not written, or not to its end.
+/// Why the 1.0.1 dump of a heap was not written to its end.
 #[derive(Clone, Copy, Debug, PartialEq, Eq)]
 pub enum DumpFault {
     /// The sub-records have more bytes than they may. Nothing was written.

@@ -1,19 +1,20 @@
 //! Joining parts into a 1.0.1 dump.
 
-ghost use Rattle.std.specs.Prelude.{◌≡◌, ℕ, List, All, IfOk};
+ghost use Rattle.std.specs.Prelude.{◌≡◌, ◌≤◌, ℕ, List, All, IfOk};
 ghost use Rattle.std.specs.Io.KnownBytes.{Appends};
 ghost use Rattle.hprof_devices.specs.declared.health.Health.TheVariants.{Well};
 ghost use Rattle.hprof_heap.specs.Heap.{heap_of};
-ghost use Rattle.hprof_engine.specs.Joining.{Tell, AreJoined, fault_of};
+ghost use Rattle.hprof_items.specs.Spelling.{longest_body};
+ghost use Rattle.hprof_engine.specs.Joining.{Tell, Agree, AreJoined, fault_of};
 ghost use Rattle.hprof_engine.specs.Makes.{Makes};
-ghost use Rattle.hprof_dump101.specs.Dump101.{dump101};
-ghost use Rattle.hprof_dump101.specs.Joining101.{dump101_making};
+ghost use Rattle.hprof_dump101.specs.Dump101.{dump101, sub_len};
+ghost use Rattle.hprof_dump101.specs.Joining101.{IsTooLong101, dump101_making};
 
 use crate::dump::write_v101;
 use crate::fault::DumpFault;
 use hprof_devices::{Source, Target};
-use hprof_engine::{Joined, JoinedHeap, Product, ToolFault, WriteStop, make_to};
-use hprof_heap::{Gatherer, Heap};
+use hprof_engine::{HeapProduct, Joined, JoinedHeap, ToolFault, WriteStop, join_with};
+use hprof_heap::Heap;
 use hprof_stream::Limits;
 use std::alloc::Global;
 
@@ -21,30 +22,18 @@ use std::alloc::Global;
 #[derive(Clone, Copy)]
 pub struct Dump101;
 
-impl Product for Dump101 {
+impl HeapProduct for Dump101 {
     ghost use Rattle.std.proofs.Common.{sym, ◌∙◌};
-    ghost use Rattle.hprof_dump101.specs.Joining101.{IsDump101Text, IsTooLong101};
 
-    ghost is_text = { λ dump. IsDump101Text };
+    ghost is_text = { λ dump heap text. (sub_len heap.ids heap.facts ≤ longest_body) × (text ≡ dump101 heap.ids heap.millis heap.facts) };
 
     ghost is_too_long = { λ dump. IsTooLong101 };
 
     ghost takes_memory = { λ dump. ⊥ };
 
-    ghost asks = { λ dump id. ⊥ };
-
-    type Kept = ();
-
-    type Gatherer = Gatherer;
-
-    fn gatherer(&self, alloc: Global) -> Gatherer {
-        Gatherer::new(alloc)
-    }
-
-    fn write<W: Target>(
+    fn write_heap<W: Target>(
         &self,
         _alloc: Global,
-        _kept: &(),
         heap: &Heap,
         target: &mut W,
     ) -> Result<(), WriteStop> {
@@ -55,10 +44,10 @@ impl Product for Dump101 {
         }
     }
 
-    ghost one_text = { λ dump summaries heap one other is is_too. is.1 ∙ sym is_too.1 };
+    ghost one_text = { λ dump heap one other is is_too. is.1 ∙ sym is_too.1 };
 }
 
-/// As [`join101_to`], and hands back the heap that was written, so that a program that ends need not free it row by row.
+/// Does what [`join101_to`] does, and returns the heap that was written, too: a program that ends need not free it row by row.
 pub fn join101_kept<R: Source, W: Target>(
     alloc: Global,
     readers: &mut [R],
@@ -71,26 +60,19 @@ pub fn join101_kept<R: Source, W: Target>(
         readers.old readers.new target.old target.new (fault_of result) }
     ensures joined { IfOk result (λ kept. (parts : List (List ℕ)) → Tell R.left readers.old parts → AreJoined parts kept.joined) }
 
-    // The heap that is handed back is the one whose dump was written.
+    // The heap that is handed back is what the parts agree on, and the one whose dump was written.
+    ensures agree { IfOk result (λ kept. (parts : List (List ℕ)) → Tell R.left readers.old parts
+        → let heap = heap_of kept.heap in Agree parts heap.ids heap.millis heap.facts) }
     ensures heap { IfOk result (λ kept. let heap = heap_of kept.heap in
         Appends (W.written target.old) (W.written target.new) (dump101 heap.ids heap.millis heap.facts)) }
 {
-    match make_to(alloc, &Dump101, readers, target, limits) {
-        Ok(heap) => {
-            let joined = Joined {
-                parts: readers.len(),
-                facts: heap.count(),
-            };
-            Ok(JoinedHeap { joined, heap })
-        }
-        Err(fault) => Err(fault),
-    }
+    join_with(alloc, &Dump101, readers, target, limits)
 }
 
-/// Reads all parts, and writes the 1.0.1 dump of the facts that they state.
+/// Reads all parts, and writes the 1.0.1 dump of their facts.
 ///
-/// It is refused as too long exactly where the sub-records of these facts have more than 4,294,967,295 bytes together. All
-/// parts are read, and this is found, before the first byte is written.
+/// It is refused as too long if and only if the sub-records of these facts have more than 4,294,967,295 bytes together. Then
+/// nothing was written.
 pub fn join101_to<R: Source, W: Target>(
     alloc: Global,
     readers: &mut [R],

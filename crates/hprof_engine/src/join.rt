@@ -8,13 +8,14 @@ ghost use Rattle.hprof_heap.specs.Heap.{heap_of};
 ghost use Rattle.hprof_engine.specs.Joining.{Tell, Agree, AreJoined, fault_of};
 ghost use Rattle.hprof_engine.specs.Makes.{Makes, dump_making};
 
+use crate::heap_product::HeapProduct;
 use crate::joined::{Joined, JoinedHeap};
-use crate::make::make_to;
-use crate::product::{Product, WriteStop};
+use crate::joining::join_with;
+use crate::product::WriteStop;
 use crate::tool_fault::ToolFault;
 use hprof_devices::{Source, Target};
 use hprof_dump::write_canonical;
-use hprof_heap::{Gatherer, Heap};
+use hprof_heap::Heap;
 use hprof_stream::Limits;
 use std::alloc::Global;
 
@@ -22,30 +23,18 @@ use std::alloc::Global;
 #[derive(Clone, Copy)]
 pub struct Dump;
 
-impl Product for Dump {
+impl HeapProduct for Dump {
     ghost use Rattle.std.proofs.Common.{sym, ◌∙◌};
-    ghost use Rattle.hprof_engine.specs.Makes.{IsDumpText};
 
-    ghost is_text = { λ dump. IsDumpText };
+    ghost is_text = { λ dump heap text. text ≡ canonical_dump heap.ids heap.millis heap.facts };
 
     ghost is_too_long = { λ dump heap. ⊥ };
 
     ghost takes_memory = { λ dump. ⊥ };
 
-    ghost asks = { λ dump id. ⊥ };
-
-    type Kept = ();
-
-    type Gatherer = Gatherer;
-
-    fn gatherer(&self, alloc: Global) -> Gatherer {
-        Gatherer::new(alloc)
-    }
-
-    fn write<W: Target>(
+    fn write_heap<W: Target>(
         &self,
         _alloc: Global,
-        _kept: &(),
         heap: &Heap,
         target: &mut W,
     ) -> Result<(), WriteStop> {
@@ -55,10 +44,10 @@ impl Product for Dump {
         }
     }
 
-    ghost one_text = { λ dump summaries heap one other is is_too. is ∙ sym is_too };
+    ghost one_text = { λ dump heap one other is is_too. is ∙ sym is_too };
 }
 
-/// As [`join_to`], and hands back the heap that was written, so that a program that ends need not free it row by row.
+/// Does what [`join_to`] does, and returns the heap that was written, too: a program that ends need not free it row by row.
 pub fn join_kept<R: Source, W: Target>(
     alloc: Global,
     readers: &mut [R],
@@ -77,22 +66,14 @@ pub fn join_kept<R: Source, W: Target>(
     ensures heap { IfOk result (λ kept. let heap = heap_of kept.heap in
         Appends (W.written target.old) (W.written target.new) (canonical_dump heap.ids heap.millis heap.facts)) }
 {
-    match make_to(alloc, &Dump, readers, target, limits) {
-        Ok(heap) => {
-            let joined = Joined {
-                parts: readers.len(),
-                facts: heap.count(),
-            };
-            Ok(JoinedHeap { joined, heap })
-        }
-        Err(fault) => Err(fault),
-    }
+    join_with(alloc, &Dump, readers, target, limits)
 }
 
-/// Reads all parts, and writes the canonical dump of the facts that they state.
+/// Reads all parts, and writes the canonical dump of their facts.
 ///
-/// Every order, repetition and re-cutting of parts that state the same facts gives the same bytes, and the dump reads
-/// back to them. Where one key has two contents, every order is refused at the least such key.
+/// The bytes depend on the facts alone, not on the order of the parts, on repeated parts or on how the facts are divided
+/// among them. The dump reads back to the same facts. If one key has two contents, the parts are refused with the least such
+/// key, in every order.
 pub fn join_to<R: Source, W: Target>(
     alloc: Global,
     readers: &mut [R],

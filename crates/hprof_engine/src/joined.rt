@@ -1,8 +1,8 @@
-//! What was joined.
+//! The result of a join.
 
 use hprof_heap::Heap;
 
-/// How many parts were joined, and how many facts they state, each counted once.
+/// The number of parts that were joined, and of their facts, each counted once.
 #[derive(Clone, Copy, Debug, PartialEq, Eq)]
 pub struct Joined {
     /// The number of parts.
@@ -11,10 +11,10 @@ pub struct Joined {
     pub facts: u128,
 }
 
-/// What was joined, and the heap that was written.
+/// The result of a join, with the heap whose dump was written.
 #[derive(Drop)]
 pub struct JoinedHeap {
-    /// How much was joined.
+    /// The numbers of parts and facts.
     pub joined: Joined,
     /// The heap whose dump was written.
     pub heap: Heap,

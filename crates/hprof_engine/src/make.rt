@@ -1,4 +1,4 @@
-//! Making something of parts.
+//! Making a product of parts.
 
 ghost use Rattle.std.specs.Prelude.{◌≡◌, ℕ, List, All, IfOk};
 ghost use Rattle.std.specs.Io.KnownBytes.{Appends};
@@ -16,7 +16,7 @@ use hprof_heap::Gather;
 use hprof_stream::Limits;
 use std::alloc::Global;
 
-/// The fault that a stop is.
+/// Returns the fault that a stop is.
 fn fault_of_stop(stop: WriteStop) -> ToolFault
     ensures { result ≡ fault_of_stop stop }
 {
@@ -27,8 +27,8 @@ fn fault_of_stop(stop: WriteStop) -> ToolFault
     }
 }
 
-/// Reads all parts, and writes what is made of them. It hands back the heap that they state, with what was kept beside it,
-/// so that a program that ends need not free it row by row.
+/// Reads all parts, writes the product of them, and returns their heap with all that was kept beside it: a program that ends
+/// need not free it row by row.
 pub fn make_to<P: Product, R: Source, W: Target>(
     alloc: Global,
     product: &P,

@@ -1,4 +1,4 @@
-//! What is made of parts.
+//! Products of parts: dumps and reports.
 
 ghost use Rattle.std.specs.Prelude.{◌≡◌, ℕ, List};
 
@@ -12,9 +12,9 @@ use std::alloc::{AllocError, Global};
 pub enum WriteStop {
     /// The writer failed or stuck.
     Write(WriteFault),
-    /// What is made of the heap is longer than it may be. Nothing was written.
+    /// The product is longer than it may be. Nothing was written.
     TooLong,
-    /// Memory was refused.
+    /// Memory ran out.
     OutOfMemory,
 }
 
@@ -28,7 +28,7 @@ impl From<AllocError> for WriteStop {
     }
 }
 
-/// What is made of the heap that parts state, and of what was read of each.
+/// A dump or a report: a text that is made of the heap that parts state, and of a summary of each part.
 pub trait Product {
     ghost use Rattle.hprof_devices.specs.declared.health.Health.TheVariants.{Well};
     ghost use Rattle.hprof_stream.specs.declared.summary.PartSummary.{PartSummary};
@@ -48,18 +48,18 @@ pub trait Product {
     // It is made of what refers to that identifier, too.
     ghost asks: { Self → ℕ → Type 0 };
 
-    /// What keeps the summaries that it is made of.
+    /// Keeps the summaries that the product is made of.
     type Kept: Summaries;
 
-    /// What gathers the parts that it is made of.
+    /// Gathers the parts that the product is made of.
     type Gatherer: Gather + Drop;
 
-    /// One that was given nothing. It takes no memory yet.
+    /// Returns a gatherer that was given nothing. It allocates nothing.
     fn gatherer(&self, alloc: Global) -> Self::Gatherer
         ensures nothing { Self.Gatherer.gathered result ≡ nothing_gathered }
         ensures watches { (id : ℕ) → asks self.now id → Self.Gatherer.watches result id };
 
-    /// Writes it. At a fault, and at want of memory, some of it was written, from the front.
+    /// Writes the product. If the writer fails or memory runs out, the bytes written are the beginning of it.
     fn write<W: Target>(
         &self,
         alloc: Global,

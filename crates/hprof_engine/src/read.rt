@@ -18,8 +18,8 @@ use hprof_heap::{Gather, Refusal};
 use hprof_stream::Limits;
 use std::alloc::Global;
 
-/// Reads all parts in order into what gathers them, and tells what was read of each; answers the heap of the facts that
-/// they state, with what was kept beside it.
+/// Reads all parts in order into a gatherer, and returns the heap of their facts with all that was kept beside it. The summary
+/// of each part that was read to its end goes to `summaries`.
 pub fn read_heap<R: Source, G: Gather + Drop, S: Summaries>(
     alloc: Global,
     readers: &mut [R],

@@ -1,11 +1,11 @@
-//! What is told what was read of each part.
+//! Keeping the summaries of parts.
 
 ghost use Rattle.std.specs.Prelude.{◌≡◌, ◌++◌, ◌∷◌, [], ◌+◌, ◌<◌, ℕ, List, ⊤, IfOk, OnErr, vec_len, vec_capacity};
 
 use hprof_stream::PartSummary;
 use std::alloc::{AllocError, Global};
 
-/// What is told the summary of each part, in order, once the part was read to its end.
+/// Takes the summary of each part, in order, once the part was read to its end.
 pub trait Summaries: Drop {
     ghost use Rattle.hprof_stream.specs.declared.summary.PartSummary.{PartSummary};
 
@@ -21,20 +21,20 @@ pub trait Summaries: Drop {
     // Room for those of no parts takes none.
     ghost no_room: { takes_room 0 → ⊥ };
 
-    /// One that holds no summary yet, and has room for those of so many parts.
+    /// Returns one that holds no summary, with room for those of `parts` parts.
     fn with_room(alloc: Global, parts: usize) -> Result<Self, AllocError>
         ensures empty { IfOk result (λ kept. holds kept []) }
         ensures room { IfOk result (λ kept. has_room kept parts) }
         ensures full { OnErr result (takes_room parts) };
 
-    /// Takes the summary of the part behind those before it.
+    /// Takes the summary of the next part.
     fn keep(&mut self, summary: PartSummary)
         requires { (more : ℕ) × has_room self.old (more + 1) }
         ensures holds { (before : List PartSummary) → holds self.old before → holds self.new (before ++ summary ∷ []) }
         ensures room { (more : ℕ) → has_room self.old (more + 1) → has_room self.new more };
 }
 
-/// All summaries are kept, in memory that was had before.
+/// Keeps all summaries, in memory that was allocated before.
 impl Summaries for Vec<PartSummary> {
     ghost use Rattle.std.proofs.Common.{arith};
 
@@ -55,7 +55,7 @@ impl Summaries for Vec<PartSummary> {
     }
 }
 
-/// None is kept.
+/// Keeps none.
 impl Summaries for () {
     ghost has_room = { λ kept more. ⊤ };
 

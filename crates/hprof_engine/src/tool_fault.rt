@@ -1,4 +1,4 @@
-//! Why an engine refused.
+//! Why parts are refused.
 
 ghost use Rattle.std.specs.Prelude.{◌≡◌, ◌++◌, IfOk, codes, decimal, string_bytes};
 ghost use Rattle.hprof_text.specs.Identifier.{id_digits};
@@ -10,33 +10,33 @@ use hprof_stream::PartFault;
 use hprof_text::push_id;
 use std::alloc::{AllocError, Global};
 
-/// Why an engine refused its parts. The first part in order that is at fault comes first, then no parts, then two
-/// sizes of identifiers, then a conflict, then the writer.
+/// Why no product was made of parts. The first part with a fault comes first, then no parts, two sizes of identifiers, a
+/// conflict, and the writer last.
 #[derive(Clone, Copy, Debug, PartialEq, Eq)]
 pub enum ToolFault {
     /// A part was refused.
     Part {
-        /// Which part, counted from 0.
+        /// The index of the part, from 0.
         index: usize,
-        /// Why.
+        /// Its fault.
         fault: PartFault,
     },
     /// There are no parts.
     NoParts,
     /// Two parts have different sizes of identifiers.
     IdSizes,
-    /// Two facts have one key and different contents. It is the least such key.
+    /// Two facts have one key and different contents. This is the least such key.
     Conflict(Key),
-    /// What is made of the parts is longer than it may be.
+    /// The dump is longer than it may be.
     DumpTooLong,
     /// The writer failed or stuck.
     Write(WriteFault),
-    /// Memory was refused, but to the reading of a part.
+    /// Memory ran out, but not while a part was read.
     OutOfMemory,
 }
 
 impl ToolFault {
-    /// Its text, in one line. The error is that there is no memory for the text.
+    /// Returns its text, in one line. The error is that memory ran out.
     pub fn text(&self, alloc: Global) -> Result<String, AllocError>
         ensures { IfOk result (λ text. IsFaultText self.now (string_bytes text)) }
     {

@@ -23,14 +23,14 @@ struct Named {
     name: u64,
 }
 
-/// The names of all classes that are loaded.
+/// The names of all loaded classes.
 #[derive(Drop)]
 pub struct ClassNames {
     names: BTreeMap<u64, Named>,
 }
 
 impl ClassNames {
-    /// Those of a heap, in one pass over its loads. The error is that memory was refused.
+    /// Returns the names of a heap, found in one pass over its loads. The error is that memory ran out.
     pub fn of(alloc: Global, heap: &Heap) -> Result<ClassNames, AllocError>
         ensures { IfOk result (AreClassNames (facts_of heap.now)) }
     {
@@ -43,7 +43,7 @@ impl ClassNames {
         Ok(names)
     }
 
-    /// Whether no load of the class came so far, or that with the least serial has a greater one.
+    /// Returns whether no load of the class came so far, or only loads with greater serials.
     fn comes_first(&self, class: u64, serial: u32) -> bool
         ensures { IsTrue result ↔ IsBelow serial (get nat_cmp self.now.names class) }
     {
@@ -53,7 +53,7 @@ impl ClassNames {
         }
     }
 
-    /// Notes the name in a fact that loads a class, where its serial is the least so far.
+    /// Keeps the name in a fact that loads a class, if its serial is the least so far.
     fn note(&mut self, fact: &Fact<'_>) -> Result<(), AllocError>
         ensures { OnOk result (NotesFact (value_of fact.now) self.old self.new) }
     {
@@ -73,7 +73,7 @@ impl ClassNames {
         }
     }
 
-    /// The name of a class: that which it has in the fact of least serial that loads it; None where none does.
+    /// Returns the name of a class, from the load with the least serial; None if no load has the class.
     pub fn name_of(&self, class: u64) -> Option<u64>
         ensures { (facts : List FactValue) → AreClassNames facts self.now → NamesClass facts class result }
     {

@@ -1,4 +1,4 @@
-//! Names as reports print them: of a name, of a class, and of all classes of a heap, gathered.
+//! Names and classes as reports print them.
 #![tactic(auto)]
 
 mod class_names;

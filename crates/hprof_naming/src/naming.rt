@@ -1,4 +1,4 @@
-//! A name, and the label of a class, in print.
+//! Names, and labels of classes, in print.
 
 ghost use Rattle.std.specs.Prelude.{◌≡◌, ◌++◌, IfOk, codes, string_bytes};
 ghost use Rattle.hprof_text.specs.Identifier.{id_digits};
@@ -6,33 +6,32 @@ ghost use Rattle.hprof_lookup.specs.HeapFacts.{facts_of};
 ghost use Rattle.hprof_naming.specs.Naming.{IsLabel, IsLabelOf, IsNameText, IsNaming, Naming};
 
 use hprof_heap::Heap;
-use hprof_lookup::{class_name, find_name, id_size};
+use hprof_lookup::{class_name, find_name, holds_of_heap};
 use hprof_text::printed;
 use std::alloc::{AllocError, Global};
 
-/// What is printed for a name that a heap does not have.
+/// Returns the text for a name that the heap does not have.
 fn missing_name(alloc: Global, name: u64) -> Result<String, AllocError>
     ensures { IfOk result (λ text. string_bytes text ≡ codes "\\?" ++ id_digits name) }
 {
     format!(in alloc; "\\?{name:x}")
 }
 
-/// A name in print: its bytes in their printed form, or `\?` and its identifier where the heap does not have it. The error is
-/// that memory was refused.
+/// Returns a name in print: its bytes in printed form, or `\?` and its identifier if the heap does not have it. The error is
+/// that memory ran out.
 pub fn name_text(alloc: Global, heap: &Heap, name: u64) -> Result<String, AllocError>
     ensures form { IfOk result (λ text. IsNameText (facts_of heap.now) name (string_bytes text)) }
     ensures named { (naming : Naming) → IsNaming (facts_of heap.now) naming
         → IfOk result (λ text. string_bytes text ≡ naming.name_text name) }
 {
-    // Facts of a heap agree: that is told with the size.
-    let _ids = id_size(heap);
+    holds_of_heap(heap);
     match find_name(heap, name) {
         Some(bytes) => printed(alloc, bytes),
         None => missing_name(alloc, name),
     }
 }
 
-/// The label of a class of that name, if it has one: the name in print, or `\?` alone. The error is that memory was refused.
+/// Returns the label of a class of that name: the name in print, or `\?` if there is none. The error is that memory ran out.
 pub fn label_of(alloc: Global, heap: &Heap, name: Option<u64>) -> Result<String, AllocError>
     ensures { IfOk result (λ text. IsLabelOf (facts_of heap.now) name (string_bytes text)) }
 {
@@ -42,13 +41,12 @@ pub fn label_of(alloc: Global, heap: &Heap, name: Option<u64>) -> Result<String,
     }
 }
 
-/// The label of a class, by the name in the fact of least serial that loads it. The error is that memory was refused.
+/// Returns the label of a class, by its name in the load with the least serial. The error is that memory ran out.
 pub fn class_label(alloc: Global, heap: &Heap, class: u64) -> Result<String, AllocError>
     ensures form { IfOk result (λ text. IsLabel (facts_of heap.now) class (string_bytes text)) }
     ensures named { (naming : Naming) → IsNaming (facts_of heap.now) naming
         → IfOk result (λ text. string_bytes text ≡ naming.label class) }
 {
-    // Facts of a heap agree: that is told with the size.
-    let _ids = id_size(heap);
+    holds_of_heap(heap);
     label_of(alloc, heap, class_name(heap, class))
 }

@@ -1,18 +1,23 @@
 -- What several texts come to that are written one after the other, and may stop for want of memory.
-use Rattle.std.proofs.Common.{◌≡◌, ℕ, List, [], ◌∷◌, ◌++◌, length, Option, Result, Ok, Err, refl, sym, ap, subst, ◌∙◌, arith}
+use Rattle.std.proofs.Common.{◌≡◌, ℕ, ◌+◌, List, [], ◌∷◌, ◌++◌, length, Option, Result, Ok, Err, refl, sym, ap, subst, ◌∙◌, arith}
 use Rattle.std.proofs.Common.{◌==◌, false, codes}
 use Rattle.std.specs.Io.KnownBytes.{Appends}
 use Rattle.std.proofs.KnownBytes.{Appends-nil, Appends-trans}
 use Rattle.hex.specs.Hex.{encode_lower, encode_with, lower_digits}
 use Rattle.hprof_text.proofs.Prints.{encode_with-append}
 use Rattle.hprof_devices.proofs.Writes.{WritesFront, WritesFront-more, WritesFront-then, Pushed}
+use Rattle.hprof_values.specs.declared.ids.IdSize.{IdSize}
+use Rattle.hprof_items.specs.FactValue.{FactValue}
+use Rattle.hprof_heap.specs.declared.heap.Heap.{Heap}
+use Rattle.hprof_heap.specs.Heap.{heap_of}
+use Rattle.hprof_lookup.specs.HeapFacts.{facts_of, size_of}
 use Rattle.hprof_engine.specs.declared.product.WriteStop.{WriteStop}
-use Rattle.hprof_reports.specs.Line.{text_of_lines}
+use Rattle.hprof_reports.specs.Line.{each_line}
 use Rattle.hprof_reports.specs.ObjectText.{contents_text}
 use Rattle.hprof_engine.specs.declared.product.WriteStop.TheVariants as stops
 use Rattle.hprof_engine.specs.Makes.{EndsWriting}
 use Rattle.hprof_devices.specs.declared.health.Health.{Health}
-use Rattle.std.specs.Prelude.{⊤}
+use Rattle.std.specs.Prelude.{⊤, map}
 use Rattle.hprof_reports.specs.Stopping.{WritesText, LeavesTarget}
 
 module _ {A : Type 0} (r : Result A WriteStop) where
@@ -58,9 +63,10 @@ module _ {A : Type 0} (r : Result A WriteStop) (stop : WriteStop) (e : r ≡ Err
       (rw e (WritesFront-then old mid new p.front rest p.appended
       (subst (WritesFront mid new) (sym split) (WritesFront-more mid new piece others front))))
 
--- the next of the lines
-pub lines_next : (line : List ℕ) (left rest : List (List ℕ)) → left ≡ line ∷ rest → text_of_lines left ≡ line ++ text_of_lines rest
-lines_next line left rest e = ap text_of_lines e
+-- lines that do not tell the place
+pub lines_without_places : {A : Type 0} (line : A → List ℕ) (place : ℕ) (xs : List A) → each_line (λ at. line) place xs ≡ map line xs
+lines_without_places line place [] = refl
+lines_without_places line place (x ∷ xs) = ap (λ (lines : List (List ℕ)). line x ∷ lines) (lines_without_places line (place + 1) xs)
 
 -- ---- digits, piece by piece
 
@@ -88,3 +94,12 @@ text_ends written well IsText before after (Ok done) text is writes health = (he
 text_ends written well IsText before after (Err (stops.Write fault)) text is front health = (health, (text, front.0, is, front.2))
 text_ends written well IsText before after (Err stops.OutOfMemory) text is front health = (tt, health, (text, front.0, is, front.2))
 text_ends written well IsText before after (Err stops.TooLong) text is front health = absurd health
+
+-- the same of a report that is told by the facts and the size of a heap
+pub report_ends : {W : Type 0} (written : W → Option (List ℕ)) (well : W → Health) (IsText : IdSize → List FactValue → List ℕ → Type 0)
+    (heap : Heap) (before after : W) (r : Result (Unit {0}) WriteStop)
+    → (text : List ℕ) × IsText (size_of heap) (facts_of heap) text × WritesText (written before) (written after) r text
+    → LeavesTarget r (well after) → EndsWriting written well (IsText (heap_of heap).ids (heap_of heap).facts) ⊥ ⊤ before after r
+unfolding facts_of size_of
+report_ends written well IsText heap before after r wrote health =
+    text_ends written well (IsText (heap_of heap).ids (heap_of heap).facts) before after r wrote.0 wrote.1 wrote.2 health

@@ -1,10 +1,9 @@
 -- The report `histo`: how many objects of each kind a heap has, and how many bytes they have.
-use Rattle.std.specs.Prelude.{◌≡◌, ℕ, List, [], ◌∷◌, map, codes}
+use Rattle.std.specs.Prelude.{◌≡◌, ℕ, List, [], ◌∷◌, ◌++◌, map, codes}
 use Rattle.std.specs.Fmt.{decimal}
 use Rattle.hprof_text.specs.Identifier.{id_digits}
 use Rattle.hprof_values.specs.declared.ids.IdSize.{IdSize}
 use Rattle.hprof_values.specs.declared.basic.Basic.{Basic}
-use Rattle.hprof_values.specs.declared.basic.Basic.TheVariants as basics
 use Rattle.hprof_items.specs.FactValue.{FactValue}
 use Rattle.hprof_rows.specs.Conflict.{IsConsistent}
 use Rattle.hprof_histogram.specs.declared.row.Kind.{Kind}
@@ -13,19 +12,7 @@ use Rattle.hprof_histogram.specs.declared.row.Row.{Row}
 use Rattle.hprof_histogram.specs.Histogram.{IsHistogram}
 use Rattle.hprof_naming.specs.Naming.{Naming, IsNaming}
 use Rattle.hprof_reports.specs.Line.{line_of, text_of_lines}
-
--- the word for arrays of a type
-abbrev pub array_word : Basic → List ℕ
-array_word basics.Array = codes "array[]"
-array_word basics.Object = codes "object[]"
-array_word basics.Boolean = codes "boolean[]"
-array_word basics.Char = codes "char[]"
-array_word basics.Float = codes "float[]"
-array_word basics.Double = codes "double[]"
-array_word basics.Byte = codes "byte[]"
-array_word basics.Short = codes "short[]"
-array_word basics.Int = codes "int[]"
-array_word basics.Long = codes "long[]"
+use Rattle.hprof_reports.specs.Shown.{type_word}
 
 -- the bytes and the number of the objects of a class that has this label
 abbrev pub class_row_line : (bytes count class : ℕ) → List ℕ → List ℕ
@@ -33,7 +20,8 @@ class_row_line bytes count class label = line_of (decimal bytes ∷ decimal coun
 
 -- those of arrays of a type
 abbrev pub array_row_line : (bytes count : ℕ) → Basic → List ℕ
-array_row_line bytes count elem = line_of (decimal bytes ∷ decimal count ∷ codes "-" ∷ array_word elem ∷ [])
+array_row_line bytes count elem =
+    decimal bytes ++ codes " " ++ decimal count ++ codes " - " ++ type_word elem ++ codes "[]\n"
 
 abbrev pub kind_line : Naming → (bytes count : ℕ) → Kind → List ℕ
 kind_line naming bytes count (Class class) = class_row_line bytes count class (naming.label class)

@@ -1,4 +1,4 @@
-//! The report `check`: what was read of each part, and what their heap has.
+//! The report `check`: a summary of each part, and the number of facts in each table of their heap.
 
 ghost use Rattle.std.specs.Prelude.{◌≡◌, ◌↔◌, List, ℕ, flat_map, IsTrue};
 ghost use Rattle.hprof_devices.specs.declared.health.Health.TheVariants.{Well};
@@ -30,7 +30,7 @@ const TABLES: [Table; 10] = [
     Table::Objects,
 ];
 
-/// The number of a version.
+/// Returns the number of a version.
 fn version_text(version: Version) -> &'static [u8]
     ensures { result.now ≡ version_text version }
 {
@@ -40,14 +40,14 @@ fn version_text(version: Version) -> &'static [u8]
     }
 }
 
-/// The word for an answer.
+/// Returns the word for an answer.
 fn yes_or_no(answer: bool) -> &'static [u8]
     ensures { result.now ≡ yes_or_no answer }
 {
     if answer { b"yes" } else { b"no" }
 }
 
-/// The word for the facts of a table.
+/// Returns the word for the facts of a table.
 fn table_word(table: Table) -> &'static [u8]
     ensures { result.now ≡ table_word table }
 {
@@ -125,7 +125,7 @@ fn write_tables<W: Target>(heap: &Heap, target: &mut W) -> Result<(), WriteFault
     Ok(())
 }
 
-/// Whether a fact is a name that is not modified UTF-8.
+/// Returns whether a fact is a name that is not modified UTF-8.
 fn is_bad_name(fact: &Fact<'_>) -> bool
     ensures { IsTrue result ↔ IsBadName (value_of fact.now) }
 {
@@ -135,7 +135,7 @@ fn is_bad_name(fact: &Fact<'_>) -> bool
     }
 }
 
-/// How many names are not modified UTF-8.
+/// Returns the number of names that are not modified UTF-8.
 fn count_bad_names(heap: &Heap) -> usize
     ensures { AreBadNames (heap_of heap.now).facts result }
 {
@@ -150,9 +150,9 @@ fn count_bad_names(heap: &Heap) -> usize
     bad
 }
 
-/// Writes the report `check`: a line for each part in order, which says what was read of it, a line for each table
-/// of the heap, which says how many facts it has, and how many names are not modified UTF-8. It takes no memory and
-/// flushes nothing. At a fault some of the report was written, from the front.
+/// Writes the report `check`: a line for each part, in order, a line for each table of the heap with the number of its facts,
+/// and the number of names that are not modified UTF-8. It allocates and flushes nothing. If the writer fails, the bytes written
+/// are the beginning of the report.
 pub fn write_check<W: Target>(
     summaries: &[PartSummary],
     heap: &Heap,

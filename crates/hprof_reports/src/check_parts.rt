@@ -7,8 +7,9 @@ ghost use Rattle.hprof_engine.specs.Makes.{Makes};
 ghost use Rattle.hprof_reports.specs.Checking.{check_making};
 
 use crate::check::write_check;
+use crate::report::report_to;
 use hprof_devices::{Source, Target};
-use hprof_engine::{Product, ToolFault, WriteStop, make_to};
+use hprof_engine::{Product, ToolFault, WriteStop};
 use hprof_heap::{Gatherer, Heap};
 use hprof_stream::{Limits, PartSummary};
 use std::alloc::Global;
@@ -53,9 +54,9 @@ impl Product for Check {
     ghost one_text = { λ check summaries heap. one_check summaries heap.facts };
 }
 
-/// Reads all parts, and writes the report `check`: a line for each part in order, which says what was read of it, a line
-/// for each table of the heap that they state together, which says how many facts it has, and how many names are not
-/// modified UTF-8. All parts are read before the first byte is written.
+/// Reads all parts, and writes the report `check`: a line for each part, in order, a line for each table of their heap with the
+/// number of its facts, and the number of names that are not modified UTF-8. All parts are read before the first byte is
+/// written.
 pub fn check_to<R: Source, W: Target>(
     alloc: Global,
     readers: &mut [R],
@@ -67,8 +68,5 @@ pub fn check_to<R: Source, W: Target>(
     ensures { Makes R.left R.health R.pulls W.written W.health limits check_making
         readers.old readers.new target.old target.new (fault_of result) }
 {
-    match make_to(alloc, &Check, readers, target, limits) {
-        Ok(_heap) => Ok(()),
-        Err(fault) => Err(fault),
-    }
+    report_to(alloc, &Check, readers, target, limits)
 }

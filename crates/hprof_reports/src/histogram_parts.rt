@@ -7,9 +7,10 @@ ghost use Rattle.hprof_engine.specs.Makes.{Makes};
 ghost use Rattle.hprof_reports.specs.HistogramReporting.{histogram_making};
 
 use crate::histogram_report::write_histogram;
+use crate::report::report_to;
 use hprof_devices::{Source, Target};
-use hprof_engine::{Product, ToolFault, WriteStop, make_to};
-use hprof_heap::{Gatherer, Heap};
+use hprof_engine::{HeapProduct, ToolFault, WriteStop};
+use hprof_heap::Heap;
 use hprof_stream::Limits;
 use std::alloc::Global;
 
@@ -17,43 +18,32 @@ use std::alloc::Global;
 #[derive(Clone, Copy)]
 pub struct HistogramReport;
 
-impl Product for HistogramReport {
+impl HeapProduct for HistogramReport {
     ghost use Rattle.std.specs.Prelude.{⊤};
-    ghost use Rattle.hprof_reports.specs.HistogramReporting.{IsHistogramReport};
+    ghost use Rattle.hprof_reports.specs.HistogramText.{IsHistogramText};
     ghost use Rattle.hprof_reports.specs.OneHistogramText.{one_histogram_text};
 
-    ghost is_text = { λ report. IsHistogramReport };
+    ghost is_text = { λ report heap. IsHistogramText heap.ids heap.facts };
 
     ghost is_too_long = { λ report heap. ⊥ };
 
     ghost takes_memory = { λ report. ⊤ };
 
-    ghost asks = { λ report id. ⊥ };
-
-    type Kept = ();
-
-    type Gatherer = Gatherer;
-
-    fn gatherer(&self, alloc: Global) -> Gatherer {
-        Gatherer::new(alloc)
-    }
-
-    fn write<W: Target>(
+    fn write_heap<W: Target>(
         &self,
         alloc: Global,
-        _kept: &(),
         heap: &Heap,
         target: &mut W,
     ) -> Result<(), WriteStop> {
         write_histogram(alloc, heap, target)
     }
 
-    ghost one_text = { λ report summaries heap. one_histogram_text heap.ids heap.facts };
+    ghost one_text = { λ report heap. one_histogram_text heap.ids heap.facts };
 }
 
-/// Reads all parts, and writes the report `histo`: a line for each class and each type of arrays of which the heap that they
-/// state together has objects, those with the most bytes first. All parts are read before the first byte is written. Where
-/// memory is wanted while it is made, some of it was written, from the front.
+/// Reads all parts, and writes the report `histo` on their heap: a line for each class and each array type that has objects,
+/// those with the most bytes first. All parts are read before the first byte is written. If memory runs out then, the bytes
+/// written are the beginning of the report.
 pub fn histo_to<R: Source, W: Target>(
     alloc: Global,
     readers: &mut [R],
@@ -65,8 +55,5 @@ pub fn histo_to<R: Source, W: Target>(
     ensures { Makes R.left R.health R.pulls W.written W.health limits histogram_making
         readers.old readers.new target.old target.new (fault_of result) }
 {
-    match make_to(alloc, &HistogramReport, readers, target, limits) {
-        Ok(_heap) => Ok(()),
-        Err(fault) => Err(fault),
-    }
+    report_to(alloc, &HistogramReport, readers, target, limits)
 }

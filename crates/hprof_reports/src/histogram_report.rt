@@ -1,19 +1,20 @@
-//! The report `histo`: how many objects of each kind a heap has, and how many bytes they have.
+//! The report `histo`: the number of objects of each class and array type, and their bytes.
 
 ghost use Rattle.std.specs.Prelude.{◌≡◌, ℕ, List, IfOk, string_bytes};
 ghost use Rattle.hprof_devices.specs.declared.health.Health.TheVariants.{Well};
 ghost use Rattle.hprof_lookup.specs.HeapFacts.{facts_of, size_of};
 ghost use Rattle.hprof_naming.specs.ClassNames.{AreClassNames};
 ghost use Rattle.hprof_naming.specs.Naming.{IsNaming, Naming};
-ghost use Rattle.hprof_reports.specs.HistogramText.{IsHistogramText, array_row_line, array_word, class_row_line, row_line, rows_text};
+ghost use Rattle.hprof_reports.specs.HistogramText.{IsHistogramText, array_row_line, class_row_line, row_line, rows_text};
 ghost use Rattle.hprof_reports.specs.Stopping.{LeavesTarget, WritesText};
 
 use crate::lines::write_line;
+use crate::shown::type_word;
 use hprof_devices::Target;
 use hprof_engine::WriteStop;
 use hprof_heap::Heap;
 use hprof_histogram::{Kind, Row, histogram};
-use hprof_lookup::id_size;
+use hprof_lookup::holds_of_heap;
 use hprof_naming::{ClassNames, label_of};
 use hprof_values::Basic;
 use std::alloc::{AllocError, Global};
@@ -31,30 +32,12 @@ fn class_row_line(
     format!(in alloc; "{bytes} {count} {class:x} {label}\n")
 }
 
-/// The word for arrays of that type.
-fn array_word(elem: Basic) -> &'static str
-    ensures { result.now ≡ array_word elem }
-{
-    match elem {
-        Basic::Array => "array[]",
-        Basic::Object => "object[]",
-        Basic::Boolean => "boolean[]",
-        Basic::Char => "char[]",
-        Basic::Float => "float[]",
-        Basic::Double => "double[]",
-        Basic::Byte => "byte[]",
-        Basic::Short => "short[]",
-        Basic::Int => "int[]",
-        Basic::Long => "long[]",
-    }
-}
-
 /// The line of a row of arrays of that type.
 fn array_row_line(alloc: Global, bytes: u128, count: u64, elem: Basic) -> Result<String, AllocError>
     ensures { IfOk result (λ line. string_bytes line ≡ array_row_line bytes count elem) }
 {
-    let word = array_word(elem);
-    format!(in alloc; "{bytes} {count} - {word}\n")
+    let word = type_word(elem);
+    format!(in alloc; "{bytes} {count} - {word}[]\n")
 }
 
 /// The line of a row. The error is that memory was refused.
@@ -63,8 +46,7 @@ fn row_line(alloc: Global, heap: &Heap, names: &ClassNames, row: &Row) -> Result
     ensures { (naming : Naming) → IsNaming (facts_of heap.now) naming
         → IfOk result (λ line. string_bytes line ≡ row_line naming row.now) }
 {
-    // Facts of a heap agree: that is told with the size.
-    let _ids = id_size(heap);
+    holds_of_heap(heap);
     let Row { kind, count, bytes } = *row;
     match kind {
         Kind::Class(class) => {
@@ -97,8 +79,8 @@ fn write_rows<W: Target>(
     Ok(())
 }
 
-/// Writes the report `histo`: a line for each kind of which a heap has objects, those with the most bytes first. Where it stops,
-/// at a fault or for want of memory, some of it was written, from the front.
+/// Writes the report `histo`: a line for each class and each array type that has objects, those with the most bytes first. If
+/// the writer fails or memory runs out, the bytes written are the beginning of the report.
 pub fn write_histogram<W: Target>(
     alloc: Global,
     heap: &Heap,
@@ -109,8 +91,7 @@ pub fn write_histogram<W: Target>(
         × WritesText (W.written target.old) (W.written target.new) result text }
     ensures health { LeavesTarget result (W.health target.new) }
 {
-    // Facts of a heap agree: that is told with the size.
-    let _ids = id_size(heap);
+    holds_of_heap(heap);
     let rows = histogram(alloc, heap)?;
     let names = ClassNames::of(alloc, heap)?;
     write_rows(alloc, heap, &names, &rows, target)

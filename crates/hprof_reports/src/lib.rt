@@ -1,10 +1,11 @@
-//! Reports on heaps: texts that say what was read, and what a heap holds, line by line.
+//! Reports on heaps: texts on the parts that were read, and on a heap, line by line.
 #![tactic(auto)]
 
 mod check;
 mod check_parts;
 mod class_lines;
 mod contents;
+mod entries;
 mod histogram_parts;
 mod histogram_report;
 pub mod laws;
@@ -17,6 +18,7 @@ mod path;
 mod path_parts;
 mod refs;
 mod refs_parts;
+mod report;
 mod shown;
 
 pub use check::write_check;

@@ -2,94 +2,26 @@
 
 ghost use Rattle.std.specs.Prelude.{◌≡◌, ℕ, List, IfOk, string_bytes};
 ghost use Rattle.std.specs.Option.{option_map};
-ghost use Rattle.hprof_lists.specs.Lists.{identifiers_of};
 ghost use Rattle.hprof_devices.specs.declared.health.Health.TheVariants.{Well};
 ghost use Rattle.hprof_lookup.specs.HeapFacts.{facts_of, size_of};
 ghost use Rattle.hprof_lookup.specs.ClassDump.{class_value};
 ghost use Rattle.hprof_lookup.specs.ObjectDump.{fact_of_object};
 ghost use Rattle.hprof_layouts.specs.Fields.{AreFields, FieldsValue, fields_value};
 ghost use Rattle.hprof_naming.specs.Naming.{IsNaming, Naming};
-ghost use Rattle.hprof_reports.specs.ObjectText.{IsObjectText, class_text, constants_text, elements_text, fields_text, found_text};
-ghost use Rattle.hprof_reports.specs.ObjectText.{nothing_line, object_text, own_fields_text, statics_text, why_no_fields};
+ghost use Rattle.hprof_reports.specs.ObjectText.{IsObjectText, class_text, fields_text, found_text};
+ghost use Rattle.hprof_reports.specs.ObjectText.{nothing_line, object_text, why_no_fields};
 ghost use Rattle.hprof_reports.specs.Stopping.{LeavesTarget, WritesText};
 
-use crate::class_lines::{ConstantLines, OwnLines, StaticLines, class_line};
+use crate::class_lines::class_line;
 use crate::contents::write_contents;
-use crate::lines::{write_line, write_lines};
-use crate::object_lines::{ElementLines, FieldLines, elements_line, instance_line, values_line};
+use crate::lines::{write_entries, write_line};
+use crate::object_lines::{elements_line, instance_line, values_line};
 use hprof_devices::Target;
 use hprof_engine::WriteStop;
 use hprof_heap::Heap;
 use hprof_layouts::{Fields, fields};
-use hprof_lists::IdList;
-use hprof_lookup::{ClassDump, ObjectDump, find_class, find_object, id_size};
+use hprof_lookup::{ClassDump, ObjectDump, find_class, find_object, holds_of_heap, id_size};
 use std::alloc::{AllocError, Global};
-
-/// Writes a line for each constant of a class.
-fn write_constants<W: Target>(
-    alloc: Global,
-    heap: &Heap,
-    dump: &ClassDump<'_>,
-    target: &mut W,
-) -> Result<(), WriteStop>
-    requires { W.health target.old ≡ Well }
-    ensures bytes { (naming : Naming) → IsNaming (facts_of heap.now) naming
-        → WritesText (W.written target.old) (W.written target.new) result
-        (constants_text (size_of heap.now) (class_value dump.now)) }
-    ensures health { LeavesTarget result (W.health target.new) }
-{
-    let _len = dump.constants.len();
-    let lines = ConstantLines {
-        heap,
-        constants: dump.constants.iter(),
-        place: 0,
-    };
-    write_lines(alloc, lines, target)
-}
-
-/// Writes a line for each static field of a class.
-fn write_statics<W: Target>(
-    alloc: Global,
-    heap: &Heap,
-    dump: &ClassDump<'_>,
-    target: &mut W,
-) -> Result<(), WriteStop>
-    requires { W.health target.old ≡ Well }
-    ensures bytes { (naming : Naming) → IsNaming (facts_of heap.now) naming
-        → WritesText (W.written target.old) (W.written target.new) result
-        (statics_text naming (size_of heap.now) (class_value dump.now)) }
-    ensures health { LeavesTarget result (W.health target.new) }
-{
-    let _len = dump.statics.len();
-    let lines = StaticLines {
-        heap,
-        statics: dump.statics.iter(),
-        place: 0,
-    };
-    write_lines(alloc, lines, target)
-}
-
-/// Writes a line for each own field of a class.
-fn write_own_fields<W: Target>(
-    alloc: Global,
-    heap: &Heap,
-    dump: &ClassDump<'_>,
-    target: &mut W,
-) -> Result<(), WriteStop>
-    requires { W.health target.old ≡ Well }
-    ensures bytes { (naming : Naming) → IsNaming (facts_of heap.now) naming
-        → WritesText (W.written target.old) (W.written target.new) result
-        (own_fields_text naming (class_value dump.now)) }
-    ensures health { LeavesTarget result (W.health target.new) }
-{
-    let _len = dump.fields.len();
-    let lines = OwnLines {
-        heap,
-        fields: dump.fields.iter(),
-        place: 0,
-    };
-    write_lines(alloc, lines, target)
-}
 
 /// Writes what a class dump says.
 fn write_class<W: Target>(
@@ -105,9 +37,15 @@ fn write_class<W: Target>(
     ensures health { LeavesTarget result (W.health target.new) }
 {
     write_line(class_line(alloc, heap, dump), target)?;
-    write_constants(alloc, heap, dump, target)?;
-    write_statics(alloc, heap, dump, target)?;
-    write_own_fields(alloc, heap, dump, target)
+    let ClassDump {
+        constants,
+        statics,
+        fields,
+        ..
+    } = *dump;
+    write_entries(alloc, heap, constants.len(), constants.iter(), target)?;
+    write_entries(alloc, heap, statics.len(), statics.iter(), target)?;
+    write_entries(alloc, heap, fields.len(), fields.iter(), target)
 }
 
 /// Why an object has no fields, in a line; nothing where it is no instance.
@@ -138,41 +76,14 @@ fn write_fields<W: Target>(
         (fields_text naming (size_of heap.now) shown) }
     ensures health { LeavesTarget result (W.health target.new) }
 {
-    // Facts of a heap agree: that is told with the size.
-    let _ids = id_size(heap);
+    holds_of_heap(heap);
     match fields(alloc, heap, object)? {
         Fields::Values(values) => {
-            let lines = FieldLines {
-                heap,
-                values: &values,
-                place: 0,
-            };
-            write_lines(alloc, lines, target)
+            let values = values.as_slice();
+            write_entries(alloc, heap, values.len(), values, target)
         }
         why => write_line(no_fields_line(alloc, &why), target),
     }
-}
-
-/// Writes a line for each element of an array of objects.
-fn write_elements<W: Target>(
-    alloc: Global,
-    heap: &Heap,
-    elements: &IdList<'_>,
-    target: &mut W,
-) -> Result<(), WriteStop>
-    requires { W.health target.old ≡ Well }
-    ensures bytes { (naming : Naming) → IsNaming (facts_of heap.now) naming
-        → WritesText (W.written target.old) (W.written target.new) result
-        (elements_text (identifiers_of elements.now)) }
-    ensures health { LeavesTarget result (W.health target.new) }
-{
-    let _len = elements.len();
-    let lines = ElementLines {
-        heap,
-        elements: elements.iter(),
-        place: 0,
-    };
-    write_lines(alloc, lines, target)
 }
 
 /// Writes what an object dump says.
@@ -207,7 +118,7 @@ fn write_object_dump<W: Target>(
             ..
         } => {
             write_line(elements_line(alloc, heap, id, class, &elements), target)?;
-            write_elements(alloc, heap, &elements, target)
+            write_entries(alloc, heap, elements.len(), elements.iter(), target)
         }
         ObjectDump::PrimArray {
             id,
@@ -255,8 +166,8 @@ fn write_found<W: Target>(
     }
 }
 
-/// Writes the report `object` on an identifier: the lines of its class dump, and then those of its object dump, or that there is
-/// neither. Where it stops, at a fault or for want of memory, some of it was written, from the front.
+/// Writes the report `object` on an identifier: the lines of its class dump, then those of its object dump, or that it has
+/// neither. If the writer fails or memory runs out, the bytes written are the beginning of the report.
 pub fn write_object<W: Target>(
     alloc: Global,
     heap: &Heap,
@@ -268,8 +179,7 @@ pub fn write_object<W: Target>(
         × WritesText (W.written target.old) (W.written target.new) result text }
     ensures health { LeavesTarget result (W.health target.new) }
 {
-    // Facts of a heap agree: that is told with the size.
-    let _ids = id_size(heap);
+    holds_of_heap(heap);
     let class = find_class(heap, id);
     let object = find_object(heap, id);
     write_found(alloc, heap, id, class, object, target)

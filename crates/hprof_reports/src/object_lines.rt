@@ -1,16 +1,16 @@
 //! The lines of an object dump.
 
-ghost use Rattle.std.specs.Prelude.{◌≡◌, ◌+◌, ◌<◌, ◌^◌, IfOk, length, string_bytes};
-ghost use Rattle.hprof_lists.specs.Lists.{identifiers_left, identifiers_of};
-ghost use Rattle.hprof_lookup.specs.HeapFacts.{facts_of, size_of};
+ghost use Rattle.std.specs.Prelude.{◌≡◌, IfOk, string_bytes};
+ghost use Rattle.hprof_lists.specs.Lists.{identifiers_of};
+ghost use Rattle.hprof_lookup.specs.HeapFacts.{facts_of};
 ghost use Rattle.hprof_naming.specs.Naming.{IsNaming, Naming};
 ghost use Rattle.hprof_reports.specs.ObjectText.{counted_line, element_line, elements_line, field_line, instance_line, values_line};
 
-use crate::lines::Lines;
+use crate::entries::Entry;
 use crate::shown::{bits_text, type_word};
 use hprof_heap::Heap;
 use hprof_layouts::FieldValue;
-use hprof_lists::{IdList, Ids};
+use hprof_lists::IdList;
 use hprof_lookup::id_size;
 use hprof_naming::{class_label, name_text};
 use hprof_values::{Basic, IdSize};
@@ -75,88 +75,29 @@ pub(crate) fn values_line(
     format!(in alloc; "values {id:x} {word} elements {len}\n")
 }
 
-/// The line of the field at that place.
-fn field_line(
-    alloc: Global,
-    heap: &Heap,
-    place: u64,
-    value: &FieldValue,
-) -> Result<String, AllocError>
-    ensures { (naming : Naming) → IsNaming (facts_of heap.now) naming
-        → IfOk result (λ line. string_bytes line ≡ field_line naming (size_of heap.now) place value.now) }
-{
-    let FieldValue {
-        class,
-        name,
-        basic,
-        bits,
-    } = *value;
-    let word = type_word(basic);
-    let bits = bits_text(alloc, id_size(heap), basic, bits)?;
-    let name = name_text(alloc, heap, name)?;
-    format!(in alloc; "field {place} {class:x} {word} {bits} {name}\n")
-}
+impl Entry for FieldValue {
+    ghost line_at = { field_line };
 
-/// The line of the element at that place.
-fn element_line(alloc: Global, place: u64, element: u64) -> Result<String, AllocError>
-    ensures { IfOk result (λ line. string_bytes line ≡ element_line place element) }
-{
-    format!(in alloc; "element {place} {element:x}\n")
-}
-
-/// The lines of fields.
-#[derive(Drop)]
-pub(crate) struct FieldLines<'a> {
-    pub(crate) heap: &'a Heap,
-    pub(crate) values: &'a [FieldValue],
-    pub(crate) place: usize,
-}
-
-impl<'a> Lines for FieldLines<'a> {
-    ghost use Rattle.std.specs.Prelude.{◌-◌, drop};
-    ghost use Rattle.hprof_reports.specs.Line.{each_line};
-
-    ghost shows = { λ self. self.heap.now };
-
-    ghost lines_left = { λ self naming. each_line (field_line naming (size_of self.heap.now)) self.place
-        (drop self.place self.values.now) };
-
-    ghost count_left = { λ self. length self.values.now - self.place };
-
-    fn next_line(&mut self, alloc: Global) -> Result<Option<String>, AllocError> {
-        let Some(value) = self.values.get(self.place) else {
-            return Ok(None);
-        };
-        let line = field_line(alloc, self.heap, self.place as u64, value)?;
-        self.place += 1;
-        Ok(Some(line))
+    fn line(&self, alloc: Global, heap: &Heap, place: u64) -> Result<String, AllocError> {
+        let FieldValue {
+            class,
+            name,
+            basic,
+            bits,
+        } = *self;
+        let word = type_word(basic);
+        let bits = bits_text(alloc, id_size(heap), basic, bits)?;
+        let name = name_text(alloc, heap, name)?;
+        format!(in alloc; "field {place} {class:x} {word} {bits} {name}\n")
     }
 }
 
-/// The lines of elements.
-#[derive(Drop)]
-pub(crate) struct ElementLines<'a> {
-    pub(crate) heap: &'a Heap,
-    pub(crate) elements: Ids<'a>,
-    pub(crate) place: u64,
-    ghost fits: { place + length (identifiers_left elements) < 2 ^ 64 },
-}
+/// An element of an array of objects.
+impl Entry for u64 {
+    ghost line_at = { λ naming ids. element_line };
 
-impl<'a> Lines for ElementLines<'a> {
-    ghost use Rattle.hprof_reports.specs.Line.{each_line};
-
-    ghost shows = { λ self. self.heap.now };
-
-    ghost lines_left = { λ self naming. each_line element_line self.place (identifiers_left self.elements) };
-
-    ghost count_left = { λ self. length (identifiers_left self.elements) };
-
-    fn next_line(&mut self, alloc: Global) -> Result<Option<String>, AllocError> {
-        let Some(element) = self.elements.next() else {
-            return Ok(None);
-        };
-        let line = element_line(alloc, self.place, element)?;
-        self.place += 1;
-        Ok(Some(line))
+    fn line(&self, alloc: Global, _heap: &Heap, place: u64) -> Result<String, AllocError> {
+        let element = *self;
+        format!(in alloc; "element {place} {element:x}\n")
     }
 }

@@ -1,4 +1,4 @@
-//! The report `path`: how far from the roots an identifier is, and by which path they lead there.
+//! The report `path`: the distance of an identifier from the GC roots, and the shortest path to it.
 
 ghost use Rattle.std.specs.Prelude.{◌≡◌, ℕ, List, IfOk, string_bytes};
 ghost use Rattle.hprof_devices.specs.declared.health.Health.TheVariants.{Well};
@@ -13,7 +13,7 @@ use crate::lines::{write_line, write_text};
 use hprof_devices::Target;
 use hprof_engine::WriteStop;
 use hprof_heap::Heap;
-use hprof_lookup::id_size;
+use hprof_lookup::holds_of_heap;
 use hprof_reach::{Reach, reach_of};
 use std::alloc::{AllocError, Global};
 
@@ -69,8 +69,8 @@ fn write_reached<W: Target>(
     }
 }
 
-/// Writes the report `path` on an identifier: its distance from the roots, and then each node of its path in a line of its own,
-/// or that no root leads there. Where it stops, at a fault or for want of memory, some of it was written, from the front.
+/// Writes the report `path` on an identifier: its distance from the GC roots, then a line for each node of the shortest path,
+/// or that no root reaches it. If the writer fails or memory runs out, the bytes written are the beginning of the report.
 pub fn write_path<W: Target>(
     alloc: Global,
     heap: &Heap,
@@ -82,8 +82,7 @@ pub fn write_path<W: Target>(
         × WritesText (W.written target.old) (W.written target.new) result text }
     ensures health { LeavesTarget result (W.health target.new) }
 {
-    // Facts of a heap agree: that is told with the size.
-    let _ids = id_size(heap);
+    holds_of_heap(heap);
     let reach = reach_of(alloc, heap)?;
     write_reached(alloc, &reach, id, target)
 }

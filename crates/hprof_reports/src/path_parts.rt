@@ -7,9 +7,10 @@ ghost use Rattle.hprof_engine.specs.Makes.{Makes};
 ghost use Rattle.hprof_reports.specs.PathReporting.{path_making};
 
 use crate::path::write_path;
+use crate::report::report_to;
 use hprof_devices::{Source, Target};
-use hprof_engine::{Product, ToolFault, WriteStop, make_to};
-use hprof_heap::{Gatherer, Heap};
+use hprof_engine::{HeapProduct, ToolFault, WriteStop};
+use hprof_heap::Heap;
 use hprof_stream::Limits;
 use std::alloc::Global;
 
@@ -20,43 +21,32 @@ pub struct PathReport {
     pub id: u64,
 }
 
-impl Product for PathReport {
+impl HeapProduct for PathReport {
     ghost use Rattle.std.specs.Prelude.{⊤};
-    ghost use Rattle.hprof_reports.specs.PathReporting.{IsPathReport};
+    ghost use Rattle.hprof_reports.specs.PathText.{IsPathText};
     ghost use Rattle.hprof_reports.specs.OnePath.{one_path_text};
 
-    ghost is_text = { λ report. IsPathReport report.id };
+    ghost is_text = { λ report heap. IsPathText heap.ids heap.facts report.id };
 
     ghost is_too_long = { λ report heap. ⊥ };
 
     ghost takes_memory = { λ report. ⊤ };
 
-    ghost asks = { λ report id. ⊥ };
-
-    type Kept = ();
-
-    type Gatherer = Gatherer;
-
-    fn gatherer(&self, alloc: Global) -> Gatherer {
-        Gatherer::new(alloc)
-    }
-
-    fn write<W: Target>(
+    fn write_heap<W: Target>(
         &self,
         alloc: Global,
-        _kept: &(),
         heap: &Heap,
         target: &mut W,
     ) -> Result<(), WriteStop> {
         write_path(alloc, heap, self.id, target)
     }
 
-    ghost one_text = { λ report summaries heap. one_path_text heap.ids heap.facts report.id };
+    ghost one_text = { λ report heap. one_path_text heap.ids heap.facts report.id };
 }
 
-/// Reads all parts, and writes the report `path` on an identifier: its distance from the roots in the heap that they state
-/// together, and then each node of its path, or that no root leads there. All parts are read before the first byte is
-/// written. Where memory is wanted while it is made, some of it was written, from the front.
+/// Reads all parts, and writes the report `path` on an identifier in their heap: its distance from the GC roots, then a line
+/// for each node of the shortest path, or that no root reaches it. All parts are read before the first byte is written. If
+/// memory runs out then, the bytes written are the beginning of the report.
 pub fn path_to<R: Source, W: Target>(
     alloc: Global,
     readers: &mut [R],
@@ -69,8 +59,5 @@ pub fn path_to<R: Source, W: Target>(
     ensures { Makes R.left R.health R.pulls W.written W.health limits (path_making id)
         readers.old readers.new target.old target.new (fault_of result) }
 {
-    match make_to(alloc, &PathReport { id }, readers, target, limits) {
-        Ok(_heap) => Ok(()),
-        Err(fault) => Err(fault),
-    }
+    report_to(alloc, &PathReport { id }, readers, target, limits)
 }

@@ -1,12 +1,13 @@
-//! The report `refs`: what refers to an identifier.
+//! The report `refs`: every reference to an identifier.
 
-ghost use Rattle.std.specs.Prelude.{◌≡◌, IfOk, length, map, string_bytes};
+ghost use Rattle.std.specs.Prelude.{◌≡◌, map};
 ghost use Rattle.hprof_devices.specs.declared.health.Health.TheVariants.{Well};
 ghost use Rattle.hprof_reports.specs.Line.{text_of_lines};
 ghost use Rattle.hprof_reports.specs.RefsText.{edge_line, via_word};
 ghost use Rattle.hprof_reports.specs.Stopping.{LeavesTarget, WritesText};
 
-use crate::lines::{Lines, write_lines};
+use crate::entries::Entry;
+use crate::lines::write_entries;
 use hprof_devices::Target;
 use hprof_edges::{Edge, Via};
 use hprof_engine::WriteStop;
@@ -30,48 +31,23 @@ fn via_word(via: Via) -> &'static str
     }
 }
 
-/// The line of an edge. The error is that memory was refused.
-fn edge_line(alloc: Global, edge: &Edge) -> Result<String, AllocError>
-    ensures { IfOk result (λ line. string_bytes line ≡ edge_line edge.now) }
-{
-    let Edge {
-        from,
-        via,
-        position,
-        ..
-    } = *edge;
-    let word = via_word(via);
-    format!(in alloc; "{from:x} {word} {position}\n")
-}
+impl Entry for Edge {
+    ghost line_at = { λ naming ids place. edge_line };
 
-/// The lines of edges.
-#[derive(Drop)]
-struct EdgeLines<'a> {
-    heap: &'a Heap,
-    edges: &'a [Edge],
-    place: usize,
-}
-
-impl<'a> Lines for EdgeLines<'a> {
-    ghost use Rattle.std.specs.Prelude.{◌-◌, drop};
-
-    ghost shows = { λ self. self.heap.now };
-
-    ghost lines_left = { λ self naming. map edge_line (drop self.place self.edges.now) };
-
-    ghost count_left = { λ self. length self.edges.now - self.place };
-
-    fn next_line(&mut self, alloc: Global) -> Result<Option<String>, AllocError> {
-        let Some(edge) = self.edges.get(self.place) else {
-            return Ok(None);
-        };
-        let line = edge_line(alloc, edge)?;
-        self.place += 1;
-        Ok(Some(line))
+    fn line(&self, alloc: Global, _heap: &Heap, _place: u64) -> Result<String, AllocError> {
+        let Edge {
+            from,
+            via,
+            position,
+            ..
+        } = *self;
+        let word = via_word(via);
+        format!(in alloc; "{from:x} {word} {position}\n")
     }
 }
 
-/// Writes a line for each of these edges of a heap. Where it stops some of them were written, from the front.
+/// Writes a line for each of these edges of a heap. If the writer fails or memory runs out, the bytes written are the beginning
+/// of the lines.
 pub fn write_refs<W: Target>(
     alloc: Global,
     heap: &Heap,
@@ -82,10 +58,5 @@ pub fn write_refs<W: Target>(
     ensures bytes { WritesText (W.written target.old) (W.written target.new) result (text_of_lines (map edge_line edges.now)) }
     ensures health { LeavesTarget result (W.health target.new) }
 {
-    let lines = EdgeLines {
-        heap,
-        edges,
-        place: 0,
-    };
-    write_lines(alloc, lines, target)
+    write_entries(alloc, heap, edges.len(), edges, target)
 }

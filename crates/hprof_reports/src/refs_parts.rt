@@ -7,8 +7,9 @@ ghost use Rattle.hprof_engine.specs.Makes.{Makes};
 ghost use Rattle.hprof_reports.specs.RefsReporting.{refs_making};
 
 use crate::refs::write_refs;
+use crate::report::report_to;
 use hprof_devices::{Source, Target};
-use hprof_engine::{Product, ToolFault, WriteStop, make_to};
+use hprof_engine::{Product, ToolFault, WriteStop};
 use hprof_heap::Heap;
 use hprof_live::{Index, LiveHeap};
 use hprof_stream::Limits;
@@ -57,9 +58,9 @@ impl Product for RefsReport {
     ghost one_text = { λ report summaries heap. one_refs heap.ids heap.facts report.id };
 }
 
-/// Reads all parts, and writes the report `refs` on an identifier: a line for each edge to it in the heap that they state
-/// together, in order; nothing where nothing refers to it. The edges are kept while the parts are read. All parts are read
-/// before the first byte is written. Where memory is wanted while it is written, some of it was written, from the front.
+/// Reads all parts, and writes the report `refs` on an identifier: a line for each reference to it in their heap, in order, and
+/// nothing if there is none. References are kept while parts are read. All parts are read before the first byte is written. If
+/// memory runs out then, the bytes written are the beginning of the report.
 pub fn refs_to<R: Source, W: Target>(
     alloc: Global,
     readers: &mut [R],
@@ -72,8 +73,5 @@ pub fn refs_to<R: Source, W: Target>(
     ensures { Makes R.left R.health R.pulls W.written W.health limits (refs_making id)
         readers.old readers.new target.old target.new (fault_of result) }
 {
-    match make_to(alloc, &RefsReport { id }, readers, target, limits) {
-        Ok(_found) => Ok(()),
-        Err(fault) => Err(fault),
-    }
+    report_to(alloc, &RefsReport { id }, readers, target, limits)
 }

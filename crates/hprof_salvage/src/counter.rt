@@ -7,7 +7,7 @@ use hprof_items::{Fact, Header};
 use hprof_stream::{Sink, SinkFault};
 use std::alloc::Global;
 
-/// A gatherer, and how many parts it was given the header of. The number stops at the greatest there is.
+/// A gatherer, with the number of headers that it was given. The number stops at the greatest there is.
 #[derive(Drop)]
 pub(crate) struct PartCounter {
     pub(crate) gatherer: Gatherer,
@@ -17,7 +17,7 @@ pub(crate) struct PartCounter {
 impl PartCounter {
     ghost use Rattle.hprof_heap.specs.Gathering.{gathered, nothing_gathered};
 
-    /// One that was given nothing. It takes no memory yet.
+    /// Returns one that was given nothing. It allocates nothing.
     pub(crate) fn new(alloc: Global) -> Self
         ensures nothing { gathered result.gatherer ≡ nothing_gathered }
         ensures none { result.parts ≡ 0 }

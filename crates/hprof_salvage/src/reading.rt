@@ -13,7 +13,7 @@ use hprof_engine::ToolFault;
 use hprof_stream::{Limits, PartFault, SinkFault, read_part};
 use std::alloc::Global;
 
-/// Whether memory was wanted.
+/// Returns whether memory ran out.
 fn is_want_of_memory(fault: PartFault) -> bool
     ensures { result ≡ is_want_of_memory fault }
 {
@@ -29,7 +29,7 @@ fn is_want_of_memory(fault: PartFault) -> bool
     }
 }
 
-/// Lists the fault of a part, but for want of memory, which ends the call.
+/// Lists the fault of a part. If memory ran out, that ends the call instead.
 fn list_fault(
     faults: &mut Vec<FaultedPart>,
     index: usize,
@@ -48,7 +48,7 @@ fn list_fault(
     }
 }
 
-/// Reads each part in order, whatever its fault, and gives what stands before the fault to the gatherer. It lists the faults.
+/// Reads each part in order, whatever its fault, gives the facts before the fault to the gatherer, and lists the fault.
 pub(crate) fn read_through<R: Source>(
     alloc: Global,
     readers: &mut [R],

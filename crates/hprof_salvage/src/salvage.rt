@@ -20,7 +20,7 @@ use hprof_heap::{Gatherer, Heap, Refusal};
 use hprof_stream::Limits;
 use std::alloc::Global;
 
-/// The heap of what was gathered, or why there is none.
+/// Returns the heap of the facts that were gathered, or why there is none.
 fn heap_of_all(gatherer: Gatherer) -> Result<Heap, ToolFault>
     requires { (gathered gatherer).failed ≡ false }
     ensures { (given : List Given) → Gathers nothing_gathered given (gathered gatherer) → TellsHeap given result }
@@ -35,7 +35,7 @@ fn heap_of_all(gatherer: Gatherer) -> Result<Heap, ToolFault>
     }
 }
 
-/// As [`salvage_to`], and hands back the heap that was written, so that a program that ends need not free it row by row.
+/// Does what [`salvage_to`] does, and returns the heap that was written, too: a program that ends need not free it row by row.
 pub fn salvage_kept<R: Source, W: Target>(
     alloc: Global,
     readers: &mut [R],
@@ -72,10 +72,10 @@ pub fn salvage_kept<R: Source, W: Target>(
     Ok(SalvagedHeap { salvaged, heap })
 }
 
-/// Reads all parts, whatever their faults, and writes the canonical dump of the facts that stand in each before its first fault.
+/// Reads all parts, whatever their faults, and writes the canonical dump of the facts before the first fault of each.
 ///
-/// A part whose header is whole gives its size and its time, too, and those whose header is not whole are as if they were not
-/// there. Two sizes and a conflict are refused as where parts are joined. A part ends the call for want of memory alone.
+/// A part whose header is whole counts with its identifier size and its time. A part whose header is not whole is skipped.
+/// Two sizes and a conflict are refused as in a join. A part ends the call only if memory runs out while it is read.
 pub fn salvage_to<R: Source, W: Target>(
     alloc: Global,
     readers: &mut [R],

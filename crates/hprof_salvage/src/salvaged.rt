@@ -1,39 +1,39 @@
-//! What was saved.
+//! The result of a salvage.
 
 use hprof_engine::Joined;
 use hprof_heap::Heap;
 use hprof_stream::PartFault;
 use std::fmt;
 
-/// A part that has a fault. What stands before it was saved.
+/// A part with a fault. The facts before the fault were saved.
 #[derive(Clone, Copy, Debug, PartialEq, Eq)]
 pub struct FaultedPart {
-    /// Which part, counted from 0.
+    /// The index of the part, from 0.
     pub index: usize,
     /// Its fault.
     pub fault: PartFault,
 }
 
-/// Its text, in one line, as it is where the part is refused: the number of the part, and why.
+/// Prints one line, as a join does that refuses the part: the index of the part, and its fault.
 impl fmt::Display for FaultedPart {
     fn fmt<W: fmt::Write>(&self, f: &mut fmt::Formatter<W>) -> fmt::Result {
         write!(f, "part {}: {}", self.index, self.fault)
     }
 }
 
-/// What was saved of parts.
+/// The result of a salvage.
 #[derive(Debug, PartialEq, Eq, Drop)]
 pub struct Salvaged {
-    /// How many parts had a whole header, and how many facts were written.
+    /// The number of parts with a whole header, and of facts that were written.
     pub joined: Joined,
-    /// Each part that has a fault, in order.
+    /// The parts with a fault, in order.
     pub faults: Vec<FaultedPart>,
 }
 
-/// What was saved of parts, and the heap that was written.
+/// The result of a salvage, with the heap whose dump was written.
 #[derive(Drop)]
 pub struct SalvagedHeap {
-    /// What was saved.
+    /// The numbers, and the faults.
     pub salvaged: Salvaged,
     /// The heap whose dump was written.
     pub heap: Heap,

@@ -9,6 +9,6 @@ pub returns-clause-named : goal.returns-clause-named
 returns-clause-named c = λ naming is.
     of_text (λ text. IsLabelOf (facts_of c.args.heap.now) c.class_name.result (string_bytes text))
     (λ text. string_bytes text ≡ naming.label c.args.class) c.label_of.result
-    (λ text form. one_label (facts_of c.args.heap.now) c.id_size-ids.ensures.agree c.args.class (string_bytes text)
+    (λ text form. one_label (facts_of c.args.heap.now) c.holds_of_heap.ensures.agree c.args.class (string_bytes text)
     (naming.label c.args.class) (c.class_name.result, c.class_name.ensures, form) (is.labels c.args.class))
     c.label_of.ensures

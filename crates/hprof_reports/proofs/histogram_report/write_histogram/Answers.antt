@@ -16,7 +16,7 @@ returns-clause-bytes g c =
     let rows = c.in_ok-rows.rows.items in (
       rows_text naming.0 rows,
       record {
-        agree = c.id_size-ids.ensures.agree;
+        agree = c.holds_of_heap.ensures.agree;
         naming = naming.0;
         is_naming = naming.1;
         rows = rows;
@@ -35,7 +35,7 @@ returns-in_err-rows-clause-bytes g c =
     let rows = at_least_one (size_of c.args.heap.now) facts in
     let p = err_from_is_err_and c.from_residual.result c.from_residual.ensures.1 in (
       rows_text naming.0 rows.0,
-      record { agree = c.id_size-ids.ensures.agree; naming = naming.0; is_naming = naming.1; rows = rows.0; are_rows = rows.1; is = refl },
+      record { agree = c.holds_of_heap.ensures.agree; naming = naming.0; is_naming = naming.1; rows = rows.0; are_rows = rows.1; is = refl },
       text_unwritten c.from_residual.result (g.W.Target.written c.args.target.now) p.0 (rows_text naming.0 rows.0) p.1,
     )
 
@@ -47,6 +47,6 @@ returns-in_err-names-clause-bytes g c =
     let r = c.from_residual-in_err-names.result in
     let p = err_from_is_err_and r c.from_residual-in_err-names.ensures.1 in (
       rows_text naming.0 rows.0,
-      record { agree = c.id_size-ids.ensures.agree; naming = naming.0; is_naming = naming.1; rows = rows.0; are_rows = rows.1; is = refl },
+      record { agree = c.holds_of_heap.ensures.agree; naming = naming.0; is_naming = naming.1; rows = rows.0; are_rows = rows.1; is = refl },
       text_unwritten r (g.W.Target.written c.args.target.now) p.0 (rows_text naming.0 rows.0) p.1,
     )

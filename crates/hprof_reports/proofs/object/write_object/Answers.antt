@@ -20,7 +20,7 @@ returns-clause-bytes g c =
     let object = c.find_object-object in (
       found_text naming.0 ids id shown.0 (option_map class_value class.result) (option_map fact_of_object object.result),
       record {
-        agree = c.id_size-ids.ensures.agree;
+        agree = c.holds_of_heap.ensures.agree;
         naming = naming.0;
         is_naming = naming.1;
         class = option_map class_value class.result;

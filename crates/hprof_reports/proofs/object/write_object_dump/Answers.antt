@@ -48,11 +48,11 @@ pub returns-in_ok-write_line-in-ObjArray-clause-bytes : goal.returns-in_ok-write
 returns-in_ok-write_line-in-ObjArray-clause-bytes g c = λ naming shown is are.
     let ids = size_of c.args.heap.now in
     let it = c.in-ObjArray in
-    let r = c.write_elements.result in
+    let r = c.write_entries.result in
     let made = c.elements_line.ensures naming is in
-    subst (λ (row : ObjectDump). WritesText (g.W.Target.written c.args.target.now) (g.W.Target.written c.write_elements.new.target) r (object_text naming ids shown (fact_of_object row))) (sym it.is)
-    (text_then r (g.W.Target.written c.args.target.now) (g.W.Target.written c.write_line-in-ObjArray.new.target) (g.W.Target.written c.write_elements.new.target) (elements_line naming it.id it.class (identifiers_of it.elements)) (elements_text (identifiers_of it.elements))
-    (c.in_ok-write_line-in-ObjArray.ensures.bytes (elements_line naming it.id it.class (identifiers_of it.elements)) made) (c.write_elements.ensures.bytes naming is))
+    subst (λ (row : ObjectDump). WritesText (g.W.Target.written c.args.target.now) (g.W.Target.written c.write_entries.new.target) r (object_text naming ids shown (fact_of_object row))) (sym it.is)
+    (text_then r (g.W.Target.written c.args.target.now) (g.W.Target.written c.write_line-in-ObjArray.new.target) (g.W.Target.written c.write_entries.new.target) (elements_line naming it.id it.class (identifiers_of it.elements)) (elements_text (identifiers_of it.elements))
+    (c.in_ok-write_line-in-ObjArray.ensures.bytes (elements_line naming it.id it.class (identifiers_of it.elements)) made) (c.write_entries.ensures.bytes naming (identifiers_of it.elements) is c.iter.ensures))
 
 pub returns-in_err-write_line-in-PrimArray-clause-bytes : goal.returns-in_err-write_line-in-PrimArray-clause-bytes
 returns-in_err-write_line-in-PrimArray-clause-bytes g c = λ naming shown is are.

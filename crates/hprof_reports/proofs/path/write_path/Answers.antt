@@ -15,7 +15,7 @@ pub returns-in_err-reach-clause-bytes : goal.returns-in_err-reach-clause-bytes
 returns-in_err-reach-clause-bytes g c =
     let ids = size_of c.args.heap.now in
     let facts = facts_of c.args.heap.now in
-    let agree = c.id_size-ids.ensures.agree in
+    let agree = c.holds_of_heap.ensures.agree in
     let distance = some_distance ids facts agree c.args.id in
     let path = some_path ids facts agree c.args.id in
     let p = err_from_is_err_and c.from_residual.result c.from_residual.ensures.1 in (

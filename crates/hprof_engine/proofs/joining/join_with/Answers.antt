@@ -1,7 +1,7 @@
 use Rattle.std.proofs.Common.{◌∙◌}
 use Rattle.hprof_heap.specs.Heap.{heap_of}
 use Rattle.hprof_engine.proofs.Answers.{told_length}
-use Rattle.hprof_dump101.proofs.join.join101_kept.Goals as goal
+use Rattle.hprof_engine.proofs.joining.join_with.Goals as goal
 
 pub returns-in-Ok-clause-joined : goal.returns-in-Ok-clause-joined
 returns-in-Ok-clause-joined g c = λ parts told.

@@ -1,0 +1,71 @@
+//! Products of the heap alone.
+
+ghost use Rattle.std.specs.Prelude.{◌≡◌, ℕ, List};
+
+use crate::product::{Product, WriteStop};
+use hprof_devices::Target;
+use hprof_heap::{Gatherer, Heap};
+use std::alloc::Global;
+
+/// A product that is made of the heap alone, as a dump and most reports are. Each is a [`Product`] that keeps no summaries
+/// of parts.
+pub trait HeapProduct {
+    ghost use Rattle.hprof_devices.specs.declared.health.Health.TheVariants.{Well};
+    ghost use Rattle.hprof_rows.specs.HeapValue.{HeapValue};
+    ghost use Rattle.hprof_heap.specs.Heap.{heap_of};
+    ghost use Rattle.hprof_engine.specs.Makes.{EndsWriting};
+
+    // The text is made of that heap.
+    ghost is_text: { Self → HeapValue → List ℕ → Type 0 };
+
+    // The heap is refused before the first byte.
+    ghost is_too_long: { Self → HeapValue → Type 0 };
+
+    // Writing it takes memory.
+    ghost takes_memory: { Self → Type 0 };
+
+    /// Writes the product of a heap. If the writer fails or memory runs out, the bytes written are the beginning of it.
+    fn write_heap<W: Target>(
+        &self,
+        alloc: Global,
+        heap: &Heap,
+        target: &mut W,
+    ) -> Result<(), WriteStop>
+        requires { W.health target.old ≡ Well }
+        ensures { EndsWriting W.written W.health (is_text self.now (heap_of heap.now)) (is_too_long self.now (heap_of heap.now))
+            (takes_memory self.now) target.old target.new result };
+
+    // It is one text.
+    ghost one_text: { (product : Self) (heap : HeapValue) (one other : List ℕ) → is_text product heap one
+        → is_text product heap other → one ≡ other };
+}
+
+impl<P: HeapProduct> Product for P {
+    ghost is_text = { λ product summaries. P.is_text product };
+
+    ghost is_too_long = { P.is_too_long };
+
+    ghost takes_memory = { P.takes_memory };
+
+    ghost asks = { λ product id. ⊥ };
+
+    type Kept = ();
+
+    type Gatherer = Gatherer;
+
+    fn gatherer(&self, alloc: Global) -> Gatherer {
+        Gatherer::new(alloc)
+    }
+
+    fn write<W: Target>(
+        &self,
+        alloc: Global,
+        _kept: &(),
+        heap: &Heap,
+        target: &mut W,
+    ) -> Result<(), WriteStop> {
+        self.write_heap(alloc, heap, target)
+    }
+
+    ghost one_text = { λ product summaries. P.one_text product };
+}

@@ -1,0 +1,100 @@
+//! Lists of entries, each of which a report prints in a line of its own.
+
+ghost use Rattle.std.specs.Prelude.{◌≡◌, ℕ, List, IfOk, map, string_bytes};
+ghost use Rattle.hprof_lookup.specs.HeapFacts.{facts_of, size_of};
+ghost use Rattle.hprof_naming.specs.Naming.{IsNaming, Naming};
+
+use hprof_heap::Heap;
+use hprof_lists::{Constant, Constants, Field, Ids, OwnFields, Static, Statics};
+use std::alloc::{AllocError, Global};
+
+/// What a report prints in a line of its own.
+pub(crate) trait Entry: Copy {
+    ghost use Rattle.hprof_values.specs.declared.ids.IdSize.{IdSize};
+
+    // Its line, where names are printed so, identifiers have that size, and it stands at that place.
+    ghost line_at: { Naming → IdSize → ℕ → Self → List ℕ };
+
+    /// Returns the line, with its line feed. The error is that memory ran out.
+    fn line(&self, alloc: Global, heap: &Heap, place: u64) -> Result<String, AllocError>
+        ensures { (naming : Naming) → IsNaming (facts_of heap.now) naming
+            → IfOk result (λ line. string_bytes line ≡ line_at naming (size_of heap.now) place self.now) };
+}
+
+/// Entries, one after the other.
+pub(crate) trait Entries: Drop {
+    ghost use Rattle.std.specs.Prelude.{[], ◌∷◌, MatchOption};
+
+    /// The kind of the entries.
+    type Item: Entry;
+
+    // Those that are still to come.
+    ghost left: { Self → List Self.Item };
+
+    /// Returns the next entry; None behind the last.
+    fn next_entry(&mut self) -> Option<Self::Item>
+        ensures { MatchOption result (left self.old ≡ []) (λ entry. left self.old ≡ entry ∷ left self.new) };
+}
+
+impl<'a> Entries for Constants<'a> {
+    ghost use Rattle.hprof_lists.specs.Lists.{constants_left};
+    ghost use Rattle.hprof_lists.specs.Value.{constant_of};
+
+    type Item = Constant;
+
+    ghost left = { λ constants. map constant_of (constants_left constants) };
+
+    fn next_entry(&mut self) -> Option<Constant> {
+        self.next()
+    }
+}
+
+impl<'a> Entries for Statics<'a> {
+    ghost use Rattle.hprof_lists.specs.Lists.{statics_left};
+    ghost use Rattle.hprof_lists.specs.Value.{static_of};
+
+    type Item = Static;
+
+    ghost left = { λ statics. map static_of (statics_left statics) };
+
+    fn next_entry(&mut self) -> Option<Static> {
+        self.next()
+    }
+}
+
+impl<'a> Entries for OwnFields<'a> {
+    ghost use Rattle.hprof_lists.specs.Lists.{fields_left};
+    ghost use Rattle.hprof_lists.specs.Value.{field_of};
+
+    type Item = Field;
+
+    ghost left = { λ fields. map field_of (fields_left fields) };
+
+    fn next_entry(&mut self) -> Option<Field> {
+        self.next()
+    }
+}
+
+impl<'a> Entries for Ids<'a> {
+    ghost use Rattle.hprof_lists.specs.Lists.{identifiers_left};
+
+    type Item = u64;
+
+    ghost left = { identifiers_left };
+
+    fn next_entry(&mut self) -> Option<u64> {
+        self.next()
+    }
+}
+
+impl<'a, E: Entry> Entries for &'a [E] {
+    type Item = E;
+
+    ghost left = { λ entries. entries.now };
+
+    fn next_entry(&mut self) -> Option<E> {
+        let (first, rest) = self.split_first()?;
+        *self = rest;
+        Some(*first)
+    }
+}
