@@ -1,6 +1,6 @@
 //! What bytes are written to that may hold them back.
 
-ghost use Rattle.std.specs.Prelude.{OnOk};
+ghost use Rattle.std.specs.Prelude.{IfErr, OnOk};
 ghost use Rattle.std.specs.Io.KnownBytes.{Keeps};
 ghost use Rattle.hprof_devices.specs.Device.{LeavesHealth};
 
@@ -11,6 +11,7 @@ use crate::target::Target;
 pub trait Flush: Target {
     ghost use Rattle.std.specs.Prelude.{◌≡◌};
     ghost use Rattle.hprof_devices.specs.declared.health.Health.TheVariants.{Well};
+    ghost use Rattle.hprof_devices.specs.declared.health.WriteFault.TheVariants.{Failed};
 
     // It holds no byte back.
     ghost flushed: { Self → Type 0 };
@@ -20,5 +21,6 @@ pub trait Flush: Target {
         requires { Self.health self.old ≡ Well }
         ensures bytes { Keeps (Self.written self.old) (Self.written self.new) }
         ensures flushed { OnOk result (flushed self.new) }
+        ensures fault { IfErr result (λ fault. fault ≡ Failed) }
         ensures health { LeavesHealth result (Self.health self.new) };
 }

@@ -46,8 +46,6 @@ pub(crate) fn put_constants<C: Collect>(
         → C.holds into.new (edges ++ numbered class vias.Constant 0 (targets_of_constants (constants_of constants.entry)))) }
     ensures keeps { OnOk result (C.keeps into.new ≡ C.keeps into.old) }
 {
-    // They are no more than a number can count.
-    let _count = constants.len();
     let mut position = 0;
     for constant in constants.iter() {
         let edge = Edge {
@@ -72,8 +70,6 @@ pub(crate) fn put_statics<C: Collect>(
         → C.holds into.new (edges ++ numbered class vias.Fixed 0 (targets_of_statics (statics_of statics.entry)))) }
     ensures keeps { OnOk result (C.keeps into.new ≡ C.keeps into.old) }
 {
-    // They are no more than a number can count.
-    let _count = statics.len();
     let mut position = 0;
     for field in statics.iter() {
         let edge = Edge {
@@ -106,8 +102,6 @@ fn put_wanted<C: Collect>(array: u64, elements: IdList<'_>, into: &mut C) -> Res
         → C.holds into.new (edges ++ numbered array vias.Element 0 (identifiers_of elements.entry))) }
     ensures keeps { OnOk result (C.keeps into.new ≡ C.keeps into.old) }
 {
-    // They are no more than a number can count.
-    let _count = elements.len();
     let wanted = into.wanted();
     let mut position = 0;
     for to in elements.iter() {

@@ -50,8 +50,6 @@ pub(crate) fn own_fields(
 ) -> Result<OwnLayout, AllocError>
     ensures { IfOk result (IsOwn ids (own_slots (class_value dump.now))) }
 {
-    // They are 65,535 at most: that is told with the size of identifiers among them.
-    let _size = dump.fields.id_size();
     let mut references = Vec::new(alloc);
     let mut width = 0;
     let mut count = 0;

@@ -55,6 +55,10 @@ pub length-ids : (ids : IdSize) (bytes : List ℕ) → length (ids_in ids bytes)
 length-ids ids bytes = length-fields_in (id_widths ids (length bytes / width_of ids)) bytes
     ∙ length-id_widths ids (length bytes / width_of ids)
 
+pub no_more_ids : (ids : IdSize) (len : ℕ) → len / width_of ids ≤ len
+no_more_ids Four len = omega arith
+no_more_ids Eight len = omega arith
+
 -- what is read is spelled so
 pub ids_found : (ids : IdSize) (bytes : List ℕ) → IsBytes bytes → length bytes % width_of ids ≡ 0 → IsIdList ids (ids_in ids bytes) bytes
 ids_found ids bytes are whole =

@@ -2,7 +2,7 @@
 
 ghost use Rattle.byteorder.specs.Endian.{big_number};
 ghost use Rattle.hprof_values.specs.Ids.{IsBytes};
-ghost use Rattle.std.specs.Prelude.{◌≡◌, ◌+◌, ◌≤◌, length, drop, Ok, Err, IfOk, MatchResult};
+ghost use Rattle.std.specs.Prelude.{◌≡◌, ◌+◌, ◌≤◌, ◌<◌, ◌^◌, length, drop, Ok, Err, IfOk, MatchResult};
 ghost use Rattle.hprof_lists.specs.Entries.{entries_bytes, entries_in, entries_end, list_in, list_end};
 ghost use Rattle.hprof_values.specs.BoundedBytes.{bounds_of};
 
@@ -19,6 +19,8 @@ pub struct EntrySpan<'a> {
     pub count: u16,
     /// Where they end in the item.
     pub end: usize,
+    ghost range: { IsBytes bytes.now },
+    ghost few: { count < 2 ^ 16 },
 }
 
 /// The count that stands there.

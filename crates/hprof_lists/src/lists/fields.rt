@@ -1,10 +1,10 @@
 //! The fields that the instances have of a class.
 
-ghost use Rattle.std.specs.Prelude.{◌≡◌};
+ghost use Rattle.std.specs.Prelude.{◌≡◌, ◌<◌, ◌^◌};
+ghost use Rattle.hprof_values.specs.Ids.{IsBytes};
 ghost use Rattle.hprof_lists.specs.declared.entry.EntryKind.TheVariants as kinds;
 ghost use Rattle.hprof_lists.specs.Entries.{entries_bytes, entries_in};
 
-use super::in_range;
 use crate::entries::{count_entries, next_entry, nth_entry};
 use crate::entry::EntryKind;
 use crate::entry_span::EntrySpan;
@@ -19,6 +19,8 @@ pub struct FieldList<'a> {
     len: u16,
     /// They fill the bytes.
     ghost spelled: { bytes.now ≡ entries_bytes ids kinds.Field (entries_in ids kinds.Field len bytes.now) },
+    ghost range: { IsBytes bytes.now },
+    ghost few: { len < 2 ^ 16 },
 }
 
 impl<'a> FieldList<'a> {
@@ -89,9 +91,7 @@ impl<'a> FieldList<'a> {
     pub fn bytes(&self) -> &'a [u8]
         ensures spelled { IsEntryList (fields_size self.now) EntryKind.Field (fields_of self.now) result.now }
     {
-        // The range of what is read is known.
-        let _count = self.len;
-        in_range(self.bytes)
+        self.bytes
     }
 
     /// The size of identifiers among them. They have a spelling under it.
@@ -99,15 +99,13 @@ impl<'a> FieldList<'a> {
         ensures size { result ≡ fields_size self.now }
         ensures fits { ListFits result EntryKind.Field (fields_of self.now) }
     {
-        // The range of what is read is known.
-        let _count = self.len;
-        let _bytes = in_range(self.bytes);
         self.ids
     }
 
     /// The fields that the instances have in their order, in one walk over the bytes.
     pub fn iter(&self) -> OwnFields<'a>
-        ensures { fields_left result ≡ fields_of self.now }
+        ensures all { fields_left result ≡ fields_of self.now }
+        ensures few { length (fields_of self.now) < 2 ^ 16 }
     {
         OwnFields {
             rest: self.bytes,

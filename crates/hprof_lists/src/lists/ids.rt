@@ -1,10 +1,9 @@
 //! Lists of identifiers.
 
-ghost use Rattle.std.specs.Prelude.{◌≡◌, ◌%◌, length};
-ghost use Rattle.hprof_values.specs.Ids.{width_of};
+ghost use Rattle.std.specs.Prelude.{◌≡◌, ◌%◌, ◌<◌, ◌^◌, length};
+ghost use Rattle.hprof_values.specs.Ids.{IsBytes, width_of};
 
 use super::among::is_among;
-use super::in_range;
 use hprof_values::IdSize;
 use hprof_values::number::id_at;
 
@@ -15,6 +14,8 @@ pub struct IdList<'a> {
     ids: IdSize,
     /// No identifier is cut.
     ghost whole: { length bytes.now % width_of ids ≡ 0 },
+    ghost range: { IsBytes bytes.now },
+    ghost few: { length bytes.now < 2 ^ 64 },
 }
 
 impl<'a> IdList<'a> {
@@ -83,7 +84,7 @@ impl<'a> IdList<'a> {
     pub fn bytes(&self) -> &'a [u8]
         ensures spelled { IsIdList (identifiers_size self.now) (identifiers_of self.now) result.now }
     {
-        in_range(self.bytes)
+        self.bytes
     }
 
     /// The size of the identifiers.
@@ -95,7 +96,8 @@ impl<'a> IdList<'a> {
 
     /// The identifiers in their order.
     pub fn iter(&self) -> Ids<'a>
-        ensures { identifiers_left result ≡ identifiers_of self.now }
+        ensures all { identifiers_left result ≡ identifiers_of self.now }
+        ensures few { length (identifiers_of self.now) < 2 ^ 64 }
     {
         Ids {
             rest: self.bytes,

@@ -1,10 +1,10 @@
 //! The static fields of a class.
 
-ghost use Rattle.std.specs.Prelude.{◌≡◌};
+ghost use Rattle.std.specs.Prelude.{◌≡◌, ◌<◌, ◌^◌};
+ghost use Rattle.hprof_values.specs.Ids.{IsBytes};
 ghost use Rattle.hprof_lists.specs.declared.entry.EntryKind.TheVariants as kinds;
 ghost use Rattle.hprof_lists.specs.Entries.{entries_bytes, entries_in};
 
-use super::in_range;
 use crate::entries::{count_entries, next_entry, nth_entry};
 use crate::entry::EntryKind;
 use crate::entry_span::EntrySpan;
@@ -19,6 +19,8 @@ pub struct StaticList<'a> {
     len: u16,
     /// They fill the bytes.
     ghost spelled: { bytes.now ≡ entries_bytes ids kinds.Static (entries_in ids kinds.Static len bytes.now) },
+    ghost range: { IsBytes bytes.now },
+    ghost few: { len < 2 ^ 16 },
 }
 
 impl<'a> StaticList<'a> {
@@ -89,9 +91,7 @@ impl<'a> StaticList<'a> {
     pub fn bytes(&self) -> &'a [u8]
         ensures spelled { IsEntryList (statics_size self.now) EntryKind.Static (statics_of self.now) result.now }
     {
-        // The range of what is read is known.
-        let _count = self.len;
-        in_range(self.bytes)
+        self.bytes
     }
 
     /// The size of identifiers among them. They have a spelling under it.
@@ -99,15 +99,13 @@ impl<'a> StaticList<'a> {
         ensures size { result ≡ statics_size self.now }
         ensures fits { ListFits result EntryKind.Static (statics_of self.now) }
     {
-        // The range of what is read is known.
-        let _count = self.len;
-        let _bytes = in_range(self.bytes);
         self.ids
     }
 
     /// The static fields in their order, in one walk over the bytes.
     pub fn iter(&self) -> Statics<'a>
-        ensures { statics_left result ≡ statics_of self.now }
+        ensures all { statics_left result ≡ statics_of self.now }
+        ensures few { length (statics_of self.now) < 2 ^ 16 }
     {
         Statics {
             rest: self.bytes,

@@ -1,4 +1,6 @@
-use Rattle.std.proofs.Common.{◌-◌, take, refl, ap, sym, ◌∙◌, arith, rules}
+use Rattle.std.proofs.Common.{◌-◌, take, refl, ap, sym, subst, ◌∙◌, arith, rules}
+use Rattle.hprof_values.specs.Ids.{IsBytes}
+use Rattle.hprof_values.proofs.Numbers.{IsBytes-drop, IsBytes-take}
 use Rattle.hprof_lists.specs.Entries.{list_end}
 use Rattle.hprof_lists.proofs.ListEnds.{list_span}
 use Rattle.hprof_lists.proofs.entry_span.list_at.Goals as goal
@@ -26,3 +28,10 @@ returns-clause-spelled c =
 pub returns-clause-end : goal.returns-clause-end
 unfolding list_end
 returns-clause-end c = search rules
+
+pub invariant_of-result : goal.invariant_of-result
+invariant_of-result c = record {
+  range = subst IsBytes (sym c.split_at-2.ensures.front) (IsBytes-take (c.in_ok-end.end - c.in_ok-first.first) c.split_at.result.1.now
+      (subst IsBytes (sym c.split_at.ensures.back) (IsBytes-drop c.in_ok-first.first c.args.item.now.bytes.now c.count_at-count.ensures.bytes)));
+  few = omega (arith, c.count_at-count.type_inv);
+}

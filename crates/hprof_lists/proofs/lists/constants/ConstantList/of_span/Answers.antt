@@ -6,3 +6,10 @@ returns-clause-entries c = search rules
 
 pub returns-clause-size : goal.returns-clause-size
 returns-clause-size c = search rules
+
+pub invariant_of-result : goal.invariant_of-result
+invariant_of-result c = record {
+  spelled = c.requires;
+  range = c.args.span.range;
+  few = c.args.span.few;
+}

@@ -1,6 +1,5 @@
-use Rattle.std.proofs.Common.{subst, arith, rules}
+use Rattle.std.proofs.Common.{arith, rules}
 use Rattle.hprof_lists.specs.declared.entry.EntryKind.TheVariants as kinds
-use Rattle.hprof_values.specs.Ids.{IsBytes}
 use Rattle.hprof_lists.proofs.Counting.{entries_fit}
 use Rattle.hprof_lists.proofs.EntryLists.{length-entries}
 use Rattle.hprof_lists.proofs.lists.fields.FieldList.id_size.Goals as goal
@@ -8,8 +7,8 @@ use Rattle.hprof_lists.proofs.lists.fields.FieldList.id_size.Goals as goal
 pub returns-clause-fits : goal.returns-clause-fits
 returns-clause-fits c =
     let list = c.args.self.now in
-    let range = subst IsBytes c.in_range-bytes.ensures.same c.in_range-bytes.ensures.range in (
-      entries_fit list.ids kinds.Field list.len list.bytes.now range,
+    let few = list.few in (
+      entries_fit list.ids kinds.Field list.len list.bytes.now list.range,
       omega (arith, length-entries list.ids kinds.Field list.len list.bytes.now),
     )
 
