@@ -83,9 +83,9 @@ def examples():
 
 def shown():
     """The commands that README shows, each with its output."""
-    for block in re.findall(r"(?m)(?:^    .*\n)+", (ROOT / "README.md").read_text()):
+    for block in re.findall(r"(?m)(?:^    .*\n|^\n(?=    ))+", (ROOT / "README.md").read_text()):
         for part in re.split(r"(?m)^    \$ ", block)[1:]:
-            command, *output = re.sub(r"(?m)^    ", "", part).splitlines()
+            command, *output = re.sub(r"(?m)^    ", "", part).rstrip("\n").splitlines()
             yield command, output
 
 
@@ -97,7 +97,7 @@ def outputs():
         for command, output in shown():
             path = f'PATH="{PROGRAM.parent}:$PATH"; {command}'
             found = subprocess.run(["bash", "-c", path], cwd=folder, stdout=subprocess.PIPE, stderr=subprocess.STDOUT, text=True).stdout
-            if found.splitlines() != output:
+            if found.rstrip("\n").splitlines() != output:
                 yield f"{command}\n{found}"
 
 

@@ -1,5 +1,7 @@
+pub mod Conversing
 pub mod Folder
 pub mod Program
+pub mod Prompting
 pub mod SalvagedFiles
 pub mod Status
 pub mod Streams

@@ -59,6 +59,7 @@ IsRefusal making (refusals.Engine tool.DumpTooLong) parts =
 IsRefusal making (refusals.Engine tool.OutOfMemory) parts = ⊥
 IsRefusal making (refusals.Open index) parts = ⊥
 IsRefusal making refusals.Create parts = ⊥
+IsRefusal making refusals.Questions parts = ⊥
 IsRefusal making refusals.OutOfMemory parts = ⊤
 
 -- the files of these names were opened, and this holds of what they tell
@@ -96,6 +97,7 @@ IsReportRefusal making answered remaining names (refusals.Engine fault) =
     OfParts answered remaining names (IsRefusal making (refusals.Engine fault))
 IsReportRefusal making answered remaining names (refusals.Open index) = CannotOpenAt answered names index
 IsReportRefusal making answered remaining names refusals.Create = ⊥
+IsReportRefusal making answered remaining names refusals.Questions = ⊥
 IsReportRefusal making answered remaining names refusals.OutOfMemory = ⊤
 
 -- what a refusal to make something of them, in a new file of that name, says: behind one of the engine it was tried to remove the file
@@ -115,6 +117,7 @@ abbrev pub IsRefusalText : Refused → List ℕ → Type 0
 IsRefusalText (refusals.Engine fault) text = IsFaultText fault text
 IsRefusalText (refusals.Open index) text = text ≡ codes "cannot open part " ++ decimal index
 IsRefusalText refusals.Create text = text ≡ codes "cannot create the output"
+IsRefusalText refusals.Questions text = text ≡ codes "read failed"
 IsRefusalText refusals.OutOfMemory text = text ≡ codes "out of memory"
 
 -- the engine refused, or there was no memory

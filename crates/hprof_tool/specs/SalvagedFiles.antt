@@ -60,4 +60,5 @@ IsSalvageRefusal answered remaining names out (refusals.Engine fault) =
     × answered.IsRemoved out
 IsSalvageRefusal answered remaining names out (refusals.Open index) = CannotOpenAt answered names index
 IsSalvageRefusal answered remaining names out refusals.Create = answered.CannotCreate out
+IsSalvageRefusal answered remaining names out refusals.Questions = ⊥
 IsSalvageRefusal answered remaining names out refusals.OutOfMemory = ⊤

@@ -11,6 +11,7 @@ use Rattle.hprof_tool.specs.declared.command.Question.TheVariants as questions
 use Rattle.hprof_tool.specs.declared.command.Task.{Task}
 use Rattle.hprof_tool.specs.declared.command.Task.TheVariants as tasks
 use Rattle.hprof_tool.specs.declared.program.refused.Refused.{Refused}
+use Rattle.hprof_tool.specs.Conversing.{AnswersAll, RefusesQuestions}
 use Rattle.hprof_tool.specs.Folder.{Answered}
 use Rattle.hprof_tool.specs.Program.{IsMadeOfStream, IsMadeOfFiles, IsMadeInFile}
 use Rattle.hprof_tool.specs.SalvagedFiles.{IsSalvagedFile}
@@ -25,12 +26,13 @@ AsksFor word tasks.JoinInput = ⊥
 AsksFor word (tasks.Salvage out parts) = word ≡ codes "salvage"
 AsksFor word (tasks.Check parts) = word ≡ codes "check"
 AsksFor word (tasks.Histogram parts) = word ≡ codes "histo"
+AsksFor word (tasks.Converse parts) = word ≡ codes "ask"
 AsksFor word (tasks.Ask questions.Object id parts) = word ≡ codes "object"
 AsksFor word (tasks.Ask questions.Path id parts) = word ≡ codes "path"
 AsksFor word (tasks.Ask questions.Refs id parts) = word ≡ codes "refs"
 AsksFor word (tasks.Write files.Dump101 out parts) = word ≡ codes "join101"
 AsksFor word (tasks.Write files.Dump out parts) = (word ≢ codes "salvage") × (word ≢ codes "check") × (word ≢ codes "histo")
-    × (word ≢ codes "object") × (word ≢ codes "path") × (word ≢ codes "refs") × (word ≢ codes "join101")
+    × (word ≢ codes "object") × (word ≢ codes "path") × (word ≢ codes "refs") × (word ≢ codes "ask") × (word ≢ codes "join101")
 
 -- answered: what came of the names of files
 -- tells, holds: what a file has left to tell, and what one tells that it holds;  left, contents: the same of the streams
@@ -45,6 +47,7 @@ module _ {F I O : Type 0} (answered : Answered F) (tells holds : F → Option (L
       × ((text : List ℕ) × TellsFaults salvaged.faults.items text × Appends (contents old) (contents new) text)
   DoesTask (tasks.Check parts) input old new = IsMadeOfFiles (IsMadeOf IsCheckText) answered tells contents parts.items old new
   DoesTask (tasks.Histogram parts) input old new = IsMadeOfFiles (IsMadeOf IsHistogramReport) answered tells contents parts.items old new
+  DoesTask (tasks.Converse parts) input old new = AnswersAll answered tells left contents parts.items input old new
   DoesTask (tasks.Ask question id parts) input old new =
       IsIdText id.now × IsMadeOfFiles (IsMadeOf (is_answer question (id_value id.now))) answered tells contents parts.items old new
 
@@ -56,5 +59,6 @@ module _ {F I O : Type 0} (answered : Answered F) (tells holds : F → Option (L
       (after : O) × (new ≡ Some after) × RefusesSalvage answered tells holds parts.items out.now old after why
   RefusesTask (tasks.Check parts) input old why new = RefusesReport check_making answered tells contents parts.items old why new
   RefusesTask (tasks.Histogram parts) input old why new = RefusesReport histogram_making answered tells contents parts.items old why new
+  RefusesTask (tasks.Converse parts) input old why new = RefusesQuestions answered tells left contents parts.items input old why new
   RefusesTask (tasks.Ask question id parts) input old why new =
       IsIdText id.now × RefusesReport (answer_making question (id_value id.now)) answered tells contents parts.items old why new

@@ -37,6 +37,11 @@ pub(crate) enum Task<'a> {
         /// The names of the parts, in order.
         parts: Vec<&'a str>,
     },
+    /// To answer questions on standard input about the heap of the parts in files.
+    Converse {
+        /// The names of the parts, in order.
+        parts: Vec<&'a str>,
+    },
     /// To report something on an identifier.
     Ask {
         /// What to report.
@@ -158,7 +163,12 @@ fn command<'a>(alloc: Global) -> Result<Command<'a>, AllocError> {
             "path",
             "Says how few references lead to an identifier from a root, and by which path",
         )?)?
-        .subcommand(asking_command(alloc, "refs", "Says what refers to an identifier")?)
+        .subcommand(asking_command(alloc, "refs", "Says what refers to an identifier")?)?
+        .subcommand(reporting_command(
+            alloc,
+            "ask",
+            "Reads the parts once, and answers questions that come as lines on standard input",
+        )?)
 }
 
 /// The names of the parts that were given to a command.
@@ -180,6 +190,7 @@ fn task_named<'a>(alloc: Global, name: &str, words: &ArgMatches<'a>) -> Result<T
         "salvage" => Task::Salvage { out, parts },
         "check" => Task::Check { parts },
         "histo" => Task::Histogram { parts },
+        "ask" => Task::Converse { parts },
         "object" => Task::Ask {
             question: Question::Object,
             id,

@@ -7,6 +7,7 @@ pub mod laws;
 mod program;
 mod status;
 
+pub use hprof_ask::ask_to;
 pub use hprof_devices::{Device, Health, Source, Target};
 pub use hprof_dump101::{join101_kept, join101_to};
 pub use hprof_engine::{Joined, JoinedHeap, ToolFault, join_kept, join_to};

@@ -4,6 +4,7 @@ ghost use Rattle.std.specs.Prelude.{◌≡◌, ◌≢◌, ℕ, List, Some, IfOk,
 ghost use Rattle.std.specs.Io.KnownBytes.{Appends};
 ghost use Rattle.hprof_engine.specs.Makes.{IsDump, IsMadeOf, making_of};
 ghost use Rattle.hprof_text.specs.Identifier.{IsIdText, id_value};
+ghost use Rattle.hprof_tool.specs.Conversing.{AnswersAll, RefusesQuestions};
 ghost use Rattle.hprof_tool.specs.Program.{IsMadeOfStream, IsMadeInFile, IsMadeOfFiles};
 ghost use Rattle.hprof_tool.specs.SalvagedFiles.{IsSalvagedFile};
 ghost use Rattle.hprof_tool.specs.Streams.{RefusesStream, RefusesReport};
@@ -15,6 +16,7 @@ ghost use Rattle.hprof_tool.specs.declared.program.salvaging.Written.{Written};
 use crate::command::{NewFile, Question, Task, task_of};
 use crate::status::Status;
 use answers::{Ended, answer_no_id, answer_no_words, answer_outcome, answer_stream, answer_words};
+use conversing::ask_files;
 use folder::Folder;
 use hprof_dump101::Dump101;
 use hprof_engine::{Dump, Product};
@@ -30,8 +32,10 @@ use std::io::{Read, Write};
 use std::rt::Files;
 
 mod answers;
+mod conversing;
 mod folder;
 mod joining;
+mod prompting;
 mod refused;
 mod salvaging;
 mod writing;
@@ -190,19 +194,43 @@ fn ask<F: Folder, O: Write + Drop, E: Write>(
     }
 }
 
+/// Answers questions that come as lines of `input` about the heap of parts in files, on `output`, which it gives back.
+fn converse<F: Folder, I: Read + Drop, P: Write + Drop, O: Write + Drop, E: Write>(
+    alloc: Global,
+    files: &F,
+    names: &[&str],
+    input: I,
+    prompts: Option<P>,
+    output: O,
+    errors: &mut E,
+) -> Ended<O>
+    ensures done { result.status ≡ Status.Done → (written : O) × (result.output ≡ Some written)
+        × AnswersAll (F.answered files.now) F.File.remaining I.remaining O.contents names.now input output written }
+    ensures refused { result.status ≡ Status.Refused → (why : Refused) × RefusesQuestions (F.answered files.now) F.File.remaining
+        I.remaining O.contents names.now input output why result.output }
+    ensures understood { result.status ≢ Status.NotUnderstood }
+{
+    answer_stream(
+        alloc,
+        ask_files(alloc, files, names, input, prompts, output),
+        errors,
+    )
+}
+
 /// The words as a list.
 fn list_of(alloc: Global, words: io::Result<Args>) -> io::Result<Vec<String>> {
     Ok(words?.collect(alloc)?)
 }
 
 /// Does what a task asks for. It gives `output` back, which is gone where there was no memory for the buffer before it.
-fn perform<F: Folder, I: Read + Drop, O: Write + Drop, E: Write>(
+fn perform<F: Folder, I: Read + Drop, O: Write + Drop, E: Write, P: Write + Drop>(
     alloc: Global,
     files: &F,
     task: Task<'_>,
     input: I,
     mut output: O,
     errors: &mut E,
+    prompts: Option<P>,
 ) -> Ended<O>
     ensures done { result.status ≡ Status.Done → (after : O) × (result.output ≡ Some after) × DoesTask (F.answered files.now)
         F.File.remaining F.File.contents I.remaining O.contents task.entry input output after }
@@ -228,6 +256,9 @@ fn perform<F: Folder, I: Read + Drop, O: Write + Drop, E: Write>(
         Task::Histogram { parts } => {
             report(alloc, files, &HistogramReport, &parts, output, errors)
         }
+        Task::Converse { parts } => {
+            converse(alloc, files, &parts, input, prompts, output, errors)
+        }
         Task::Ask {
             question,
             id,
@@ -239,21 +270,23 @@ fn perform<F: Folder, I: Read + Drop, O: Write + Drop, E: Write>(
 /// Does what the words ask for: without a word behind the program's name it joins the part on `input` to `output`;
 /// `join OUT PART..` and `join101 OUT PART..` join parts in files to a new file; `salvage OUT PART..` saves in a new file what
 /// can be saved of parts in files, and tells their faults on `output`; `check PART..`, `histo PART..`, `object ID PART..`,
-/// `path ID PART..` and `refs ID PART..` write a report on parts in files to `output`. Refusals are told on `errors`.
-pub fn run<F: Files, I: Read + Drop, O: Write + Drop, E: Write>(
+/// `path ID PART..` and `refs ID PART..` write a report on parts in files to `output`; `ask PART..` answers on `output` the questions that
+/// come as lines on `input`, and prompts for each line on `prompts`, if there are prompts. Refusals are told on `errors`.
+pub fn run<F: Files, I: Read + Drop, O: Write + Drop, E: Write, P: Write + Drop>(
     alloc: Global,
     files: &F,
     words: io::Result<Args>,
     input: I,
     mut output: O,
     errors: &mut E,
+    prompts: Option<P>,
 ) -> Status {
     let words = match list_of(alloc, words) {
         Ok(words) => words,
         Err(error) => return answer_no_words(alloc, &error, errors),
     };
     match task_of(alloc, &words) {
-        Ok(task) => perform(alloc, files, task, input, output, errors).status,
+        Ok(task) => perform(alloc, files, task, input, output, errors, prompts).status,
         Err(error) => answer_words(alloc, &error, &mut output, errors),
     }
 }

@@ -3,7 +3,9 @@
 ghost use Rattle.std.specs.Prelude.{◌≡◌, IfOk, string_bytes};
 ghost use Rattle.hprof_tool.specs.Program.{IsRefusalText};
 
+use hprof_ask::AskFault;
 use hprof_devices::WriteFault;
+use hprof_dialogue::DialogueStop;
 use hprof_engine::ToolFault;
 use std::alloc::{AllocError, AllocFailed, Global};
 
@@ -16,6 +18,8 @@ pub(crate) enum Refused {
     Open(usize),
     /// The new file could not be created.
     Create,
+    /// The questions could not be read.
+    Questions,
     /// Memory was refused to the program itself.
     OutOfMemory,
 }
@@ -40,6 +44,7 @@ impl Refused {
             Refused::Engine(fault) => fault.text(alloc),
             Refused::Open(index) => format!(in alloc; "cannot open part {index}"),
             Refused::Create => String::from_str(alloc, "cannot create the output"),
+            Refused::Questions => String::from_str(alloc, "read failed"),
             Refused::OutOfMemory => String::from_str(alloc, "out of memory"),
         }
     }
@@ -52,6 +57,23 @@ impl<T: Drop> From<AllocFailed<T>> for Refused {
 
     fn from(_error: AllocFailed<T>) -> Refused {
         Refused::OutOfMemory
+    }
+}
+
+impl From<AskFault> for Refused {
+    ghost use Rattle.hprof_tool.specs.Conversing.{refused_asking};
+
+    ghost from_gives = { λ fault refused. refused ≡ refused_asking fault };
+
+    fn from(fault: AskFault) -> Refused {
+        match fault {
+            AskFault::Parts(fault) => Refused::from(fault),
+            AskFault::Dialogue(DialogueStop::Questions(_)) => Refused::Questions,
+            AskFault::Dialogue(DialogueStop::Write(fault)) => {
+                Refused::Engine(ToolFault::Write(fault))
+            }
+            AskFault::Dialogue(DialogueStop::OutOfMemory) => Refused::OutOfMemory,
+        }
     }
 }
 

@@ -1,0 +1,91 @@
+//! Questions about the heap of parts in files.
+
+ghost use Rattle.std.specs.Prelude.{◌≡◌, All, None, OnOk, IfOk, IfErr};
+ghost use Rattle.std.specs.Io.KnownBytes.{append_known};
+ghost use Rattle.std.specs.Io.Buffered.{writer_contents, writer_inner};
+ghost use Rattle.hprof_devices.specs.Buffered.{buffered_health, buffered_of};
+ghost use Rattle.hprof_devices.specs.declared.health.Health.TheVariants.{Well};
+ghost use Rattle.hprof_tool.specs.Conversing.{AnswersAll, RefusesQuestions};
+ghost use Rattle.hprof_tool.specs.Asking.{AsksStream, StopsAsking};
+
+use crate::program::folder::Folder;
+use crate::program::joining::open_parts;
+use crate::program::prompting::Prompting;
+use crate::program::refused::{Refused, Stopped};
+use crate::program::writing::BUFFER_LEN;
+use hprof_ask::{AskFault, ask_kept};
+use hprof_devices::{BufferedDevice, Source};
+use hprof_stream::Limits;
+use std::alloc::Global;
+use std::io::{BufWriter, Read, Write};
+use std::mem;
+
+/// Answers questions about the heap of the parts of the readers, which need not be freed row by row, since the process ends.
+fn ask_readers<R: Source, Q: Source, W: Write + Drop>(
+    alloc: Global,
+    readers: &mut [R],
+    questions: &mut Q,
+    target: &mut BufferedDevice<W>,
+) -> Result<(), AskFault> {
+    match ask_kept(alloc, readers, questions, target, Limits::usual()) {
+        Ok(heap) => {
+            mem::forget(heap);
+            Ok(())
+        }
+        Err(fault) => Err(fault),
+    }
+}
+
+/// Answers questions about the heap of the parts of the readers into a writer, through a buffer, and gives the writer back.
+fn ask_through_buffer<R: Source, Q: Source, W: Write + Drop>(
+    alloc: Global,
+    readers: &mut [R],
+    questions: &mut Q,
+    writer: W,
+) -> Result<W, Stopped<W>> {
+    let Ok(buffered) = BufWriter::with_capacity(alloc, BUFFER_LEN, writer) else {
+        return Err(Stopped {
+            why: Refused::OutOfMemory,
+            writer: None,
+        });
+    };
+    let mut target = BufferedDevice::new(buffered);
+    let outcome = ask_readers(alloc, readers, questions, &mut target);
+    // A buffer that is dropped would write once more what it holds, so it is taken apart.
+    let (writer, unwritten) = target.into_buffered().into_parts();
+    mem::forget(unwritten);
+    match outcome {
+        Ok(()) => Ok(writer),
+        Err(fault) => Err(Stopped {
+            why: Refused::from(fault),
+            writer: Some(writer),
+        }),
+    }
+}
+
+/// Answers questions that come as lines of `input` about the heap of parts in files, on `output`, which it gives back. All parts are
+/// read before the first question is. A person is prompted for each line, if there are prompts.
+pub(crate) fn ask_files<F: Folder, I: Read + Drop, P: Write + Drop, O: Write + Drop>(
+    alloc: Global,
+    files: &F,
+    names: &[&str],
+    input: I,
+    prompts: Option<P>,
+    output: O,
+) -> Result<O, Stopped<O>>
+    ensures ok { IfOk result (AnswersAll (F.answered files.now) F.File.remaining I.remaining O.contents names.now input output) }
+    ensures refused { IfErr result (λ stopped. RefusesQuestions (F.answered files.now) F.File.remaining I.remaining O.contents names.now
+        input output stopped.why stopped.writer) }
+{
+    let mut parts = match open_parts(alloc, files, names) {
+        Ok(parts) => parts,
+        Err(why) => {
+            return Err(Stopped {
+                why,
+                writer: Some(output),
+            });
+        }
+    };
+    let mut questions = Prompting::new(input, prompts);
+    ask_through_buffer(alloc, &mut parts, &mut questions, output)
+}

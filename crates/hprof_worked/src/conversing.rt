@@ -1,0 +1,95 @@
+//! Questions about the heap of parts.
+
+ghost use Rattle.std.specs.Prelude.{◌≡◌, All};
+ghost use Rattle.hprof_devices.specs.declared.health.Health.TheVariants.{Well};
+ghost use Rattle.hprof_devices.specs.Device.{health_of};
+
+use crate::engine::{Answer, Call, Given, Ways, made, plain, text_of_fault};
+use crate::outcome::Outcome;
+use crate::streams::{Reader, Writer};
+use crate::trouble::Trouble;
+use hprof_ask::{AskFault, ask_to};
+use hprof_devices::Device;
+use hprof_dialogue::DialogueStop;
+use hprof_engine::ToolFault;
+use hprof_stream::Limits;
+use std::alloc::{AllocError, Global};
+
+/// The text of the fault with which a dialogue ended.
+fn text_of_asking(alloc: Global, fault: AskFault) -> Result<String, AllocError> {
+    match fault {
+        AskFault::Parts(fault) => text_of_fault(alloc, fault),
+        AskFault::Dialogue(DialogueStop::Questions(_)) => String::from_str(alloc, "read failed"),
+        AskFault::Dialogue(DialogueStop::Write(fault)) => {
+            text_of_fault(alloc, ToolFault::Write(fault))
+        }
+        AskFault::Dialogue(DialogueStop::OutOfMemory) => String::from_str(alloc, "out of memory"),
+    }
+}
+
+/// The line that asks for what a call writes, if there is one.
+fn question_of(alloc: Global, call: Call) -> Result<Option<String>, AllocError> {
+    let line = match call {
+        Call::Check => String::from_str(alloc, "check\n")?,
+        Call::Histo => String::from_str(alloc, "histo\n")?,
+        Call::Object(id) => format!(in alloc; "object {id:x}\n")?,
+        Call::Path(id) => format!(in alloc; "path {id:x}\n")?,
+        Call::Refs(id) => format!(in alloc; "refs {id:x}\n")?,
+        _ => return Ok(None),
+    };
+    Ok(Some(line))
+}
+
+/// The bytes one behind the other.
+fn joined(alloc: Global, pieces: &[&[u8]]) -> Result<Vec<u8>, AllocError> {
+    let mut bytes = Vec::new(alloc);
+    for piece in pieces {
+        bytes.extend_from_slice(piece)?;
+    }
+    Ok(bytes)
+}
+
+/// Asks for what a call writes, before and behind a question that is not understood, and checks that it comes both times, or that the parts
+/// are refused as before.
+pub(crate) fn check_asked(
+    alloc: Global,
+    call: Call,
+    parts: &[&[u8]],
+    ways: Ways,
+    whole: &Outcome,
+) -> Result<(), Trouble> {
+    let Some(line) = question_of(alloc, call)? else {
+        return Ok(());
+    };
+    let input = joined(alloc, &[line.as_bytes(), b"?\n", line.as_bytes()])?;
+    let given = Given {
+        parts,
+        input: &input,
+    };
+    let asked = made(alloc, Call::Ask, given, ways)?;
+    let answers = if whole.is_done() {
+        joined(alloc, &[&whole.output, b"\nnot understood\n\n", &whole.output, b"\n"])?
+    } else {
+        Vec::new(alloc)
+    };
+    asked.check_says(alloc, whole, &answers)
+}
+
+/// Asks the questions of the input, and gives the answer of the call.
+pub(crate) fn conversed(
+    alloc: Global,
+    readers: &mut [Device<Reader<'_>>],
+    input: Reader<'_>,
+    target: &mut Device<Writer>,
+    limits: Limits,
+) -> Result<Answer, AllocError>
+    requires readers { All (λ reader. health_of reader ≡ Well) readers.old }
+    requires writer { health_of target.old ≡ Well }
+{
+    let mut questions = Device::new(input);
+    let text = match ask_to(alloc, readers, &mut questions, target, limits) {
+        Ok(()) => String::from_str(alloc, "done")?,
+        Err(fault) => text_of_asking(alloc, fault)?,
+    };
+    Ok(plain(alloc, text))
+}
