@@ -54,6 +54,7 @@ pub not_of_engine : {F : Type 0} (answered : Answered F) (names : List (Bor (Lis
 not_of_engine answered names (refusals.Engine known) fault is same = is
 not_of_engine answered names (refusals.Open index) fault is same = cc
 not_of_engine answered names refusals.Create fault is same = cc
+not_of_engine answered names refusals.Questions fault is same = cc
 not_of_engine answered names refusals.OutOfMemory fault is same = cc
 
 module _ {F : Type 0} (making : Making) (answered : Answered F) (remaining : F â†’ Option (List â„•)) (names : List (Bor (List â„•))) where
@@ -62,6 +63,7 @@ module _ {F : Type 0} (making : Making) (answered : Answered F) (remaining : F â
   opening_reports (refusals.Engine fault) is = absurd is
   opening_reports (refusals.Open index) is = is
   opening_reports refusals.Create is = absurd is
+  opening_reports refusals.Questions is = absurd is
   opening_reports refusals.OutOfMemory is = tt
 
   -- and one to make something in a file
@@ -70,6 +72,7 @@ module _ {F : Type 0} (making : Making) (answered : Answered F) (remaining : F â
   of_opening out (refusals.Engine fault) is = absurd is
   of_opening out (refusals.Open index) is = is
   of_opening out refusals.Create is = absurd is
+  of_opening out refusals.Questions is = absurd is
   of_opening out refusals.OutOfMemory is = tt
 
   -- a refusal to make something of the files that were opened is one to report
@@ -87,6 +90,7 @@ module _ {F : Type 0} (making : Making) (answered : Answered F) (remaining : F â
     of_reporting (refusals.Engine tool.OutOfMemory) kind says = absurd kind
     of_reporting (refusals.Open index) kind says = absurd kind
     of_reporting refusals.Create kind says = absurd kind
+    of_reporting refusals.Questions kind says = absurd kind
     of_reporting refusals.OutOfMemory kind says = tt
 
     -- and where the new file was removed, one to make something in it
@@ -95,6 +99,7 @@ module _ {F : Type 0} (making : Making) (answered : Answered F) (remaining : F â
     of_making out (refusals.Engine fault) kind says removed = (of_reporting (refusals.Engine fault) kind says, removed)
     of_making out (refusals.Open index) kind says removed = absurd kind
     of_making out refusals.Create kind says removed = absurd kind
+    of_making out refusals.Questions kind says removed = absurd kind
     of_making out refusals.OutOfMemory kind says removed = tt
 
 -- a stream that is the only part tells it

@@ -1,3 +1,4 @@
+pub mod Conversing
 pub mod Ends
 pub mod Making
 pub mod Files

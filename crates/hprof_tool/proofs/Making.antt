@@ -24,7 +24,7 @@ use Rattle.hprof_engine.specs.Makes.{Making, Makes, making_of}
 use Rattle.hprof_tool.specs.Program.{IsPartRefusal, IsFirstAnswer, IsRefusal, MakesStream, usual_limits, refused_of}
 
 -- no reader tells no part
-no_parts_told : {R : Type 0} (left : R → Option (List ℕ)) (readers : List R) (parts : List (List ℕ)) → readers ≡ []
+pub no_parts_told : {R : Type 0} (left : R → Option (List ℕ)) (readers : List R) (parts : List (List ℕ)) → readers ≡ []
     → Tell left readers parts → parts ≡ []
 no_parts_told left [] [] none told = refl
 no_parts_told left [] (part ∷ parts) none told = absurd cc

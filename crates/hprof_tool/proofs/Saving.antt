@@ -160,6 +160,7 @@ module _ {F : Type 0} (answered : Answered F) (remaining : F → Option (List �
   opening_saves (refusals.Engine fault) is = absurd is
   opening_saves (refusals.Open index) is = is
   opening_saves refusals.Create is = absurd is
+  opening_saves refusals.Questions is = absurd is
   opening_saves refusals.OutOfMemory is = tt
 
   module _ (old new : List (Device F)) (opened : AreOpened answered names old) (held holds : Option (List ℕ)) where

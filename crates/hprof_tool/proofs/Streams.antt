@@ -43,6 +43,7 @@ pub kept_at_opening : {F O : Type 0} (contents : O → Option (List ℕ)) (IsFro
 kept_at_opening contents IsFront answered names (refusals.Engine fault) old is = absurd is
 kept_at_opening contents IsFront answered names (refusals.Open index) old is = refl
 kept_at_opening contents IsFront answered names refusals.Create old is = absurd is
+kept_at_opening contents IsFront answered names refusals.Questions old is = absurd is
 kept_at_opening contents IsFront answered names refusals.OutOfMemory old is = ([], inl (none_added (contents old)))
 
 module _ {R W : Type 0} (left : R → Option (List ℕ)) (health : R → Health) (pulls : R → ℕ) (old new : List R)

@@ -17,8 +17,9 @@ use Rattle.hprof_ask.specs.declared.ask_fault.AskFault.TheVariants as faults
 use Rattle.hprof_ask.specs.HeapAnswers.{IsHeapAnswer}
 use Rattle.hprof_tool.specs.declared.program.refused.Refused.{Refused}
 use Rattle.hprof_tool.specs.declared.program.refused.Refused.TheVariants as refusals
-use Rattle.hprof_tool.specs.Folder.{Answered, CannotOpenAt}
-use Rattle.hprof_tool.specs.Program.{OfParts, IsRefusal, refused_of}
+use Rattle.hprof_engine.specs.Joining.{Tell}
+use Rattle.hprof_tool.specs.Folder.{Answered}
+use Rattle.hprof_tool.specs.Program.{OfParts, IsRefusal, IsReportRefusal, refused_of}
 
 -- how the program refuses what asking questions ended with
 abbrev pub refused_asking : AskFault → Refused
@@ -42,39 +43,63 @@ pub record OfFront (questions : List ℕ) (Holds : List ℕ → Type 0) : Type 0
   pub is : questions ≡ front ++ rest
   pub holds : Holds front
 
+-- what is written of the answers
+--   contents, old: what a stream tells that it holds, and the stream before
+--   Over: that holds of the answers and of the questions, if the parts and the questions are told
+module _ {O : Type 0} (contents : O → Option (List ℕ)) (old : O) (Over : ((Question → List ℕ → Type 0) → List ℕ → Type 0) → Type 0) where
+  -- the answers to all lines of the questions were written
+  abbrev pub AnswersAll : (new : O) → Type 0
+  AnswersAll new = Over (λ IsAnswer questions. AnswersLines IsAnswer AreLines questions (contents old) (contents new))
+
+  -- the answers to the lines that had ended were written, when the questions could not be read on
+  abbrev pub AnswersEnded : (holds : Option (List ℕ)) → Type 0
+  AnswersEnded holds = Over (λ IsAnswer questions. OfFront questions (λ bytes. AnswersLines IsAnswer AreEndedLines bytes (contents old) holds))
+
+  -- the answers to the lines that were taken were written, to the last of them a front
+  abbrev pub AnswersFirst : (holds : Option (List ℕ)) → Type 0
+  AnswersFirst holds = Over (λ IsAnswer questions. OfFront questions (λ bytes. AnswersSome IsAnswer bytes (contents old) holds))
+
+  -- what a refusal says, and leaves of the stream: behind what it held stand those answers, but for some bytes at the end
+  --   Says: what it says of the parts
+  abbrev pub LeavesAnswers : (Says : Refused → Type 0) → Refused → (new : Option O) → Type 0
+  LeavesAnswers Says refusals.Questions (Some new) = (unwritten : List ℕ) × AnswersEnded (append_known (contents new) unwritten)
+  LeavesAnswers Says refusals.Questions None = ⊥
+  LeavesAnswers Says (refusals.Engine (tool.Write fault)) (Some new) = (unwritten : List ℕ) × AnswersFirst (append_known (contents new) unwritten)
+  LeavesAnswers Says (refusals.Engine (tool.Write fault)) None = ⊥
+  LeavesAnswers Says refusals.OutOfMemory (Some new) =
+      (new ≡ old) ⊎ ((unwritten : List ℕ) × AnswersFirst (append_known (contents new) unwritten))
+  LeavesAnswers Says refusals.OutOfMemory None = ⊤
+  LeavesAnswers Says (refusals.Engine (tool.Part index fault)) new = Says (refusals.Engine (tool.Part index fault)) × (new ≡ Some old)
+  LeavesAnswers Says (refusals.Engine tool.NoParts) new = Says (refusals.Engine tool.NoParts) × (new ≡ Some old)
+  LeavesAnswers Says (refusals.Engine tool.IdSizes) new = Says (refusals.Engine tool.IdSizes) × (new ≡ Some old)
+  LeavesAnswers Says (refusals.Engine (tool.Conflict key)) new = Says (refusals.Engine (tool.Conflict key)) × (new ≡ Some old)
+  LeavesAnswers Says (refusals.Open index) new = Says (refusals.Open index) × (new ≡ Some old)
+  LeavesAnswers Says other new = ⊥
+
+-- that holds of what readers tell
+--   left, asked: what a reader of parts has left to tell, and what the source of questions has
+module _ {R Q : Type 0} (left : R → Option (List ℕ)) (asked : Q → Option (List ℕ)) (readers : List R) (source : Q) where
+  abbrev pub OverReaders : ((Question → List ℕ → Type 0) → List ℕ → Type 0) → Type 0
+  OverReaders Holds = (parts : List (List ℕ)) → Tell left readers parts → (questions : List ℕ) → asked source ≡ Some questions
+      → OverParts (λ IsAnswer. Holds IsAnswer questions) parts
+
+-- what a refusal says of what readers tell
+abbrev pub SaysOfReaders : {R : Type 0} → (R → Option (List ℕ)) → List R → Refused → Type 0
+SaysOfReaders left readers refused = (parts : List (List ℕ)) → Tell left readers parts → IsRefusal dump_making refused parts
+
 -- answered: what came of the names of files;  tells: what a file has left to tell
 -- left, contents: what the questions have left to tell, and what a stream tells that it holds
 module _ {F I O : Type 0} (answered : Answered F) (tells : F → Option (List ℕ)) (left : I → Option (List ℕ)) (contents : O → Option (List ℕ))
     (names : List (Bor (List ℕ))) (input : I) (old : O) where
-  -- that holds of the questions, if they are told, and of the answers over the heap of the files of these names
-  abbrev pub OverFiles : ((Question → List ℕ → Type 0) → (questions : List ℕ) → Type 0) → Type 0
+  -- that holds of the answers over the heap of the files of these names
+  abbrev pub OverFiles : ((Question → List ℕ → Type 0) → List ℕ → Type 0) → Type 0
   OverFiles Holds = OfParts answered tells names
       (λ parts. (questions : List ℕ) → left input ≡ Some questions → OverParts (λ IsAnswer. Holds IsAnswer questions) parts)
 
   -- the answers to all lines of the questions were written
-  abbrev pub AnswersAll : (new : O) → Type 0
-  AnswersAll new = OverFiles (λ IsAnswer questions. AnswersLines IsAnswer AreLines questions (contents old) (contents new))
+  abbrev pub AnswersQuestions : (new : O) → Type 0
+  AnswersQuestions = AnswersAll contents old OverFiles
 
-  -- the answers to the lines that had ended were written, when the questions could not be read on
-  abbrev pub AnswersEnded : (holds : Option (List ℕ)) → Type 0
-  AnswersEnded holds = OverFiles (λ IsAnswer questions. OfFront questions
-      (λ bytes. AnswersLines IsAnswer AreEndedLines bytes (contents old) holds))
-
-  -- the answers to the lines that were taken were written, to the last of them a front
-  abbrev pub AnswersFrontOf : (holds : Option (List ℕ)) → Type 0
-  AnswersFrontOf holds = OverFiles (λ IsAnswer questions. OfFront questions (λ bytes. AnswersSome IsAnswer bytes (contents old) holds))
-
-  -- what a refusal says, and leaves of the stream: what it holds, but for some bytes at the end, are those answers
+  -- what a refusal says, and leaves of the stream
   abbrev pub RefusesQuestions : Refused → (new : Option O) → Type 0
-  RefusesQuestions (refusals.Open index) new = CannotOpenAt answered names index × (new ≡ Some old)
-  RefusesQuestions refusals.Questions (Some new) = (unwritten : List ℕ) × AnswersEnded (append_known (contents new) unwritten)
-  RefusesQuestions (refusals.Engine (tool.Write fault)) (Some new) =
-      (unwritten : List ℕ) × AnswersFrontOf (append_known (contents new) unwritten)
-  RefusesQuestions refusals.OutOfMemory (Some new) =
-      (new ≡ old) ⊎ ((unwritten : List ℕ) × AnswersFrontOf (append_known (contents new) unwritten))
-  RefusesQuestions refusals.OutOfMemory None = ⊤
-  RefusesQuestions (refusals.Engine tool.OutOfMemory) new = ⊥
-  RefusesQuestions (refusals.Engine (tool.Write fault)) None = ⊥
-  RefusesQuestions (refusals.Engine fault) new =
-      OfParts answered tells names (IsRefusal dump_making (refusals.Engine fault)) × (new ≡ Some old)
-  RefusesQuestions other new = ⊥
+  RefusesQuestions = LeavesAnswers contents old OverFiles (IsReportRefusal dump_making answered tells names)

@@ -11,7 +11,7 @@ use Rattle.hprof_tool.specs.declared.command.Question.TheVariants as questions
 use Rattle.hprof_tool.specs.declared.command.Task.{Task}
 use Rattle.hprof_tool.specs.declared.command.Task.TheVariants as tasks
 use Rattle.hprof_tool.specs.declared.program.refused.Refused.{Refused}
-use Rattle.hprof_tool.specs.Conversing.{AnswersAll, RefusesQuestions}
+use Rattle.hprof_tool.specs.Conversing.{AnswersQuestions, RefusesQuestions}
 use Rattle.hprof_tool.specs.Folder.{Answered}
 use Rattle.hprof_tool.specs.Program.{IsMadeOfStream, IsMadeOfFiles, IsMadeInFile}
 use Rattle.hprof_tool.specs.SalvagedFiles.{IsSalvagedFile}
@@ -47,7 +47,7 @@ module _ {F I O : Type 0} (answered : Answered F) (tells holds : F → Option (L
       × ((text : List ℕ) × TellsFaults salvaged.faults.items text × Appends (contents old) (contents new) text)
   DoesTask (tasks.Check parts) input old new = IsMadeOfFiles (IsMadeOf IsCheckText) answered tells contents parts.items old new
   DoesTask (tasks.Histogram parts) input old new = IsMadeOfFiles (IsMadeOf IsHistogramReport) answered tells contents parts.items old new
-  DoesTask (tasks.Converse parts) input old new = AnswersAll answered tells left contents parts.items input old new
+  DoesTask (tasks.Converse parts) input old new = AnswersQuestions answered tells left contents parts.items input old new
   DoesTask (tasks.Ask question id parts) input old new =
       IsIdText id.now × IsMadeOfFiles (IsMadeOf (is_answer question (id_value id.now))) answered tells contents parts.items old new
 

@@ -4,7 +4,7 @@ ghost use Rattle.std.specs.Prelude.{◌≡◌, ◌≢◌, ℕ, List, Some, IfOk,
 ghost use Rattle.std.specs.Io.KnownBytes.{Appends};
 ghost use Rattle.hprof_engine.specs.Makes.{IsDump, IsMadeOf, making_of};
 ghost use Rattle.hprof_text.specs.Identifier.{IsIdText, id_value};
-ghost use Rattle.hprof_tool.specs.Conversing.{AnswersAll, RefusesQuestions};
+ghost use Rattle.hprof_tool.specs.Conversing.{AnswersQuestions, RefusesQuestions};
 ghost use Rattle.hprof_tool.specs.Program.{IsMadeOfStream, IsMadeInFile, IsMadeOfFiles};
 ghost use Rattle.hprof_tool.specs.SalvagedFiles.{IsSalvagedFile};
 ghost use Rattle.hprof_tool.specs.Streams.{RefusesStream, RefusesReport};
@@ -205,7 +205,7 @@ fn converse<F: Folder, I: Read + Drop, P: Write + Drop, O: Write + Drop, E: Writ
     errors: &mut E,
 ) -> Ended<O>
     ensures done { result.status ≡ Status.Done → (written : O) × (result.output ≡ Some written)
-        × AnswersAll (F.answered files.now) F.File.remaining I.remaining O.contents names.now input output written }
+        × AnswersQuestions (F.answered files.now) F.File.remaining I.remaining O.contents names.now input output written }
     ensures refused { result.status ≡ Status.Refused → (why : Refused) × RefusesQuestions (F.answered files.now) F.File.remaining
         I.remaining O.contents names.now input output why result.output }
     ensures understood { result.status ≢ Status.NotUnderstood }

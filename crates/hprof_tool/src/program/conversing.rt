@@ -1,12 +1,12 @@
 //! Questions about the heap of parts in files.
 
-ghost use Rattle.std.specs.Prelude.{◌≡◌, All, None, OnOk, IfOk, IfErr};
-ghost use Rattle.std.specs.Io.KnownBytes.{append_known};
-ghost use Rattle.std.specs.Io.Buffered.{writer_contents, writer_inner};
+ghost use Rattle.std.specs.Prelude.{◌≡◌, [], All, OnOk, IfOk, IfErr};
+ghost use Rattle.std.specs.Io.Buffered.{writer_buffer, writer_contents};
 ghost use Rattle.hprof_devices.specs.Buffered.{buffered_health, buffered_of};
 ghost use Rattle.hprof_devices.specs.declared.health.Health.TheVariants.{Well};
-ghost use Rattle.hprof_tool.specs.Conversing.{AnswersAll, RefusesQuestions};
-ghost use Rattle.hprof_tool.specs.Asking.{AsksStream, StopsAsking};
+ghost use Rattle.hprof_ask.specs.Asks.{Asks, fault_of_asking};
+ghost use Rattle.hprof_tool.specs.Conversing.{AnswersAll, AnswersQuestions, LeavesAnswers, OverReaders, RefusesQuestions, SaysOfReaders};
+ghost use Rattle.hprof_tool.specs.Program.{usual_limits};
 
 use crate::program::folder::Folder;
 use crate::program::joining::open_parts;
@@ -26,7 +26,14 @@ fn ask_readers<R: Source, Q: Source, W: Write + Drop>(
     readers: &mut [R],
     questions: &mut Q,
     target: &mut BufferedDevice<W>,
-) -> Result<(), AskFault> {
+) -> Result<(), AskFault>
+    requires readers { All (λ reader. R.health reader ≡ Well) readers.old }
+    requires asking { Q.health questions.old ≡ Well }
+    requires writer { buffered_health target.old ≡ Well }
+    ensures asks { Asks R.left R.health R.pulls Q.left Q.health Q.pulls (λ device. writer_contents W.contents (buffered_of device))
+        buffered_health usual_limits readers.old readers.new questions.old questions.new target.old target.new (fault_of_asking result) }
+    ensures flushed { OnOk result (writer_buffer (buffered_of target.new) ≡ []) }
+{
     match ask_kept(alloc, readers, questions, target, Limits::usual()) {
         Ok(heap) => {
             mem::forget(heap);
@@ -42,7 +49,13 @@ fn ask_through_buffer<R: Source, Q: Source, W: Write + Drop>(
     readers: &mut [R],
     questions: &mut Q,
     writer: W,
-) -> Result<W, Stopped<W>> {
+) -> Result<W, Stopped<W>>
+    requires readers { All (λ reader. R.health reader ≡ Well) readers.old }
+    requires asking { Q.health questions.old ≡ Well }
+    ensures ok { IfOk result (AnswersAll W.contents writer (OverReaders R.left Q.left readers.old questions.old)) }
+    ensures stops { IfErr result (λ stopped. LeavesAnswers W.contents writer (OverReaders R.left Q.left readers.old questions.old)
+        (SaysOfReaders R.left readers.old) stopped.why stopped.writer) }
+{
     let Ok(buffered) = BufWriter::with_capacity(alloc, BUFFER_LEN, writer) else {
         return Err(Stopped {
             why: Refused::OutOfMemory,
@@ -73,7 +86,7 @@ pub(crate) fn ask_files<F: Folder, I: Read + Drop, P: Write + Drop, O: Write + D
     prompts: Option<P>,
     output: O,
 ) -> Result<O, Stopped<O>>
-    ensures ok { IfOk result (AnswersAll (F.answered files.now) F.File.remaining I.remaining O.contents names.now input output) }
+    ensures ok { IfOk result (AnswersQuestions (F.answered files.now) F.File.remaining I.remaining O.contents names.now input output) }
     ensures refused { IfErr result (λ stopped. RefusesQuestions (F.answered files.now) F.File.remaining I.remaining O.contents names.now
         input output stopped.why stopped.writer) }
 {

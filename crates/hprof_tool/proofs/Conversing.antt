@@ -1,0 +1,182 @@
+-- What answering questions about parts tells.
+use Rattle.std.proofs.Common.{◌≡◌, inl, inr, ℕ, List, [], ◌∷◌, ◌++◌, append-nil, Option, Some, None, refl, sym, ap, subst, ◌∙◌}
+use Rattle.std.specs.Borrow.{Bor}
+use Rattle.std.specs.Io.KnownBytes.{Consumes, IsAtEnd, append_known}
+use Rattle.hprof_devices.specs.declared.device.Device.{Device}
+use Rattle.hprof_devices.specs.declared.health.Health.{Health}
+use Rattle.hprof_devices.specs.Device.{inner_of}
+use Rattle.hprof_stream.specs.declared.part_fault.PartFault.{PartFault}
+use Rattle.hprof_rows.specs.declared.key.Key.{Key}
+use Rattle.hprof_engine.specs.declared.tool_fault.ToolFault.{ToolFault}
+use Rattle.hprof_engine.specs.declared.tool_fault.ToolFault.TheVariants as tool
+use Rattle.hprof_engine.specs.Joining.{Tell, IsOfReading}
+use Rattle.hprof_engine.specs.Makes.{dump_making}
+use Rattle.hprof_dialogue.specs.declared.question.Question.{Question}
+use Rattle.hprof_dialogue.specs.declared.stop.DialogueStop.TheVariants as stops
+use Rattle.hprof_dialogue.specs.Dialogue.{AnswersLines, AnswersSome, Came}
+use Rattle.hprof_dialogue.specs.Lines.{AreEndedLines}
+use Rattle.hprof_ask.specs.declared.ask_fault.AskFault.{AskFault}
+use Rattle.hprof_ask.specs.declared.ask_fault.AskFault.TheVariants as faults
+use Rattle.hprof_ask.specs.Asks.{Asks}
+use Rattle.hprof_ask.specs.Asks as asking
+use Rattle.hprof_tool.specs.declared.program.refused.Refused.{Refused}
+use Rattle.hprof_tool.specs.declared.program.refused.Refused.TheVariants as refusals
+use Rattle.hprof_tool.specs.Folder.{Answered, AreOpened}
+use Rattle.hprof_tool.specs.Program.{IsOfOpening, IsReportRefusal, usual_limits}
+use Rattle.hprof_tool.specs.Conversing.{AnswersAll, LeavesAnswers, OfFront, OverFiles, OverParts, OverReaders, SaysOfReaders, refused_asking}
+use Rattle.hprof_tool.proofs.Making.{no_parts_told, part_refusal}
+
+-- what came of known questions is a front of them
+front_of : (old new : Option (List ℕ)) (questions bytes : List ℕ) → old ≡ Some questions → Consumes old new bytes
+    → (rest : List ℕ) × (questions ≡ bytes ++ rest)
+front_of None new questions bytes known came = absurd cc
+front_of (Some all) None questions bytes known came = absurd came
+front_of (Some all) (Some rest) questions bytes known came = (rest, let same : questions ≡ all = cc in same ∙ came)
+
+-- and all of them where none is left
+all_of : (old new : Option (List ℕ)) (questions bytes : List ℕ) → old ≡ Some questions → Consumes old new bytes → IsAtEnd new
+    → bytes ≡ questions
+all_of None new questions bytes known came none = absurd cc
+all_of (Some all) None questions bytes known came none = absurd came
+all_of (Some all) (Some rest) questions bytes known came none =
+    let same : questions ≡ all = cc in sym (same ∙ came ∙ ap (λ (r : List ℕ). bytes ++ r) none ∙ append-nil bytes)
+
+module _ {R Q W O : Type 0} (left : R → Option (List ℕ)) (health : R → Health) (pulls : R → ℕ) (asked : Q → Option (List ℕ))
+    (how : Q → Health) (turns : Q → ℕ) (written : W → Option (List ℕ)) (well : W → Health) (contents : O → Option (List ℕ))
+    (readers new : List R) (was is : Q) (before after : W) (first last : O) where
+  abbrev Asked : Option AskFault → Type 0
+  Asked ended = Asks left health pulls asked how turns written well usual_limits readers new was is before after ended
+
+  abbrev Over : ((Question → List ℕ → Type 0) → List ℕ → Type 0) → Type 0
+  Over = OverReaders left asked readers was
+
+  -- what holds of a front of the questions, of what the writer held and holds
+  abbrev Fronts : (Holds : (Question → List ℕ → Type 0) → List ℕ → Option (List ℕ) → Option (List ℕ) → Type 0)
+      → (start now : Option (List ℕ)) → Type 0
+  Fronts Holds start now = Over (λ IsAnswer questions. OfFront questions (λ bytes. Holds IsAnswer bytes start now))
+
+  -- what came is a front of the questions
+  fronts : (Holds : (Question → List ℕ → Type 0) → List ℕ → Option (List ℕ) → Option (List ℕ) → Type 0)
+      → asking.OverParts left readers (λ IsAnswer. Came IsAnswer asked how turns written well was is before after (Holds IsAnswer))
+      → Fronts Holds (written before) (written after)
+  fronts Holds over = λ parts told questions known.
+      let came = over.holds in
+      let front = front_of (asked was) (asked is) questions came.bytes known came.consumed in
+      record {
+        heap = over.heap;
+        agree = over.agree parts told;
+        summaries = over.summaries;
+        of_parts = over.of_parts parts told;
+        holds = record { front = came.bytes; rest = front.0; is = front.1; holds = came.holds };
+      }
+
+  -- the same of the stream that was there at first, and is at last
+  of_streams : (Holds : (Question → List ℕ → Type 0) → List ℕ → Option (List ℕ) → Option (List ℕ) → Type 0)
+      → (start now start' now' : Option (List ℕ)) → start ≡ start' → now ≡ now' → Fronts Holds start now → Fronts Holds start' now'
+  of_streams Holds start now start' now' same_start same_now holds =
+      subst (Fronts Holds start') same_now (subst (λ (s : Option (List ℕ)). Fronts Holds s now) same_start holds)
+
+  module _ (at_first : written before ≡ contents first) where
+    -- all is answered
+    pub answered_all : (written after ≡ contents last) → Asked None → AnswersAll contents first Over last
+    answered_all at_last a = λ parts told questions known.
+        let ok = a.ok refl in
+        let over = ok.0 in
+        let came = over.holds in
+        let all = all_of (asked was) (asked is) questions came.bytes known came.consumed ok.1 in
+        record {
+          heap = over.heap;
+          agree = over.agree parts told;
+          summaries = over.summaries;
+          of_parts = over.of_parts parts told;
+          holds = rw (sym all, sym at_first, sym at_last) in came.holds;
+        }
+
+    module _ (unwritten : List ℕ) (at_last : written after ≡ append_known (contents last) unwritten) (same : after ≡ before → last ≡ first) where
+      refused_parts : (fault : ToolFault) → Asked (Some (faults.Parts fault)) → Some last ≡ Some first
+      refused_parts fault a = ap Some (same (a.refused fault refl).1)
+
+      -- a fault of reading is none of writing
+      of_parts_refused : (fault : ToolFault) → Asked (Some (faults.Parts fault)) → IsOfReading (Some fault)
+          → LeavesAnswers contents first Over (SaysOfReaders left readers) (refused_asking (faults.Parts fault)) (Some last)
+      of_parts_refused (tool.Part index fault) a kind = (
+        λ parts told. part_refusal left health pulls parts readers new index fault (a.reads.part index fault refl parts told),
+        refused_parts (tool.Part index fault) a,
+      )
+      of_parts_refused tool.NoParts a kind =
+          (λ parts told. no_parts_told left readers parts (a.reads.no_parts.0 refl) told, refused_parts tool.NoParts a)
+      of_parts_refused tool.IdSizes a kind = (λ parts told. a.reads.id_sizes refl parts told, refused_parts tool.IdSizes a)
+      of_parts_refused (tool.Conflict key) a kind =
+          (λ parts told. a.reads.conflict key refl parts told, refused_parts (tool.Conflict key) a)
+      of_parts_refused (tool.Write fault) a kind = absurd kind
+      of_parts_refused tool.DumpTooLong a kind = absurd kind
+      of_parts_refused tool.OutOfMemory a kind = absurd kind
+
+      -- what stopped says, and leaves
+      pub stopped : (fault : AskFault) → Asked (Some fault)
+          → LeavesAnswers contents first Over (SaysOfReaders left readers) (refused_asking fault) (Some last)
+      stopped (faults.Parts fault) a = elim (a.kind fault refl) [
+        | inl kind ↦ of_parts_refused fault a kind
+        | inr none ↦ subst (λ (f : ToolFault). LeavesAnswers contents first Over (SaysOfReaders left readers)
+            (refused_asking (faults.Parts f)) (Some last)) (sym none.0) (inl (same (a.refused fault refl).1))
+      ]
+      stopped (faults.Dialogue (stops.Questions fault)) a = (
+        unwritten,
+        of_streams (λ IsAnswer. AnswersLines IsAnswer AreEndedLines) _ _ _ _ at_first at_last (fronts _ (a.questions fault refl).0),
+      )
+      stopped (faults.Dialogue (stops.Write fault)) a =
+          (unwritten, of_streams (λ IsAnswer. AnswersSome IsAnswer) _ _ _ _ at_first at_last (fronts _ (a.write fault refl).0))
+      stopped (faults.Dialogue stops.OutOfMemory) a =
+          inr (unwritten, of_streams (λ IsAnswer. AnswersSome IsAnswer) _ _ _ _ at_first at_last (fronts _ (a.memory refl).0))
+
+-- ---- of files
+
+module _ {F I Q O : Type 0} (answered : Answered F) (tells : F → Option (List ℕ)) (left : I → Option (List ℕ)) (contents : O → Option (List ℕ))
+    (names : List (Bor (List ℕ))) (input : I) (old : O) (parts : List (Device F)) (opened : AreOpened answered names parts)
+    (asked : Q → Option (List ℕ)) (source : Q) (same : asked source ≡ left input) where
+  abbrev OfReaders : ((Question → List ℕ → Type 0) → List ℕ → Type 0) → Type 0
+  OfReaders = OverReaders (λ part. tells (inner_of part)) asked parts source
+
+  abbrev OfFiles : ((Question → List ℕ → Type 0) → List ℕ → Type 0) → Type 0
+  OfFiles = OverFiles answered tells left contents names input old
+
+  -- what holds of the readers of these files holds of the files
+  pub over_files : (Holds : (Question → List ℕ → Type 0) → List ℕ → Type 0) → OfReaders Holds → OfFiles Holds
+  over_files Holds over =
+      record { parts = parts; opened = opened; holds = λ told tell questions known. over told tell questions (same ∙ known) }
+
+  abbrev Says : Refused → Type 0
+  Says = SaysOfReaders (λ part. tells (inner_of part)) parts
+
+  pub refuses_files : (refused : Refused) (new : Option O) → LeavesAnswers contents old OfReaders Says refused new
+      → LeavesAnswers contents old OfFiles (IsReportRefusal dump_making answered tells names) refused new
+  refuses_files refusals.Questions (Some new) leaves = (leaves.0, over_files _ leaves.1)
+  refuses_files refusals.Questions None leaves = leaves
+  refuses_files (refusals.Engine (tool.Write fault)) (Some new) leaves = (leaves.0, over_files _ leaves.1)
+  refuses_files (refusals.Engine (tool.Write fault)) None leaves = leaves
+  refuses_files refusals.OutOfMemory (Some new) leaves = elim leaves [
+    | inl none ↦ inl none
+    | inr some ↦ inr (some.0, over_files _ some.1)
+  ]
+  refuses_files refusals.OutOfMemory None leaves = tt
+  refuses_files (refusals.Engine (tool.Part index fault)) new leaves =
+      (record { parts = parts; opened = opened; holds = leaves.0 }, leaves.1)
+  refuses_files (refusals.Engine tool.NoParts) new leaves = (record { parts = parts; opened = opened; holds = leaves.0 }, leaves.1)
+  refuses_files (refusals.Engine tool.IdSizes) new leaves = (record { parts = parts; opened = opened; holds = leaves.0 }, leaves.1)
+  refuses_files (refusals.Engine (tool.Conflict key)) new leaves =
+      (record { parts = parts; opened = opened; holds = leaves.0 }, leaves.1)
+  refuses_files (refusals.Engine tool.DumpTooLong) new leaves = leaves
+  refuses_files (refusals.Engine tool.OutOfMemory) new leaves = leaves
+  refuses_files (refusals.Open index) new leaves = absurd leaves.0
+  refuses_files refusals.Create new leaves = leaves
+
+-- where a part cannot be opened, the stream is as it was
+pub cannot_ask : {F I O : Type 0} (answered : Answered F) (tells : F → Option (List ℕ)) (contents : O → Option (List ℕ))
+    (names : List (Bor (List ℕ))) (old : O) (Over : ((Question → List ℕ → Type 0) → List ℕ → Type 0) → Type 0) (refused : Refused)
+    → IsOfOpening answered names refused
+    → LeavesAnswers contents old Over (IsReportRefusal dump_making answered tells names) refused (Some old)
+cannot_ask answered tells contents names old Over (refusals.Engine fault) is = absurd is
+cannot_ask answered tells contents names old Over (refusals.Open index) is = (is, refl)
+cannot_ask answered tells contents names old Over refusals.Create is = absurd is
+cannot_ask answered tells contents names old Over refusals.Questions is = absurd is
+cannot_ask answered tells contents names old Over refusals.OutOfMemory is = inl refl
