@@ -1,4 +1,5 @@
 use Rattle.std.proofs.Common.{[], ◌∷◌, sym, ◌∙◌, rules}
+use Rattle.hprof_lists.specs.Entries as entries
 use Rattle.hprof_items.specs.ClassDump.{class_at}
 use Rattle.hprof_values.specs.BoundedBytes.{bounds_of}
 use Rattle.hprof_values.proofs.FieldGroups.{reached_passed}
@@ -18,5 +19,5 @@ unfolding class_at
 returns-clause-fact c = search rules
 
 pub returns-in_err-fields-clause-fact : goal.returns-in_err-fields-clause-fact
-unfolding class_at
+unfolding class_at entries.list_end
 returns-in_err-fields-clause-fact c = search rules
