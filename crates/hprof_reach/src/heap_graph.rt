@@ -1,16 +1,20 @@
 //! A heap as a graph.
 
+ghost use Rattle.std.specs.Prelude.{◌≡◌, IfOk};
+ghost use Rattle.hprof_reach.specs.Graph.{TellsEdges};
+
+use crate::nodes::class_nodes;
 use crate::targets::Targets;
 use hprof_edges::{Near, known_edges, known_object_edges};
 use hprof_heap::Heap;
-use hprof_known_layouts::{KnownLayouts, Reference};
+use hprof_known_layouts::{KnownLayouts, Reference, known_layouts};
 use hprof_search::{Graph, Numbered};
-use std::alloc::AllocError;
+use std::alloc::{AllocError, Global};
 use std::mem::swap;
 
-/// The edges of a heap, with what is used again for each node.
+/// The edges of a heap, node by node, with what is used again for each node.
 #[derive(Drop)]
-pub(crate) struct HeapGraph<'h> {
+pub struct HeapGraph<'h> {
     pub(crate) heap: &'h Heap,
     /// The known layouts of its classes.
     pub(crate) known: KnownLayouts,
@@ -20,6 +24,25 @@ pub(crate) struct HeapGraph<'h> {
     pub(crate) near: Near,
     pub(crate) references: Vec<Reference>,
     pub(crate) targets: Targets,
+}
+
+/// Returns the graph of a heap. The error is that memory ran out.
+pub fn graph_of(alloc: Global, heap: &Heap) -> Result<HeapGraph<'_>, AllocError>
+    ensures heap { IfOk result (λ graph. graph.heap.now ≡ heap.now) }
+    ensures tells { IfOk result TellsEdges }
+{
+    let known = known_layouts(alloc, heap)?;
+    let classes = Numbered::new(alloc, class_nodes(alloc, heap)?)?;
+    Ok(HeapGraph {
+        heap,
+        known,
+        classes,
+        near: Near::start(),
+        references: Vec::new(alloc),
+        targets: Targets {
+            list: Vec::new(alloc),
+        },
+    })
 }
 
 impl<'h> HeapGraph<'h> {

@@ -9,4 +9,6 @@ mod reach;
 mod starts;
 mod targets;
 
+pub use heap_graph::{HeapGraph, graph_of};
+pub use nodes::nodes_of;
 pub use reach::{Reach, reach_of};

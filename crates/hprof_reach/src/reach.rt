@@ -8,14 +8,11 @@ ghost use Rattle.hprof_lookup.specs.HeapFacts.{facts_of, size_of};
 ghost use Rattle.hprof_reach.specs.Reaching.{IsDistanceFromRoots, IsPathFromRoots, IsReach};
 
 use crate::from_roots::FromRoots;
-use crate::heap_graph::HeapGraph;
-use crate::nodes::{class_nodes, nodes_of};
+use crate::heap_graph::graph_of;
+use crate::nodes::nodes_of;
 use crate::starts::starts_of;
-use crate::targets::Targets;
-use hprof_edges::Near;
 use hprof_heap::Heap;
-use hprof_known_layouts::known_layouts;
-use hprof_search::{Numbered, Search, search};
+use hprof_search::{Search, search};
 use std::alloc::{AllocError, Global};
 
 /// How the classes and objects of a heap are reached from its GC roots: distances and paths.
@@ -50,18 +47,7 @@ impl Reach {
 pub fn reach_of(alloc: Global, heap: &Heap) -> Result<Reach, AllocError>
     ensures { IfOk result (IsReach (size_of heap.now) (facts_of heap.now)) }
 {
-    let known = known_layouts(alloc, heap)?;
-    let classes = Numbered::new(alloc, class_nodes(alloc, heap)?)?;
-    let mut graph = HeapGraph {
-        heap,
-        known,
-        classes,
-        near: Near::start(),
-        references: Vec::new(alloc),
-        targets: Targets {
-            list: Vec::new(alloc),
-        },
-    };
+    let mut graph = graph_of(alloc, heap)?;
     let nodes = nodes_of(alloc, heap)?;
     let starts = starts_of(alloc, heap)?;
     let search = search(alloc, &mut graph, nodes, &starts)?;

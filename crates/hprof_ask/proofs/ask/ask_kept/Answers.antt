@@ -1,0 +1,30 @@
+use Rattle.std.proofs.Common.{Ok, Err}
+use Rattle.hprof_heap.specs.Heap.{heap_of}
+use Rattle.hprof_lookup.specs.HeapFacts.{facts_of, size_of}
+use Rattle.hprof_ask.proofs.Asking.{asks, refuses}
+use Rattle.hprof_ask.proofs.ask.ask_kept.Goals as goal
+
+pub returns-in-Err-clause-asks : goal.returns-in-Err-clause-asks
+returns-in-Err-clause-asks g c =
+    let e = c.in-Err.ensures in
+    refuses g.R.Source.left g.R.Source.health g.R.Source.pulls g.Q.Asker.left g.Q.Asker.health g.Q.Asker.pulls g.W.Target.written
+    g.W.Target.health c.args.limits c.args.readers.now c.read_heap.new.readers c.args.questions.now c.args.target.now c.in-Err.fault
+    e.reads e.no_other
+
+pub returns-in-Ok-converse-clause-asks : goal.returns-in-Ok-converse-clause-asks
+unfolding facts_of size_of
+returns-in-Ok-converse-clause-asks g c =
+    let e = c.in-Ok.ensures in
+    asks g.R.Source.left g.R.Source.health g.R.Source.pulls g.Q.Asker.left g.Q.Asker.health g.Q.Asker.pulls g.W.Target.written
+    g.W.Target.health c.args.limits c.args.readers.now c.read_heap.new.readers c.args.questions.now c.args.target.now
+    (heap_of c.in-Ok.heap) e.ok e.reads c.converse.new.questions c.converse.new.target (Ok c.in-Ok-converse.field-0)
+    c.in-Ok-converse.ensures.dialogue
+
+pub returns-in-Err-converse-clause-asks : goal.returns-in-Err-converse-clause-asks
+unfolding facts_of size_of
+returns-in-Err-converse-clause-asks g c =
+    let e = c.in-Ok.ensures in
+    asks g.R.Source.left g.R.Source.health g.R.Source.pulls g.Q.Asker.left g.Q.Asker.health g.Q.Asker.pulls g.W.Target.written
+    g.W.Target.health c.args.limits c.args.readers.now c.read_heap.new.readers c.args.questions.now c.args.target.now
+    (heap_of c.in-Ok.heap) e.ok e.reads c.converse.new.questions c.converse.new.target (Err c.in-Err-converse.stop)
+    c.in-Err-converse.ensures.dialogue

@@ -1,0 +1,14 @@
+-- What is kept between questions.
+use Rattle.std.specs.Prelude.{List, IfSome}
+use Rattle.hprof_values.specs.declared.ids.IdSize.{IdSize}
+use Rattle.hprof_items.specs.FactValue.{FactValue}
+use Rattle.hprof_reach.specs.Reaching.{IsReach}
+use Rattle.hprof_referrers.specs.Index.{IsIndexOf}
+use Rattle.hprof_reports.specs.HistogramText.{IsHistogramText}
+use Rattle.hprof_ask.specs.declared.kept.Kept.{Kept}
+
+-- if a search, an index or a histogram is kept, it is that of these facts
+pub record IsKept (ids : IdSize) (facts : List FactValue) (kept : Kept) : Type 0 where
+  pub reach : IfSome kept.reach (IsReach ids facts)
+  pub referrers : IfSome kept.referrers (IsIndexOf ids facts)
+  pub histogram : IfSome kept.histogram (λ text. IsHistogramText ids facts text.items)

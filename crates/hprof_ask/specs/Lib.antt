@@ -1,0 +1,4 @@
+pub mod HeapAnswers
+pub mod Asks
+pub mod OneHeapAnswer
+pub mod Kept

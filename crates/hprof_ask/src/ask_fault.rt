@@ -1,0 +1,13 @@
+//! Why asking ended.
+
+use crate::stop::DialogueStop;
+use hprof_engine::ToolFault;
+
+/// Why a call ended that reads parts and answers questions.
+#[derive(Clone, Copy, Debug, PartialEq, Eq)]
+pub enum AskFault {
+    /// The parts were refused.
+    Parts(ToolFault),
+    /// The dialogue stopped.
+    Dialogue(DialogueStop),
+}

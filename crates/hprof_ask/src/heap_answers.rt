@@ -1,0 +1,172 @@
+//! The answers over a heap, and over what was read of each part.
+
+ghost use Rattle.std.specs.Prelude.{◌≡◌, ℕ, List};
+ghost use Rattle.hprof_devices.specs.declared.health.Health.TheVariants.{Well};
+ghost use Rattle.hprof_lookup.specs.HeapFacts.{facts_of, size_of};
+ghost use Rattle.hprof_reports.specs.Stopping.{LeavesTarget, WritesText};
+ghost use Rattle.hprof_ask.specs.HeapAnswers.{IsHeapAnswer, IsReport, IsReportOf, IsWordReport};
+ghost use Rattle.hprof_ask.specs.Kept.{IsKept};
+
+use crate::kept::Kept;
+use crate::reports::{write_kept_histogram, write_kept_path, write_kept_refs};
+use hprof_devices::Target;
+use hprof_dialogue::{Answers, DialogueStop, OneWord, Question, Subject};
+use hprof_engine::WriteStop;
+use hprof_heap::Heap;
+use hprof_reports::{write_check, write_object, write_text};
+use hprof_stream::PartSummary;
+use std::alloc::Global;
+
+/// The lines that `help` answers: one question a line.
+const HELP: &str = "help\ncheck\nhisto\nobject ID\nrefs ID\npath ID\n";
+
+/// A heap that questions are asked of, with what was read of each part.
+#[derive(Clone, Copy)]
+pub struct HeapAnswers<'a> {
+    /// The heap.
+    pub heap: &'a Heap,
+    /// What was read of each part, in order.
+    pub summaries: &'a [PartSummary],
+}
+
+/// Writes the report `check`. Where it stops some of it was written, from the front.
+fn write_check_report<W: Target>(
+    heap: &Heap,
+    summaries: &[PartSummary],
+    target: &mut W,
+) -> Result<(), WriteStop>
+    requires { W.health target.old ≡ Well }
+    ensures bytes { (report : List ℕ) × IsWordReport summaries.now (size_of heap.now) (facts_of heap.now) OneWord.Check report
+        × WritesText (W.written target.old) (W.written target.new) result report }
+    ensures health { LeavesTarget result (W.health target.new) }
+{
+    match write_check(summaries, heap, target) {
+        Ok(()) => Ok(()),
+        Err(fault) => Err(WriteStop::Write(fault)),
+    }
+}
+
+/// Writes what is told of a question of one word. Where it stops some of it was written, from the front.
+fn write_word_report<W: Target>(
+    alloc: Global,
+    answers: &HeapAnswers<'_>,
+    kept: &mut Kept,
+    word: OneWord,
+    target: &mut W,
+) -> Result<(), WriteStop>
+    requires well { W.health target.old ≡ Well }
+    requires kept { IsKept (size_of answers.now.heap.now) (facts_of answers.now.heap.now) kept.old }
+    ensures bytes { (report : List ℕ)
+        × IsWordReport answers.now.summaries.now (size_of answers.now.heap.now) (facts_of answers.now.heap.now) word report
+        × WritesText (W.written target.old) (W.written target.new) result report }
+    ensures health { LeavesTarget result (W.health target.new) }
+    ensures kept { IsKept (size_of answers.now.heap.now) (facts_of answers.now.heap.now) kept.new }
+{
+    match word {
+        OneWord::Help => write_text(HELP, target),
+        OneWord::Check => write_check_report(answers.heap, answers.summaries, target),
+        OneWord::Histogram => write_kept_histogram(alloc, answers.heap, kept, target),
+    }
+}
+
+/// Writes the report on an identifier. Where it stops some of it was written, from the front.
+fn write_report_of<W: Target>(
+    alloc: Global,
+    heap: &Heap,
+    kept: &mut Kept,
+    subject: Subject,
+    id: u64,
+    target: &mut W,
+) -> Result<(), WriteStop>
+    requires well { W.health target.old ≡ Well }
+    requires kept { IsKept (size_of heap.now) (facts_of heap.now) kept.old }
+    ensures bytes { (report : List ℕ) × IsReportOf (size_of heap.now) (facts_of heap.now) subject id report
+        × WritesText (W.written target.old) (W.written target.new) result report }
+    ensures health { LeavesTarget result (W.health target.new) }
+    ensures kept { IsKept (size_of heap.now) (facts_of heap.now) kept.new }
+{
+    match subject {
+        Subject::Object => write_object(alloc, heap, id, target),
+        Subject::Refs => write_kept_refs(alloc, heap, kept, id, target),
+        Subject::Path => write_kept_path(alloc, heap, kept, id, target),
+    }
+}
+
+/// Writes what is told of a question. Where it stops some of it was written, from the front.
+fn write_report<W: Target>(
+    alloc: Global,
+    answers: &HeapAnswers<'_>,
+    kept: &mut Kept,
+    question: Question,
+    target: &mut W,
+) -> Result<(), WriteStop>
+    requires well { W.health target.old ≡ Well }
+    requires kept { IsKept (size_of answers.now.heap.now) (facts_of answers.now.heap.now) kept.old }
+    ensures bytes { (report : List ℕ)
+        × IsReport answers.now.summaries.now (size_of answers.now.heap.now) (facts_of answers.now.heap.now) question report
+        × WritesText (W.written target.old) (W.written target.new) result report }
+    ensures health { LeavesTarget result (W.health target.new) }
+    ensures kept { IsKept (size_of answers.now.heap.now) (facts_of answers.now.heap.now) kept.new }
+{
+    match question {
+        Question::Nothing => write_text("", target),
+        Question::Word(word) => write_word_report(alloc, answers, kept, word, target),
+        Question::Of(subject, id) => {
+            write_report_of(alloc, answers.heap, kept, subject, id, target)
+        }
+        Question::NoIdentifier => write_text("not an identifier\n", target),
+        Question::NotUnderstood => write_text("not understood\n", target),
+    }
+}
+
+/// Writes the answer to a question. Where it stops some of it was written, from the front.
+fn write_answer<W: Target>(
+    alloc: Global,
+    answers: &HeapAnswers<'_>,
+    kept: &mut Kept,
+    question: Question,
+    target: &mut W,
+) -> Result<(), WriteStop>
+    requires well { W.health target.old ≡ Well }
+    requires kept { IsKept (size_of answers.now.heap.now) (facts_of answers.now.heap.now) kept.old }
+    ensures bytes { (text : List ℕ)
+        × IsHeapAnswer answers.now.summaries.now (size_of answers.now.heap.now) (facts_of answers.now.heap.now) question text
+        × WritesText (W.written target.old) (W.written target.new) result text }
+    ensures health { LeavesTarget result (W.health target.new) }
+    ensures kept { IsKept (size_of answers.now.heap.now) (facts_of answers.now.heap.now) kept.new }
+{
+    match write_report(alloc, answers, kept, question, target) {
+        Ok(()) => write_text("\n", target),
+        Err(stop) => Err(stop),
+    }
+}
+
+impl<'a> Answers for HeapAnswers<'a> {
+    ghost use Rattle.hprof_ask.specs.OneHeapAnswer.{one_heap_answer, some_heap_answer};
+
+    ghost is_answer = { λ answers. IsHeapAnswer answers.summaries.now (size_of answers.heap.now) (facts_of answers.heap.now) };
+
+    ghost keeps = { λ answers kept. IsKept (size_of answers.heap.now) (facts_of answers.heap.now) kept };
+
+    type Kept = Kept;
+
+    fn answer<W: Target>(
+        &self,
+        alloc: Global,
+        kept: &mut Kept,
+        question: Question,
+        target: &mut W,
+    ) -> Result<(), DialogueStop> {
+        match write_answer(alloc, self, kept, question, target) {
+            Ok(()) => Ok(()),
+            Err(WriteStop::Write(fault)) => Err(DialogueStop::Write(fault)),
+            Err(WriteStop::OutOfMemory) => Err(DialogueStop::OutOfMemory),
+            // No answer is too long.
+            Err(WriteStop::TooLong) => unreachable!(),
+        }
+    }
+
+    ghost some_answer = { λ answers question. ? };
+
+    ghost one_answer = { λ answers. one_heap_answer answers.summaries.now (size_of answers.heap.now) (facts_of answers.heap.now) };
+}

@@ -1,0 +1,97 @@
+//! The reports that are written from what is kept.
+
+ghost use Rattle.std.specs.Prelude.{◌≡◌, ℕ, List, OnOk, IsSome};
+ghost use Rattle.hprof_devices.specs.declared.health.Health.TheVariants.{Well};
+ghost use Rattle.hprof_lookup.specs.HeapFacts.{facts_of, size_of};
+ghost use Rattle.hprof_reports.specs.HistogramText.{IsHistogramText};
+ghost use Rattle.hprof_reports.specs.PathText.{IsPathText};
+ghost use Rattle.hprof_reports.specs.RefsText.{IsRefsText};
+ghost use Rattle.hprof_reports.specs.Stopping.{LeavesTarget, WritesText};
+ghost use Rattle.hprof_ask.specs.Kept.{IsKept};
+
+use crate::kept::Kept;
+use hprof_devices::{Device, Target, push_all};
+use hprof_engine::WriteStop;
+use hprof_heap::Heap;
+use hprof_lookup::holds_of_heap;
+use hprof_reach::reach_of;
+use hprof_referrers::index_referrers;
+use hprof_reports::{write_histogram, write_reached, write_refs};
+use std::alloc::{AllocError, Global};
+
+/// Makes the search from the roots, if it is not kept yet. If memory runs out, nothing has changed.
+fn keep_reach(alloc: Global, heap: &Heap, kept: &mut Kept) -> Result<(), AllocError>
+    requires { IsKept (size_of heap.now) (facts_of heap.now) kept.old }
+    ensures some { OnOk result (IsSome kept.new.reach) }
+    ensures kept { IsKept (size_of heap.now) (facts_of heap.now) kept.new }
+{
+    if kept.reach.is_none() {
+        let reach = reach_of(alloc, heap)?;
+        kept.reach = Some(reach);
+    }
+    Ok(())
+}
+
+/// Makes the index of referrers, if it is not kept yet. If memory runs out, nothing has changed.
+fn keep_referrers(alloc: Global, heap: &Heap, kept: &mut Kept) -> Result<(), AllocError>
+    requires { IsKept (size_of heap.now) (facts_of heap.now) kept.old }
+    ensures some { OnOk result (IsSome kept.new.referrers) }
+    ensures kept { IsKept (size_of heap.now) (facts_of heap.now) kept.new }
+{
+    if kept.referrers.is_none() {
+        let index = index_referrers(alloc, heap)?;
+        kept.referrers = Some(index);
+    }
+    Ok(())
+}
+
+/// Writes the report `path` on an identifier from the search that is kept, or is made now. Where it stops some of it was written, from
+/// the front.
+pub(crate) fn write_kept_path<W: Target>(
+    alloc: Global,
+    heap: &Heap,
+    kept: &mut Kept,
+    id: u64,
+    target: &mut W,
+) -> Result<(), WriteStop>
+    requires well { W.health target.old ≡ Well }
+    requires kept { IsKept (size_of heap.now) (facts_of heap.now) kept.old }
+    ensures bytes { (text : List ℕ) × IsPathText (size_of heap.now) (facts_of heap.now) id text
+        × WritesText (W.written target.old) (W.written target.new) result text }
+    ensures health { LeavesTarget result (W.health target.new) }
+    ensures kept { IsKept (size_of heap.now) (facts_of heap.now) kept.new }
+{
+    holds_of_heap(heap);
+    keep_reach(alloc, heap, kept)?;
+    match &kept.reach {
+        Some(reach) => write_reached(alloc, reach, id, target),
+        // It was made.
+        None => unreachable!(),
+    }
+}
+
+/// Writes the report `refs` on an identifier from the index that is kept, or is made now. Where it stops some of it was written, from
+/// the front.
+pub(crate) fn write_kept_refs<W: Target>(
+    alloc: Global,
+    heap: &Heap,
+    kept: &mut Kept,
+    id: u64,
+    target: &mut W,
+) -> Result<(), WriteStop>
+    requires well { W.health target.old ≡ Well }
+    requires kept { IsKept (size_of heap.now) (facts_of heap.now) kept.old }
+    ensures bytes { (text : List ℕ) × IsRefsText (size_of heap.now) (facts_of heap.now) id text
+        × WritesText (W.written target.old) (W.written target.new) result text }
+    ensures health { LeavesTarget result (W.health target.new) }
+    ensures kept { IsKept (size_of heap.now) (facts_of heap.now) kept.new }
+{
+    holds_of_heap(heap);
+    keep_referrers(alloc, heap, kept)?;
+    let Some(index) = &kept.referrers else {
+        // It was made.
+        unreachable!();
+    };
+    let edges = index.referrers(alloc, heap, id)?;
+    write_refs(alloc, heap, &edges, target)
+}

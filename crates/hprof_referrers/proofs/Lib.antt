@@ -1,0 +1,2 @@
+pub mod Putting
+pub mod Froms
