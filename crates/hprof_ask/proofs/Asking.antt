@@ -1,5 +1,5 @@
 -- What a call answers that reads parts and answers questions.
-use Rattle.std.proofs.Common.{◌≡◌, ℕ, List, Option, Some, None, Result, Ok, Err, refl, subst, inl, inr}
+use Rattle.std.proofs.Common.{◌≡◌, ℕ, ◌<◌, List, [], length, Option, Some, None, Result, Ok, Err, refl, ap, subst, inl, inr, arith}
 use Rattle.std.specs.Prelude.{All}
 use Rattle.hprof_devices.specs.declared.health.Health.{Health}
 use Rattle.hprof_devices.specs.declared.health.Health.TheVariants as healths
@@ -9,11 +9,14 @@ use Rattle.hprof_devices.specs.Device.{health_after}
 use Rattle.hprof_values.specs.declared.ids.IdSize.{IdSize}
 use Rattle.hprof_items.specs.FactValue.{FactValue}
 use Rattle.hprof_stream.specs.declared.limits.Limits.{Limits}
+use Rattle.hprof_stream.specs.declared.summary.PartSummary.{PartSummary}
 use Rattle.hprof_rows.specs.HeapValue.{HeapValue}
 use Rattle.hprof_heap.specs.State.{IsState}
 use Rattle.hprof_engine.specs.declared.tool_fault.ToolFault.{ToolFault}
-use Rattle.hprof_engine.specs.Joining.{Tell, Agree, IsHindered, IsOkOrConflict}
+use Rattle.hprof_engine.specs.declared.tool_fault.ToolFault.TheVariants as tool
+use Rattle.hprof_engine.specs.Joining.{Tell, Agree, IsHindered, IsOfReading, IsOkOrConflict}
 use Rattle.hprof_engine.specs.Makes.{Reads}
+use Rattle.hprof_engine.specs.Summaries.{AreSummaries}
 use Rattle.hprof_ask.specs.declared.ask_fault.AskFault.{AskFault}
 use Rattle.hprof_ask.specs.declared.ask_fault.AskFault.TheVariants as faults
 use Rattle.hprof_dialogue.specs.declared.stop.DialogueStop.{DialogueStop}
@@ -33,15 +36,37 @@ failed health is was = cc
 module _ {R Q W : Type 0} (left : R → Option (List ℕ)) (health : R → Health) (pulls : R → ℕ) (asked : Q → Option (List ℕ))
     (asking : Q → Health) (turns : Q → ℕ) (written : W → Option (List ℕ)) (well : W → Health) (limits : Limits) (old new : List R)
     (was : Q) (before : W) where
+  -- there was no room for what is read of each part
+  pub no_room : 0 < length old
+      → Asks left health pulls asked asking turns written well limits old old was was before before (Some (faults.Parts tool.OutOfMemory))
+  no_room some = record {
+    reads = record {
+      no_parts = (λ e. absurd cc, λ none. absurd (omega (arith, some, ap length none)));
+      id_sizes = λ e. absurd cc;
+      conflict = λ key e. absurd cc;
+      part = λ index fault e. absurd cc;
+      accepted = λ all. absurd all;
+      read_out = λ k below. absurd (omega (arith, below));
+    };
+    refused = λ fault e. (refl, refl);
+    room = λ e. (some, refl);
+    ok = λ e. absurd cc;
+    questions = λ fault e. absurd cc;
+    write = λ fault e. absurd cc;
+    memory = λ e. absurd cc;
+    no_other = λ parts ids millis facts told state are_well asks is_well few unhindered unwanted. absurd (unhindered tt);
+  }
+
   -- the parts were refused
-  pub refuses : (fault : ToolFault) → Reads left health pulls limits old new (Some fault)
+  pub refuses : (fault : ToolFault) → IsOfReading (Some fault) → Reads left health pulls limits old new (Some fault)
       → ((parts : List (List ℕ)) (ids : IdSize) (millis : ℕ) (facts : List FactValue) → Tell left old parts
       → IsState parts ids millis facts → All (λ reader. health reader ≡ healths.Well) new → (IsHindered (Some fault) → ⊥)
       → IsOkOrConflict (Some fault))
       → Asks left health pulls asked asking turns written well limits old new was was before before (Some (faults.Parts fault))
-  refuses fault reads no_other = record {
+  refuses fault kind reads no_other = record {
     reads = reads;
     refused = λ other e. (refl, refl);
+    room = λ e. let wanted : fault ≡ tool.OutOfMemory = cc in absurd (subst (λ (f : ToolFault). IsOfReading (Some f)) wanted kind);
     ok = λ e. absurd cc;
     questions = λ other e. absurd cc;
     write = λ other e. absurd cc;
@@ -57,14 +82,16 @@ module _ {R Q W : Type 0} (left : R → Option (List ℕ)) (health : R → Healt
 
   -- the parts were read, and the dialogue ended
   module _ (heap : HeapValue) (agree : (parts : List (List ℕ)) → Tell left old parts → Agree parts heap.ids heap.millis heap.facts)
+      (summaries : List PartSummary) (of_parts : (parts : List (List ℕ)) → Tell left old parts → AreSummaries parts summaries)
       (reads : Reads left health pulls limits old new None) (is : Q) (after : W) where
     pub asks : (r : Result (Unit {0}) DialogueStop)
-        → EndsDialogue (IsHeapAnswer heap.ids heap.facts) asked asking turns written well was is before after r
+        → EndsDialogue (IsHeapAnswer summaries heap.ids heap.facts) asked asking turns written well was is before after r
         → Asks left health pulls asked asking turns written well limits old new was is before after (fault_of_dialogue r)
     asks (Ok done) ends = record {
       reads = reads;
       refused = λ other e. absurd cc;
-      ok = λ e. (record { heap = heap; agree = agree; holds = ends.0 }, ends.1, ends.2, ends.3);
+      room = λ e. absurd cc;
+      ok = λ e. (record { heap = heap; agree = agree; summaries = summaries; of_parts = of_parts; holds = ends.0 }, ends.1, ends.2, ends.3);
       questions = λ other e. absurd cc;
       write = λ other e. absurd cc;
       memory = λ e. absurd cc;
@@ -73,8 +100,9 @@ module _ {R Q W : Type 0} (left : R → Option (List ℕ)) (health : R → Healt
     asks (Err (stops.Questions fault)) ends = record {
       reads = reads;
       refused = λ other e. absurd cc;
+      room = λ e. absurd cc;
       ok = λ e. absurd cc;
-      questions = λ other e. (record { heap = heap; agree = agree; holds = ends.0 }, ends.1, ends.2);
+      questions = λ other e. (record { heap = heap; agree = agree; summaries = summaries; of_parts = of_parts; holds = ends.0 }, ends.1, ends.2);
       write = λ other e. absurd cc;
       memory = λ e. absurd cc;
       no_other = λ parts ids millis facts told state are_well asks is_well few unhindered unwanted. elim ends.1 [
@@ -85,11 +113,12 @@ module _ {R Q W : Type 0} (left : R → Option (List ℕ)) (health : R → Healt
     asks (Err (stops.Write fault)) ends = record {
       reads = reads;
       refused = λ other e. absurd cc;
+      room = λ e. absurd cc;
       ok = λ e. absurd cc;
       questions = λ other e. absurd cc;
       write = λ other e.
           let one : fault ≡ other = cc in (
-            record { heap = heap; agree = agree; holds = ends.0 },
+            record { heap = heap; agree = agree; summaries = summaries; of_parts = of_parts; holds = ends.0 },
             ends.1,
             subst (λ (f : WriteFault). well after ≡ health_after f) one ends.2,
           );
@@ -100,9 +129,10 @@ module _ {R Q W : Type 0} (left : R → Option (List ℕ)) (health : R → Healt
     asks (Err stops.OutOfMemory) ends = record {
       reads = reads;
       refused = λ other e. absurd cc;
+      room = λ e. absurd cc;
       ok = λ e. absurd cc;
       questions = λ other e. absurd cc;
       write = λ other e. absurd cc;
-      memory = λ e. (record { heap = heap; agree = agree; holds = ends.0 }, ends.1, ends.2);
+      memory = λ e. (record { heap = heap; agree = agree; summaries = summaries; of_parts = of_parts; holds = ends.0 }, ends.1, ends.2);
       no_other = λ parts ids millis facts told state are_well asks is_well few unhindered unwanted. absurd (unwanted tt);
     }

@@ -1,5 +1,5 @@
 -- What a call answers that reads parts, and then answers questions about their heap.
-use Rattle.std.specs.Prelude.{◌≡◌, ◌⊎◌, ℕ, ◌-◌, ◌^◌, ◌≤◌, List, All, Option, Some, None, Result, Ok, Err, ⊤}
+use Rattle.std.specs.Prelude.{◌≡◌, ◌⊎◌, ℕ, ◌-◌, ◌^◌, ◌<◌, ◌≤◌, List, length, All, Option, Some, None, Result, Ok, Err, ⊤}
 use Rattle.std.specs.Io.KnownBytes.{IsAtEnd}
 use Rattle.hprof_devices.specs.declared.health.Health.{Health}
 use Rattle.hprof_devices.specs.declared.health.Health.TheVariants as healths
@@ -9,17 +9,21 @@ use Rattle.hprof_devices.specs.Device.{health_after}
 use Rattle.hprof_values.specs.declared.ids.IdSize.{IdSize}
 use Rattle.hprof_items.specs.FactValue.{FactValue}
 use Rattle.hprof_stream.specs.declared.limits.Limits.{Limits}
+use Rattle.hprof_stream.specs.declared.summary.PartSummary.{PartSummary}
 use Rattle.hprof_rows.specs.HeapValue.{HeapValue}
 use Rattle.hprof_heap.specs.State.{IsState}
 use Rattle.hprof_engine.specs.declared.tool_fault.ToolFault.{ToolFault}
+use Rattle.hprof_engine.specs.declared.tool_fault.ToolFault.TheVariants as tool
 use Rattle.hprof_engine.specs.Joining.{Tell, Agree, IsHindered, IsOkOrConflict}
 use Rattle.hprof_engine.specs.Makes.{Reads}
+use Rattle.hprof_engine.specs.Summaries.{AreSummaries}
+use Rattle.hprof_dialogue.specs.declared.question.Question.{Question}
+use Rattle.hprof_dialogue.specs.declared.stop.DialogueStop.TheVariants as stops
+use Rattle.hprof_dialogue.specs.Dialogue.{AnswersLines, AnswersSome, Came}
+use Rattle.hprof_dialogue.specs.Lines.{AreEndedLines, AreLines}
 use Rattle.hprof_ask.specs.declared.ask_fault.AskFault.{AskFault}
 use Rattle.hprof_ask.specs.declared.ask_fault.AskFault.TheVariants as faults
-use Rattle.hprof_dialogue.specs.declared.stop.DialogueStop.TheVariants as stops
-use Rattle.hprof_dialogue.specs.Dialogue.{Answers, AnswersSome, Came}
 use Rattle.hprof_ask.specs.HeapAnswers.{IsHeapAnswer}
-use Rattle.hprof_dialogue.specs.Lines.{AreEndedLines, AreLines}
 
 -- the fault that a call ended with, if any
 abbrev pub fault_of_asking : {A : Type 0} → Result A AskFault → Option AskFault
@@ -32,7 +36,7 @@ fault_of_parts None = None
 fault_of_parts (Some (faults.Parts fault)) = Some fault
 fault_of_parts (Some (faults.Dialogue stop)) = None
 
--- memory was wanted
+-- memory was wanted while questions were answered
 abbrev pub WantsMemory : Option AskFault → Type 0
 WantsMemory (Some (faults.Dialogue stops.OutOfMemory)) = ⊤
 WantsMemory other = ⊥
@@ -43,11 +47,13 @@ IsAnsweredOrConflict None = ⊤
 IsAnsweredOrConflict (Some (faults.Parts fault)) = IsOkOrConflict (Some fault)
 IsAnsweredOrConflict (Some (faults.Dialogue stop)) = ⊥
 
--- that holds of the heap that the parts state, if they are told
-pub record OverHeap {R : Type 0} (left : R → Option (List ℕ)) (old : List R) (P : IdSize → List FactValue → Type 0) : Type 0 where
+-- that holds of the answers over the heap that the parts state and over what was read of each, if they are told
+pub record OverParts {R : Type 0} (left : R → Option (List ℕ)) (old : List R) (P : (Question → List ℕ → Type 0) → Type 0) : Type 0 where
   pub heap : HeapValue
   pub agree : (parts : List (List ℕ)) → Tell left old parts → Agree parts heap.ids heap.millis heap.facts
-  pub holds : P heap.ids heap.facts
+  pub summaries : List PartSummary
+  pub of_parts : (parts : List (List ℕ)) → Tell left old parts → AreSummaries parts summaries
+  pub holds : P (IsHeapAnswer summaries heap.ids heap.facts)
 
 -- what a call answers that reads all parts, and then takes lines and answers them
 --   left, health, pulls: what a reader of parts has left to tell, how it is doing, how often it was pulled
@@ -61,21 +67,22 @@ pub record Asks {R Q W : Type 0} (left : R → Option (List ℕ)) (health : R �
   pub reads : Reads left health pulls limits old new (fault_of_parts ended)
   -- where they are refused, nothing was read of the questions, and nothing was written
   pub refused : (fault : ToolFault) → ended ≡ Some (faults.Parts fault) → (is ≡ was) × (after ≡ before)
+  -- memory was wanted for what is read of each part, of which there are some: nothing was read
+  pub room : ended ≡ Some (faults.Parts tool.OutOfMemory) → (0 < length old) × (new ≡ old)
   -- Ok: all lines are answered, and all are well
-  pub ok : ended ≡ None → OverHeap left old (λ ids facts.
-      Came (IsHeapAnswer ids facts) asked asking turns written well was is before after (Answers (IsHeapAnswer ids facts) AreLines))
-      × IsAtEnd (asked is) × (asking is ≡ healths.Well) × (well after ≡ healths.Well)
+  pub ok : ended ≡ None → OverParts left old (λ IsAnswer. Came IsAnswer asked asking turns written well was is before after
+      (AnswersLines IsAnswer AreLines)) × IsAtEnd (asked is) × (asking is ≡ healths.Well) × (well after ≡ healths.Well)
   -- the questions could not be read on: all lines that had ended are answered
-  pub questions : (fault : ReadFault) → ended ≡ Some (faults.Dialogue (stops.Questions fault)) → OverHeap left old (λ ids facts.
-      Came (IsHeapAnswer ids facts) asked asking turns written well was is before after (Answers (IsHeapAnswer ids facts) AreEndedLines))
-      × ((asking is ≡ healths.Failed) ⊎ (2 ^ 64 - 1 ≤ turns is)) × (well after ≡ healths.Well)
+  pub questions : (fault : ReadFault) → ended ≡ Some (faults.Dialogue (stops.Questions fault))
+      → OverParts left old (λ IsAnswer. Came IsAnswer asked asking turns written well was is before after
+      (AnswersLines IsAnswer AreEndedLines)) × ((asking is ≡ healths.Failed) ⊎ (2 ^ 64 - 1 ≤ turns is)) × (well after ≡ healths.Well)
   -- the writer failed or stuck: the lines that were taken are answered, of the last answer a front
-  pub write : (fault : WriteFault) → ended ≡ Some (faults.Dialogue (stops.Write fault)) → OverHeap left old (λ ids facts.
-      Came (IsHeapAnswer ids facts) asked asking turns written well was is before after (AnswersSome (IsHeapAnswer ids facts)))
+  pub write : (fault : WriteFault) → ended ≡ Some (faults.Dialogue (stops.Write fault))
+      → OverParts left old (λ IsAnswer. Came IsAnswer asked asking turns written well was is before after (AnswersSome IsAnswer))
       × (asking is ≡ healths.Well) × (well after ≡ health_after fault)
   -- memory was wanted, when all parts were read: so are they
-  pub memory : ended ≡ Some (faults.Dialogue stops.OutOfMemory) → OverHeap left old (λ ids facts.
-      Came (IsHeapAnswer ids facts) asked asking turns written well was is before after (AnswersSome (IsHeapAnswer ids facts)))
+  pub memory : ended ≡ Some (faults.Dialogue stops.OutOfMemory)
+      → OverParts left old (λ IsAnswer. Came IsAnswer asked asking turns written well was is before after (AnswersSome IsAnswer))
       × (asking is ≡ healths.Well) × (well after ≡ healths.Well)
   -- no other answer where the parts state something together, all stay well, nothing hindered reading and no memory was wanted
   pub no_other : (parts : List (List ℕ)) (ids : IdSize) (millis : ℕ) (facts : List FactValue) → Tell left old parts

@@ -1,24 +1,31 @@
 //! Questions about the heap of parts.
 
-ghost use Rattle.std.specs.Prelude.{◌≡◌, ℕ, List, All, IfOk};
+ghost use Rattle.std.specs.Prelude.{◌≡◌, ◌+◌, ◌<◌, ℕ, List, [], All, IfOk, OnErr, OnOk, vec_len, vec_capacity};
 ghost use Rattle.hprof_devices.specs.declared.health.Health.TheVariants.{Well};
 ghost use Rattle.hprof_engine.specs.Joining.{Tell, Agree};
 ghost use Rattle.hprof_heap.specs.Heap.{heap_of};
 ghost use Rattle.hprof_ask.specs.Asks.{Asks, fault_of_asking};
 
 use crate::ask_fault::AskFault;
-use crate::asker::Asker;
-use crate::dialogue::converse;
 use crate::heap_answers::HeapAnswers;
-use crate::passing::Flush;
-use crate::path_answers::Kept;
-use hprof_devices::Source;
-use hprof_engine::read_heap;
+use crate::kept::Kept;
+use hprof_devices::{Flush, Source};
+use hprof_dialogue::{Asker, converse};
+use hprof_engine::{Summaries, ToolFault, read_heap};
 use hprof_heap::{Gatherer, Heap};
-use hprof_stream::Limits;
-use std::alloc::Global;
+use hprof_stream::{Limits, PartSummary};
+use std::alloc::{AllocError, Global};
 
-/// As [`ask_to`], and hands back the heap, so that a program that ends need not free it row by row.
+/// Returns a list with room for the summaries of so many parts. The error is that memory ran out.
+fn room_for_summaries(alloc: Global, parts: usize) -> Result<Vec<PartSummary>, AllocError>
+    ensures empty { IfOk result (λ list. list.items ≡ []) }
+    ensures room { IfOk result (λ list. vec_len list + parts ≡ vec_capacity list) }
+    ensures full { OnErr result (0 < parts) }
+{
+    Vec::with_room(alloc, parts)
+}
+
+/// Does what [`ask_to`] does, and returns the heap: a program that ends need not free it row by row.
 pub fn ask_kept<R: Source, Q: Asker<W>, W: Flush>(
     alloc: Global,
     readers: &mut [R],
@@ -31,31 +38,35 @@ pub fn ask_kept<R: Source, Q: Asker<W>, W: Flush>(
     requires writer { W.health target.old ≡ Well }
     ensures asks { Asks R.left R.health R.pulls Q.left Q.health Q.pulls W.written W.health limits readers.old readers.new
         questions.old questions.new target.old target.new (fault_of_asking result) }
+    ensures flushed { OnOk result (W.flushed target.new) }
 
     // What is handed back is of the parts.
     ensures heap { IfOk result (λ found. (parts : List (List ℕ)) → Tell R.left readers.old parts
         → let heap = heap_of found in Agree parts heap.ids heap.millis heap.facts) }
 {
+    let Ok(mut summaries) = room_for_summaries(alloc, readers.len()) else {
+        return Err(AskFault::Parts(ToolFault::OutOfMemory));
+    };
     let gatherer = Gatherer::new(alloc);
-    let heap = match read_heap(alloc, readers, limits, gatherer, &mut ()) {
+    let heap = match read_heap(alloc, readers, limits, gatherer, &mut summaries) {
         Ok(heap) => heap,
         Err(fault) => return Err(AskFault::Parts(fault)),
     };
+    let answers = HeapAnswers {
+        heap: &heap,
+        summaries: &summaries,
+    };
     let mut kept = Kept::nothing();
-    match converse(
-        alloc,
-        &HeapAnswers { heap: &heap },
-        &mut kept,
-        questions,
-        target,
-    ) {
+    match converse(alloc, &answers, &mut kept, questions, target) {
         Ok(()) => Ok(heap),
         Err(stop) => Err(AskFault::Dialogue(stop)),
     }
 }
 
-/// Reads all parts, and then takes the lines of the questions and answers each over the heap that the parts state together. All
-/// parts are read, or refused, before the first question is read; all answers so far are passed on before more questions are read.
+/// Reads all parts, and then answers each line of the questions over the heap that the parts state together.
+///
+/// All parts are read, or refused, before the first question is read. All answers so far are flushed before more questions are read, and
+/// all of them at the end. If the writer fails or memory runs out, the last answer is cut short.
 pub fn ask_to<R: Source, Q: Asker<W>, W: Flush>(
     alloc: Global,
     readers: &mut [R],
@@ -66,8 +77,9 @@ pub fn ask_to<R: Source, Q: Asker<W>, W: Flush>(
     requires readers { All (λ reader. R.health reader ≡ Well) readers.old }
     requires asking { Q.health questions.old ≡ Well }
     requires writer { W.health target.old ≡ Well }
-    ensures { Asks R.left R.health R.pulls Q.left Q.health Q.pulls W.written W.health limits readers.old readers.new
+    ensures asks { Asks R.left R.health R.pulls Q.left Q.health Q.pulls W.written W.health limits readers.old readers.new
         questions.old questions.new target.old target.new (fault_of_asking result) }
+    ensures flushed { OnOk result (W.flushed target.new) }
 {
     match ask_kept(alloc, readers, questions, target, limits) {
         Ok(_heap) => Ok(()),

@@ -1,12 +1,12 @@
 //! Why asking ended.
 
-use crate::stop::DialogueStop;
+use hprof_dialogue::DialogueStop;
 use hprof_engine::ToolFault;
 
 /// Why a call ended that reads parts and answers questions.
 #[derive(Clone, Copy, Debug, PartialEq, Eq)]
 pub enum AskFault {
-    /// The parts were refused.
+    /// The parts were refused, or memory ran out before any of them was read. No question was read.
     Parts(ToolFault),
     /// The dialogue stopped.
     Dialogue(DialogueStop),

@@ -3,6 +3,7 @@
 ghost use Rattle.std.specs.Prelude.{◌≡◌, ℕ, List};
 ghost use Rattle.hprof_devices.specs.declared.health.Health.TheVariants.{Well};
 ghost use Rattle.hprof_lookup.specs.HeapFacts.{facts_of, size_of};
+ghost use Rattle.hprof_reports.specs.Check.{IsCheck};
 ghost use Rattle.hprof_reports.specs.Stopping.{LeavesTarget, WritesText};
 ghost use Rattle.hprof_ask.specs.HeapAnswers.{IsHeapAnswer, IsReport, IsReportOf, IsWordReport};
 ghost use Rattle.hprof_ask.specs.Kept.{IsKept};
@@ -16,9 +17,6 @@ use hprof_heap::Heap;
 use hprof_reports::{write_check, write_object, write_text};
 use hprof_stream::PartSummary;
 use std::alloc::Global;
-
-/// The lines that `help` answers: one question a line.
-const HELP: &str = "help\ncheck\nhisto\nobject ID\nrefs ID\npath ID\n";
 
 /// A heap that questions are asked of, with what was read of each part.
 #[derive(Clone, Copy)]
@@ -36,7 +34,7 @@ fn write_check_report<W: Target>(
     target: &mut W,
 ) -> Result<(), WriteStop>
     requires { W.health target.old ≡ Well }
-    ensures bytes { (report : List ℕ) × IsWordReport summaries.now (size_of heap.now) (facts_of heap.now) OneWord.Check report
+    ensures bytes { (report : List ℕ) × IsCheck summaries.now (facts_of heap.now) report
         × WritesText (W.written target.old) (W.written target.new) result report }
     ensures health { LeavesTarget result (W.health target.new) }
 {
@@ -63,7 +61,9 @@ fn write_word_report<W: Target>(
     ensures kept { IsKept (size_of answers.now.heap.now) (facts_of answers.now.heap.now) kept.new }
 {
     match word {
-        OneWord::Help => write_text(HELP, target),
+        OneWord::Help => {
+            write_text("help\ncheck\nhisto\nobject ID\nrefs ID\npath ID\n", target)
+        }
         OneWord::Check => write_check_report(answers.heap, answers.summaries, target),
         OneWord::Histogram => write_kept_histogram(alloc, answers.heap, kept, target),
     }
@@ -142,7 +142,8 @@ fn write_answer<W: Target>(
 }
 
 impl<'a> Answers for HeapAnswers<'a> {
-    ghost use Rattle.hprof_ask.specs.OneHeapAnswer.{one_heap_answer, some_heap_answer};
+    ghost use Rattle.hprof_ask.specs.OneHeapAnswer.{one_heap_answer};
+    ghost use Rattle.hprof_ask.specs.SomeHeapAnswer.{some_heap_answer};
 
     ghost is_answer = { λ answers. IsHeapAnswer answers.summaries.now (size_of answers.heap.now) (facts_of answers.heap.now) };
 
@@ -166,7 +167,7 @@ impl<'a> Answers for HeapAnswers<'a> {
         }
     }
 
-    ghost some_answer = { λ answers question. ? };
+    ghost some_answer = { λ answers. some_heap_answer answers.summaries.now answers.heap.now };
 
     ghost one_answer = { λ answers. one_heap_answer answers.summaries.now (size_of answers.heap.now) (facts_of answers.heap.now) };
 }

@@ -21,7 +21,7 @@ pub struct Kept {
 impl Kept {
     ghost use Rattle.hprof_ask.specs.Kept.{IsKept};
 
-    /// Keeps nothing.
+    /// Returns what is kept before the first question: nothing.
     pub fn nothing() -> Self
         ensures { (ids : IdSize) (facts : List FactValue) → IsKept ids facts result }
     {

@@ -5,6 +5,7 @@ mod ask;
 mod ask_fault;
 mod heap_answers;
 mod kept;
+pub mod laws;
 mod reports;
 
 pub use ask::{ask_kept, ask_to};

@@ -1,6 +1,6 @@
 //! The reports that are written from what is kept.
 
-ghost use Rattle.std.specs.Prelude.{◌≡◌, ℕ, List, OnOk, IsSome};
+ghost use Rattle.std.specs.Prelude.{◌≡◌, ℕ, List, IfOk, OnOk, IsSome};
 ghost use Rattle.hprof_devices.specs.declared.health.Health.TheVariants.{Well};
 ghost use Rattle.hprof_lookup.specs.HeapFacts.{facts_of, size_of};
 ghost use Rattle.hprof_reports.specs.HistogramText.{IsHistogramText};
@@ -43,6 +43,66 @@ fn keep_referrers(alloc: Global, heap: &Heap, kept: &mut Kept) -> Result<(), All
         kept.referrers = Some(index);
     }
     Ok(())
+}
+
+/// Returns the text of the report `histo`. The error is that memory ran out.
+fn histogram_text(alloc: Global, heap: &Heap) -> Result<Vec<u8>, AllocError>
+    ensures { IfOk result (λ text. IsHistogramText (size_of heap.now) (facts_of heap.now) text.items) }
+{
+    let mut target = Device::new(Vec::new(alloc));
+    match write_histogram(alloc, heap, &mut target) {
+        Ok(()) => Ok(target.into_inner()),
+        // A list fails to take a byte only where memory runs out.
+        Err(_) => Err(AllocError),
+    }
+}
+
+/// Makes the text of the report `histo`, if it is not kept yet. If memory runs out, nothing has changed.
+fn keep_histogram(alloc: Global, heap: &Heap, kept: &mut Kept) -> Result<(), AllocError>
+    requires { IsKept (size_of heap.now) (facts_of heap.now) kept.old }
+    ensures some { OnOk result (IsSome kept.new.histogram) }
+    ensures kept { IsKept (size_of heap.now) (facts_of heap.now) kept.new }
+{
+    if kept.histogram.is_none() {
+        let text = histogram_text(alloc, heap)?;
+        kept.histogram = Some(text);
+    }
+    Ok(())
+}
+
+/// Writes bytes. If the writer fails, the bytes written are the beginning of them.
+fn write_bytes<W: Target>(bytes: &[u8], target: &mut W) -> Result<(), WriteStop>
+    requires { W.health target.old ≡ Well }
+    ensures bytes { WritesText (W.written target.old) (W.written target.new) result bytes.now }
+    ensures health { LeavesTarget result (W.health target.new) }
+{
+    match push_all(bytes, target) {
+        Ok(()) => Ok(()),
+        Err(fault) => Err(WriteStop::Write(fault)),
+    }
+}
+
+/// Writes the report `histo` from the text that is kept, or is made now. Where it stops some of it was written, from the front.
+pub(crate) fn write_kept_histogram<W: Target>(
+    alloc: Global,
+    heap: &Heap,
+    kept: &mut Kept,
+    target: &mut W,
+) -> Result<(), WriteStop>
+    requires well { W.health target.old ≡ Well }
+    requires kept { IsKept (size_of heap.now) (facts_of heap.now) kept.old }
+    ensures bytes { (text : List ℕ) × IsHistogramText (size_of heap.now) (facts_of heap.now) text
+        × WritesText (W.written target.old) (W.written target.new) result text }
+    ensures health { LeavesTarget result (W.health target.new) }
+    ensures kept { IsKept (size_of heap.now) (facts_of heap.now) kept.new }
+{
+    holds_of_heap(heap);
+    keep_histogram(alloc, heap, kept)?;
+    match &kept.histogram {
+        Some(text) => write_bytes(text, target),
+        // It was made.
+        None => unreachable!(),
+    }
 }
 
 /// Writes the report `path` on an identifier from the search that is kept, or is made now. Where it stops some of it was written, from
@@ -88,10 +148,12 @@ pub(crate) fn write_kept_refs<W: Target>(
 {
     holds_of_heap(heap);
     keep_referrers(alloc, heap, kept)?;
-    let Some(index) = &kept.referrers else {
+    match &kept.referrers {
+        Some(index) => {
+            let edges = index.referrers(alloc, heap, id)?;
+            write_refs(alloc, heap, &edges, target)
+        }
         // It was made.
-        unreachable!();
-    };
-    let edges = index.referrers(alloc, heap, id)?;
-    write_refs(alloc, heap, &edges, target)
+        None => unreachable!(),
+    }
 }

@@ -1,0 +1,31 @@
+//! Laws of the definitions. None of these functions does anything. That a line asks one thing, and that bytes have one list of lines, are
+//! laws of hprof_dialogue.
+
+ghost use Rattle.std.specs.Prelude.{◌≡◌, ◌↔◌, ◌++◌, ℕ, List};
+ghost use Rattle.hprof_values.specs.declared.ids.IdSize.{IdSize};
+ghost use Rattle.hprof_items.specs.FactValue.{FactValue};
+ghost use Rattle.hprof_stream.specs.declared.summary.PartSummary.{PartSummary};
+ghost use Rattle.hprof_rows.specs.Conflict.{IsConsistent};
+ghost use Rattle.hprof_dialogue.specs.Answering.{AreAnswers};
+ghost use Rattle.hprof_ask.specs.HeapAnswers.{IsHeapAnswer};
+ghost use Rattle.hprof_ask.specs.PartsAnswers.{AreAnswersOfParts};
+
+/// The answers to lines over one heap are one text, and there is one if the facts of the heap agree. To ask two lists of lines one after
+/// the other is to ask them together: no answer depends on what was asked before.
+pub fn answers_over_a_heap_are_one_text()
+    ensures some { (summaries : List PartSummary) (ids : IdSize) (facts : List FactValue) (lines : List (List ℕ)) → IsConsistent facts
+        → (text : List ℕ) × AreAnswers (IsHeapAnswer summaries ids facts) lines text }
+    ensures one { (summaries : List PartSummary) (ids : IdSize) (facts : List FactValue) (lines : List (List ℕ)) (one other : List ℕ)
+        → AreAnswers (IsHeapAnswer summaries ids facts) lines one → AreAnswers (IsHeapAnswer summaries ids facts) lines other
+        → one ≡ other }
+    ensures together { (summaries : List PartSummary) (ids : IdSize) (facts : List FactValue) (lines more : List (List ℕ)) (text : List ℕ)
+        → AreAnswers (IsHeapAnswer summaries ids facts) (lines ++ more) text
+        ↔ ((first : List ℕ) × (then : List ℕ) × AreAnswers (IsHeapAnswer summaries ids facts) lines first
+        × AreAnswers (IsHeapAnswer summaries ids facts) more then × (text ≡ first ++ then)) }
+{}
+
+/// The answers to lines over the heap of parts are one text: they depend on the lines and the parts alone.
+pub fn answers_over_parts_are_one_text()
+    ensures { (lines parts : List (List ℕ)) (one other : List ℕ) → AreAnswersOfParts lines parts one → AreAnswersOfParts lines parts other
+        → one ≡ other }
+{}
