@@ -1,4 +1,4 @@
--- What holds of a heap that is gone over as a graph; no public contract speaks of it.
+-- What holds of a heap that is gone over as a graph.
 use Rattle.std.specs.Prelude.{◌↔◌, ℕ, List, Contains}
 use Rattle.hprof_lookup.specs.HeapFacts.{facts_of, size_of}
 use Rattle.hprof_known_layouts.specs.Known.{Knows}

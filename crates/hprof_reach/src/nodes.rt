@@ -83,7 +83,7 @@ pub(crate) fn class_nodes(alloc: Global, heap: &Heap) -> Result<Vec<u64>, AllocE
     Ok(nodes)
 }
 
-/// All nodes of a heap, in ascending order. The error is that memory was refused.
+/// Returns all nodes of a heap, in ascending order. The error is that memory ran out.
 pub fn nodes_of(alloc: Global, heap: &Heap) -> Result<Vec<u64>, AllocError>
     ensures ascend { IfOk result (λ nodes. IsStrictlyIncreasing nodes.items) }
     ensures all { IfOk result (λ nodes. (node : ℕ) → Contains nodes.items node ↔ IsNode (facts_of heap.now) node) }
