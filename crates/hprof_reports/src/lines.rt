@@ -14,7 +14,7 @@ use hprof_heap::Heap;
 use std::alloc::{AllocError, Global};
 
 /// Writes a text. If the writer fails, the bytes written are the beginning of it.
-pub(crate) fn write_text<W: Target>(text: &str, target: &mut W) -> Result<(), WriteStop>
+pub fn write_text<W: Target>(text: &str, target: &mut W) -> Result<(), WriteStop>
     requires { W.health target.old ≡ Well }
     ensures bytes { WritesText (W.written target.old) (W.written target.new) result text.now }
     ensures health { LeavesTarget result (W.health target.new) }

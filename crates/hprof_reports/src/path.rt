@@ -45,9 +45,10 @@ fn write_nodes<W: Target>(alloc: Global, nodes: &[u64], target: &mut W) -> Resul
     Ok(())
 }
 
-/// Writes what is told of an identifier: its distance, and then each node of its path, or that no root leads there. Where it
-/// stops some of that was written, from the front.
-fn write_reached<W: Target>(
+/// Writes the report `path` on an identifier from a search that was made before: its distance from the GC roots, then a line for
+/// each node of the shortest path, or that no root reaches it. If the writer fails or memory runs out, the bytes written are the
+/// beginning of the report.
+pub fn write_reached<W: Target>(
     alloc: Global,
     reach: &Reach,
     id: u64,

@@ -20,7 +20,7 @@ returns-in-Ok-converse-clause-asks g c =
     asks g.R.Source.left g.R.Source.health g.R.Source.pulls g.Q.Asker.left g.Q.Asker.health g.Q.Asker.pulls g.W.Target.written
     g.W.Target.health c.args.limits c.args.readers.now c.read_heap.new.readers c.args.questions.now c.args.target.now
     (heap_of c.in-Ok-read_heap.heap) e.ok c.deref.result.now (λ parts told. subst (AreSummaries parts)
-        (sym e.told.held ∙ sym c.deref.ensures.value) (summaries_held g.R.Source.left _ c.args.readers.now _ e.told parts told))
+    (sym e.told.held ∙ sym c.deref.ensures.value) (summaries_held g.R.Source.left _ c.args.readers.now _ e.told parts told))
     e.reads c.converse.new.questions c.converse.new.target (Ok c.in-Ok-converse.field-0) c.in-Ok-converse.ensures.dialogue
 
 pub returns-clause-asks : goal.returns-clause-asks
@@ -30,5 +30,5 @@ returns-clause-asks g c =
     asks g.R.Source.left g.R.Source.health g.R.Source.pulls g.Q.Asker.left g.Q.Asker.health g.Q.Asker.pulls g.W.Target.written
     g.W.Target.health c.args.limits c.args.readers.now c.read_heap.new.readers c.args.questions.now c.args.target.now
     (heap_of c.in-Ok-read_heap.heap) e.ok c.deref.result.now (λ parts told. subst (AreSummaries parts)
-        (sym e.told.held ∙ sym c.deref.ensures.value) (summaries_held g.R.Source.left _ c.args.readers.now _ e.told parts told))
+    (sym e.told.held ∙ sym c.deref.ensures.value) (summaries_held g.R.Source.left _ c.args.readers.now _ e.told parts told))
     e.reads c.converse.new.questions c.converse.new.target (Err c.in-Err-converse.stop) c.in-Err-converse.ensures.dialogue
