@@ -1,6 +1,6 @@
 -- The report `check` of any parts and facts is there: names are counted whose bytes are not modified UTF-8.
 use Rattle.std.specs.Prelude.{if◌then◌else◌}
-use Rattle.std.proofs.Common.{◌≡◌, ◌⊎◌, ℕ, ◌+◌, Bool, true, false, List, [], ◌∷◌, ◌++◌, get_or, refl, sym, ap, ◌∙◌, inl, inr}
+use Rattle.std.proofs.Common.{◌≡◌, ◌⊎◌, ℕ, ◌+◌, Bool, true, false, List, [], ◌∷◌, ◌++◌, get_or, refl, sym, ap, ◌∙◌, inl, inr, arith}
 use Rattle.std.specs.List.{flat_map}
 use Rattle.std.proofs.lemmas.Bool.Decides.{eqb_tells}
 use Rattle.hprof_text.specs.ModifiedUtf8.{HasUnits}
@@ -20,7 +20,7 @@ unit_begins : (unit : ℕ) (rest : List ℕ) (plain : Bool) → is_plain unit �
     → get_or ((if plain then unit ∷ [] else escaped_unit unit) ++ rest) 0 0 ≡ 92
     → get_or ((if plain then unit ∷ [] else escaped_unit unit) ++ rest) 1 0 ≡ 120 → ⊥
 unit_begins unit rest true e first second = let no : is_plain unit ≡ false = ap is_plain first in cc
-unit_begins unit rest false e first second = cc
+unit_begins unit rest false e first second = let no : 117 ≡ 120 = second in omega (arith, no)
 
 -- nor do units
 units_begin : (units : List ℕ) → get_or (flat_map printed_unit units) 0 0 ≡ 92 → get_or (flat_map printed_unit units) 1 0 ≡ 120 → ⊥

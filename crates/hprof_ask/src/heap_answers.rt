@@ -61,9 +61,7 @@ fn write_word_report<W: Target>(
     ensures kept { IsKept (size_of answers.now.heap.now) (facts_of answers.now.heap.now) kept.new }
 {
     match word {
-        OneWord::Help => {
-            write_text("help\ncheck\nhisto\nobject ID\nrefs ID\npath ID\n", target)
-        }
+        OneWord::Help => { write_text("help\ncheck\nhisto\nobject ID\nrefs ID\npath ID\n", target) }
         OneWord::Check => write_check_report(answers.heap, answers.summaries, target),
         OneWord::Histogram => write_kept_histogram(alloc, answers.heap, kept, target),
     }

@@ -1,5 +1,7 @@
-use Rattle.std.proofs.Common.{Ok, Err}
+use Rattle.std.proofs.Common.{Ok, Err, sym, subst, ◌∙◌}
 use Rattle.hprof_heap.specs.Heap.{heap_of}
+use Rattle.hprof_engine.specs.Summaries.{AreSummaries}
+use Rattle.hprof_engine.proofs.Answers.{summaries_held}
 use Rattle.hprof_lookup.specs.HeapFacts.{facts_of, size_of}
 use Rattle.hprof_ask.proofs.Asking.{asks, refuses}
 use Rattle.hprof_ask.proofs.ask.ask_kept.Goals as goal
@@ -9,22 +11,24 @@ returns-in-Err-clause-asks g c =
     let e = c.in-Err.ensures in
     refuses g.R.Source.left g.R.Source.health g.R.Source.pulls g.Q.Asker.left g.Q.Asker.health g.Q.Asker.pulls g.W.Target.written
     g.W.Target.health c.args.limits c.args.readers.now c.read_heap.new.readers c.args.questions.now c.args.target.now c.in-Err.fault
-    e.reads e.no_other
+    e.kind e.reads e.no_other
 
 pub returns-in-Ok-converse-clause-asks : goal.returns-in-Ok-converse-clause-asks
 unfolding facts_of size_of
 returns-in-Ok-converse-clause-asks g c =
-    let e = c.in-Ok.ensures in
+    let e = c.in-Ok-read_heap.ensures in
     asks g.R.Source.left g.R.Source.health g.R.Source.pulls g.Q.Asker.left g.Q.Asker.health g.Q.Asker.pulls g.W.Target.written
     g.W.Target.health c.args.limits c.args.readers.now c.read_heap.new.readers c.args.questions.now c.args.target.now
-    (heap_of c.in-Ok.heap) e.ok e.reads c.converse.new.questions c.converse.new.target (Ok c.in-Ok-converse.field-0)
-    c.in-Ok-converse.ensures.dialogue
+    (heap_of c.in-Ok-read_heap.heap) e.ok c.deref.result.now (λ parts told. subst (AreSummaries parts)
+    (sym e.told.held ∙ sym c.deref.ensures.value) (summaries_held g.R.Source.left _ c.args.readers.now _ e.told parts told))
+    e.reads c.converse.new.questions c.converse.new.target (Ok c.in-Ok-converse.field-0) c.in-Ok-converse.ensures.dialogue
 
-pub returns-in-Err-converse-clause-asks : goal.returns-in-Err-converse-clause-asks
+pub returns-clause-asks : goal.returns-clause-asks
 unfolding facts_of size_of
-returns-in-Err-converse-clause-asks g c =
-    let e = c.in-Ok.ensures in
+returns-clause-asks g c =
+    let e = c.in-Ok-read_heap.ensures in
     asks g.R.Source.left g.R.Source.health g.R.Source.pulls g.Q.Asker.left g.Q.Asker.health g.Q.Asker.pulls g.W.Target.written
     g.W.Target.health c.args.limits c.args.readers.now c.read_heap.new.readers c.args.questions.now c.args.target.now
-    (heap_of c.in-Ok.heap) e.ok e.reads c.converse.new.questions c.converse.new.target (Err c.in-Err-converse.stop)
-    c.in-Err-converse.ensures.dialogue
+    (heap_of c.in-Ok-read_heap.heap) e.ok c.deref.result.now (λ parts told. subst (AreSummaries parts)
+    (sym e.told.held ∙ sym c.deref.ensures.value) (summaries_held g.R.Source.left _ c.args.readers.now _ e.told parts told))
+    e.reads c.converse.new.questions c.converse.new.target (Err c.in-Err-converse.stop) c.in-Err-converse.ensures.dialogue
