@@ -49,7 +49,7 @@ module _ {R Q W : Type 0} (left : R → Option (List ℕ)) (health : R → Healt
       read_out = λ k below. absurd (omega (arith, below));
     };
     refused = λ fault e. (refl, refl);
-    room = λ e. (some, refl);
+    kind = λ fault e. let wanted : fault ≡ tool.OutOfMemory = cc in inr (wanted, some, refl);
     ok = λ e. absurd cc;
     questions = λ fault e. absurd cc;
     write = λ fault e. absurd cc;
@@ -66,7 +66,7 @@ module _ {R Q W : Type 0} (left : R → Option (List ℕ)) (health : R → Healt
   refuses fault kind reads no_other = record {
     reads = reads;
     refused = λ other e. (refl, refl);
-    room = λ e. let wanted : fault ≡ tool.OutOfMemory = cc in absurd (subst (λ (f : ToolFault). IsOfReading (Some f)) wanted kind);
+    kind = λ other e. let one : fault ≡ other = cc in inl (subst (λ (f : ToolFault). IsOfReading (Some f)) one kind);
     ok = λ e. absurd cc;
     questions = λ other e. absurd cc;
     write = λ other e. absurd cc;
@@ -90,7 +90,7 @@ module _ {R Q W : Type 0} (left : R → Option (List ℕ)) (health : R → Healt
     asks (Ok done) ends = record {
       reads = reads;
       refused = λ other e. absurd cc;
-      room = λ e. absurd cc;
+      kind = λ other e. absurd cc;
       ok = λ e. (record { heap = heap; agree = agree; summaries = summaries; of_parts = of_parts; holds = ends.0 }, ends.1, ends.2, ends.3);
       questions = λ other e. absurd cc;
       write = λ other e. absurd cc;
@@ -100,7 +100,7 @@ module _ {R Q W : Type 0} (left : R → Option (List ℕ)) (health : R → Healt
     asks (Err (stops.Questions fault)) ends = record {
       reads = reads;
       refused = λ other e. absurd cc;
-      room = λ e. absurd cc;
+      kind = λ other e. absurd cc;
       ok = λ e. absurd cc;
       questions = λ other e. (record { heap = heap; agree = agree; summaries = summaries; of_parts = of_parts; holds = ends.0 }, ends.1, ends.2);
       write = λ other e. absurd cc;
@@ -113,7 +113,7 @@ module _ {R Q W : Type 0} (left : R → Option (List ℕ)) (health : R → Healt
     asks (Err (stops.Write fault)) ends = record {
       reads = reads;
       refused = λ other e. absurd cc;
-      room = λ e. absurd cc;
+      kind = λ other e. absurd cc;
       ok = λ e. absurd cc;
       questions = λ other e. absurd cc;
       write = λ other e.
@@ -129,7 +129,7 @@ module _ {R Q W : Type 0} (left : R → Option (List ℕ)) (health : R → Healt
     asks (Err stops.OutOfMemory) ends = record {
       reads = reads;
       refused = λ other e. absurd cc;
-      room = λ e. absurd cc;
+      kind = λ other e. absurd cc;
       ok = λ e. absurd cc;
       questions = λ other e. absurd cc;
       write = λ other e. absurd cc;

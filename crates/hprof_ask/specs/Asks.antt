@@ -14,7 +14,7 @@ use Rattle.hprof_rows.specs.HeapValue.{HeapValue}
 use Rattle.hprof_heap.specs.State.{IsState}
 use Rattle.hprof_engine.specs.declared.tool_fault.ToolFault.{ToolFault}
 use Rattle.hprof_engine.specs.declared.tool_fault.ToolFault.TheVariants as tool
-use Rattle.hprof_engine.specs.Joining.{Tell, Agree, IsHindered, IsOkOrConflict}
+use Rattle.hprof_engine.specs.Joining.{Tell, Agree, IsHindered, IsOfReading, IsOkOrConflict}
 use Rattle.hprof_engine.specs.Makes.{Reads}
 use Rattle.hprof_engine.specs.Summaries.{AreSummaries}
 use Rattle.hprof_dialogue.specs.declared.question.Question.{Question}
@@ -67,8 +67,9 @@ pub record Asks {R Q W : Type 0} (left : R → Option (List ℕ)) (health : R �
   pub reads : Reads left health pulls limits old new (fault_of_parts ended)
   -- where they are refused, nothing was read of the questions, and nothing was written
   pub refused : (fault : ToolFault) → ended ≡ Some (faults.Parts fault) → (is ≡ was) × (after ≡ before)
-  -- memory was wanted for what is read of each part, of which there are some: nothing was read
-  pub room : ended ≡ Some (faults.Parts tool.OutOfMemory) → (0 < length old) × (new ≡ old)
+  -- parts are refused for a fault of reading, or no memory was left for the summaries of parts, of which there are some: nothing was read
+  pub kind : (fault : ToolFault) → ended ≡ Some (faults.Parts fault)
+      → IsOfReading (Some fault) ⊎ ((fault ≡ tool.OutOfMemory) × (0 < length old) × (new ≡ old))
   -- Ok: all lines are answered, and all are well
   pub ok : ended ≡ None → OverParts left old (λ IsAnswer. Came IsAnswer asked asking turns written well was is before after
       (AnswersLines IsAnswer AreLines)) × IsAtEnd (asked is) × (asking is ≡ healths.Well) × (well after ≡ healths.Well)
