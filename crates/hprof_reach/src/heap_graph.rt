@@ -8,7 +8,7 @@ use hprof_search::{Graph, Numbered};
 use std::alloc::AllocError;
 use std::mem::swap;
 
-/// The edges of a heap, with what is used again for each node.
+/// The edges of a heap, with data that is used again for each node.
 #[derive(Drop)]
 pub(crate) struct HeapGraph<'h> {
     pub(crate) heap: &'h Heap,
@@ -16,7 +16,7 @@ pub(crate) struct HeapGraph<'h> {
     pub(crate) known: KnownLayouts,
     /// The nodes that have a class dump, so that none is looked up for the others.
     pub(crate) classes: Numbered,
-    /// Where the last dumps were found.
+    /// The places where the last dumps were found.
     pub(crate) near: Near,
     pub(crate) references: Vec<Reference>,
     pub(crate) targets: Targets,

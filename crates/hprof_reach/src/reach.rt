@@ -1,4 +1,4 @@
-//! How objects are reached.
+//! Distances and paths from GC roots.
 
 ghost use Rattle.std.specs.Prelude.{ℕ, List, IfOk};
 ghost use Rattle.std.specs.Option.{option_map};
@@ -18,7 +18,7 @@ use hprof_known_layouts::known_layouts;
 use hprof_search::{Numbered, Search, search};
 use std::alloc::{AllocError, Global};
 
-/// How the classes and objects of a heap are reached from its GC roots: distances and paths.
+/// The distances of the classes and objects of a heap from its GC roots, and the paths to them.
 #[derive(Drop)]
 pub struct Reach {
     search: Search,

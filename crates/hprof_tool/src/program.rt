@@ -1,4 +1,4 @@
-//! The program: what its words ask for, over files and standard streams that the caller passes.
+//! The program: the task that its words ask for, over files and standard streams that the caller passes.
 
 ghost use Rattle.std.specs.Prelude.{◌≡◌, ◌≢◌, ℕ, List, Some, IfOk, IfErr};
 ghost use Rattle.std.specs.Io.KnownBytes.{Appends};
@@ -52,7 +52,7 @@ fn join_input<I: Read + Drop, O: Write + Drop, E: Write>(
     answer_stream(alloc, join_stream(alloc, input, output), errors)
 }
 
-/// Writes what is made of parts in files to a new file.
+/// Writes the product of parts in files to a new file.
 fn write_new_file<P: Product, F: Folder, E: Write>(
     alloc: Global,
     files: &F,
@@ -68,8 +68,8 @@ fn write_new_file<P: Product, F: Folder, E: Write>(
     answer_outcome(alloc, write_file(alloc, files, product, out, names), errors)
 }
 
-/// Saves what can be saved of parts in files in a new file, which it gives back, and then tells the faults of the parts on
-/// `output`. If a fault cannot be told, the new file stays: what was saved is whole.
+/// Salvages parts in files to a new file, which it gives back, and then tells the faults of the parts on `output`. If a fault cannot be
+/// told, the new file stays: it is whole.
 fn salvage_and_tell<F: Folder, O: Write>(
     alloc: Global,
     files: &F,
@@ -91,7 +91,7 @@ fn salvage_and_tell<F: Folder, O: Write>(
     }
 }
 
-/// Saves what can be saved of parts in files in a new file, and tells the faults of the parts on `output`, one a line.
+/// Salvages parts in files to a new file, and tells the faults of the parts on `output`, one a line.
 fn salvage<F: Folder, O: Write, E: Write>(
     alloc: Global,
     files: &F,
@@ -138,7 +138,7 @@ fn report<P: Product, F: Folder, O: Write + Drop, E: Write>(
     )
 }
 
-/// Makes what is asked for of parts in files, in a new file.
+/// Writes the dump that is asked for of parts in files to a new file.
 fn write_dump<F: Folder, E: Write>(
     alloc: Global,
     files: &F,
@@ -190,12 +190,12 @@ fn ask<F: Folder, O: Write + Drop, E: Write>(
     }
 }
 
-/// The words as a list.
+/// Returns the words as a list.
 fn list_of(alloc: Global, words: io::Result<Args>) -> io::Result<Vec<String>> {
     Ok(words?.collect(alloc)?)
 }
 
-/// Does what a task asks for. It gives `output` back, which is gone where there was no memory for the buffer before it.
+/// Does what a task asks for. It gives `output` back, unless there was no memory for the buffer before it.
 fn perform<F: Folder, I: Read + Drop, O: Write + Drop, E: Write>(
     alloc: Global,
     files: &F,
@@ -236,10 +236,13 @@ fn perform<F: Folder, I: Read + Drop, O: Write + Drop, E: Write>(
     }
 }
 
-/// Does what the words ask for: without a word behind the program's name it joins the part on `input` to `output`;
-/// `join OUT PART..` and `join101 OUT PART..` join parts in files to a new file; `salvage OUT PART..` saves in a new file what
-/// can be saved of parts in files, and tells their faults on `output`; `check PART..`, `histo PART..`, `object ID PART..`,
-/// `path ID PART..` and `refs ID PART..` write a report on parts in files to `output`. Refusals are told on `errors`.
+/// Does what the words ask for. Refusals are told on `errors`.
+///
+/// - Without a word behind the program's name, it joins the part on `input` to `output`.
+/// - `join OUT PART..` and `join101 OUT PART..` join parts in files to a new file.
+/// - `salvage OUT PART..` salvages parts in files to a new file, and tells their faults on `output`.
+/// - `check PART..`, `histo PART..`, `object ID PART..`, `path ID PART..` and `refs ID PART..` write a report on parts in files to
+///   `output`.
 pub fn run<F: Files, I: Read + Drop, O: Write + Drop, E: Write>(
     alloc: Global,
     files: &F,
