@@ -1,4 +1,4 @@
-//! Reads a part into a heap that keeps its references, and prints what refers to an object.
+//! Reads a part into a heap that keeps its references, and prints the referrers of an object.
 #![tactic(auto)]
 
 use hprof_devices::Device;

@@ -22,7 +22,7 @@ pub struct Device<T> {
 impl<T> Device<T> {
     ghost use Rattle.hprof_devices.specs.Device.{inner_of, health_of, pulls_of};
 
-    /// A device that is well, with no pull made.
+    /// Returns a device that is well, with no pull made.
     pub fn new(inner: T) -> Self
         ensures inner { inner_of result ≡ inner }
         ensures health { health_of result ≡ Well }
@@ -35,21 +35,21 @@ impl<T> Device<T> {
         }
     }
 
-    /// How the reader or writer is doing.
+    /// Returns the health of the reader or writer.
     pub fn health(&self) -> Health
         ensures { result ≡ health_of self.now }
     {
         self.health
     }
 
-    /// How many pulls were made. It stays at the greatest number.
+    /// Returns the number of pulls that were made. It stays at the greatest number.
     pub fn pulls(&self) -> u64
         ensures { result ≡ pulls_of self.now }
     {
         self.pulls
     }
 
-    /// The reader or writer itself.
+    /// Returns the reader or writer itself.
     pub fn into_inner(self) -> T
         ensures { result ≡ inner_of self }
     {
@@ -57,7 +57,7 @@ impl<T> Device<T> {
     }
 }
 
-/// What std's answer to a read comes to: the device's own answer, and the health in which it leaves a device.
+/// Turns std's answer to a read into the device's own answer, and the health in which it leaves a device.
 fn end_of_read(answer: io::Result<usize>) -> (Result<usize, ReadFault>, Health)
     ensures { EndsRead answer result.0 result.1 }
 {
@@ -67,7 +67,7 @@ fn end_of_read(answer: io::Result<usize>) -> (Result<usize, ReadFault>, Health)
     }
 }
 
-/// What std's answer to a write comes to, of a piece of that length.
+/// Turns std's answer to a write of a piece of that length into the device's own answer, and the health in which it leaves a device.
 pub(crate) fn end_of_write(
     answer: io::Result<usize>,
     length: usize,

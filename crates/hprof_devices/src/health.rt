@@ -1,7 +1,6 @@
-//! How a reader or a writer is doing.
+//! The health of a reader or a writer.
 
-/// The health of a reader or a writer. From `Well` a fault comes exactly where a call ends in the health of the
-/// fault's name.
+/// The health of a reader or a writer. From `Well` a fault comes exactly if a call ends in the health of the fault's name.
 #[derive(Clone, Copy, Debug, PartialEq, Eq)]
 pub enum Health {
     /// It has answered no fault.
@@ -12,14 +11,14 @@ pub enum Health {
     Stuck,
 }
 
-/// Why a read came to nothing.
+/// The reason why a read came to nothing.
 #[derive(Clone, Copy, Debug, PartialEq, Eq)]
 pub enum ReadFault {
     /// The reader answered an error.
     Failed,
 }
 
-/// Why bytes could not be written.
+/// The reason why bytes could not be written.
 #[derive(Clone, Copy, Debug, PartialEq, Eq)]
 pub enum WriteFault {
     /// The writer answered an error.

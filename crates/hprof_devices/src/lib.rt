@@ -1,5 +1,5 @@
-//! Where the bytes of heap dumps come from and go to: a source that is pulled, a target that is pushed to, and the
-//! devices that make them of readers and writers. No call of this crate takes memory.
+//! Sources and targets of the bytes of heap dumps: a source that is pulled, a target that is pushed to, and the devices that make them of
+//! readers and writers. No call of this crate takes memory.
 #![tactic(auto)]
 
 mod buffered;

@@ -7,8 +7,7 @@ ghost use Rattle.hprof_devices.specs.Device.{Writes, LeavesHealth};
 use crate::health::WriteFault;
 use crate::target::Target;
 
-/// Pushes all of the bytes: what one push did not take is pushed again. At a fault some of them were written, from the
-/// front.
+/// Pushes all of the bytes: those that one push did not take are pushed again. At a fault some of them were written, from the front.
 pub fn push_all<W: Target>(bytes: &[u8], target: &mut W) -> Result<(), WriteFault>
     requires { W.health target.old ≡ Well }
     ensures bytes { Writes (W.written target.old) (W.written target.new) result bytes.now }

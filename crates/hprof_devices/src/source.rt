@@ -1,4 +1,4 @@
-//! What bytes are read from.
+//! Sources of bytes.
 
 ghost use Rattle.std.specs.Prelude.{◌≡◌, ℕ, ◌+◌, ◌-◌, ◌^◌, ◌<◌, ◌≤◌, min, List, length, take, Option, IfOk, MatchResult};
 ghost use Rattle.std.specs.Io.KnownBytes.{Keeps, Consumes, IsAtEnd};
@@ -19,8 +19,8 @@ pub trait Source {
     // How many pulls were made; it stays at the greatest number.
     ghost pulls: { Self → ℕ };
 
-    /// Moves bytes that come next into the piece's front, and answers how many: 0 only where nothing is left, or
-    /// where the piece is empty.
+    /// Moves the bytes that come next into the front of the piece, and returns their number. It is 0 only if nothing is left, or if the
+    /// piece is empty.
     fn pull(&mut self, piece: &mut [u8]) -> Result<usize, ReadFault>
         requires { health self.old ≡ Well }
         ensures count { IfOk result (λ n. n ≤ length piece.new) }

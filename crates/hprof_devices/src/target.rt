@@ -1,4 +1,4 @@
-//! What bytes are written to.
+//! Targets for bytes.
 
 ghost use Rattle.std.specs.Prelude.{◌≡◌, ℕ, ◌<◌, ◌≤◌, List, length, take, Option, IfOk, MatchResult};
 ghost use Rattle.std.specs.Io.KnownBytes.{Keeps, Appends};
@@ -17,7 +17,7 @@ pub trait Target {
     // How the target is doing.
     ghost health: { Self → Health };
 
-    /// Takes bytes from the piece's front, and answers how many: at least one where there is one.
+    /// Takes bytes from the front of the piece, and returns their number: at least one if there is one.
     fn push(&mut self, piece: &[u8]) -> Result<usize, WriteFault>
         requires { health self.old ≡ Well }
         ensures count { IfOk result (λ n. (n ≤ length piece.now) × (0 < length piece.now → 0 < n)) }

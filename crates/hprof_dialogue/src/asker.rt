@@ -1,11 +1,11 @@
-//! Whoever asks.
+//! Sources of questions.
 
 ghost use Rattle.std.specs.Prelude.{◌≡◌, ℕ, ◌+◌, ◌-◌, ◌^◌, ◌<◌, ◌≤◌, min, List, length, take, Option, IfOk, MatchResult};
 ghost use Rattle.std.specs.Io.KnownBytes.{Keeps, Consumes, IsAtEnd};
 
 use hprof_devices::{Flush, ReadFault, Source};
 
-/// A source of questions, of which none is read before all answers so far were flushed: whoever asks may wait for them.
+/// A source of questions. None is read before all answers so far were flushed, because the asker may wait for them.
 pub trait Asker<W: Flush> {
     ghost use Rattle.hprof_devices.specs.declared.health.Health.{Health};
     ghost use Rattle.hprof_devices.specs.declared.health.Health.TheVariants.{Well, Failed};
@@ -19,7 +19,7 @@ pub trait Asker<W: Flush> {
     // How many pulls were made; it stays at the greatest number.
     ghost pulls: { Self → ℕ };
 
-    /// As `pull` of a source.
+    /// Does what `pull` of a source does.
     fn read_on(&mut self, piece: &mut [u8], answers: &W) -> Result<usize, ReadFault>
         requires well { health self.old ≡ Well }
         requires flushed { W.flushed answers.now }

@@ -13,13 +13,13 @@ use crate::stop::DialogueStop;
 use hprof_devices::{Flush, ReadFault, Target};
 use std::alloc::{AllocError, Global};
 
-/// How many bytes are pulled at a time.
+/// The number of bytes that are pulled at a time.
 const PIECE_LEN: usize = 4096;
 
-/// How many bytes of a line are kept: with a return behind them those of the longest line that is understood are one fewer.
+/// The number of bytes of a line that are kept. The longest line that is understood has one fewer, with a return behind it.
 const KEPT: usize = 4098;
 
-/// What questions are asked of.
+/// A type that answers questions.
 pub trait Answers {
     ghost use Rattle.hprof_dialogue.specs.declared.question.Question.{Question};
     ghost use Rattle.hprof_devices.specs.declared.health.Health.TheVariants.{Well};
@@ -30,10 +30,10 @@ pub trait Answers {
     // What is kept between questions is of this. It is no part of any answer.
     ghost keeps: { Self → Self.Kept → Type 0 };
 
-    /// What is kept between questions.
+    /// The state that is kept between questions.
     type Kept;
 
-    /// Writes the answer to a question. Where it stops, at a fault or for want of memory, some of it was written, from the front.
+    /// Writes the answer to a question. If it stops, at a fault or because memory runs out, some of the answer was written, from the front.
     fn answer<W: Target>(
         &self,
         alloc: Global,
@@ -56,7 +56,7 @@ pub trait Answers {
         → is_answer answers question one → is_answer answers question other → one ≡ other };
 }
 
-/// Keeps one more byte of a line, where there is room for it.
+/// Keeps one more byte of a line, if there is room for it.
 fn keep(line: &mut Vec<u8>, byte: u8)
     requires { KEPT ≤ vec_capacity line.old }
     ensures kept { (rest : List ℕ) → line.old.items ≡ take 4098 rest → line.new.items ≡ take 4098 (rest ++ byte ∷ []) }
@@ -67,7 +67,7 @@ fn keep(line: &mut Vec<u8>, byte: u8)
     }
 }
 
-/// Goes over a piece of the questions: answers each line that ends in it, and keeps the first bytes of what is behind the last.
+/// Goes over a piece of the questions: answers each line that ends in it, and keeps the first bytes behind the last one.
 fn go_over<A: Answers, W: Target>(
     alloc: Global,
     answers: &A,
@@ -96,7 +96,7 @@ fn go_over<A: Answers, W: Target>(
     Ok(())
 }
 
-/// Passes on all that was written.
+/// Passes on all bytes that were written.
 fn flush_all<W: Flush>(target: &mut W) -> Result<(), DialogueStop>
     requires { W.health target.old ≡ Well }
     ensures bytes { Keeps (W.written target.old) (W.written target.new) }
@@ -109,7 +109,7 @@ fn flush_all<W: Flush>(target: &mut W) -> Result<(), DialogueStop>
     }
 }
 
-/// Answers what is behind the last line feed, if that is something.
+/// Answers the bytes behind the last line feed, if there are some.
 fn answer_last<A: Answers, W: Target>(
     alloc: Global,
     answers: &A,
@@ -130,7 +130,7 @@ fn answer_last<A: Answers, W: Target>(
     answers.answer(alloc, kept, last_question(line), target)
 }
 
-/// Answers what is behind the last line feed, if that is something, and passes all on.
+/// Answers the bytes behind the last line feed, if there are some, and passes all on.
 fn finish<A: Answers, W: Flush>(
     alloc: Global,
     answers: &A,
@@ -150,7 +150,7 @@ fn finish<A: Answers, W: Flush>(
     flush_all(target)
 }
 
-/// As [`converse`], with room for a piece of the questions and for a line.
+/// Does what [`converse`] does, with room for a piece of the questions and for a line.
 fn take_lines<A: Answers, Q: Asker<W>, W: Flush>(
     alloc: Global,
     answers: &A,

@@ -21,8 +21,8 @@ pub fn a_line_asks_one_thing()
     ensures one { (line : List ℕ) (one other : Question) → Asks line one → Asks line other → one ≡ other }
 {}
 
-/// The answers to lines are one text, and there is one. To ask two lists of lines one after the other is to ask them together: no answer depends
-/// on what was asked before.
+/// The answers to lines are one text, and there is one. To ask two lists of lines one after the other is to ask them together: no answer
+/// depends on a question before.
 pub fn answers_are_one_text<A: Answers>(answers: &A)
     ensures some { (lines : List (List ℕ)) → (text : List ℕ) × AreAnswers (A.is_answer answers.now) lines text }
     ensures one { (lines : List (List ℕ)) (one other : List ℕ) → AreAnswers (A.is_answer answers.now) lines one

@@ -1,4 +1,4 @@
-//! What a line asks.
+//! The questions of lines.
 
 ghost use Rattle.std.specs.Prelude.{◌≡◌, ◌≢◌, ◌↔◌, ◌++◌, ℕ, List, IsTrue, MatchOption, take, ◌∷◌, []};
 ghost use Rattle.std.specs.Option.{SomeIff};
@@ -14,15 +14,15 @@ pub(crate) const LONGEST_LINE: usize = 4096;
 /// A question of one word.
 #[derive(Clone, Copy, Debug, PartialEq, Eq)]
 pub enum OneWord {
-    /// `help`: what can be asked.
+    /// `help`: the questions that can be asked.
     Help,
-    /// `check`: what was read of each part, and what the heap has.
+    /// `check`: a summary of each part and of the heap.
     Check,
     /// `histo`: the class histogram.
     Histogram,
 }
 
-/// What can be asked of an identifier.
+/// A question about an identifier.
 #[derive(Clone, Copy, Debug, PartialEq, Eq)]
 pub enum Subject {
     /// `object`: the contents of its class and its object.
@@ -33,16 +33,16 @@ pub enum Subject {
     Path,
 }
 
-/// What a line asks.
+/// The question of a line.
 #[derive(Clone, Copy, Debug, PartialEq, Eq)]
 pub enum Question {
     /// The line is empty.
     Nothing,
     /// The line is one word.
     Word(OneWord),
-    /// That of an identifier.
+    /// A question about an identifier.
     Of(Subject, u64),
-    /// Something of a word that is no identifier.
+    /// A question about a word that is no identifier.
     NoIdentifier,
     /// None of these.
     NotUnderstood,
@@ -92,7 +92,7 @@ fn word_behind<'a>(line: &'a [u8], front: &[u8]) -> Option<&'a [u8]>
     if is_word(word) { Some(word) } else { None }
 }
 
-/// Returns what is asked of which word, if the line asks something of one.
+/// Returns the question and its word, if the line asks something about a word.
 fn subject_of(line: &[u8]) -> Option<(Subject, &[u8])>
     ensures { MatchOption result ((subject : Subject) (word : List ℕ) → AsksOf line.now subject word → ⊥)
         (λ it. AsksOf line.now it.0 it.1.now) }
@@ -119,7 +119,7 @@ fn id_of(word: &[u8]) -> Option<u64>
     }
 }
 
-/// Returns what the words of a line ask.
+/// Returns the question that the words of a line ask.
 fn asked(line: &[u8]) -> Question
     ensures { IsQuestion line.now result }
 {
@@ -138,7 +138,7 @@ fn asked(line: &[u8]) -> Question
     }
 }
 
-/// Returns what a line asks. A line of more than 4,096 bytes is not understood.
+/// Returns the question of a line. A line of more than 4,096 bytes is not understood.
 pub fn question_of(line: &[u8]) -> Question
     ensures { Asks line.now result }
 {
@@ -155,7 +155,7 @@ fn before_return(bytes: &[u8]) -> Option<&[u8]>
     bytes.strip_suffix(b"\r")
 }
 
-/// Returns what a line asks that ended with a line feed. Of the bytes before the feed these were kept.
+/// Returns the question of a line that ended with a line feed, of which these bytes before the feed were kept.
 pub(crate) fn ended_question(kept: &[u8]) -> Question
     ensures { (before line : List ℕ) → kept.now ≡ take 4098 before → IsBeforeFeed before line → Asks line result }
 {
@@ -165,7 +165,7 @@ pub(crate) fn ended_question(kept: &[u8]) -> Question
     }
 }
 
-/// Returns what a line asks that did not end. Of its bytes these were kept.
+/// Returns the question of a line that did not end, of which these bytes were kept.
 pub(crate) fn last_question(kept: &[u8]) -> Question
     ensures { (line : List ℕ) → kept.now ≡ take 4098 line → Asks line result }
 {

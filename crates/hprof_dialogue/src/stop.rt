@@ -1,11 +1,11 @@
-//! Why a dialogue stopped.
+//! Reasons why a dialogue stops.
 
 ghost use Rattle.std.specs.Prelude.{◌≡◌};
 
 use hprof_devices::{ReadFault, WriteFault};
 use std::alloc::AllocError;
 
-/// Why a dialogue stopped before the end of the questions.
+/// The reason why a dialogue stopped before the end of the questions.
 #[derive(Clone, Copy, Debug, PartialEq, Eq)]
 pub enum DialogueStop {
     /// The questions could not be read on.

@@ -10,7 +10,7 @@ use hprof_devices::{Target, WriteFault, push_all};
 use hprof_rows::SubRow;
 use hprof_values::IdSize;
 
-/// How many bytes wait at most.
+/// The most bytes that wait.
 const ROOM: usize = 4096;
 
 /// Bytes that wait to be written: those of its room before an end.
@@ -24,7 +24,7 @@ pub struct Batch {
 impl Batch {
     ghost use Rattle.hprof_dump.specs.Batch.{batch_bytes, WritesSome};
 
-    /// None wait.
+    /// Returns a batch in which no bytes wait.
     pub fn empty() -> Self
         ensures { batch_bytes result ≡ [] }
     {
@@ -34,8 +34,8 @@ impl Batch {
         }
     }
 
-    /// Writes those that wait. At a fault some of them were written, from the front, and nothing is told of what waits: the batch is
-    /// let go then.
+    /// Writes those that wait. At a fault some of them were written, from the front, and nothing is told of the bytes that wait: the batch
+    /// is let go then.
     pub fn write<W: Target>(&mut self, target: &mut W) -> Result<(), WriteFault>
         requires { W.health target.old ≡ Well }
         ensures bytes { Writes (W.written target.old) (W.written target.new) result (batch_bytes self.old) }
@@ -47,7 +47,7 @@ impl Batch {
         Ok(())
     }
 
-    /// Puts an object behind those that wait, where there is room for it.
+    /// Puts an object behind those that wait, if there is room for it.
     #[inline(always)]
     fn puts(&mut self, row: SubRow<'_>, ids: IdSize) -> bool
         requires { IsWritable ids row }
@@ -65,8 +65,8 @@ impl Batch {
         }
     }
 
-    /// Takes a sub-record for which there is no room behind those that wait: these are written. It waits where it can, and is written
-    /// else. At a fault some was written, from the front.
+    /// Takes a sub-record for which there is no room behind those that wait: these are written. It waits if it can, and is written
+    /// otherwise. At a fault some was written, from the front.
     #[inline(never)]
     fn take_next<W: Target>(
         &mut self,

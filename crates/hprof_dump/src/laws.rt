@@ -9,7 +9,7 @@ ghost use Rattle.hprof_dump.specs.Dump.{canonical_dump};
 ghost use Rattle.hprof_dump.specs.Segments.{IsPacked, packed};
 
 /// There is one way to divide sub-records among segments that are as full as they can be, whatever their sizes and
-/// the most that a segment of more than one may have: each goes into the segment that was begun last, where it has room.
+/// the most that a segment of more than one may have: each goes into the segment that was begun last, if it has room.
 pub fn sub_records_are_packed_in_one_way()
     ensures once { (size : FactValue → ℕ) (most : ℕ) (subs : List FactValue) (segments others : List (List FactValue))
         → IsPacked size most subs segments → IsPacked size most subs others → segments ≡ others }

@@ -22,7 +22,7 @@ use hprof_writing::write_head;
 /// The most bytes of a segment that has more than one sub-record.
 const MOST_IN_SEGMENT: u64 = 1_048_576;
 
-/// A segment that was counted: how many sub-records it has, how many bytes they have, and the one behind it.
+/// A segment that was counted: the number of its sub-records, the number of their bytes, and the sub-record behind it.
 #[derive(Clone, Copy)]
 struct Segment<'a> {
     count: u64,
@@ -58,7 +58,7 @@ fn count_segment<'a>(first: SubRow<'a>, ahead: &mut SubRows<'a>) -> Segment<'a>
     }
 }
 
-/// Takes the next sub-records into a batch, that many. At a fault some of what waited and of them was written, from the front.
+/// Takes the next sub-records into a batch, that many. At a fault some of the waiting bytes and of them were written, from the front.
 fn take_rows<W: Target>(
     rows: &mut SubRows<'_>,
     count: u64,

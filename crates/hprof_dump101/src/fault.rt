@@ -1,8 +1,8 @@
-//! Why a dump was not written.
+//! Reasons why a dump was not written.
 
 use hprof_devices::WriteFault;
 
-/// Why the 1.0.1 dump of a heap was not written to its end.
+/// The reason why the 1.0.1 dump of a heap was not written to its end.
 #[derive(Clone, Copy, Debug, PartialEq, Eq)]
 pub enum DumpFault {
     /// The sub-records have more bytes than they may. Nothing was written.

@@ -8,7 +8,7 @@ ghost use Rattle.hprof_stream.specs.Part.{IsPart};
 ghost use Rattle.hprof_rows.specs.HeapValue.{IsHeap};
 ghost use Rattle.hprof_dump101.specs.Dump101.{dump101, sub_len};
 
-/// The 1.0.1 dump of a heap is a part, and states the heap's facts, each once, where its sub-records are together no longer
+/// The 1.0.1 dump of a heap is a part, and states the heap's facts, each once, if its sub-records are together no longer
 /// than a record's body may be.
 pub fn dump101_reads_back()
     ensures { (ids : IdSize) (millis : ℕ) (rows : List FactValue) → IsHeap (record { ids = ids; millis = millis; facts = rows })

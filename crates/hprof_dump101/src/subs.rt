@@ -15,7 +15,7 @@ use hprof_heap::Heap;
 use hprof_items::tag;
 use hprof_writing::write_head;
 
-/// How many bytes the heap's sub-records have together; None where they have more than the most.
+/// Returns the number of bytes that the heap's sub-records have together, or `None` if they have more than the most.
 pub(crate) fn count_subs(heap: &Heap, most: u32) -> Option<u32>
     ensures len { MatchOption result (IsTooLong most (heap_of heap.now).ids (heap_of heap.now).facts)
         (λ len. len ≡ sub_len (heap_of heap.now).ids (heap_of heap.now).facts) }
@@ -33,7 +33,7 @@ pub(crate) fn count_subs(heap: &Heap, most: u32) -> Option<u32>
     Some(len as u32)
 }
 
-/// Takes the heap's sub-records into a batch. At a fault some of what waited and of them was written, from the front.
+/// Takes the heap's sub-records into a batch. At a fault some of the waiting bytes and of them were written, from the front.
 fn take_rows<W: Target>(heap: &Heap, batch: &mut Batch, target: &mut W) -> Result<(), WriteFault>
     requires { W.health target.old ≡ Well }
     ensures bytes { WritesSome (W.written target.old) (W.written target.new) result
@@ -60,8 +60,8 @@ fn write_rows<W: Target>(heap: &Heap, target: &mut W) -> Result<(), WriteFault>
     batch.write(target)
 }
 
-/// Writes the heap's sub-records, which have that many bytes, in one heap dump, where there are some. At a fault some of it
-/// was written, from the front.
+/// Writes the heap's sub-records, which have that many bytes, in one heap dump, if there are some. At a fault some of it was written, from
+/// the front.
 pub(crate) fn write_heap_dump<W: Target>(
     heap: &Heap,
     len: u32,

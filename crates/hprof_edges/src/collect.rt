@@ -1,4 +1,4 @@
-//! What edges are put into.
+//! Types that edges are put into.
 
 ghost use Rattle.std.specs.Prelude.{◌≡◌, ◌++◌, ◌∷◌, [], List, Bool, true, false, filter, OnOk};
 ghost use Rattle.hprof_known_layouts.specs.References.{is_wanted};
@@ -21,7 +21,7 @@ pub trait Collect {
     ghost same_kept: { (collects : Self) (one other : List Edge) → filter (keeps collects) one ≡ filter (keeps collects) other
         → holds collects one → holds collects other };
 
-    /// Returns which edges it wants, by what they refer to. Of others it keeps none.
+    /// Returns the edges that it wants, by the identifier that they refer to. Of others it keeps none.
     fn wanted(&self) -> Wanted
         ensures { (edge : Edge) → is_wanted result edge.to ≡ false → keeps self.now edge ≡ false };
 

@@ -1,6 +1,6 @@
 //! A reference from one class or object to another.
 
-/// The kind of a reference: what of the class or object refers. Ordered as they stand here.
+/// The kind of a reference: the part of the class or object that refers. Ordered as they stand here.
 #[derive(Clone, Copy, Debug, PartialEq, Eq, PartialOrd, Ord)]
 pub enum Via {
     /// The class of an instance or of an array of objects.
@@ -28,11 +28,11 @@ pub enum Via {
 pub struct Edge {
     /// The class or object that refers.
     pub from: u64,
-    /// What of it refers.
+    /// The part of it that refers.
     pub via: Via,
     /// The place of the constant, the static field or the element in its list, counted from 0 over all entries; of a
     /// field of an instance the place in the layout of its class. 0 of all others.
     pub position: u64,
-    /// What it refers to. It is not 0.
+    /// The identifier that it refers to. It is not 0.
     pub to: u64,
 }

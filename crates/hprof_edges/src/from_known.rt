@@ -1,4 +1,4 @@
-//! The edges from an identifier, where layouts are known.
+//! The edges from an identifier, if layouts are known.
 
 ghost use Rattle.std.specs.Prelude.{◌≡◌, List, OnOk};
 ghost use Rattle.hprof_lookup.specs.Classes.{HasNoDump};
@@ -62,8 +62,8 @@ fn put_of_known_object<C: Collect>(
 
 /// Puts all edges from an identifier into `into`. `known` has the layouts of the heap's classes.
 ///
-/// Its class dump and its object dump are looked up, near where the last ones were found. `references` is room that is used again. If
-/// memory runs out, nothing holds of `into`.
+/// Its class dump and its object dump are looked up, near the places of the last ones. `references` is room that is used again. If memory
+/// runs out, nothing holds of `into`.
 pub fn known_edges<C: Collect>(
     heap: &Heap,
     known: &KnownLayouts,

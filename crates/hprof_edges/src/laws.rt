@@ -19,7 +19,8 @@ pub fn dumps_give_edges()
         → IsEdge ids facts edge ↔ (GivenByClass facts edge ⊎ GivenByObject ids facts edge) }
 {}
 
-/// Edges are in the order of their numbers: of what refers, of the kind of reference, of its place, and of what it refers to.
+/// Edges are in the order of their numbers: of the identifier that refers, of the kind of reference, of its place, and of the identifier
+/// that it refers to.
 pub fn edges_in_order()
     ensures { (edge other : Edge)
         → ⟦<Edge as Ord>⟧.cmp edge other ≡ slice_cmp nat_cmp (numbers_of_edge edge) (numbers_of_edge other) }

@@ -29,7 +29,7 @@ pub(crate) fn put_edge<C: Collect>(edge: Edge, into: &mut C) -> Result<(), Alloc
     Ok(())
 }
 
-/// What a value of the type that has these bits refers to; 0 where it refers to nothing.
+/// Returns the identifier that a value of the type with these bits refers to; 0 if it refers to nothing.
 fn target_of(basic: Basic, bits: u64) -> u64
     ensures { result ≡ target_of basic bits }
 {
@@ -84,7 +84,7 @@ pub(crate) fn put_statics<C: Collect>(
     Ok(())
 }
 
-/// Whether an identifier of the list is wanted. All are looked at at once.
+/// Returns whether an identifier of the list is wanted. All are looked at at once.
 #[inline(always)]
 fn wants_one(wanted: Wanted, elements: IdList<'_>) -> bool
     ensures { result ≡ false → (to : ℕ) → Contains (identifiers_of elements.entry) to → is_wanted wanted to ≡ false }
@@ -95,8 +95,7 @@ fn wants_one(wanted: Wanted, elements: IdList<'_>) -> bool
     }
 }
 
-/// Puts the edges of an array of objects by its elements, which are looked at one by one. What collects them is given those
-/// that it wants.
+/// Puts the edges of an array of objects by its elements, which are looked at one by one. The collector is given those that it wants.
 fn put_wanted<C: Collect>(array: u64, elements: IdList<'_>, into: &mut C) -> Result<(), AllocError>
     ensures holds { OnOk result ((edges : List Edge) → C.holds into.old edges
         → C.holds into.new (edges ++ numbered array vias.Element 0 (identifiers_of elements.entry))) }
@@ -119,8 +118,8 @@ fn put_wanted<C: Collect>(array: u64, elements: IdList<'_>, into: &mut C) -> Res
     Ok(())
 }
 
-/// Puts the edges of an array of objects by its elements. What collects them is given those that it wants: of most arrays
-/// none, which is found at once.
+/// Puts the edges of an array of objects by its elements. The collector is given those that it wants: of most arrays none, which is found
+/// at once.
 #[inline(always)]
 pub(crate) fn put_elements<C: Collect>(
     array: u64,
@@ -162,7 +161,7 @@ pub(crate) fn put_values<C: Collect>(
     Ok(())
 }
 
-/// Puts the edges of an instance by what its fields refer to.
+/// Puts the edges of an instance by the references of its fields.
 #[inline(always)]
 pub(crate) fn put_references<C: Collect>(
     instance: u64,

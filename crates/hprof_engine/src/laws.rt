@@ -42,7 +42,7 @@ pub fn parts_come_to_one_thing()
 {}
 
 /// The same parts come to the same, heap or refusal, in whatever order and however often they are listed; and so do other
-/// parts of the same size and earliest time, among which the facts are divided in any way. So where one key has two
+/// parts of the same size and earliest time, among which the facts are divided in any way. So if one key has two
 /// contents, every order is refused at the least such key.
 pub fn order_repetition_and_cutting_do_not_matter()
     ensures order { (parts others : List (List ℕ)) (outcome : Outcome) → SameParts parts others
@@ -53,8 +53,8 @@ pub fn order_repetition_and_cutting_do_not_matter()
         → IsState parts ids millis more → SameFacts facts more → IsState parts ids millis facts }
 {}
 
-/// Joined dumps join: where parts are divided among groups in any way, and each group is joined, the dumps come to what all
-/// the parts come to, heap or refusal. Where the parts of one group do not agree, all do not. Where they have two sizes, all
+/// Joined dumps join: if parts are divided among groups in any way, and each group is joined, the dumps come to what all
+/// the parts come to, heap or refusal. If the parts of one group do not agree, all do not. If they have two sizes, all
 /// have two, if each is a part, and all come to nothing else.
 pub fn joined_dumps_join()
     ensures dumps { (parts : List (List ℕ)) (groups : List (List (List ℕ))) (dumps : List (List ℕ)) (outcome : Outcome)
@@ -68,13 +68,13 @@ pub fn joined_dumps_join()
         → AreDivided parts groups → Contains groups group → HaveTwoSizes group → ComesTo parts outcome → outcome ≡ TwoSizes }
 {}
 
-/// What a product makes of parts is one text.
+/// The product of parts is one text.
 pub fn one_text_is_made_of_parts<P: Product>(product: &P)
     ensures { (parts : List (List ℕ)) (one other : List ℕ) → IsMadeOf (P.is_text product.now) parts one
         → IsMadeOf (P.is_text product.now) parts other → one ≡ other }
 {}
 
-/// Lists of parts that come to the same are made into the same, where the product is made of the heap alone.
+/// Lists of parts that come to the same are made into the same, if the product is made of the heap alone.
 pub fn what_comes_to_the_same_is_made_into_the_same<P: Product>(product: &P)
     requires { (summaries others : List PartSummary) (heap : HeapValue) (text : List ℕ)
         → P.is_text product.now summaries heap text → P.is_text product.now others heap text }

@@ -1,4 +1,4 @@
-//! Reading all parts into what gathers them.
+//! Reading all parts into a gatherer.
 
 ghost use Rattle.std.specs.Prelude.{◌≡◌, ℕ, [], length, All, OnOk};
 ghost use Rattle.hprof_devices.specs.declared.health.Health.TheVariants.{Well};
@@ -13,8 +13,7 @@ use hprof_heap::Gather;
 use hprof_stream::{Limits, read_part};
 use std::alloc::Global;
 
-/// Reads each part in order, gives its header and facts to what gathers them, and tells its summary. The first part that
-/// is refused ends it.
+/// Reads each part in order, gives its header and facts to the gatherer, and tells its summary. The first part that is refused ends it.
 pub(crate) fn read_parts<R: Source, G: Gather, S: Summaries>(
     alloc: Global,
     readers: &mut [R],

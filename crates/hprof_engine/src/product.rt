@@ -7,7 +7,7 @@ use hprof_devices::{Target, WriteFault};
 use hprof_heap::Gather;
 use std::alloc::{AllocError, Global};
 
-/// Why the writing of a product stopped.
+/// The reason why the writing of a product stopped.
 #[derive(Clone, Copy, Debug, PartialEq, Eq)]
 pub enum WriteStop {
     /// The writer failed or stuck.

@@ -1,4 +1,4 @@
-//! Why parts are refused.
+//! Reasons why parts are refused.
 
 ghost use Rattle.std.specs.Prelude.{◌≡◌, ◌++◌, IfOk, codes, decimal, string_bytes};
 ghost use Rattle.hprof_text.specs.Identifier.{id_digits};
@@ -10,7 +10,7 @@ use hprof_stream::PartFault;
 use hprof_text::push_id;
 use std::alloc::{AllocError, Global};
 
-/// Why no product was made of parts. The first part with a fault comes first, then no parts, two sizes of identifiers, a
+/// The reason why no product was made of parts. The first part with a fault comes first, then no parts, two sizes of identifiers, a
 /// conflict, and the writer last.
 #[derive(Clone, Copy, Debug, PartialEq, Eq)]
 pub enum ToolFault {
@@ -36,7 +36,7 @@ pub enum ToolFault {
 }
 
 impl ToolFault {
-    /// Returns its text, in one line. The error is that memory ran out.
+    /// Returns its text, in one line. If memory runs out, the answer is `AllocError`.
     pub fn text(&self, alloc: Global) -> Result<String, AllocError>
         ensures { IfOk result (λ text. IsFaultText self.now (string_bytes text)) }
     {
@@ -52,7 +52,7 @@ impl ToolFault {
     }
 }
 
-/// The text of a part that was refused: its number, and why.
+/// Returns the text of a part that was refused: its number, and why.
 fn text_of_part(alloc: Global, index: usize, fault: PartFault) -> Result<String, AllocError>
     ensures { IfOk result (λ text. IsPartText index (string_bytes text)) }
 {
@@ -60,14 +60,14 @@ fn text_of_part(alloc: Global, index: usize, fault: PartFault) -> Result<String,
     text_with(alloc, index, &why)
 }
 
-/// The text that a part was refused, and why.
+/// Returns the text that a part was refused, and why.
 fn text_with(alloc: Global, index: usize, why: &str) -> Result<String, AllocError>
     ensures { IfOk result (λ text. string_bytes text ≡ codes "part " ++ (decimal index ++ (codes ": " ++ why.now))) }
 {
     format!(in alloc; "part {index}: {why}")
 }
 
-/// The text of a conflict: identifiers in hexadecimal, serials in decimal.
+/// Returns the text of a conflict: identifiers in hexadecimal, serials in decimal.
 fn text_of_conflict(alloc: Global, key: Key) -> Result<String, AllocError>
     ensures { IfOk result (λ text. string_bytes text ≡ conflict_text key) }
 {
@@ -82,7 +82,7 @@ fn text_of_conflict(alloc: Global, key: Key) -> Result<String, AllocError>
     }
 }
 
-/// The text of a conflict at an identifier.
+/// Returns the text of a conflict at an identifier.
 fn text_of_id(alloc: Global, word: &str, id: u64) -> Result<String, AllocError>
     ensures { IfOk result (λ text. string_bytes text ≡ codes "conflict at " ++ word.now ++ codes " " ++ id_digits id) }
 {

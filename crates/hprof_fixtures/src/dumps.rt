@@ -11,7 +11,7 @@ use hprof_writing::{fits, write_fact};
 use std::alloc::{AllocError, Global};
 use std::test::Fail;
 
-/// What a sub-record states.
+/// A sub-record.
 #[derive(Clone, Copy)]
 pub enum Dump<'a> {
     /// A class, its superclass and its own fields.
@@ -49,7 +49,7 @@ pub struct Whole<'a> {
     pub fields: &'a [u8],
 }
 
-/// A class of which nothing is told but what a test tells.
+/// A class of which nothing is told. A test adds its own.
 pub const NO_CLASS: Whole<'_> = Whole {
     id: 0,
     parent: 0,
@@ -90,7 +90,7 @@ fn objects_fact(id: u64, class: u64, elements: &[u8]) -> Option<Fact<'_>> {
 }
 
 impl<'a> Dump<'a> {
-    /// The fact of the sub-record, with the trace serial 1; None where its bytes are no list.
+    /// Returns the fact of the sub-record, with the trace serial 1, or `None` if its bytes are no list.
     pub fn fact(self) -> Option<Fact<'a>> {
         match self {
             Dump::Class(id, parent, fields) => class_fact(Whole {
@@ -117,7 +117,7 @@ impl<'a> Dump<'a> {
     }
 }
 
-/// A header of a part with identifiers of that size.
+/// Returns a header of a part with identifiers of that size.
 pub fn header_of(ids: IdSize) -> Header
     ensures { result.ids ≡ ids }
 {

@@ -10,7 +10,7 @@ use hprof_lookup::{find_class, find_object};
 use hprof_values::IdSize;
 use std::test::*;
 
-/// An edge.
+/// Returns an edge.
 fn edge(from: u64, via: Via, position: u64, to: u64) -> Edge {
     Edge {
         from,

@@ -1,4 +1,4 @@
-//! What is found in a heap, and the fields of what has none.
+//! Dumps that are found in a heap, and fields of objects that have none.
 
 use crate::expecting::{equal, equal_at};
 use crate::samples::heap_of;
@@ -15,7 +15,8 @@ use std::test::*;
 /// Own field 7 of type byte.
 const BYTE: &[u8] = b"\0\0\0\x07\x08";
 
-/// Class 95 below class 100, which is not there, and objects in no order: an array of chars, an instance of class 95, an array of one object.
+/// Class 95 below class 100, which is not there, and objects in no order: an array of chars, an instance of class 95, an array of one
+/// object.
 const SUBS: [&[u8]; 4] = [
     b"\x23\0\0\0\x63\0\0\0\x01\0\0\0\x01\x05cd",
     b"\x20\0\0\0\x5f\0\0\0\x01\0\0\0\x64\0\0\0\0\0\0\0\0\0\0\0\0\0\0\0\0\0\0\0\0\0\0\0\0\
@@ -49,7 +50,7 @@ fn classes(rt: HostRuntime) -> Result<(), Fail> {
     Ok(())
 }
 
-/// The reason why an object has no fields.
+/// Returns the reason why an object has no fields.
 fn reason_in(fields: &Fields) -> &'static str {
     match fields {
         Fields::Missing(100) => "class 100 is missing",

@@ -1,5 +1,5 @@
-//! Tests of what stands above the heap, through public calls: what is found in it, known layouts, edges, distances and paths. What it has of
-//! its own calls each law of their definitions, and of live heaps.
+//! Tests of what stands above the heap, through public calls: what is found in it, known layouts, edges, distances and paths. What it has
+//! of its own calls each law of their definitions, and of live heaps.
 #![tactic(auto)]
 
 #[cfg(test)]

@@ -23,7 +23,7 @@ pub(crate) const CLASS_99: &[u8] = b"\x20\0\0\0\x63\0\0\0\x01\0\0\0\0\
 pub(crate) const CLASS_99_BELOW: &[u8] = b"\x20\0\0\0\x63\0\0\0\x01\0\0\0\x64\
     \0\0\0\0\0\0\0\0\0\0\0\0\0\0\0\0\0\0\0\0\0\0\0\x01\0\0\0\0\0\x01\0\0\0\x07\x08";
 
-/// The heap of these sub-records.
+/// Returns the heap of these sub-records.
 pub(crate) fn heap_of(alloc: Global, subs: &[&[u8]]) -> Result<Heap, Fail> {
     let part = part_of(alloc, subs)?;
     let mut gatherer = Gatherer::new(alloc);

@@ -1,12 +1,12 @@
-//! Whether two heaps are the same.
+//! The comparison of two heaps.
 
 ghost use Rattle.std.specs.Prelude.{◌≡◌, ◌↔◌, IsTrue};
 ghost use Rattle.hprof_heap.specs.Heap.{heap_of};
 
 use crate::heap::Heap;
 
-/// Whether two heaps have one size of identifiers, one time and the same facts. Each is gone over once, side by side with
-/// the other, and no memory is taken.
+/// Returns whether two heaps have one size of identifiers, one time and the same facts. Each is gone over once, side by side with the
+/// other, and no memory is taken.
 pub fn same(one: &Heap, other: &Heap) -> bool
     ensures { IsTrue result ↔ (heap_of one.now ≡ heap_of other.now) }
 {

@@ -1,4 +1,4 @@
-//! What gathers parts.
+//! Sinks that gather parts.
 
 ghost use Rattle.std.specs.Prelude.{◌≡◌, ℕ, List, false, IfOk};
 ghost use Rattle.hprof_items.specs.FactValue.{FactValue};
@@ -9,8 +9,8 @@ use crate::heap::Heap;
 use crate::standing::Refusal;
 use hprof_stream::Sink;
 
-/// A sink that unites the facts of parts as a [`Gatherer`] does, and gives their heap at the end: by itself, or with what
-/// it kept beside it while they came.
+/// A sink that unites the facts of parts as a [`Gatherer`] does, and gives their heap at the end: by itself, or with the data that it kept
+/// beside it while they came.
 pub trait Gather: Sink {
     ghost use Rattle.hprof_items.specs.declared.header.Header.{Header};
     ghost use Rattle.hprof_stream.specs.declared.sink.SinkFault.{SinkFault};
@@ -29,10 +29,10 @@ pub trait Gather: Sink {
     // What it gave lists what refers to that identifier in the heap.
     ghost lists: { Self.Found → ℕ → Type 0 };
 
-    /// What it gives.
+    /// The heap, by itself or with the data that was kept beside it.
     type Found: Drop;
 
-    /// The heap of all facts that were given, with what was kept beside it. A fault comes first, then no parts, then two
+    /// Returns the heap of all facts that were given, with the data that was kept beside it. A fault comes first, then no parts, then two
     /// sizes, then a conflict.
     fn finish(self) -> Result<Self::Found, Refusal>
         ensures answer { seen_in heap_in result ≡ answer_of (gathered self) }

@@ -15,8 +15,8 @@ use hprof_stream::{Sink, SinkFault};
 use hprof_tables::Stated;
 use std::alloc::Global;
 
-/// Takes the headers and facts of any number of parts, and keeps their union. Where a key comes with two contents it
-/// keeps the least such key.
+/// Takes the headers and facts of any number of parts, and keeps their union. If a key comes with two contents, it keeps the least such
+/// key.
 #[derive(Drop)]
 pub struct Gatherer {
     alloc: Global,
@@ -36,7 +36,7 @@ impl Gatherer {
     ghost use Rattle.hprof_stream.specs.declared.sink.SinkFault.TheVariants.{OutOfMemory};
     ghost use Rattle.hprof_heap.specs.Heap.{heap_of};
 
-    /// A gatherer that was given nothing. It takes no memory yet.
+    /// Returns a gatherer that was given nothing. It takes no memory yet.
     pub fn new(alloc: Global) -> Self
         ensures { gathered result ≡ nothing_gathered }
     {
@@ -50,7 +50,7 @@ impl Gatherer {
         }
     }
 
-    /// How it stands.
+    /// Returns its standing.
     #[inline(always)]
     pub fn standing(&self) -> Standing
         ensures { result ≡ standing_of_answer (answer_of (gathered self.now)) }
@@ -67,7 +67,7 @@ impl Gatherer {
         Standing::Clean
     }
 
-    /// The heap of the facts so far, where it is clean.
+    /// Returns the heap of the facts so far, if it is clean.
     #[inline(always)]
     pub fn heap(&self) -> Option<&Heap>
         ensures { option_map (λ heap. heap_of heap.now) result ≡ result_ok (answer_of (gathered self.now)) }
@@ -78,7 +78,7 @@ impl Gatherer {
         }
     }
 
-    /// The heap of all facts that were given. A fault comes first, then no parts, then two sizes, then a conflict.
+    /// Returns the heap of all facts that were given. A fault comes first, then no parts, then two sizes, then a conflict.
     pub fn finish(self) -> Result<Heap, Refusal>
         ensures answer { seen_heap result ≡ answer_of (gathered self) }
         // What it says of the parts that were given.
@@ -102,8 +102,8 @@ impl Gatherer {
         }
     }
 
-    /// Takes a fact as `take` does, with the same faults, and tells what stating it into the heap came to. That is None where
-    /// two sizes were begun: then no fact is looked at.
+    /// Takes a fact as `take` does, with the same faults, and returns the result of stating it into the heap. That is `None` if two sizes
+    /// were begun: then no fact is looked at.
     #[inline(always)]
     pub fn state(&mut self, fact: &Fact<'_>, spelled: &[u8]) -> Result<Option<Stated>, SinkFault>
         requires fits { FitsBegun (gathered self.old).begun (value_of fact.now) }
@@ -155,7 +155,7 @@ impl Gatherer {
     }
 }
 
-/// The key of a fact, if it has one.
+/// Returns the key of a fact, if it has one.
 fn key_of_fact(fact: &Fact<'_>) -> Option<Key>
     ensures { result ≡ key_of (value_of fact.now) }
 {

@@ -36,7 +36,7 @@ impl Heap {
     ghost use Rattle.hprof_rows.specs.SubFacts.{sub_facts};
     ghost use Rattle.hprof_rows.specs.SubRows.{subs_left, subs_ids};
 
-    /// A heap without facts. It takes no memory yet.
+    /// Returns a heap without facts. It takes no memory yet.
     pub(crate) fn new(alloc: Global, ids: IdSize, millis: u64) -> Self
         ensures { heap_of result ≡ record { ids = ids; millis = millis; facts = [] } }
     {
@@ -65,7 +65,7 @@ impl Heap {
         self.tables.millis = self.tables.millis.min(millis);
     }
 
-    /// The size of its identifiers.
+    /// Returns the size of its identifiers.
     pub fn ids(&self) -> IdSize
         ensures value { result ≡ (heap_of self.now).ids }
         // What every heap keeps: its facts have spellings, and stand in order, each key once.
@@ -74,14 +74,14 @@ impl Heap {
         self.tables.ids
     }
 
-    /// Its time: milliseconds since 1 January 1970, 0:00 GMT.
+    /// Returns its time: milliseconds since 1 January 1970, 0:00 GMT.
     pub fn millis(&self) -> u64
         ensures { result ≡ (heap_of self.now).millis }
     {
         self.tables.millis
     }
 
-    /// The name with that identifier.
+    /// Returns the name with that identifier.
     pub fn name(&self, id: u64) -> Option<Fact<'_>>
         ensures { option_map value_of result ≡ find (has_key (keys.Name id)) (heap_of self.now).facts }
     {
@@ -89,7 +89,7 @@ impl Heap {
         Some(Fact::Name { id, text })
     }
 
-    /// The class that was loaded under that serial.
+    /// Returns the class that was loaded under that serial.
     pub fn load(&self, serial: u32) -> Option<Fact<'_>>
         ensures { option_map value_of result ≡ find (has_key (keys.Load serial)) (heap_of self.now).facts }
     {
@@ -97,7 +97,7 @@ impl Heap {
         Some(row.fact(serial))
     }
 
-    /// The name of a class: that which it has in the fact of least serial that loads it.
+    /// Returns the name of a class: that which it has in the fact of least serial that loads it.
     pub fn class_name(&self, class: u64) -> Option<u64>
         ensures { NamesClass (heap_of self.now).facts class result }
     {
@@ -109,7 +109,7 @@ impl Heap {
         None
     }
 
-    /// The frame with that identifier.
+    /// Returns the frame with that identifier.
     pub fn frame(&self, id: u64) -> Option<Fact<'_>>
         ensures { option_map value_of result ≡ find (has_key (keys.Frame id)) (heap_of self.now).facts }
     {
@@ -117,7 +117,7 @@ impl Heap {
         Some(row.fact(id))
     }
 
-    /// The thread that was started under that serial.
+    /// Returns the thread that was started under that serial.
     pub fn thread(&self, serial: u32) -> Option<Fact<'_>>
         ensures { option_map value_of result ≡ find (has_key (keys.Thread serial)) (heap_of self.now).facts }
     {
@@ -125,7 +125,7 @@ impl Heap {
         Some(row.fact(serial))
     }
 
-    /// The stack with that serial.
+    /// Returns the stack with that serial.
     pub fn trace(&self, serial: u32) -> Option<Fact<'_>>
         ensures value { option_map value_of result ≡ find (has_key (keys.Trace serial)) (heap_of self.now).facts }
         ensures lists { IfSome result (ListsHave (heap_of self.now).ids) }
@@ -134,7 +134,7 @@ impl Heap {
         Some(row.fact(serial, self.tables.ids))
     }
 
-    /// The class with that identifier.
+    /// Returns the class with that identifier.
     #[inline(always)]
     pub fn class(&self, id: u64) -> Option<Fact<'_>>
         ensures value { option_map value_of result ≡ find (has_key (keys.Class id)) (heap_of self.now).facts }
@@ -143,8 +143,8 @@ impl Heap {
         self.class_near(id, &mut 0)
     }
 
-    /// The class with that identifier, which is looked for near a place. Where it is found is noted there, so that classes that are asked for
-    /// in order of their identifiers are found one behind the other.
+    /// Returns the class with that identifier, which is looked for near a place. If it is found, its place is noted there, so that classes
+    /// that are asked for in order of their identifiers are found one behind the other.
     #[inline(always)]
     pub fn class_near(&self, id: u64, near: &mut usize) -> Option<Fact<'_>>
         ensures value { option_map value_of result ≡ find (has_key (keys.Class id)) (heap_of self.now).facts }
@@ -154,7 +154,7 @@ impl Heap {
         Some(spelled_fact(bytes, self.tables.ids))
     }
 
-    /// The instance or the array with that identifier.
+    /// Returns the instance or the array with that identifier.
     #[inline(always)]
     pub fn object(&self, id: u64) -> Option<Fact<'_>>
         ensures value { option_map value_of result ≡ find (has_key (keys.Object id)) (heap_of self.now).facts }
@@ -163,7 +163,7 @@ impl Heap {
         self.object_near(id, &mut 0)
     }
 
-    /// The instance or the array with that identifier, which is looked for near a place, as a class is by `class_near`.
+    /// Returns the instance or the array with that identifier, which is looked for near a place, as a class is by `class_near`.
     #[inline(always)]
     pub fn object_near(&self, id: u64, near: &mut usize) -> Option<Fact<'_>>
         ensures value { option_map value_of result ≡ find (has_key (keys.Object id)) (heap_of self.now).facts }
@@ -173,7 +173,7 @@ impl Heap {
         Some(kept_fact(id, kept, self.tables.ids))
     }
 
-    /// The facts of a table, in canonical order, each borrowed from the heap.
+    /// Returns the facts of a table, in canonical order, each borrowed from the heap.
     pub fn rows(&self, table: Table) -> Facts<'_>
         ensures all { facts_left result ≡ facts_of_table table (heap_of self.now).facts }
         ensures ordered { IsCanonicalOrder (facts_left result) }
@@ -182,7 +182,7 @@ impl Heap {
         Facts::new(self.tables.ids, self.tables.rows(table))
     }
 
-    /// The sub-records, in canonical order, as they are kept.
+    /// Returns the sub-records, in canonical order, as they are kept.
     pub fn sub_rows(&self) -> SubRows<'_>
         ensures all { subs_left result ≡ sub_facts (heap_of self.now).facts }
         ensures ids { subs_ids result ≡ (heap_of self.now).ids }
@@ -195,7 +195,7 @@ impl Heap {
         )
     }
 
-    /// Whether both have the same rows of records.
+    /// Returns whether both have the same rows of records.
     pub(crate) fn same_records(&self, other: &Heap) -> bool
         ensures { IsTrue result ↔ HaveSameRecords (rows_in self.now) (rows_in other.now) }
     {
@@ -208,7 +208,7 @@ impl Heap {
             && self.tables.ends.same(&other.tables.ends)
     }
 
-    /// Whether both have the same rows of sub-records.
+    /// Returns whether both have the same rows of sub-records.
     pub(crate) fn same_subs(&self, other: &Heap) -> bool
         ensures { IsTrue result ↔ HaveSameSubs (rows_in self.now) (rows_in other.now) }
     {
@@ -217,14 +217,14 @@ impl Heap {
             && self.tables.objects.same(&other.tables.objects)
     }
 
-    /// The number of facts in a table.
+    /// Returns the number of facts in a table.
     pub fn len(&self, table: Table) -> usize
         ensures { result ≡ length (facts_of_table table (heap_of self.now).facts) }
     {
         self.tables.len(table)
     }
 
-    /// The number of its facts.
+    /// Returns the number of its facts.
     pub fn count(&self) -> u128
         ensures { result ≡ length (heap_of self.now).facts }
     {

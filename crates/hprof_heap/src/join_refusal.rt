@@ -1,8 +1,8 @@
-//! Why a heap is not joined with another.
+//! Reasons why a heap is not joined with another.
 
 use hprof_rows::Key;
 
-/// Why a heap is not joined with another.
+/// The reason why a heap is not joined with another.
 #[derive(Clone, Copy, Debug, PartialEq, Eq)]
 pub enum JoinRefusal {
     /// They have two sizes of identifiers. Nothing has changed.

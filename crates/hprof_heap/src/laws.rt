@@ -25,8 +25,8 @@ pub fn one_order()
     ensures agree { (rows : List FactValue) → IsCanonicalOrder rows → IsConsistent rows }
 {}
 
-/// Whether facts agree, and where they do not, is that of the set. There is one least conflict, and none among facts
-/// that agree.
+/// The agreement of facts depends on their set, and so does their least conflict. There is one least conflict, and none among facts that
+/// agree.
 pub fn conflicts_are_of_the_set()
     ensures consistent { (facts others : List FactValue) → SameFacts facts others → IsConsistent facts → IsConsistent others }
     ensures least { (facts others : List FactValue) (key : Key) → SameFacts facts others
@@ -36,8 +36,8 @@ pub fn conflicts_are_of_the_set()
     ensures none { (facts : List FactValue) (key : Key) → IsConsistent facts → IsLeastConflict facts key → ⊥ }
 {}
 
-/// What a gatherer that was given nothing but these parts answers tells of them: the heap of exactly their facts, or
-/// the first refusal that they call for. Its standing and the heap that it lends are those of this answer.
+/// The answer of a gatherer that was given nothing but these parts tells of them: the heap of exactly their facts, or the first refusal
+/// that they call for. Its standing and the heap that it lends are those of this answer.
 pub fn answers_tell_of_the_parts()
     ensures { (parts : List Given) (gatherer : Gatherer) → Gathers nothing_gathered parts (gathered gatherer)
         → Tells parts (answer_of (gathered gatherer)) }
@@ -65,7 +65,7 @@ pub fn groups_of_heaps_do_not_matter()
     ensures once { (one other all more : HeapValue) → IsUnion one other all → IsUnion one other more → all ≡ more }
 {}
 
-/// A join for which memory was wanting can be made again, and then comes to what it would have come to.
+/// A join for which memory ran out can be made again, and then comes to what it would have come to.
 pub fn a_join_can_be_made_again()
     ensures { (one other between : HeapValue) (outcome : Result HeapValue JoinRefusal) → IsHeap other
         → IsBetween one other between → IsJoin between other outcome → IsJoin one other outcome }

@@ -1,8 +1,8 @@
-//! What a gatherer comes to.
+//! The standing of a gatherer.
 
 use hprof_rows::Key;
 
-/// How a gatherer stands.
+/// The standing of a gatherer.
 #[derive(Clone, Copy, Debug, PartialEq, Eq)]
 pub enum Standing {
     /// No part was begun.
@@ -15,7 +15,7 @@ pub enum Standing {
     Failed,
 }
 
-/// Why a gatherer gives no heap.
+/// The reason why a gatherer gives no heap.
 #[derive(Clone, Copy, Debug, PartialEq, Eq)]
 pub enum Refusal {
     /// No part was begun.

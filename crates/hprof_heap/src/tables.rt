@@ -30,7 +30,7 @@ pub(crate) struct Tables {
 }
 
 impl Tables {
-    /// The number of rows of a table.
+    /// Returns the number of rows of a table.
     pub(crate) fn len(&self, table: Table) -> usize
         ensures { result ≡ count_at table (rows_in_tables self.now) }
     {
@@ -48,7 +48,7 @@ impl Tables {
         }
     }
 
-    /// The rows of a table.
+    /// Returns the rows of a table.
     pub(crate) fn rows(&self, table: Table) -> TableRows<'_>
         ensures { AreRowsOf table (rows_in_tables self.now) result }
     {

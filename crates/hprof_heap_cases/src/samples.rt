@@ -1,4 +1,4 @@
-//! Gatherers, and what facts come to in them.
+//! Gatherers, and their answers to facts.
 
 ghost use Rattle.std.specs.Prelude.{◌≡◌, [], Some, OnOk, IfOk};
 ghost use Rattle.hprof_items.specs.FactValue.{value_of};

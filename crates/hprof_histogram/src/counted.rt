@@ -1,6 +1,6 @@
-//! So many objects.
+//! A number of objects.
 
-/// A number of objects, and how many bytes they have together.
+/// A number of objects, and the number of their bytes together.
 #[derive(Clone, Copy, Debug, PartialEq, Eq)]
 pub(crate) struct Counted {
     pub(crate) count: u64,
@@ -11,14 +11,14 @@ impl Counted {
     ghost use Rattle.std.specs.Prelude.{◌≡◌};
     ghost use Rattle.hprof_histogram.specs.CountedKinds.{FitsCounts, both, nothing, one_of};
 
-    /// No objects.
+    /// Returns the count of no objects.
     pub(crate) fn nothing() -> Counted
         ensures { result ≡ nothing }
     {
         Counted { count: 0, bytes: 0 }
     }
 
-    /// These, and one more of that size.
+    /// Returns the count of these and of one more of that size.
     #[inline(always)]
     pub(crate) fn with(self, size: u128) -> Counted
         requires { FitsCounts (both self (one_of size)) }

@@ -1,4 +1,4 @@
-//! What was counted of the objects so far.
+//! The counts of the objects so far.
 
 use crate::counted::Counted;
 use crate::row::Kind;
@@ -6,15 +6,15 @@ use hprof_tables::HintedMap;
 use hprof_values::Basic;
 use std::alloc::{AllocError, Global};
 
-/// How many types there are, with those that no code stands for.
+/// The number of types, with those that no code stands for.
 pub(crate) const TYPES: usize = 12;
 
-/// How many objects of each kind were counted.
+/// The number of objects of each kind that were counted.
 #[derive(Drop)]
 pub(crate) struct CountedKinds {
-    /// What was counted of each class.
+    /// The counts of each class.
     pub(crate) classes: HintedMap<Counted>,
-    /// What was counted of each type, by its code.
+    /// The counts of each type, by its code.
     pub(crate) types: [Counted; TYPES],
 }
 
@@ -25,7 +25,7 @@ impl CountedKinds {
     ghost use Rattle.hprof_histogram.specs.Histogram.{same_kind};
     ghost use Rattle.hprof_histogram.specs.CountedKinds.{FitsCounts, both, counted_in, nothing, one_of};
 
-    /// Nothing was counted.
+    /// Returns the counts before anything was counted.
     pub(crate) fn new(alloc: Global) -> CountedKinds
         ensures { (kind : Kind) → counted_in result kind ≡ nothing }
     {
@@ -35,7 +35,7 @@ impl CountedKinds {
         }
     }
 
-    /// What was counted of a class.
+    /// Returns the counts of a class.
     #[inline(always)]
     fn of_class(&self, class: u64) -> Counted
         ensures { result ≡ counted_in self.now (kinds.Class class) }

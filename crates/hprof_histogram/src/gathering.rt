@@ -1,4 +1,4 @@
-//! The rows of what was counted.
+//! The rows of the counts.
 
 ghost use Rattle.std.specs.Prelude.{◌≡◌, ◌++◌, ◌∷◌, [], OnOk, IfOk, nat_eq};
 ghost use Rattle.std.specs.List.{IsDistinct, filter};
@@ -56,7 +56,7 @@ fn push_types(rows: &mut Vec<Row>, types: &[Counted; TYPES]) -> Result<(), Alloc
     Ok(())
 }
 
-/// Returns the rows of what was counted: those of classes, and then those of types.
+/// Returns the rows of the counts: those of classes, and then those of types.
 pub(crate) fn rows_of(alloc: Global, tally: &CountedKinds) -> Result<Vec<Row>, AllocError>
     ensures rows { IfOk result (λ rows. rows.items ≡ filter has_objects (class_rows (rows_in tally.now.classes))
         ++ filter has_objects (type_rows tally.now.types element_types)) }

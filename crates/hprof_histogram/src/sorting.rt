@@ -8,7 +8,7 @@ ghost use Rattle.hprof_histogram.specs.Histogram.{kind_cmp, row_cmp, same_kind};
 use crate::row::{Kind, Row};
 use std::cmp::Ordering;
 
-/// Classes by their identifiers, and then types by their codes.
+/// Compares kinds: classes by their identifiers, and then types by their codes.
 fn compare_kinds(kind: Kind, other: Kind) -> Ordering
     ensures { result ≡ kind_cmp kind other }
 {
@@ -20,7 +20,7 @@ fn compare_kinds(kind: Kind, other: Kind) -> Ordering
     }
 }
 
-/// The most bytes first, then the most objects, then by kind.
+/// Compares rows: the most bytes first, then the most objects, then by kind.
 fn compare_rows(row: &Row, other: &Row) -> Ordering
     ensures { result ≡ row_cmp row.now other.now }
 {

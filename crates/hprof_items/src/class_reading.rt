@@ -28,7 +28,7 @@ struct ClassFront {
     size: u32,
 }
 
-/// The fields at the front.
+/// Returns the fields at the front.
 fn split_front(bytes: &[u8], ids: IdSize) -> ClassFront
     requires { sum (class_widths ids) ≤ length bytes.now }
     ensures { class_front result ≡ fields_in (class_widths ids) bytes.now }
@@ -55,7 +55,7 @@ fn split_front(bytes: &[u8], ids: IdSize) -> ClassFront
     }
 }
 
-/// The class with those fields and lists.
+/// Returns the class with those fields and lists.
 fn class_of<'a>(
     front: ClassFront,
     constants: ConstantList<'a>,
@@ -83,8 +83,8 @@ fn class_of<'a>(
     }
 }
 
-/// The class at the front, and where it ends. Few items are one, so it stands apart from the reading of the others, and takes
-/// the item by value: the others keep it out of memory.
+/// Returns the class at the front, and the place where it ends. Few items are classes, so it stands apart from the reading of the others,
+/// and takes the item by value: the others keep it out of memory.
 #[tactic(auto, unfolding(crate::specs::ClassDump::class_at))]
 #[inline(never)]
 fn whole_class<'a>(item: BoundedBytes<'a>, ids: IdSize) -> Result<(Fact<'a>, usize), Stop>

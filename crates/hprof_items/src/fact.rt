@@ -1,9 +1,9 @@
-//! What a record or a sub-record states, over its bytes.
+//! The facts that records and sub-records state, over their bytes.
 
 use hprof_lists::{ConstantList, FieldList, IdList, StaticList};
 use hprof_values::{Basic, Root};
 
-/// What a record or a sub-record states.
+/// The fact that a record or a sub-record states.
 #[derive(Clone, Copy, Debug, PartialEq, Eq)]
 pub enum Fact<'a> {
     /// UTF8: the bytes of a name.
@@ -41,7 +41,7 @@ pub enum Fact<'a> {
         source: u64,
         /// The serial of the class.
         class_serial: u32,
-        /// The line, above 0; -1 where it is unknown, -2 in a compiled method, -3 in a native one.
+        /// The line, above 0; -1 if it is unknown, -2 in a compiled method, -3 in a native one.
         line: i32,
     },
     /// TRACE: a stack.

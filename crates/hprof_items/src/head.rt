@@ -10,15 +10,15 @@ pub const HEAD_LEN: usize = 9;
 /// The head of a record.
 #[derive(Clone, Copy, Debug, PartialEq, Eq)]
 pub struct Head {
-    /// What record it is.
+    /// The tag, which tells the kind of the record.
     pub tag: u8,
-    /// When the record was made, in microseconds since the time in the header. It is read past.
+    /// The time at which the record was made, in microseconds since the time in the header. It is read past.
     pub time: u32,
     /// The number of bytes in the body.
     pub length: u32,
 }
 
-/// What a record is for, by its tag.
+/// The purpose of a record, by its tag.
 #[derive(Clone, Copy, Debug, PartialEq, Eq)]
 pub enum HeadKind {
     /// A record that states one fact.
@@ -34,7 +34,7 @@ pub enum HeadKind {
 impl Head {
     ghost use Rattle.hprof_items.specs.Head.{kind_of};
 
-    /// What the record is for.
+    /// Returns the purpose of the record.
     pub fn kind(&self) -> HeadKind
         ensures { result ≡ kind_of self.now.tag }
     {

@@ -2,7 +2,7 @@
 
 use hprof_values::IdSize;
 
-/// Which of the two texts the header begins with. Both versions are read with the same layouts.
+/// The text that the header begins with, one of two. Both versions are read with the same layouts.
 #[derive(Clone, Copy, Debug, PartialEq, Eq)]
 pub enum Version {
     /// `JAVA PROFILE 1.0.1`
@@ -14,13 +14,13 @@ pub enum Version {
 /// The number of bytes in a header.
 pub const HEADER_LEN: usize = 31;
 
-/// What the bytes at the front of a dump say.
+/// The fields at the front of a dump.
 #[derive(Clone, Copy, Debug, PartialEq, Eq)]
 pub struct Header {
     /// The text.
     pub version: Version,
     /// The width of the identifiers in the dump.
     pub ids: IdSize,
-    /// When the dump was made: milliseconds since 1 January 1970, 0:00 GMT.
+    /// The time at which the dump was made, in milliseconds since 1 January 1970, 0:00 GMT.
     pub millis: u64,
 }

@@ -44,7 +44,7 @@ fn ids_in(size: u32) -> Option<IdSize>
     }
 }
 
-/// The step of `read_header`.
+/// Returns the step of `read_header`.
 #[tactic(auto, unfolding(crate::specs::Reading::header_at))]
 fn header_step(bytes: &[u8]) -> Step<Header>
     ensures { result ≡ header_at bytes.now }
@@ -75,8 +75,7 @@ fn header_step(bytes: &[u8]) -> Step<Header>
     )
 }
 
-/// Reads the header at the front: the text, then the size of identifiers, then the time. A field that is not
-/// wholly there is not judged.
+/// Reads the header at the front: the text, then the size of identifiers, then the time. A field that is not wholly there is not judged.
 pub fn read_header(bytes: &[u8]) -> Step<Header>
     // Which step it is.
     ensures exact { result ≡ header_at bytes.now }

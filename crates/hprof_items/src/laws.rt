@@ -66,8 +66,8 @@ pub fn one_spelling_in_each_family()
         → spelling ids fact ++ rest ≡ spelling ids other ++ more → (fact ≡ other) × (rest ≡ more) }
 {}
 
-/// A right head of any record that is spelled is read, whatever follows, and one that is read is right and spelled so.
-/// Where the record states one fact, its length is one that its body may have.
+/// A right head of any record that is spelled is read, whatever follows, and one that is read is right and spelled so. If the record states
+/// one fact, its length is one that its body may have.
 pub fn heads_read_back()
     ensures again { (ids : IdSize) (longest : ℕ) (head : Head) (rest : List ℕ) → IsRightHead ids longest head
         → head_at ids longest (head_bytes head.tag head.time head.length ++ rest) ≡ Whole head 9 }

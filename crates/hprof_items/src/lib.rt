@@ -1,6 +1,5 @@
-//! One header, record or fact of an HPROF heap dump: what it is, how its bytes spell it, and how it is read from bytes.
-//! The format is that of the comment "HPROF binary format" in OpenJDK's heapDumper.cpp. No call of this crate takes
-//! memory.
+//! One header, record or fact of an HPROF heap dump: its contents, its spelling in bytes, and its reading from bytes. The format is that of
+//! the comment "HPROF binary format" in OpenJDK's heapDumper.cpp. No call of this crate takes memory.
 #![tactic(auto)]
 
 mod class_reading;

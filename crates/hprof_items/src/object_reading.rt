@@ -24,7 +24,7 @@ struct InstanceFront {
     len: u32,
 }
 
-/// The fields of an instance at the front.
+/// Returns the fields of an instance at the front.
 #[inline(always)]
 fn instance_fields(bytes: &[u8], ids: IdSize) -> InstanceFront
     requires { sum (instance_widths ids) ≤ length bytes.now }
@@ -80,7 +80,7 @@ struct ObjArrayFront {
     class: u64,
 }
 
-/// The fields of an array of objects at the front.
+/// Returns the fields of an array of objects at the front.
 #[inline(always)]
 fn obj_array_fields(bytes: &[u8], ids: IdSize) -> ObjArrayFront
     requires { sum (obj_array_widths ids) ≤ length bytes.now }
@@ -137,7 +137,7 @@ struct PrimArrayFront {
     code: u8,
 }
 
-/// The fields of an array of numbers or truth values at the front.
+/// Returns the fields of an array of numbers or truth values at the front.
 #[inline(always)]
 fn prim_array_fields(bytes: &[u8], ids: IdSize) -> PrimArrayFront
     requires { sum (prim_array_widths ids) ≤ length bytes.now }
@@ -154,7 +154,7 @@ fn prim_array_fields(bytes: &[u8], ids: IdSize) -> PrimArrayFront
     }
 }
 
-/// The type of an array's elements, by its code.
+/// Returns the type of an array's elements, by its code.
 #[inline(always)]
 fn element_type(code: u8) -> Result<Basic, Stop>
     ensures { result ≡ element_type (basic_of_code code) }

@@ -57,7 +57,7 @@ fn read_frame<'a>(body: &'a [u8], ids: IdSize) -> Fact<'a>
     }
 }
 
-/// Reads a stack. It has as many frames as it says.
+/// Reads a stack. The number of its frames is the one that it says.
 #[tactic(auto, unfolding(crate::specs::RecordBody::record_at))]
 fn read_trace<'a>(body: &'a [u8], ids: IdSize) -> Result<Fact<'a>, Reason>
     requires { sum (record_fields ids RecordTag.Trace) ≤ length body.now }
@@ -102,7 +102,7 @@ fn read_start<'a>(body: &'a [u8], ids: IdSize) -> Fact<'a>
     }
 }
 
-/// The fact of `read_record`.
+/// Returns the fact of `read_record`.
 #[tactic(auto, unfolding(crate::specs::RecordBody::record_at))]
 fn fact_in<'a>(
     tag: RecordTag,
@@ -161,8 +161,8 @@ pub(crate) fn read_record<'a>(
     fact_in(tag, body, ids, fact)
 }
 
-/// Reads the body of a record with a fact, as [`read_body`] does, and puts what it states in the place of the fact. Where
-/// it answers a fault, what stands in that place is of no account.
+/// Reads the body of a record with a fact, as [`read_body`] does, and puts the stated fact in the place of `fact`. At a fault, the value in
+/// that place has no meaning.
 pub fn read_body_into<'a>(
     head: &Head,
     body: &'a [u8],
@@ -191,8 +191,8 @@ pub fn read_body_into<'a>(
     read_record(known, body, ids, fact)
 }
 
-/// Reads the body of a record with a fact, behind a head that was read. The one fault is that a trace has not as many
-/// frames as it says.
+/// Reads the body of a record with a fact, behind a head that was read. The only fault is that a trace has another number of frames than it
+/// says.
 pub fn read_body<'a>(head: &Head, body: &'a [u8], ids: IdSize) -> Result<Fact<'a>, Reason>
     requires whole { IsRightHead ids longest_body head.now }
     requires kind { kind_of head.now.tag ≡ HeadKind.FactRecord }

@@ -1,11 +1,11 @@
-//! What reading at the front of some bytes comes to.
+//! The results of reading at the front of some bytes.
 
 use hprof_values::Reason;
 
-/// What a reader finds at the front of the bytes that it is given.
+/// The result of reading at the front of the bytes that a reader is given.
 #[derive(Clone, Copy, Debug, PartialEq, Eq)]
 pub enum Step<T> {
-    /// The value, and how many bytes spell it.
+    /// The value, and the number of bytes that spell it.
     Whole(T, usize),
     /// Nothing is wrong so far, and more bytes are needed.
     Short,

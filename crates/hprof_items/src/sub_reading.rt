@@ -13,7 +13,7 @@ use crate::root_reading::read_root;
 use crate::step::Step;
 use hprof_values::{BoundedBytes, IdSize, Reason, Stop, SubTag};
 
-/// Reads a sub-record behind its tag, and puts what it states in the place of the fact.
+/// Reads a sub-record behind its tag, and puts the stated fact in the place of the fact.
 #[inline(always)]
 fn read_behind<'a>(
     item: &BoundedBytes<'a>,
@@ -35,7 +35,7 @@ fn read_behind<'a>(
     }
 }
 
-/// The tag at the front.
+/// Returns the tag at the front.
 #[inline(always)]
 pub(crate) fn read_tag(item: &BoundedBytes<'_>) -> Result<SubTag, Stop>
     ensures { result ≡ tag_at (bounds_of item.now) item.now.bytes.now }
@@ -50,7 +50,7 @@ pub(crate) fn read_tag(item: &BoundedBytes<'_>) -> Result<SubTag, Stop>
     }
 }
 
-/// Reads the sub-record at the front, and puts what it states in the place of the fact.
+/// Reads the sub-record at the front, and puts the stated fact in the place of the fact.
 #[tactic(auto, using(crate::proofs::Dumps::sub_tagged, crate::proofs::Dumps::sub_stops))]
 #[inline(always)]
 fn read_item<'a>(item: &BoundedBytes<'a>, ids: IdSize, fact: &mut Fact<'a>) -> Result<usize, Stop>
@@ -63,9 +63,10 @@ fn read_item<'a>(item: &BoundedBytes<'a>, ids: IdSize, fact: &mut Fact<'a>) -> R
     read_behind(item, tag, ids, fact)
 }
 
-/// Reads the sub-record at the front of what a record has left, `room` bytes, no longer than `longest`, as [`read_sub`]
-/// does, and puts what it states in the place of the fact. It answers where the sub-record ends. Where it stops, what
-/// stands in that place is of no account.
+/// Reads the sub-record at the front of the `room` bytes that a record has left, no longer than `longest`, as [`read_sub`] does, and puts
+/// the stated fact in the place of `fact`.
+///
+/// It returns the place where the sub-record ends. If it stops, the value in the place of `fact` has no meaning.
 #[inline(always)]
 pub fn read_sub_into<'a>(
     bytes: &'a [u8],
@@ -94,9 +95,10 @@ pub fn read_sub_into<'a>(
     read_item(&item, ids, fact)
 }
 
-/// Reads the sub-record at the front of what a record has left, `room` bytes, no longer than `longest`: field by field
-/// from the left, each ends within the record, then within the longest, then it is there, then it is right. Where there
-/// are no bytes, more are needed. The bytes of an instance and the elements of an array are not looked at.
+/// Reads the sub-record at the front of the `room` bytes that a record has left, no longer than `longest`.
+///
+/// Field by field from the left, each ends within the record, then within the longest, then it is there, then it is right. If there are no
+/// bytes, more are needed. The bytes of an instance and the elements of an array are not looked at.
 #[inline(always)]
 pub fn read_sub(bytes: &[u8], room: u32, longest: u32, ids: IdSize) -> Step<Fact<'_>>
     requires { 1 ≤ room }

@@ -1,4 +1,4 @@
-//! Where a sub-record ends, by a walk that can stop where the bytes end and go on when more have come.
+//! The search for the end of a sub-record, by a walk that can stop when the bytes end and go on when more have come.
 
 ghost use Rattle.std.specs.Prelude.{◌≡◌, ◌≢◌, ◌≤◌, ◌++◌, ℕ, List, length, IfErr, MatchResult, Ok, Err};
 ghost use Rattle.hprof_values.specs.FieldGroups.{with_more};
@@ -14,23 +14,23 @@ use byteorder::{BigEndian, ByteOrder};
 use hprof_lists::{EntryKind, entry_end};
 use hprof_values::{BoundedBytes, IdSize, Stop, SubTag};
 
-/// How far a sub-record was walked.
+/// The point that a walk over a sub-record has reached.
 #[derive(Clone, Copy, Debug, PartialEq, Eq)]
 pub enum Walk {
     /// Nothing is known yet.
     Front,
-    /// The fields of a class were tested, and of one of its lists so many entries are left.
+    /// The fields of a class were tested, and some entries are left of one of its lists.
     Entries {
         /// The list.
         kind: EntryKind,
-        /// How many entries are left.
+        /// The number of entries that are left.
         left: usize,
-        /// Where the next of them begins.
+        /// The place at which the next of them begins.
         at: usize,
     },
 }
 
-/// Passes the entries that are there, and tells where the last of the list ends.
+/// Passes the entries that are there, and tells the place where the last of the list ends.
 fn pass_entries(
     item: &BoundedBytes<'_>,
     ids: IdSize,
@@ -57,7 +57,7 @@ fn pass_entries(
     (Walk::Entries { kind, left, at }, Ok(at))
 }
 
-/// The list behind one of that kind.
+/// Returns the list behind one of that kind.
 fn next_kind(kind: EntryKind) -> Option<EntryKind>
     ensures { result ≡ next_kind kind }
 {
@@ -68,7 +68,7 @@ fn next_kind(kind: EntryKind) -> Option<EntryKind>
     }
 }
 
-/// How many entries the list has whose count stands there, and where the first of them begins.
+/// Returns the number of entries of the list whose count stands there, and the place where the first of them begins.
 fn count_at(item: &BoundedBytes<'_>, at: usize) -> Result<(usize, usize), Stop>
     requires { at ≤ length item.now.bytes.now }
     ensures { result ≡ count_at (bounds_of item.now) item.now.bytes.now at }
@@ -112,7 +112,7 @@ fn pass_lists(
     }
 }
 
-/// How many constants a class has, and where the first of them begins.
+/// Returns the number of constants of a class, and the place where the first of them begins.
 fn class_count(item: &BoundedBytes<'_>, ids: IdSize) -> Result<(usize, usize), Stop>
     ensures { result ≡ class_count ids (bounds_of item.now) item.now.bytes.now }
 {
@@ -121,7 +121,7 @@ fn class_count(item: &BoundedBytes<'_>, ids: IdSize) -> Result<(usize, usize), S
     count_at(item, front)
 }
 
-/// The end of a sub-record that is no class.
+/// Returns the end of a sub-record that is no class.
 fn plain_end(item: &BoundedBytes<'_>, tag: SubTag, ids: IdSize) -> Result<usize, Stop>
     requires { tag ≢ SubTag.ClassDump }
     ensures { result ≡ end_of_read (dump_at ids tag (bounds_of item.now) item.now.bytes.now) }
@@ -155,8 +155,10 @@ fn pass_front(item: &BoundedBytes<'_>, ids: IdSize) -> (Walk, Result<usize, Stop
     }
 }
 
-/// Goes on with a walk as far as there are bytes: where the sub-record ends, or what stopped the walk, and how far it
-/// had come where it was stopped. An entry that was passed is not tested again.
+/// Goes on with a walk as far as there are bytes. Returns the point that the walk has reached, with the end of the sub-record or the reason
+/// why it stopped.
+///
+/// An entry that was passed is not tested again.
 pub fn go_on(item: &BoundedBytes<'_>, ids: IdSize, walk: Walk) -> (Walk, Result<usize, Stop>)
     requires { IsPlaced item.now walk }
     ensures end { result.1 ≡ walked ids (bounds_of item.now) item.now.bytes.now walk }

@@ -44,7 +44,7 @@ pub struct KnownLayouts {
 }
 
 impl KnownLayouts {
-    /// Creates what is known of no classes. Allocates nothing.
+    /// Creates the known layouts of no classes. Allocates nothing.
     pub fn new(alloc: Global) -> KnownLayouts
         ensures { (ids : IdSize) → Knows ids [] result }
     {
@@ -96,7 +96,7 @@ impl KnownLayouts {
 
     /// Takes a class dump, the first of its class, and returns the classes whose layouts become known by it, each once.
     ///
-    /// Identifiers have the size `ids`. If memory runs out, nothing holds of what is kept.
+    /// Identifiers have the size `ids`. If memory runs out, nothing holds of the known layouts.
     pub fn come(&mut self, dump: &ClassDump<'_>, ids: IdSize) -> Result<Vec<u64>, AllocError>
         ensures ok { OnOk result ((facts more : List FactValue) → Knows ids facts self.old → HasNoDump facts dump.now.id
             → HasDumpMore facts (class_value dump.now) more → Knows ids more self.new) }
@@ -192,7 +192,7 @@ impl KnownLayouts {
         Some(plan)
     }
 
-    /// Puts what slots refer to behind other references, as far as it is wanted. The bytes are the values of the slots, and `place`
+    /// Puts the references of slots behind other references, as far as they are wanted. The bytes are the values of the slots, and `place`
     /// fields stand before them. None of the slots refers to anything before the class that the jump goes to.
     fn lay_above(
         &self,
@@ -227,8 +227,8 @@ impl KnownLayouts {
         }
     }
 
-    /// Puts what an instance refers to behind other references, as far as it is wanted. Its class has the plan, and its slots
-    /// have these bytes.
+    /// Puts the references of an instance behind other references, as far as they are wanted. Its class has the plan, and its slots have
+    /// these bytes.
     #[inline(always)]
     fn lay_plan(
         &self,
@@ -254,7 +254,7 @@ impl KnownLayouts {
         Ok(())
     }
 
-    /// Sets `references` to what an instance of the class refers to, as far as it is wanted, and returns whether the layout of the
+    /// Sets `references` to the references of an instance of the class, as far as they are wanted, and returns whether the layout of the
     /// class is known.
     ///
     /// `bytes` are the instance's, and the references come in the order of its fields. There are none if the layout is not known, or has

@@ -7,7 +7,7 @@ ghost use Rattle.hprof_lookup.specs.Classes.{ClassValue, HasDump};
 ghost use Rattle.hprof_known_layouts.specs.declared.known.KnownLayouts.{KnownLayouts};
 ghost use Rattle.hprof_known_layouts.specs.Known.{Knows};
 
-/// What is known depends on class dumps alone.
+/// The known layouts depend on class dumps alone.
 pub fn dumps_decide_what_is_known()
     ensures { (ids : IdSize) (facts more : List FactValue) (known : KnownLayouts)
         → ((dump : ClassValue) → HasDump more dump ↔ HasDump facts dump) → Knows ids facts known → Knows ids more known }

@@ -19,30 +19,30 @@ use hprof_values::IdSize;
 use hprof_values::number::id_at;
 use std::alloc::{AllocError, Global};
 
-/// The own fields of several classes are kept together where at most so many of them refer to something.
+/// The own fields of several classes are kept together if at most this many of them refer to something.
 const MOST_TOGETHER: usize = 32;
 
 /// An own field of a class that refers to something.
 #[derive(Clone, Copy, Debug, PartialEq, Eq)]
 pub(crate) struct OwnReference {
-    /// How many bytes the own fields before it have.
+    /// The number of bytes of the own fields before it.
     pub(crate) offset: usize,
-    /// How many own fields stand before it.
+    /// The number of own fields before it.
     pub(crate) place: u64,
 }
 
 /// The own fields of a class, or of several classes, those of one behind those of the other.
 #[derive(Drop)]
 pub(crate) struct OwnLayout {
-    /// How many bytes they have.
+    /// The number of their bytes.
     pub(crate) width: usize,
-    /// How many they are.
+    /// The number of own fields.
     pub(crate) count: u64,
     /// Those that refer to something, in their order.
     pub(crate) references: Vec<OwnReference>,
 }
 
-/// The own fields of a class, where identifiers have that size.
+/// Returns the own fields of a class, if identifiers have that size.
 pub(crate) fn own_fields(
     alloc: Global,
     dump: &ClassDump<'_>,
@@ -70,7 +70,7 @@ pub(crate) fn own_fields(
     })
 }
 
-/// The identifier behind so many bytes. There is none where the bytes do not reach so far.
+/// Returns the identifier behind `offset` bytes, or `None` if the bytes do not reach so far.
 #[inline(always)]
 fn id_behind(bytes: &[u8], offset: usize, ids: IdSize) -> Option<u64>
     ensures { SomeIff result (offset + width_of ids ≤ length bytes.now) (big_number (width_of ids) (drop offset bytes.now)) }
@@ -83,7 +83,7 @@ fn id_behind(bytes: &[u8], offset: usize, ids: IdSize) -> Option<u64>
 }
 
 impl OwnReference {
-    /// The same field, behind so many more bytes and fields.
+    /// Returns the same field, behind `offset` more bytes and `place` more fields.
     #[inline(always)]
     fn behind(self, offset: usize, place: u64) -> OwnReference
         ensures { result ≡ reference_behind offset place self }
@@ -96,8 +96,8 @@ impl OwnReference {
 }
 
 impl OwnLayout {
-    /// Whether these fields and others, so many bytes behind them, are to be kept together: some of these refer to something,
-    /// few of all do, and the bytes of all can be counted.
+    /// Returns whether these fields and others, `offset` bytes behind them, are to be kept together: some of these refer to something, few
+    /// of all do, and the bytes of all can be counted.
     pub(crate) fn goes_with(&self, offset: usize, others: &OwnLayout) -> bool
         ensures some { IsTrue result → 0 < vec_len self.now.references }
         ensures few { IsTrue result → vec_len self.now.references + vec_len others.now.references ≤ 32 }
@@ -112,8 +112,8 @@ impl OwnLayout {
         count != 0 && together <= MOST_TOGETHER && end < usize::MAX
     }
 
-    /// Puts other fields behind these, with so many bytes and fields between them, none of which refers to anything. The
-    /// error is that memory was refused; nothing holds then of these.
+    /// Puts other fields behind these, with some bytes and fields between them, none of which refers to anything. If memory runs out,
+    /// nothing holds of these.
     pub(crate) fn append(
         &mut self,
         offset: usize,
@@ -135,8 +135,8 @@ impl OwnLayout {
         Ok(())
     }
 
-    /// Puts what the own fields refer to behind other references, as far as it is wanted. The bytes begin with their values,
-    /// and so many fields stand before them.
+    /// Puts the references of the own fields behind other references, as far as they are wanted. The bytes begin with the values of the own
+    /// fields, and some fields stand before them.
     #[inline(always)]
     pub(crate) fn push_references(
         &self,

@@ -1,9 +1,10 @@
-//! Plans: what laying the instances of a class needs, once its layout is known.
+//! Plans: the data for laying the instances of a class, once its layout is known.
 //!
 //! The *layout* of a class is the list of its slots: its own fields, then those of its superclass, and so on. To *lay* an instance is to
 //! find the references among its bytes by the layout of its class. The *plan* of a class lists where they are, so that laying costs the
 //! references of the instance, and neither its classes nor its fields. A *jump* names the next class above that has own fields that refer
-//! to something, and the bytes and fields that lie before them. The *outline* of a class is what the plans of its subclasses need of it.
+//! to something, and the bytes and fields that lie before them. The *outline* of a class is
+//! the part of its layout that the plans of its subclasses need.
 //!
 //! # Example
 //!
@@ -59,7 +60,7 @@ ghost use Rattle.hprof_known_layouts.specs.Plan.{IsPlan, NoTwoDumps, jump_behind
 use crate::own_fields::OwnLayout;
 use std::alloc::AllocError;
 
-/// Where laying goes on: a class that has own fields that refer to something, and what lies before its own fields.
+/// The next class to lay: one that has own fields that refer to something, with the bytes and fields before these.
 #[derive(Clone, Copy, Debug, PartialEq, Eq)]
 pub(crate) struct Jump {
     /// The class.
@@ -72,7 +73,7 @@ pub(crate) struct Jump {
     pub(crate) place: u64,
 }
 
-/// What the plans of the classes below a class need of its layout.
+/// The part of a class's layout that the plans of the classes below it need.
 #[derive(Clone, Copy, Debug, PartialEq, Eq)]
 pub(crate) struct Outline {
     /// The number of bytes of all slots; `u128::MAX` stands for all numbers from it on.
@@ -81,7 +82,7 @@ pub(crate) struct Outline {
     pub(crate) first: Option<Jump>,
 }
 
-/// What laying the instances of a class needs.
+/// The data for laying the instances of a class.
 #[derive(Drop)]
 pub(crate) struct Plan {
     /// The place at which it is put in.
@@ -149,7 +150,7 @@ impl Plan {
         Ok(())
     }
 
-    /// Returns what the plans of the classes below the class need.
+    /// Returns the outline that the plans of the classes below the class need.
     pub(crate) fn outline(&self, class: u64) -> Outline
         ensures { result ≡ outline_of class self.now }
     {

@@ -1,4 +1,4 @@
-//! What the fields of an instance refer to.
+//! The references of the fields of an instance.
 
 ghost use Rattle.std.specs.Prelude.{◌≡◌};
 ghost use Rattle.hprof_known_layouts.specs.References.{is_wanted};
@@ -11,11 +11,11 @@ use hprof_values::Basic;
 pub struct Reference {
     /// The place of the field in the layout of its class, counted from 0.
     pub place: u64,
-    /// The identifier that is its value; 0 where it refers to nothing.
+    /// The identifier that is its value; 0 if it refers to nothing.
     pub to: u64,
 }
 
-/// Which references are wanted.
+/// The references that are wanted.
 #[derive(Clone, Copy, Debug, PartialEq, Eq)]
 pub enum Wanted {
     /// All of them.

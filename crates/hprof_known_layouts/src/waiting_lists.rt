@@ -1,11 +1,11 @@
-//! What waits, by the class that it waits for.
+//! Waiting items, by the class that they wait for.
 
 ghost use Rattle.std.specs.Prelude.{◌≡◌, ◌+◌, ◌∷◌, ◌++◌, ℕ, [], length, IfNone, IfSome, OnOk};
 
 use std::alloc::{AllocError, Global};
 use std::collections::BTreeMap;
 
-/// For each class what waits for it, in the order in which it came.
+/// For each class the items that wait for it, in the order in which they came.
 #[derive(Drop)]
 pub struct WaitingLists<T> {
     alloc: Global,
@@ -25,7 +25,7 @@ impl<T> WaitingLists<T> {
         }
     }
 
-    /// Puts an item behind those that wait for the class. If memory runs out, nothing holds of what waits.
+    /// Puts an item behind those that wait for the class. If memory runs out, nothing holds of the items that wait.
     pub fn add(&mut self, class: u64, item: T) -> Result<(), AllocError>
     where
         T: Drop,
@@ -40,7 +40,7 @@ impl<T> WaitingLists<T> {
         Ok(())
     }
 
-    /// Takes out what waits for the class, or returns `None` if nothing does.
+    /// Takes out the items that wait for the class, or returns `None` if there are none.
     pub fn take(&mut self, class: u64) -> Option<Vec<T>>
         ensures some { IfSome result (λ list. list.items ≡ waiting_for self.old class) }
         ensures none { IfNone result (waiting_for self.old class ≡ []) }

@@ -7,7 +7,7 @@ ghost use Rattle.hprof_layouts.specs.Layout.{EndsAs};
 use hprof_heap::{Heap, Table};
 use hprof_lookup::{find_class, table_len};
 
-/// Where the chain of a class ends.
+/// The end of the chain of a class.
 #[derive(Clone, Copy, Debug, PartialEq, Eq)]
 pub(crate) enum ChainEnd {
     /// At 0, after this number of classes.
@@ -43,8 +43,8 @@ impl Mark {
     }
 }
 
-/// Returns where the chain of a class ends. A chain that comes to a mark again is a circle, and so is one that is longer than the number
-/// of class dumps. Nothing is allocated.
+/// Returns the end of the chain of a class. A chain that comes to a mark again is a circle, and so is one that is longer than the number of
+/// class dumps. Nothing is allocated.
 pub(crate) fn chain_end(heap: &Heap, class: u64) -> ChainEnd
     ensures { EndsAs (facts_of heap.now) class result }
 {

@@ -1,4 +1,4 @@
-//! Where the fields of an object come from, in the order of its bytes.
+//! The slots of a class, in the order of an object's bytes.
 
 use hprof_values::Basic;
 
@@ -13,7 +13,7 @@ pub struct Slot {
     pub basic: Basic,
 }
 
-/// How the bytes of the instances of a class are laid out.
+/// The layout of the bytes of the instances of a class.
 #[derive(Drop)]
 pub enum Layout {
     /// The slots: those of the class, then of its superclass, and so on.

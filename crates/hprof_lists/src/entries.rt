@@ -9,10 +9,10 @@ ghost use Rattle.hprof_lists.specs.Entries.{EntryFits, entries_bytes, entries_in
 use crate::entry::{Entry, EntryKind, entry_at, entry_end};
 use hprof_values::{BoundedBytes, IdSize};
 
-/// The greatest number of entries that the field for it can say.
+/// The greatest number of entries that its field can hold.
 const MOST_ENTRIES: usize = u16::MAX as usize;
 
-/// The number of bytes of the entry at the front, where one stands there.
+/// Returns the number of bytes of the entry at the front, if one stands there.
 fn first_len(bytes: &[u8], kind: EntryKind, ids: IdSize) -> Option<usize>
     ensures { result ≡ result_ok (entry_end ids kind (exactly bytes.now) bytes.now 0) }
 {
@@ -24,7 +24,7 @@ fn first_len(bytes: &[u8], kind: EntryKind, ids: IdSize) -> Option<usize>
     entry_end(&item, 0, kind, ids).ok()
 }
 
-/// The number of entries that fill the bytes.
+/// Returns the number of entries that fill the bytes, or `None` if no number up to 65,535 does.
 pub fn count_entries(bytes: &[u8], kind: EntryKind, ids: IdSize) -> Option<usize>
     ensures found { IfSome result (λ count. IsEntryList ids kind (entries_in ids kind count bytes.now) bytes.now) }
     ensures few { IfSome result (λ count. count ≤ most_entries) }
@@ -44,7 +44,7 @@ pub fn count_entries(bytes: &[u8], kind: EntryKind, ids: IdSize) -> Option<usize
     Some(count)
 }
 
-/// The first of so many entries that fill the bytes, and what the others fill.
+/// Returns the first of the `left` entries that fill the bytes, and the bytes that the others fill.
 pub fn next_entry(bytes: &[u8], left: usize, kind: EntryKind, ids: IdSize) -> (Entry, &[u8])
     requires some { 0 < left }
     requires spelled { bytes.now ≡ entries_bytes ids kind (entries_in ids kind left bytes.now) }
@@ -58,7 +58,7 @@ pub fn next_entry(bytes: &[u8], left: usize, kind: EntryKind, ids: IdSize) -> (E
     (entry, rest)
 }
 
-/// The entry at a place among so many that fill the bytes.
+/// Returns the entry at a place among those that fill the bytes.
 pub fn nth_entry(
     bytes: &[u8],
     count: usize,

@@ -1,4 +1,4 @@
-//! The entries of a class dump: constants, static fields and own instance fields, as what they have in common.
+//! The entries of a class dump: constants, static fields and own instance fields, by the fields that they have in common.
 
 ghost use Rattle.std.specs.Prelude.{◌≡◌, ◌+◌, ◌<◌, ◌≤◌, List, length, IfOk};
 ghost use Rattle.hprof_lists.specs.Entries.{lead_width, bits_width, entry_len, entry_in, EntryFits, entry_end};
@@ -8,7 +8,7 @@ use byteorder::{BigEndian, ByteOrder};
 use hprof_values::number::{bits_at, id_at};
 use hprof_values::{Basic, BoundedBytes, IdSize, Reason, Stop};
 
-/// Which of the three lists of a class dump an entry stands in.
+/// The list of a class dump that an entry stands in, one of three.
 #[derive(Clone, Copy, Debug, PartialEq, Eq)]
 pub enum EntryKind {
     /// A constant.
@@ -31,7 +31,7 @@ pub struct Entry {
 }
 
 impl EntryKind {
-    /// The number of bytes of the index or of the name.
+    /// Returns the number of bytes of the index or of the name.
     pub fn lead_width(self, ids: IdSize) -> usize
         ensures { result ≡ lead_width ids self }
     {
@@ -41,7 +41,7 @@ impl EntryKind {
         }
     }
 
-    /// The number of bytes of a value of that type.
+    /// Returns the number of bytes of a value of that type.
     pub fn bits_width(self, basic: Basic, ids: IdSize) -> usize
         ensures { result ≡ bits_width ids self basic }
     {
@@ -52,7 +52,7 @@ impl EntryKind {
     }
 }
 
-/// The end of the entry that begins there, or the first of its tests that fails.
+/// Returns the end of the entry that begins there, or the first of its tests that fails.
 #[tactic(auto, unfolding(crate::specs::Entries::entry_end))]
 pub fn entry_end(
     item: &BoundedBytes<'_>,
@@ -72,7 +72,7 @@ pub fn entry_end(
     item.end_of(front, &[kind.bits_width(basic, ids)])
 }
 
-/// The entry at the front.
+/// Returns the entry at the front.
 pub fn entry_at(bytes: &[u8], kind: EntryKind, ids: IdSize) -> Entry
     requires { entry_len ids kind (entry_in ids kind bytes.now) ≤ length bytes.now }
     ensures entry { result ≡ entry_in ids kind bytes.now }

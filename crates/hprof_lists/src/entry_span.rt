@@ -10,20 +10,20 @@ use crate::entry::{EntryKind, entry_end};
 use byteorder::{BigEndian, ByteOrder};
 use hprof_values::{BoundedBytes, IdSize, Stop};
 
-/// So many entries, over the bytes that spell them.
+/// A number of entries, over the bytes that spell them.
 #[derive(Clone, Copy, Debug)]
 pub struct EntrySpan<'a> {
     /// The bytes of the entries, without their count.
     pub bytes: &'a [u8],
     /// The number of entries.
     pub count: u16,
-    /// Where they end in the item.
+    /// The place in the item at which they end.
     pub end: usize,
     ghost range: { IsBytes bytes.now },
     ghost few: { count < 2 ^ 16 },
 }
 
-/// The count that stands there.
+/// Returns the count that stands there.
 fn count_at(bytes: &[u8], at: usize) -> u16
     requires { at + 2 ≤ length bytes.now }
     ensures count { result ≡ big_number 2 (drop at bytes.now) }
@@ -33,7 +33,7 @@ fn count_at(bytes: &[u8], at: usize) -> u16
     BigEndian::read_u16(fields)
 }
 
-/// Where the last of so many entries ends, or the first of their tests that fails.
+/// Returns the end of the last of that many entries, or the first of their tests that fails.
 fn entries_end(
     item: &BoundedBytes<'_>,
     at: usize,

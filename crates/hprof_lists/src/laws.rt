@@ -19,8 +19,8 @@ pub fn one_list()
         → IsIdList ids numbers bytes → IsIdList ids others bytes → numbers ≡ others }
 {}
 
-/// So many entries end at a place exactly where as many lie from their first up to there, within all bounds. What is answered
-/// otherwise is what the tests of one of them answer, before which the others end.
+/// Entries end at a place exactly if that many of them lie from the first up to there, within all bounds. Otherwise the answer is that of
+/// the tests of one of them, before which the others end.
 pub fn entries_end_or_stop()
     ensures end { (ids : IdSize) (kind : EntryKind) (bounds : Bounds) (bytes : List ℕ) (count at end : ℕ) → IsBytes bytes
         → bounds.there ≤ length bytes → IsWithin bounds at

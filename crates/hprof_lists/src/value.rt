@@ -1,4 +1,4 @@
-//! Values, and what the entries of a class dump are.
+//! Values, and the entries of a class dump with their own fields.
 
 ghost use Rattle.std.specs.Prelude.{◌≡◌, ◌<◌, ◌^◌};
 ghost use Rattle.hprof_lists.specs.Value.{constant_of, static_of, field_of};
@@ -43,7 +43,7 @@ pub struct Field {
 }
 
 impl Constant {
-    /// What the entry is as a constant.
+    /// Returns the entry as a constant.
     pub fn of(entry: Entry) -> Constant
         requires { entry.number < 2 ^ 16 }
         ensures { result ≡ constant_of entry }
@@ -59,7 +59,7 @@ impl Constant {
 }
 
 impl Static {
-    /// What the entry is as a static field.
+    /// Returns the entry as a static field.
     pub fn of(entry: Entry) -> Static
         ensures { result ≡ static_of entry }
     {
@@ -74,7 +74,7 @@ impl Static {
 }
 
 impl Field {
-    /// What the entry is as a field of the instances.
+    /// Returns the entry as a field of the instances.
     pub fn of(entry: Entry) -> Field
         ensures { result ≡ field_of entry }
     {

@@ -7,7 +7,7 @@ ghost use Rattle.hprof_edges.specs.contracts.edge.EdgeOrd.TheImpl as edge_ord;
 
 use hprof_edges::Edge;
 
-/// Moves the edges to an identifier behind the others, in one pass, and says how many others there are.
+/// Moves the edges to an identifier behind the others, in one pass, and returns the number of the others.
 fn move_behind(edges: &mut Vec<Edge>, id: u64) -> usize
     ensures within { result ≤ vec_len edges.new }
     ensures moved { IsPermutation edges.old.items edges.new.items }
@@ -39,7 +39,7 @@ fn sort_from(edges: &mut Vec<Edge>, start: usize)
     edges[start..].sort_unstable();
 }
 
-/// Moves the edges to an identifier behind the others, in order, and says where they begin. Each is kept once. It takes no
+/// Moves the edges to an identifier behind the others, in order, and returns the place where they begin. Each is kept once. It takes no
 /// memory.
 pub(crate) fn bring_behind(edges: &mut Vec<Edge>, id: u64) -> usize
     ensures within { result ≤ vec_len edges.new }

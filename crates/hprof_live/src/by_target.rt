@@ -1,4 +1,4 @@
-//! Edges by what they refer to.
+//! Edges by the identifier that they refer to.
 
 ghost use Rattle.std.specs.Prelude.{◌≡◌, ◌↔◌, Contains};
 ghost use Rattle.std.specs.List.Sorted.{IsStrictlySortedBy};
@@ -8,14 +8,14 @@ ghost use Rattle.hprof_live.specs.ByTarget.{IsByTarget};
 
 use hprof_edges::Edge;
 
-/// An edge, ordered by what it refers to, and then as edges are.
+/// An edge, ordered by the identifier that it refers to, and then as edges are.
 #[derive(Clone, Copy, Debug, PartialEq, Eq, PartialOrd, Ord)]
 struct TargetFirst {
     to: u64,
     edge: Edge,
 }
 
-/// Puts edges in order by what they refer to, and then as edges are, each once. It takes no memory.
+/// Puts edges in order by the identifier that they refer to, and then as edges are, each once. It takes no memory.
 pub(crate) fn sort_by_target(edges: &mut Vec<Edge>)
     ensures sorted { IsByTarget edges.new.items }
     ensures same { (edge : Edge) → Contains edges.new.items edge ↔ Contains edges.old.items edge }
@@ -27,8 +27,8 @@ pub(crate) fn sort_by_target(edges: &mut Vec<Edge>)
     edges.dedup();
 }
 
-/// The edges to an identifier, where edges are in order by what they refer to. They stand one behind the other, and are found
-/// by halves.
+/// Returns the edges to an identifier, if edges are in order by the identifier that they refer to. They stand one behind the other, and are
+/// found by halves.
 pub(crate) fn edges_to(edges: &[Edge], id: u64) -> &[Edge]
     ensures ascend { IsByTarget edges.now → IsStrictlySortedBy (edge_ord.ghosts).cmp result.now }
     ensures exact { IsByTarget edges.now → (edge : Edge) → Contains result.now edge

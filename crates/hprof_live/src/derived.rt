@@ -1,4 +1,4 @@
-//! What is derived from facts: known layouts, edges, and the number of instances.
+//! The data that is derived from facts: known layouts, edges, and the number of instances.
 
 ghost use Rattle.std.specs.Prelude.{◌≡◌, ◌↔◌, ◌≤◌, ◌+◌, ◌++◌, ◌∷◌, ℕ, true, false, List, [], Contains, IsTrue, IfOk, OnOk, drop, vec_len};
 ghost use Rattle.hprof_values.specs.declared.ids.IdSize.{IdSize};
@@ -29,7 +29,7 @@ use hprof_lookup::{ClassDump, ObjectDump, find_object, holds_of_heap, id_size, t
 use hprof_values::IdSize;
 use std::alloc::{AllocError, Global};
 
-/// What is derived from facts that come one by one.
+/// The data that is derived from facts that come one by one.
 #[derive(Drop)]
 pub(crate) struct Derived {
     known: KnownLayouts,
@@ -41,7 +41,7 @@ pub(crate) struct Derived {
 }
 
 impl Derived {
-    /// What is derived from no facts. It takes no memory yet.
+    /// Returns the data that is derived from no facts. It takes no memory yet.
     pub(crate) fn new(alloc: Global, wanted: Wanted) -> Derived
         ensures derived { (ids : IdSize) → IsDerived ids [] result }
         ensures keeps { keeps_of result ≡ is_edge_wanted wanted }
@@ -74,7 +74,7 @@ impl Derived {
         self.instances.saturating_sub(self.cuts)
     }
 
-    /// Moves the edges to an identifier behind the others, in order, and says where they begin.
+    /// Moves the edges to an identifier behind the others, in order, and returns the place where they begin.
     pub(crate) fn bring_behind(&mut self, id: u64) -> usize
         ensures within { result ≤ vec_len self.new.set.edges }
         ensures behind { (ids : IdSize) (facts : List FactValue) → IsDerived ids facts self.old
@@ -88,7 +88,7 @@ impl Derived {
         bring_behind(&mut self.set.edges, id)
     }
 
-    /// The edges that are kept, from a place on.
+    /// Returns the edges that are kept, from a place on.
     pub(crate) fn edges_from(&self, start: usize) -> &[Edge]
         requires { start ≤ vec_len self.now.set.edges }
         ensures { result.now ≡ drop start (edges_in self.now.set) }
@@ -97,7 +97,7 @@ impl Derived {
         edges
     }
 
-    /// The edges, by what they refer to.
+    /// Returns the edges, by the identifier that they refer to.
     pub(crate) fn into_index(self) -> Index
         ensures { (ids : IdSize) (facts : List FactValue) → IsDerived ids facts self → IsIndexOf ids facts (keeps_of self) result }
     {
@@ -106,8 +106,8 @@ impl Derived {
         Index { edges }
     }
 
-    /// Lays the layout of its class over the bytes of an instance, if it is known, and counts the instance then: nothing else
-    /// does. It tells whether it was laid.
+    /// Lays the layout of its class over the bytes of an instance, if it is known, and counts the instance then: nothing else does. It
+    /// returns whether the instance was laid.
     #[inline(always)]
     fn lay(
         &mut self,
@@ -253,7 +253,7 @@ impl Derived {
         Ok(())
     }
 
-    /// Takes a fact that is new to the heap, which has it. Where memory is refused, nothing holds of what is derived.
+    /// Takes a fact that is new to the heap, which has it. If memory runs out, nothing holds of the derived data.
     #[inline(always)]
     pub(crate) fn add(&mut self, heap: &Heap, fact: &Fact<'_>) -> Result<(), AllocError>
         ensures adds { OnOk result ((before : List FactValue)

@@ -1,4 +1,4 @@
-//! What refers to what in a heap, by what is referred to.
+//! The references in a heap, by the identifier that they refer to.
 
 ghost use Rattle.std.specs.Prelude.{◌≡◌, Bool, true, List};
 ghost use Rattle.hprof_values.specs.declared.ids.IdSize.{IdSize};
@@ -10,7 +10,7 @@ ghost use Rattle.hprof_live.specs.Indexed.{IsIndexOf, IsIndexTo};
 use crate::by_target::edges_to;
 use hprof_edges::Edge;
 
-/// The edges of a heap that were watched, by what they refer to.
+/// The edges of a heap that were watched, by the identifier that they refer to.
 #[derive(Drop)]
 pub struct Index {
     pub(crate) edges: Vec<Edge>,

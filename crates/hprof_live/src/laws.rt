@@ -16,7 +16,7 @@ ghost use Rattle.hprof_live.specs.LiveHeap.{outcome_of, seen_by};
 ghost use Rattle.hprof_live.specs.Number.{IsNumberOf};
 ghost use Rattle.hprof_live.specs.OfParts.{AnswersOfParts};
 
-/// What refers to an identifier only grows with more facts.
+/// The list of referrers of an identifier only grows with more facts.
 pub fn referrers_only_grow()
     ensures { (ids : IdSize) (facts more : List FactValue) (id : ℕ) (edges others : List Edge) (edge : Edge)
         → ((fact : FactValue) → Has facts fact → Has more fact) → AreReferrers ids facts id edges → AreReferrers ids more id others

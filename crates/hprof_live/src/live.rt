@@ -1,4 +1,4 @@
-//! What a live heap answers.
+//! The answers of a live heap.
 
 ghost use Rattle.std.specs.Prelude.{Ok, IfOk};
 ghost use Rattle.hprof_live.specs.Mapped.{MapsTo};
@@ -17,7 +17,7 @@ pub enum Live<T> {
 }
 
 impl<T> Live<T> {
-    /// Applies a function to what is answered, if something is.
+    /// Applies a function to the answer, if there is one.
     pub(crate) fn map<U, F: FnOnce(T) -> U>(self, apply: F) -> Live<U>
         requires { F.IsAlwaysCallable apply }
         ensures { MapsTo (F.post apply) self result }
@@ -29,7 +29,7 @@ impl<T> Live<T> {
         }
     }
 
-    /// Applies a function that may run out of memory to what is answered, if something is.
+    /// Applies a function that may run out of memory to the answer, if there is one.
     pub(crate) fn try_map<U, F: FnOnce(T) -> Result<U, AllocError>>(
         self,
         apply: F,

@@ -38,7 +38,7 @@ pub struct LiveHeap {
     failed: bool,
 }
 
-/// The layout of a class where there are no facts.
+/// Returns the layout of a class if there are no facts.
 fn layout_of_none(alloc: Global, class: u64) -> Layout
     ensures { IsLayout [] class (layout_value result) }
 {
@@ -52,7 +52,7 @@ impl LiveHeap {
     ghost use Rattle.hprof_live.specs.LiveHeap.{IsAnswer, IsCurrent, IsKindOf, KeepsOnly, LendsHeap, RestsAsItIs};
     ghost use Rattle.hprof_live.specs.LiveHeap.{Watches, outcome_of, seen_by};
 
-    /// Creates a live heap that was given nothing, and keeps the edges to what is wanted. Allocates nothing.
+    /// Creates a live heap that was given nothing, and keeps the edges to the wanted identifiers. Allocates nothing.
     fn wanting(alloc: Global, wanted: Wanted) -> LiveHeap
         ensures nothing { seen_by result ≡ nothing_gathered }
         ensures current { IsCurrent result }
@@ -157,8 +157,8 @@ impl LiveHeap {
         self.lend_edges(start)
     }
 
-    /// Derives what there is to derive from a fact, as [`LiveHeap::derive`] does. It stands apart from the
-    /// loop over the facts of a part, so that the gatherer's part of `take` stands in it.
+    /// Derives the data of a fact, as [`LiveHeap::derive`] does. It stands apart from the loop over the facts of a part, so that the
+    /// gatherer's part of `take` stands in it.
     #[inline(never)]
     fn derive_any(&mut self, fact: &Fact<'_>) -> Result<(), AllocError>
         ensures derives { OnOk result ((before : List FactValue) (heap : HeapValue)
@@ -177,7 +177,7 @@ impl LiveHeap {
         }
     }
 
-    /// Derives what there is to derive from a fact that the gatherer took, and that was new to it.
+    /// Derives the data of a fact that the gatherer took, and that was new to it.
     #[inline(always)]
     fn derive(&mut self, fact: &Fact<'_>) -> Result<(), AllocError>
         ensures derives { OnOk result ((before : List FactValue) (heap : HeapValue)

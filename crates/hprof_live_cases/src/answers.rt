@@ -1,4 +1,4 @@
-//! Layouts, fields and the answers of live heaps, beside what is expected.
+//! Layouts, fields and the answers of live heaps, beside the expected ones.
 
 use crate::expecting::equal_at;
 use hprof_edges::{Edge, Via};
@@ -9,7 +9,7 @@ use std::alloc::{AllocError, Global};
 use std::process::Abort;
 use std::test::Fail;
 
-/// An edge.
+/// Returns an edge.
 pub(crate) fn edge(from: u64, via: Via, position: u64, to: u64) -> Edge {
     Edge {
         from,
@@ -91,7 +91,7 @@ pub(crate) fn live_shape(layout: &Live<Layout>) -> Live<Shape<'_>> {
     }
 }
 
-/// The layout of a class so far. If memory is refused it is asked for again.
+/// Returns the layout of a class so far. If memory runs out, it is asked for again.
 fn layout_now(alloc: Global, live: &LiveHeap, class: u64) -> Result<Live<Layout>, AllocError> {
     if let Ok(layout) = live.layout_now(alloc, class) {
         return Ok(layout);
@@ -112,7 +112,7 @@ pub(crate) fn expect_layout_now(
     Ok(())
 }
 
-/// Checks that so many instances wait for a layout, and so many were laid.
+/// Checks the number of instances that wait for a layout, and of those that were laid.
 pub(crate) fn expect_counts(
     rt: &impl Abort,
     live: &LiveHeap,

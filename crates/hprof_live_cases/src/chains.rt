@@ -27,13 +27,13 @@ fn give_class<S: Sink>(alloc: Global, sink: &mut S, id: u64, above: u64) -> Resu
     give(alloc, sink, Dump::Class(id, parent, BYTE))
 }
 
-/// Gives the instance 2,000 of class 1, with so many bytes, all of them 3.
+/// Gives the instance 2,000 of class 1, with `count` bytes, all of them 3.
 fn give_instance<S: Sink>(alloc: Global, sink: &mut S, count: usize) -> Result<(), Fail> {
     let bytes = vec![in alloc; 3; count]?;
     give(alloc, sink, Dump::Instance(2_000, 1, &bytes))
 }
 
-/// A slot of each class.
+/// Returns a slot of each class.
 fn all_slots(alloc: Global) -> Result<Vec<Slot>, AllocError> {
     let mut slots = Vec::new(alloc);
     for class in 1..=LAST {
@@ -46,7 +46,7 @@ fn all_slots(alloc: Global) -> Result<Vec<Slot>, AllocError> {
     Ok(slots)
 }
 
-/// A field of each class, which is 3.
+/// Returns a field of each class, which is 3.
 fn all_values(alloc: Global) -> Result<Vec<FieldValue>, AllocError> {
     let mut values = Vec::new(alloc);
     for class in 1..=LAST {
@@ -60,7 +60,7 @@ fn all_values(alloc: Global) -> Result<Vec<FieldValue>, AllocError> {
     Ok(values)
 }
 
-/// The heap of the instance with so many bytes, and of the classes below that one.
+/// Returns the heap of the instance with `count` bytes, and of the classes below that one.
 fn heap_below(alloc: Global, above: u64, count: usize) -> Result<Heap, Fail> {
     let mut gatherer = Gatherer::new(alloc);
     give_instance(alloc, &mut gatherer, count)?;

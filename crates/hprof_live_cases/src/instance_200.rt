@@ -70,10 +70,10 @@ pub(crate) const TO_PARENT: Edge = Edge {
     to: 99,
 };
 
-/// What refers to identifiers where the instance has no layout.
+/// The edges to identifiers if the instance has no layout.
 pub(crate) const ALONE: &[(u64, &[Edge])] = &[(201, &[]), (100, &[TO_CLASS])];
 
-/// What refers to identifiers where it was laid.
+/// The edges to identifiers if it was laid.
 pub(crate) const LAID: &[(u64, &[Edge])] = &[
     (201, &[BY_FIELD]),
     (100, &[TO_CLASS]),

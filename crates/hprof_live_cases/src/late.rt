@@ -1,4 +1,4 @@
-//! What a live heap answers after each fact, where classes come late, and what is found at the end.
+//! The answers of a live heap after each fact, if classes come late, and its answers at the end.
 
 use crate::answers::{Shape, expect_counts, expect_indexed, expect_layout_now, expect_referrers};
 use crate::expecting::equal;
@@ -17,7 +17,7 @@ use std::test::*;
 /// The edges to identifiers.
 type Referrers<'a> = &'a [(u64, &'a [Edge])];
 
-/// A dump, and what a live heap answers after it: the layout of a class, how many instances wait for a layout and how many were laid,
+/// A dump, and the answers of a live heap after it: the layout of a class, the number of instances that wait and of those that were laid,
 /// and the edges to identifiers.
 type Step<'a> = (Dump<'a>, (u64, Shape<'a>), [u64; 2], Referrers<'a>);
 

@@ -17,7 +17,7 @@ use hprof_live::{Index, Live, LiveHeap};
 use hprof_stream::{Sink, SinkFault};
 use std::alloc::Global;
 
-/// What a live heap of one fact answers about an identifier, and its heap.
+/// The answers of a live heap of one fact about an identifier, and its heap.
 #[derive(Drop)]
 pub struct Answers<'a> {
     /// The fact.
@@ -53,7 +53,7 @@ fn give_one(
     Ok(live)
 }
 
-/// The number of edges in an answer.
+/// Returns the number of edges in an answer.
 fn count(edges: Live<&[Edge]>) -> Live<usize>
     ensures { result ≡ live_map (λ edges. length edges.now) edges.entry }
 {

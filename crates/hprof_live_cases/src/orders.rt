@@ -73,7 +73,7 @@ const CHAIN_OF_MANY_TYPES: [Dump<'_>; 13] = [
     Dump::Numbers(8, Basic::Int, b"\0\0\0\x09"),
 ];
 
-/// The next of numbers that look random.
+/// Returns the next of numbers that look random.
 fn next_random(random: u64) -> u64 {
     random
         .wrapping_mul(6_364_136_223_846_793_005)
@@ -90,7 +90,7 @@ fn shuffle(dumps: &mut [Dump<'_>], seed: u64) {
     }
 }
 
-/// Dumps, and one of them again, in an order that a number stands for, as does which one it is.
+/// Returns dumps, and one of them again. A number stands for their order, and for the one that comes again.
 fn order_of<'a>(alloc: Global, dumps: &[Dump<'a>], seed: u64) -> Result<Vec<Dump<'a>>, Fail> {
     let again = (seed as usize).checked_rem(dumps.len()).ok_or("no dumps")?;
     let mut order = Vec::from_slice(alloc, dumps)?;
@@ -99,7 +99,7 @@ fn order_of<'a>(alloc: Global, dumps: &[Dump<'a>], seed: u64) -> Result<Vec<Dump
     Ok(order)
 }
 
-/// The facts of dumps.
+/// Returns the facts of dumps.
 fn facts_of<'a>(alloc: Global, dumps: &[Dump<'a>]) -> Result<Vec<Fact<'a>>, Fail> {
     let mut facts = Vec::new(alloc);
     for dump in dumps {
@@ -108,7 +108,7 @@ fn facts_of<'a>(alloc: Global, dumps: &[Dump<'a>]) -> Result<Vec<Fact<'a>>, Fail
     Ok(facts)
 }
 
-/// Checks that a live heap answers what a search of the facts that came finds.
+/// Checks that the answers of a live heap are those of a search of the facts that came.
 fn expect_anew(
     rt: &impl Abort,
     alloc: Global,
@@ -127,7 +127,7 @@ fn expect_anew(
     Ok(())
 }
 
-/// The live heap of dumps in that order. After each of them its answers are those of the list.
+/// Returns the live heap of dumps in that order. After each of them its answers are those of the list.
 fn give_in_order(rt: &impl Abort, alloc: Global, order: &[Dump<'_>]) -> Result<LiveHeap, Fail> {
     let mut live = LiveHeap::new(alloc);
     let mut came = Vec::new(alloc);
@@ -179,7 +179,7 @@ fn expect_conflict(
     Ok(())
 }
 
-/// A hundred orders of dumps. Each fourth ends with another dump, which has the key of one of them.
+/// Checks a hundred orders of dumps. Each fourth ends with another dump, which has the key of one of them.
 fn check_orders(
     rt: &impl Abort,
     alloc: Global,

@@ -36,7 +36,7 @@ fn push_own_slots(
     Ok(())
 }
 
-/// The layout of a class. A chain of more classes than there are facts comes to one of them twice.
+/// Returns the layout of a class. A chain of more classes than there are facts comes to one of them twice.
 pub(crate) fn layout_in(
     alloc: Global,
     facts: &[Fact<'_>],
@@ -57,7 +57,7 @@ pub(crate) fn layout_in(
     Ok(Layout::Cyclic)
 }
 
-/// How many instances have a class whose layout is known, and how many another.
+/// Returns the number of instances whose class has a known layout, and the number of the others.
 pub(crate) fn count_instances(alloc: Global, facts: &[Fact<'_>]) -> Result<(u64, u64), AllocError> {
     let mut known: u64 = 0;
     let mut others: u64 = 0;
@@ -225,7 +225,7 @@ fn push_edges_of(
     }
 }
 
-/// All edges, in order.
+/// Returns all edges, in order.
 pub(crate) fn edges_in(alloc: Global, facts: &[Fact<'_>]) -> Result<Vec<Edge>, AllocError> {
     let mut edges = Vec::new(alloc);
     for fact in facts {
@@ -235,14 +235,14 @@ pub(crate) fn edges_in(alloc: Global, facts: &[Fact<'_>]) -> Result<Vec<Edge>, A
     Ok(edges)
 }
 
-/// Those to an identifier.
+/// Returns those to an identifier.
 pub(crate) fn edges_to(alloc: Global, edges: &[Edge], id: u64) -> Result<Vec<Edge>, AllocError> {
     let mut found = Vec::from_slice(alloc, edges)?;
     found.retain(|edge| edge.to == id);
     Ok(found)
 }
 
-/// Those from an identifier.
+/// Returns those from an identifier.
 pub(crate) fn edges_from(alloc: Global, edges: &[Edge], id: u64) -> Result<Vec<Edge>, AllocError> {
     let mut found = Vec::from_slice(alloc, edges)?;
     found.retain(|edge| edge.from == id);

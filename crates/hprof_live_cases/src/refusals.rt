@@ -1,4 +1,4 @@
-//! What a live heap answers before any part, where two sizes were begun or a key has two contents, and after a fault.
+//! The answers of a live heap before any part, if two sizes were begun or a key has two contents, and after a fault.
 
 use crate::answers::{Shape, expect_counts, expect_layout_now, expect_referrers, live_shape};
 use crate::expecting::{equal, equal_at};
@@ -82,7 +82,7 @@ fn expect_failed(rt: &impl Abort, alloc: Global, live: LiveHeap) {
     equal(rt, live.finish().err(), Some(Refusal::Failed));
 }
 
-/// If a request for memory is refused that the live heap makes, it has failed from then on, and the test ends with that fault.
+/// If memory runs out in the live heap, it has failed from then on, and the test ends with that fault.
 #[test]
 fn refused_memory(rt: HostRuntime) -> Result<(), Fail> {
     let alloc = rt.alloc();

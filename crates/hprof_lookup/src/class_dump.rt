@@ -2,7 +2,7 @@
 
 use hprof_lists::{ConstantList, FieldList, StaticList};
 
-/// What a class dump says. Its lists borrow from the heap.
+/// The contents of a class dump. Its lists borrow from the heap.
 #[derive(Clone, Copy, Debug, PartialEq, Eq)]
 pub struct ClassDump<'a> {
     /// The class object.

@@ -1,4 +1,4 @@
-//! What a heap answers, told by its facts.
+//! The answers of a heap, told by its facts.
 
 ghost use Rattle.std.specs.Prelude.{◌≡◌, ◌<◌, ◌^◌, length};
 ghost use Rattle.hprof_rows.specs.declared.table.Table.TheVariants as tables;
@@ -13,7 +13,7 @@ ghost use Rattle.hprof_lookup.specs.HeapFacts.{facts_of, size_of};
 use hprof_heap::{Facts, Heap, Table};
 use hprof_values::IdSize;
 
-/// Does nothing. Its clauses are what holds of the facts of every heap, for a caller whose proof needs it.
+/// Does nothing. Its clauses hold of the facts of every heap, for a caller whose proof needs them.
 #[inline(always)]
 pub fn holds_of_heap(heap: &Heap)
     ensures fit { AllFit (size_of heap.now) (facts_of heap.now) }

@@ -1,4 +1,4 @@
-//! Class dumps, object dumps, names and the facts of a table, found in a heap. What each call answers is told by the heap's facts.
+//! Class dumps, object dumps, names and the facts of a table, found in a heap. The heap's facts tell the answer of each call.
 #![tactic(auto)]
 
 mod class_dump;

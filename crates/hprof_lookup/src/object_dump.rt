@@ -3,7 +3,7 @@
 use hprof_lists::IdList;
 use hprof_values::Basic;
 
-/// What an object dump says. Its bytes and elements borrow from the heap.
+/// The contents of an object dump. Its bytes and elements borrow from the heap.
 #[derive(Clone, Copy, Debug, PartialEq, Eq)]
 pub enum ObjectDump<'a> {
     /// An instance of a class.

@@ -30,7 +30,7 @@ pub struct ClassNames {
 }
 
 impl ClassNames {
-    /// Returns the names of a heap, found in one pass over its loads. The error is that memory ran out.
+    /// Returns the names of a heap, found in one pass over its loads. If memory runs out, the answer is `AllocError`.
     pub fn of(alloc: Global, heap: &Heap) -> Result<ClassNames, AllocError>
         ensures { IfOk result (AreClassNames (facts_of heap.now)) }
     {

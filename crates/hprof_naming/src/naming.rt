@@ -17,8 +17,8 @@ fn missing_name(alloc: Global, name: u64) -> Result<String, AllocError>
     format!(in alloc; "\\?{name:x}")
 }
 
-/// Returns a name in print: its bytes in printed form, or `\?` and its identifier if the heap does not have it. The error is
-/// that memory ran out.
+/// Returns a name in print: its bytes in printed form, or `\?` and its identifier if the heap does not have it. If memory runs out, the
+/// answer is `AllocError`.
 pub fn name_text(alloc: Global, heap: &Heap, name: u64) -> Result<String, AllocError>
     ensures form { IfOk result (λ text. IsNameText (facts_of heap.now) name (string_bytes text)) }
     ensures named { (naming : Naming) → IsNaming (facts_of heap.now) naming
@@ -31,7 +31,7 @@ pub fn name_text(alloc: Global, heap: &Heap, name: u64) -> Result<String, AllocE
     }
 }
 
-/// Returns the label of a class of that name: the name in print, or `\?` if there is none. The error is that memory ran out.
+/// Returns the label of a class of that name: the name in print, or `\?` if there is none. If memory runs out, the answer is `AllocError`.
 pub fn label_of(alloc: Global, heap: &Heap, name: Option<u64>) -> Result<String, AllocError>
     ensures { IfOk result (λ text. IsLabelOf (facts_of heap.now) name (string_bytes text)) }
 {
@@ -41,7 +41,7 @@ pub fn label_of(alloc: Global, heap: &Heap, name: Option<u64>) -> Result<String,
     }
 }
 
-/// Returns the label of a class, by its name in the load with the least serial. The error is that memory ran out.
+/// Returns the label of a class, by its name in the load with the least serial. If memory runs out, the answer is `AllocError`.
 pub fn class_label(alloc: Global, heap: &Heap, class: u64) -> Result<String, AllocError>
     ensures form { IfOk result (λ text. IsLabel (facts_of heap.now) class (string_bytes text)) }
     ensures named { (naming : Naming) → IsNaming (facts_of heap.now) naming

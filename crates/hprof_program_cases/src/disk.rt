@@ -9,7 +9,7 @@ use std::process::Abort;
 use std::test::Fail;
 use std::{env, fs};
 
-/// The path of a file of that name in the folder for such files. No file is there.
+/// Returns the path of a file of that name in the folder for such files. No file is there.
 fn path_of(rt: &HostRuntime, name: &str) -> Result<String, Fail> {
     let folder = env::temp_dir(rt)?;
     let folder = folder.to_str().ok_or("the folder's name is text")?;
@@ -26,7 +26,7 @@ fn written(rt: &HostRuntime, name: &str, texts: &[&[u8]]) -> Result<String, Fail
     Ok(path)
 }
 
-/// Checks the status of the program, and what it tells of errors. It prints nothing.
+/// Checks the status of the program, and its text on the errors. It prints nothing.
 fn expect_ran(
     rt: &impl Abort,
     files: &HostRuntime,
@@ -51,12 +51,12 @@ fn remove(rt: &HostRuntime, paths: &[&str]) -> Result<(), Fail> {
     Ok(())
 }
 
-/// The record of the name `n` of this identifier.
+/// Returns the record of the name `n` of this identifier.
 fn name_of(id: u8) -> [u8; 14] {
     [1, 0, 0, 0, 0, 0, 0, 0, 5, 0, 0, 0, id, b'n']
 }
 
-/// The dump of the names from 1 on.
+/// Returns the dump of the names from 1 on.
 fn dump_of_names(alloc: Global, count: u8) -> Result<Vec<u8>, AllocError> {
     let mut dump = bytes_of(alloc, &[HEADER])?;
     for id in 1..=count {
@@ -81,7 +81,7 @@ fn files_are_joined_to_a_new_file(rt: HostRuntime) -> Result<(), Fail> {
     remove(&rt, &words[1..])
 }
 
-/// The paths of so many parts, each of one name, from 1 on.
+/// Returns the paths of `count` parts, each of one name, from 1 on.
 fn named_parts(rt: &HostRuntime, count: u8) -> Result<Vec<String>, Fail> {
     let mut paths = Vec::new(rt.alloc());
     for id in 1..=count {

@@ -5,12 +5,12 @@ use std::fmt::Debug;
 use std::process::Abort;
 use std::test::Fail;
 
-/// Ends the test where what was found is not what is expected.
+/// Asserts that the value found is the expected one.
 pub(crate) fn equal<T: PartialEq + Debug + Drop>(rt: &impl Abort, found: T, expected: T) {
     assert_eq!(rt; found, expected);
 }
 
-/// The same at one of several cases, which is told where it ends the test.
+/// Asserts the same at one of several cases, which is printed if it fails.
 pub(crate) fn equal_at<C: Debug + Drop, T: PartialEq + Debug + Drop>(
     rt: &impl Abort,
     case: C,
@@ -20,18 +20,18 @@ pub(crate) fn equal_at<C: Debug + Drop, T: PartialEq + Debug + Drop>(
     assert_eq!(rt; found, expected, "{case:?}");
 }
 
-/// Ends the test where other bytes were found than are expected.
+/// Asserts that the bytes found are the expected ones.
 pub(crate) fn equal_bytes(rt: &impl Abort, found: &[u8], expected: &[u8]) {
     assert_eq!(rt; found, expected);
 }
 
-/// Ends the test where another text was found than is expected.
+/// Asserts that the text found is the expected one.
 pub(crate) fn equal_text(rt: &impl Abort, found: &[u8], expected: &str) -> Result<(), Fail> {
     assert_eq!(rt; str::from_utf8(found)?, expected);
     Ok(())
 }
 
-/// Ends the test where this does not hold.
+/// Asserts that this holds.
 pub(crate) fn holds(rt: &impl Abort, condition: bool) {
     assert!(rt; condition);
 }

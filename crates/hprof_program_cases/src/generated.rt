@@ -12,7 +12,7 @@ use hprof_stream::Limits;
 use std::alloc::{AllocError, Global};
 use std::test::Fail;
 
-/// The records of names `A` of these identifiers.
+/// Returns the records of names `A` of these identifiers.
 fn names_of(alloc: Global, ids: &[u32]) -> Result<Vec<u8>, AllocError> {
     let mut names = Vec::new(alloc);
     for id in ids {
@@ -23,7 +23,7 @@ fn names_of(alloc: Global, ids: &[u32]) -> Result<Vec<u8>, AllocError> {
     Ok(names)
 }
 
-/// The records of names 1 to 3,000, in ascending and in descending order.
+/// Returns the records of names 1 to 3,000, in ascending and in descending order.
 fn thousands(alloc: Global) -> Result<(Vec<u8>, Vec<u8>), AllocError> {
     let mut ids = Vec::new(alloc);
     for id in 1..3_001 {
@@ -67,7 +67,7 @@ fn thousands_of_facts_in_pieces_of_seven(rt: HostRuntime) -> Result<(), Fail> {
     Ok(())
 }
 
-/// The report on so many parts, each of which states name 1.
+/// Returns the report on `count` parts, each of which states name 1.
 fn report_on(alloc: Global, count: u32) -> Result<String, AllocError> {
     let mut report = String::new(alloc);
     for number in 0..count {

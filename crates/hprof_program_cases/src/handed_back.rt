@@ -1,4 +1,4 @@
-//! Heaps that are handed back beside what is written, and the names of their classes.
+//! Heaps that are handed back beside the written bytes, and the names of their classes.
 
 use crate::expecting::{equal, equal_bytes};
 use crate::samples::readers_of;

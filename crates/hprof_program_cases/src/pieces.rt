@@ -10,7 +10,7 @@ use hprof_stream::{Limits, PartReader};
 use std::alloc::Global;
 use std::test::Fail;
 
-/// The canonical dump of what the gatherer has.
+/// Returns the canonical dump of the facts that the gatherer has.
 pub(crate) fn dump_of(alloc: Global, gatherer: Gatherer) -> Result<Vec<u8>, Fail> {
     let heap = gatherer.finish().ok().ok_or("the facts agree")?;
     let mut target = Device::new(Vec::new(alloc));
@@ -20,7 +20,7 @@ pub(crate) fn dump_of(alloc: Global, gatherer: Gatherer) -> Result<Vec<u8>, Fail
     Ok(target.into_inner())
 }
 
-/// The most bytes that a reader holds behind a piece of that length.
+/// Returns the most bytes that a reader holds behind a piece of that length.
 fn most_buffered(alloc: Global, bytes: &[u8], piece_len: usize) -> Result<usize, Fail> {
     let mut gatherer = Gatherer::new(alloc);
     let mut reader = PartReader::new(alloc, Limits::usual());

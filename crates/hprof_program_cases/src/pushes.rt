@@ -1,4 +1,4 @@
-//! In how many writes a dump and a report go out.
+//! The number of writes in which a dump and a report go out.
 
 use crate::expecting::{equal, equal_at};
 use hprof_devices::{Device, WriteFault};
@@ -46,7 +46,7 @@ impl Write for Tally {
     }
 }
 
-/// What is made of a part.
+/// The product of a part.
 #[derive(Clone, Copy, Debug)]
 enum Made {
     Dump,
@@ -84,7 +84,7 @@ fn nothing_is_pushed_behind_a_fault(rt: HostRuntime) -> Result<(), Fail> {
     Ok(())
 }
 
-/// A canonical dump of three names of 30,000 bytes.
+/// Returns a canonical dump of three names of 30,000 bytes.
 fn long_dump(alloc: Global) -> Result<Vec<u8>, AllocError> {
     let text = vec![in alloc; b'n'; 30_000]?;
     let mut dump = bytes_of(alloc, &[HEADER])?;

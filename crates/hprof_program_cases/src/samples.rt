@@ -9,7 +9,7 @@ use hprof_heap::Gatherer;
 use hprof_stream::{Limits, PartFault, PartReader, PartSummary};
 use std::alloc::{AllocError, Global};
 
-/// Devices that read the parts.
+/// Returns devices that read the parts.
 pub(crate) fn readers_of<'a>(
     alloc: Global,
     parts: &[&'a [u8]],
@@ -23,7 +23,7 @@ pub(crate) fn readers_of<'a>(
     Ok(readers)
 }
 
-/// Feeds the bytes in pieces of that length to a new reader and a gatherer, and gives what the end comes to.
+/// Feeds the bytes in pieces of that length to a new reader and a gatherer, and gives the result at the end.
 pub(crate) fn fed(
     alloc: Global,
     bytes: &[u8],

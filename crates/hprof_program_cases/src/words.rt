@@ -1,4 +1,4 @@
-//! The program, where its words cannot be had, and where its errors cannot be told.
+//! The program, if its words cannot be had, and if its errors cannot be told.
 
 use crate::expecting::equal_at;
 use crate::pushes::{TALLY, Tally};
@@ -8,7 +8,7 @@ use std::alloc::Global;
 use std::io;
 use std::test::Fail;
 
-/// The words of the program, behind its name.
+/// Returns the words of the program, behind its name.
 pub(crate) fn words_of(alloc: Global, words: &[&str]) -> Result<Vec<String>, Fail> {
     let mut list = Vec::new(alloc);
     list.push(String::from_str(alloc, "hprof")?)?;

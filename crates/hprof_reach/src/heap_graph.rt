@@ -20,7 +20,7 @@ pub struct HeapGraph<'h> {
     pub(crate) known: KnownLayouts,
     /// The nodes that have a class dump, so that none is looked up for the others.
     pub(crate) classes: Numbered,
-    /// Where the last dumps were found.
+    /// The places where the last dumps were found.
     pub(crate) near: Near,
     pub(crate) references: Vec<Reference>,
     pub(crate) targets: Targets,

@@ -1,4 +1,4 @@
-//! How objects are reached from the GC roots: the least number of references that lead to each, and by which path.
+//! The objects that GC roots reach: the least number of references that lead to each, and the path.
 #![tactic(auto)]
 
 mod from_roots;

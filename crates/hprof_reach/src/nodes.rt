@@ -13,7 +13,7 @@ use hprof_items::Fact;
 use hprof_lookup::{ObjectDump, table_facts, table_len, to_class_dump, to_object_dump};
 use std::alloc::{AllocError, Global};
 
-/// Puts an identifier behind others, but for 0.
+/// Puts an identifier behind others, except 0.
 fn push_node(nodes: &mut Vec<u64>, id: u64) -> Result<(), AllocError>
     ensures { OnOk result ((node : ℕ) → Contains nodes.new.items node ↔ (Contains nodes.old.items node ⊎ ((node ≢ 0) × (id ≡ node)))) }
 {
@@ -23,7 +23,7 @@ fn push_node(nodes: &mut Vec<u64>, id: u64) -> Result<(), AllocError>
     Ok(())
 }
 
-/// The identifier of an object dump.
+/// Returns the identifier of an object dump.
 fn id_of(dump: &ObjectDump<'_>) -> u64
     ensures { IsObject result (fact_of_object dump.now) }
 {
@@ -62,7 +62,8 @@ fn push_objects(heap: &Heap, nodes: &mut Vec<u64>) -> Result<(), AllocError>
     Ok(())
 }
 
-/// Puts numbers in order, each once. Those of each table ascend, so that two runs are merged. The error is that memory was refused.
+/// Puts numbers in order, each once. Those of each table ascend, so that two runs are merged. If memory runs out, the answer is
+/// `AllocError`.
 fn sort_once(nodes: &mut Vec<u64>) -> Result<(), AllocError>
     ensures ascend { OnOk result (IsStrictlyIncreasing nodes.new.items) }
     ensures same { OnOk result ((node : ℕ) → Contains nodes.new.items node ↔ Contains nodes.old.items node) }
@@ -72,7 +73,7 @@ fn sort_once(nodes: &mut Vec<u64>) -> Result<(), AllocError>
     Ok(())
 }
 
-/// The nodes of a heap that have a class dump, in ascending order. The error is that memory was refused.
+/// Returns the nodes of a heap that have a class dump, in ascending order. If memory runs out, the answer is `AllocError`.
 pub(crate) fn class_nodes(alloc: Global, heap: &Heap) -> Result<Vec<u64>, AllocError>
     ensures ascend { IfOk result (λ nodes. IsStrictlyIncreasing nodes.items) }
     ensures all { IfOk result (λ nodes. (node : ℕ) → Contains nodes.items node ↔ IsClassNode (facts_of heap.now) node) }
@@ -83,7 +84,7 @@ pub(crate) fn class_nodes(alloc: Global, heap: &Heap) -> Result<Vec<u64>, AllocE
     Ok(nodes)
 }
 
-/// Returns all nodes of a heap, in ascending order. The error is that memory ran out.
+/// Returns all nodes of a heap, in ascending order. If memory runs out, the answer is `AllocError`.
 pub fn nodes_of(alloc: Global, heap: &Heap) -> Result<Vec<u64>, AllocError>
     ensures ascend { IfOk result (λ nodes. IsStrictlyIncreasing nodes.items) }
     ensures all { IfOk result (λ nodes. (node : ℕ) → Contains nodes.items node ↔ IsNode (facts_of heap.now) node) }

@@ -1,4 +1,4 @@
-//! How objects are reached.
+//! Distances and paths from GC roots.
 
 ghost use Rattle.std.specs.Prelude.{ℕ, List, IfOk};
 ghost use Rattle.std.specs.Option.{option_map};
@@ -15,7 +15,7 @@ use hprof_heap::Heap;
 use hprof_search::{Search, search};
 use std::alloc::{AllocError, Global};
 
-/// How the classes and objects of a heap are reached from its GC roots: distances and paths.
+/// The distances of the classes and objects of a heap from its GC roots, and the paths to them.
 #[derive(Drop)]
 pub struct Reach {
     search: Search,

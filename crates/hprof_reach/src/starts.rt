@@ -1,4 +1,4 @@
-//! What roots keep alive.
+//! The objects that roots keep alive.
 
 ghost use Rattle.std.specs.Prelude.{◌≡◌, ◌↔◌, ℕ, IfOk, Contains};
 ghost use Rattle.hprof_lookup.specs.HeapFacts.{facts_of};
@@ -10,7 +10,7 @@ use hprof_lookup::{table_facts, table_len};
 use hprof_values::Root;
 use std::alloc::{AllocError, Global};
 
-/// The object that a root keeps alive.
+/// Returns the object that a root keeps alive.
 fn root_id(root: Root) -> u64
     ensures { result ≡ root_id root }
 {
@@ -27,7 +27,8 @@ fn root_id(root: Root) -> u64
     }
 }
 
-/// The objects that the roots of a heap keep alive, in whatever order and however often. The error is that memory was refused.
+/// Returns the objects that the roots of a heap keep alive, in whatever order and however often. If memory runs out, the answer is
+/// `AllocError`.
 pub(crate) fn starts_of(alloc: Global, heap: &Heap) -> Result<Vec<u64>, AllocError>
     ensures { IfOk result (λ starts. (id : ℕ) → Contains starts.items id ↔ IsRooted (facts_of heap.now) id) }
 {

@@ -1,4 +1,4 @@
-//! What edges lead to.
+//! The targets of edges.
 
 use hprof_edges::{Collect, Edge};
 use hprof_known_layouts::Wanted;

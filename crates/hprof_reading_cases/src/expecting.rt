@@ -6,12 +6,12 @@ ghost use Rattle.std.specs.Prelude.{IsTrue};
 use std::fmt::Debug;
 use std::process::Abort;
 
-/// Ends the test where what was found is not what is expected.
+/// Asserts that the value found is the expected one.
 pub(crate) fn equal<T: PartialEq + Debug + Drop>(rt: &impl Abort, found: T, expected: T) {
     assert_eq!(rt; found, expected);
 }
 
-/// The same at one of several cases, which is told where it ends the test.
+/// Asserts the same at one of several cases, which is printed if it fails.
 pub(crate) fn equal_at<C: Debug + Drop, T: PartialEq + Debug + Drop>(
     rt: &impl Abort,
     case: C,
@@ -21,7 +21,7 @@ pub(crate) fn equal_at<C: Debug + Drop, T: PartialEq + Debug + Drop>(
     assert_eq!(rt; found, expected, "{case:?}");
 }
 
-/// Ends the test where this does not hold.
+/// Asserts that this holds.
 pub(crate) fn holds(rt: &impl Abort, condition: bool)
     ensures { IsTrue condition }
 {

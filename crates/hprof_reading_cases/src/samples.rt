@@ -14,7 +14,7 @@ pub(crate) const HEADER: Header = Header {
     millis: 1,
 };
 
-/// Keeps a number of each fact, up to so many facts.
+/// Keeps a number of each fact, up to a number of facts.
 #[derive(Drop)]
 pub(crate) struct Seen {
     pub(crate) numbers: Vec<u64>,

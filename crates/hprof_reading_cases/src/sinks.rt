@@ -1,4 +1,4 @@
-//! Sinks that refuse: how often they are called, and what is told of it.
+//! Sinks that refuse: the number of their calls, and the faults that are told.
 
 use crate::expecting::{equal, equal_at};
 use crate::samples::{HEADER, Seen};

@@ -1,4 +1,4 @@
-//! Tables of rows, and maps that guess where a key stands.
+//! Tables of rows, and maps that guess the place of a key.
 
 ghost use Rattle.hprof_rows.specs.NumberRows.{load_numbers};
 

@@ -14,7 +14,7 @@ use hprof_lookup::{ClassDump, id_size};
 use hprof_naming::{class_label, name_text};
 use std::alloc::{AllocError, Global};
 
-/// The line of a class that has this label, from its signers on.
+/// Returns the line of a class that has this label, from its signers on.
 fn line_from_signers(alloc: Global, dump: &ClassDump<'_>, label: &str) -> Result<String, AllocError>
     ensures { IfOk result (λ line. string_bytes line ≡ line_from_signers (class_value dump.now) label.now) }
 {
@@ -27,7 +27,7 @@ fn line_from_signers(alloc: Global, dump: &ClassDump<'_>, label: &str) -> Result
     format!(in alloc; "signers {signers:x} domain {domain:x} size {size} {label}\n")
 }
 
-/// The line of a class, of which the end is given.
+/// Returns the line of a class, of which the end is given.
 fn line_to_loader(alloc: Global, dump: &ClassDump<'_>, end: &str) -> Result<String, AllocError>
     ensures { IfOk result (λ line. string_bytes line ≡ line_to_loader (class_value dump.now) end.now) }
 {
@@ -40,7 +40,7 @@ fn line_to_loader(alloc: Global, dump: &ClassDump<'_>, end: &str) -> Result<Stri
     format!(in alloc; "class {id:x} super {parent:x} loader {loader:x} {end}")
 }
 
-/// The line of a class. The error is that memory was refused.
+/// Returns the line of a class. If memory runs out, the answer is `AllocError`.
 pub(crate) fn class_line(
     alloc: Global,
     heap: &Heap,

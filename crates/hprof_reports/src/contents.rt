@@ -11,7 +11,7 @@ use crate::lines::write_text;
 use hprof_devices::{Target, WriteFault, push_all};
 use hprof_engine::WriteStop;
 
-/// How many bytes are written at a time.
+/// The number of bytes that are written at a time.
 const PIECE_LEN: usize = 512;
 
 /// Writes a few bytes, two digits for each. At a fault some of them were written, from the front.
@@ -42,7 +42,7 @@ fn write_digits<W: Target>(bytes: &[u8], target: &mut W) -> Result<(), WriteFaul
     Ok(())
 }
 
-/// Writes the line of an array's contents, where it has any, piece by piece. At a fault some of it was written, from the front.
+/// Writes the line of an array's contents, if it has any, piece by piece. At a fault some of it was written, from the front.
 pub(crate) fn write_contents<W: Target>(bytes: &[u8], target: &mut W) -> Result<(), WriteStop>
     requires { W.health target.old ≡ Well }
     ensures bytes { WritesText (W.written target.old) (W.written target.new) result (contents_text bytes.now) }

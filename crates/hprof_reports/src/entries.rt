@@ -8,14 +8,14 @@ use hprof_heap::Heap;
 use hprof_lists::{Constant, Constants, Field, Ids, OwnFields, Static, Statics};
 use std::alloc::{AllocError, Global};
 
-/// What a report prints in a line of its own.
+/// An entry that a report prints in a line of its own.
 pub(crate) trait Entry: Copy {
     ghost use Rattle.hprof_values.specs.declared.ids.IdSize.{IdSize};
 
     // Its line, where names are printed so, identifiers have that size, and it stands at that place.
     ghost line_at: { Naming → IdSize → ℕ → Self → List ℕ };
 
-    /// Returns the line, with its line feed. The error is that memory ran out.
+    /// Returns the line, with its line feed. If memory runs out, the answer is `AllocError`.
     fn line(&self, alloc: Global, heap: &Heap, place: u64) -> Result<String, AllocError>
         ensures { (naming : Naming) → IsNaming (facts_of heap.now) naming
             → IfOk result (λ line. string_bytes line ≡ line_at naming (size_of heap.now) place self.now) };

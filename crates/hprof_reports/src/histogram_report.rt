@@ -19,7 +19,7 @@ use hprof_naming::{ClassNames, label_of};
 use hprof_values::Basic;
 use std::alloc::{AllocError, Global};
 
-/// The line of a row of a class that has this label.
+/// Returns the line of a row of a class that has this label.
 fn class_row_line(
     alloc: Global,
     bytes: u128,
@@ -32,7 +32,7 @@ fn class_row_line(
     format!(in alloc; "{bytes} {count} {class:x} {label}\n")
 }
 
-/// The line of a row of arrays of that type.
+/// Returns the line of a row of arrays of that type.
 fn array_row_line(alloc: Global, bytes: u128, count: u64, elem: Basic) -> Result<String, AllocError>
     ensures { IfOk result (λ line. string_bytes line ≡ array_row_line bytes count elem) }
 {
@@ -40,7 +40,7 @@ fn array_row_line(alloc: Global, bytes: u128, count: u64, elem: Basic) -> Result
     format!(in alloc; "{bytes} {count} - {word}[]\n")
 }
 
-/// The line of a row. The error is that memory was refused.
+/// Returns the line of a row. If memory runs out, the answer is `AllocError`.
 fn row_line(alloc: Global, heap: &Heap, names: &ClassNames, row: &Row) -> Result<String, AllocError>
     requires { AreClassNames (facts_of heap.now) names.now }
     ensures { (naming : Naming) → IsNaming (facts_of heap.now) naming
@@ -57,7 +57,7 @@ fn row_line(alloc: Global, heap: &Heap, names: &ClassNames, row: &Row) -> Result
     }
 }
 
-/// Writes a line for each row. Where it stops some of them were written, from the front.
+/// Writes a line for each row. If it stops, some of them were written, from the front.
 fn write_rows<W: Target>(
     alloc: Global,
     heap: &Heap,

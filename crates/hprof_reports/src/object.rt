@@ -23,7 +23,7 @@ use hprof_layouts::{Fields, fields};
 use hprof_lookup::{ClassDump, ObjectDump, find_class, find_object, holds_of_heap, id_size};
 use std::alloc::{AllocError, Global};
 
-/// Writes what a class dump says.
+/// Writes the contents of a class dump.
 fn write_class<W: Target>(
     alloc: Global,
     heap: &Heap,
@@ -48,7 +48,7 @@ fn write_class<W: Target>(
     write_entries(alloc, heap, fields.len(), fields.iter(), target)
 }
 
-/// Why an object has no fields, in a line; nothing where it is no instance.
+/// Returns the line that says why an instance has no fields, or an empty text for any other answer.
 fn no_fields_line(alloc: Global, why: &Fields) -> Result<String, AllocError>
     ensures { IfOk result (λ line. string_bytes line ≡ why_no_fields (fields_value why.now)) }
 {
@@ -86,7 +86,7 @@ fn write_fields<W: Target>(
     }
 }
 
-/// Writes what an object dump says.
+/// Writes the contents of an object dump.
 fn write_object_dump<W: Target>(
     alloc: Global,
     heap: &Heap,
@@ -132,14 +132,14 @@ fn write_object_dump<W: Target>(
     }
 }
 
-/// What is said of an identifier that no dump has.
+/// Returns the line of an identifier that no dump has.
 fn nothing_line(alloc: Global, id: u64) -> Result<String, AllocError>
     ensures { IfOk result (λ line. string_bytes line ≡ nothing_line id) }
 {
     format!(in alloc; "nothing at {id:x}\n")
 }
 
-/// Writes what was found of an identifier.
+/// Writes the dumps that were found of an identifier.
 fn write_found<W: Target>(
     alloc: Global,
     heap: &Heap,

@@ -16,7 +16,7 @@ use hprof_naming::{class_label, name_text};
 use hprof_values::{Basic, IdSize};
 use std::alloc::{AllocError, Global};
 
-/// The line of an instance. The error is that memory was refused.
+/// Returns the line of an instance. If memory runs out, the answer is `AllocError`.
 pub(crate) fn instance_line(
     alloc: Global,
     heap: &Heap,
@@ -32,7 +32,7 @@ pub(crate) fn instance_line(
     format!(in alloc; "instance {id:x} class {class:x} bytes {len} {label}\n")
 }
 
-/// The line of an array of so many objects, of a class that has this label.
+/// Returns the line of an array of that number of objects, of a class that has this label.
 fn counted_line(
     alloc: Global,
     id: u64,
@@ -45,7 +45,7 @@ fn counted_line(
     format!(in alloc; "objects {id:x} class {class:x} elements {len} {label}\n")
 }
 
-/// The line of an array of objects. The error is that memory was refused.
+/// Returns the line of an array of objects. If memory runs out, the answer is `AllocError`.
 pub(crate) fn elements_line(
     alloc: Global,
     heap: &Heap,
@@ -60,7 +60,7 @@ pub(crate) fn elements_line(
     counted_line(alloc, id, class, elements.len(), &label)
 }
 
-/// The line of an array of numbers or truth values. The error is that memory was refused.
+/// Returns the line of an array of numbers or truth values. If memory runs out, the answer is `AllocError`.
 pub(crate) fn values_line(
     alloc: Global,
     ids: IdSize,

@@ -17,21 +17,21 @@ use hprof_lookup::holds_of_heap;
 use hprof_reach::{Reach, reach_of};
 use std::alloc::{AllocError, Global};
 
-/// The line of a distance. The error is that memory was refused.
+/// Returns the line of a distance. If memory runs out, the answer is `AllocError`.
 fn distance_line(alloc: Global, distance: u64) -> Result<String, AllocError>
     ensures { IfOk result (λ line. string_bytes line ≡ distance_line distance) }
 {
     format!(in alloc; "distance {distance}\n")
 }
 
-/// The line of a node. The error is that memory was refused.
+/// Returns the line of a node. If memory runs out, the answer is `AllocError`.
 fn node_line(alloc: Global, node: u64) -> Result<String, AllocError>
     ensures { IfOk result (λ line. string_bytes line ≡ node_line node) }
 {
     format!(in alloc; "{node:x}\n")
 }
 
-/// Writes a line for each node. Where it stops some of them were written, from the front.
+/// Writes a line for each node. If it stops, some of them were written, from the front.
 fn write_nodes<W: Target>(alloc: Global, nodes: &[u64], target: &mut W) -> Result<(), WriteStop>
     requires { W.health target.old ≡ Well }
     ensures bytes { WritesText (W.written target.old) (W.written target.new) result (nodes_text nodes.now) }

@@ -14,7 +14,7 @@ use hprof_engine::WriteStop;
 use hprof_heap::Heap;
 use std::alloc::{AllocError, Global};
 
-/// The word for what refers.
+/// Returns the word for a kind of reference.
 fn via_word(via: Via) -> &'static str
     ensures { result.now ≡ via_word via }
 {

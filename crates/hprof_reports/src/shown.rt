@@ -6,7 +6,7 @@ ghost use Rattle.hprof_reports.specs.Shown.{bits_text, type_word};
 use hprof_values::{Basic, IdSize};
 use std::alloc::{AllocError, Global};
 
-/// The word for a type.
+/// Returns the word for a type.
 pub(crate) fn type_word(basic: Basic) -> &'static str
     ensures { result.now ≡ type_word basic }
 {
@@ -24,7 +24,7 @@ pub(crate) fn type_word(basic: Basic) -> &'static str
     }
 }
 
-/// The bits of a value of that type, two digits for each byte of its width. The error is that memory was refused.
+/// Returns the bits of a value of that type, two digits for each byte of its width. If memory runs out, the answer is `AllocError`.
 pub(crate) fn bits_text(
     alloc: Global,
     ids: IdSize,

@@ -21,7 +21,7 @@ impl<'a> Facts<'a> {
     ghost use Rattle.hprof_rows.specs.TableRows.{facts_in_rows};
     ghost use Rattle.hprof_rows.specs.FactsLeft.{facts_left, facts_ids};
 
-    /// The facts of those rows.
+    /// Returns the facts of those rows.
     pub fn new(ids: IdSize, rows: TableRows<'a>) -> Self
         requires { AreReadable ids rows }
         ensures all { facts_left result ≡ facts_in_rows ids rows.entry }
@@ -30,8 +30,8 @@ impl<'a> Facts<'a> {
         Facts { ids, rows }
     }
 
-    /// Puts the first of the facts in the place of another, and says whether there was one. So no fact is moved from call to call, as
-    /// where it is taken by `next`. Where there was none, the place is as it was.
+    /// Puts the first of the facts in the place of another, and returns whether there was one. So no fact is moved from call to call, as it
+    /// is when `next` takes it. If there was none, the place is unchanged.
     #[inline(always)]
     pub fn next_into(&mut self, fact: &mut Fact<'a>) -> bool
         ensures some { result ≡ true → facts_left self.old ≡ value_of fact.new ∷ facts_left self.new }

@@ -13,7 +13,7 @@ use hprof_lists::IdList;
 use hprof_values::number::{byte_at, id_at, split_u32};
 use hprof_values::{Basic, IdSize, SubTag};
 
-/// Puts the instance with that identifier, of what stands behind the identifier, in the place of a fact.
+/// Puts the instance with that identifier in the place of a fact. The bytes are those behind the identifier.
 #[inline(always)]
 fn kept_instance<'a>(id: u64, bytes: &'a [u8], ids: IdSize, fact: &mut Fact<'a>)
     requires { 8 + width_of ids ≤ length bytes.now }
@@ -31,7 +31,7 @@ fn kept_instance<'a>(id: u64, bytes: &'a [u8], ids: IdSize, fact: &mut Fact<'a>)
     };
 }
 
-/// Puts the array of objects with that identifier, of what stands behind the identifier, in the place of a fact.
+/// Puts the array of objects with that identifier in the place of a fact. The bytes are those behind the identifier.
 #[inline(always)]
 fn kept_obj_array<'a>(id: u64, bytes: &'a [u8], ids: IdSize, fact: &mut Fact<'a>)
     requires front { 8 + width_of ids ≤ length bytes.now }
@@ -51,7 +51,7 @@ fn kept_obj_array<'a>(id: u64, bytes: &'a [u8], ids: IdSize, fact: &mut Fact<'a>
     };
 }
 
-/// Puts the array of numbers or truth values with that identifier, of what stands behind the identifier, in the place of a fact.
+/// Puts the array of numbers or truth values with that identifier in the place of a fact. The bytes are those behind the identifier.
 #[inline(always)]
 fn kept_prim_array<'a>(id: u64, bytes: &'a [u8], ids: IdSize, fact: &mut Fact<'a>)
     requires front { 9 ≤ length bytes.now }
@@ -93,7 +93,7 @@ pub(crate) fn kept_fact_into<'a>(id: u64, kept: &'a [u8], ids: IdSize, fact: &mu
     }
 }
 
-/// The instance or the array with that identifier, of which these bytes are kept: its sub-record without the identifier.
+/// Returns the instance or the array with that identifier, of which these bytes are kept: its sub-record without the identifier.
 #[inline(always)]
 pub fn kept_fact(id: u64, kept: &[u8], ids: IdSize) -> Fact<'_>
     requires { (value : FactValue) × KeepsObject ids id value kept.now }

@@ -1,4 +1,4 @@
-//! Keys: what two facts may not both be about.
+//! Keys: two facts that agree may not both have one.
 
 ghost use Rattle.std.specs.Prelude.{◌≡◌};
 
@@ -24,7 +24,7 @@ pub enum Key {
 impl Key {
     ghost use Rattle.hprof_rows.specs.Key.{lesser_key};
 
-    /// The key that comes first.
+    /// Returns the key that comes first.
     pub fn lesser(self, other: Key) -> Key
         ensures { result ≡ lesser_key self other }
     {

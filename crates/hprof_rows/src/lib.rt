@@ -1,5 +1,4 @@
-//! The rows of a heap's tables: the keys and contents of facts, how facts are kept as rows, and how rows are read back as
-//! facts.
+//! The rows of a heap's tables: the keys and contents of facts, the rows that keep facts, and the facts that are read from rows.
 #![tactic(auto)]
 
 mod facts;

@@ -23,7 +23,7 @@ impl LoadRow {
     ghost use Rattle.hprof_items.specs.FactValue.{Load, ListsHave, value_of};
     ghost use Rattle.hprof_values.specs.declared.ids.IdSize.{IdSize};
 
-    /// The fact of the row under a serial.
+    /// Returns the fact of the row under a serial.
     pub fn fact<'a>(self, serial: u32) -> Fact<'a>
         ensures value { value_of result ≡ Load serial self.class self.trace self.name }
         ensures lists { (ids : IdSize) → ListsHave ids result }
@@ -62,7 +62,7 @@ pub struct FrameRow {
     pub source: u64,
     /// The serial of the class.
     pub class_serial: u32,
-    /// The line, above 0; -1 where it is unknown, -2 in a compiled method, -3 in a native one.
+    /// The line, above 0; -1 if it is unknown, -2 in a compiled method, -3 in a native one.
     pub line: i32,
 }
 
@@ -71,7 +71,7 @@ impl FrameRow {
     ghost use Rattle.hprof_items.specs.FactValue.{Frame, ListsHave, value_of};
     ghost use Rattle.hprof_values.specs.declared.ids.IdSize.{IdSize};
 
-    /// The fact of the row under an identifier.
+    /// Returns the fact of the row under an identifier.
     pub fn fact<'a>(self, id: u64) -> Fact<'a>
         ensures value { value_of result ≡ Frame id self.method self.signature self.source self.class_serial self.line }
         ensures lists { (ids : IdSize) → ListsHave ids result }
@@ -121,7 +121,7 @@ impl StartRow {
     ghost use Rattle.hprof_items.specs.FactValue.{Start, ListsHave, value_of};
     ghost use Rattle.hprof_values.specs.declared.ids.IdSize.{IdSize};
 
-    /// The fact of the row under a serial.
+    /// Returns the fact of the row under a serial.
     pub fn fact<'a>(self, thread: u32) -> Fact<'a>
         ensures value { value_of result ≡ Start thread self.object self.trace self.name self.group self.parent_group }
         ensures lists { (ids : IdSize) → ListsHave ids result }

@@ -22,7 +22,7 @@ pub struct RootSet {
 impl RootSet {
     ghost use Rattle.hprof_rows.specs.RootSet.{roots_of, IsUnionOfRoots, LacksRoot, StatesRoot};
 
-    /// A set with no roots. It takes no memory yet.
+    /// Returns a set with no roots. It takes no memory yet.
     pub fn new(alloc: Global) -> Self
         ensures { roots_of result ≡ [] }
     {
@@ -45,22 +45,22 @@ impl RootSet {
         }
     }
 
-    /// The number of roots.
+    /// Returns the number of roots.
     pub fn len(&self) -> usize
         ensures { result ≡ length (roots_of self.now) }
     {
         self.roots.len()
     }
 
-    /// Whether both have the same roots.
+    /// Returns whether both have the same roots.
     pub fn same(&self, other: &Self) -> bool
         ensures { IsTrue result ↔ (roots_of self.now ≡ roots_of other.now) }
     {
         self.roots == other.roots
     }
 
-    /// Takes the roots of another. Both are gone over side by side; where memory is refused, nothing changes. No memory is
-    /// wanted where all of them are there.
+    /// Takes the roots of another. Both are gone over side by side. If memory runs out, nothing changes. No memory is needed if all of them
+    /// are there.
     pub fn join(&mut self, other: &Self) -> Result<(), AllocError>
         ensures ok { IfOk result (λ _. IsUnionOfRoots (roots_of self.old) (roots_of other.now) (roots_of self.new)) }
         ensures err { OnErr result (roots_of self.new ≡ roots_of self.old) }
@@ -75,7 +75,7 @@ impl RootSet {
         Ok(())
     }
 
-    /// The roots, in order.
+    /// Returns the roots, in order.
     pub fn iter(&self) -> btree_set::Iter<'_, Root>
         ensures { result ≡ roots_of self.now }
     {

@@ -7,7 +7,7 @@ ghost use Rattle.hprof_rows.specs.Spelled.{Spells};
 use hprof_items::{Fact, read_sub_into};
 use hprof_values::IdSize;
 
-/// The fact that the bytes of a sub-record spell.
+/// Returns the fact that the bytes of a sub-record spell.
 #[inline(always)]
 pub fn spelled_fact(bytes: &[u8], ids: IdSize) -> Fact<'_>
     requires { (value : FactValue) × Spells ids value bytes.now }

@@ -14,7 +14,7 @@ use hprof_items::Fact;
 use hprof_values::{IdSize, Number, Root, put_numbers};
 use hprof_writing::{spelled_len, write_fact};
 
-/// A root, or a class with its bytes, or an object with what is kept of its bytes.
+/// A root, or a class with its bytes, or an object with its kept bytes.
 #[derive(Clone, Copy)]
 pub enum SubRow<'a> {
     /// A root.
@@ -30,7 +30,7 @@ pub enum SubRow<'a> {
     },
 }
 
-/// Puts an instance or an array at the front: its tag with its identifier, and what stands behind them.
+/// Puts an instance or an array at the front: its tag with its identifier, and the bytes behind them.
 #[inline(always)]
 fn put_object(id: u64, kept: &[u8], ids: IdSize, out: &mut [u8])
     requires kept { IsObject ids (id, kept.now) }
@@ -45,10 +45,10 @@ fn put_object(id: u64, kept: &[u8], ids: IdSize, out: &mut [u8])
     behind[..rest.len()].copy_from_slice(rest);
 }
 
-/// How long a tag with an identifier is at most.
+/// The greatest length of a tag with an identifier.
 const FRONT_LEN: usize = 9;
 
-/// Writes an instance or an array: its tag and its identifier in one piece, and then what stands behind them.
+/// Writes an instance or an array: its tag and its identifier in one piece, and then the bytes behind them.
 fn write_object<W: Target>(
     id: u64,
     kept: &[u8],
@@ -72,7 +72,7 @@ fn write_object<W: Target>(
 impl SubRow<'_> {
     ghost use Rattle.hprof_rows.specs.SubRow.{sub_fact, IsWritable, IsNoObject};
 
-    /// The number of its bytes.
+    /// Returns the number of its bytes.
     pub fn len(self, ids: IdSize) -> u64
         requires { IsWritable ids self }
         ensures value { result ≡ length (dump_bytes ids (sub_fact ids self.entry)) }
@@ -86,7 +86,8 @@ impl SubRow<'_> {
         }
     }
 
-    /// Puts an instance or an array at the front of a place that has room for it, and answers how many bytes it has. All else is not put.
+    /// Puts an instance or an array at the front of `out`, and returns the number of its bytes. If it is neither, or `out` has no room for
+    /// it, the answer is `None`, and nothing is put.
     #[inline(always)]
     pub fn put(self, ids: IdSize, out: &mut [u8]) -> Option<usize>
         requires { IsWritable ids self }

@@ -28,7 +28,7 @@ impl<'a> SubRows<'a> {
     ghost use Rattle.hprof_rows.specs.SubRow.{facts_of_subs};
     ghost use Rattle.hprof_rows.specs.SubRows.{YieldsSub, subs_left, subs_ids};
 
-    /// The sub-records of those tables.
+    /// Returns the sub-records of those tables.
     pub fn new(
         ids: IdSize,
         roots: btree_set::Iter<'a, Root>,
@@ -48,7 +48,7 @@ impl<'a> SubRows<'a> {
         }
     }
 
-    /// The size of their identifiers.
+    /// Returns the size of their identifiers.
     pub fn ids(&self) -> IdSize
         ensures { result ≡ subs_ids self.now }
     {

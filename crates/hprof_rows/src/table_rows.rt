@@ -44,7 +44,7 @@ pub enum TableRows<'a> {
     Objects(BytesRows<'a>),
 }
 
-/// The fact of the first row. The rows behind it are left.
+/// Returns the fact of the first row. The rows behind it are left.
 #[inline(always)]
 pub(crate) fn next_fact<'a>(rows: &mut TableRows<'a>, ids: IdSize) -> Option<Fact<'a>>
     requires { AreReadable ids rows.old }
@@ -66,8 +66,8 @@ pub(crate) fn next_fact<'a>(rows: &mut TableRows<'a>, ids: IdSize) -> Option<Fac
     }
 }
 
-/// Puts the fact of the first row in the place of another, and says whether there is one. The rows behind it are left. Where there is
-/// none, the place is as it was.
+/// Puts the fact of the first row in the place of another, and returns whether there is one. The rows behind it are left. If there is none,
+/// the place is unchanged.
 #[inline(always)]
 pub(crate) fn next_fact_into<'a>(rows: &mut TableRows<'a>, ids: IdSize, fact: &mut Fact<'a>) -> bool
     requires { AreReadable ids rows.old }
@@ -83,7 +83,7 @@ pub(crate) fn next_fact_into<'a>(rows: &mut TableRows<'a>, ids: IdSize, fact: &m
     }
 }
 
-/// The same, of a fact that is no instance and no array.
+/// Does the same for a fact that is no instance and no array.
 fn put_next<'a>(rows: &mut TableRows<'a>, ids: IdSize, fact: &mut Fact<'a>) -> bool
     requires { AreReadable ids rows.old }
     ensures some { result ≡ true → facts_in_rows ids rows.old ≡ value_of fact.new ∷ facts_in_rows ids rows.new }
@@ -99,7 +99,7 @@ fn put_next<'a>(rows: &mut TableRows<'a>, ids: IdSize, fact: &mut Fact<'a>) -> b
     true
 }
 
-/// The first name.
+/// Returns the first name.
 #[inline(always)]
 fn next_name<'a>(rows: &mut BytesRows<'a>) -> Option<Fact<'a>>
     ensures first { YieldsFirstBy value_of (λ rows. name_facts (byte_rows_left rows)) rows.old result rows.new }
@@ -109,7 +109,7 @@ fn next_name<'a>(rows: &mut BytesRows<'a>) -> Option<Fact<'a>>
     Some(Fact::Name { id, text })
 }
 
-/// The first class that was loaded.
+/// Returns the first class that was loaded.
 fn next_load<'a>(rows: &mut Rows<'a, LoadRow>) -> Option<Fact<'a>>
     requires { AreSerials (rows_left rows.old) }
     ensures first { YieldsFirstBy value_of (λ rows. load_facts (rows_left rows)) rows.old result rows.new }
@@ -120,7 +120,7 @@ fn next_load<'a>(rows: &mut Rows<'a, LoadRow>) -> Option<Fact<'a>>
     Some(row.fact(serial as u32))
 }
 
-/// The first class that was unloaded.
+/// Returns the first class that was unloaded.
 fn next_unload<'a>(rows: &mut Rows<'a, KeyRow>) -> Option<Fact<'a>>
     requires { AreSerials (rows_left rows.old) }
     ensures first { YieldsFirstBy value_of (λ rows. unload_facts (rows_left rows)) rows.old result rows.new }
@@ -133,7 +133,7 @@ fn next_unload<'a>(rows: &mut Rows<'a, KeyRow>) -> Option<Fact<'a>>
     })
 }
 
-/// The first frame.
+/// Returns the first frame.
 fn next_frame<'a>(rows: &mut Rows<'a, FrameRow>) -> Option<Fact<'a>>
     ensures first { YieldsFirstBy value_of (λ rows. frame_facts (rows_left rows)) rows.old result rows.new }
     ensures lists { (ids : IdSize) → IfSome result (ListsHave ids) }
@@ -142,7 +142,7 @@ fn next_frame<'a>(rows: &mut Rows<'a, FrameRow>) -> Option<Fact<'a>>
     Some(row.fact(id))
 }
 
-/// The first stack.
+/// Returns the first stack.
 fn next_trace<'a>(rows: &mut Rows<'a, TraceRow>, ids: IdSize) -> Option<Fact<'a>>
     requires { AreWhole ids (rows_left rows.old) }
     ensures first { YieldsFirstBy value_of (λ rows. trace_facts ids (rows_left rows)) rows.old result rows.new }
@@ -153,7 +153,7 @@ fn next_trace<'a>(rows: &mut Rows<'a, TraceRow>, ids: IdSize) -> Option<Fact<'a>
     Some(row.fact(serial as u32, ids))
 }
 
-/// The first thread that was started.
+/// Returns the first thread that was started.
 fn next_start<'a>(rows: &mut Rows<'a, StartRow>) -> Option<Fact<'a>>
     requires { AreSerials (rows_left rows.old) }
     ensures first { YieldsFirstBy value_of (λ rows. start_facts (rows_left rows)) rows.old result rows.new }
@@ -164,7 +164,7 @@ fn next_start<'a>(rows: &mut Rows<'a, StartRow>) -> Option<Fact<'a>>
     Some(row.fact(thread as u32))
 }
 
-/// The first thread that ended.
+/// Returns the first thread that ended.
 fn next_end<'a>(rows: &mut Rows<'a, KeyRow>) -> Option<Fact<'a>>
     requires { AreSerials (rows_left rows.old) }
     ensures first { YieldsFirstBy value_of (λ rows. end_facts (rows_left rows)) rows.old result rows.new }
@@ -177,7 +177,7 @@ fn next_end<'a>(rows: &mut Rows<'a, KeyRow>) -> Option<Fact<'a>>
     })
 }
 
-/// The first root.
+/// Returns the first root.
 fn next_root<'a>(roots: &mut btree_set::Iter<'a, Root>) -> Option<Fact<'a>>
     ensures first { YieldsFirstBy value_of root_facts roots.old result roots.new }
     ensures lists { (ids : IdSize) → IfSome result (ListsHave ids) }
@@ -203,7 +203,7 @@ fn next_object_into<'a>(rows: &mut BytesRows<'a>, ids: IdSize, fact: &mut Fact<'
     true
 }
 
-/// The first class.
+/// Returns the first class.
 #[inline(always)]
 fn next_spelled<'a>(rows: &mut BytesRows<'a>, ids: IdSize) -> Option<Fact<'a>>
     requires { AreSpelled ids (byte_rows_left rows.old) }
@@ -215,7 +215,7 @@ fn next_spelled<'a>(rows: &mut BytesRows<'a>, ids: IdSize) -> Option<Fact<'a>>
     Some(spelled_fact(bytes, ids))
 }
 
-/// The first instance or array.
+/// Returns the first instance or array.
 #[inline(always)]
 fn next_object<'a>(rows: &mut BytesRows<'a>, ids: IdSize) -> Option<Fact<'a>>
     requires { AreObjects ids (byte_rows_left rows.old) }

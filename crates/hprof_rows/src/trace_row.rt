@@ -23,7 +23,7 @@ impl TraceRow {
     ghost use Rattle.hprof_items.specs.FactValue.{ListsHave, value_of};
     ghost use Rattle.hprof_rows.specs.Content.{trace_fact};
 
-    /// The fact of the row under a serial.
+    /// Returns the fact of the row under a serial.
     pub fn fact(&self, serial: u32, ids: IdSize) -> Fact<'_>
         requires { length (frames_bytes self.now) % width_of ids ≡ 0 }
         ensures value { value_of result ≡ trace_fact ids serial (trace_content self.now) }
@@ -37,7 +37,7 @@ impl TraceRow {
     }
 }
 
-/// A vector of these bytes. Where there are none it takes no memory.
+/// Returns a vector of these bytes. If there are none it takes no memory.
 fn copy_of(alloc: Global, bytes: &[u8]) -> Result<Vec<u8>, AllocError>
     ensures bytes { IfOk result (λ copy. copy.items ≡ bytes.now) }
     ensures full { OnErr result (0 < length bytes.now) }
@@ -47,7 +47,7 @@ fn copy_of(alloc: Global, bytes: &[u8]) -> Result<Vec<u8>, AllocError>
     Ok(copy)
 }
 
-/// The thread and the frames of a stack trace, where they stand in a piece of a part.
+/// The thread and the frames of a stack trace, as they stand in a piece of a part.
 #[derive(Clone, Copy)]
 pub struct TraceFrames<'a> {
     /// The serial of the thread.

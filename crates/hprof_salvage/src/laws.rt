@@ -13,20 +13,20 @@ ghost use Rattle.hprof_engine.specs.Joining.{IsAccepted};
 ghost use Rattle.hprof_salvage.specs.Saved.{SavesTo};
 ghost use Rattle.hprof_salvage.specs.Sound.{JoinsTo, StandsBefore, IsAllOf};
 
-/// Where no part has a fault, what is saved of the parts comes to what they come to where they are joined: the same heap, whose
-/// canonical dump is written, or the same refusal.
+/// If no part has a fault, salvage of the parts comes to the same as joining them: the same heap, whose canonical dump is written, or the
+/// same refusal.
 pub fn salvage_of_sound_parts_is_joining()
     ensures { (limits : Limits) (parts : List (List ℕ)) (answer : Result HeapValue Refusal) → AllByRecursion (IsAccepted limits) parts
         → SavesTo limits.max_item parts answer → JoinsTo parts answer }
 {}
 
-/// What is saved of parts comes to one thing, by the bytes that were handled: one heap, one least conflict, two sizes, or no part.
+/// The salvage of parts comes to one thing, by the bytes that were handled: one heap, one least conflict, two sizes, or no part.
 pub fn what_is_saved_comes_to_one_thing()
     ensures { (longest : ℕ) (parts : List (List ℕ)) (one other : Result HeapValue Refusal) → SavesTo longest parts one
         → SavesTo longest parts other → one ≡ other }
 {}
 
-/// What is saved of a part stands in it before its first fault; where it has none it is all that the part states.
+/// The saved facts of a part stand in it before its first fault; if it has none they are all that the part states.
 pub fn what_is_saved_stands_before_the_fault()
     ensures faulty { (longest : ℕ) (bytes : List ℕ) (header : Option Header) (facts : List FactValue) (fault : PartFault)
         → IsFirstFault longest bytes fault → StatesSoFar longest bytes header facts → StandsBefore longest bytes fault header facts }

@@ -1,4 +1,4 @@
-//! What can be saved of damaged parts: the facts before each part's first fault, joined into one canonical dump.
+//! Salvage of damaged parts: the facts before each part's first fault, joined into one canonical dump.
 #![tactic(auto)]
 
 mod counter;

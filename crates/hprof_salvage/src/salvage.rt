@@ -1,4 +1,4 @@
-//! Saving what can be saved of parts.
+//! The salvage of parts.
 
 ghost use Rattle.std.specs.Prelude.{◌≡◌, ℕ, false, List, All, IfOk};
 ghost use Rattle.std.specs.Io.KnownBytes.{Appends};

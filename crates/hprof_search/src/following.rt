@@ -7,8 +7,8 @@ use crate::numbered::Numbered;
 use crate::trail::Trail;
 use std::alloc::AllocError;
 
-/// Finds the nodes that are among the targets: from one number, or where it is none, as starts, each from its own. Where
-/// memory is refused, nothing holds of what was found.
+/// Finds the nodes that are among the targets: from one number, or if that is `None`, as starts, each from its own. If memory runs out,
+/// nothing holds of the nodes that were found.
 #[inline(always)]
 pub(crate) fn follow(
     numbered: &Numbered,

@@ -12,8 +12,8 @@ pub trait Graph {
     // what holds of a graph that tells its edges
     ghost stands: { Self → Type 0 };
 
-    /// Makes the targets what the edges of a node lead to, in whatever order and however often. Where memory is refused,
-    /// nothing holds of the targets.
+    /// Sets `targets` to the targets of the edges of a node, in whatever order and however often. If memory runs out, nothing holds of the
+    /// targets.
     fn targets_of(&mut self, from: u64, targets: &mut Vec<u64>) -> Result<(), AllocError>
         requires { stands self.old }
         ensures ok { OnOk result ((to : ℕ) → Contains targets.new.items to ↔ leads self.old from to) }

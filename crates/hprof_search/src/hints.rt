@@ -1,4 +1,4 @@
-//! Hints where a node stands in a list of nodes that ascend. Nothing rests on them but how soon it is found.
+//! Hints at the place of a node in a list of nodes that ascend. Only the speed of finding it rests on them.
 
 ghost use Rattle.std.specs.Prelude.{◌≡◌, ◌+◌, ◌^◌, ◌<◌, ◌≤◌, IfOk, IfSome, length};
 
@@ -12,14 +12,13 @@ const FEW: usize = 20;
 
 const BEFORE: usize = 4;
 
-/// The range of the nodes in equal parts, and where each part begins.
+/// The range of the nodes in equal parts, and the place where each part begins.
 #[derive(Drop)]
 pub(crate) struct Hints {
     least: u64,
     /// A part is as wide as two to this power.
     shift: u32,
-    /// Of each part the first number whose node is in it or behind it, and how many nodes there are; but none is greater than
-    /// fits.
+    /// Of each part the first number whose node is in it or behind it, and then the number of nodes. None is greater than fits.
     firsts: Vec<u32>,
     ghost shifts: { shift < 64 },
 }
@@ -113,7 +112,7 @@ fn place_near(nodes: &[u64], low: usize, high: usize, near: usize, node: u64) ->
 }
 
 impl Hints {
-    /// The hints for nodes that ascend. The error is that memory was refused.
+    /// Returns the hints for nodes that ascend. If memory runs out, the answer is `AllocError`.
     pub(crate) fn new(alloc: Global, nodes: &[u64]) -> Result<Hints, AllocError> {
         let least = nodes.first().copied().unwrap_or(0);
         let greatest = nodes.last().copied().unwrap_or(0);
@@ -126,7 +125,7 @@ impl Hints {
         })
     }
 
-    /// Where the node stands, if the hints lead there, or else would stand. It may be told wrong.
+    /// Returns the place of the node, if the hints lead there, or else the place where it would stand. It may be wrong.
     #[inline(always)]
     pub(crate) fn place(&self, nodes: &[u64], node: u64) -> usize
         ensures { result ≤ length nodes.now }

@@ -1,4 +1,4 @@
-//! What a search keeps, and tells.
+//! The data that a search keeps, and its answers.
 
 use crate::node_hasher::NodeHasher;
 use crate::numbered::find;
@@ -8,18 +8,18 @@ use indexmap::IndexSet;
 use std::alloc::{AllocError, Global};
 use std::hash::BuildHasherDefault;
 
-/// A search by levels that was made: of each node how many steps lead to it from a start, and by which path.
+/// A search by levels that was made: the number of steps that lead to each node from a start, and the path.
 #[derive(Drop)]
 pub struct Search {
     /// All nodes, in ascending order. The number of a node is its place here.
     pub(crate) nodes: Vec<u64>,
-    /// Of each number whether its node was found.
+    /// For each number, whether its node was found.
     pub(crate) found: Vec<bool>,
     /// Of each number that was found the one that it was found from; of a start, its own.
     pub(crate) before: Numbers,
     /// The numbers that were found, in the order in which they were found: by their distances.
     pub(crate) order: IndexSet<usize, BuildHasherDefault<NodeHasher>>,
-    /// How many levels there were.
+    /// The number of levels.
     pub(crate) levels: usize,
     ghost whole: { IsKept nodes.items found.items (items_in before) order.keys },
 }
@@ -66,8 +66,8 @@ impl Search {
         Ok(nodes)
     }
 
-    /// The least number of steps that lead to a node from a start; none where no start leads there, as to what is no node.
-    /// It takes no memory.
+    /// Returns the least number of steps that lead to a node from a start, or `None` if no start leads there or it is no node. It takes no
+    /// memory.
     pub fn distance<W: WalksOf>(&self, node: u64) -> Option<u64>
         ensures { (told : W.Told) → IsSearch (W.starts told) (W.steps told) self.now
             → HasDistance (W.starts told) (W.steps told) node result }
@@ -83,8 +83,8 @@ impl Search {
         Some(self.levels as u64)
     }
 
-    /// The path to a node, from a start; none where no start leads there, as to what is no node. From its end each node
-    /// before is the least one of those that are as far off and have a step to it. The error is that memory was refused.
+    /// Returns the path to a node from a start, or `None` if no start leads there or it is no node. From its end each node before is the
+    /// least one of those that are as far off and have a step to it. If memory runs out, the answer is `AllocError`.
     pub fn path<W: WalksOf>(&self, alloc: Global, node: u64) -> Result<Option<Vec<u64>>, AllocError>
         ensures { IfOk result (λ path. (told : W.Told) → IsSearch (W.starts told) (W.steps told) self.now
             → IsPath (W.starts told) (W.steps told) node (option_map (λ nodes. nodes.items) path)) }

@@ -1,4 +1,4 @@
-//! A search by levels over any graph: how few steps lead to each node from a start, and by which path.
+//! A search by levels over any graph: the least number of steps that lead to each node from a start, and the path.
 #![tactic(auto)]
 
 mod following;

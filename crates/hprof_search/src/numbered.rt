@@ -7,7 +7,7 @@ ghost use Rattle.hprof_search.specs.Kept.{IsMissingAt, number_in};
 use crate::hints::Hints;
 use std::alloc::{AllocError, Global};
 
-/// Nodes in ascending order, and hints where they stand, so that the number of a node is mostly found without a search.
+/// Nodes in ascending order, and hints at their places, so that the number of a node is mostly found without a search.
 #[derive(Drop)]
 pub struct Numbered {
     pub(crate) nodes: Vec<u64>,
@@ -15,7 +15,7 @@ pub struct Numbered {
     ghost ascend: { IsStrictlyIncreasing nodes.items },
 }
 
-/// The number of a node, found by halves; none of what is no node.
+/// Returns the number of a node, found by halves, or `None` if it is no node.
 pub(crate) fn find(nodes: &[u64], node: u64) -> Option<usize>
     requires { IsStrictlyIncreasing nodes.now }
     ensures { result ≡ number_in nodes.now node }
@@ -43,7 +43,7 @@ fn is_missing_at(nodes: &[u64], place: usize, node: u64) -> bool
 impl Numbered {
     ghost use Rattle.hprof_search.specs.Numbered.{nodes_in};
 
-    /// Nodes in ascending order, by their numbers. The error is that memory was refused.
+    /// Returns nodes in ascending order, by their numbers. If memory runs out, the answer is `AllocError`.
     pub fn new(alloc: Global, nodes: Vec<u64>) -> Result<Numbered, AllocError>
         requires { IsStrictlyIncreasing nodes.items }
         ensures { IfOk result (λ numbered. nodes_in numbered ≡ nodes.items) }
@@ -67,7 +67,7 @@ impl Numbered {
         self.nodes[number]
     }
 
-    /// Whether it is one of the nodes.
+    /// Returns whether it is one of the nodes.
     #[inline(always)]
     pub fn has(&self, node: u64) -> bool
         ensures { IsTrue result ↔ Contains (nodes_in self.now) node }
@@ -75,7 +75,7 @@ impl Numbered {
         self.number_of(node).is_some()
     }
 
-    /// The number of a node; none of what is no node. Where the hints do not lead there, it is found by halves.
+    /// Returns the number of a node, or `None` if it is no node. If the hints do not lead there, it is found by halves.
     #[inline(always)]
     pub fn number_of(&self, node: u64) -> Option<usize>
         ensures { result ≡ number_in (nodes_in self.now) node }

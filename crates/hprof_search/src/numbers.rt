@@ -18,7 +18,7 @@ pub enum Numbers {
 }
 
 impl Numbers {
-    /// Returns so many zeros, in the place of which numbers below the bound can be put. The error is that memory ran out.
+    /// Returns `count` zeros, in the place of which numbers below the bound can be put. If memory runs out, the answer is `AllocError`.
     pub fn zeros(alloc: Global, count: usize, bound: usize) -> Result<Numbers, AllocError>
         ensures items { IfOk result (λ numbers. items_in numbers ≡ replicate count 0) }
         ensures bound { IfOk result (λ numbers. bound ≤ bound_of numbers) }
@@ -42,7 +42,7 @@ impl Numbers {
         }
     }
 
-    /// Returns how many there are.
+    /// Returns the number of numbers.
     pub fn len(&self) -> usize
         ensures { result ≡ length (items_in self.now) }
     {

@@ -12,9 +12,10 @@ use crate::numbered::Numbered;
 use crate::trail::Trail;
 use std::alloc::{AllocError, Global};
 
-/// Goes from the starts that are nodes along the edges of a graph that lead to nodes, level by level. The nodes are given in
-/// ascending order. Edges to what is no node are not followed, and each edge is looked at once. The error is that memory was
-/// refused.
+/// Goes from the starts that are nodes along the edges of a graph that lead to nodes, level by level.
+///
+/// The nodes are given in ascending order. Edges to identifiers that are no nodes are not followed, and each edge is looked at once. If
+/// memory runs out, the answer is `AllocError`.
 pub fn search<G: Graph>(
     alloc: Global,
     graph: &mut G,

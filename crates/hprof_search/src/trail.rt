@@ -10,16 +10,16 @@ use indexmap::IndexSet;
 use std::alloc::{AllocError, Global};
 use std::hash::BuildHasherDefault;
 
-/// What was found so far.
+/// The nodes that were found so far.
 #[derive(Drop)]
 pub(crate) struct Trail {
-    /// Of each number whether its node was found, so that no edge to a node that was found costs a look-up.
+    /// For each number, whether its node was found, so that no edge to a node that was found costs a look-up.
     pub(crate) found: Vec<bool>,
     /// Of each number that was found the one that it was found from; of a start, its own.
     pub(crate) before: Numbers,
     /// The numbers that were found, in the order in which they were found.
     pub(crate) order: IndexSet<usize, BuildHasherDefault<NodeHasher>>,
-    /// The place in the order where the next level begins.
+    /// The place in the order at which the next level begins.
     next: usize,
     ghost paired: { length (items_in before) ≡ length found.items },
     ghost back: { LeadsBack (items_in before) },
@@ -34,7 +34,8 @@ impl Trail {
     ghost use Rattle.std.specs.List.{IsDistinct};
     ghost use Rattle.hprof_search.specs.Finds.{Arrives, Follows, finds_of, next_in};
 
-    /// Of so many nodes none was found, and there is room for all in the order. The error is that memory was refused.
+    /// Returns a trail of `count` nodes of which none was found, with room for all in the order. If memory runs out, the answer is
+    /// `AllocError`.
     pub(crate) fn new(alloc: Global, count: usize) -> Result<Trail, AllocError>
         ensures found { IfOk result (λ trail. trail.found.items ≡ replicate count false) }
         ensures order { IfOk result (λ trail. trail.order.keys ≡ []) }
@@ -47,8 +48,8 @@ impl Trail {
         })
     }
 
-    /// Finds a number from another, if it was not found before, and puts it behind the order then. Where memory is refused,
-    /// nothing holds of what was found.
+    /// Finds a number from another, if it was not found before, and puts it behind the order then. If memory runs out, nothing holds of the
+    /// nodes that were found.
     #[inline(always)]
     pub(crate) fn arrive(&mut self, number: usize, from: usize) -> Result<(), AllocError>
         requires within { number < length self.old.found.items }
@@ -63,8 +64,8 @@ impl Trail {
         Ok(())
     }
 
-    /// Makes a list the next level, in ascending order. Then the next level is empty, and begins where the order ends. Where
-    /// memory is refused, nothing holds of the list.
+    /// Makes a list the next level, in ascending order. Then the next level is empty, and begins where the order ends. If memory runs out,
+    /// nothing holds of the list.
     pub(crate) fn take_next(&mut self, level: &mut Vec<usize>) -> Result<(), AllocError>
         ensures ascend { OnOk result (IsNonDecreasing level.new.items) }
         ensures same { OnOk result ((number : ℕ) → Contains level.new.items number ↔ Contains (next_in self.old) number) }

@@ -10,7 +10,7 @@ use crate::sources::Sources;
 use hprof_search::{Graph, Numbered, Numbers};
 use std::alloc::{AllocError, Global};
 
-/// Returns for each node of a graph the nodes that lead to it, by one pass over all edges. The error is that memory ran out.
+/// Returns for each node of a graph the nodes that lead to it, by one pass over all edges. If memory runs out, the answer is `AllocError`.
 pub fn sources_of<G: Graph>(
     alloc: Global,
     graph: &mut G,

@@ -1,4 +1,4 @@
-//! Which nodes of a graph lead to a node.
+//! The nodes of a graph that lead to a node.
 #![tactic(auto)]
 
 mod building;

@@ -1,4 +1,4 @@
-//! Which nodes lead to a node.
+//! The nodes that lead to a node.
 
 ghost use Rattle.std.specs.Prelude.{◌≡◌, ◌<◌, ◌≤◌, ◌+◌, ℕ, IfNone, IfSome, MatchOption, length, slice_index};
 ghost use Rattle.hprof_search.specs.Numbered.{nodes_in};

@@ -33,7 +33,7 @@ fn hold(held: &mut Vec<u8>, bytes: &[u8]) -> Result<(), PartFault>
     }
 }
 
-/// How many bytes are added to those that are held at once: as many again, and no more than an item may still have.
+/// Returns the number of bytes that are added to the held ones at once: as many again, and no more than an item may still have.
 fn portion(held: usize, longest: u32) -> usize
     ensures some { 0 < result }
     ensures within { held + result ≤ max (longest_held longest) (held + 1) }
@@ -42,7 +42,7 @@ fn portion(held: usize, longest: u32) -> usize
     bound.saturating_sub(held).min(held.max(4_096)).max(1)
 }
 
-/// How much was seen of the record at the front, if it is one that is passed over and its head is there.
+/// Returns the seen part of the record at the front, if the record is passed over and its head is there.
 fn passing_at(progress: &Progress, bytes: &[u8]) -> Option<Passing>
     ensures passing { result ≡ passing_of progress.now.limits.max_item (place_of progress.now) bytes.now }
     ensures bytes { IsBytes bytes.now }
@@ -65,7 +65,7 @@ fn passing_at(progress: &Progress, bytes: &[u8]) -> Option<Passing>
     })
 }
 
-/// Goes on with the walk over a sub-record that is held, and tells whether it needs more bytes.
+/// Goes on with the walk over a sub-record that is held, and returns whether it needs more bytes.
 fn walks_short(progress: &Progress, rest: &mut Rest) -> bool
     requires sound { IsSound rest.old }
     ensures sound { IsSound rest.new }
@@ -95,7 +95,7 @@ fn walks_short(progress: &Progress, rest: &mut Rest) -> bool
     matches!(end, Err(Stop::Short))
 }
 
-/// Counts what is held, where it is the head of a record that is passed over.
+/// Counts the bytes that are held, if they are the head of a record that is passed over.
 fn count_passed(progress: &Progress, rest: &mut Rest)
     requires sound { IsSound rest.old }
     ensures sound { IsSound rest.new }
@@ -113,8 +113,8 @@ fn count_passed(progress: &Progress, rest: &mut Rest)
     }
 }
 
-/// Adds bytes to the item that is held, and hands it to the sink if it is whole then. It answers what is behind the item, or
-/// what was not yet added to it.
+/// Adds bytes to the item that is held, and hands it to the sink if it is whole then. Returns the bytes behind the item, or those that were
+/// not yet added to it.
 fn finish_once<'a, S: Sink>(
     progress: &mut Progress,
     rest: &mut Rest,
@@ -156,7 +156,7 @@ fn finish_once<'a, S: Sink>(
     Ok(behind)
 }
 
-/// Makes the item that is held whole, as far as the bytes go, and hands it to the sink. It answers what is behind the item.
+/// Makes the item that is held whole, as far as the bytes go, and hands it to the sink. Returns the bytes behind the item.
 fn finish_held<'a, S: Sink>(
     progress: &mut Progress,
     rest: &mut Rest,
@@ -185,7 +185,7 @@ fn finish_held<'a, S: Sink>(
     Ok(left)
 }
 
-/// Steps over the whole items at the front of what is kept and the bytes behind it, and answers which of the bytes are left.
+/// Steps over the whole items at the front of the kept bytes and those behind them, and returns the bytes that are left.
 pub(crate) fn read_on<'a, S: Sink>(
     progress: &mut Progress,
     rest: &mut Rest,
@@ -214,7 +214,7 @@ pub(crate) fn read_on<'a, S: Sink>(
     progress.walk(left, sink)
 }
 
-/// Keeps what is left behind the last item that was whole: its bytes, or how much was seen of a record that is passed over.
+/// Keeps the rest behind the last whole item: its bytes, or the number of bytes seen of a record that is passed over.
 pub(crate) fn keep(progress: &Progress, rest: &mut Rest, left: &[u8]) -> Result<(), PartFault>
     requires counted { IsCounted progress.now (rest_len rest.old + length left.now) }
     requires sound { IsSound rest.old }

@@ -29,7 +29,7 @@ pub(crate) enum Item {
     Skipped,
 }
 
-/// The item at the first byte of a part.
+/// Returns the item at the first byte of a part.
 #[tactic(auto, unfolding(crate::specs::Item::item_at))]
 pub(crate) fn first_item(bytes: &[u8], longest: u32) -> Step<Item>
     ensures found { (fact : Fact) → IsFound Start (step_with result fact) (item_at longest Start bytes.now) }
@@ -44,7 +44,7 @@ pub(crate) fn first_item(bytes: &[u8], longest: u32) -> Step<Item>
     }
 }
 
-/// A record with a fact, of which the head was read.
+/// Reads a record with a fact, whose head was read.
 fn fact_item<'a>(header: &Header, head: &Head, bytes: &'a [u8], fact: &mut Fact<'a>) -> Step<Item>
     requires whole { IsRightHead header.now.ids longest_body head.now }
     requires kind { kind_of head.now.tag ≡ HeadKind.FactRecord }
@@ -63,7 +63,7 @@ fn fact_item<'a>(header: &Header, head: &Head, bytes: &'a [u8], fact: &mut Fact<
     }
 }
 
-/// A record that is passed over, of which the head was read.
+/// Reads a record that is passed over, whose head was read.
 fn skipped_item(header: &Header, head: &Head, bytes: &[u8]) -> Step<Item>
     ensures found { (fact : Fact) → IsFound (Between header.now) (step_with result fact)
         (found_record header.now HeadKind.Skipped head.now bytes.now) }
@@ -76,7 +76,7 @@ fn skipped_item(header: &Header, head: &Head, bytes: &[u8]) -> Step<Item>
     Step::Whole(Item::Skipped, len)
 }
 
-/// The item between two records. The fact that it states is put in the place of the fact.
+/// Reads the item between two records. The fact that it states is put in the place of the fact.
 #[tactic(auto, unfolding(crate::specs::Item::item_at))]
 pub(crate) fn record_item<'a>(
     header: &Header,

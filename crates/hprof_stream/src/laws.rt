@@ -20,13 +20,13 @@ pub fn bytes_state_one_thing()
         → StatesSoFar longest bytes header facts → StatesSoFar longest bytes other others → (header ≡ other) × (facts ≡ others) }
 {}
 
-/// Bytes have no fault exactly where they are a part, when every length that a record can say is taken.
+/// Bytes have no fault exactly if they are a part, when every length that a record can say is taken.
 pub fn no_fault_exactly_in_the_grammar()
     ensures { (bytes : List ℕ) → HasNoFault longest_body bytes
         ↔ ((ids : IdSize) × (millis : ℕ) × (facts : List FactValue) × IsPart bytes ids millis facts) }
 {}
 
-/// Bytes have one first fault at most, and none where they have no fault.
+/// Bytes have one first fault at most, and none if they have no fault.
 pub fn one_first_fault()
     ensures one { (longest : ℕ) (bytes : List ℕ) (fault other : PartFault) → IsFirstFault longest bytes fault
         → IsFirstFault longest bytes other → fault ≡ other }
@@ -48,8 +48,8 @@ pub fn a_longer_input()
         → is_settled fault ≡ true → IsFirstFault longest (bytes ++ more) fault }
 {}
 
-/// Behind items that are read one after the other, the offset is greater by their bytes, and the numbers of records and of facts
-/// by those that they begin and state; the end of a heap dump is told where one of them ends one.
+/// Behind items that are read one after the other, the offset is greater by their bytes, and the numbers of records and of facts by those
+/// that they begin and state; the end of a heap dump is told if one of them ends one.
 pub fn items_are_counted()
     ensures { (longest : ℕ) (from : Progress) (items : List Stated) (to : Progress) → ReadsItems longest from items to
         → CountsItems longest from items to }

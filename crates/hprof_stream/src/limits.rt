@@ -1,4 +1,4 @@
-//! What reading a part may cost.
+//! Limits for the reading of a part.
 
 ghost use Rattle.std.specs.Prelude.{◌≡◌};
 
@@ -7,14 +7,14 @@ ghost use Rattle.std.specs.Prelude.{◌≡◌};
 pub struct Limits {
     /// The longest item that is taken, in bytes: the body of a record that states a fact.
     pub max_item: u32,
-    /// How many reads are made.
+    /// The most reads that are made.
     pub max_reads: u64,
-    /// How many bytes a part may have.
+    /// The most bytes that a part may have.
     pub max_bytes: u64,
 }
 
 impl Limits {
-    /// The limits of the program: every length that a record can say, 2^40 reads, 2^64 - 1 bytes.
+    /// Returns the limits of the program: every length that a record can say, 2^40 reads, 2^64 - 1 bytes.
     pub fn usual() -> Self
         ensures item { result.max_item ≡ 4294967295 }
         ensures reads { result.max_reads ≡ 1099511627776 }

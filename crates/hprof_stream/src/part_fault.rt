@@ -1,10 +1,10 @@
-//! Why a part was refused.
+//! Reasons why a part is refused.
 
 use crate::sink::SinkFault;
 use hprof_items::Reason;
 use thiserror::Error;
 
-/// Why a part was refused. An offset counts the bytes of the part before the item that is at fault.
+/// The reason why a part was refused. An offset counts the bytes of the part before the item that is at fault.
 #[derive(Clone, Copy, Debug, PartialEq, Eq, Error)]
 pub enum PartFault {
     /// The item at that offset is not whole or not right.
@@ -12,7 +12,7 @@ pub enum PartFault {
     Malformed {
         /// The offset of the item.
         at: u64,
-        /// What is wrong with it.
+        /// The reason why it is malformed.
         reason: Reason,
     },
     /// The item at that offset is longer than the longest that is taken.
@@ -21,7 +21,7 @@ pub enum PartFault {
         /// The offset of the item.
         at: u64,
     },
-    /// The reader was refused memory.
+    /// Memory ran out in the reader.
     #[error("out of memory")]
     OutOfMemory,
     /// The sink refused the header or a fact.

@@ -34,7 +34,7 @@ impl PartReader {
     ghost use Rattle.hprof_stream.specs.Rest.{NeedsGrowth};
     ghost use Rattle.hprof_stream.specs.declared.limits.Limits.{Limits};
 
-    /// A reader that was fed nothing. It takes no memory yet.
+    /// Returns a reader that was fed nothing. It takes no memory yet.
     pub fn new(alloc: Global, limits: Limits) -> Self
         ensures read { HasRead limits [] [] result }
         ensures ready { (begun : Option IdSize) → IsReady result begun }
@@ -47,12 +47,12 @@ impl PartReader {
         }
     }
 
-    /// Reads the next piece, and hands the header and the facts of all items that are whole now to the sink, in
-    /// order. After a fault the reader has failed, and answers `Failed` to each later call.
+    /// Reads the next piece, and hands the header and the facts of all items that are whole now to the sink, in order. After a fault the
+    /// reader has failed, and answers `Failed` to each later call.
     ///
-    /// The first item that is not whole and right is refused, as soon as no further byte could change that; then
-    /// more bytes than the limit. A growth of the reader that is refused comes before what would be tested later. Where
-    /// the header was read before, the sink was begun with its size and with no other since.
+    /// The first item that is not whole and right is refused, as soon as no further byte could change that; then more bytes than the limit.
+    /// If memory runs out, that fault comes before later tests. If the header was read before, the sink was begun with its size and with no
+    /// other since.
     pub fn feed<S: Sink>(&mut self, piece: &[u8], sink: &mut S) -> Result<(), PartFault>
         requires { IsReady self.old (S.begun sink.old) }
         ensures fed { (limits : Limits) (bytes : List ℕ) (facts : List FactValue) → HasRead limits bytes facts self.old
@@ -84,14 +84,14 @@ impl PartReader {
         outcome
     }
 
-    /// The header, as soon as it was read, also where the sink refuses it. It stays after a fault.
+    /// Returns the header as soon as it was read, even if the sink refuses it. It stays after a fault.
     pub fn header(&self) -> Option<Header>
         ensures { result ≡ header_of self.now }
     {
         self.progress.header
     }
 
-    /// How many bytes are held: those of an item that is not whole yet, and none after a fault.
+    /// Returns the number of bytes that are held: those of an item that is not whole yet, and none after a fault.
     pub fn buffered(&self) -> usize
         ensures held { (limits : Limits) (bytes : List ℕ) (facts : List FactValue) → HasRead limits bytes facts self.now
             → IsUnfinished limits.max_item bytes result × (result ≤ length bytes) × (result ≤ longest_held limits.max_item) }
@@ -100,8 +100,8 @@ impl PartReader {
         self.rest.held.len()
     }
 
-    /// The end of the part: what was read of it, where the bytes end behind an item and a header is there. Else they
-    /// are cut short at the offset of the item that is not whole. A reader that has failed answers `Failed`.
+    /// Ends the part, and returns its summary if the bytes end behind an item and a header is there. Otherwise the part is truncated, at
+    /// the offset of the item that is not whole. A reader that has failed answers `Failed`.
     pub fn finish(self) -> Result<PartSummary, PartFault>
         ensures finished { (limits : Limits) (bytes : List ℕ) (facts : List FactValue) → HasRead limits bytes facts self
             → Finishes limits bytes facts (header_of self) result }

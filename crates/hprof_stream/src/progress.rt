@@ -1,4 +1,4 @@
-//! How far into a part reading has come, and the step over one item.
+//! The progress of reading a part, and the step over one item.
 
 ghost use Rattle.std.specs.Prelude.{◌≡◌, ℕ, true, ◌+◌, ◌≤◌, length, drop, Some, None, Option, IfOk, IfErr, OnOk};
 ghost use Rattle.hprof_items.specs.declared.step.Step.TheVariants.{Whole};
@@ -16,13 +16,13 @@ use crate::part_fault::PartFault;
 use crate::sink::{Sink, SinkFault};
 use hprof_items::{Fact, Header, IdSize, Step, Stop, read_sub_into};
 
-/// What has been read of a part: its whole items from the front.
+/// The progress of reading a part: its whole items from the front.
 #[derive(Clone, Copy)]
 pub(crate) struct Progress {
     pub(crate) limits: Limits,
     /// The header, once it was read.
     pub(crate) header: Option<Header>,
-    /// How many bytes a heap dump record has left, if the next item stands within one; else 0.
+    /// The number of bytes that a heap dump record has left, if the next item stands within one; otherwise 0.
     pub(crate) room: u32,
     /// The offset of the next item.
     pub(crate) at: u64,
@@ -30,7 +30,7 @@ pub(crate) struct Progress {
     pub(crate) records: u64,
     /// The number of facts.
     pub(crate) facts: u64,
-    /// Whether a record ended a heap dump.
+    /// True if a record ended a heap dump.
     pub(crate) ended: bool,
 }
 
@@ -38,7 +38,7 @@ impl Progress {
     ghost use Rattle.hprof_stream.specs.Progress.{start_of, place_of, advanced, IsCounted, IsNext, IsOutside};
     ghost use Rattle.hprof_stream.specs.Walking.{StepsOver, WalksSubs, WalksAll, told_by, seen};
 
-    /// Nothing was read.
+    /// Returns the progress before anything was read.
     pub(crate) fn start(limits: Limits) -> Self
         ensures { result ≡ start_of limits }
     {
@@ -53,7 +53,7 @@ impl Progress {
         }
     }
 
-    /// The header or the record at the front. The fact that it states is put in the place of the fact.
+    /// Reads the header or the record at the front. The fact that it states is put in the place of the fact.
     fn item<'a>(&self, bytes: &'a [u8], fact: &mut Fact<'a>) -> Step<Item>
         requires { IsOutside self.now }
         ensures found { IsFound (place_of self.now) (step_with result fact.new)
@@ -68,7 +68,7 @@ impl Progress {
         }
     }
 
-    /// Tells the header that was read, also where the sink refuses it.
+    /// Tells the header that was read, even if the sink refuses it.
     fn tell(&mut self, item: &Item)
         ensures { self.new ≡ record self.old { header = told_by self.old.header (bare item.now) } }
     {
@@ -140,7 +140,7 @@ impl Progress {
         }
     }
 
-    /// Steps over the header or the record at the front of the bytes, as [`Progress::step`] does. Few items are one, so it
+    /// Steps over the header or the record at the front of the bytes, as [`Progress::step`] does. Few items are headers or records, so it
     /// stands apart from the loop over them.
     #[inline(never)]
     fn step_outside<'a, S: Sink>(
@@ -172,9 +172,11 @@ impl Progress {
         }
     }
 
-    /// Steps over the item at the front of the bytes and hands it to the sink, and answers how many bytes it has.
-    /// None where it needs more bytes than there are. The fact that it states is put in the place of the fact; what stands
-    /// there before and after is of no account. Few items come in two pieces, so it stands apart from what feeds them.
+    /// Steps over the item at the front of the bytes and hands it to the sink. Returns the number of its bytes, or `None` if it needs more
+    /// bytes than there are.
+    ///
+    /// The fact that it states is put in the place of the fact; the value there before and after has no meaning. Few items come in two
+    /// pieces, so it stands apart from the feeding of them.
     #[inline(never)]
     pub(crate) fn step<'a, S: Sink>(
         &mut self,
@@ -196,7 +198,7 @@ impl Progress {
         }
     }
 
-    /// Whether the next item stands within no heap dump record.
+    /// Returns whether the next item stands within no heap dump record.
     #[inline(always)]
     fn is_outside(&self) -> bool
         ensures outside { result ≡ true → IsOutside self.now }
@@ -207,8 +209,8 @@ impl Progress {
         self.header.is_none() || room == 0
     }
 
-    /// Steps over the whole sub-records at the front of the bytes, as far as the heap dump record has room left, and answers
-    /// what is behind them: where it has none, all. That header was read before.
+    /// Steps over the whole sub-records at the front of the bytes, as far as the heap dump record has room left, and returns the bytes
+    /// behind them: all if it has none. That header was read before.
     #[inline(always)]
     fn walk_within<'a, S: Sink>(
         &mut self,
@@ -240,7 +242,8 @@ impl Progress {
         Ok(rest)
     }
 
-    /// Steps over the whole sub-records at the front of the bytes, as [`Progress::walk_within`] does. There is none before the header.
+    /// Steps over the whole sub-records at the front of the bytes, as [`Progress::walk_within`] does. There is no sub-record before the
+    /// header.
     #[inline(always)]
     fn walk_subs<'a, S: Sink>(
         &mut self,
@@ -279,7 +282,7 @@ impl Progress {
         }
     }
 
-    /// Steps over the whole items at the front of the bytes, and answers what is behind them.
+    /// Steps over the whole items at the front of the bytes, and returns the bytes behind them.
     pub(crate) fn walk<'a, S: Sink>(
         &mut self,
         bytes: &'a [u8],

@@ -1,4 +1,4 @@
-//! What is there of an item that is not whole yet.
+//! The beginning of an item that is not whole yet.
 
 ghost use Rattle.std.specs.Prelude.{◌≡◌, ◌==◌, ◌+◌, ◌^◌, ◌<◌, ◌≤◌, ℕ, List, [], length, vec_capacity, Some, None};
 ghost use Rattle.hprof_stream.specs.declared.rest.Passing.{Passing};
@@ -12,7 +12,7 @@ use crate::progress::Progress;
 use hprof_items::Walk;
 use std::alloc::Global;
 
-/// How much of a record that is passed over was seen. Nothing of it is held.
+/// The seen part of a record that is passed over. Nothing of it is held.
 #[derive(Clone, Copy)]
 pub(crate) struct Passing {
     /// The number of its bytes that came, with its head.
@@ -21,17 +21,17 @@ pub(crate) struct Passing {
     pub(crate) left: u32,
 }
 
-/// What is there of an item that is not whole yet: its bytes, or how much was seen of a record that is passed over.
+/// The beginning of an item that is not whole yet: its bytes, or the number of bytes seen of a record that is passed over.
 #[derive(Drop)]
 pub(crate) struct Rest {
     pub(crate) held: Vec<u8>,
-    /// How far a sub-record was walked.
+    /// The point that the walk over a sub-record has reached.
     pub(crate) walk: Walk,
     pub(crate) passing: Option<Passing>,
 }
 
 impl Rest {
-    /// Nothing is there.
+    /// Returns a rest with nothing there.
     pub(crate) fn new(alloc: Global) -> Self
         ensures held { result.held.items ≡ [] }
         ensures walk { result.walk ≡ Walk.Front }
@@ -45,7 +45,7 @@ impl Rest {
         }
     }
 
-    /// How many bytes of the part it stands for.
+    /// Returns the number of bytes of the part that it stands for.
     pub(crate) fn len(&self) -> u64
         requires { rest_len self.now < 2 ^ 64 }
         ensures { result ≡ rest_len self.now }
@@ -54,7 +54,7 @@ impl Rest {
         passed + self.held.len() as u64
     }
 
-    /// Whether nothing is there.
+    /// Returns whether nothing is there.
     pub(crate) fn is_empty(&self) -> bool
         requires { IsSound self.now }
         ensures { result ≡ (rest_len self.now == 0) }
@@ -62,7 +62,7 @@ impl Rest {
         self.passing.is_none() && self.held.is_empty()
     }
 
-    /// Forgets what is held.
+    /// Forgets the bytes that are held.
     pub(crate) fn clear(&mut self)
         ensures held { self.new.held.items ≡ [] }
         ensures walk { self.new.walk ≡ Walk.Front }
@@ -74,7 +74,7 @@ impl Rest {
     }
 }
 
-/// Passes over as many bytes as the record that is passed over has left, and answers what is behind them.
+/// Passes over as many bytes as the record that is passed over has left, and returns the bytes behind them.
 pub(crate) fn pass_over<'a>(progress: &mut Progress, rest: &mut Rest, bytes: &'a [u8]) -> &'a [u8]
     requires counted { IsCounted progress.old (rest_len rest.old + length bytes.now) }
     requires sound { IsSound rest.old }

@@ -1,4 +1,4 @@
-//! What takes a part's header and facts.
+//! Sinks, which take a part's header and facts.
 
 ghost use Rattle.std.specs.Prelude.{◌≡◌, [], ◌∷◌, List, Bool, true, false, Option, Some, Err, OnOk, IfErr};
 ghost use Rattle.hprof_items.specs.FactValue.{FactValue, value_of};
@@ -6,10 +6,10 @@ ghost use Rattle.hprof_items.specs.FactValue.{FactValue, value_of};
 use hprof_items::{Fact, Header, IdSize};
 use thiserror::Error;
 
-/// Why a sink refused a header or a fact.
+/// The reason why a sink refused a header or a fact.
 #[derive(Clone, Copy, Debug, PartialEq, Eq, Error)]
 pub enum SinkFault {
-    /// The sink was refused memory.
+    /// Memory ran out in the sink.
     #[error("out of memory")]
     OutOfMemory,
     /// The sink failed, now or before.
@@ -17,8 +17,8 @@ pub enum SinkFault {
     Failed,
 }
 
-/// What takes the header of a part and then its facts, in order. After a fault the sink has failed, and answers
-/// `Failed` to every later call.
+/// A sink, which takes the header of a part and then its facts, in order. After a fault the sink has failed, and answers `Failed` to every
+/// later call.
 pub trait Sink {
     ghost use Rattle.hprof_items.specs.declared.header.Header.{Header};
     ghost use Rattle.hprof_values.specs.declared.ids.IdSize.{IdSize};
@@ -41,7 +41,7 @@ pub trait Sink {
     // the call left it: nothing is called behind a fault.
     ghost refuses: { Self → List FactValue → SinkFault → Self → Type 0 };
 
-    /// Begins a part. The one fault is `Failed`.
+    /// Begins a part. The only fault is `Failed`.
     fn begin_part(&mut self, header: Header) -> Result<(), SinkFault>
         ensures begins { OnOk result (begins self.old header self.new) }
         ensures begun { OnOk result (begun self.new ≡ Some header.ids) }

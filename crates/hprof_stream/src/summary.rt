@@ -1,8 +1,8 @@
-//! What was read of a part.
+//! The summary of a part.
 
 use hprof_items::Header;
 
-/// What was read of a part that was not refused.
+/// The summary of a part that was not refused.
 #[derive(Clone, Copy, Debug, PartialEq, Eq)]
 pub struct PartSummary {
     /// The header.
@@ -11,6 +11,6 @@ pub struct PartSummary {
     pub records: u64,
     /// The number of facts, each as often as the part states it.
     pub facts: u64,
-    /// Whether one of the records ends a heap dump.
+    /// True if one of the records ends a heap dump.
     pub ended: bool,
 }

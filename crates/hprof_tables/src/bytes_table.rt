@@ -17,7 +17,7 @@ use crate::side_by_side::{LentBytes, first_difference, missing_rows, same_rows};
 use crate::sorted_table::{Entries, SortedTable, Visit};
 use std::alloc::{AllocError, Global};
 
-/// Where a row lies: its length and its bytes start there.
+/// The place of a row: its length and its bytes start there.
 #[derive(Clone, Copy)]
 pub(crate) struct Span {
     start: usize,
@@ -26,7 +26,7 @@ pub(crate) struct Span {
 /// Lengths below this one are spelled in one byte. Of a longer one the first byte is this number, and eight more follow.
 const LONG: usize = 255;
 
-/// The bytes behind a length of eight bytes.
+/// Returns the bytes behind a length of eight bytes.
 #[inline(never)]
 fn long_row(bytes: &[u8]) -> Option<&[u8]>
     ensures { 8 + long_length bytes.now ≤ length bytes.now
@@ -36,7 +36,7 @@ fn long_row(bytes: &[u8]) -> Option<&[u8]>
     rest.get(..u64::from_be_bytes(*spelled) as usize)
 }
 
-/// The bytes behind the length that stands in front.
+/// Returns the bytes behind the length that stands in front.
 #[inline(always)]
 fn first_row(bytes: &[u8]) -> Option<&[u8]>
     ensures { HasFrontRow bytes.now → option_copied result ≡ Some (front_row bytes.now) }
@@ -50,7 +50,7 @@ fn first_row(bytes: &[u8]) -> Option<&[u8]>
 }
 
 impl Span {
-    /// The bytes of the row.
+    /// Returns the bytes of the row.
     #[inline(always)]
     fn row_in(self, bytes: &[u8]) -> Option<&[u8]>
         ensures { IsSpanOf bytes.now self → option_copied result ≡ Some (lying bytes.now self) }
@@ -59,11 +59,11 @@ impl Span {
     }
 }
 
-/// How many bytes may be had twice as long where they are to grow: the system moves them without a copy, and room that is not
-/// touched costs addresses alone. More of them grow by an eighth, so that no request is for much more than there is.
+/// Fewer bytes than this get twice the room when they grow: the system moves them without a copy, and room that is not touched costs
+/// addresses alone. The room for more of them grows by an eighth, so that no request is for much more than there is.
 const MOST_DOUBLED: usize = 268_435_456;
 
-/// Makes room for so many bytes behind others. Where there is none, more is had, for those that follow.
+/// Makes room for `count` bytes behind others. If there is none, more is taken, for those that follow.
 fn make_room(bytes: &mut Vec<u8>, count: usize) -> Result<(), AllocError>
     requires small { count < 2 ^ 63 + 10 }
     ensures same { bytes.new.items ≡ bytes.old.items }
@@ -84,14 +84,14 @@ fn make_room(bytes: &mut Vec<u8>, count: usize) -> Result<(), AllocError>
 /// A row that is stated: its bytes, the first of which may stand apart from the others.
 #[derive(Clone, Copy)]
 struct StatedBytes<'a> {
-    /// The first, where it stands apart.
+    /// The first byte, if it stands apart.
     first: Option<u8>,
     /// The others.
     rest: &'a [u8],
 }
 
 impl StatedBytes<'_> {
-    /// The number of its bytes.
+    /// Returns the number of its bytes.
     #[inline(always)]
     fn len(self) -> usize
         ensures value { result ≡ length (bytes_of self.entry) }
@@ -103,7 +103,7 @@ impl StatedBytes<'_> {
         }
     }
 
-    /// Whether these are its bytes.
+    /// Returns whether these are its bytes.
     #[inline(always)]
     fn is(self, bytes: &[u8]) -> bool
         ensures { IsTrue result ↔ (bytes.now ≡ bytes_of self.entry) }
@@ -133,8 +133,8 @@ impl StatedBytes<'_> {
     }
 }
 
-/// Puts any row behind others: its length, and its bytes. Where there is no room left for them, more is had than they need, for
-/// those that follow.
+/// Puts any row behind others: its length, and its bytes. If there is no room left for them, more is taken than they need, for those that
+/// follow.
 #[inline(never)]
 fn append_any(bytes: &mut Vec<u8>, row: StatedBytes<'_>) -> Result<(), AllocError>
     ensures ok { IfOk result (λ _. bytes.new.items ≡ bytes.old.items ++ framed (bytes_of row.entry)) }
@@ -158,7 +158,7 @@ fn append_any(bytes: &mut Vec<u8>, row: StatedBytes<'_>) -> Result<(), AllocErro
     Ok(())
 }
 
-/// Puts a row behind others, as `append_any` does. A short one for which there is room is put there in line.
+/// Puts a row behind others, as `append_any` does. A short row is put there in line if there is room for it.
 #[inline(always)]
 fn append(bytes: &mut Vec<u8>, row: StatedBytes<'_>) -> Result<(), AllocError>
     ensures ok { IfOk result (λ _. bytes.new.items ≡ bytes.old.items ++ framed (bytes_of row.entry)) }
@@ -212,8 +212,8 @@ impl Visit<Span> for StatedBytes<'_> {
     }
 }
 
-/// Puts the bytes of rows behind others, and tells where they lie. Where memory is refused, some of them were put there.
-/// Where there is no row, no memory is wanted.
+/// Puts the bytes of rows behind others, and tells where they lie. If memory runs out, some of them were put there. If there is no row, no
+/// memory is needed.
 fn append_rows(
     alloc: Global,
     bytes: &mut Vec<u8>,
@@ -258,7 +258,7 @@ impl BytesTable {
     ghost use Rattle.hprof_tables.specs.SortedRows.{IsAscending};
     ghost use Rattle.hprof_tables.specs.Union.{AreApart, AreUnion};
 
-    /// A table with no rows. It takes no memory yet.
+    /// Returns a table with no rows. It takes no memory yet.
     pub fn new(alloc: Global) -> Self
         ensures none { byte_rows result ≡ [] }
         ensures no_room { HasNoRoom result }
@@ -329,15 +329,15 @@ impl BytesTable {
         )
     }
 
-    /// The bytes under a key.
+    /// Returns the bytes under a key.
     pub fn get(&self, key: u64) -> Option<&[u8]>
         ensures { option_copied result ≡ lookup (is_at (nat_cmp key)) (byte_rows self.now) }
     {
         self.get_near(key, &mut 0)
     }
 
-    /// The bytes under a key, which are looked for near a place. Where they are found is noted there, so that keys that come in order are
-    /// found one behind the other.
+    /// Returns the bytes under a key, which are looked for near a place. If they are found, their place is noted there, so that keys that
+    /// come in order are found one behind the other.
     #[inline(always)]
     pub fn get_near(&self, key: u64, near: &mut usize) -> Option<&[u8]>
         ensures { option_copied result ≡ lookup (is_at (nat_cmp key)) (byte_rows self.now) }
@@ -346,29 +346,29 @@ impl BytesTable {
         span.row_in(&self.bytes)
     }
 
-    /// The number of rows.
+    /// Returns the number of rows.
     pub fn len(&self) -> usize
         ensures { result ≡ length (byte_rows self.now) }
     {
         self.rows.len()
     }
 
-    /// Whether both have the same rows.
+    /// Returns whether both have the same rows.
     pub fn same(&self, other: &Self) -> bool
         ensures { IsTrue result ↔ (byte_rows self.now ≡ byte_rows other.now) }
     {
         same_rows(self.rows(), other.rows())
     }
 
-    /// The least key under which both have a row, with different bytes.
+    /// Returns the least key under which both have a row, with different bytes.
     pub fn first_difference(&self, other: &Self) -> Option<u64>
         ensures { IsFirstDifference (byte_rows self.now) (byte_rows other.now) result }
     {
         first_difference(self.rows(), other.rows())
     }
 
-    /// Takes rows whose keys are new. Where memory is refused, some of their bytes were put behind those of the rows. Where
-    /// there is none, no memory is wanted.
+    /// Takes rows whose keys are new. If memory runs out, some of their bytes were put behind those of the rows. If there is no row, no
+    /// memory is needed.
     fn take_rows(&mut self, lent: Vec<(u64, LentBytes<'_>)>) -> Result<(), AllocError>
         requires ascending { IsAscending (contents_of (λ row. row.0.now) lent.items) }
         requires apart { AreApart (byte_rows self.old) (contents_of (λ row. row.0.now) lent.items) }
@@ -386,8 +386,8 @@ impl BytesTable {
         self.rows.merge(self.alloc, fresh)
     }
 
-    /// Takes the rows of another whose keys are new. Both are gone over side by side; where memory is refused, nothing
-    /// changes. No memory is wanted where no key is new.
+    /// Takes the rows of another whose keys are new. Both are gone over side by side. If memory runs out, nothing changes. No memory is
+    /// needed if no key is new.
     pub fn join(&mut self, other: &Self) -> Result<(), AllocError>
         ensures ok { IfOk result (λ _. AreUnion (byte_rows self.old) (byte_rows other.now) (byte_rows self.new)) }
         ensures err { OnErr result (byte_rows self.new ≡ byte_rows self.old) }
@@ -406,7 +406,7 @@ impl BytesTable {
         taken
     }
 
-    /// The rows, in order of key.
+    /// Returns the rows, in order of key.
     pub fn rows(&self) -> BytesRows<'_>
         ensures all { byte_rows_left result ≡ byte_rows self.now }
         ensures ascending { IsAscending (byte_rows_left result) }

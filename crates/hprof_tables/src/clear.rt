@@ -5,14 +5,14 @@ ghost use Rattle.hprof_tables.specs.SortedRows.{IsClear, Misses};
 
 use std::collections::BTreeMap;
 
-/// The keys from one to another; none where the other is below the one.
+/// The keys from one to another; none if the other is below the one.
 #[derive(Clone, Copy)]
 pub(crate) struct Clear {
     pub(crate) from: u64,
     pub(crate) to: u64,
 }
 
-/// The least key from which on, up to that one, the map has no row.
+/// Returns the least key from which on, up to that one, the map has no row.
 fn clear_from<V>(map: &BTreeMap<u64, V>, key: u64) -> u64
     requires { Misses map.now.entries key }
     ensures { IsClear map.now.entries result key }
@@ -23,7 +23,7 @@ fn clear_from<V>(map: &BTreeMap<u64, V>, key: u64) -> u64
     }
 }
 
-/// The greatest key up to which, from that one on, the map has no row.
+/// Returns the greatest key up to which, from that one on, the map has no row.
 fn clear_to<V>(map: &BTreeMap<u64, V>, key: u64) -> u64
     requires { Misses map.now.entries key }
     ensures { IsClear map.now.entries key result }
@@ -35,7 +35,7 @@ fn clear_to<V>(map: &BTreeMap<u64, V>, key: u64) -> u64
 }
 
 impl Clear {
-    /// All keys.
+    /// Returns all keys.
     pub(crate) fn all() -> Self
         ensures from { result.from ≡ 0 }
     {
@@ -45,7 +45,7 @@ impl Clear {
         }
     }
 
-    /// The keys round one of which the map has no row, up to those of which it has one.
+    /// Returns the keys round one of which the map has no row, up to those of which it has one.
     pub(crate) fn round<V>(map: &BTreeMap<u64, V>, key: u64) -> Self
         requires { Misses map.now.entries key }
         ensures { IsClear map.now.entries result.from result.to }
@@ -56,7 +56,7 @@ impl Clear {
         }
     }
 
-    /// Whether the key is one of them.
+    /// Returns whether the key is one of them.
     #[inline(always)]
     pub(crate) fn has(self, key: u64) -> bool
         ensures from { result ≡ true → self.from ≤ key }
@@ -65,7 +65,7 @@ impl Clear {
         self.from <= key && key <= self.to
     }
 
-    /// Those of them that are above a key, or those that are below it.
+    /// Returns those of them that are above a key, or those that are below it.
     pub(crate) fn beside(self, key: u64, above: bool) -> Self
         ensures { (other : ℕ) → result.from ≤ other → other ≤ result.to → (self.from ≤ other) × (other ≤ self.to) × (other ≢ key) }
     {

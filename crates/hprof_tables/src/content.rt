@@ -1,4 +1,4 @@
-//! What a row of a table says under its key.
+//! The contents of rows, under their keys.
 
 ghost use Rattle.std.specs.Prelude.{◌≡◌, ◌↔◌, ℕ, List, IsTrue, IfOk, OnErr};
 
@@ -12,17 +12,17 @@ pub trait Content {
     // Where the memory for a copy may be refused.
     ghost refuses: { Self → Type 0 };
 
-    /// Whether the contents are equal.
+    /// Returns whether the contents are equal.
     fn agrees(&self, other: &Self) -> bool
         ensures { IsTrue result ↔ (content self.now ≡ content other.now) };
 
-    /// A row with the same content.
+    /// Returns a row with the same content.
     fn copied(&self, alloc: Global) -> Result<Self, AllocError>
         ensures row { IfOk result (λ row. content row ≡ content self.now) }
         ensures full { OnErr result (refuses self.now) };
 }
 
-/// What can become a row, and be compared with one before it does.
+/// A statement, which can become a row, and be compared with one before it does.
 pub trait Statement<V: Content> {
     // The content that is stated.
     ghost content: { Self → List ℕ };
@@ -30,11 +30,11 @@ pub trait Statement<V: Content> {
     // Where the memory for the row may be refused.
     ghost refuses: { Self → Type 0 };
 
-    /// Whether the row has the content that is stated.
+    /// Returns whether the row has the content that is stated.
     fn matches(&self, row: &V) -> bool
         ensures { IsTrue result ↔ (V.content row.now ≡ content self.now) };
 
-    /// The row that has it.
+    /// Returns the row that has it.
     fn into_row(self, alloc: Global) -> Result<V, AllocError>
         ensures row { IfOk result (λ row. V.content row ≡ content self) }
         ensures full { OnErr result (refuses self) };

@@ -9,13 +9,13 @@ ghost use Rattle.hprof_tables.specs.SortedRows.{AreKeys, IsAscending, IsAscendin
 
 use std::alloc::{AllocError, Global};
 
-/// A place is near the gap where fewer rows than these lie between.
+/// A place is near the gap if fewer rows than these lie between.
 const NEAR: usize = 32;
 
-/// The gap follows keys that are far from it, once so many came one behind the other on one side of it.
+/// The gap follows keys that are far from it, once this many came one behind the other on one side of it.
 const STEADY: u8 = 8;
 
-/// On which side of the gap keys lay that were far from it, and how many came there one behind the other.
+/// The side of the gap on which the last keys lay that were far from it, and the number of those that followed one another there.
 #[derive(Clone, Copy)]
 pub(crate) struct Drift {
     above: bool,
@@ -23,7 +23,7 @@ pub(crate) struct Drift {
 }
 
 impl Drift {
-    /// One more came on that side.
+    /// Returns the drift after one more key on that side.
     fn with(self, above: bool) -> Drift {
         Drift {
             above,
@@ -36,8 +36,8 @@ impl Drift {
     }
 }
 
-/// Rows in order of key, in two vectors with a gap between them. Those below the gap ascend; those above it descend, so that the
-/// rows next to the gap are the last of both. The gap lies where a row was put last.
+/// Rows in order of key, in two vectors with a gap between them. Those below the gap ascend; those above it descend, so that the rows next
+/// to the gap are the last of both. The gap lies at the place where a row was put last.
 #[derive(Drop)]
 pub(crate) struct GapRun<V> {
     pub(crate) low: Vec<(u64, V)>,
@@ -51,7 +51,7 @@ pub(crate) struct GapRun<V> {
 impl<V> GapRun<V> {
     ghost use Rattle.hprof_tables.specs.GapRun.{HasRoomForOne, IsGapAt, LacksEnd, run_rows};
 
-    /// No rows. It takes no memory yet.
+    /// Returns a run with no rows. It takes no memory yet.
     pub(crate) fn new(alloc: Global) -> Self
         ensures none { run_rows result ≡ [] }
         ensures no_room { (vec_capacity result.low ≡ 0) × (vec_capacity result.high ≡ 0) }
@@ -66,7 +66,7 @@ impl<V> GapRun<V> {
         }
     }
 
-    /// Those rows, with the gap above all of them.
+    /// Returns a run of those rows, with the gap above all of them.
     pub(crate) fn of(alloc: Global, rows: Vec<(u64, V)>) -> Self
         requires { IsAscending rows.items }
         ensures { run_rows result ≡ rows.items }
@@ -81,7 +81,7 @@ impl<V> GapRun<V> {
         }
     }
 
-    /// The number of rows.
+    /// Returns the number of rows.
     #[inline(always)]
     pub(crate) fn len(&self) -> usize
         ensures { result ≡ length (run_rows self.now) }
@@ -89,7 +89,7 @@ impl<V> GapRun<V> {
         self.low.len() + self.high.len()
     }
 
-    /// Whether all rows below the gap have keys below that one.
+    /// Returns whether all rows below the gap have keys below that one.
     #[inline(always)]
     fn ends_below(&self, key: u64) -> bool
         ensures { IsTrue result ↔ (end_of self.now.low.items ≤ key) }
@@ -100,7 +100,7 @@ impl<V> GapRun<V> {
         }
     }
 
-    /// Whether a row below the gap has a key above that one.
+    /// Returns whether a row below the gap has a key above that one.
     #[inline(always)]
     pub(crate) fn reaches_above(&self, key: u64) -> bool
         ensures { IsTrue result ↔ (key + 1 < end_of self.now.low.items) }
@@ -111,7 +111,7 @@ impl<V> GapRun<V> {
         }
     }
 
-    /// Whether a row above the gap has that key or one below it.
+    /// Returns whether a row above the gap has that key or one below it.
     #[inline(always)]
     fn reaches_below(&self, key: u64) -> bool
         ensures { IsTrue result ↔ ((0 < end_of self.now.high.items) × (end_of self.now.high.items ≤ key + 1)) }
@@ -122,7 +122,7 @@ impl<V> GapRun<V> {
         }
     }
 
-    /// Whether the place of a key lies far below the gap.
+    /// Returns whether the place of a key lies far below the gap.
     #[inline(always)]
     fn is_far_below(&self, key: u64) -> bool
         ensures { result ≡ true → key < end_of self.now.low.items }
@@ -133,7 +133,7 @@ impl<V> GapRun<V> {
         }
     }
 
-    /// Whether the place of a key lies far above the gap.
+    /// Returns whether the place of a key lies far above the gap.
     #[inline(always)]
     fn is_far_above(&self, key: u64) -> bool
         ensures { result ≡ true → 0 < length self.now.high.items }
@@ -144,7 +144,7 @@ impl<V> GapRun<V> {
         }
     }
 
-    /// Moves the rows with keys above that one over the gap. Where memory is refused, some of them were moved.
+    /// Moves the rows with keys above that one over the gap. If memory runs out, some of them were moved.
     fn lower(&mut self, key: u64) -> Result<(), AllocError>
         ensures same { run_rows self.new ≡ run_rows self.old }
         ensures ok { OnOk result (end_of self.new.low.items ≤ key + 1) }
@@ -174,7 +174,7 @@ impl<V> GapRun<V> {
         }
     }
 
-    /// Whether the gap is at the place of a key, of which there is no row.
+    /// Returns whether the gap is at the place of a key, of which there is no row.
     #[inline(always)]
     pub(crate) fn is_gap_at(&self, key: u64) -> bool
         ensures { result ≡ true → IsGapAt self.now key }
@@ -185,8 +185,8 @@ impl<V> GapRun<V> {
         self.ends_below(key)
     }
 
-    /// Brings the gap to the place of a key, if that is near and there is no row of it, and says whether it is there now. Where memory
-    /// is refused, it is not. The rows stay as they are.
+    /// Brings the gap to the place of a key, if that is near and there is no row of it, and returns whether it is there now. If memory runs
+    /// out, it is not. The rows stay as they are.
     pub(crate) fn takes(&mut self, key: u64) -> bool
         ensures same { run_rows self.new ≡ run_rows self.old }
         ensures gap { result ≡ true → IsGapAt self.new key }
@@ -200,7 +200,7 @@ impl<V> GapRun<V> {
         self.ends_below(key)
     }
 
-    /// Whether the place of a key is near the gap.
+    /// Returns whether the place of a key is near the gap.
     #[inline(always)]
     pub(crate) fn is_near(&self, key: u64) -> bool
         ensures { result ≡ false → LacksEnd self.now key }
@@ -208,8 +208,8 @@ impl<V> GapRun<V> {
         !self.is_far_below(key) && !self.is_far_above(key)
     }
 
-    /// Moves the gap towards the place of a key that is far from it, if the last ones lay there too, by no more rows than make a place near.
-    /// The rows stay as they are.
+    /// Moves the gap towards the place of a key that is far from it, if the last ones lay there too, by no more rows than make a place
+    /// near. The rows stay as they are.
     pub(crate) fn approach(&mut self, key: u64)
         ensures { run_rows self.new ≡ run_rows self.old }
     {
@@ -250,7 +250,7 @@ impl<V> GapRun<V> {
         self.low.push_reserved((key, row));
     }
 
-    /// The row under a key below the gap.
+    /// Returns the row under a key below the gap.
     fn get_low(&self, key: u64) -> Option<&V>
         ensures { option_copied result ≡ row_at key self.now.low.items }
     {
@@ -260,7 +260,7 @@ impl<V> GapRun<V> {
         }
     }
 
-    /// The row under a key above the gap.
+    /// Returns the row under a key above the gap.
     fn get_high(&self, key: u64) -> Option<&V>
         ensures { option_copied result ≡ row_at key (reverse self.now.high.items) }
     {
@@ -270,7 +270,7 @@ impl<V> GapRun<V> {
         }
     }
 
-    /// The row under a key.
+    /// Returns the row under a key.
     pub(crate) fn get(&self, key: u64) -> Option<&V>
         ensures { option_copied result ≡ row_at key (run_rows self.now) }
     {
@@ -281,8 +281,8 @@ impl<V> GapRun<V> {
         self.get_low(key)
     }
 
-    /// A place below the gap at which a key may stand, or in front of which it lies: looked for from a place on, by doubled steps and then
-    /// by halves, and among all where it lies before that place. It is a guess.
+    /// Returns a place below the gap at which a key may stand, or in front of which it lies. It is looked for from a place on, by doubled
+    /// steps and then by halves, and among all if it lies before that place. It is a guess.
     #[inline(always)]
     fn guess(&self, key: u64, near: usize) -> usize {
         let rows = self.low.as_slice();
@@ -299,7 +299,7 @@ impl<V> GapRun<V> {
         from + rows[from..to].partition_point(|row| row.0 < key)
     }
 
-    /// The row under a key, as `get` answers it. It is looked for near a place, and where it lies is noted there.
+    /// Returns the row under a key, as `get` does. It is looked for near a place, and its place is noted there.
     #[inline(always)]
     pub(crate) fn get_near(&self, key: u64, near: &mut usize) -> Option<&V>
         ensures { option_copied result ≡ row_at key (run_rows self.now) }
@@ -318,7 +318,7 @@ impl<V> GapRun<V> {
         self.get(key)
     }
 
-    /// Whether the key is above that of the row before a place.
+    /// Returns whether the key is above that of the row before a place.
     #[inline(always)]
     fn lies_behind(&self, key: u64, place: usize) -> bool
         requires { place < length self.now.low.items }
@@ -330,7 +330,7 @@ impl<V> GapRun<V> {
         }
     }
 
-    /// The rows.
+    /// Returns the rows.
     pub(crate) fn into_rows(self) -> Vec<(u64, V)>
     where
         V: Drop,

@@ -10,13 +10,13 @@ ghost use Rattle.hprof_tables.specs.Places.{ArePlaces, ArePlaces-prop};
 use std::alloc::{AllocError, Global};
 use std::collections::BTreeMap;
 
-/// How many hints there are.
+/// The number of hints.
 const HINTS: usize = 65_536;
 
 /// An odd number: the first bits of a key's product with it tell the slot of its hint.
 const SPREAD: u64 = 0x9E37_79B9_7F4A_7C15;
 
-/// The slot of a key's hint. Other keys may have it too.
+/// Returns the slot of a key's hint. Other keys may have it too.
 #[inline(always)]
 fn slot_of(key: u64) -> usize
     ensures { result < HINTS }
@@ -31,8 +31,8 @@ fn leave_hint(hints: &mut [usize], key: u64, place: usize) {
     }
 }
 
-/// Values by key. Where a key stands is guessed first: each key that is put in leaves its place as a hint, in a slot that it
-/// may share with others. Where the guess is wrong, the key is searched for.
+/// Values by key. The place of a key is guessed first: each key that is put in leaves its place as a hint, in a slot that it may share with
+/// others. If the guess is wrong, the key is searched for.
 #[derive(Drop)]
 pub struct HintedMap<V> {
     /// The keys with their values, in the order in which the keys came.
@@ -47,7 +47,7 @@ pub struct HintedMap<V> {
 impl<V> HintedMap<V> {
     ghost use Rattle.hprof_tables.specs.HintedMap.{keys_in, rows_in, value_in};
 
-    /// A map without keys. It takes no memory yet.
+    /// Returns a map without keys. It takes no memory yet.
     pub fn new(alloc: Global) -> Self
         ensures none { (key : ℕ) → value_in result key ≡ None }
         ensures no_rows { rows_in result ≡ [] }
@@ -60,7 +60,7 @@ impl<V> HintedMap<V> {
         }
     }
 
-    /// Whether the key stands at that place.
+    /// Returns whether the key stands at that place.
     #[inline(always)]
     fn is_at(&self, key: u64, place: usize) -> bool
         ensures { IsTrue result ↔ (slice_get (keys_in self.now) place ≡ Some key) }
@@ -71,7 +71,7 @@ impl<V> HintedMap<V> {
         }
     }
 
-    /// The place of a key, by a search. It is seldom wanted, so that it stands apart from what is inlined.
+    /// Returns the place of a key, by a search. It is seldom wanted, so that it stands apart from what is inlined.
     #[inline(never)]
     fn listed_place(&self, key: u64) -> Option<usize>
         ensures some { IfSome result (λ place. slice_get (keys_in self.now) place ≡ Some key) }
@@ -83,7 +83,7 @@ impl<V> HintedMap<V> {
         }
     }
 
-    /// The place of a key.
+    /// Returns the place of a key.
     #[inline(always)]
     fn place_under(&self, key: u64) -> Option<usize>
         ensures some { IfSome result (λ place. slice_get (keys_in self.now) place ≡ Some key) }
@@ -95,7 +95,7 @@ impl<V> HintedMap<V> {
         }
     }
 
-    /// The value under a key.
+    /// Returns the value under a key.
     #[inline(always)]
     pub fn get(&self, key: u64) -> Option<&V>
         ensures { option_copied result ≡ value_in self.now key }
@@ -104,7 +104,7 @@ impl<V> HintedMap<V> {
         Some(&self.rows[place].1)
     }
 
-    /// Whether there is a value under the key.
+    /// Returns whether there is a value under the key.
     #[inline(always)]
     pub fn contains_key(&self, key: u64) -> bool
         ensures { result ≡ is_some (value_in self.now key) }
@@ -131,8 +131,9 @@ impl<V> HintedMap<V> {
         Ok(())
     }
 
-    /// Puts a value under a key, in the place of one that is there. Where memory is refused, nothing changes: that may be
-    /// where the key is new.
+    /// Puts a value under a key, in the place of one that is there.
+    ///
+    /// Memory can run out only if the key is new. Then nothing changes.
     pub fn insert(&mut self, key: u64, value: V) -> Result<(), AllocError>
     where
         V: Drop,
@@ -149,14 +150,14 @@ impl<V> HintedMap<V> {
         }
     }
 
-    /// The number of keys.
+    /// Returns the number of keys.
     pub fn len(&self) -> usize
         ensures { result ≡ length (rows_in self.now) }
     {
         self.rows.len()
     }
 
-    /// The keys with their values, each key once.
+    /// Returns the keys with their values, each key once.
     pub fn rows(&self) -> &[(u64, V)]
         ensures all { result.now ≡ rows_in self.now }
         ensures once { IsDistinct nat_eq (keys_of result.now) }

@@ -13,7 +13,7 @@ use crate::side_by_side::{first_difference, missing_rows, same_rows};
 use crate::sorted_table::{SortedTable, Visit};
 use std::alloc::{AllocError, Global};
 
-/// What stating a fact came to.
+/// The result of stating a fact.
 #[derive(Clone, Copy, Debug, PartialEq, Eq)]
 pub enum Stated {
     /// The key was new, and the row was added.
@@ -24,7 +24,7 @@ pub enum Stated {
     Differs,
 }
 
-/// A statement that visits its key: the row that is there is compared with it, and else it becomes one.
+/// A statement that visits its key: it is compared with the row that is there, and becomes one if there is none.
 #[derive(Drop)]
 struct Stating<T> {
     statement: T,
@@ -57,7 +57,7 @@ impl<V: Content, T: Statement<V> + Drop> Visit<V> for Stating<T> {
     }
 }
 
-/// Copies of rows. Where there is none, no memory is wanted.
+/// Returns copies of rows. If there is no row, no memory is needed.
 fn copies<V: Content + Drop>(
     alloc: Global,
     lent: Vec<(u64, &V)>,
@@ -88,7 +88,7 @@ impl<V: Content + Drop> Relation<V> {
     ghost use Rattle.hprof_tables.specs.SortedRows.{IsAscending};
     ghost use Rattle.hprof_tables.specs.Relation.{HasNoRoom, MayNeedMemory};
 
-    /// A table with no rows. It takes no memory yet.
+    /// Returns a table with no rows. It takes no memory yet.
     pub fn new(alloc: Global) -> Self
         ensures none { rows_of result ≡ [] }
         ensures no_room { HasNoRoom result }
@@ -109,7 +109,7 @@ impl<V: Content + Drop> Relation<V> {
         self.state_from(key, Made(row))
     }
 
-    /// States under a key what can become a row. It becomes one only where the key is new.
+    /// States under a key a statement that can become a row. It becomes one only if the key is new.
     pub fn state_from<T: Statement<V> + Drop>(
         &mut self,
         key: u64,
@@ -131,36 +131,36 @@ impl<V: Content + Drop> Relation<V> {
         }
     }
 
-    /// The row under a key.
+    /// Returns the row under a key.
     pub fn get(&self, key: u64) -> Option<&V>
         ensures { option_copied result ≡ lookup (is_at (nat_cmp key)) (rows_of self.now) }
     {
         self.rows.get(key)
     }
 
-    /// The number of rows.
+    /// Returns the number of rows.
     pub fn len(&self) -> usize
         ensures { result ≡ length (rows_of self.now) }
     {
         self.rows.len()
     }
 
-    /// Whether both have the same keys with the same contents.
+    /// Returns whether both have the same keys with the same contents.
     pub fn same(&self, other: &Self) -> bool
         ensures { IsTrue result ↔ (contents_of V.content (rows_of self.now) ≡ contents_of V.content (rows_of other.now)) }
     {
         same_rows(self.rows(), other.rows())
     }
 
-    /// The least key under which both have a row, with different contents.
+    /// Returns the least key under which both have a row, with different contents.
     pub fn first_difference(&self, other: &Self) -> Option<u64>
         ensures { IsFirstDifference (contents_of V.content (rows_of self.now)) (contents_of V.content (rows_of other.now)) result }
     {
         first_difference(self.rows(), other.rows())
     }
 
-    /// Takes the rows of another whose keys are new. Both are gone over side by side; where memory is refused, nothing
-    /// changes. No memory is wanted where no key is new.
+    /// Takes the rows of another whose keys are new. Both are gone over side by side. If memory runs out, nothing changes. No memory is
+    /// needed if no key is new.
     pub fn join(&mut self, other: &Self) -> Result<(), AllocError>
         ensures ok { IfOk result (λ _. AreUnion (contents_of V.content (rows_of self.old)) (contents_of V.content (rows_of other.now))
             (contents_of V.content (rows_of self.new))) }
@@ -174,7 +174,7 @@ impl<V: Content + Drop> Relation<V> {
         self.rows.merge(self.alloc, fresh)
     }
 
-    /// The rows, in order of key.
+    /// Returns the rows, in order of key.
     pub fn rows(&self) -> Rows<'_, V>
         ensures all { rows_left result ≡ rows_of self.now }
         ensures ascending { IsAscending (rows_left result) }

@@ -74,7 +74,7 @@ impl<'a> KeyedRows<LentBytes<'a>> for BytesRows<'a> {
     }
 }
 
-/// Whether both have the same keys with the same contents.
+/// Returns whether both have the same keys with the same contents.
 pub(crate) fn same_rows<R: Content + Drop, I: KeyedRows<R> + Drop>(
     mut rows: I,
     mut others: I,
@@ -92,7 +92,7 @@ pub(crate) fn same_rows<R: Content + Drop, I: KeyedRows<R> + Drop>(
     others.next_row().is_none()
 }
 
-/// The least key that both have with different contents. Each is gone over once.
+/// Returns the least key that both have with different contents. Each is gone over once.
 pub(crate) fn first_difference<R: Content + Drop, I: KeyedRows<R> + Drop>(
     mut rows: I,
     mut others: I,
@@ -128,7 +128,7 @@ pub(crate) fn first_difference<R: Content + Drop, I: KeyedRows<R> + Drop>(
     None
 }
 
-/// The rows of the others whose keys these lack. Each is gone over once. Where there is none, no memory is wanted.
+/// Returns the rows of the others whose keys these lack. Each is gone over once. If there is no such row, no memory is needed.
 pub(crate) fn missing_rows<S, I, R, J>(
     alloc: Global,
     mut rows: I,

@@ -18,12 +18,12 @@ use std::collections::btree_map::Entry;
 use std::collections::{BTreeMap, btree_map};
 use std::mem;
 
-/// What is done at a key: a row that is there is asked, and one is made where there is none.
+/// A visit of a key: a row that is there is asked, and one is made if there is none.
 pub(crate) trait Visit<V> {
-    /// What the row that is there answers.
+    /// The answer of a row that is there.
     type Answer;
 
-    /// Where rows have what does not stand in the table.
+    /// The room for the data that rows have outside the table.
     type Room;
 
     // The bytes of the room.
@@ -45,7 +45,7 @@ pub(crate) trait Visit<V> {
     fn ask(self, row: &V, room: &Self::Room) -> Self::Answer
         ensures { answers self (held room.now) row.now result };
 
-    /// Makes the row. Where memory is refused, the room has what it had.
+    /// Makes the row. If memory runs out, the room keeps what it had.
     fn make(self, room: &mut Self::Room) -> Result<V, AllocError>
         ensures ok { IfOk result (λ row. makes self (held room.old) row (held room.new)) }
         ensures err { OnErr result (held room.new ≡ held room.old) }
@@ -67,7 +67,7 @@ pub(crate) struct SortedTable<V> {
 impl<V> SortedTable<V> {
     ghost use Rattle.hprof_tables.specs.SortedTable.{entries_of, entries_left, LacksRoom};
 
-    /// A table with no rows. It takes no memory yet.
+    /// Returns a table with no rows. It takes no memory yet.
     pub(crate) fn new(alloc: Global) -> Self
         ensures none { entries_of result ≡ [] }
         ensures no_room { (vec_capacity result.run.low ≡ 0) × (vec_capacity result.run.high ≡ 0) }
@@ -79,7 +79,7 @@ impl<V> SortedTable<V> {
         }
     }
 
-    /// The row under a key in the map.
+    /// Returns the row under a key in the map.
     #[inline(always)]
     fn get_far(&self, key: u64) -> Option<&V>
         ensures { option_copied result ≡ row_at key self.now.far.entries }
@@ -90,7 +90,7 @@ impl<V> SortedTable<V> {
         self.far.get(&key)
     }
 
-    /// The row under a key.
+    /// Returns the row under a key.
     #[inline(always)]
     pub(crate) fn get(&self, key: u64) -> Option<&V>
         ensures { option_copied result ≡ row_at key (entries_of self.now) }
@@ -101,7 +101,7 @@ impl<V> SortedTable<V> {
         }
     }
 
-    /// The row under a key, which is looked for near a place of the run. Where it lies is noted there.
+    /// Returns the row under a key, which is looked for near a place of the run. Its place is noted there.
     #[inline(always)]
     pub(crate) fn get_near(&self, key: u64, near: &mut usize) -> Option<&V>
         ensures { option_copied result ≡ row_at key (entries_of self.now) }
@@ -112,7 +112,7 @@ impl<V> SortedTable<V> {
         }
     }
 
-    /// Whether the map has no row under a key. For which keys round it there is none either is noted.
+    /// Returns whether the map has no row under a key. The keys round it for which there is none either are noted.
     #[inline(always)]
     fn clears(&mut self, key: u64) -> bool
         ensures none { result ≡ true → Misses self.new.far.entries key }
@@ -123,7 +123,7 @@ impl<V> SortedTable<V> {
         self.clear.has(key) || self.clears_round(key)
     }
 
-    /// Whether the map has no row under a key, which is looked up.
+    /// Returns whether the map has no row under a key, which is looked up.
     #[inline(never)]
     fn clears_round(&mut self, key: u64) -> bool
         ensures none { result ≡ true → Misses self.new.far.entries key }
@@ -138,7 +138,7 @@ impl<V> SortedTable<V> {
         true
     }
 
-    /// Brings the gap of the run to the place of a key, if that is near and there is no row of it, and says whether it is there now.
+    /// Brings the gap of the run to the place of a key, if that is near and there is no row of it, and returns whether it is there now.
     #[inline(always)]
     fn opens(&mut self, key: u64) -> bool
         ensures run { run_rows self.new.run ≡ run_rows self.old.run }
@@ -154,7 +154,7 @@ impl<V> SortedTable<V> {
         self.run.is_near(key) && self.clears(key) && self.run.takes(key)
     }
 
-    /// Makes a row in the run, where the gap is at the place of its key.
+    /// Makes a row in the run, if the gap is at the place of its key.
     #[inline(always)]
     fn make_at_gap<T: Visit<V> + Drop>(
         &mut self,
@@ -178,7 +178,7 @@ impl<V> SortedTable<V> {
         Ok(())
     }
 
-    /// Asks the row under a key in the map, or makes one there where there is none. The run has no row of the key.
+    /// Asks the row under a key in the map, or makes one there if there is none. The run has no row of the key.
     fn visit_far<T: Visit<V> + Drop>(
         &mut self,
         key: u64,
@@ -202,7 +202,7 @@ impl<V> SortedTable<V> {
         Ok(answer)
     }
 
-    /// Asks the row under a key, or makes one where there is none.
+    /// Asks the row under a key, or makes one if there is none.
     #[inline(always)]
     pub(crate) fn visit<T: Visit<V> + Drop>(
         &mut self,
@@ -234,8 +234,8 @@ impl<V> SortedTable<V> {
         }
     }
 
-    /// Takes rows whose keys are new. They and those of the run are gone over once, side by side; the map stays as it is.
-    /// Where there is none, no memory is wanted.
+    /// Takes rows whose keys are new. They and those of the run are gone over once, side by side; the map stays as it is. If there is no
+    /// row, no memory is needed.
     pub(crate) fn merge(&mut self, alloc: Global, fresh: Vec<(u64, V)>) -> Result<(), AllocError>
     where
         V: Drop,
@@ -261,14 +261,14 @@ impl<V> SortedTable<V> {
         Ok(())
     }
 
-    /// The number of rows.
+    /// Returns the number of rows.
     pub(crate) fn len(&self) -> usize
         ensures { result ≡ length (entries_of self.now) }
     {
         self.run.len() + self.far.len()
     }
 
-    /// The rows, in order of key.
+    /// Returns the rows, in order of key.
     pub(crate) fn iter(&self) -> Entries<'_, V>
         ensures all { entries_left result ≡ entries_of self.now }
         ensures both { IsListOfBoth (run_rows self.now.run) self.now.far.entries (entries_of self.now) }
@@ -284,7 +284,7 @@ impl<V> SortedTable<V> {
     }
 }
 
-/// Asks the row under a key of a map, or makes one where there is none. The key is looked up once.
+/// Asks the row under a key of a map, or makes one if there is none. The key is looked up once.
 fn visit_map<V: Drop, T: Visit<V> + Drop>(
     map: &mut BTreeMap<u64, V>,
     key: u64,
@@ -338,7 +338,7 @@ impl<'a, V> Entries<'a, V> {
         Some((row.0, &row.1))
     }
 
-    /// Whether the first row of the run has a key below that one.
+    /// Returns whether the first row of the run has a key below that one.
     #[inline(always)]
     fn run_precedes(&self, key: u64) -> bool
         ensures { IsTrue result ↔ Precedes (run_left self.now) key }

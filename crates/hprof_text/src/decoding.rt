@@ -72,8 +72,7 @@ pub(crate) fn first_unit(bytes: &[u8]) -> Option<(u16, &[u8])>
     }
 }
 
-/// Whether the bytes are modified UTF-8 in its shortest forms, by the Java Virtual Machine
-/// Specification, section 4.4.7.
+/// Returns whether the bytes are modified UTF-8 in its shortest forms, by the Java Virtual Machine Specification, section 4.4.7.
 pub fn is_modified(bytes: &[u8]) -> bool
     ensures { IsTrue result ↔ HasUnits bytes.now }
 {
@@ -101,10 +100,10 @@ fn decoded(alloc: Global, bytes: &[u8]) -> Result<Option<Vec<u16>>, AllocError>
     }
 }
 
-/// The 16-bit units of modified UTF-8 in its shortest forms, by the Java Virtual Machine
-/// Specification, section 4.4.7, and none where the bytes are no such text. A lone surrogate is a
-/// unit like any other. The error is that there is not enough memory for the units, and comes only
-/// where there are units.
+/// Returns the 16-bit units of modified UTF-8 in its shortest forms, by the Java Virtual Machine Specification, section 4.4.7, or `None` if
+/// the bytes are no such text.
+///
+/// A lone surrogate is a unit like any other. If memory runs out, the answer is `AllocError`, which comes only if there are units.
 pub fn units(alloc: Global, bytes: &[u8]) -> Result<Option<Vec<u16>>, AllocError>
     ensures ok { IfOk result (λ found. DecodesTo bytes.now (option_map (λ v. v.items) found)) }
     ensures err { OnErr result (HasUnits bytes.now) }

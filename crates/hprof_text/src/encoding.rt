@@ -47,8 +47,9 @@ fn encoded_len(units: &[u16]) -> usize
     len
 }
 
-/// The modified UTF-8 of 16-bit units in its shortest forms, by the Java Virtual Machine
-/// Specification, section 4.4.7. Memory is asked for once, and the error is that there is not enough.
+/// Returns the modified UTF-8 of 16-bit units in its shortest forms, by the Java Virtual Machine Specification, section 4.4.7.
+///
+/// Memory is asked for once. If it runs out, the answer is `AllocError`.
 pub fn encode_units(alloc: Global, units: &[u16]) -> Result<Vec<u8>, AllocError>
     ensures { IfOk result (λ bytes. IsModifiedUtf8 units.now bytes.items) }
 {

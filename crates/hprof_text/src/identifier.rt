@@ -21,8 +21,8 @@ fn hex_digit(value: u64) -> u8
     }
 }
 
-/// Appends an identifier in lower-case hexadecimal without leading zeros, `0` for 0, which is this
-/// project's own form. The error is that there is not enough memory, and the text is then as it was.
+/// Appends an identifier in lower-case hexadecimal without leading zeros, `0` for 0, which is this project's own form. If memory runs out,
+/// the answer is `AllocError`, and the text is unchanged.
 pub fn push_id(text: &mut String, id: u64) -> Result<(), AllocError>
     ensures ok { OnOk result (string_bytes text.new ≡ string_bytes text.old ++ id_digits id) }
     ensures err { OnErr result (string_bytes text.new ≡ string_bytes text.old) }
@@ -39,8 +39,8 @@ pub fn push_id(text: &mut String, id: u64) -> Result<(), AllocError>
     text.push_str(str::from_utf8(&digits[start..]).unwrap())
 }
 
-/// The identifier that one to sixteen hexadecimal digits of either case write, and none for any
-/// other text: no sign, no prefix and no space.
+/// Returns the identifier that one to sixteen hexadecimal digits of either case write, or `None` for any other text: a sign, a prefix or a
+/// space is not taken.
 pub fn parse_id(text: &str) -> Option<u64>
     ensures value { SomeIff result (IsIdText text.now) (id_value text.now) }
     ensures digits { (id : ℕ) → id < 2 ^ 64 → text.now ≡ id_digits id → result ≡ Some id }

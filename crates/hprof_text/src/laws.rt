@@ -15,7 +15,7 @@ pub fn one_list_of_bytes()
     ensures { (units a b : List ℕ) → IsModifiedUtf8 units a → IsModifiedUtf8 units b → a ≡ b }
 {}
 
-/// What `encode_units` gives of units, `units` gives back: the units, and nothing else.
+/// `units` gives back the units that `encode_units` was given, and nothing else.
 pub fn units_come_back()
     ensures { (units bytes : List ℕ) (found : Option (List ℕ)) → IsModifiedUtf8 units bytes
         → DecodesTo bytes found → found ≡ Some units }

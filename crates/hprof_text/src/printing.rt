@@ -105,10 +105,10 @@ fn printed_text(alloc: Global, bytes: &[u8]) -> Result<Vec<u8>, AllocError>
     Ok(text)
 }
 
-/// The printed form of a name, this project's own, which is ASCII. Of modified UTF-8 each unit from
-/// 0x20 to 0x7e but the backslash is itself, and each other unit is `\u` and four lower-case
-/// hexadecimal digits; other bytes are `\x` and all bytes in lower-case hexadecimal. The error is that
-/// there is not enough memory for it.
+/// Returns the printed form of a name, which is ASCII and this project's own.
+///
+/// Of modified UTF-8 each unit from 0x20 to 0x7e but the backslash is itself, and each other unit is `\u` and four lower-case hexadecimal
+/// digits. Other bytes are `\x` and all bytes in lower-case hexadecimal. If memory runs out, the answer is `AllocError`.
 pub fn printed(alloc: Global, bytes: &[u8]) -> Result<String, AllocError>
     ensures form { IfOk result (λ text. IsPrinted bytes.now (string_bytes text)) }
     ensures ascii { IfOk result (λ text. IsAscii (string_bytes text)) }

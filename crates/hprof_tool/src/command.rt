@@ -6,33 +6,33 @@ ghost use Rattle.hprof_tool.specs.Tasks.{AsksFor};
 use clap::{Arg, ArgAction, ArgMatches, Command, Error};
 use std::alloc::{AllocError, Global};
 
-/// What the words ask for.
+/// The task that the words ask for.
 #[derive(Drop)]
 pub(crate) enum Task<'a> {
     /// To join the part on standard input, to standard output.
     JoinInput,
     /// To write a dump of the parts in files to a new file.
     Write {
-        /// Which dump.
+        /// The dump to write.
         product: NewFile,
         /// The name of the new file.
         out: &'a str,
         /// The names of the parts, in order.
         parts: Vec<&'a str>,
     },
-    /// To save what can be saved of the parts in files, in a new file.
+    /// To salvage the parts in files, to a new file.
     Salvage {
         /// The name of the new file.
         out: &'a str,
         /// The names of the parts, in order.
         parts: Vec<&'a str>,
     },
-    /// To report what the parts in files have.
+    /// To write the report `check` on the parts in files.
     Check {
         /// The names of the parts, in order.
         parts: Vec<&'a str>,
     },
-    /// To report how many objects of each kind the parts in files have.
+    /// To report the number of objects of each kind in the parts in files.
     Histogram {
         /// The names of the parts, in order.
         parts: Vec<&'a str>,
@@ -44,7 +44,7 @@ pub(crate) enum Task<'a> {
     },
     /// To report something on an identifier.
     Ask {
-        /// What to report.
+        /// The report to write.
         question: Question,
         /// The identifier, as text.
         id: &'a str,
@@ -53,7 +53,7 @@ pub(crate) enum Task<'a> {
     },
 }
 
-/// What is written to a new file.
+/// The dump that is written to a new file.
 #[derive(Clone, Copy, Debug, PartialEq, Eq)]
 pub(crate) enum NewFile {
     /// The canonical dump.
@@ -62,18 +62,18 @@ pub(crate) enum NewFile {
     Dump101,
 }
 
-/// What is asked about an identifier.
+/// A question about an identifier.
 #[derive(Clone, Copy, Debug, PartialEq, Eq)]
 pub(crate) enum Question {
-    /// What its class and its object hold.
+    /// The contents of its class and its object.
     Object,
-    /// How far from the roots it is, and by which path.
+    /// Its distance from the roots, and the path.
     Path,
-    /// What refers to it.
+    /// The references to it.
     Refs,
 }
 
-/// The names of the parts, any number of them.
+/// Returns the argument for the names of the parts, any number of them.
 fn parts_arg<'a>(alloc: Global) -> Arg<'a> {
     Arg::new(alloc, "part")
         .value_name("PART")
@@ -82,7 +82,7 @@ fn parts_arg<'a>(alloc: Global) -> Arg<'a> {
         .action(ArgAction::Append)
 }
 
-/// A command that reports on parts.
+/// Returns a command that reports on parts.
 fn reporting_command<'a>(
     alloc: Global,
     name: &'a str,
@@ -91,7 +91,7 @@ fn reporting_command<'a>(
     Command::new(alloc, name).about(about).arg(parts_arg(alloc))
 }
 
-/// A command that writes a new file that is made of parts.
+/// Returns a command that writes a new file that is made of parts.
 fn writing_command<'a>(
     alloc: Global,
     name: &'a str,
@@ -108,7 +108,7 @@ fn writing_command<'a>(
         .arg(parts_arg(alloc))
 }
 
-/// A command that reports on an identifier.
+/// Returns a command that reports on an identifier.
 fn asking_command<'a>(
     alloc: Global,
     name: &'a str,
@@ -125,7 +125,7 @@ fn asking_command<'a>(
         .arg(parts_arg(alloc))
 }
 
-/// The program's command line.
+/// Returns the program's command line.
 fn command<'a>(alloc: Global) -> Result<Command<'a>, AllocError> {
     Command::new(alloc, "hprof")
         .about(
@@ -171,15 +171,15 @@ fn command<'a>(alloc: Global) -> Result<Command<'a>, AllocError> {
         )?)
 }
 
-/// The names of the parts that were given to a command.
+/// Returns the names of the parts that were given to a command.
 fn parts_of<'a>(alloc: Global, matches: &ArgMatches<'a>) -> Result<Vec<&'a str>, AllocError> {
     let mut parts = Vec::new(alloc);
     parts.extend_from_slice(matches.get_strs("part").unwrap_or(&[]))?;
     Ok(parts)
 }
 
-/// What a command of that name, which is one of the program's, asks for with these words. The words were understood, so a word
-/// that is required is there.
+/// Returns the task that a command of that name, which is one of the program's, asks for with these words. The words were understood, so a
+/// word that is required is there.
 fn task_named<'a>(alloc: Global, name: &str, words: &ArgMatches<'a>) -> Result<Task<'a>, AllocError>
     ensures { IfOk result (AsksFor name.now) }
 {
@@ -219,7 +219,7 @@ fn task_named<'a>(alloc: Global, name: &str, words: &ArgMatches<'a>) -> Result<T
     })
 }
 
-/// What the words ask for, the first of which is the program's name.
+/// Returns the task that the words ask for. The first word is the program's name.
 pub(crate) fn task_of<'a>(alloc: Global, words: &'a [String]) -> Result<Task<'a>, Error> {
     let matches = command(alloc)?.try_get_matches_from(words)?;
     let Some((name, words)) = matches.subcommand() else {

@@ -1,5 +1,5 @@
-//! The program round the engine: its words, its files, and what it answers. Here is also where another program finds the
-//! calls that read parts and write something, and the laws of what they write.
+//! The program round the engine: its words, its files, and its answers. Here is also where another program finds the calls that read parts
+//! and write something, and the laws of what they write.
 #![tactic(auto)]
 
 mod command;

@@ -1,4 +1,4 @@
-//! The program: what its words ask for, over files and standard streams that the caller passes.
+//! The program: the task that its words ask for, over files and standard streams that the caller passes.
 
 ghost use Rattle.std.specs.Prelude.{◌≡◌, ◌≢◌, ℕ, List, Some, IfOk, IfErr};
 ghost use Rattle.std.specs.Io.KnownBytes.{Appends};
@@ -56,7 +56,7 @@ fn join_input<I: Read + Drop, O: Write + Drop, E: Write>(
     answer_stream(alloc, join_stream(alloc, input, output), errors)
 }
 
-/// Writes what is made of parts in files to a new file.
+/// Writes the product of parts in files to a new file.
 fn write_new_file<P: Product, F: Folder, E: Write>(
     alloc: Global,
     files: &F,
@@ -72,8 +72,8 @@ fn write_new_file<P: Product, F: Folder, E: Write>(
     answer_outcome(alloc, write_file(alloc, files, product, out, names), errors)
 }
 
-/// Saves what can be saved of parts in files in a new file, which it gives back, and then tells the faults of the parts on
-/// `output`. If a fault cannot be told, the new file stays: what was saved is whole.
+/// Salvages parts in files to a new file, which it gives back, and then tells the faults of the parts on `output`. If a fault cannot be
+/// told, the new file stays: it is whole.
 fn salvage_and_tell<F: Folder, O: Write>(
     alloc: Global,
     files: &F,
@@ -95,7 +95,7 @@ fn salvage_and_tell<F: Folder, O: Write>(
     }
 }
 
-/// Saves what can be saved of parts in files in a new file, and tells the faults of the parts on `output`, one a line.
+/// Salvages parts in files to a new file, and tells the faults of the parts on `output`, one a line.
 fn salvage<F: Folder, O: Write, E: Write>(
     alloc: Global,
     files: &F,
@@ -142,7 +142,7 @@ fn report<P: Product, F: Folder, O: Write + Drop, E: Write>(
     )
 }
 
-/// Makes what is asked for of parts in files, in a new file.
+/// Writes the dump that is asked for of parts in files to a new file.
 fn write_dump<F: Folder, E: Write>(
     alloc: Global,
     files: &F,
@@ -217,12 +217,12 @@ fn converse<F: Folder, I: Read + Drop, P: Write + Drop, O: Write + Drop, E: Writ
     )
 }
 
-/// The words as a list.
+/// Returns the words as a list.
 fn list_of(alloc: Global, words: io::Result<Args>) -> io::Result<Vec<String>> {
     Ok(words?.collect(alloc)?)
 }
 
-/// Does what a task asks for. It gives `output` back, which is gone where there was no memory for the buffer before it.
+/// Does what a task asks for. It gives `output` back, unless there was no memory for the buffer before it.
 fn perform<F: Folder, I: Read + Drop, O: Write + Drop, E: Write, P: Write + Drop>(
     alloc: Global,
     files: &F,
@@ -267,11 +267,15 @@ fn perform<F: Folder, I: Read + Drop, O: Write + Drop, E: Write, P: Write + Drop
     }
 }
 
-/// Does what the words ask for: without a word behind the program's name it joins the part on `input` to `output`;
-/// `join OUT PART..` and `join101 OUT PART..` join parts in files to a new file; `salvage OUT PART..` saves in a new file what
-/// can be saved of parts in files, and tells their faults on `output`; `check PART..`, `histo PART..`, `object ID PART..`,
-/// `path ID PART..` and `refs ID PART..` write a report on parts in files to `output`; `ask PART..` answers on `output` the questions that
-/// come as lines on `input`, and prompts for each line on `prompts`, if there are prompts. Refusals are told on `errors`.
+/// Does what the words ask for. Refusals are told on `errors`.
+///
+/// - Without a word behind the program's name, it joins the part on `input` to `output`.
+/// - `join OUT PART..` and `join101 OUT PART..` join parts in files to a new file.
+/// - `salvage OUT PART..` salvages parts in files to a new file, and tells their faults on `output`.
+/// - `check PART..`, `histo PART..`, `object ID PART..`, `path ID PART..` and `refs ID PART..` write a report on parts in files to
+///   `output`.
+/// - `ask PART..` reads parts in files, and answers on `output` the questions that come as lines on `input`. It prompts for each line on
+///   `prompts`, if there are prompts.
 pub fn run<F: Files, I: Read + Drop, O: Write + Drop, E: Write, P: Write + Drop>(
     alloc: Global,
     files: &F,

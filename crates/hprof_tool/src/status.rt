@@ -1,6 +1,6 @@
-//! How the program ends.
+//! The end of the program.
 
-/// How the program ends.
+/// The end of the program.
 #[derive(Clone, Copy, Debug, PartialEq, Eq)]
 pub enum Status {
     /// It did what it was asked to.
@@ -15,7 +15,7 @@ impl Status {
     ghost use Rattle.std.specs.Prelude.{◌≡◌};
     ghost use Rattle.hprof_tool.specs.Status.{code_of};
 
-    /// The exit status of the process.
+    /// Returns the exit status of the process.
     pub fn code(self) -> u8
         ensures { result ≡ code_of self }
     {

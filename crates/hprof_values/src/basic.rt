@@ -35,7 +35,7 @@ impl Basic {
     ghost use Rattle.hprof_values.specs.declared.basic.Basic.{Basic};
     ghost use Rattle.hprof_values.specs.Basic.{code_of_basic, basic_of_code, width_of_basic};
 
-    /// The code that stands for the type in a dump.
+    /// Returns the code that stands for the type in a dump.
     pub fn code(self) -> u8
         ensures { result ≡ code_of_basic self }
     {
@@ -53,7 +53,7 @@ impl Basic {
         }
     }
 
-    /// The type that the code stands for.
+    /// Returns the type that the code stands for, if it stands for one.
     #[inline(always)]
     pub fn from_code(code: u8) -> Option<Basic>
         ensures exact { result ≡ basic_of_code code }
@@ -74,7 +74,7 @@ impl Basic {
         }
     }
 
-    /// How many bytes a value of the type has.
+    /// Returns the number of bytes of a value of the type.
     #[inline(always)]
     pub fn width(self, ids: IdSize) -> u32
         ensures { result ≡ width_of_basic ids self }

@@ -27,7 +27,7 @@ fn total(widths: &[usize]) -> usize
 }
 
 impl BoundedBytes<'_> {
-    /// Tests a field by where it ends: within the record, within the longest item, and then it is there.
+    /// Tests the end of a field: it lies within the record, then within the longest item, and then its bytes are there.
     #[inline(always)]
     fn field_end(&self, end: usize) -> Result<usize, Stop>
         ensures { result ≡ field_end (bounds_of self.now) end }
@@ -43,8 +43,8 @@ impl BoundedBytes<'_> {
         }
     }
 
-    /// The end of fields of those widths that begin there, each tested before the next. Where it stands in its callers they
-    /// need no place in memory for the item and the widths, also where it does not run.
+    /// Returns the end of fields of those widths that begin there, each tested before the next. It stands in its callers in line, so that
+    /// they need no place in memory for the item and the widths, even if it does not run.
     #[inline(always)]
     fn each_end(&self, at: usize, widths: &[usize]) -> Result<usize, Stop>
         requires { at + sum widths.now < 2 ^ 64 }
@@ -59,7 +59,7 @@ impl BoundedBytes<'_> {
         Ok(end)
     }
 
-    /// The end of fields of those widths that begin there, or the first of their tests that fails.
+    /// Returns the end of fields of those widths that begin there, or the first of their tests that fails.
     #[tactic(auto, using(crate::proofs::FieldGroups::reached_within))]
     #[inline(always)]
     pub fn end_of(&self, at: usize, widths: &[usize]) -> Result<usize, Stop>

@@ -2,8 +2,8 @@
 
 ghost use Rattle.std.specs.Prelude.{◌≡◌};
 
-/// How many bytes an identifier has. The header of a dump says it; other sizes than these two are refused,
-/// which is this project's own rule.
+/// The number of bytes of an identifier. The header of a dump says it. Other sizes than these two are refused, which is this project's own
+/// rule.
 #[derive(Clone, Copy, Debug, PartialEq, Eq)]
 pub enum IdSize {
     /// Four bytes.
@@ -15,7 +15,7 @@ pub enum IdSize {
 impl IdSize {
     ghost use Rattle.hprof_values.specs.Ids.{width_of};
 
-    /// The number of bytes, 4 or 8.
+    /// Returns the number of bytes, 4 or 8.
     #[inline(always)]
     pub fn width(self) -> usize
         ensures { result ≡ width_of self }

@@ -48,8 +48,8 @@ pub fn fronts_are_short()
         → (reached bounds at widths ≡ Err stops.Short) ⊎ (reached (with_more bounds more) at widths ≡ reached bounds at widths) }
 {}
 
-/// Fields, one or more, end where their widths say, exactly where that lies within all bounds. What is answered otherwise is
-/// what the test of the first field answers that does not end within them.
+/// Fields, one or more, end where their widths say, exactly if that lies within all bounds. Otherwise the answer is that of the test of the
+/// first field that does not end within them.
 pub fn fields_end_or_stop()
     ensures end { (bounds : Bounds) (at end : ℕ) (widths : List ℕ) → 0 < length widths
         → (reached bounds at widths ≡ Ok end) ↔ ((end ≡ at + sum widths) × IsWithin bounds end) }

@@ -1,6 +1,6 @@
-//! What the items of an HPROF heap dump are made of: identifiers, types of values, tags of records and sub-records,
-//! roots, and fields that are read within bounds. The format is that of the comment "HPROF binary format" in OpenJDK's
-//! heapDumper.cpp. No call of this crate takes memory.
+//! The elements of the items of an HPROF heap dump: identifiers, types of values, tags of records and sub-records, roots, and fields that
+//! are read within bounds. The format is that of the comment "HPROF binary format" in OpenJDK's heapDumper.cpp. No call of this crate takes
+//! memory.
 #![tactic(auto)]
 
 mod basic;

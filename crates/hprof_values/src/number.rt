@@ -9,7 +9,7 @@ use crate::basic::Basic;
 use crate::ids::IdSize;
 use byteorder::{BigEndian, ByteOrder};
 
-/// The identifier at the front.
+/// Returns the identifier at the front.
 #[inline(always)]
 pub fn id_at(bytes: &[u8], ids: IdSize) -> u64
     requires { width_of ids ≤ length bytes.now }
@@ -21,7 +21,7 @@ pub fn id_at(bytes: &[u8], ids: IdSize) -> u64
     }
 }
 
-/// The identifier at the front, and what follows it.
+/// Returns the identifier at the front, and the bytes behind it.
 #[inline(always)]
 pub fn split_id(bytes: &[u8], ids: IdSize) -> (u64, &[u8])
     requires { width_of ids ≤ length bytes.now }
@@ -34,7 +34,7 @@ pub fn split_id(bytes: &[u8], ids: IdSize) -> (u64, &[u8])
     (id, rest)
 }
 
-/// The number of four bytes at the front, and what follows it.
+/// Returns the number of four bytes at the front, and the bytes behind it.
 #[inline(always)]
 pub fn split_u32(bytes: &[u8]) -> (u32, &[u8])
     requires { 4 ≤ length bytes.now }
@@ -46,7 +46,7 @@ pub fn split_u32(bytes: &[u8]) -> (u32, &[u8])
     (BigEndian::read_u32(bytes), rest)
 }
 
-/// The byte at the front.
+/// Returns the byte at the front.
 #[inline(always)]
 pub fn byte_at(bytes: &[u8]) -> u8
     requires { 1 ≤ length bytes.now }
@@ -55,7 +55,7 @@ pub fn byte_at(bytes: &[u8]) -> u8
     bytes[0]
 }
 
-/// The number of bytes of so many identifiers.
+/// Returns the number of bytes of `count` identifiers.
 #[inline(always)]
 pub fn ids_len(count: u32, ids: IdSize) -> usize
     ensures len { result ≡ count * width_of ids }
@@ -67,7 +67,7 @@ pub fn ids_len(count: u32, ids: IdSize) -> usize
     }
 }
 
-/// The number of bytes of so many values of a type.
+/// Returns the number of bytes of `count` values of a type.
 #[inline(always)]
 pub fn values_len(count: u32, basic: Basic, ids: IdSize) -> usize
     ensures len { result ≡ count * width_of_basic ids basic }
@@ -82,7 +82,7 @@ pub fn values_len(count: u32, basic: Basic, ids: IdSize) -> usize
     }
 }
 
-/// The raw bits of a value of that type at the front.
+/// Returns the raw bits of the value of that type at the front.
 pub fn bits_at(bytes: &[u8], basic: Basic, ids: IdSize) -> u64
     requires { width_of_basic ids basic ≤ length bytes.now }
     ensures { result ≡ big_number (width_of_basic ids basic) bytes.now }

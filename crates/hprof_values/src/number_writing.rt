@@ -23,7 +23,7 @@ pub enum Number {
 }
 
 impl Number {
-    /// How many bytes the number has.
+    /// Returns the number of bytes that the number takes.
     #[inline(always)]
     pub fn width(self, ids: IdSize) -> usize
         ensures { result ≡ width_of_number ids self }
@@ -36,7 +36,7 @@ impl Number {
         }
     }
 
-    /// Whether the number lies in the range of its field. Only an identifier may be too great.
+    /// Returns whether the number lies in the range of its field. Only an identifier may be too great.
     fn fits(self, ids: IdSize) -> bool
         ensures { IsTrue result ↔ (number_value self < 256 ^ width_of_number ids self) }
     {
@@ -47,7 +47,7 @@ impl Number {
     }
 }
 
-/// Whether each of the numbers lies in the range of its field.
+/// Returns whether each of the numbers lies in the range of its field.
 pub fn numbers_fit(numbers: &[Number], ids: IdSize) -> bool
     ensures { IsTrue result ↔ FitFields (number_widths ids numbers.now) (number_values numbers.now) }
 {
@@ -87,7 +87,7 @@ fn put_number(number: Number, ids: IdSize, out: &mut [u8])
     }
 }
 
-/// How many bytes the numbers have.
+/// Returns the number of bytes that the numbers take.
 #[inline(always)]
 pub fn numbers_len(numbers: &[Number], ids: IdSize) -> usize
     requires { sum (number_widths ids numbers.now) < 2 ^ 64 }

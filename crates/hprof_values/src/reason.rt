@@ -1,6 +1,6 @@
-//! Why bytes are no dump.
+//! Reasons why bytes are no dump.
 
-/// Why bytes are no dump.
+/// The reason why bytes are no dump.
 #[derive(Clone, Copy, Debug, PartialEq, Eq)]
 pub enum Reason {
     /// The text in front is neither of the two.

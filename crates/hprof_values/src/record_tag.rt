@@ -2,7 +2,7 @@
 
 ghost use Rattle.std.specs.Prelude.{◌≡◌, ◌↔◌};
 
-/// What a record states that states one fact.
+/// The kind of a record that states one fact.
 #[derive(Clone, Copy, Debug, PartialEq, Eq)]
 pub enum RecordTag {
     /// UTF8: a name.
@@ -25,7 +25,7 @@ impl RecordTag {
     ghost use Rattle.hprof_values.specs.declared.record_tag.RecordTag.{RecordTag};
     ghost use Rattle.hprof_values.specs.RecordTag.{code_of_record, record_of_code};
 
-    /// The byte that stands for it.
+    /// Returns the byte that stands for it.
     pub fn code(self) -> u8
         ensures { result ≡ code_of_record self }
     {
@@ -40,7 +40,7 @@ impl RecordTag {
         }
     }
 
-    /// What the byte stands for. A record with any other tag states no fact of its own.
+    /// Returns the kind of record that the byte stands for, if it stands for one. A record with any other tag states no fact of its own.
     pub fn from_code(code: u8) -> Option<RecordTag>
         ensures exact { result ≡ record_of_code code }
         ensures both { (tag : RecordTag) → (result ≡ Some tag) ↔ (code ≡ code_of_record tag) }

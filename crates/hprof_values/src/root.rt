@@ -1,9 +1,8 @@
-//! Roots: what keeps objects alive.
+//! GC roots, which keep objects alive.
 
 use crate::sub_tag::SubTag;
 
-/// A root, by the sub-records of heapDumper.cpp, "HPROF binary format". Roots are ordered as the bytes are that
-/// spell them.
+/// A GC root, by the sub-records of heapDumper.cpp, "HPROF binary format". Roots are ordered as the bytes that spell them.
 #[derive(Clone, Copy, Debug, PartialEq, Eq, PartialOrd, Ord)]
 pub enum Root {
     /// A JNI global reference.
@@ -19,7 +18,7 @@ pub enum Root {
         id: u64,
         /// The thread's serial.
         thread: u32,
-        /// The frame's number in the stack; 4294967295 where there is none.
+        /// The frame's number in the stack; 4294967295 if there is none.
         frame: u32,
     },
     /// A Java frame.
@@ -28,7 +27,7 @@ pub enum Root {
         id: u64,
         /// The thread's serial.
         thread: u32,
-        /// The frame's number in the stack; 4294967295 where there is none.
+        /// The frame's number in the stack; 4294967295 if there is none.
         frame: u32,
     },
     /// A native stack.
@@ -75,7 +74,7 @@ impl Root {
     ghost use Rattle.std.specs.Prelude.{◌≡◌};
     ghost use Rattle.hprof_values.specs.Root.{tag_of_root};
 
-    /// The tag of its sub-record.
+    /// Returns the tag of its sub-record.
     pub fn tag(self) -> SubTag
         ensures { result ≡ tag_of_root self }
     {

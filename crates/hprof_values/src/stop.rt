@@ -1,8 +1,8 @@
-//! What ends the reading of an item before its last byte.
+//! Reasons why the reading of an item ends before its last byte.
 
 use crate::reason::Reason;
 
-/// Why an item is not whole and right.
+/// The reason why an item is not whole and right.
 #[derive(Clone, Copy, Debug, PartialEq, Eq)]
 pub enum Stop {
     /// Nothing is wrong so far, and more bytes are needed.

@@ -2,7 +2,7 @@
 
 ghost use Rattle.std.specs.Prelude.{◌≡◌, ◌↔◌};
 
-/// What a sub-record is.
+/// The kind of a sub-record.
 #[derive(Clone, Copy, Debug, PartialEq, Eq)]
 pub enum SubTag {
     /// A JNI global reference.
@@ -37,7 +37,7 @@ impl SubTag {
     ghost use Rattle.hprof_values.specs.declared.sub_tag.SubTag.{SubTag};
     ghost use Rattle.hprof_values.specs.SubTag.{code_of_tag, tag_of_code};
 
-    /// The byte that stands for it.
+    /// Returns the byte that stands for it.
     pub fn code(self) -> u8
         ensures { result ≡ code_of_tag self }
     {
@@ -58,7 +58,7 @@ impl SubTag {
         }
     }
 
-    /// What the byte stands for. A sub-record with any other tag is refused.
+    /// Returns the kind of sub-record that the byte stands for, if it stands for one. A sub-record with any other tag is refused.
     #[inline(always)]
     pub fn from_code(code: u8) -> Option<SubTag>
         ensures exact { result ≡ tag_of_code code }

@@ -14,7 +14,7 @@ use hprof_stream::Limits;
 use hprof_values::Basic;
 use std::alloc::{AllocError, Global};
 
-/// What is asked of a heap.
+/// A question about a heap.
 #[derive(Clone, Copy)]
 pub(crate) enum Question {
     /// The edges from an identifier.
@@ -23,7 +23,7 @@ pub(crate) enum Question {
     Layout(u64),
 }
 
-/// The word for what refers.
+/// Returns the word for a kind of reference.
 fn via_word(via: Via) -> &'static str {
     match via {
         Via::Class => "class",
@@ -38,7 +38,7 @@ fn via_word(via: Via) -> &'static str {
     }
 }
 
-/// The word for a type.
+/// Returns the word for a type.
 fn type_word(basic: Basic) -> &'static str {
     match basic {
         Basic::Array => "array",
@@ -54,7 +54,7 @@ fn type_word(basic: Basic) -> &'static str {
     }
 }
 
-/// A line for each edge from an identifier.
+/// Returns a line for each edge from an identifier.
 fn lines_of_edges(alloc: Global, heap: &Heap, id: u64) -> Result<String, AllocError> {
     let mut lines = String::new(alloc);
     for edge in &edges_of(alloc, heap, id)? {
@@ -70,7 +70,7 @@ fn lines_of_edges(alloc: Global, heap: &Heap, id: u64) -> Result<String, AllocEr
     Ok(lines)
 }
 
-/// A line for each slot of a class, or one that says why there are none.
+/// Returns a line for each slot of a class, or one that says why there are none.
 fn lines_of_layout(alloc: Global, heap: &Heap, class: u64) -> Result<String, AllocError> {
     let slots = match layout(alloc, heap, class)? {
         Layout::Known(slots) => slots,
@@ -85,7 +85,7 @@ fn lines_of_layout(alloc: Global, heap: &Heap, class: u64) -> Result<String, All
     Ok(lines)
 }
 
-/// Reads all parts into a heap, and writes what is answered of it.
+/// Reads all parts into a heap, and writes the answer.
 pub(crate) fn ask(
     alloc: Global,
     question: Question,

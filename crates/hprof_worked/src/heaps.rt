@@ -12,7 +12,7 @@ use hprof_heap::{Gatherer, Heap, JoinRefusal, Refusal};
 use hprof_stream::{Limits, PartFault, read_part};
 use std::alloc::Global;
 
-/// The engine's fault for a part that states no heap.
+/// Returns the engine's fault for a part that states no heap.
 fn fault_of_refusal(refusal: Refusal) -> ToolFault {
     match refusal {
         Refusal::NoParts => ToolFault::NoParts,
@@ -22,7 +22,7 @@ fn fault_of_refusal(refusal: Refusal) -> ToolFault {
     }
 }
 
-/// The engine's fault for heaps that are not joined.
+/// Returns the engine's fault for heaps that are not joined.
 fn fault_of_join(refusal: JoinRefusal) -> ToolFault {
     match refusal {
         JoinRefusal::IdSizes => ToolFault::IdSizes,
@@ -31,7 +31,7 @@ fn fault_of_join(refusal: JoinRefusal) -> ToolFault {
     }
 }
 
-/// The heap of a part. A reader that is not well is not read.
+/// Returns the heap of a part. A reader that is not well is not read.
 fn heap_of(
     alloc: Global,
     index: usize,
@@ -52,7 +52,7 @@ fn heap_of(
     }
 }
 
-/// The heap of each part.
+/// Returns the heap of each part.
 fn heaps_of(
     alloc: Global,
     readers: &mut [Device<Reader<'_>>],

@@ -29,8 +29,8 @@ fn text_of_summary(alloc: Global, summary: PartSummary) -> Result<String, AllocE
     format!(in alloc; "records {records} facts {facts} end {end}")
 }
 
-/// Reads the parts up to the first that is refused. It answers the text of the fault, or what was read of the last part. A reader that is not
-/// well is not read.
+/// Reads the parts up to the first that is refused. It answers the text of the fault, or what was read of the last part. A reader that is
+/// not well is not read.
 fn read_into<S: Sink>(
     alloc: Global,
     readers: &mut [Device<Reader<'_>>],
@@ -50,7 +50,7 @@ fn read_into<S: Sink>(
     Ok(text)
 }
 
-/// The counts that are not 0, one a line.
+/// Returns the counts that are not 0, one a line.
 fn lines_of(alloc: Global, counts: &[u64; 12]) -> Result<String, AllocError> {
     let mut lines = String::new(alloc);
     for (form, count) in FORMS.iter().zip(counts) {

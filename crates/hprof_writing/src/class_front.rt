@@ -14,10 +14,10 @@ use hprof_lists::{ConstantList, FieldList, StaticList};
 use hprof_values::Number::{Four, Id, One};
 use hprof_values::{IdSize, Number, SubTag};
 
-/// A list of a class: how many entries it has, and the bytes that spell them.
+/// A list of a class: the number of its entries, and the bytes that spell them.
 #[derive(Clone, Copy)]
 pub(crate) struct ListFront<'a> {
-    /// How many entries it has.
+    /// The number of entries.
     pub count: u16,
     /// The bytes that spell them.
     pub bytes: &'a [u8],
@@ -36,7 +36,7 @@ pub(crate) struct ClassFront<'a> {
     pub own: ListFront<'a>,
 }
 
-/// Whether the lists of a class have identifiers of that size, and so a spelling.
+/// Returns whether the lists of a class have identifiers of that size, and so a spelling.
 fn lists_fit(
     constants: &ConstantList<'_>,
     statics: &StaticList<'_>,
@@ -57,8 +57,7 @@ fn lists_fit(
     fields.id_size() == ids
 }
 
-/// The front of the class's sub-record. There is none where a list of it has identifiers of another size. The lists
-/// are never too long.
+/// Returns the front of the class's sub-record, or `None` if a list of it has identifiers of another size. The lists are never too long.
 pub(crate) fn class_front<'a>(fact: &Fact<'a>, ids: IdSize) -> Option<ClassFront<'a>>
     requires is { object_of (value_of fact.now) ≡ Some tags.ClassDump }
     ensures some { IfSome result (λ front. IsClassFront ids fact.now front.fields (counted front.constants.count front.constants.bytes.now)

@@ -1,4 +1,4 @@
-//! Whether fields, and the bytes behind them, can be spelled.
+//! Tests whether fields, and the bytes behind them, can be spelled.
 
 ghost use Rattle.std.specs.Prelude.{◌↔◌, IsTrue, ◌+◌, ◌≤◌, length, sum};
 ghost use Rattle.hprof_values.specs.FieldGroups.{FitFields};
@@ -7,10 +7,10 @@ ghost use Rattle.hprof_items.specs.Spelling.{longest_body};
 
 use hprof_values::{IdSize, Number, numbers_fit, numbers_len};
 
-/// The greatest length that its field can say.
+/// The greatest length that its field can hold.
 const LONGEST: usize = 4294967295;
 
-/// Whether each field lies in its range, and the fields with so many bytes more are not too long.
+/// Returns whether each field lies in its range, and the fields with `more` bytes are not too long.
 #[inline(always)]
 pub(crate) fn front_fits(fields: &[Number], more: usize, ids: IdSize) -> bool
     requires { length fields.now ≤ 10 }

@@ -1,5 +1,5 @@
-//! Headers, heads of records and facts, written to a target: what fits its bytes, how many they are, and the writing
-//! itself. No call of this crate takes memory.
+//! Headers, heads of records and facts, written to a target: whether they fit, the number of their bytes, and the writing itself. No call
+//! of this crate takes memory.
 #![tactic(auto)]
 
 mod class_front;

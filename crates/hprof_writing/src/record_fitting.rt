@@ -1,4 +1,4 @@
-//! Whether a fact has a record.
+//! Tests whether a fact has a record.
 
 ghost use Rattle.std.specs.Prelude.{◌↔◌, IsTrue, IsSome};
 ghost use Rattle.hprof_items.specs.FactValue.{value_of, ListsHave};
@@ -10,7 +10,7 @@ use crate::record_front::record_front;
 use hprof_items::Fact;
 use hprof_values::IdSize;
 
-/// Whether the fact's record has a spelling.
+/// Returns whether the fact's record has a spelling.
 #[inline(always)]
 pub(crate) fn record_fits(fact: &Fact<'_>, ids: IdSize) -> bool
     requires { IsSome (record_of (value_of fact.now)) }

@@ -18,14 +18,14 @@ pub(crate) struct RecordFront<'a> {
     pub tag: RecordTag,
     /// The fields, and then some that are not there.
     pub fields: [Number; 6],
-    /// How many fields are there.
+    /// The number of fields that are there.
     pub count: usize,
     /// The bytes behind them.
     pub more: &'a [u8],
 }
 
-/// The front of the fact's record. There is none where its frames have identifiers of another size, or are too many
-/// for the field that counts them.
+/// Returns the front of the fact's record, or `None` if its frames have identifiers of another size, or are too many for the field that
+/// counts them.
 #[inline(always)]
 pub(crate) fn record_front<'a>(fact: &Fact<'a>, ids: IdSize) -> Option<RecordFront<'a>>
     requires is { IsSome (record_of (value_of fact.now)) }

@@ -20,13 +20,13 @@ pub(crate) struct SubFront<'a> {
     pub tag: SubTag,
     /// The fields, and then some that are not there.
     pub fields: [Number; 4],
-    /// How many fields are there.
+    /// The number of fields that are there.
     pub count: usize,
     /// The bytes behind them.
     pub more: &'a [u8],
 }
 
-/// The front of a root's sub-record, behind which no bytes stand.
+/// Returns the front of a root's sub-record, behind which no bytes stand.
 #[inline(always)]
 fn root_front<'a>(root: Root) -> SubFront<'a>
     ensures few { result.count ≤ 4 }
@@ -60,8 +60,8 @@ fn root_front<'a>(root: Root) -> SubFront<'a>
     }
 }
 
-/// The front of the fact's sub-record. There is none where its elements have identifiers of another size, are too many
-/// for the field that counts them, are cut, or are of no type that elements have.
+/// Returns the front of the fact's sub-record, or `None` if its elements have identifiers of another size, are too many for the field that
+/// counts them, are cut, or are of no type that elements have.
 #[inline(always)]
 pub(crate) fn sub_front<'a>(fact: &Fact<'a>, ids: IdSize) -> Option<SubFront<'a>>
     requires has { HasSubFront (value_of fact.now) }

@@ -26,7 +26,7 @@ const TABLES: [Table; 10] = [
 ];
 
 impl Heap {
-    /// Takes the facts of one table of another heap. Where memory is refused, nothing changes.
+    /// Takes the facts of one table of another heap. If memory runs out, nothing changes.
     fn join_table(&mut self, table: Table, other: &Heap) -> Result<(), AllocError>
         requires ids { (heap_of self.old).ids ≡ (heap_of other.now).ids }
         requires agree { IsConsistent ((heap_of self.old).facts ++ (heap_of other.now).facts) }
@@ -37,7 +37,7 @@ impl Heap {
         self.tables.join(table, &other.tables)
     }
 
-    /// Takes the facts of another heap, table by table. Where memory is refused, it has some of them.
+    /// Takes the facts of another heap, table by table. If memory runs out, it has some of them.
     fn join_tables(&mut self, other: &Heap) -> Result<(), AllocError>
         requires ids { (heap_of self.old).ids ≡ (heap_of other.now).ids }
         requires agree { IsConsistent ((heap_of self.old).facts ++ (heap_of other.now).facts) }
@@ -51,10 +51,11 @@ impl Heap {
         Ok(())
     }
 
-    /// Takes the facts of another heap, and the earlier of both times. What refuses it is found before anything is taken:
-    /// two sizes of identifiers, or the least key with two contents. The tables of both are gone over side by side. Where
-    /// memory is refused, the heap has some of the other's facts, and the same join can be made again. No memory is wanted
-    /// where it has all of them.
+    /// Takes the facts of another heap, and the earlier of both times. A refusal is found before anything is taken: two sizes of
+    /// identifiers, or the least key with two contents. The tables of both are gone over side by side.
+    ///
+    /// If memory runs out, the heap has some of the other's facts, and the same join can be made again. No memory is needed if it has all
+    /// of them.
     pub fn join(&mut self, other: &Heap) -> Result<(), JoinRefusal>
         ensures { JoinsInto (heap_of self.old) (heap_of other.now) result (heap_of self.new) }
     {

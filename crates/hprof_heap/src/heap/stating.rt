@@ -13,8 +13,8 @@ use hprof_tables::Stated;
 use std::alloc::AllocError;
 
 impl Heap {
-    /// States a fact; the bytes are those of the sub-record that spells it, if it is one of a heap dump. One that is
-    /// there takes no memory; where memory is refused, nothing changes.
+    /// States a fact; the bytes are those of the sub-record that spells it, if it is one of a heap dump. One that is there takes no memory.
+    /// If memory runs out, nothing changes.
     #[inline(always)]
     pub(crate) fn state(&mut self, fact: &Fact<'_>, bytes: &[u8]) -> Result<Stated, AllocError>
         requires fits { Fits (heap_of self.old).ids (value_of fact.now) }

@@ -8,7 +8,7 @@ use hprof_rows::Table;
 use std::alloc::AllocError;
 
 impl Tables {
-    /// Takes the rows of one table of others whose keys are new. Where memory is refused, nothing changes.
+    /// Takes the rows of one table of others whose keys are new. If memory runs out, nothing changes.
     pub(crate) fn join(&mut self, table: Table, other: &Tables) -> Result<(), AllocError>
         ensures { JoinsTable table (rows_in_tables self.old) (rows_in_tables other.now) result (rows_in_tables self.new) }
     {

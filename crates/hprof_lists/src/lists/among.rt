@@ -1,4 +1,4 @@
-//! Whether an identifier is among others.
+//! The search for an identifier among others.
 
 ghost use Rattle.std.specs.Prelude.{◌≡◌, ◌%◌, ◌↔◌, length, Contains, IsTrue};
 ghost use Rattle.hprof_values.specs.Ids.{width_of};
@@ -7,7 +7,7 @@ ghost use Rattle.hprof_lists.specs.Lists.{ids_in};
 use hprof_values::IdSize;
 use hprof_values::number::id_at;
 
-/// Whether an identifier is among those that the bytes spell. All are compared with it, so that several are at once.
+/// Returns whether an identifier is among those that the bytes spell. All are compared with it, so that several are at once.
 #[inline(always)]
 pub(super) fn is_among(bytes: &[u8], ids: IdSize, id: u64) -> bool
     requires { length bytes.now % width_of ids ≡ 0 }

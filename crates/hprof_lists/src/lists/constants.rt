@@ -30,8 +30,8 @@ impl<'a> ConstantList<'a> {
     ghost use Rattle.hprof_lists.specs.Value.{constant_of};
     ghost use Rattle.hprof_lists.specs.Lists.{constants_of, constants_left, constants_size};
 
-    /// The list that the bytes spell. There is none where an entry ends past them or has a type that stands for
-    /// none, or where there are more than 65,535.
+    /// Returns the list that the bytes spell. The answer is `None` if an entry ends past them or has a type that stands for none, or if
+    /// there are more than 65,535 entries.
     pub fn new(bytes: &'a [u8], ids: IdSize) -> Option<ConstantList<'a>>
         ensures found { IfSome result (λ list. IsEntryList ids EntryKind.Constant (constants_of list) bytes.now) }
         ensures size { IfSome result (λ list. constants_size list ≡ ids) }
@@ -46,7 +46,7 @@ impl<'a> ConstantList<'a> {
         })
     }
 
-    /// The list that was read.
+    /// Returns the list that was read.
     pub fn of_span(span: EntrySpan<'a>, ids: IdSize) -> ConstantList<'a>
         requires { span.bytes.now ≡ entries_bytes ids kinds.Constant (entries_in ids kinds.Constant span.count span.bytes.now) }
         ensures entries { constants_of result ≡ entries_in ids kinds.Constant span.entry.count span.entry.bytes.now }
@@ -59,21 +59,21 @@ impl<'a> ConstantList<'a> {
         }
     }
 
-    /// How many there are.
+    /// Returns the number of constants.
     pub fn len(&self) -> usize
         ensures { result ≡ length (constants_of self.now) }
     {
         self.len as usize
     }
 
-    /// Whether there is none.
+    /// Returns whether there are no constants.
     pub fn is_empty(&self) -> bool
         ensures { IsTrue result ↔ (constants_of self.now ≡ []) }
     {
         self.len == 0
     }
 
-    /// The constant at that place. It is found by a walk over those before it.
+    /// Returns the constant at that place, found by a walk over those before it.
     pub fn get(&self, place: usize) -> Option<Constant>
         ensures { result ≡ option_map constant_of (slice_get (constants_of self.now) place) }
     {
@@ -87,14 +87,14 @@ impl<'a> ConstantList<'a> {
         Some(Constant::of(entry))
     }
 
-    /// The bytes that spell them, without their count.
+    /// Returns the bytes that spell the constants, without their count.
     pub fn bytes(&self) -> &'a [u8]
         ensures spelled { IsEntryList (constants_size self.now) EntryKind.Constant (constants_of self.now) result.now }
     {
         self.bytes
     }
 
-    /// The size of identifiers among them. They have a spelling under it.
+    /// Returns the size of identifiers among the constants. They have a spelling under it.
     pub fn id_size(&self) -> IdSize
         ensures size { result ≡ constants_size self.now }
         ensures fits { ListFits result EntryKind.Constant (constants_of self.now) }
@@ -102,7 +102,7 @@ impl<'a> ConstantList<'a> {
         self.ids
     }
 
-    /// The constants in their order, in one walk over the bytes.
+    /// Returns the constants in their order, in one walk over the bytes.
     pub fn iter(&self) -> Constants<'a>
         ensures all { constants_left result ≡ constants_of self.now }
         ensures few { length (constants_of self.now) < 2 ^ 16 }
@@ -115,7 +115,7 @@ impl<'a> ConstantList<'a> {
     }
 }
 
-/// The constants of a class, one after the other.
+/// An iterator over the constants of a class.
 #[derive(Drop)]
 pub struct Constants<'a> {
     rest: &'a [u8],

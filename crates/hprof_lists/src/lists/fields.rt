@@ -30,8 +30,8 @@ impl<'a> FieldList<'a> {
     ghost use Rattle.hprof_lists.specs.Value.{field_of};
     ghost use Rattle.hprof_lists.specs.Lists.{fields_of, fields_left, fields_size};
 
-    /// The list that the bytes spell. There is none where an entry ends past them or has a type that stands for
-    /// none, or where there are more than 65,535.
+    /// Returns the list that the bytes spell. The answer is `None` if an entry ends past them or has a type that stands for none, or if
+    /// there are more than 65,535 entries.
     pub fn new(bytes: &'a [u8], ids: IdSize) -> Option<FieldList<'a>>
         ensures found { IfSome result (λ list. IsEntryList ids EntryKind.Field (fields_of list) bytes.now) }
         ensures size { IfSome result (λ list. fields_size list ≡ ids) }
@@ -46,7 +46,7 @@ impl<'a> FieldList<'a> {
         })
     }
 
-    /// The list that was read.
+    /// Returns the list that was read.
     pub fn of_span(span: EntrySpan<'a>, ids: IdSize) -> FieldList<'a>
         requires { span.bytes.now ≡ entries_bytes ids kinds.Field (entries_in ids kinds.Field span.count span.bytes.now) }
         ensures entries { fields_of result ≡ entries_in ids kinds.Field span.entry.count span.entry.bytes.now }
@@ -59,21 +59,21 @@ impl<'a> FieldList<'a> {
         }
     }
 
-    /// How many there are.
+    /// Returns the number of fields.
     pub fn len(&self) -> usize
         ensures { result ≡ length (fields_of self.now) }
     {
         self.len as usize
     }
 
-    /// Whether there is none.
+    /// Returns whether there are no fields.
     pub fn is_empty(&self) -> bool
         ensures { IsTrue result ↔ (fields_of self.now ≡ []) }
     {
         self.len == 0
     }
 
-    /// The field at that place. It is found by a walk over those before it.
+    /// Returns the field at that place, found by a walk over those before it.
     pub fn get(&self, place: usize) -> Option<Field>
         ensures { result ≡ option_map field_of (slice_get (fields_of self.now) place) }
     {
@@ -87,14 +87,14 @@ impl<'a> FieldList<'a> {
         Some(Field::of(entry))
     }
 
-    /// The bytes that spell them, without their count.
+    /// Returns the bytes that spell the fields, without their count.
     pub fn bytes(&self) -> &'a [u8]
         ensures spelled { IsEntryList (fields_size self.now) EntryKind.Field (fields_of self.now) result.now }
     {
         self.bytes
     }
 
-    /// The size of identifiers among them. They have a spelling under it.
+    /// Returns the size of identifiers among the fields. They have a spelling under it.
     pub fn id_size(&self) -> IdSize
         ensures size { result ≡ fields_size self.now }
         ensures fits { ListFits result EntryKind.Field (fields_of self.now) }
@@ -102,7 +102,7 @@ impl<'a> FieldList<'a> {
         self.ids
     }
 
-    /// The fields that the instances have in their order, in one walk over the bytes.
+    /// Returns the fields of the instances in their order, in one walk over the bytes.
     pub fn iter(&self) -> OwnFields<'a>
         ensures all { fields_left result ≡ fields_of self.now }
         ensures few { length (fields_of self.now) < 2 ^ 16 }
@@ -115,7 +115,7 @@ impl<'a> FieldList<'a> {
     }
 }
 
-/// The fields that the instances have of a class, one after the other.
+/// An iterator over the fields that the instances have of a class.
 #[derive(Drop)]
 pub struct OwnFields<'a> {
     rest: &'a [u8],

@@ -22,7 +22,7 @@ impl<'a> IdList<'a> {
     ghost use Rattle.std.specs.Prelude.{◌↔◌, Contains, IsTrue, List, ℕ, [], slice_get, IfSome, IsSomeAnd};
     ghost use Rattle.hprof_lists.specs.Lists.{IsIdList, ids_in, identifiers_of, identifiers_left, identifiers_size};
 
-    /// The list that the bytes spell. There is none where they end within an identifier.
+    /// Returns the list that the bytes spell, or `None` if they end within an identifier.
     pub fn new(bytes: &'a [u8], ids: IdSize) -> Option<IdList<'a>>
         ensures found { IfSome result (λ list. IsIdList ids (identifiers_of list) bytes.now) }
         ensures size { IfSome result (λ list. identifiers_size list ≡ ids) }
@@ -35,7 +35,7 @@ impl<'a> IdList<'a> {
         Some(IdList { bytes, ids })
     }
 
-    /// The list that whole identifiers spell.
+    /// Returns the list that whole identifiers spell.
     pub fn of_whole(bytes: &'a [u8], ids: IdSize) -> IdList<'a>
         requires { length bytes.now % width_of ids ≡ 0 }
         ensures identifiers { identifiers_of result ≡ ids_in ids bytes.now }
@@ -44,21 +44,21 @@ impl<'a> IdList<'a> {
         IdList { bytes, ids }
     }
 
-    /// How many there are.
+    /// Returns the number of identifiers.
     pub fn len(&self) -> usize
         ensures { result ≡ length (identifiers_of self.now) }
     {
         self.bytes.len() / self.ids.width()
     }
 
-    /// Whether there is none.
+    /// Returns whether there are no identifiers.
     pub fn is_empty(&self) -> bool
         ensures { IsTrue result ↔ (identifiers_of self.now ≡ []) }
     {
         self.bytes.is_empty()
     }
 
-    /// The identifier at that place.
+    /// Returns the identifier at that place.
     pub fn get(&self, place: usize) -> Option<u64>
         ensures { result ≡ slice_get (identifiers_of self.now) place }
     {
@@ -70,7 +70,7 @@ impl<'a> IdList<'a> {
         Some(id_at(rest, self.ids))
     }
 
-    /// Whether that identifier is among them.
+    /// Returns whether that identifier is in the list.
     pub fn contains(&self, id: u64) -> bool
         ensures { IsTrue result ↔ Contains (identifiers_of self.now) id }
     {
@@ -80,21 +80,21 @@ impl<'a> IdList<'a> {
         }
     }
 
-    /// The bytes that spell them.
+    /// Returns the bytes that spell the identifiers.
     pub fn bytes(&self) -> &'a [u8]
         ensures spelled { IsIdList (identifiers_size self.now) (identifiers_of self.now) result.now }
     {
         self.bytes
     }
 
-    /// The size of the identifiers.
+    /// Returns the size of the identifiers.
     pub fn id_size(&self) -> IdSize
         ensures { result ≡ identifiers_size self.now }
     {
         self.ids
     }
 
-    /// The identifiers in their order.
+    /// Returns the identifiers in their order.
     pub fn iter(&self) -> Ids<'a>
         ensures all { identifiers_left result ≡ identifiers_of self.now }
         ensures few { length (identifiers_of self.now) < 2 ^ 64 }
@@ -106,7 +106,7 @@ impl<'a> IdList<'a> {
     }
 }
 
-/// Identifiers, one after the other.
+/// An iterator over identifiers.
 #[derive(Drop)]
 pub struct Ids<'a> {
     rest: &'a [u8],

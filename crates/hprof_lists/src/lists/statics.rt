@@ -30,8 +30,8 @@ impl<'a> StaticList<'a> {
     ghost use Rattle.hprof_lists.specs.Value.{static_of};
     ghost use Rattle.hprof_lists.specs.Lists.{statics_of, statics_left, statics_size};
 
-    /// The list that the bytes spell. There is none where an entry ends past them or has a type that stands for
-    /// none, or where there are more than 65,535.
+    /// Returns the list that the bytes spell. The answer is `None` if an entry ends past them or has a type that stands for none, or if
+    /// there are more than 65,535 entries.
     pub fn new(bytes: &'a [u8], ids: IdSize) -> Option<StaticList<'a>>
         ensures found { IfSome result (λ list. IsEntryList ids EntryKind.Static (statics_of list) bytes.now) }
         ensures size { IfSome result (λ list. statics_size list ≡ ids) }
@@ -46,7 +46,7 @@ impl<'a> StaticList<'a> {
         })
     }
 
-    /// The list that was read.
+    /// Returns the list that was read.
     pub fn of_span(span: EntrySpan<'a>, ids: IdSize) -> StaticList<'a>
         requires { span.bytes.now ≡ entries_bytes ids kinds.Static (entries_in ids kinds.Static span.count span.bytes.now) }
         ensures entries { statics_of result ≡ entries_in ids kinds.Static span.entry.count span.entry.bytes.now }
@@ -59,21 +59,21 @@ impl<'a> StaticList<'a> {
         }
     }
 
-    /// How many there are.
+    /// Returns the number of static fields.
     pub fn len(&self) -> usize
         ensures { result ≡ length (statics_of self.now) }
     {
         self.len as usize
     }
 
-    /// Whether there is none.
+    /// Returns whether there are no static fields.
     pub fn is_empty(&self) -> bool
         ensures { IsTrue result ↔ (statics_of self.now ≡ []) }
     {
         self.len == 0
     }
 
-    /// The static field at that place. It is found by a walk over those before it.
+    /// Returns the static field at that place, found by a walk over those before it.
     pub fn get(&self, place: usize) -> Option<Static>
         ensures { result ≡ option_map static_of (slice_get (statics_of self.now) place) }
     {
@@ -87,14 +87,14 @@ impl<'a> StaticList<'a> {
         Some(Static::of(entry))
     }
 
-    /// The bytes that spell them, without their count.
+    /// Returns the bytes that spell the static fields, without their count.
     pub fn bytes(&self) -> &'a [u8]
         ensures spelled { IsEntryList (statics_size self.now) EntryKind.Static (statics_of self.now) result.now }
     {
         self.bytes
     }
 
-    /// The size of identifiers among them. They have a spelling under it.
+    /// Returns the size of identifiers among the static fields. They have a spelling under it.
     pub fn id_size(&self) -> IdSize
         ensures size { result ≡ statics_size self.now }
         ensures fits { ListFits result EntryKind.Static (statics_of self.now) }
@@ -102,7 +102,7 @@ impl<'a> StaticList<'a> {
         self.ids
     }
 
-    /// The static fields in their order, in one walk over the bytes.
+    /// Returns the static fields in their order, in one walk over the bytes.
     pub fn iter(&self) -> Statics<'a>
         ensures all { statics_left result ≡ statics_of self.now }
         ensures few { length (statics_of self.now) < 2 ^ 16 }
@@ -115,7 +115,7 @@ impl<'a> StaticList<'a> {
     }
 }
 
-/// The static fields of a class, one after the other.
+/// An iterator over the static fields of a class.
 #[derive(Drop)]
 pub struct Statics<'a> {
     rest: &'a [u8],

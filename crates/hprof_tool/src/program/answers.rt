@@ -1,4 +1,4 @@
-//! What the program tells beside the dump, and the status that it ends with.
+//! The texts of the program beside the dump, and the status that it ends with.
 
 ghost use Rattle.std.specs.Prelude.{◌≡◌, ◌≢◌, Some, MatchResult};
 ghost use Rattle.std.specs.IoError.{error_kind};
@@ -14,14 +14,14 @@ use std::alloc::Global;
 use std::io;
 use std::io::Write;
 
-/// How a task ended that writes to a stream, and the stream, which is gone where there was no memory for the buffer before it.
+/// The end of a task that writes to a stream, and the stream, which is gone if there was no memory for the buffer before it.
 #[derive(Drop)]
 pub(crate) struct Ended<O> {
     pub(crate) status: Status,
     pub(crate) output: Option<O>,
 }
 
-/// Says in one line why the program refused. A text that finds no memory is that there is none.
+/// Says in one line why the program refused. If memory runs out for the text, the line says that.
 fn refuse<E: Write>(alloc: Global, refused: &Refused, errors: &mut E) -> Status
     ensures { result ≡ Status.Refused }
 {
@@ -89,7 +89,7 @@ pub(crate) fn answer_words<O: Write, E: Write>(
     Status::Done
 }
 
-/// Answers that the words could not be had: they are no text, or memory was refused.
+/// Answers that the words could not be had: they are no text, or memory ran out.
 pub(crate) fn answer_no_words<E: Write>(alloc: Global, error: &io::Error, errors: &mut E) -> Status
     ensures memory { error_kind error.now ≡ OutOfMemory → result ≡ Status.Refused }
     ensures no_text { error_kind error.now ≢ OutOfMemory → result ≡ Status.NotUnderstood }

@@ -8,8 +8,8 @@ use std::io::{Read, Write};
 use std::rt::Files;
 use std::{fs, io};
 
-/// Where the program finds its files. What it makes of them is proved of whatever a folder may tell of the files that it gives,
-/// so of the very files that were opened and created by these names, and of no others.
+/// The folder in which the program finds its files. The proofs hold for whatever a folder may tell of the files that it gives: they are
+/// about the very files that were opened and created by these names, and about no others.
 pub(crate) trait Folder {
     /// An open file.
     type File: Read + Write + Drop;
@@ -22,12 +22,12 @@ pub(crate) trait Folder {
         ensures opened { IfOk result ((answered self.now).IsOpened name.now) }
         ensures fails { OnErr result ((answered self.now).CannotOpen name.now) };
 
-    /// Creates a new file, where there is none.
+    /// Creates a new file, if there is none.
     fn create_out(&self, name: &str) -> io::Result<Self::File>
         ensures created { IfOk result ((answered self.now).IsCreated name.now) }
         ensures fails { OnErr result ((answered self.now).CannotCreate name.now) };
 
-    /// Removes a file. Where it cannot be removed, it stays.
+    /// Removes a file. If it cannot be removed, it stays.
     fn remove_out(&self, name: &str)
         ensures { (answered self.now).IsRemoved name.now };
 }

@@ -1,4 +1,4 @@
-//! What is made of a stream, or of files.
+//! Products of a stream, or of files.
 
 ghost use Rattle.std.specs.Prelude.{◌≡◌, length, All, Err, IfOk, IfErr};
 ghost use Rattle.hprof_devices.specs.declared.health.Health.TheVariants.{Well};
@@ -58,8 +58,7 @@ pub(crate) fn open_parts<F: Folder>(
     Ok(parts)
 }
 
-/// Writes what is made of parts in files to a new file, which it gives back. After a refusal by the engine the new file is
-/// removed.
+/// Writes the product of parts in files to a new file, which it gives back. After a refusal by the engine the new file is removed.
 pub(crate) fn write_file<P: Product, F: Folder>(
     alloc: Global,
     files: &F,

@@ -1,4 +1,4 @@
-//! Why the program refused.
+//! Reasons why the program refuses.
 
 ghost use Rattle.std.specs.Prelude.{◌≡◌, IfOk, string_bytes};
 ghost use Rattle.hprof_tool.specs.Program.{IsRefusalText};
@@ -9,7 +9,7 @@ use hprof_dialogue::DialogueStop;
 use hprof_engine::ToolFault;
 use std::alloc::{AllocError, AllocFailed, Global};
 
-/// Why the program refused.
+/// The reason why the program refused.
 #[derive(Drop)]
 pub(crate) enum Refused {
     /// The engine refused.
@@ -24,7 +24,7 @@ pub(crate) enum Refused {
     OutOfMemory,
 }
 
-/// Why something that is written to a stream was refused, and the stream, which is gone where there was no memory for the buffer
+/// The reason why something that is written to a stream was refused, and the stream, which is gone if there was no memory for the buffer
 /// before it.
 #[derive(Drop)]
 pub(crate) struct Stopped<W> {
@@ -32,11 +32,11 @@ pub(crate) struct Stopped<W> {
     pub(crate) writer: Option<W>,
 }
 
-/// What is written could not be.
+/// The refusal when writing failed.
 pub(crate) const WRITE_FAILED: Refused = Refused::Engine(ToolFault::Write(WriteFault::Failed));
 
 impl Refused {
-    /// Its text, in one line.
+    /// Returns its text, in one line.
     pub(crate) fn text(&self, alloc: Global) -> Result<String, AllocError>
         ensures { IfOk result (λ text. IsRefusalText self.now (string_bytes text)) }
     {

@@ -1,4 +1,4 @@
-//! What can be saved of parts in files.
+//! The salvage of parts in files.
 
 ghost use Rattle.std.specs.Prelude.{◌≡◌, List, [], ◌∷◌, ◌++◌, ℕ, All, Option, OnOk, IfOk, IfErr};
 ghost use Rattle.std.specs.Io.KnownBytes.{Appends, append_known};
@@ -24,14 +24,14 @@ use std::fmt::InlineText;
 use std::io::{BufWriter, Write};
 use std::mem;
 
-/// What was saved, and what it was written to.
+/// The result of a salvage, and the writer that it was written to.
 #[derive(Drop)]
 pub(crate) struct Written<W> {
     pub(crate) salvaged: Salvaged,
     pub(crate) writer: W,
 }
 
-/// What saving came to, with the writer and the bytes that did not reach it.
+/// The result of saving, with the writer and the bytes that did not reach it.
 #[derive(Drop)]
 struct Saving<W> {
     outcome: Result<Salvaged, ToolFault>,
@@ -39,7 +39,7 @@ struct Saving<W> {
     unwritten: Vec<u8>,
 }
 
-/// Saves what can be saved of the readers' parts, without the heap, which need not be freed row by row, since the process ends.
+/// Salvages the readers' parts, without the heap, which need not be freed row by row, since the process ends.
 fn salvage<R: Source, W: Write + Drop>(
     alloc: Global,
     readers: &mut [R],
@@ -59,8 +59,8 @@ fn salvage<R: Source, W: Write + Drop>(
     }
 }
 
-/// Saves what can be saved of the readers' parts into a buffered writer, and flushes it. A buffer that is dropped would write
-/// once more what it holds, so it is taken apart.
+/// Salvages the readers' parts into a buffered writer, and flushes it. A buffer that is dropped would write once more what it holds, so it
+/// is taken apart.
 fn salvage_into<R: Source, W: Write + Drop>(
     alloc: Global,
     readers: &mut [R],
@@ -83,7 +83,7 @@ fn salvage_into<R: Source, W: Write + Drop>(
     }
 }
 
-/// Saves what can be saved of the readers' parts into a writer, and gives the writer back.
+/// Salvages the readers' parts into a writer, and gives the writer back.
 fn salvage_buffered<R: Source, W: Write + Drop>(
     alloc: Global,
     readers: &mut [R],
@@ -110,8 +110,7 @@ fn salvage_buffered<R: Source, W: Write + Drop>(
     }
 }
 
-/// Saves what can be saved of parts in files in a new file, which it gives back. After a refusal by the engine the new file is
-/// removed.
+/// Salvages parts in files to a new file, which it gives back. After a refusal by the engine the new file is removed.
 pub(crate) fn salvage_file<F: Folder>(
     alloc: Global,
     files: &F,
@@ -135,10 +134,10 @@ pub(crate) fn salvage_file<F: Folder>(
     }
 }
 
-/// The number of bytes that the text why a part is refused has room in. Each such text is shorter.
+/// The number of bytes of room for the reason why a part is refused. Each such text is shorter.
 const WHY_LEN: usize = 64;
 
-/// Tells the fault of a part in a line, as it is told where the part is refused. It takes no memory.
+/// Tells the fault of a part in a line, as it is told when the part is refused. It takes no memory.
 fn tell_fault<O: Write>(fault: FaultedPart, output: &mut O) -> Result<(), Refused>
     ensures told { OnOk result ((line : List ℕ) × IsFaultText (ToolFault.Part fault.index fault.fault) line
         × Appends (O.contents output.old) (O.contents output.new) (line ++ line_end ∷ [])) }

@@ -21,10 +21,10 @@ use std::mem;
 /// The number of bytes that are written at a time.
 pub(crate) const BUFFER_LEN: usize = 65_536;
 
-/// What is written could not be.
+/// The fault when writing failed.
 const WRITE_FAILED: ToolFault = ToolFault::Write(WriteFault::Failed);
 
-/// What making came to, with the writer and the bytes that did not reach it.
+/// The result of making, with the writer and the bytes that did not reach it.
 #[derive(Drop)]
 struct Writing<W> {
     outcome: Result<(), ToolFault>,
@@ -32,7 +32,7 @@ struct Writing<W> {
     unwritten: Vec<u8>,
 }
 
-/// Ends the writing of what the engine answered: the buffer is flushed, and after a refusal it is left alone.
+/// Ends the writing after the answer of the engine: the buffer is flushed, and after a refusal it is left alone.
 pub(crate) fn end_of_writing<T: Drop, W: Write + Drop>(
     made: Result<T, ToolFault>,
     buffered: &mut BufWriter<W>,
