@@ -14,9 +14,10 @@ use Rattle.hprof_engine.specs.Makes.{dump_making}
 use Rattle.hprof_dialogue.specs.declared.question.Question.{Question}
 use Rattle.hprof_dialogue.specs.declared.stop.DialogueStop.TheVariants as stops
 use Rattle.hprof_dialogue.specs.Dialogue.{AnswersLines, AnswersSome, Came}
-use Rattle.hprof_dialogue.specs.Lines.{AreEndedLines}
+use Rattle.hprof_dialogue.specs.Lines.{AreEndedLines, AreLines}
 use Rattle.hprof_ask.specs.declared.ask_fault.AskFault.{AskFault}
 use Rattle.hprof_ask.specs.declared.ask_fault.AskFault.TheVariants as faults
+use Rattle.hprof_ask.specs.HeapAnswers.{IsHeapAnswer}
 use Rattle.hprof_ask.specs.Asks.{Asks}
 use Rattle.hprof_ask.specs.Asks as asking
 use Rattle.hprof_tool.specs.declared.program.refused.Refused.{Refused}
@@ -84,12 +85,17 @@ module _ {R Q W O : Type 0} (left : R → Option (List ℕ)) (health : R → Hea
         let over = ok.0 in
         let came = over.holds in
         let all = all_of (asked was) (asked is) questions came.bytes known came.consumed ok.1 in
+        let answers = IsHeapAnswer over.summaries over.heap.ids over.heap.facts in
+        let at_start : AnswersLines answers AreLines came.bytes (contents first) (written after) =
+        subst (λ (start : Option (List ℕ)). AnswersLines answers AreLines came.bytes start (written after)) at_first came.holds in
+        let at_end : AnswersLines answers AreLines came.bytes (contents first) (contents last) =
+        subst (λ (now : Option (List ℕ)). AnswersLines answers AreLines came.bytes (contents first) now) at_last at_start in
         record {
           heap = over.heap;
           agree = over.agree parts told;
           summaries = over.summaries;
           of_parts = over.of_parts parts told;
-          holds = rw (sym all, sym at_first, sym at_last) in came.holds;
+          holds = subst (λ (bytes : List ℕ). AnswersLines answers AreLines bytes (contents first) (contents last)) all at_end;
         }
 
     module _ (unwritten : List ℕ) (at_last : written after ≡ append_known (contents last) unwritten) (same : after ≡ before → last ≡ first) where

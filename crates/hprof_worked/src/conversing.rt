@@ -68,7 +68,10 @@ pub(crate) fn check_asked(
     };
     let asked = made(alloc, Call::Ask, given, ways)?;
     let answers = if whole.is_done() {
-        joined(alloc, &[&whole.output, b"\nnot understood\n\n", &whole.output, b"\n"])?
+        joined(
+            alloc,
+            &[&whole.output, b"\nnot understood\n\n", &whole.output, b"\n"],
+        )?
     } else {
         Vec::new(alloc)
     };
