@@ -1,7 +1,7 @@
 -- All edges to an identifier are put, and sorted.
 use Rattle.std.specs.Prelude.{◌↔◌}
 use Rattle.std.specs.List.Sorted.{IsStrictlySortedBy}
-use Rattle.std.proofs.Common.{◌≡◌, ◌≢◌, ◌⊎◌, ◌<◌, ◌≤◌, ℕ, Bool, true, List, Some, Contains, inl, inr, refl, sym, ap, subst, ◌∙◌, arith}
+use Rattle.std.proofs.Common.{◌≡◌, ◌⊎◌, ◌≤◌, ℕ, Bool, List, Some, Contains, inl, inr, refl, sym, ap, subst, ◌∙◌, arith}
 use Rattle.std.proofs.lemmas.Bool.{eq-eqb, eqb-true}
 use Rattle.std.proofs.lemmas.Bool.Decides.{eqb_tells}
 use Rattle.hprof_values.specs.declared.ids.IdSize.{IdSize}
@@ -17,7 +17,7 @@ use Rattle.hprof_edges.specs.EdgeSet.{SetOf, edges_in, wanted_in}
 use Rattle.hprof_edges.specs.DumpEdges.{IsObjectEdge}
 use Rattle.hprof_edges.specs.Edges.{AreReferrers, IsEdge}
 use Rattle.hprof_edges.proofs.OnlyDumps.{dumps_from}
-use Rattle.hprof_reach.specs.Reaching.{IsDumped, IsNode, Leads}
+use Rattle.hprof_reach.specs.Reaching.{IsNode, Leads}
 use Rattle.hprof_sources.specs.Sources.{end_of, start_of}
 use Rattle.hprof_referrers.specs.declared.index.ReferrerIndex.{ReferrerIndex}
 use Rattle.hprof_referrers.specs.Index.{IsIndexOf}

@@ -1,4 +1,4 @@
-use Rattle.std.proofs.Common.{◌≡◌, ◌<◌, ℕ, [], refl, sym, ◌∙◌, arith}
+use Rattle.std.proofs.Common.{◌≡◌, ◌<◌, ℕ, [], sym, ◌∙◌, arith}
 use Rattle.hprof_lookup.specs.HeapFacts.{facts_of, size_of}
 use Rattle.hprof_edges.specs.EdgeSet.{SetOf}
 use Rattle.hprof_sources.specs.Sources.{end_of, start_of}
@@ -35,10 +35,11 @@ loop-place-preserved c =
     elim c.if-from-last.branch [
       | then-from-last+in_ok-known_edges-2 w ↦
           let next = w.in_ok-known_edges-2.ensures in
+          let after = SetOf w.known_edges-then-from-last.new.into in
           record {
             put = λ is_index empty.
                 let so_far = was.put is_index empty in
-                rw (w.set-is, w.last-is) (put_next ids facts sources start before place last so_far (SetOf w.known_edges-then-from-last.new.into) from
+                rw (w.set-is, w.last-is) (put_next ids facts sources start before place last so_far after from
                 (next.holds so_far.edges is_index.knows so_far.held) is);
             keeps = rw w.set-is (next.keeps ∙ was.keeps);
           }
