@@ -1,5 +1,6 @@
 -- The edges of one node more are put.
-use Rattle.std.proofs.Common.{◌≡◌, ◌≢◌, ◌⊎◌, ◌<◌, ◌≤◌, ◌+◌, ltb, ℕ, Bool, true, false, List, [], ◌++◌, Contains, inl, inr, refl, sym, subst, ◌∙◌, arith}
+use Rattle.std.specs.Prelude.{MatchOption, slice_index, unwrap_or}
+use Rattle.std.proofs.Common.{◌≡◌, ◌≢◌, ◌⊎◌, ◌<◌, ◌≤◌, ◌+◌, ltb, ℕ, Bool, true, false, List, [], ◌++◌, Contains, Option, Some, None, length, inl, inr, refl, sym, subst, arith}
 use Rattle.std.proofs.lemmas.Bool.{ltb-true, ltb-false}
 use Rattle.std.proofs.lemmas.List.Elements.{Contains-append_cases, Contains-append_left, Contains-append_right}
 use Rattle.hprof_values.specs.declared.ids.IdSize.{IdSize}
@@ -8,6 +9,7 @@ use Rattle.hprof_edges.specs.declared.edge.Edge.{Edge}
 use Rattle.hprof_edges.specs.Collecting.{PutBehind}
 use Rattle.hprof_edges.specs.Edges.{IsEdge}
 use Rattle.hprof_sources.specs.declared.sources.Sources.{Sources}
+use Rattle.hprof_sources.specs.Sources.{end_of, nodes_of, number_at}
 use Rattle.hprof_referrers.specs.Referring.{PutSoFar, StandsAt}
 
 earlier : (before place : ℕ) → before < place + 1 → (before < place) ⊎ (before ≡ place)
@@ -15,6 +17,14 @@ earlier before place few = by (ltb before place) refl where
   by : (test : Bool) → ltb before place ≡ test → (before < place) ⊎ (before ≡ place)
   by true e = inl (ltb-true before place e)
   by false e = inr (omega (arith, few, ltb-false before place e))
+
+-- the node that stands at a place of a list is what is told of the place
+pub node_there : (sources : Sources) (id place last : ℕ) (told : Option ℕ) → place < end_of sources id
+    → ((from to : ℕ) → place < end_of sources to → number_at sources place < length (nodes_of sources)
+    → slice_index (nodes_of sources) (number_at sources place) ≡ from → MatchOption told ⊥ (λ node. node ≡ from))
+    → (node : ℕ) → StandsAt sources place node → node ≡ unwrap_or told last
+node_there sources id place last None within listed node stands = absurd (listed node id within stands.0 stands.1)
+node_there sources id place last (Some one) within listed node stands = sym (listed node id within stands.0 stands.1)
 
 module _ (ids : IdSize) (facts : List FactValue) (sources : Sources) (start : ℕ) where
   -- those of 0 are put first

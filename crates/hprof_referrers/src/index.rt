@@ -42,8 +42,10 @@ impl ReferrerIndex {
         let mut references = Vec::new(alloc);
         // A class dump of 0 has edges, and 0 is no node.
         known_edges(heap, &self.known, 0, &mut near, &mut references, set)?;
+        let first = self.sources.start(id);
+        let end = self.sources.end(id);
         let mut last = 0;
-        for place in self.sources.start(id)..self.sources.end(id) {
+        for place in first..end {
             let from = self.sources.node_at(place).unwrap_or(last);
             if from != last {
                 known_edges(heap, &self.known, from, &mut near, &mut references, set)?;
