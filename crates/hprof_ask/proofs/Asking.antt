@@ -1,5 +1,5 @@
 -- What a call answers that reads parts and answers questions.
-use Rattle.std.proofs.Common.{◌≡◌, ℕ, ◌<◌, List, [], length, Option, Some, None, Result, Ok, Err, refl, ap, subst, inl, inr, arith}
+use Rattle.std.proofs.Common.{◌≡◌, ℕ, List, Option, Some, None, Result, Ok, Err, refl, sym, subst, ◌∙◌, inl, inr}
 use Rattle.std.specs.Prelude.{All}
 use Rattle.hprof_devices.specs.declared.health.Health.{Health}
 use Rattle.hprof_devices.specs.declared.health.Health.TheVariants as healths
@@ -25,6 +25,11 @@ use Rattle.hprof_ask.specs.Asks.{Asks}
 use Rattle.hprof_dialogue.specs.Dialogue.{EndsDialogue}
 use Rattle.hprof_ask.specs.HeapAnswers.{IsHeapAnswer}
 
+-- the summaries that are held are those of the parts
+pub held_are : (parts : List (List ℕ)) (summaries items list : List PartSummary) → items ≡ summaries → list ≡ items
+    → AreSummaries parts summaries → AreSummaries parts list
+held_are parts summaries items list held listed are = subst (AreSummaries parts) (sym held ∙ sym listed) are
+
 -- after a fault of the writer it is not well
 ill : (health : Health) (fault : WriteFault) → health ≡ health_after fault → health ≡ healths.Well → ⊥
 ill health writes.Failed is was = cc
@@ -36,27 +41,6 @@ failed health is was = cc
 module _ {R Q W : Type 0} (left : R → Option (List ℕ)) (health : R → Health) (pulls : R → ℕ) (asked : Q → Option (List ℕ))
     (asking : Q → Health) (turns : Q → ℕ) (written : W → Option (List ℕ)) (well : W → Health) (limits : Limits) (old new : List R)
     (was : Q) (before : W) where
-  -- there was no room for what is read of each part
-  pub no_room : 0 < length old
-      → Asks left health pulls asked asking turns written well limits old old was was before before (Some (faults.Parts tool.OutOfMemory))
-  no_room some = record {
-    reads = record {
-      no_parts = (λ e. absurd cc, λ none. absurd (omega (arith, some, ap length none)));
-      id_sizes = λ e. absurd cc;
-      conflict = λ key e. absurd cc;
-      part = λ index fault e. absurd cc;
-      accepted = λ all. absurd all;
-      read_out = λ k below. absurd (omega (arith, below));
-    };
-    refused = λ fault e. (refl, refl);
-    kind = λ fault e. let wanted : fault ≡ tool.OutOfMemory = cc in inr (wanted, some, refl);
-    ok = λ e. absurd cc;
-    questions = λ fault e. absurd cc;
-    write = λ fault e. absurd cc;
-    memory = λ e. absurd cc;
-    no_other = λ parts ids millis facts told state are_well asks is_well few unhindered unwanted. absurd (unhindered tt);
-  }
-
   -- the parts were refused
   pub refuses : (fault : ToolFault) → IsOfReading (Some fault) → Reads left health pulls limits old new (Some fault)
       → ((parts : List (List ℕ)) (ids : IdSize) (millis : ℕ) (facts : List FactValue) → Tell left old parts

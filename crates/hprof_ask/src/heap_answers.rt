@@ -1,4 +1,4 @@
-//! The answers over a heap, and over what was read of each part.
+//! The answers over a heap and the summaries of its parts.
 
 ghost use Rattle.std.specs.Prelude.{◌≡◌, ℕ, List};
 ghost use Rattle.hprof_devices.specs.declared.health.Health.TheVariants.{Well};
@@ -18,16 +18,17 @@ use hprof_reports::{write_check, write_object, write_text};
 use hprof_stream::PartSummary;
 use std::alloc::Global;
 
-/// A heap that questions are asked of, with what was read of each part.
+/// Answers questions over a heap and the summaries of its parts. Each answer is the text of the report that the question names, or a line,
+/// and an empty line behind it.
 #[derive(Clone, Copy)]
 pub struct HeapAnswers<'a> {
     /// The heap.
     pub heap: &'a Heap,
-    /// What was read of each part, in order.
+    /// The summaries of the parts, in order.
     pub summaries: &'a [PartSummary],
 }
 
-/// Writes the report `check`. Where it stops some of it was written, from the front.
+/// Writes the report `check`. If the writer fails, the bytes written are the beginning of the report.
 fn write_check_report<W: Target>(
     heap: &Heap,
     summaries: &[PartSummary],
@@ -44,7 +45,7 @@ fn write_check_report<W: Target>(
     }
 }
 
-/// Writes what is told of a question of one word. Where it stops some of it was written, from the front.
+/// Writes the report that a question of one word names. If it stops, the bytes written are the beginning of the report.
 fn write_word_report<W: Target>(
     alloc: Global,
     answers: &HeapAnswers<'_>,
@@ -67,7 +68,7 @@ fn write_word_report<W: Target>(
     }
 }
 
-/// Writes the report on an identifier. Where it stops some of it was written, from the front.
+/// Writes the report on an identifier. If it stops, the bytes written are the beginning of the report.
 fn write_report_of<W: Target>(
     alloc: Global,
     heap: &Heap,
@@ -90,7 +91,7 @@ fn write_report_of<W: Target>(
     }
 }
 
-/// Writes what is told of a question. Where it stops some of it was written, from the front.
+/// Writes the report that a question names, or a line. If it stops, the bytes written are the beginning of it.
 fn write_report<W: Target>(
     alloc: Global,
     answers: &HeapAnswers<'_>,
@@ -117,7 +118,7 @@ fn write_report<W: Target>(
     }
 }
 
-/// Writes the answer to a question. Where it stops some of it was written, from the front.
+/// Writes the answer to a question: the report, or a line, and an empty line. If it stops, the bytes written are the beginning of it.
 fn write_answer<W: Target>(
     alloc: Global,
     answers: &HeapAnswers<'_>,

@@ -1,4 +1,4 @@
-//! The reports that are written from what is kept.
+//! The reports that are written from a search, an index or a text that is kept.
 
 ghost use Rattle.std.specs.Prelude.{◌≡◌, ℕ, List, IfOk, OnOk, IsSome};
 ghost use Rattle.hprof_devices.specs.declared.health.Health.TheVariants.{Well};
@@ -82,7 +82,8 @@ fn write_bytes<W: Target>(bytes: &[u8], target: &mut W) -> Result<(), WriteStop>
     }
 }
 
-/// Writes the report `histo` from the text that is kept, or is made now. Where it stops some of it was written, from the front.
+/// Writes the report `histo` from the text that is kept, or is made now. If the writer fails or memory runs out, the bytes written are the
+/// beginning of the report.
 pub(crate) fn write_kept_histogram<W: Target>(
     alloc: Global,
     heap: &Heap,
@@ -105,8 +106,8 @@ pub(crate) fn write_kept_histogram<W: Target>(
     }
 }
 
-/// Writes the report `path` on an identifier from the search that is kept, or is made now. Where it stops some of it was written, from
-/// the front.
+/// Writes the report `path` on an identifier from the search that is kept, or is made now. If the writer fails or memory runs out, the bytes
+/// written are the beginning of the report.
 pub(crate) fn write_kept_path<W: Target>(
     alloc: Global,
     heap: &Heap,
@@ -130,8 +131,8 @@ pub(crate) fn write_kept_path<W: Target>(
     }
 }
 
-/// Writes the report `refs` on an identifier from the index that is kept, or is made now. Where it stops some of it was written, from
-/// the front.
+/// Writes the report `refs` on an identifier from the index that is kept, or is made now. If the writer fails or memory runs out, the bytes
+/// written are the beginning of the report.
 pub(crate) fn write_kept_refs<W: Target>(
     alloc: Global,
     heap: &Heap,

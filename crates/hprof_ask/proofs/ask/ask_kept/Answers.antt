@@ -1,9 +1,8 @@
-use Rattle.std.proofs.Common.{Ok, Err, sym, subst, ◌∙◌}
+use Rattle.std.proofs.Common.{Ok, Err}
 use Rattle.hprof_heap.specs.Heap.{heap_of}
-use Rattle.hprof_engine.specs.Summaries.{AreSummaries}
 use Rattle.hprof_engine.proofs.Answers.{summaries_held}
 use Rattle.hprof_lookup.specs.HeapFacts.{facts_of, size_of}
-use Rattle.hprof_ask.proofs.Asking.{asks, refuses}
+use Rattle.hprof_ask.proofs.Asking.{asks, held_are, refuses}
 use Rattle.hprof_ask.proofs.ask.ask_kept.Goals as goal
 
 pub returns-in-Err-clause-asks : goal.returns-in-Err-clause-asks
@@ -19,8 +18,9 @@ returns-in-Ok-converse-clause-asks g c =
     let e = c.in-Ok-read_heap.ensures in
     asks g.R.Source.left g.R.Source.health g.R.Source.pulls g.Q.Asker.left g.Q.Asker.health g.Q.Asker.pulls g.W.Target.written
     g.W.Target.health c.args.limits c.args.readers.now c.read_heap.new.readers c.args.questions.now c.args.target.now
-    (heap_of c.in-Ok-read_heap.heap) e.ok c.deref.result.now (λ parts told. subst (AreSummaries parts)
-    (sym e.told.held ∙ sym c.deref.ensures.value) (summaries_held g.R.Source.left _ c.args.readers.now _ e.told parts told))
+    (heap_of c.in-Ok-read_heap.heap) e.ok c.deref.result.now (λ parts told. held_are parts e.told.summaries
+    c.read_heap.new.summaries.items c.deref.result.now e.told.held c.deref.ensures.value
+    (summaries_held g.R.Source.left _ c.args.readers.now _ e.told parts told))
     e.reads c.converse.new.questions c.converse.new.target (Ok c.in-Ok-converse.field-0) c.in-Ok-converse.ensures.dialogue
 
 pub returns-clause-asks : goal.returns-clause-asks
@@ -29,6 +29,7 @@ returns-clause-asks g c =
     let e = c.in-Ok-read_heap.ensures in
     asks g.R.Source.left g.R.Source.health g.R.Source.pulls g.Q.Asker.left g.Q.Asker.health g.Q.Asker.pulls g.W.Target.written
     g.W.Target.health c.args.limits c.args.readers.now c.read_heap.new.readers c.args.questions.now c.args.target.now
-    (heap_of c.in-Ok-read_heap.heap) e.ok c.deref.result.now (λ parts told. subst (AreSummaries parts)
-    (sym e.told.held ∙ sym c.deref.ensures.value) (summaries_held g.R.Source.left _ c.args.readers.now _ e.told parts told))
+    (heap_of c.in-Ok-read_heap.heap) e.ok c.deref.result.now (λ parts told. held_are parts e.told.summaries
+    c.read_heap.new.summaries.items c.deref.result.now e.told.held c.deref.ensures.value
+    (summaries_held g.R.Source.left _ c.args.readers.now _ e.told parts told))
     e.reads c.converse.new.questions c.converse.new.target (Err c.in-Err-converse.stop) c.in-Err-converse.ensures.dialogue
