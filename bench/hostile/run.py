@@ -1,6 +1,6 @@
 #!/usr/bin/env python3
 """Times the program on hostile dumps: long chains and circles of classes, classes of many fields, instances of many slots, long
-chains of objects, great arrays, many roots, many that refer to one; and salvages a dump that is cut short at random places.
+chains of objects, great arrays, many roots, many that refer to one; questions by the million; and salvages a dump that is cut short at random places.
 
 Each dump is written by this script, and what the program answers is compared with what the dump was made to have, or, of one
 that is cut short, with what the plain program of bench/real writes. It prints a row for each: how many bytes the dump has, and
@@ -117,6 +117,17 @@ def many_referrers(count):
     return part(array(i, 0, [5_000_001]) for i in range(count, 0, -1))
 
 
+def one_referrer(count):
+    """An array that refers to one other so many times."""
+    head = struct.pack(">BIIII", 0x22, 1, 1, count, 0)
+    return part([head + struct.pack(">I", 2) * count, array(2, 0, [])])
+
+
+def referrers_of_node(count):
+    """So many arrays, in descending order, each of which refers to one other."""
+    return part([*(array(i, 0, [5_000_001]) for i in range(count, 0, -1)), array(5_000_001, 0, [])])
+
+
 TARGET = 0x7FFF_FFFF
 
 
@@ -225,13 +236,56 @@ def refs_cases(less):
     ]
 
 
-def run_case(folder, title, make, words, test):
-    """Runs the program on a dump, and says whether it answers as it should."""
-    dump, out = folder / "dump.hprof", folder / "out"
+def twice(line, last, count):
+    """A test of a report of so many lines that is asked for twice: its first line and its last."""
+
+    def test(lines):
+        first, second = lines[:count], lines[count + 1 : -1]
+        return first == second and first[0] == line and first[-1] == last and len(first) == count and lines[count] == lines[-1] == ""
+
+    return test
+
+
+def not_understood(count):
+    return lambda lines: lines == ["not understood", ""] * count
+
+
+def asked_cases(less):
+    """Questions on standard input: the bytes of one, and how often they come. Of each kind that grows three sizes."""
+    million = 1_000_000 // less
+    many = 5 * million
+    sizes = (million // 4, million // 2, million)
+    return [
+        *((f"{count:,} questions of one byte", lambda: chain(2), ["ask"], not_understood(count), (b"?\n", count)) for count in sizes),
+        *((f"{count:,} questions of 4,096 bytes", lambda: chain(2), ["ask"], not_understood(count), (b"?" * 4096 + b"\n", count))
+          for count in sizes),
+        *((f"a line of {count:,} bytes without an end", lambda: chain(2), ["ask"], not_understood(1), (b"?" * 100, count // 100))
+          for count in (25 * million, 50 * million, 100 * million)),
+        ("an object with 5,000,000 referrers, asked for twice", lambda: referrers_of_node(many), ["ask"],
+         twice("1 element 0", f"{many:x} element 0", many), (b"refs 4c4b41\n", 2)),
+        ("an array that refers to an object 5,000,000 times, asked for twice", lambda: one_referrer(many), ["ask"],
+         twice("1 element 0", f"1 element {many - 1}", many), (b"refs 2\n", 2)),
+    ]
+
+
+def write_questions(path, asked):
+    """Writes the questions to a file, in pieces of some megabytes."""
+    question, count = asked
+    at_once = max(1, min(count, 4_000_000 // max(1, len(question))))
+    with open(path, "wb") as file:
+        for _ in range(count // at_once):
+            file.write(question * at_once)
+        file.write(question * (count % at_once))
+
+
+def run_case(folder, title, make, words, test, asked=(b"", 0)):
+    """Runs the program on a dump, with these questions, and says whether it answers as it should."""
+    dump, out, questions = folder / "dump.hprof", folder / "out", folder / "questions"
     dump.write_bytes(make())
+    write_questions(questions, asked)
     start = time.perf_counter()
-    with open(out, "wb") as file:
-        status = subprocess.run([PROGRAM, *words, dump], stdout=file).returncode
+    with open(out, "wb") as file, open(questions, "rb") as lines:
+        status = subprocess.run([PROGRAM, *words, dump], stdin=lines, stdout=file).returncode
     seconds = time.perf_counter() - start
     size = dump.stat().st_size
     print(f"| {title} | {size / 1e6:.1f} MB | {' '.join(words)} | {seconds:.2f} |", flush=True)
@@ -294,7 +348,7 @@ def main():
     print("|---|---|---|---|")
     with tempfile.TemporaryDirectory() as folder:
         folder = Path(folder)
-        for case in [*CASES, *path_cases(words.less), *refs_cases(words.less)]:
+        for case in [*CASES, *path_cases(words.less), *refs_cases(words.less), *asked_cases(words.less)]:
             if is_wanted(case[0], case[2]):
                 wrong += not run_case(folder, *case)
         if is_wanted("cut short at 20 places", ["salvage"]):
