@@ -30,7 +30,7 @@ returns-in_err-write_entries-clause-bytes g c = λ naming is.
     text_then r old named new (class_line naming dump) (constants_text ids dump ++ (statics_text naming ids dump ++ own_fields_text naming dump))
     (c.in_ok-write_line.ensures.bytes (class_line naming dump) (c.class_line.ensures naming is))
     (text_stops r named new p.0 (constants_text ids dump) (statics_text naming ids dump ++ own_fields_text naming dump) p.1
-    (c.in_err-write_entries.ensures.bytes naming (map constant_of dump.constants) is (ap (map constant_of) c.iter.ensures)))
+    (c.in_err-write_entries.ensures.bytes naming (map constant_of dump.constants) is (ap (map constant_of) c.iter.ensures.all)))
 
 pub returns-in_err-write_entries-2-clause-bytes : goal.returns-in_err-write_entries-2-clause-bytes
 returns-in_err-write_entries-2-clause-bytes g c = λ naming is.
@@ -45,9 +45,9 @@ returns-in_err-write_entries-2-clause-bytes g c = λ naming is.
     text_then r old named new (class_line naming dump) (constants_text ids dump ++ (statics_text naming ids dump ++ own_fields_text naming dump))
     (c.in_ok-write_line.ensures.bytes (class_line naming dump) (c.class_line.ensures naming is))
     (text_then r named constant new (constants_text ids dump) (statics_text naming ids dump ++ own_fields_text naming dump)
-    (c.in_ok-write_entries.ensures.bytes naming (map constant_of dump.constants) is (ap (map constant_of) c.iter.ensures))
+    (c.in_ok-write_entries.ensures.bytes naming (map constant_of dump.constants) is (ap (map constant_of) c.iter.ensures.all))
     (text_stops r constant new p.0 (statics_text naming ids dump) (own_fields_text naming dump) p.1
-    (c.in_err-write_entries-2.ensures.bytes naming (map static_of dump.statics) is (ap (map static_of) c.iter-2.ensures))))
+    (c.in_err-write_entries-2.ensures.bytes naming (map static_of dump.statics) is (ap (map static_of) c.iter-2.ensures.all))))
 
 pub returns-clause-bytes : goal.returns-clause-bytes
 returns-clause-bytes g c = λ naming is.
@@ -62,7 +62,7 @@ returns-clause-bytes g c = λ naming is.
     text_then r old named new (class_line naming dump) (constants_text ids dump ++ (statics_text naming ids dump ++ own_fields_text naming dump))
     (c.in_ok-write_line.ensures.bytes (class_line naming dump) (c.class_line.ensures naming is))
     (text_then r named constant new (constants_text ids dump) (statics_text naming ids dump ++ own_fields_text naming dump)
-    (c.in_ok-write_entries.ensures.bytes naming (map constant_of dump.constants) is (ap (map constant_of) c.iter.ensures))
+    (c.in_ok-write_entries.ensures.bytes naming (map constant_of dump.constants) is (ap (map constant_of) c.iter.ensures.all))
     (text_then r constant fixed new (statics_text naming ids dump) (own_fields_text naming dump)
-    (c.in_ok-write_entries-2.ensures.bytes naming (map static_of dump.statics) is (ap (map static_of) c.iter-2.ensures))
-    (c.write_entries-3.ensures.bytes naming (map field_of dump.fields) is (ap (map field_of) c.iter-3.ensures))))
+    (c.in_ok-write_entries-2.ensures.bytes naming (map static_of dump.statics) is (ap (map static_of) c.iter-2.ensures.all))
+    (c.write_entries-3.ensures.bytes naming (map field_of dump.fields) is (ap (map field_of) c.iter-3.ensures.all))))

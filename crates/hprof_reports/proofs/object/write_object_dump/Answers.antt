@@ -52,7 +52,7 @@ returns-in_ok-write_line-in-ObjArray-clause-bytes g c = λ naming shown is are.
     let made = c.elements_line.ensures naming is in
     subst (λ (row : ObjectDump). WritesText (g.W.Target.written c.args.target.now) (g.W.Target.written c.write_entries.new.target) r (object_text naming ids shown (fact_of_object row))) (sym it.is)
     (text_then r (g.W.Target.written c.args.target.now) (g.W.Target.written c.write_line-in-ObjArray.new.target) (g.W.Target.written c.write_entries.new.target) (elements_line naming it.id it.class (identifiers_of it.elements)) (elements_text (identifiers_of it.elements))
-    (c.in_ok-write_line-in-ObjArray.ensures.bytes (elements_line naming it.id it.class (identifiers_of it.elements)) made) (c.write_entries.ensures.bytes naming (identifiers_of it.elements) is c.iter.ensures))
+    (c.in_ok-write_line-in-ObjArray.ensures.bytes (elements_line naming it.id it.class (identifiers_of it.elements)) made) (c.write_entries.ensures.bytes naming (identifiers_of it.elements) is c.iter.ensures.all))
 
 pub returns-in_err-write_line-in-PrimArray-clause-bytes : goal.returns-in_err-write_line-in-PrimArray-clause-bytes
 returns-in_err-write_line-in-PrimArray-clause-bytes g c = λ naming shown is are.
