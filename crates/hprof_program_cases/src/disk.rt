@@ -37,7 +37,15 @@ fn expect_ran(
     let alloc = files.alloc();
     let list = Ok(words_of(alloc, words)?.into_iter());
     let (mut output, mut errors) = (Vec::new(alloc), Vec::new(alloc));
-    let status = run(alloc, files, list, HEADER, &mut output, &mut errors);
+    let status = run(
+        alloc,
+        files,
+        list,
+        HEADER,
+        &mut output,
+        &mut errors,
+        None::<Vec<u8>>,
+    );
     let found = (status.code(), output.len(), errors.as_slice());
     equal_at(rt, words, found, (code, 0, told));
     Ok(())

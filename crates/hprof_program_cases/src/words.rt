@@ -31,7 +31,15 @@ fn words_that_cannot_be_had(rt: HostRuntime) -> Result<(), Fail> {
     for (kind, code, text) in cases {
         let (mut output, mut errors) = (Vec::new(rt.alloc()), Vec::new(rt.alloc()));
         let words = Err(io::Error::from(kind));
-        let status = run(rt.alloc(), &rt, words, HEADER, &mut output, &mut errors);
+        let status = run(
+            rt.alloc(),
+            &rt,
+            words,
+            HEADER,
+            &mut output,
+            &mut errors,
+            None::<Vec<u8>>,
+        );
         let found = (status.code(), output.len(), errors.as_slice());
         equal_at(&rt, code, found, (code, 0, text));
     }
@@ -49,7 +57,15 @@ fn refusals_are_told_once(rt: HostRuntime) -> Result<(), Fail> {
         };
         let list = Ok(words_of(rt.alloc(), words)?.into_iter());
         let input = part.as_slice();
-        let status = run(rt.alloc(), &rt, list, input, &mut output, &mut errors);
+        let status = run(
+            rt.alloc(),
+            &rt,
+            list,
+            input,
+            &mut output,
+            &mut errors,
+            None::<Vec<u8>>,
+        );
         let found = (status.code(), output.writes, errors.writes);
         equal_at(&rt, words, found, (code, 0, 1));
     }

@@ -1,15 +1,13 @@
 -- What answering questions about parts tells.
-use Rattle.std.proofs.Common.{◌≡◌, inl, inr, ℕ, List, [], ◌∷◌, ◌++◌, append-nil, Option, Some, None, refl, sym, ap, subst, ◌∙◌}
+use Rattle.std.proofs.Common.{◌≡◌, inl, inr, ℕ, List, ◌++◌, append-nil, Option, Some, None, refl, sym, ap, subst, ◌∙◌}
 use Rattle.std.specs.Borrow.{Bor}
 use Rattle.std.specs.Io.KnownBytes.{Consumes, IsAtEnd, append_known}
 use Rattle.hprof_devices.specs.declared.device.Device.{Device}
 use Rattle.hprof_devices.specs.declared.health.Health.{Health}
 use Rattle.hprof_devices.specs.Device.{inner_of}
-use Rattle.hprof_stream.specs.declared.part_fault.PartFault.{PartFault}
-use Rattle.hprof_rows.specs.declared.key.Key.{Key}
 use Rattle.hprof_engine.specs.declared.tool_fault.ToolFault.{ToolFault}
 use Rattle.hprof_engine.specs.declared.tool_fault.ToolFault.TheVariants as tool
-use Rattle.hprof_engine.specs.Joining.{Tell, IsOfReading}
+use Rattle.hprof_engine.specs.Joining.{IsOfReading}
 use Rattle.hprof_engine.specs.Makes.{dump_making}
 use Rattle.hprof_dialogue.specs.declared.question.Question.{Question}
 use Rattle.hprof_dialogue.specs.declared.stop.DialogueStop.TheVariants as stops
@@ -24,7 +22,7 @@ use Rattle.hprof_tool.specs.declared.program.refused.Refused.{Refused}
 use Rattle.hprof_tool.specs.declared.program.refused.Refused.TheVariants as refusals
 use Rattle.hprof_tool.specs.Folder.{Answered, AreOpened}
 use Rattle.hprof_tool.specs.Program.{IsOfOpening, IsReportRefusal, usual_limits}
-use Rattle.hprof_tool.specs.Conversing.{AnswersAll, LeavesAnswers, OfFront, OverFiles, OverParts, OverReaders, SaysOfReaders, refused_asking}
+use Rattle.hprof_tool.specs.Conversing.{AnswersAll, LeavesAnswers, OfFront, OverFiles, OverReaders, SaysOfReaders, refused_asking}
 use Rattle.hprof_tool.proofs.Making.{no_parts_told, part_refusal}
 
 -- what came of known questions is a front of them
@@ -106,14 +104,14 @@ module _ {R Q W O : Type 0} (left : R → Option (List ℕ)) (health : R → Hea
       of_parts_refused : (fault : ToolFault) → Asked (Some (faults.Parts fault)) → IsOfReading (Some fault)
           → LeavesAnswers contents first Over (SaysOfReaders left readers) (refused_asking (faults.Parts fault)) (Some last)
       of_parts_refused (tool.Part index fault) a kind = (
-        λ parts told. part_refusal left health pulls parts readers new index fault (a.reads.part index fault refl parts told),
+        (tt, λ parts told. part_refusal left health pulls parts readers new index fault (a.reads.part index fault refl parts told)),
         refused_parts (tool.Part index fault) a,
       )
       of_parts_refused tool.NoParts a kind =
-          (λ parts told. no_parts_told left readers parts (a.reads.no_parts.0 refl) told, refused_parts tool.NoParts a)
-      of_parts_refused tool.IdSizes a kind = (λ parts told. a.reads.id_sizes refl parts told, refused_parts tool.IdSizes a)
+          ((tt, λ parts told. no_parts_told left readers parts (a.reads.no_parts.0 refl) told), refused_parts tool.NoParts a)
+      of_parts_refused tool.IdSizes a kind = ((tt, λ parts told. a.reads.id_sizes refl parts told), refused_parts tool.IdSizes a)
       of_parts_refused (tool.Conflict key) a kind =
-          (λ parts told. a.reads.conflict key refl parts told, refused_parts (tool.Conflict key) a)
+          ((tt, λ parts told. a.reads.conflict key refl parts told), refused_parts (tool.Conflict key) a)
       of_parts_refused (tool.Write fault) a kind = absurd kind
       of_parts_refused tool.DumpTooLong a kind = absurd kind
       of_parts_refused tool.OutOfMemory a kind = absurd kind
@@ -166,23 +164,23 @@ module _ {F I Q O : Type 0} (answered : Answered F) (tells : F → Option (List 
   ]
   refuses_files refusals.OutOfMemory None leaves = tt
   refuses_files (refusals.Engine (tool.Part index fault)) new leaves =
-      (record { parts = parts; opened = opened; holds = leaves.0 }, leaves.1)
-  refuses_files (refusals.Engine tool.NoParts) new leaves = (record { parts = parts; opened = opened; holds = leaves.0 }, leaves.1)
-  refuses_files (refusals.Engine tool.IdSizes) new leaves = (record { parts = parts; opened = opened; holds = leaves.0 }, leaves.1)
+      (record { parts = parts; opened = opened; holds = leaves.0.1 }, leaves.1)
+  refuses_files (refusals.Engine tool.NoParts) new leaves = (record { parts = parts; opened = opened; holds = leaves.0.1 }, leaves.1)
+  refuses_files (refusals.Engine tool.IdSizes) new leaves = (record { parts = parts; opened = opened; holds = leaves.0.1 }, leaves.1)
   refuses_files (refusals.Engine (tool.Conflict key)) new leaves =
-      (record { parts = parts; opened = opened; holds = leaves.0 }, leaves.1)
+      (record { parts = parts; opened = opened; holds = leaves.0.1 }, leaves.1)
   refuses_files (refusals.Engine tool.DumpTooLong) new leaves = leaves
   refuses_files (refusals.Engine tool.OutOfMemory) new leaves = leaves
-  refuses_files (refusals.Open index) new leaves = absurd leaves.0
+  refuses_files (refusals.Open index) new leaves = absurd leaves.0.0
   refuses_files refusals.Create new leaves = leaves
 
 -- where a part cannot be opened, the stream is as it was
-pub cannot_ask : {F I O : Type 0} (answered : Answered F) (tells : F → Option (List ℕ)) (contents : O → Option (List ℕ))
-    (names : List (Bor (List ℕ))) (old : O) (Over : ((Question → List ℕ → Type 0) → List ℕ → Type 0) → Type 0) (refused : Refused)
+pub cannot_ask : {F O : Type 0} (answered : Answered F) (tells : F → Option (List ℕ)) (contents : O → Option (List ℕ))
+    (names : List (Bor (List ℕ))) (old : O) (Holding : ((Question → List ℕ → Type 0) → List ℕ → Type 0) → Type 0) (refused : Refused)
     → IsOfOpening answered names refused
-    → LeavesAnswers contents old Over (IsReportRefusal dump_making answered tells names) refused (Some old)
-cannot_ask answered tells contents names old Over (refusals.Engine fault) is = absurd is
-cannot_ask answered tells contents names old Over (refusals.Open index) is = (is, refl)
-cannot_ask answered tells contents names old Over refusals.Create is = absurd is
-cannot_ask answered tells contents names old Over refusals.Questions is = absurd is
-cannot_ask answered tells contents names old Over refusals.OutOfMemory is = inl refl
+    → LeavesAnswers contents old Holding (IsReportRefusal dump_making answered tells names) refused (Some old)
+cannot_ask answered tells contents names old Holding (refusals.Engine fault) is = absurd is
+cannot_ask answered tells contents names old Holding (refusals.Open index) is = (is, refl)
+cannot_ask answered tells contents names old Holding refusals.Create is = absurd is
+cannot_ask answered tells contents names old Holding refusals.Questions is = absurd is
+cannot_ask answered tells contents names old Holding refusals.OutOfMemory is = inl refl

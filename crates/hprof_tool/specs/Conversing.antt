@@ -19,7 +19,7 @@ use Rattle.hprof_tool.specs.declared.program.refused.Refused.{Refused}
 use Rattle.hprof_tool.specs.declared.program.refused.Refused.TheVariants as refusals
 use Rattle.hprof_engine.specs.Joining.{Tell}
 use Rattle.hprof_tool.specs.Folder.{Answered}
-use Rattle.hprof_tool.specs.Program.{OfParts, IsRefusal, IsReportRefusal, refused_of}
+use Rattle.hprof_tool.specs.Program.{OfParts, IsOfMaking, IsRefusal, IsReportRefusal, refused_of}
 
 -- how the program refuses what asking questions ended with
 abbrev pub refused_asking : AskFault → Refused
@@ -83,9 +83,10 @@ module _ {R Q : Type 0} (left : R → Option (List ℕ)) (asked : Q → Option (
   OverReaders Holds = (parts : List (List ℕ)) → Tell left readers parts → (questions : List ℕ) → asked source ≡ Some questions
       → OverParts (λ IsAnswer. Holds IsAnswer questions) parts
 
--- what a refusal says of what readers tell
+-- what a refusal says of what readers tell: it is none of opening
 abbrev pub SaysOfReaders : {R : Type 0} → (R → Option (List ℕ)) → List R → Refused → Type 0
-SaysOfReaders left readers refused = (parts : List (List ℕ)) → Tell left readers parts → IsRefusal dump_making refused parts
+SaysOfReaders left readers refused =
+    IsOfMaking refused × ((parts : List (List ℕ)) → Tell left readers parts → IsRefusal dump_making refused parts)
 
 -- answered: what came of the names of files;  tells: what a file has left to tell
 -- left, contents: what the questions have left to tell, and what a stream tells that it holds

@@ -1,5 +1,5 @@
 -- What saving what can be saved of files comes to.
-use Rattle.std.specs.Prelude.{◌≡◌, ℕ, List, Option, Result, Ok, Err, ⊤}
+use Rattle.std.specs.Prelude.{ℕ, List, Option, Result, Ok, Err, ⊤}
 use Rattle.std.specs.Borrow.{Bor}
 use Rattle.hprof_devices.specs.declared.device.Device.{Device}
 use Rattle.hprof_devices.specs.Device.{inner_of, health_of, pulls_of}

@@ -1,6 +1,3 @@
-use Rattle.std.proofs.Common.{ℕ, List}
-use Rattle.std.specs.Io.KnownBytes.{Appends}
-use Rattle.hprof_tool.specs.Telling.{RefusesSalvage}
 use Rattle.hprof_tool.proofs.Ends.{done_of_ok, refused_of_err, both_ok}
 use Rattle.hprof_tool.proofs.program.salvage.Goals as goal
 

@@ -1,15 +1,58 @@
-use Rattle.std.proofs.Common.{◌≡◌, ◌∙◌, Result, Option, List, ℕ, sym, subst, ap}
+use Rattle.std.proofs.Common.{◌≡◌, ◌∙◌, Some, sym, subst, ap}
 use Rattle.std.specs.Io.KnownBytes.{append_known}
-use Rattle.std.specs.Io.Buffered.{writer_contents, writer_inner}
+use Rattle.std.specs.Io.Buffered.{writer_buffer, writer_contents, writer_inner}
 use Rattle.hprof_devices.specs.Buffered.{buffered_health, buffered_of}
-use Rattle.hprof_ask.specs.Asks.{Asks, fault_of_asking}
-use Rattle.hprof_tool.specs.Program.{usual_limits}
+use Rattle.hprof_devices.specs.declared.buffered.BufferedDevice.{BufferedDevice}
+use Rattle.hprof_tool.specs.declared.program.refused.Refused.{Refused}
+use Rattle.hprof_tool.specs.Conversing.{LeavesAnswers, OverReaders, SaysOfReaders}
 use Rattle.hprof_tool.proofs.Conversing.{answered_all, stopped}
 use Rattle.hprof_tool.proofs.Making.{none_added}
 use Rattle.hprof_tool.proofs.program.conversing.ask_through_buffer.Goals as goal
 
 pub returns-in-Ok-outcome-clause-ok : goal.returns-in-Ok-outcome-clause-ok
-returns-in-Ok-outcome-clause-ok g c = ?
+returns-in-Ok-outcome-clause-ok g c =
+    let contents = g.W.Write.contents in
+    let asked = c.ask_readers-outcome in
+    let after = asked.new.target in
+    let last = c.into_parts-writer.result.0 in
+    let inner = writer_inner (buffered_of after) in
+    let last_is : last ≡ inner = c.into_parts-writer.ensures.inner ∙ ap (λ (b : _). writer_inner b) c.into_buffered.ensures in
+    let empty : writer_contents contents c.in-Ok.buffered ≡ contents c.args.writer =
+    rw (c.in-Ok.ensures.inner, c.in-Ok.ensures.empty, none_added (contents c.args.writer)) in
+    let at_first : writer_contents contents (buffered_of c.new-target.result) ≡ contents c.args.writer =
+    ap (writer_contents contents) c.new-target.ensures.buffered ∙ empty in
+    let at_last : writer_contents contents (buffered_of after) ≡ contents last =
+    ap (append_known (contents inner)) c.in-Ok-outcome.ensures.flushed ∙ none_added (contents inner) ∙ ap contents (sym last_is) in
+    answered_all g.R.Source.left g.R.Source.health g.R.Source.pulls g.Q.Source.left g.Q.Source.health g.Q.Source.pulls
+    (λ device. writer_contents contents (buffered_of device)) buffered_health contents c.args.readers.now asked.new.readers
+    c.args.questions.now asked.new.questions c.new-target.result after c.args.writer last at_first at_last c.in-Ok-outcome.ensures.asks
 
 pub returns-in-Err : goal.returns-in-Err
-returns-in-Err g c = ?
+returns-in-Err g c =
+    let contents = g.W.Write.contents in
+    let asked = c.ask_readers-outcome in
+    let after = asked.new.target in
+    let last = c.into_parts-writer.result.0 in
+    let unwritten = c.into_parts-writer.result.1.items in
+    let held = writer_buffer (buffered_of after) in
+    let inner = writer_inner (buffered_of after) in
+    let last_is : last ≡ inner = c.into_parts-writer.ensures.inner ∙ ap (λ (b : _). writer_inner b) c.into_buffered.ensures in
+    let unwritten_is : unwritten ≡ held = c.into_parts-writer.ensures.buffer ∙ ap (λ (b : _). writer_buffer b) c.into_buffered.ensures in
+    let empty : writer_contents contents c.in-Ok.buffered ≡ contents c.args.writer =
+    rw (c.in-Ok.ensures.inner, c.in-Ok.ensures.empty, none_added (contents c.args.writer)) in
+    let at_first : writer_contents contents (buffered_of c.new-target.result) ≡ contents c.args.writer =
+    ap (writer_contents contents) c.new-target.ensures.buffered ∙ empty in
+    let at_last : writer_contents contents (buffered_of after) ≡ append_known (contents last) unwritten =
+    ap (λ (w : _). append_known (contents w) held) (sym last_is) ∙ ap (append_known (contents last)) (sym unwritten_is) in
+    let is_first : after ≡ c.new-target.result → last ≡ c.args.writer = λ same.
+    last_is ∙ ap (λ (d : BufferedDevice _). writer_inner (buffered_of d)) same
+    ∙ ap (λ (b : _). writer_inner b) c.new-target.ensures.buffered ∙ c.in-Ok.ensures.inner in
+    record {
+      ok = tt;
+      stops = subst (λ (r : Refused). LeavesAnswers contents c.args.writer (OverReaders g.R.Source.left g.Q.Source.left c.args.readers.now
+          c.args.questions.now) (SaysOfReaders g.R.Source.left c.args.readers.now) r (Some last)) (sym c.from.ensures)
+          (stopped g.R.Source.left g.R.Source.health g.R.Source.pulls g.Q.Source.left g.Q.Source.health g.Q.Source.pulls
+          (λ device. writer_contents contents (buffered_of device)) buffered_health contents c.args.readers.now asked.new.readers
+          c.args.questions.now asked.new.questions c.new-target.result after c.args.writer last at_first unwritten at_last is_first
+          c.in-Err.fault c.in-Err.ensures.asks);
+    }

@@ -1,4 +1,4 @@
-use Rattle.std.proofs.Common.{◌≡◌, ℕ, List, [], ◌∷◌, ◌++◌, Option, Some, refl, ap, ◌∙◌}
+use Rattle.std.proofs.Common.{◌≡◌, ℕ, List, [], ◌∷◌, ◌++◌, Some, refl, ap, ◌∙◌}
 use Rattle.hprof_devices.specs.declared.device.Device.{Device}
 use Rattle.hprof_engine.specs.Makes.{IsDumpText, IsDump}
 use Rattle.hprof_tool.specs.Streams.{IsFrontOfStream}

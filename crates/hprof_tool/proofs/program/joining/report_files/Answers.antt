@@ -1,6 +1,5 @@
-use Rattle.std.proofs.Common.{List, ℕ, Option, length, refl, sym, ap, subst, ◌∙◌}
+use Rattle.std.proofs.Common.{List, length, refl, sym, ap, subst, ◌∙◌}
 use Rattle.hprof_devices.specs.declared.device.Device.{Device}
-use Rattle.hprof_devices.specs.Device.{inner_of, health_of, pulls_of}
 use Rattle.hprof_engine.specs.Makes.{IsMadeOf, making_of}
 use Rattle.hprof_tool.specs.Folder.{AreOpened}
 use Rattle.hprof_tool.specs.Streams.{IsFrontOfFiles}
