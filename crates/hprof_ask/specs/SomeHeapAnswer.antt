@@ -9,6 +9,7 @@ use Rattle.hprof_rows.proofs.Order.{order_agrees}
 use Rattle.hprof_heap.specs.declared.heap.Heap.{Heap}
 use Rattle.hprof_heap.specs.Heap.{heap_of}
 use Rattle.hprof_lookup.specs.Classes.{ClassValue}
+use Rattle.hprof_lookup.specs.Found.{IsClassFound, IsObjectFound}
 use Rattle.hprof_lookup.specs.HeapFacts.{facts_of, size_of}
 use Rattle.hprof_lookup.proofs.ClassFacts as classes
 use Rattle.hprof_lookup.proofs.ObjectFacts as objects
@@ -18,7 +19,7 @@ use Rattle.hprof_reach.proofs.SomeReach.{some_distance, some_path}
 use Rattle.hprof_naming.proofs.Namings.{naming_exists}
 use Rattle.hprof_reports.specs.HistogramText.{IsHistogramText, rows_text}
 use Rattle.hprof_reports.specs.Line.{text_of_lines}
-use Rattle.hprof_reports.specs.ObjectText.{IsClassFound, IsObjectFound, IsObjectText, found_text}
+use Rattle.hprof_reports.specs.ObjectText.{IsObjectText, found_text}
 use Rattle.hprof_reports.specs.PathText.{IsPathText, reached_text}
 use Rattle.hprof_reports.specs.RefsText.{IsRefsText, edge_line}
 use Rattle.hprof_dialogue.specs.declared.question.OneWord.{OneWord}

@@ -4,3 +4,4 @@ pub mod ClassDump
 pub mod Objects
 pub mod ObjectDump
 pub mod Names
+pub mod Found

@@ -1,2 +1,3 @@
 pub mod Naming
 pub mod ClassNames
+pub mod TypeWord

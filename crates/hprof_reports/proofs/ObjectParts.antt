@@ -10,7 +10,7 @@ use Rattle.hprof_lookup.specs.ClassDump.{class_value}
 use Rattle.hprof_lookup.specs.Classes.{HasDump, HasNoDump}
 use Rattle.hprof_lookup.specs.ObjectDump.{fact_of_object}
 use Rattle.hprof_lookup.specs.Objects.{IsObject, HasNoObject}
-use Rattle.hprof_reports.specs.ObjectText.{IsClassFound, IsObjectFound}
+use Rattle.hprof_lookup.specs.Found.{IsClassFound, IsObjectFound}
 
 -- the class dump that a look-up found, if there is one
 pub class_is_found : (facts : List FactValue) (id : ℕ) (row : Option ClassDump) → IfSome row (λ r. HasDump facts (class_value r))

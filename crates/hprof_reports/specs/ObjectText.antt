@@ -12,14 +12,14 @@ use Rattle.hprof_lists.specs.declared.value.Field.{Field}
 use Rattle.hprof_lists.specs.Value.{constant_of, static_of, field_of}
 use Rattle.hprof_items.specs.FactValue.{FactValue, Instance, ObjArray, PrimArray}
 use Rattle.hprof_rows.specs.Conflict.{IsConsistent}
-use Rattle.hprof_rows.specs.Facts.{Has}
-use Rattle.hprof_lookup.specs.Classes.{ClassValue, HasDump, HasNoDump}
-use Rattle.hprof_lookup.specs.Objects.{IsObject, HasNoObject}
+use Rattle.hprof_lookup.specs.Classes.{ClassValue}
+use Rattle.hprof_lookup.specs.Found.{IsClassFound, IsObjectFound}
 use Rattle.hprof_layouts.specs.declared.field_value.FieldValue.{FieldValue}
 use Rattle.hprof_layouts.specs.Fields.{FieldsValue, Values, Missing, Cyclic, WidthDiffers, AreFields}
 use Rattle.hprof_naming.specs.Naming.{Naming, IsNaming}
+use Rattle.hprof_naming.specs.TypeWord.{type_word}
 use Rattle.hprof_reports.specs.Line.{line_of, each_line, text_of_lines}
-use Rattle.hprof_reports.specs.Shown.{type_word, bits_text}
+use Rattle.hprof_reports.specs.Shown.{bits_text}
 
 -- ---- a class dump
 
@@ -117,16 +117,6 @@ object_text naming ids fields (PrimArray id trace elem bytes) = values_line ids 
 object_text naming ids fields other = []
 
 -- ---- the whole
-
--- the class dump of the identifier, if there is one
-abbrev pub IsClassFound : List FactValue → ℕ → Option ClassValue → Type 0
-IsClassFound facts id (Some dump) = HasDump facts dump × (dump.id ≡ id)
-IsClassFound facts id None = HasNoDump facts id
-
--- the object dump of the identifier, if there is one
-abbrev pub IsObjectFound : List FactValue → ℕ → Option FactValue → Type 0
-IsObjectFound facts id (Some fact) = Has facts fact × IsObject id fact
-IsObjectFound facts id None = HasNoObject facts id
 
 abbrev pub nothing_line : ℕ → List ℕ
 nothing_line id = line_of (codes "nothing at" ∷ id_digits id ∷ [])

@@ -6,11 +6,12 @@ use Rattle.hprof_rows.specs.declared.key.Key.TheVariants as keys
 use Rattle.hprof_rows.specs.Conflict.{IsConsistent}
 use Rattle.hprof_lookup.specs.Classes.{ClassValue}
 use Rattle.hprof_lookup.proofs.ClassFacts.{one_dump_each}
+use Rattle.hprof_lookup.specs.Found.{IsClassFound, IsObjectFound}
 use Rattle.hprof_layouts.specs.Fields.{FieldsValue}
 use Rattle.hprof_layouts.proofs.FieldAnswers.{fields_once}
 use Rattle.hprof_naming.specs.Naming.{Naming}
 use Rattle.hprof_naming.proofs.Namings.{one_naming}
-use Rattle.hprof_reports.specs.ObjectText.{IsClassFound, IsObjectFound, found_text, IsObjectText}
+use Rattle.hprof_reports.specs.ObjectText.{found_text, IsObjectText}
 
 module _ (facts : List FactValue) (agree : IsConsistent facts) (id : ℕ) where
   -- one class dump is found, or none

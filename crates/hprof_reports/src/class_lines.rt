@@ -7,11 +7,11 @@ ghost use Rattle.hprof_naming.specs.Naming.{IsNaming, Naming};
 ghost use Rattle.hprof_reports.specs.ObjectText.{class_line, constant_line, line_from_signers, line_to_loader, own_line, static_line};
 
 use crate::entries::Entry;
-use crate::shown::{bits_text, type_word};
+use crate::shown::bits_text;
 use hprof_heap::Heap;
 use hprof_lists::{Constant, Field, Static};
 use hprof_lookup::{ClassDump, id_size};
-use hprof_naming::{class_label, name_text};
+use hprof_naming::{class_label, name_text, type_word};
 use std::alloc::{AllocError, Global};
 
 /// Returns the line of a class that has this label, from its signers on.

@@ -9,13 +9,12 @@ ghost use Rattle.hprof_reports.specs.HistogramText.{IsHistogramText, array_row_l
 ghost use Rattle.hprof_reports.specs.Stopping.{LeavesTarget, WritesText};
 
 use crate::lines::write_line;
-use crate::shown::type_word;
 use hprof_devices::Target;
 use hprof_engine::WriteStop;
 use hprof_heap::Heap;
 use hprof_histogram::{Kind, Row, histogram};
 use hprof_lookup::holds_of_heap;
-use hprof_naming::{ClassNames, label_of};
+use hprof_naming::{ClassNames, label_of, type_word};
 use hprof_values::Basic;
 use std::alloc::{AllocError, Global};
 

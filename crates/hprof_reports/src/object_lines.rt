@@ -7,12 +7,12 @@ ghost use Rattle.hprof_naming.specs.Naming.{IsNaming, Naming};
 ghost use Rattle.hprof_reports.specs.ObjectText.{counted_line, element_line, elements_line, field_line, instance_line, values_line};
 
 use crate::entries::Entry;
-use crate::shown::{bits_text, type_word};
+use crate::shown::bits_text;
 use hprof_heap::Heap;
 use hprof_layouts::FieldValue;
 use hprof_lists::IdList;
 use hprof_lookup::id_size;
-use hprof_naming::{class_label, name_text};
+use hprof_naming::{class_label, name_text, type_word};
 use hprof_values::{Basic, IdSize};
 use std::alloc::{AllocError, Global};
 

@@ -1,28 +1,10 @@
-//! Types and bits in print.
+//! Bits in print.
 
 ghost use Rattle.std.specs.Prelude.{◌≡◌, IfOk, string_bytes};
-ghost use Rattle.hprof_reports.specs.Shown.{bits_text, type_word};
+ghost use Rattle.hprof_reports.specs.Shown.{bits_text};
 
 use hprof_values::{Basic, IdSize};
 use std::alloc::{AllocError, Global};
-
-/// Returns the word for a type.
-pub(crate) fn type_word(basic: Basic) -> &'static str
-    ensures { result.now ≡ type_word basic }
-{
-    match basic {
-        Basic::Array => "array",
-        Basic::Object => "object",
-        Basic::Boolean => "boolean",
-        Basic::Char => "char",
-        Basic::Float => "float",
-        Basic::Double => "double",
-        Basic::Byte => "byte",
-        Basic::Short => "short",
-        Basic::Int => "int",
-        Basic::Long => "long",
-    }
-}
 
 /// Returns the bits of a value of that type, two digits for each byte of its width. If memory runs out, the answer is `AllocError`.
 pub(crate) fn bits_text(

@@ -1,0 +1,24 @@
+//! Types in print.
+
+ghost use Rattle.std.specs.Prelude.{◌≡◌};
+ghost use Rattle.hprof_naming.specs.TypeWord.{type_word};
+
+use hprof_values::Basic;
+
+/// Returns the word for a type: heapDumper.cpp, "HPROF binary format", the basic types.
+pub fn type_word(basic: Basic) -> &'static str
+    ensures { result.now ≡ type_word basic }
+{
+    match basic {
+        Basic::Array => "array",
+        Basic::Object => "object",
+        Basic::Boolean => "boolean",
+        Basic::Char => "char",
+        Basic::Float => "float",
+        Basic::Double => "double",
+        Basic::Byte => "byte",
+        Basic::Short => "short",
+        Basic::Int => "int",
+        Basic::Long => "long",
+    }
+}
