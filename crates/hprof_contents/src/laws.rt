@@ -1,0 +1,14 @@
+//! Laws of the definitions. None of these functions does anything.
+
+ghost use Rattle.std.specs.Prelude.{◌≡◌, ℕ, List};
+ghost use Rattle.hprof_values.specs.declared.ids.IdSize.{IdSize};
+ghost use Rattle.hprof_items.specs.FactValue.{FactValue};
+ghost use Rattle.hprof_rows.specs.Conflict.{IsConsistent};
+ghost use Rattle.hprof_contents.specs.Texts.{IsText, TextValue};
+
+/// Of facts that agree an identifier has one text.
+pub fn one_text()
+    ensures exists { (ids : IdSize) (facts : List FactValue) (id : ℕ) → (text : TextValue) × IsText ids facts id text }
+    ensures once { (ids : IdSize) (facts : List FactValue) (id : ℕ) (one other : TextValue) → IsConsistent facts → IsText ids facts id one
+        → IsText ids facts id other → one ≡ other }
+{}

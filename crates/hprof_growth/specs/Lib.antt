@@ -1,0 +1,3 @@
+pub mod Labels
+pub mod Counts
+pub mod Difference

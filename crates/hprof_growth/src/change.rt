@@ -1,0 +1,27 @@
+//! Changes between two heaps.
+
+ghost use Rattle.std.specs.Prelude.{◌≡◌};
+ghost use Rattle.hprof_growth.specs.Difference.{step_cmp};
+ghost use Rattle.hprof_growth.specs.Changes.{step_value};
+
+use std::cmp::Ordering;
+
+/// A number before and after.
+#[derive(Clone, Copy, Debug, PartialEq, Eq)]
+pub struct Step {
+    /// The number in the older heap.
+    pub old: u128,
+    /// The number in the newer heap.
+    pub new: u128,
+}
+
+/// The change of the objects of one label.
+#[derive(Clone, Copy, Debug, PartialEq, Eq)]
+pub struct Change<'a> {
+    /// The label.
+    pub label: &'a str,
+    /// The bytes of its objects.
+    pub bytes: Step,
+    /// The number of its objects.
+    pub count: Step,
+}
