@@ -12,3 +12,4 @@ pub mod KeptEdges
 pub mod OnlyDumps
 pub mod TableEdges
 pub mod WantedEdges
+pub mod LeastEdges

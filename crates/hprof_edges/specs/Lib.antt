@@ -5,3 +5,5 @@ pub mod Collecting
 pub mod KeptMembers
 pub mod EdgeSet
 pub mod EdgeLists
+pub mod LeastEdge
+pub mod KeptLeast

@@ -16,7 +16,7 @@ abbrev pub candidates : List (ℕ × Counted) → List Counted → List Row
 candidates entries types = class_rows entries ++ type_rows types element_types
 
 -- what passes a test keeps what holds of each
-all_filter : {X : Type 0} (P : X → Type 0) (test : X → Bool) (xs : List X) → AllByRecursion P xs → AllByRecursion P (filter test xs)
+pub all_filter : {X : Type 0} (P : X → Type 0) (test : X → Bool) (xs : List X) → AllByRecursion P xs → AllByRecursion P (filter test xs)
 all_filter P test [] all = tt
 all_filter P test (x ∷ xs) all = by_test (all_filter P test xs all.1) (test x) where
   by_test : AllByRecursion P (filter test xs) → (b : Bool) → AllByRecursion P (cond b (x ∷ filter test xs) (filter test xs))

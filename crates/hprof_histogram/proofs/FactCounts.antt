@@ -57,11 +57,11 @@ counted_first ids fact objects =
     let bytes = sum_by-cons (size_of_object ids) fact objects in
     λ i. record { count = count i; bytes = bytes i }
 
-kept_first : (kind : Kind) (fact : FactValue) (facts : List FactValue) → is_kind kind (object_kind fact) ≡ true
+pub kept_first : (kind : Kind) (fact : FactValue) (facts : List FactValue) → is_kind kind (object_kind fact) ≡ true
     → of_kind kind (fact ∷ facts) ≡ fact ∷ of_kind kind facts
 kept_first kind fact facts e = ap (λ (b : Bool). cond b (fact ∷ of_kind kind facts) (of_kind kind facts)) e
 
-left_out : (kind : Kind) (fact : FactValue) (facts : List FactValue) → is_kind kind (object_kind fact) ≡ false
+pub left_out : (kind : Kind) (fact : FactValue) (facts : List FactValue) → is_kind kind (object_kind fact) ≡ false
     → of_kind kind (fact ∷ facts) ≡ of_kind kind facts
 left_out kind fact facts e = ap (λ (b : Bool). cond b (fact ∷ of_kind kind facts) (of_kind kind facts)) e
 
@@ -161,7 +161,7 @@ size_within ids (PrimArray id trace elem bytes) fits =
     omega (arith, fits.1, length-append (field_bytes (prim_array_widths ids) (prim_array_numbers ids id trace elem bytes)) bytes)
 size_within ids _ fits = omega arith
 
-all_within : (ids : IdSize) (facts : List FactValue) → AllFit ids facts
+pub all_within : (ids : IdSize) (facts : List FactValue) → AllFit ids facts
     → AllByRecursion (λ fact. size_of_object ids fact ≤ 2 ^ 36) facts
 all_within ids [] fit = tt
 all_within ids (fact ∷ facts) fit = (size_within ids fact (fit fact (inl refl)), all_within ids facts (λ other has. fit other (inr has)))

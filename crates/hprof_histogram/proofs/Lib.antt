@@ -7,3 +7,5 @@ pub mod FactCounts
 pub mod CandidateRows
 pub mod HistogramRows
 pub mod SomeHistogram
+pub mod KindObjects
+pub mod ObjectOrder

@@ -25,7 +25,7 @@ one_kind (Class class) (Prim elem) e = cc
 one_kind (Prim elem) (Class class) e = cc
 one_kind (Prim elem) (Prim other) e = ap Prim (one_code elem other (eqb-true (code_of_basic elem) (code_of_basic other) e))
 
-is_of_kind : (kind : Kind) (found : Option Kind) → is_kind kind found ≡ true → found ≡ Some kind
+pub is_of_kind : (kind : Kind) (found : Option Kind) → is_kind kind found ≡ true → found ≡ Some kind
 is_of_kind kind None e = cc
 is_of_kind kind (Some other) e = ap Some (sym (one_kind kind other e))
 

@@ -29,7 +29,7 @@ module _ {X : Type 0} where
 
   module _ (R : X → X → Ordering) where
     -- these and one more, in order
-    record Joined (one : X) (xs : List X) : Type 0 where
+    pub record Joined (one : X) (xs : List X) : Type 0 where
       pub all : List X
       pub sorted : IsStrictlySortedBy R all
       pub only : (x : X) → IsIn x all → (x ≡ one) ⊎ IsIn x xs
@@ -88,7 +88,7 @@ module _ {X : Type 0} where
       }
 
       -- one more, wherever it belongs
-      join_one : (one : X) (xs : List X) → IsStrictlySortedBy R xs → Joined one xs
+      pub join_one : (one : X) (xs : List X) → IsStrictlySortedBy R xs → Joined one xs
       unfolding IsStrictlySortedBy
       join_one one [] sorted = record {
         all = one ∷ [];
@@ -106,7 +106,7 @@ module _ {X : Type 0} where
 -- ---- rows
 
 -- two orders that are a tie together: the first is a tie
-first_tied : (first second : Ordering) → ordering_then first second ≡ Equal → first ≡ Equal
+pub first_tied : (first second : Ordering) → ordering_then first second ≡ Equal → first ≡ Equal
 first_tied Less second e = cc
 first_tied Equal second e = refl
 first_tied Greater second e = cc

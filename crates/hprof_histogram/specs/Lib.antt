@@ -1,2 +1,3 @@
 pub mod Histogram
 pub mod CountedKinds
+pub mod Objects

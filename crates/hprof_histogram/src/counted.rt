@@ -2,9 +2,11 @@
 
 /// A number of objects, and the number of their bytes together.
 #[derive(Clone, Copy, Debug, PartialEq, Eq)]
-pub(crate) struct Counted {
-    pub(crate) count: u64,
-    pub(crate) bytes: u128,
+pub struct Counted {
+    /// Their number.
+    pub count: u64,
+    /// The number of bytes of their fields and elements.
+    pub bytes: u128,
 }
 
 impl Counted {

@@ -11,7 +11,7 @@ pub(crate) const TYPES: usize = 12;
 
 /// The number of objects of each kind that were counted.
 #[derive(Drop)]
-pub(crate) struct CountedKinds {
+pub struct CountedKinds {
     /// The counts of each class.
     pub(crate) classes: HintedMap<Counted>,
     /// The counts of each type, by its code.
@@ -35,9 +35,10 @@ impl CountedKinds {
         }
     }
 
-    /// Returns the counts of a class.
+    /// Returns the count of the instances of a class and of the arrays of objects of that class. It is that of the histogram's row, and nothing
+    /// if there is no row.
     #[inline(always)]
-    fn of_class(&self, class: u64) -> Counted
+    pub fn of_class(&self, class: u64) -> Counted
         ensures { result ≡ counted_in self.now (kinds.Class class) }
     {
         match self.classes.get(class) {

@@ -44,8 +44,8 @@ fn object_of(fact: &Fact<'_>, ids: IdSize) -> Option<(Kind, u128)>
     }
 }
 
-/// Counts the objects of a heap.
-pub(crate) fn count_objects(alloc: Global, heap: &Heap) -> Result<CountedKinds, AllocError>
+/// Counts the objects of a heap by their kinds. If memory runs out, the answer is `AllocError`.
+pub fn count_objects(alloc: Global, heap: &Heap) -> Result<CountedKinds, AllocError>
     ensures { IfOk result (IsTally (size_of heap.now) (facts_of heap.now)) }
 {
     let ids = id_size(heap);

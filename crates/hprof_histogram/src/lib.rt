@@ -1,4 +1,4 @@
-//! The class histogram of a heap: the number of objects of each kind, and the number of their bytes.
+//! The class histogram of a heap: the number of objects of each kind, and the number of their bytes; and the objects of a kind.
 #![tactic(auto)]
 
 mod counted;
@@ -7,8 +7,13 @@ mod counting;
 mod gathering;
 pub mod laws;
 mod making;
+mod objects;
 mod row;
 mod sorting;
 
+pub use counted::Counted;
+pub use counted_kinds::CountedKinds;
+pub use counting::count_objects;
 pub use making::histogram;
+pub use objects::{SizedObject, objects_of};
 pub use row::{Kind, Row};

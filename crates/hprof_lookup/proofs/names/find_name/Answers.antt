@@ -1,5 +1,5 @@
-use Rattle.std.proofs.Common.{◌≡◌, sym, ap, subst}
-use Rattle.hprof_items.specs.FactValue.{FactValue, Name, value_of}
+use Rattle.std.proofs.Common.{sym, ap, subst}
+use Rattle.hprof_items.specs.FactValue.{FactValue, value_of}
 use Rattle.hprof_rows.specs.declared.key.Key.TheVariants as keys
 use Rattle.hprof_rows.specs.Key.{has_key}
 use Rattle.hprof_rows.proofs.Picking.{IsPicked, found}

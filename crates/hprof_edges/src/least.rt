@@ -1,0 +1,81 @@
+//! The least edge between two identifiers.
+
+ghost use Rattle.std.specs.Prelude.{◌≡◌, ◌≢◌, ◌⊎◌, IfOk, IfSome, Some};
+ghost use Rattle.std.specs.declared.cmp.Ordering.TheVariants.{Greater};
+ghost use Rattle.hprof_lookup.specs.HeapFacts.{facts_of, size_of};
+ghost use Rattle.hprof_known_layouts.specs.Known.{Knows};
+ghost use Rattle.hprof_edges.specs.LeastEdge.{IsLeastEdge};
+
+use crate::collect::Collect;
+use crate::edge::Edge;
+use crate::from_known::{Near, known_edges};
+use hprof_heap::Heap;
+use hprof_known_layouts::{KnownLayouts, Reference, Wanted};
+use std::alloc::AllocError;
+
+/// The least of the edges to an identifier, of those that were put.
+#[derive(Clone, Copy, Debug, PartialEq, Eq)]
+pub(crate) struct LeastEdge {
+    /// The identifier.
+    pub(crate) to: u64,
+    /// The least edge to it so far.
+    pub(crate) edge: Option<Edge>,
+}
+
+/// Returns the first of an edge and the one that was kept, in the order of edges.
+fn first_of(kept: Option<Edge>, edge: Edge) -> Edge
+    ensures one { (result ≡ edge) ⊎ (kept ≡ Some result) }
+    ensures edge { ⟦<Edge as Ord>⟧.cmp result edge ≢ Greater }
+    ensures kept { IfSome kept (λ other. ⟦<Edge as Ord>⟧.cmp result other ≢ Greater) }
+{
+    match kept {
+        Some(kept) if kept <= edge => kept,
+        _ => edge,
+    }
+}
+
+/// It keeps one edge.
+impl Collect for LeastEdge {
+    ghost use Rattle.hprof_edges.specs.KeptLeast.{least_alike};
+    ghost use Rattle.hprof_edges.specs.LeastEdge.{KeepsLeast, leads_to};
+
+    ghost holds = { KeepsLeast };
+
+    ghost keeps = { leads_to };
+
+    ghost same_kept = { least_alike };
+
+    #[inline(always)]
+    fn wanted(&self) -> Wanted {
+        Wanted::To(self.to)
+    }
+
+    #[inline(always)]
+    fn put(&mut self, edge: Edge) -> Result<(), AllocError> {
+        if edge.to == self.to {
+            self.edge = Some(first_of(self.edge, edge));
+        }
+        Ok(())
+    }
+}
+
+/// Returns the least edge from one identifier to another, by the kind of reference and then by its place, or `None` if there is none.
+/// `known` has the layouts of the heap's classes.
+///
+/// The class dump and the object dump of the first identifier are looked up, near the places of the last ones. `references` is room that is
+/// used again. If memory runs out, the answer is `AllocError`.
+pub fn least_edge(
+    heap: &Heap,
+    known: &KnownLayouts,
+    from: u64,
+    to: u64,
+    near: &mut Near,
+    references: &mut Vec<Reference>,
+) -> Result<Option<Edge>, AllocError>
+    ensures { Knows (size_of heap.now) (facts_of heap.now) known.now
+        → IfOk result (IsLeastEdge (size_of heap.now) (facts_of heap.now) from to) }
+{
+    let mut least = LeastEdge { to, edge: None };
+    known_edges(heap, known, from, near, references, &mut least)?;
+    Ok(least.edge)
+}
