@@ -15,18 +15,18 @@ use Rattle.hprof_edges.specs.Edges.{AreEdges}
 
 module _ {X : Type 0} where
   -- x is one of these
-  abbrev IsIn : X → List X → Type 0
+  abbrev pub IsIn : X → List X → Type 0
   IsIn x [] = ⊥
   IsIn x (y ∷ ys) = (x ≡ y) ⊎ IsIn x ys
 
-  in_from_Contains : (xs : List X) (x : X) → Contains xs x → IsIn x xs
+  pub in_from_Contains : (xs : List X) (x : X) → Contains xs x → IsIn x xs
   in_from_Contains xs x has = at_place xs x has.0 has.1 has.2 where
     at_place : (xs : List X) (x : X) (place : ℕ) → place < length xs → get_or xs place x ≡ x → IsIn x xs
     at_place [] x place lt e = absurd (omega arith)
     at_place (y ∷ ys) x zero lt e = inl (sym e)
     at_place (y ∷ ys) x (suc place) lt e = inr (at_place ys x place (omega arith) e)
 
-  Contains-from_in : (xs : List X) (x : X) → IsIn x xs → Contains xs x
+  pub Contains-from_in : (xs : List X) (x : X) → IsIn x xs → Contains xs x
   Contains-from_in [] x has = absurd has
   Contains-from_in (y ∷ ys) x has = elim has [
     | inl e ↦ (0, omega arith, sym e)

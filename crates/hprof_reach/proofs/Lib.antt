@@ -5,3 +5,4 @@ pub mod TargetLists
 pub mod SomeWalk
 pub mod SomeEdges
 pub mod SomeReach
+pub mod RootLists

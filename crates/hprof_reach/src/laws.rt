@@ -5,7 +5,10 @@ ghost use Rattle.hprof_values.specs.declared.ids.IdSize.{IdSize};
 ghost use Rattle.hprof_items.specs.FactValue.{FactValue};
 ghost use Rattle.hprof_rows.specs.Conflict.{IsConsistent};
 ghost use Rattle.hprof_search.specs.Walks.{IsLeastBefore, IsWalk};
+ghost use Rattle.hprof_values.specs.declared.root.Root.{Root};
+ghost use Rattle.hprof_rows.specs.Order.{IsCanonicalOrder};
 ghost use Rattle.hprof_reach.specs.Reaching.{IsDistanceFromRoots, IsPathFromRoots, IsStart, IsStep};
+ghost use Rattle.hprof_reach.specs.Roots.{AreRootsOf};
 
 /// An identifier has one distance, or none, and one path, or none.
 pub fn one_distance_and_path()
@@ -46,4 +49,11 @@ pub fn some_distance_and_path()
         → (distance : Option ℕ) × IsDistanceFromRoots ids facts id distance }
     ensures path { (ids : IdSize) (facts : List FactValue) (id : ℕ) → IsConsistent facts
         → (path : Option (List ℕ)) × IsPathFromRoots ids facts id path }
+{}
+
+/// An object has one list of roots, and of facts in canonical order there is one.
+pub fn one_list_of_roots()
+    ensures exists { (facts : List FactValue) (id : ℕ) → IsCanonicalOrder facts → (roots : List Root) × AreRootsOf facts id roots }
+    ensures once { (facts : List FactValue) (id : ℕ) (one other : List Root) → AreRootsOf facts id one → AreRootsOf facts id other
+        → one ≡ other }
 {}

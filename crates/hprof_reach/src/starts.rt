@@ -11,7 +11,7 @@ use hprof_values::Root;
 use std::alloc::{AllocError, Global};
 
 /// Returns the object that a root keeps alive.
-fn root_id(root: Root) -> u64
+pub(crate) fn root_id(root: Root) -> u64
     ensures { result ≡ root_id root }
 {
     match root {

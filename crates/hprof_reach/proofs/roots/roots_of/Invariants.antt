@@ -1,0 +1,9 @@
+use Rattle.hprof_rows.specs.declared.table.Table.TheVariants as tables
+use Rattle.hprof_rows.specs.FactsLeft.{facts_left}
+use Rattle.hprof_rows.specs.Tables.{facts_of_table}
+use Rattle.hprof_lookup.specs.HeapFacts.{facts_of}
+use Rattle.hprof_reach.proofs.RootLists.{IsPickedTo}
+use Rattle.hprof_reach.proofs.roots.roots_of.Given as goal
+
+abbrev pub invariant-loop-fact : goal.invariant-loop-fact
+invariant-loop-fact l = IsPickedTo l.id (facts_of_table tables.Roots (facts_of l.heap)) l.roots.items (facts_left l.fact-iterator)
