@@ -14,7 +14,7 @@ use hprof_devices::Target;
 use hprof_dialogue::{Answers, DialogueStop, OneWord, Question, Subject};
 use hprof_engine::WriteStop;
 use hprof_heap::Heap;
-use hprof_reports::{write_check, write_object, write_text};
+use hprof_reports::{write_check, write_object, write_str};
 use hprof_stream::PartSummary;
 use std::alloc::Global;
 
@@ -62,7 +62,7 @@ fn write_word_report<W: Target>(
     ensures kept { IsKept (size_of answers.now.heap.now) (facts_of answers.now.heap.now) kept.new }
 {
     match word {
-        OneWord::Help => { write_text("help\ncheck\nhisto\nobject ID\nrefs ID\npath ID\n", target) }
+        OneWord::Help => { write_str("help\ncheck\nhisto\nobject ID\nrefs ID\npath ID\n", target) }
         OneWord::Check => write_check_report(answers.heap, answers.summaries, target),
         OneWord::Histogram => write_kept_histogram(alloc, answers.heap, kept, target),
     }
@@ -108,13 +108,13 @@ fn write_report<W: Target>(
     ensures kept { IsKept (size_of answers.now.heap.now) (facts_of answers.now.heap.now) kept.new }
 {
     match question {
-        Question::Nothing => write_text("", target),
+        Question::Nothing => write_str("", target),
         Question::Word(word) => write_word_report(alloc, answers, kept, word, target),
         Question::Of(subject, id) => {
             write_report_of(alloc, answers.heap, kept, subject, id, target)
         }
-        Question::NoIdentifier => write_text("not an identifier\n", target),
-        Question::NotUnderstood => write_text("not understood\n", target),
+        Question::NoIdentifier => write_str("not an identifier\n", target),
+        Question::NotUnderstood => write_str("not understood\n", target),
     }
 }
 
@@ -135,7 +135,7 @@ fn write_answer<W: Target>(
     ensures kept { IsKept (size_of answers.now.heap.now) (facts_of answers.now.heap.now) kept.new }
 {
     match write_report(alloc, answers, kept, question, target) {
-        Ok(()) => write_text("\n", target),
+        Ok(()) => write_str("\n", target),
         Err(stop) => Err(stop),
     }
 }

@@ -1,5 +1,5 @@
 -- The least of edges, told by those alone that lead to the identifier.
-use Rattle.std.specs.Prelude.{◌≡◌, true, List, Option, Some, None, filter, Contains}
+use Rattle.std.specs.Prelude.{◌≡◌, List, Option, Some, None, filter, Contains}
 use Rattle.std.proofs.Common.{sym, subst}
 use Rattle.hprof_edges.specs.declared.edge.Edge.{Edge}
 use Rattle.hprof_edges.specs.declared.least.LeastEdge.{LeastEdge}

@@ -7,7 +7,7 @@ ghost use Rattle.hprof_devices.specs.Device.{LeavesHealth, Writes};
 ghost use Rattle.hprof_reports.specs.ObjectText.{contents_text};
 ghost use Rattle.hprof_reports.specs.Stopping.{LeavesTarget, WritesText};
 
-use crate::lines::write_text;
+use crate::lines::write_str;
 use hprof_devices::{Target, WriteFault, push_all};
 use hprof_engine::WriteStop;
 
@@ -51,9 +51,9 @@ pub(crate) fn write_contents<W: Target>(bytes: &[u8], target: &mut W) -> Result<
     if bytes.is_empty() {
         return Ok(());
     }
-    write_text("bytes ", target)?;
+    write_str("bytes ", target)?;
     if let Err(fault) = write_digits(bytes, target) {
         return Err(WriteStop::Write(fault));
     }
-    write_text("\n", target)
+    write_str("\n", target)
 }

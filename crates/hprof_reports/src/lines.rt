@@ -14,7 +14,7 @@ use hprof_heap::Heap;
 use std::alloc::{AllocError, Global};
 
 /// Writes a text. If the writer fails, the bytes written are the beginning of it.
-pub fn write_text<W: Target>(text: &str, target: &mut W) -> Result<(), WriteStop>
+pub fn write_str<W: Target>(text: &str, target: &mut W) -> Result<(), WriteStop>
     requires { W.health target.old ≡ Well }
     ensures bytes { WritesText (W.written target.old) (W.written target.new) result text.now }
     ensures health { LeavesTarget result (W.health target.new) }
@@ -26,7 +26,7 @@ pub fn write_text<W: Target>(text: &str, target: &mut W) -> Result<(), WriteStop
 }
 
 /// Writes a line, if there was memory to make it. If it stops, the bytes written are the beginning of the line.
-pub(crate) fn write_line<W: Target>(
+pub fn write_line<W: Target>(
     line: Result<String, AllocError>,
     target: &mut W,
 ) -> Result<(), WriteStop>
@@ -36,7 +36,7 @@ pub(crate) fn write_line<W: Target>(
     ensures health { LeavesTarget result (W.health target.new) }
 {
     match line {
-        Ok(line) => write_text(&line, target),
+        Ok(line) => write_str(&line, target),
         Err(_) => Err(WriteStop::OutOfMemory),
     }
 }

@@ -9,7 +9,7 @@ ghost use Rattle.hprof_reach.specs.Reaching.{IsReach};
 ghost use Rattle.hprof_reports.specs.PathText.{IsPathText, distance_line, node_line, nodes_text};
 ghost use Rattle.hprof_reports.specs.Stopping.{LeavesTarget, WritesText};
 
-use crate::lines::{write_line, write_text};
+use crate::lines::{write_line, write_str};
 use hprof_devices::Target;
 use hprof_engine::WriteStop;
 use hprof_heap::Heap;
@@ -66,7 +66,7 @@ pub fn write_reached<W: Target>(
             write_line(distance_line(alloc, distance), target)?;
             write_nodes(alloc, &nodes, target)
         }
-        _ => write_text("not reached\n", target),
+        _ => write_str("not reached\n", target),
     }
 }
 

@@ -15,7 +15,7 @@ use hprof_heap::Heap;
 use std::alloc::{AllocError, Global};
 
 /// Returns the word for a kind of reference.
-fn via_word(via: Via) -> &'static str
+pub fn via_word(via: Via) -> &'static str
     ensures { result.now ≡ via_word via }
 {
     match via {

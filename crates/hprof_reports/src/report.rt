@@ -11,7 +11,7 @@ use hprof_stream::Limits;
 use std::alloc::Global;
 
 /// Reads all parts, and writes the report on them. It frees their heap.
-pub(crate) fn report_to<P: Product, R: Source, W: Target>(
+pub fn report_to<P: Product, R: Source, W: Target>(
     alloc: Global,
     report: &P,
     readers: &mut [R],

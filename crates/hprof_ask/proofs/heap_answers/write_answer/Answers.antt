@@ -9,8 +9,8 @@ returns-in-Ok-clause-bytes g c =
     let it = c.in-Ok.ensures.bytes in (
       it.0 ++ codes "\n",
       record { report = it.0; is_report = it.1; is = refl },
-      text_then c.write_text.result (g.W.Target.written c.args.target.now) (g.W.Target.written c.write_report.new.target)
-          (g.W.Target.written c.write_text.new.target) it.0 (codes "\n") it.2 c.write_text.ensures.bytes,
+      text_then c.write_str.result (g.W.Target.written c.args.target.now) (g.W.Target.written c.write_report.new.target)
+          (g.W.Target.written c.write_str.new.target) it.0 (codes "\n") it.2 c.write_str.ensures.bytes,
     )
 
 pub returns-in-Err-clause-bytes : goal.returns-in-Err-clause-bytes

@@ -1,4 +1,4 @@
-use Rattle.std.proofs.Common.{ap, subst, sym, ◌∙◌, ◌++◌}
+use Rattle.std.proofs.Common.{ap, subst, ◌∙◌, ◌++◌}
 use Rattle.hprof_items.specs.FactValue.{value_of}
 use Rattle.hprof_rows.specs.declared.facts.Facts.{Facts}
 use Rattle.hprof_rows.specs.declared.table.Table.TheVariants as tables

@@ -67,13 +67,13 @@ returns-in_default-clause-bytes g c = λ ids facts is.
                 (subst (IsDistanceFromRoots ids facts id) w.in_default.is-0 (c.distance-distance.ensures ids facts is))
                 (subst (λ path. IsPathFromRoots ids facts id (option_map (λ nodes. nodes.items) path)) w.in_default.is-1
                 (c.in_ok-path.ensures ids facts is)),
-            c.write_text.ensures.bytes,
+            c.write_str.ensures.bytes,
           )
       | in_default-via-in_default w ↦ (
         reached_text None (option_map (λ nodes. nodes.items) c.in_ok-path.path),
         told ids facts id None (option_map (λ nodes. nodes.items) c.in_ok-path.path)
             (subst (IsDistanceFromRoots ids facts id) w.in_default.is-0 (c.distance-distance.ensures ids facts is))
             (c.in_ok-path.ensures ids facts is),
-        c.write_text.ensures.bytes,
+        c.write_str.ensures.bytes,
       )
     ]
