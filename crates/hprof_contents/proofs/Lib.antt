@@ -1,0 +1,4 @@
+mod FirstNamed
+mod Lookups
+mod OneText
+mod Found

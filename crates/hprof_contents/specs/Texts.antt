@@ -1,11 +1,11 @@
 -- The text of an object, this project's own: of an array of chars or bytes, or of a string, which refers to one. Strings of JDK 8 have a
 -- field `value` that refers to a char array; those of JDK 9 and later have one that refers to a byte array, and a field `coder`.
-use Rattle.std.specs.Prelude.{◌≡◌, ◌⊎◌, ℕ, ◌%◌, ◌==◌, ◌&&◌, Bool, true, false, if◌then◌else◌, List, ◌∷◌, ◌++◌, length, Option, Some, None, codes}
+use Rattle.std.specs.Prelude.{◌≡◌, ℕ, ◌%◌, ◌==◌, ◌&&◌, Bool, true, false, if◌then◌else◌, List, ◌∷◌, ◌++◌, length, Option, Some, None, codes}
 use Rattle.std.specs.List.{AllByRecursion}
 use Rattle.hprof_values.specs.declared.ids.IdSize.{IdSize}
 use Rattle.hprof_values.specs.declared.basic.Basic.{Basic}
 use Rattle.hprof_values.specs.declared.basic.Basic.TheVariants as basics
-use Rattle.hprof_items.specs.FactValue.{FactValue, Instance, ObjArray, PrimArray}
+use Rattle.hprof_items.specs.FactValue.{FactValue, Instance, PrimArray}
 use Rattle.hprof_lookup.specs.Classes.{ClassValue}
 use Rattle.hprof_lookup.specs.Found.{IsClassFound, IsObjectFound}
 use Rattle.hprof_lookup.specs.Names.{HasName}

@@ -2,8 +2,8 @@
 #![tactic(auto)]
 
 pub mod laws;
+mod object_text;
 mod text;
-mod text_of;
 
+pub use object_text::text_of;
 pub use text::{Coding, Text, Units};
-pub use text_of::text_of;
