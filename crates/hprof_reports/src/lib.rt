@@ -26,7 +26,7 @@ pub use check_parts::{Check, check_to};
 pub use histogram_parts::{HistogramReport, histo_to};
 pub use histogram_report::write_histogram;
 pub use lines::{write_line, write_str};
-pub use object::write_object;
+pub use object::{nothing_line, write_object};
 pub use object_parts::{ObjectReport, object_to};
 pub use path::{write_path, write_reached};
 pub use path_parts::{PathReport, path_to};

@@ -133,7 +133,7 @@ fn write_object_dump<W: Target>(
 }
 
 /// Returns the line of an identifier that no dump has.
-fn nothing_line(alloc: Global, id: u64) -> Result<String, AllocError>
+pub fn nothing_line(alloc: Global, id: u64) -> Result<String, AllocError>
     ensures { IfOk result (λ line. string_bytes line ≡ nothing_line id) }
 {
     format!(in alloc; "nothing at {id:x}\n")

@@ -10,4 +10,4 @@ mod printing;
 pub use decoding::{is_modified, units};
 pub use encoding::encode_units;
 pub use identifier::{parse_id, push_id};
-pub use printing::printed;
+pub use printing::{printed, push_unit};

@@ -48,9 +48,9 @@ fn push_escape(text: &mut Vec<u8>, unit: u16) -> Result<(), AllocError>
     Ok(())
 }
 
-// Appends a unit in print.
+/// Appends a unit in print, which is ASCII and this project's own form. If memory runs out, the answer is `AllocError`.
 #[tactic(auto, unfolding(crate::specs::Printed::printed_unit))]
-fn push_unit(text: &mut Vec<u8>, unit: u16) -> Result<(), AllocError>
+pub fn push_unit(text: &mut Vec<u8>, unit: u16) -> Result<(), AllocError>
     ensures { OnOk result (text.new.items ≡ text.old.items ++ printed_unit unit) }
 {
     match plain_byte(unit) {

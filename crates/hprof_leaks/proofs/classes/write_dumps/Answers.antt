@@ -1,0 +1,1 @@
+use Rattle.hprof_leaks.proofs.classes.write_dumps.Goals as goal
