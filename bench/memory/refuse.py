@@ -55,17 +55,21 @@ LATE = [
 REPORTS = [["histo"], ["object", "c8"], ["object", "64"], ["object", "c9"], ["object", "ca"], ["path", "63"], ["path", "c9"], ["path", "ca"]]
 REPORTS += [["refs", "63"], ["refs", "c8"], ["refs", "c9"]]
 
+# Each report asked for twice, so that what is kept is made and then used.
+QUESTIONS = "".join(f"{' '.join(words)}\n" for words in [["help"], ["check"], *REPORTS, *REPORTS[::-1]]).encode()
+
 
 def passed_over(length):
     return b"\x7f\0\0\0\0" + length.to_bytes(4, "big") + bytes(length)
 
 
 def run(words, library, refuse_at, out):
-    """What the program answers, and whether a request was refused."""
+    """What the program answers, asked the questions if it reads any, and whether a request was refused."""
     out.unlink(missing_ok=True)
     read, write = os.pipe()
     process = subprocess.run(
         ["/bin/sh", "-c", f'exec 9>&{write} env LD_PRELOAD="$0" REFUSE_AT={refuse_at} "$@"', library, PROGRAM, *words],
+        input=QUESTIONS,
         capture_output=True,
         pass_fds=[write],
         timeout=60,
@@ -99,6 +103,7 @@ def main():
             "salvage": ["salvage", out, one, cut, two],
             "check": ["check", one, two],
             **{" ".join(words): [*words, *late] for words in REPORTS},
+            "ask": ["ask", *late],
             "passed over, 100,000 bytes": ["join", out, short],
             "passed over, 10,000,000 bytes": ["join", out, long],
         }

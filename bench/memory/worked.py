@@ -19,7 +19,7 @@ from pathlib import Path
 HERE = Path(__file__).resolve().parent
 CRATE = HERE.parent.parent / "crates" / "hprof_worked"
 PROGRAM = CRATE / "out" / "hprof_worked"
-CALLS = {"join", "join101", "salvage", "check", "histo", "object", "refs", "path", "edges", "layout", "unite", "read", "facts", "$"}
+CALLS = {"join", "join101", "salvage", "check", "histo", "object", "refs", "path", "ask", "edges", "layout", "unite", "read", "facts", "$"}
 TITLES = [
     "two names in any order and twice",
     "classes that come late",
@@ -38,6 +38,8 @@ TITLES = [
     "names in print",
     "no words",
     "the program reports on parts",
+    "each question",
+    "the program, asked questions",
 ]
 
 

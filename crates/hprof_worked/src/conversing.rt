@@ -61,6 +61,10 @@ pub(crate) fn check_asked(
     let Some(line) = question_of(alloc, call)? else {
         return Ok(());
     };
+    // Of that the lines of the case tell.
+    if whole.is_out_of_memory() {
+        return Ok(());
+    }
     let input = joined(alloc, &[line.as_bytes(), b"?\n", line.as_bytes()])?;
     let given = Given {
         parts,
