@@ -1,1 +1,0 @@
-use Rattle.hprof_leaks.proofs.classes.write_dumps.Goals as goal
