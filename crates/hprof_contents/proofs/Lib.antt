@@ -1,4 +1,4 @@
 mod FirstNamed
 mod Lookups
-mod OneText
+pub mod OneText
 mod Found

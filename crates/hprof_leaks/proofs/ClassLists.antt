@@ -1,25 +1,21 @@
 -- The class dumps among facts, gone over from the front.
-use Rattle.std.specs.Prelude.{◌↔◌}
-use Rattle.std.proofs.Common.{◌≡◌, ◌⊎◌, ℕ, Bool, true, false, cond, List, [], ◌∷◌, ◌++◌, Option, Some, None, Contains, refl, sym, ap, subst, ◌∙◌, inl, inr, append-nil}
-use Rattle.std.specs.Cmp.{IsTotalOrder}
-use Rattle.std.specs.Cmp.Lexicographic.{slice_cmp}
-use Rattle.std.specs.List.{AllByRecursion, cons_option, filter_map}
+use Rattle.std.proofs.Common.{◌≡◌, Bool, true, false, cond, List, [], ◌∷◌, Option, Some, None, length, refl, sym, ap, subst, ◌∙◌, inl, inr}
+use Rattle.std.specs.List.{AllByRecursion, cons_option}
 use Rattle.std.specs.List.Sorted.{IsStrictlySortedBy}
 use Rattle.std.specs.Ordering.{nat_cmp, ordering_then}
 use Rattle.std.specs.declared.cmp.Ordering.{Ordering}
 use Rattle.std.specs.declared.cmp.Ordering.TheVariants.{Less, Equal, Greater}
-use Rattle.std.proofs.lemmas.Cmp.{nat_cmp_total, on_total}
+use Rattle.hprof_values.specs.declared.ids.IdSize.{IdSize}
 use Rattle.hprof_items.specs.FactValue.{FactValue, Name, Load, Unload, Frame, Trace, Start, End, Rooted, Class, Instance, ObjArray, PrimArray}
 use Rattle.hprof_rows.specs.declared.table.Table.TheVariants as tables
-use Rattle.hprof_rows.specs.Facts.{Has}
+use Rattle.hprof_rows.specs.Conflict.{IsConsistent}
 use Rattle.hprof_rows.specs.Order.{IsBefore, IsCanonicalOrder}
 use Rattle.hprof_rows.specs.Tables.{facts_of_table, number_of_table, stands_in}
 use Rattle.hprof_lookup.specs.Classes.{ClassValue, HasDump, fact_of_class}
-use Rattle.hprof_histogram.proofs.Members.{IsIn, Contains-from_in, in_from_Contains, one_sorted}
+use Rattle.hprof_histogram.proofs.Members.{IsIn, Contains-from_in, in_from_Contains}
+use Rattle.hprof_naming.specs.Naming.{IsNaming, Naming}
+use Rattle.hprof_leaks.specs.ClassesText.{IsClassesText, classes_text}
 use Rattle.hprof_leaks.specs.ClassDumps.{AreClassDumps, class_in, dump_cmp, dumps_in}
-
-dump_cmp_total : IsTotalOrder dump_cmp
-dump_cmp_total = on_total (λ (dump : ClassValue). dump.id) nat_cmp_total
 
 -- a fact that is a class dump
 is_dump : (fact : FactValue) (dump : ClassValue) → class_in fact ≡ Some dump → fact ≡ fact_of_class dump
@@ -91,12 +87,6 @@ dumps_are_all facts ordered = record {
   );
 }
 
-pub one_list : (facts : List FactValue) (one other : List ClassValue) → AreClassDumps facts one → AreClassDumps facts other → one ≡ other
-one_list facts one other are too =
-    one_sorted dump_cmp_total one other are.ascend too.ascend
-    (λ dump is. in_from_Contains other dump ((too.exact dump).1 ((are.exact dump).0 (Contains-from_in one dump is))))
-    (λ dump is. in_from_Contains one dump ((are.exact dump).1 ((too.exact dump).0 (Contains-from_in other dump is))))
-
 -- ---- one by one
 
 -- a fact that stands in another table is no class dump
@@ -164,3 +154,19 @@ pub dumps_without : (fact : FactValue) (left rest : List FactValue) → left ≡
     → ((dump : ClassValue) → fact_of_class dump ≡ fact → ⊥) → dumps_in left ≡ dumps_in rest
 dumps_without fact left rest e none =
     ap dumps_in e ∙ ap (λ (found : Option ClassValue). cons_option found (dumps_in rest)) (no_class fact none)
+
+-- where no facts are left no bytes are
+pub none_left : (naming : Naming) (ids : IdSize) (facts left : List FactValue) → left ≡ [] → length (classes_text naming ids facts (dumps_in left)) ≡ 0
+none_left naming ids facts left none = ap (λ (l : List FactValue). length (classes_text naming ids facts (dumps_in l))) none
+
+-- the lines of all dumps are the report
+pub classes_text_is : (ids : IdSize) (facts : List FactValue) → IsConsistent facts → IsCanonicalOrder facts → (naming : Naming)
+    → IsNaming facts naming → IsClassesText ids facts (classes_text naming ids facts (dumps_in facts))
+classes_text_is ids facts agree ordered naming is = record {
+  agree = agree;
+  naming = naming;
+  is_naming = is;
+  dumps = dumps_in facts;
+  are_dumps = dumps_are_all facts ordered;
+  is = refl;
+}

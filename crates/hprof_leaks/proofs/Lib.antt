@@ -1,1 +1,3 @@
 pub mod ClassLists
+pub mod UnitCounts
+pub mod PrintedPieces

@@ -1,5 +1,5 @@
 -- The class dumps among facts.
-use Rattle.std.specs.Prelude.{◌↔◌, ℕ, List, Option, Some, None, Contains}
+use Rattle.std.specs.Prelude.{◌↔◌, List, Option, Some, None, Contains}
 use Rattle.std.specs.List.{filter_map}
 use Rattle.std.specs.List.Sorted.{IsStrictlySortedBy}
 use Rattle.std.specs.Ordering.{nat_cmp}

@@ -19,8 +19,11 @@ abbrev pub printed_units : List ℕ → List ℕ
 printed_units units = flat_map printed_unit units
 
 -- the number of units, and the units
+abbrev pub text_start : ℕ → List ℕ
+text_start count = codes "text " ++ (decimal count ++ codes " ")
+
 abbrev pub units_line : List ℕ → List ℕ
-units_line units = codes "text " ++ (decimal (length units) ++ (codes " " ++ (printed_units units ++ codes "\n")))
+units_line units = text_start (length units) ++ (printed_units units ++ codes "\n")
 
 abbrev pub no_text_line : ℕ → List ℕ
 no_text_line id = line_of (codes "no text at" ∷ id_digits id ∷ [])

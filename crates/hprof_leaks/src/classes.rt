@@ -21,12 +21,7 @@ use hprof_reports::write_line;
 use std::alloc::{AllocError, Global};
 
 /// Returns the end of a class's line: its objects, and its label.
-fn class_end(
-    alloc: Global,
-    bytes: u128,
-    count: u64,
-    label: &str,
-) -> Result<String, AllocError>
+fn class_end(alloc: Global, bytes: u128, count: u64, label: &str) -> Result<String, AllocError>
     ensures { IfOk result (λ end. string_bytes end ≡ class_end bytes count label.now) }
 {
     format!(in alloc; "{bytes} objects {count} {label}\n")
@@ -91,11 +86,7 @@ fn write_dumps<W: Target>(
 
 /// Writes the report `classes`: a line for each class dump, in order of identifier, with its superclass and the objects of the class. If
 /// the writer fails or memory runs out, the bytes written are the beginning of the report.
-pub fn write_classes<W: Target>(
-    alloc: Global,
-    heap: &Heap,
-    target: &mut W,
-) -> Result<(), WriteStop>
+pub fn write_classes<W: Target>(alloc: Global, heap: &Heap, target: &mut W) -> Result<(), WriteStop>
     requires { W.health target.old ≡ Well }
     ensures bytes { (text : List ℕ) × IsClassesText (size_of heap.now) (facts_of heap.now) text
         × WritesText (W.written target.old) (W.written target.new) result text }

@@ -1,14 +1,13 @@
 //! The report `text`: the text of an identifier.
 
-ghost use Rattle.std.specs.Prelude.{◌≡◌, ◌++◌, ℕ, List, IfOk, codes, string_bytes};
-ghost use Rattle.std.specs.Fmt.{decimal};
+ghost use Rattle.std.specs.Prelude.{◌≡◌, ℕ, List, IfOk, string_bytes};
 ghost use Rattle.hprof_devices.specs.declared.health.Health.TheVariants.{Well};
 ghost use Rattle.hprof_contents.specs.Texts.{text_value};
 ghost use Rattle.hprof_contents.specs.Units.{units_of};
 ghost use Rattle.hprof_lookup.specs.HeapFacts.{facts_of, size_of};
 ghost use Rattle.hprof_reports.specs.ObjectText.{nothing_line};
 ghost use Rattle.hprof_reports.specs.Stopping.{LeavesTarget, WritesText};
-ghost use Rattle.hprof_leaks.specs.TextReport.{IsTextLine, no_text_line, text_line, units_line};
+ghost use Rattle.hprof_leaks.specs.TextReport.{IsTextLine, no_text_line, text_line, text_start, units_line};
 
 use crate::units::{unit_count, write_units};
 use hprof_contents::{Text, Units, text_of};
@@ -21,7 +20,7 @@ use std::alloc::{AllocError, Global};
 
 /// Returns the beginning of a text's line: the number of its units.
 fn text_start(alloc: Global, count: usize) -> Result<String, AllocError>
-    ensures { IfOk result (λ start. string_bytes start ≡ codes "text " ++ (decimal count ++ codes " ")) }
+    ensures { IfOk result (λ start. string_bytes start ≡ text_start count) }
 {
     format!(in alloc; "text {count} ")
 }
@@ -41,7 +40,7 @@ fn write_units_line<W: Target>(
 ) -> Result<(), WriteStop>
     requires { W.health target.old ≡ Well }
     ensures bytes { WritesText (W.written target.old) (W.written target.new) result
-        (units_line (units_of units.coding units.bytes.now)) }
+        (units_line (units_of units.entry.coding units.entry.bytes.now)) }
     ensures health { LeavesTarget result (W.health target.new) }
 {
     write_line(text_start(alloc, unit_count(units)), target)?;
@@ -57,7 +56,7 @@ fn write_found<W: Target>(
     target: &mut W,
 ) -> Result<(), WriteStop>
     requires { W.health target.old ≡ Well }
-    ensures bytes { WritesText (W.written target.old) (W.written target.new) result (text_line id (text_value text)) }
+    ensures bytes { WritesText (W.written target.old) (W.written target.new) result (text_line id (text_value text.entry)) }
     ensures health { LeavesTarget result (W.health target.new) }
 {
     match text {

@@ -35,7 +35,7 @@ fn first_unit(bytes: &[u8], coding: Coding) -> Option<(u16, &[u8])>
 
 /// Returns the number of units.
 pub(crate) fn unit_count(units: Units<'_>) -> usize
-    ensures { result ≡ length (units_of units.coding units.bytes.now) }
+    ensures { result ≡ length (units_of units.entry.coding units.entry.bytes.now) }
 {
     match units.coding {
         Coding::Latin1 => units.bytes.len(),
@@ -67,7 +67,7 @@ pub(crate) fn write_units<W: Target>(
 ) -> Result<(), WriteStop>
     requires { W.health target.old ≡ Well }
     ensures bytes { WritesText (W.written target.old) (W.written target.new) result
-        (printed_units (units_of units.coding units.bytes.now)) }
+        (printed_units (units_of units.entry.coding units.entry.bytes.now)) }
     ensures health { LeavesTarget result (W.health target.new) }
 {
     let mut text = Vec::new(alloc);
