@@ -8,6 +8,9 @@ use Rattle.hprof_reports.specs.OneHistogramText.{one_histogram_text}
 use Rattle.hprof_reports.specs.OneObject.{one_object}
 use Rattle.hprof_reports.specs.OnePath.{one_path_text}
 use Rattle.hprof_reports.specs.OneRefs.{one_refs}
+use Rattle.hprof_leaks.specs.OneClasses.{one_classes_text}
+use Rattle.hprof_leaks.specs.OneObjects.{one_objects_text}
+use Rattle.hprof_leaks.specs.OneText.{one_text_line}
 use Rattle.hprof_dialogue.specs.declared.question.OneWord.{OneWord}
 use Rattle.hprof_dialogue.specs.declared.question.OneWord.TheVariants as ones
 use Rattle.hprof_dialogue.specs.declared.question.Question.{Question}
@@ -22,12 +25,14 @@ module _ (summaries : List PartSummary) (ids : IdSize) (facts : List FactValue) 
   one_word_report ones.Help one other is is_too = is ∙ sym is_too
   one_word_report ones.Check one other is is_too = one_check summaries facts one other is is_too
   one_word_report ones.Histogram one other is is_too = one_histogram_text ids facts one other is is_too
+  one_word_report ones.Classes one other is is_too = one_classes_text ids facts one other is is_too
 
   one_report_of : (subject : Subject) (id : ℕ) (one other : List ℕ) → IsReportOf ids facts subject id one → IsReportOf ids facts subject id other
       → one ≡ other
   one_report_of subjects.Object id = one_object ids facts id
   one_report_of subjects.Refs id = one_refs ids facts id
   one_report_of subjects.Path id = one_path_text ids facts id
+  one_report_of subjects.Text id = one_text_line ids facts id
 
   one_report : (question : Question) (one other : List ℕ) → IsReport summaries ids facts question one
       → IsReport summaries ids facts question other → one ≡ other
@@ -35,6 +40,8 @@ module _ (summaries : List PartSummary) (ids : IdSize) (facts : List FactValue) 
   one_report (questions.Word word) one other is is_too = one_word_report word one other is is_too
   one_report (questions.Of subject id) one other is is_too = one_report_of subject id one other is is_too
   one_report questions.NoIdentifier one other is is_too = is ∙ sym is_too
+  one_report (questions.Objects kind) one other is is_too = one_objects_text ids facts kind one other is is_too
+  one_report questions.NoKind one other is is_too = is ∙ sym is_too
   one_report questions.NotUnderstood one other is is_too = is ∙ sym is_too
 
   pub one_heap_answer : (question : Question) (one other : List ℕ) → IsHeapAnswer summaries ids facts question one

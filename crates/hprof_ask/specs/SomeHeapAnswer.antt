@@ -14,6 +14,8 @@ use Rattle.hprof_lookup.specs.HeapFacts.{facts_of, size_of}
 use Rattle.hprof_lookup.proofs.ClassFacts as classes
 use Rattle.hprof_lookup.proofs.ObjectFacts as objects
 use Rattle.hprof_layouts.proofs.FieldAnswers.{fields_exist}
+use Rattle.hprof_histogram.specs.declared.row.Kind.{Kind}
+use Rattle.hprof_histogram.proofs.ObjectOrder.{some_list}
 use Rattle.hprof_histogram.proofs.SomeHistogram.{at_least_one}
 use Rattle.hprof_reach.proofs.SomeReach.{some_distance, some_path}
 use Rattle.hprof_naming.proofs.Namings.{naming_exists}
@@ -22,6 +24,11 @@ use Rattle.hprof_reports.specs.Line.{text_of_lines}
 use Rattle.hprof_reports.specs.ObjectText.{IsObjectText, found_text}
 use Rattle.hprof_reports.specs.PathText.{IsPathText, reached_text}
 use Rattle.hprof_reports.specs.RefsText.{IsRefsText, edge_line}
+use Rattle.hprof_contents.proofs.OneText.{text_exists}
+use Rattle.hprof_leaks.specs.ClassesText.{IsClassesText, classes_text}
+use Rattle.hprof_leaks.specs.ObjectsText.{IsObjectsText, objects_text}
+use Rattle.hprof_leaks.specs.TextReport.{IsTextLine, text_line}
+use Rattle.hprof_leaks.proofs.ClassLists.{some_dumps}
 use Rattle.hprof_dialogue.specs.declared.question.OneWord.{OneWord}
 use Rattle.hprof_dialogue.specs.declared.question.OneWord.TheVariants as ones
 use Rattle.hprof_dialogue.specs.declared.question.Question.{Question}
@@ -89,6 +96,24 @@ module _ (ids : IdSize) (facts : List FactValue) (agree : IsConsistent facts) wh
         record { distance = distance.0; is_distance = distance.1; path = path.0; is_path = path.1; is = refl },
       )
 
+  pub some_classes : (text : List ℕ) × IsClassesText ids facts text
+  some_classes =
+      let naming = naming_exists facts in
+      let dumps = some_dumps facts agree in (
+        classes_text naming.0 ids facts dumps.0,
+        record { agree = agree; naming = naming.0; is_naming = naming.1; dumps = dumps.0; are_dumps = dumps.1; is = refl },
+      )
+
+  some_objects : (kind : Kind) → (text : List ℕ) × IsObjectsText ids facts kind text
+  some_objects kind =
+      let objects = some_list ids facts kind in
+      (objects_text objects.0, record { objects = objects.0; are_objects = objects.1; is = refl })
+
+  some_text : (id : ℕ) → (text : List ℕ) × IsTextLine ids facts id text
+  some_text id =
+      let text = text_exists ids facts id in
+      (text_line id text.0, record { agree = agree; text = text.0; is_text = text.1; is = refl })
+
   -- ---- answers
 
   module _ (summaries : List PartSummary) where
@@ -96,17 +121,21 @@ module _ (ids : IdSize) (facts : List FactValue) (agree : IsConsistent facts) wh
     some_word_report ones.Help = (help_text, refl)
     some_word_report ones.Check = some_check summaries facts
     some_word_report ones.Histogram = some_histogram
+    some_word_report ones.Classes = some_classes
 
     some_report_of : (subject : Subject) (id : ℕ) → (report : List ℕ) × IsReportOf ids facts subject id report
     some_report_of subjects.Object id = some_object id
     some_report_of subjects.Refs id = some_refs id
     some_report_of subjects.Path id = some_path_text id
+    some_report_of subjects.Text id = some_text id
 
     some_report : (question : Question) → (report : List ℕ) × IsReport summaries ids facts question report
     some_report questions.Nothing = ([], refl)
     some_report (questions.Word word) = some_word_report word
     some_report (questions.Of subject id) = some_report_of subject id
     some_report questions.NoIdentifier = (codes "not an identifier\n", refl)
+    some_report (questions.Objects kind) = some_objects kind
+    some_report questions.NoKind = (codes "not a class or a type\n", refl)
     some_report questions.NotUnderstood = (codes "not understood\n", refl)
 
     -- of facts that agree

@@ -9,14 +9,21 @@ ghost use Rattle.hprof_ask.specs.HeapAnswers.{IsHeapAnswer, IsReport, IsReportOf
 ghost use Rattle.hprof_ask.specs.Kept.{IsKept};
 
 use crate::kept::Kept;
-use crate::reports::{write_kept_histogram, write_kept_path, write_kept_refs};
+use crate::reports::{
+    write_kept_classes, write_kept_histogram, write_kept_path, write_kept_refs,
+};
 use hprof_devices::Target;
 use hprof_dialogue::{Answers, DialogueStop, OneWord, Question, Subject};
 use hprof_engine::WriteStop;
 use hprof_heap::Heap;
+use hprof_leaks::{write_objects, write_text};
 use hprof_reports::{write_check, write_object, write_str};
 use hprof_stream::PartSummary;
 use std::alloc::Global;
+
+/// The questions that can be asked, one a line.
+const HELP: &str =
+    "help\ncheck\nhisto\nclasses\nobject ID\nrefs ID\npath ID\ntext ID\nobjects KIND\n";
 
 /// Answers questions over a heap and the summaries of its parts. Each answer is the text of the report that the question names, or a line,
 /// and an empty line behind it.
@@ -62,9 +69,10 @@ fn write_word_report<W: Target>(
     ensures kept { IsKept (size_of answers.now.heap.now) (facts_of answers.now.heap.now) kept.new }
 {
     match word {
-        OneWord::Help => { write_str("help\ncheck\nhisto\nobject ID\nrefs ID\npath ID\n", target) }
+        OneWord::Help => write_str(HELP, target),
         OneWord::Check => write_check_report(answers.heap, answers.summaries, target),
         OneWord::Histogram => write_kept_histogram(alloc, answers.heap, kept, target),
+        OneWord::Classes => write_kept_classes(alloc, answers.heap, kept, target),
     }
 }
 
@@ -88,6 +96,7 @@ fn write_report_of<W: Target>(
         Subject::Object => write_object(alloc, heap, id, target),
         Subject::Refs => write_kept_refs(alloc, heap, kept, id, target),
         Subject::Path => write_kept_path(alloc, heap, kept, id, target),
+        Subject::Text => write_text(alloc, heap, id, target),
     }
 }
 
@@ -114,6 +123,8 @@ fn write_report<W: Target>(
             write_report_of(alloc, answers.heap, kept, subject, id, target)
         }
         Question::NoIdentifier => write_str("not an identifier\n", target),
+        Question::Objects(kind) => write_objects(alloc, answers.heap, kind, target),
+        Question::NoKind => write_str("not a class or a type\n", target),
         Question::NotUnderstood => write_str("not understood\n", target),
     }
 }

@@ -16,6 +16,8 @@ pub struct Kept {
     pub(crate) referrers: Option<ReferrerIndex>,
     /// The text of the class histogram.
     pub(crate) histogram: Option<Vec<u8>>,
+    /// The text of the report `classes`.
+    pub(crate) classes: Option<Vec<u8>>,
 }
 
 impl Kept {
@@ -29,6 +31,7 @@ impl Kept {
             reach: None,
             referrers: None,
             histogram: None,
+            classes: None,
         }
     }
 }

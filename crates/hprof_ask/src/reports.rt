@@ -6,6 +6,7 @@ ghost use Rattle.hprof_lookup.specs.HeapFacts.{facts_of, size_of};
 ghost use Rattle.hprof_reports.specs.HistogramText.{IsHistogramText};
 ghost use Rattle.hprof_reports.specs.PathText.{IsPathText};
 ghost use Rattle.hprof_reports.specs.RefsText.{IsRefsText};
+ghost use Rattle.hprof_leaks.specs.ClassesText.{IsClassesText};
 ghost use Rattle.hprof_reports.specs.Stopping.{LeavesTarget, WritesText};
 ghost use Rattle.hprof_ask.specs.Kept.{IsKept};
 
@@ -13,6 +14,7 @@ use crate::kept::Kept;
 use hprof_devices::{Device, Target, push_all};
 use hprof_engine::WriteStop;
 use hprof_heap::Heap;
+use hprof_leaks::write_classes;
 use hprof_lookup::holds_of_heap;
 use hprof_reach::reach_of;
 use hprof_referrers::index_referrers;
@@ -70,6 +72,31 @@ fn keep_histogram(alloc: Global, heap: &Heap, kept: &mut Kept) -> Result<(), All
     Ok(())
 }
 
+/// Returns the text of the report `classes`. The error is that memory ran out.
+fn classes_text(alloc: Global, heap: &Heap) -> Result<Vec<u8>, AllocError>
+    ensures { IfOk result (λ text. IsClassesText (size_of heap.now) (facts_of heap.now) text.items) }
+{
+    let mut target = Device::new(Vec::new(alloc));
+    match write_classes(alloc, heap, &mut target) {
+        Ok(()) => Ok(target.into_inner()),
+        // A list fails to take a byte only where memory runs out.
+        Err(_) => Err(AllocError),
+    }
+}
+
+/// Makes the text of the report `classes`, if it is not kept yet. If memory runs out, nothing has changed.
+fn keep_classes(alloc: Global, heap: &Heap, kept: &mut Kept) -> Result<(), AllocError>
+    requires { IsKept (size_of heap.now) (facts_of heap.now) kept.old }
+    ensures some { OnOk result (IsSome kept.new.classes) }
+    ensures kept { IsKept (size_of heap.now) (facts_of heap.now) kept.new }
+{
+    if kept.classes.is_none() {
+        let text = classes_text(alloc, heap)?;
+        kept.classes = Some(text);
+    }
+    Ok(())
+}
+
 /// Writes bytes. If the writer fails, the bytes written are the beginning of them.
 fn write_bytes<W: Target>(bytes: &[u8], target: &mut W) -> Result<(), WriteStop>
     requires { W.health target.old ≡ Well }
@@ -100,6 +127,30 @@ pub(crate) fn write_kept_histogram<W: Target>(
     holds_of_heap(heap);
     keep_histogram(alloc, heap, kept)?;
     match &kept.histogram {
+        Some(text) => write_bytes(text, target),
+        // It was made.
+        None => unreachable!(),
+    }
+}
+
+/// Writes the report `classes` from the text that is kept, or is made now. If the writer fails or memory runs out, the bytes written are
+/// the beginning of the report.
+pub(crate) fn write_kept_classes<W: Target>(
+    alloc: Global,
+    heap: &Heap,
+    kept: &mut Kept,
+    target: &mut W,
+) -> Result<(), WriteStop>
+    requires well { W.health target.old ≡ Well }
+    requires kept { IsKept (size_of heap.now) (facts_of heap.now) kept.old }
+    ensures bytes { (text : List ℕ) × IsClassesText (size_of heap.now) (facts_of heap.now) text
+        × WritesText (W.written target.old) (W.written target.new) result text }
+    ensures health { LeavesTarget result (W.health target.new) }
+    ensures kept { IsKept (size_of heap.now) (facts_of heap.now) kept.new }
+{
+    holds_of_heap(heap);
+    keep_classes(alloc, heap, kept)?;
+    match &kept.classes {
         Some(text) => write_bytes(text, target),
         // It was made.
         None => unreachable!(),

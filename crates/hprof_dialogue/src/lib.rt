@@ -9,5 +9,5 @@ mod stop;
 
 pub use asker::Asker;
 pub use dialogue::{Answers, converse};
-pub use question::{OneWord, Question, Subject, question_of};
+pub use question::{OneWord, Question, Subject, kind_of, question_of};
 pub use stop::DialogueStop;

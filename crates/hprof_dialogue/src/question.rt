@@ -3,10 +3,15 @@
 ghost use Rattle.std.specs.Prelude.{◌≡◌, ◌≢◌, ◌↔◌, ◌++◌, ℕ, List, IsTrue, MatchOption, take, ◌∷◌, []};
 ghost use Rattle.std.specs.Option.{SomeIff};
 ghost use Rattle.hprof_text.specs.Identifier.{IsIdText, id_value};
-ghost use Rattle.hprof_dialogue.specs.Asked.{Asks, AsksOf, IsQuestion, IsWord, word_of};
+ghost use Rattle.hprof_histogram.specs.declared.row.Kind.{Kind};
+ghost use Rattle.hprof_values.specs.declared.basic.Basic.{Basic};
+ghost use Rattle.hprof_histogram.specs.declared.row.Kind.TheVariants as kinds;
+ghost use Rattle.hprof_dialogue.specs.Asked.{Asks, AsksOf, HasWord, IsQuestion, IsWord, NamesKind, kind_front, word_of};
 ghost use Rattle.hprof_dialogue.specs.Lines.{IsBeforeFeed};
 
+use hprof_histogram::Kind;
 use hprof_text::parse_id;
+use hprof_values::Basic;
 
 /// The length of the longest line that is understood, in bytes.
 pub(crate) const LONGEST_LINE: usize = 4096;
@@ -20,6 +25,8 @@ pub enum OneWord {
     Check,
     /// `histo`: the class histogram.
     Histogram,
+    /// `classes`: each class dump, with the objects of the class.
+    Classes,
 }
 
 /// A question about an identifier.
@@ -31,6 +38,8 @@ pub enum Subject {
     Refs,
     /// `path`: the shortest path from a GC root.
     Path,
+    /// `text`: its text, if it is a string or an array of chars or bytes.
+    Text,
 }
 
 /// The question of a line.
@@ -44,6 +53,10 @@ pub enum Question {
     Of(Subject, u64),
     /// A question about a word that is no identifier.
     NoIdentifier,
+    /// `objects`: the objects of a class or a type.
+    Objects(Kind),
+    /// The objects are asked for of a word that names neither a class nor a type.
+    NoKind,
     /// None of these.
     NotUnderstood,
 }
@@ -60,6 +73,9 @@ fn one_word(line: &[u8]) -> Option<OneWord>
     }
     if line == b"histo".as_slice() {
         return Some(OneWord::Histogram);
+    }
+    if line == b"classes".as_slice() {
+        return Some(OneWord::Classes);
     }
     None
 }
@@ -85,8 +101,7 @@ fn is_word(bytes: &[u8]) -> bool
 
 /// Returns the word behind that front, if the line is the front and a word.
 fn word_behind<'a>(line: &'a [u8], front: &[u8]) -> Option<&'a [u8]>
-    ensures { MatchOption result ((word : List ℕ) → line.now ≡ front.now ++ word → IsWord word → ⊥)
-        (λ word. (line.now ≡ front.now ++ word.now) × IsWord word.now) }
+    ensures { MatchOption result ((word : List ℕ) → HasWord line.now front.now word → ⊥) (λ word. HasWord line.now front.now word.now) }
 {
     let word = behind(line, front)?;
     if is_word(word) { Some(word) } else { None }
@@ -106,6 +121,9 @@ fn subject_of(line: &[u8]) -> Option<(Subject, &[u8])>
     if let Some(word) = word_behind(line, b"path ") {
         return Some((Subject::Path, word));
     }
+    if let Some(word) = word_behind(line, b"text ") {
+        return Some((Subject::Text, word));
+    }
     None
 }
 
@@ -119,6 +137,67 @@ fn id_of(word: &[u8]) -> Option<u64>
     }
 }
 
+/// Returns the type whose arrays bytes name, if they do.
+fn element_of(word: &[u8]) -> Option<Basic>
+    ensures { MatchOption result ((elem : Basic) → NamesKind word.now (kinds.Prim elem) → ⊥) (λ elem. NamesKind word.now (kinds.Prim elem)) }
+{
+    if word == b"boolean[]".as_slice() {
+        return Some(Basic::Boolean);
+    }
+    if word == b"char[]".as_slice() {
+        return Some(Basic::Char);
+    }
+    if word == b"float[]".as_slice() {
+        return Some(Basic::Float);
+    }
+    if word == b"double[]".as_slice() {
+        return Some(Basic::Double);
+    }
+    if word == b"byte[]".as_slice() {
+        return Some(Basic::Byte);
+    }
+    if word == b"short[]".as_slice() {
+        return Some(Basic::Short);
+    }
+    if word == b"int[]".as_slice() {
+        return Some(Basic::Int);
+    }
+    if word == b"long[]".as_slice() {
+        return Some(Basic::Long);
+    }
+    None
+}
+
+/// Returns the class or the type that bytes name: a class by its identifier, arrays of a type by the name of the type and `[]`.
+pub fn kind_of(word: &[u8]) -> Option<Kind>
+    ensures { MatchOption result ((kind : Kind) → NamesKind word.now kind → ⊥) (NamesKind word.now) }
+{
+    match id_of(word) {
+        Some(id) => Some(Kind::Class(id)),
+        None => Some(Kind::Prim(element_of(word)?)),
+    }
+}
+
+/// Returns the question about an identifier that a word names.
+fn asked_of(subject: Subject, word: &[u8]) -> Question
+    ensures { (line : List ℕ) → AsksOf line subject word.now → IsQuestion line result }
+{
+    match id_of(word) {
+        Some(id) => Question::Of(subject, id),
+        None => Question::NoIdentifier,
+    }
+}
+
+/// Returns the question for the objects of a class or a type that a word names.
+fn asked_objects(word: &[u8]) -> Question
+    ensures { (line : List ℕ) → HasWord line kind_front word.now → IsQuestion line result }
+{
+    match kind_of(word) {
+        Some(kind) => Question::Objects(kind),
+        None => Question::NoKind,
+    }
+}
+
 /// Returns the question that the words of a line ask.
 fn asked(line: &[u8]) -> Question
     ensures { IsQuestion line.now result }
@@ -129,12 +208,12 @@ fn asked(line: &[u8]) -> Question
     if let Some(one) = one_word(line) {
         return Question::Word(one);
     }
-    let Some((subject, word)) = subject_of(line) else {
-        return Question::NotUnderstood;
-    };
-    match id_of(word) {
-        Some(id) => Question::Of(subject, id),
-        None => Question::NoIdentifier,
+    if let Some((subject, word)) = subject_of(line) {
+        return asked_of(subject, word);
+    }
+    match word_behind(line, b"objects ") {
+        Some(word) => asked_objects(word),
+        None => Question::NotUnderstood,
     }
 }
 

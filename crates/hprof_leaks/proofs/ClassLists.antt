@@ -10,6 +10,7 @@ use Rattle.hprof_items.specs.FactValue.{FactValue, Name, Load, Unload, Frame, Tr
 use Rattle.hprof_rows.specs.declared.table.Table.TheVariants as tables
 use Rattle.hprof_rows.specs.Conflict.{IsConsistent}
 use Rattle.hprof_rows.specs.Order.{IsBefore, IsCanonicalOrder}
+use Rattle.hprof_rows.proofs.Inserting.{agreeing-order}
 use Rattle.hprof_rows.specs.Tables.{facts_of_table, number_of_table, stands_in}
 use Rattle.hprof_lookup.specs.Classes.{ClassValue, HasDump, fact_of_class}
 use Rattle.hprof_histogram.proofs.Members.{IsIn, Contains-from_in, in_from_Contains}
@@ -170,3 +171,18 @@ classes_text_is ids facts agree ordered naming is = record {
   are_dumps = dumps_are_all facts ordered;
   is = refl;
 }
+
+-- facts that agree have a list of their class dumps
+pub some_dumps : (facts : List FactValue) → IsConsistent facts → (dumps : List ClassValue) × AreClassDumps facts dumps
+some_dumps facts agree =
+    let rows = agreeing-order facts agree in
+    let are = dumps_are_all rows.0 rows.1 in (
+      dumps_in rows.0,
+      record {
+        ascend = are.ascend;
+        exact = λ dump. (
+          λ there. (rows.2 (fact_of_class dump)).0 ((are.exact dump).0 there),
+          λ has. (are.exact dump).1 ((rows.2 (fact_of_class dump)).1 has),
+        );
+      },
+    )
