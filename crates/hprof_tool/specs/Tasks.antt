@@ -5,6 +5,10 @@ use Rattle.hprof_text.specs.Identifier.{IsIdText, id_value}
 use Rattle.hprof_engine.specs.Makes.{IsDump, IsMadeOf}
 use Rattle.hprof_reports.specs.Checking.{IsCheckText, check_making}
 use Rattle.hprof_reports.specs.HistogramReporting.{IsHistogramReport, histogram_making}
+use Rattle.hprof_histogram.specs.declared.row.Kind.{Kind}
+use Rattle.hprof_dialogue.specs.Asked.{NamesKind}
+use Rattle.hprof_leaks.specs.ClassesText.{IsClassesReport, classes_making}
+use Rattle.hprof_leaks.specs.ObjectsText.{IsObjectsReport, objects_making}
 use Rattle.hprof_salvage.specs.declared.salvaged.Salvaged.{Salvaged}
 use Rattle.hprof_tool.specs.declared.command.NewFile.TheVariants as files
 use Rattle.hprof_tool.specs.declared.command.Question.TheVariants as questions
@@ -26,13 +30,17 @@ AsksFor word tasks.JoinInput = ⊥
 AsksFor word (tasks.Salvage out parts) = word ≡ codes "salvage"
 AsksFor word (tasks.Check parts) = word ≡ codes "check"
 AsksFor word (tasks.Histogram parts) = word ≡ codes "histo"
+AsksFor word (tasks.Classes parts) = word ≡ codes "classes"
+AsksFor word (tasks.Objects kind parts) = word ≡ codes "objects"
 AsksFor word (tasks.Converse parts) = word ≡ codes "ask"
 AsksFor word (tasks.Ask questions.Object id parts) = word ≡ codes "object"
 AsksFor word (tasks.Ask questions.Path id parts) = word ≡ codes "path"
 AsksFor word (tasks.Ask questions.Refs id parts) = word ≡ codes "refs"
+AsksFor word (tasks.Ask questions.Text id parts) = word ≡ codes "text"
 AsksFor word (tasks.Write files.Dump101 out parts) = word ≡ codes "join101"
 AsksFor word (tasks.Write files.Dump out parts) = (word ≢ codes "salvage") × (word ≢ codes "check") × (word ≢ codes "histo")
-    × (word ≢ codes "object") × (word ≢ codes "path") × (word ≢ codes "refs") × (word ≢ codes "ask") × (word ≢ codes "join101")
+    × (word ≢ codes "classes") × (word ≢ codes "objects") × (word ≢ codes "object") × (word ≢ codes "path") × (word ≢ codes "refs")
+    × (word ≢ codes "text") × (word ≢ codes "ask") × (word ≢ codes "join101")
 
 -- answered: what came of the names of files
 -- tells, holds: what a file has left to tell, and what one tells that it holds;  left, contents: the same of the streams
@@ -47,6 +55,9 @@ module _ {F I O : Type 0} (answered : Answered F) (tells holds : F → Option (L
       × ((text : List ℕ) × TellsFaults salvaged.faults.items text × Appends (contents old) (contents new) text)
   DoesTask (tasks.Check parts) input old new = IsMadeOfFiles (IsMadeOf IsCheckText) answered tells contents parts.items old new
   DoesTask (tasks.Histogram parts) input old new = IsMadeOfFiles (IsMadeOf IsHistogramReport) answered tells contents parts.items old new
+  DoesTask (tasks.Classes parts) input old new = IsMadeOfFiles (IsMadeOf IsClassesReport) answered tells contents parts.items old new
+  DoesTask (tasks.Objects kind parts) input old new = (named : Kind) × NamesKind kind.now named
+      × IsMadeOfFiles (IsMadeOf (IsObjectsReport named)) answered tells contents parts.items old new
   DoesTask (tasks.Converse parts) input old new = AnswersQuestions answered tells left contents parts.items input old new
   DoesTask (tasks.Ask question id parts) input old new =
       IsIdText id.now × IsMadeOfFiles (IsMadeOf (is_answer question (id_value id.now))) answered tells contents parts.items old new
@@ -59,6 +70,9 @@ module _ {F I O : Type 0} (answered : Answered F) (tells holds : F → Option (L
       (after : O) × (new ≡ Some after) × RefusesSalvage answered tells holds parts.items out.now old after why
   RefusesTask (tasks.Check parts) input old why new = RefusesReport check_making answered tells contents parts.items old why new
   RefusesTask (tasks.Histogram parts) input old why new = RefusesReport histogram_making answered tells contents parts.items old why new
+  RefusesTask (tasks.Classes parts) input old why new = RefusesReport classes_making answered tells contents parts.items old why new
+  RefusesTask (tasks.Objects kind parts) input old why new = (named : Kind) × NamesKind kind.now named
+      × RefusesReport (objects_making named) answered tells contents parts.items old why new
   RefusesTask (tasks.Converse parts) input old why new = RefusesQuestions answered tells left contents parts.items input old why new
   RefusesTask (tasks.Ask question id parts) input old why new =
       IsIdText id.now × RefusesReport (answer_making question (id_value id.now)) answered tells contents parts.items old why new

@@ -37,6 +37,18 @@ pub(crate) enum Task<'a> {
         /// The names of the parts, in order.
         parts: Vec<&'a str>,
     },
+    /// To report the class dumps in the parts in files.
+    Classes {
+        /// The names of the parts, in order.
+        parts: Vec<&'a str>,
+    },
+    /// To report the objects of a class or a type.
+    Objects {
+        /// The class or the type, as text.
+        kind: &'a str,
+        /// The names of the parts, in order.
+        parts: Vec<&'a str>,
+    },
     /// To answer questions on standard input about the heap of the parts in files.
     Converse {
         /// The names of the parts, in order.
@@ -71,6 +83,8 @@ pub(crate) enum Question {
     Path,
     /// The references to it.
     Refs,
+    /// Its text.
+    Text,
 }
 
 /// Returns the argument for the names of the parts, any number of them.
@@ -125,6 +139,19 @@ fn asking_command<'a>(
         .arg(parts_arg(alloc))
 }
 
+/// Returns the command that reports on a class or a type.
+fn objects_command<'a>(alloc: Global) -> Result<Command<'a>, AllocError> {
+    let kind = Arg::new(alloc, "kind")
+        .value_name("KIND")
+        .help("The identifier of a class, in hexadecimal, or a type of arrays, as byte[]")
+        .required(true)
+        .action(ArgAction::Set);
+    Command::new(alloc, "objects")
+        .about("Says which objects a class or a type has, the largest first")
+        .arg(kind)?
+        .arg(parts_arg(alloc))
+}
+
 /// Returns the program's command line.
 fn command<'a>(alloc: Global) -> Result<Command<'a>, AllocError> {
     Command::new(alloc, "hprof")
@@ -153,6 +180,12 @@ fn command<'a>(alloc: Global) -> Result<Command<'a>, AllocError> {
             "histo",
             "Says how many objects of each class there are, and how many bytes they have",
         )?)?
+        .subcommand(reporting_command(
+            alloc,
+            "classes",
+            "Says what superclass each class has, and how many objects and bytes",
+        )?)?
+        .subcommand(objects_command(alloc)?)?
         .subcommand(asking_command(
             alloc,
             "object",
@@ -164,6 +197,11 @@ fn command<'a>(alloc: Global) -> Result<Command<'a>, AllocError> {
             "Says how few references lead to an identifier from a root, and by which path",
         )?)?
         .subcommand(asking_command(alloc, "refs", "Says what refers to an identifier")?)?
+        .subcommand(asking_command(
+            alloc,
+            "text",
+            "Says the text of a string, or of an array of chars or bytes",
+        )?)?
         .subcommand(reporting_command(
             alloc,
             "ask",
@@ -186,10 +224,13 @@ fn task_named<'a>(alloc: Global, name: &str, words: &ArgMatches<'a>) -> Result<T
     let parts = parts_of(alloc, words)?;
     let id = words.get_str("id").unwrap_or("");
     let out = words.get_str("out").unwrap_or("");
+    let kind = words.get_str("kind").unwrap_or("");
     Ok(match name {
         "salvage" => Task::Salvage { out, parts },
         "check" => Task::Check { parts },
         "histo" => Task::Histogram { parts },
+        "classes" => Task::Classes { parts },
+        "objects" => Task::Objects { kind, parts },
         "ask" => Task::Converse { parts },
         "object" => Task::Ask {
             question: Question::Object,
@@ -203,6 +244,11 @@ fn task_named<'a>(alloc: Global, name: &str, words: &ArgMatches<'a>) -> Result<T
         },
         "refs" => Task::Ask {
             question: Question::Refs,
+            id,
+            parts,
+        },
+        "text" => Task::Ask {
+            question: Question::Text,
             id,
             parts,
         },

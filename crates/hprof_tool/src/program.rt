@@ -4,6 +4,9 @@ ghost use Rattle.std.specs.Prelude.{◌≡◌, ◌≢◌, ℕ, List, Some, IfOk,
 ghost use Rattle.std.specs.Io.KnownBytes.{Appends};
 ghost use Rattle.hprof_engine.specs.Makes.{IsDump, IsMadeOf, making_of};
 ghost use Rattle.hprof_text.specs.Identifier.{IsIdText, id_value};
+ghost use Rattle.hprof_histogram.specs.declared.row.Kind.{Kind};
+ghost use Rattle.hprof_dialogue.specs.Asked.{NamesKind};
+ghost use Rattle.hprof_leaks.specs.ObjectsText.{IsObjectsReport, objects_making};
 ghost use Rattle.hprof_tool.specs.Conversing.{AnswersQuestions, RefusesQuestions};
 ghost use Rattle.hprof_tool.specs.Program.{IsMadeOfStream, IsMadeInFile, IsMadeOfFiles};
 ghost use Rattle.hprof_tool.specs.SalvagedFiles.{IsSalvagedFile};
@@ -15,11 +18,16 @@ ghost use Rattle.hprof_tool.specs.declared.program.salvaging.Written.{Written};
 
 use crate::command::{NewFile, Question, Task, task_of};
 use crate::status::Status;
-use answers::{Ended, answer_no_id, answer_no_words, answer_outcome, answer_stream, answer_words};
+use answers::{
+    Ended, answer_no_id, answer_no_kind, answer_no_words, answer_outcome, answer_stream,
+    answer_words,
+};
 use conversing::ask_files;
 use folder::Folder;
+use hprof_dialogue::kind_of;
 use hprof_dump101::Dump101;
 use hprof_engine::{Dump, Product};
+use hprof_leaks::{ClassesReport, ObjectsReport, TextReport};
 use hprof_reports::{Check, HistogramReport, ObjectReport, PathReport, RefsReport};
 use hprof_text::parse_id;
 use joining::{join_stream, report_files, write_file};
@@ -191,7 +199,35 @@ fn ask<F: Folder, O: Write + Drop, E: Write>(
         Question::Object => report(alloc, files, &ObjectReport { id }, names, output, errors),
         Question::Path => report(alloc, files, &PathReport { id }, names, output, errors),
         Question::Refs => report(alloc, files, &RefsReport { id }, names, output, errors),
+        Question::Text => report(alloc, files, &TextReport { id }, names, output, errors),
     }
+}
+
+/// Writes the report `objects` on a class or a type to `output`, which it gives back. A word that names neither is told before any part is
+/// opened.
+fn objects<F: Folder, O: Write + Drop, E: Write>(
+    alloc: Global,
+    files: &F,
+    kind: &str,
+    names: &[&str],
+    output: O,
+    errors: &mut E,
+) -> Ended<O>
+    ensures done { result.status ≡ Status.Done → (named : Kind) × NamesKind kind.now named × ((written : O) × (result.output ≡ Some written)
+        × IsMadeOfFiles (IsMadeOf (IsObjectsReport named)) (F.answered files.now) F.File.remaining O.contents names.now output written) }
+    ensures refused { result.status ≡ Status.Refused → (named : Kind) × NamesKind kind.now named × ((why : Refused)
+        × RefusesReport (objects_making named) (F.answered files.now) F.File.remaining O.contents names.now output why result.output) }
+    ensures understood { (named : Kind) → NamesKind kind.now named → result.status ≢ Status.NotUnderstood }
+    ensures no_kind { ((named : Kind) → NamesKind kind.now named → ⊥)
+        → (result.status ≡ Status.NotUnderstood) × (result.output ≡ Some output) }
+{
+    let Some(kind) = kind_of(kind.as_bytes()) else {
+        return Ended {
+            status: answer_no_kind(errors),
+            output: Some(output),
+        };
+    };
+    report(alloc, files, &ObjectsReport { kind }, names, output, errors)
 }
 
 /// Answers questions that come as lines of `input` about the heap of parts in files, on `output`, which it gives back.
@@ -256,6 +292,12 @@ fn perform<F: Folder, I: Read + Drop, O: Write + Drop, E: Write, P: Write + Drop
         Task::Histogram { parts } => {
             report(alloc, files, &HistogramReport, &parts, output, errors)
         }
+        Task::Classes { parts } => {
+            report(alloc, files, &ClassesReport, &parts, output, errors)
+        }
+        Task::Objects { kind, parts } => {
+            objects(alloc, files, kind, &parts, output, errors)
+        }
         Task::Converse { parts } => {
             converse(alloc, files, &parts, input, prompts, output, errors)
         }
@@ -272,8 +314,8 @@ fn perform<F: Folder, I: Read + Drop, O: Write + Drop, E: Write, P: Write + Drop
 /// - Without a word behind the program's name, it joins the part on `input` to `output`.
 /// - `join OUT PART..` and `join101 OUT PART..` join parts in files to a new file.
 /// - `salvage OUT PART..` salvages parts in files to a new file, and tells their faults on `output`.
-/// - `check PART..`, `histo PART..`, `object ID PART..`, `path ID PART..` and `refs ID PART..` write a report on parts in files to
-///   `output`.
+/// - `check PART..`, `histo PART..`, `classes PART..`, `objects KIND PART..`, `object ID PART..`, `path ID PART..`, `refs ID PART..` and
+///   `text ID PART..` write a report on parts in files to `output`.
 /// - `ask PART..` reads parts in files, and answers on `output` the questions that come as lines on `input`. It prompts for each line on
 ///   `prompts`, if there are prompts.
 pub fn run<F: Files, I: Read + Drop, O: Write + Drop, E: Write, P: Write + Drop>(

@@ -12,6 +12,8 @@ use hprof_ask::{AskFault, ask_to};
 use hprof_devices::Device;
 use hprof_dialogue::DialogueStop;
 use hprof_engine::ToolFault;
+use hprof_histogram::Kind;
+use hprof_naming::type_word;
 use hprof_stream::Limits;
 use std::alloc::{AllocError, Global};
 
@@ -32,9 +34,16 @@ fn question_of(alloc: Global, call: Call) -> Result<Option<String>, AllocError> 
     let line = match call {
         Call::Check => String::from_str(alloc, "check\n")?,
         Call::Histo => String::from_str(alloc, "histo\n")?,
+        Call::Classes => String::from_str(alloc, "classes\n")?,
+        Call::Objects(Kind::Class(class)) => format!(in alloc; "objects {class:x}\n")?,
+        Call::Objects(Kind::Prim(elem)) => {
+            let word = type_word(elem);
+            format!(in alloc; "objects {word}[]\n")?
+        }
         Call::Object(id) => format!(in alloc; "object {id:x}\n")?,
         Call::Path(id) => format!(in alloc; "path {id:x}\n")?,
         Call::Refs(id) => format!(in alloc; "refs {id:x}\n")?,
+        Call::Text(id) => format!(in alloc; "text {id:x}\n")?,
         _ => return Ok(None),
     };
     Ok(Some(line))

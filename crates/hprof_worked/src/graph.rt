@@ -6,12 +6,13 @@ ghost use Rattle.hprof_devices.specs.Device.{health_of};
 
 use crate::streams::{Reader, Writer};
 use hprof_devices::{Device, push_all};
-use hprof_edges::{Edge, Via, edges_of};
+use hprof_edges::{Edge, edges_of};
 use hprof_engine::{ToolFault, read_heap};
 use hprof_heap::{Gatherer, Heap};
 use hprof_layouts::{Layout, layout};
+use hprof_naming::type_word;
+use hprof_reports::via_word;
 use hprof_stream::Limits;
-use hprof_values::Basic;
 use std::alloc::{AllocError, Global};
 
 /// A question about a heap.
@@ -21,37 +22,6 @@ pub(crate) enum Question {
     Edges(u64),
     /// The layout of a class.
     Layout(u64),
-}
-
-/// Returns the word for a kind of reference.
-fn via_word(via: Via) -> &'static str {
-    match via {
-        Via::Class => "class",
-        Via::Parent => "super",
-        Via::Loader => "loader",
-        Via::Signers => "signers",
-        Via::Domain => "domain",
-        Via::Constant => "constant",
-        Via::Fixed => "static",
-        Via::Field => "field",
-        Via::Element => "element",
-    }
-}
-
-/// Returns the word for a type.
-fn type_word(basic: Basic) -> &'static str {
-    match basic {
-        Basic::Array => "array",
-        Basic::Object => "object",
-        Basic::Boolean => "boolean",
-        Basic::Char => "char",
-        Basic::Float => "float",
-        Basic::Double => "double",
-        Basic::Byte => "byte",
-        Basic::Short => "short",
-        Basic::Int => "int",
-        Basic::Long => "long",
-    }
 }
 
 /// Returns a line for each edge from an identifier.

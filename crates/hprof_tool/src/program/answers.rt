@@ -108,3 +108,11 @@ pub(crate) fn answer_no_id<E: Write>(errors: &mut E) -> Status
     let _ = writeln!(errors, "hprof: not an identifier");
     Status::NotUnderstood
 }
+
+/// Answers that a word names neither a class nor a type.
+pub(crate) fn answer_no_kind<E: Write>(errors: &mut E) -> Status
+    ensures { result ≡ Status.NotUnderstood }
+{
+    let _ = writeln!(errors, "hprof: not a class or a type");
+    Status::NotUnderstood
+}

@@ -11,3 +11,7 @@ returns-in-Path-clause-refused g c = λ refused.
 pub returns-in-Refs-clause-refused : goal.returns-in-Refs-clause-refused
 returns-in-Refs-clause-refused g c = λ refused.
     (c.in-Some.ensures.value.0, rw (c.in-Refs.is, ← c.in-Some.ensures.value.1) (c.report-in-Refs.ensures.refused refused))
+
+pub returns-in-Text-clause-refused : goal.returns-in-Text-clause-refused
+returns-in-Text-clause-refused g c = λ refused.
+    (c.in-Some.ensures.value.0, rw (c.in-Text.is, ← c.in-Some.ensures.value.1) (c.report-in-Text.ensures.refused refused))
