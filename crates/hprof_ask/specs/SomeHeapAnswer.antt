@@ -1,6 +1,6 @@
 -- A question has an answer over a heap and what was read of each part.
 use Rattle.std.specs.Prelude.{map}
-use Rattle.std.proofs.Common.{◌≡◌, ℕ, List, [], ◌++◌, Option, Some, None, codes, refl}
+use Rattle.std.proofs.Common.{ℕ, List, [], ◌++◌, Option, Some, None, codes, refl}
 use Rattle.hprof_values.specs.declared.ids.IdSize.{IdSize}
 use Rattle.hprof_items.specs.FactValue.{FactValue}
 use Rattle.hprof_stream.specs.declared.summary.PartSummary.{PartSummary}

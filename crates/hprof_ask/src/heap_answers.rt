@@ -9,9 +9,7 @@ ghost use Rattle.hprof_ask.specs.HeapAnswers.{IsHeapAnswer, IsReport, IsReportOf
 ghost use Rattle.hprof_ask.specs.Kept.{IsKept};
 
 use crate::kept::Kept;
-use crate::reports::{
-    write_kept_classes, write_kept_histogram, write_kept_path, write_kept_refs,
-};
+use crate::reports::{write_kept_classes, write_kept_histogram, write_kept_path, write_kept_refs};
 use hprof_devices::Target;
 use hprof_dialogue::{Answers, DialogueStop, OneWord, Question, Subject};
 use hprof_engine::WriteStop;

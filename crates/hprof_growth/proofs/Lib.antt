@@ -1,0 +1,10 @@
+pub mod Sums
+pub mod LabelTexts
+pub mod RowSums
+pub mod Keeping
+pub mod ChangeOrder
+pub mod Joining
+pub mod OneTotal
+pub mod KeptLabels
+pub mod OneDifference
+pub mod OfHeap

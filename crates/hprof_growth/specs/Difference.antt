@@ -7,19 +7,19 @@ use Rattle.std.specs.declared.cmp.Ordering.{Ordering}
 use Rattle.hprof_growth.specs.Counts.{Totals}
 
 -- a number before and after
-pub record Step : Type 0 where
+pub record StepValue : Type 0 where
   pub old : ℕ
   pub new : ℕ
 
 -- steps by how much they add: new less old, as numbers with a sign
-abbrev pub step_cmp : Step → Step → Ordering
+abbrev pub step_cmp : StepValue → StepValue → Ordering
 step_cmp step other = nat_cmp (step.new + other.old) (other.new + step.old)
 
 -- the change of one label
 pub record ChangeValue : Type 0 where
   pub label : List ℕ
-  pub bytes : Step
-  pub count : Step
+  pub bytes : StepValue
+  pub count : StepValue
 
 -- what added the most bytes first, then what added the most objects, then by label, byte by byte
 abbrev pub change_cmp : ChangeValue → ChangeValue → Ordering
@@ -27,7 +27,7 @@ change_cmp change other = ordering_then (step_cmp other.bytes change.bytes)
     (ordering_then (step_cmp other.count change.count) (slice_cmp nat_cmp change.label other.label))
 
 -- the bytes or the number of objects differ
-abbrev pub Differs : Step → Step → Type 0
+abbrev pub Differs : StepValue → StepValue → Type 0
 Differs bytes count = (bytes.old ≢ bytes.new) ⊎ (count.old ≢ count.new)
 
 -- the change of a label between two heaps

@@ -1,3 +1,6 @@
 pub mod Labels
 pub mod Counts
 pub mod Difference
+pub mod Sources
+pub mod Kept
+pub mod Changes

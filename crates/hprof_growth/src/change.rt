@@ -1,11 +1,5 @@
 //! Changes between two heaps.
 
-ghost use Rattle.std.specs.Prelude.{◌≡◌};
-ghost use Rattle.hprof_growth.specs.Difference.{step_cmp};
-ghost use Rattle.hprof_growth.specs.Changes.{step_value};
-
-use std::cmp::Ordering;
-
 /// A number before and after.
 #[derive(Clone, Copy, Debug, PartialEq, Eq)]
 pub struct Step {

@@ -2,10 +2,15 @@
 #![tactic(auto)]
 
 mod change;
-mod difference;
+mod comparing;
+mod counted;
+mod differences;
+mod gathering;
 mod label_counts;
+mod labels;
 pub mod laws;
+mod part;
 
 pub use change::{Change, Step};
-pub use difference::difference;
+pub use differences::difference;
 pub use label_counts::LabelCounts;

@@ -292,12 +292,8 @@ fn perform<F: Folder, I: Read + Drop, O: Write + Drop, E: Write, P: Write + Drop
         Task::Histogram { parts } => {
             report(alloc, files, &HistogramReport, &parts, output, errors)
         }
-        Task::Classes { parts } => {
-            report(alloc, files, &ClassesReport, &parts, output, errors)
-        }
-        Task::Objects { kind, parts } => {
-            objects(alloc, files, kind, &parts, output, errors)
-        }
+        Task::Classes { parts } => { report(alloc, files, &ClassesReport, &parts, output, errors) }
+        Task::Objects { kind, parts } => { objects(alloc, files, kind, &parts, output, errors) }
         Task::Converse { parts } => {
             converse(alloc, files, &parts, input, prompts, output, errors)
         }
