@@ -5,7 +5,7 @@ use Rattle.std.proofs.KnownBytes.{Appends-nil, Appends-trans, Appends-kept}
 use Rattle.hprof_dialogue.specs.declared.question.Question.{Question}
 use Rattle.hprof_dialogue.specs.Answering.{AreAnswers, IsLineAnswer}
 use Rattle.hprof_dialogue.specs.Asked.{Asks}
-use Rattle.hprof_dialogue.specs.Dialogue.{AnswersLines, AnswersFront, Finishes, Heard}
+use Rattle.hprof_dialogue.specs.Dialogue.{AnswersLines, AnswersFront, AnswersSome, Finishes, Heard}
 use Rattle.hprof_dialogue.specs.declared.stop.DialogueStop.{DialogueStop}
 use Rattle.hprof_dialogue.specs.Answering.{WritesAnswer}
 use Rattle.std.proofs.lemmas.List.{length-take, nil_from_length}
@@ -184,6 +184,29 @@ module _ (IsAnswer : Question → List ℕ → Type 0) where
         within = front.1;
         appended = Appends-trans start now new heard.text (take front.0 answer) heard.appended front.2;
       })
+
+  -- nothing more was written
+  pub some_still : (bytes : List ℕ) (start now new : Option (List ℕ)) → Keeps now new → AnswersSome IsAnswer bytes start now
+      → AnswersSome IsAnswer bytes start new
+  some_still bytes start now new keeps (inl all) = inl (record {
+    lines = all.lines;
+    taken = all.taken;
+    text = all.text;
+    are_answers = all.are_answers;
+    appended = Appends-kept start now new all.text all.appended keeps;
+  })
+  some_still bytes start now new keeps (inr front) = inr (record {
+    lines = front.lines;
+    last = front.last;
+    taken = front.taken;
+    text = front.text;
+    are_answers = front.are_answers;
+    answer = front.answer;
+    is_answer = front.is_answer;
+    count = front.count;
+    within = front.within;
+    appended = Appends-kept start now new (front.text ++ take front.count front.answer) front.appended keeps;
+  })
 
   -- all lines are answered, and it is tried to pass all on
   pub flushes_all : {A : Type 0} (r : Result A DialogueStop) (bytes : List ℕ) (start now new : Option (List ℕ))

@@ -1,6 +1,6 @@
 -- Answers to lines, whatever they are about.
 --   IsAnswer: this text is the answer to that question
-use Rattle.std.specs.Prelude.{◌≡◌, ℕ, List, [], ◌∷◌, ◌++◌, ◌≤◌, length, take, Option, Result, Ok, Err}
+use Rattle.std.specs.Prelude.{◌≡◌, ⊤, ℕ, List, [], ◌∷◌, ◌++◌, ◌≤◌, length, take, Option, Result, Ok, Err}
 use Rattle.std.specs.Io.KnownBytes.{Appends}
 use Rattle.hprof_devices.specs.declared.health.Health.{Health}
 use Rattle.hprof_devices.specs.declared.health.Health.TheVariants.{Well}
@@ -33,3 +33,11 @@ LeavesWriter (Ok done) health = health ≡ Well
 LeavesWriter (Err (stops.Write fault)) health = health ≡ health_after fault
 LeavesWriter (Err stops.OutOfMemory) health = health ≡ Well
 LeavesWriter (Err (stops.Questions fault)) health = ⊥
+
+-- all that was written was flushed, unless the writer failed
+--   Flushed: nothing is held back
+abbrev pub PassesOn : {A : Type 0} → Result A DialogueStop → (Flushed : Type 0) → Type 0
+PassesOn (Ok done) Flushed = Flushed
+PassesOn (Err (stops.Write fault)) Flushed = ⊤
+PassesOn (Err stops.OutOfMemory) Flushed = Flushed
+PassesOn (Err (stops.Questions fault)) Flushed = Flushed

@@ -1,10 +1,10 @@
 //! Questions that are taken line by line, and answered.
 
-ghost use Rattle.std.specs.Prelude.{◌≡◌, ◌++◌, ◌∷◌, [], ◌<◌, ◌≤◌, ◌+◌, ◌-◌, ◌^◌, min, ℕ, List, Option, take, length, vec_len, vec_capacity, MatchResult, OnOk, IfOk};
+ghost use Rattle.std.specs.Prelude.{◌≡◌, ◌++◌, ◌∷◌, [], ◌<◌, ◌≤◌, ◌+◌, ◌-◌, ◌^◌, min, ℕ, List, Option, take, length, vec_len, vec_capacity, Err, MatchResult, OnOk, IfOk};
 ghost use Rattle.std.specs.Io.KnownBytes.{Consumes, IsAtEnd, Keeps};
 ghost use Rattle.hprof_devices.specs.declared.health.Health.TheVariants.{Well, Failed};
 ghost use Rattle.hprof_devices.specs.Device.{LeavesHealth};
-ghost use Rattle.hprof_dialogue.specs.Answering.{LeavesWriter, WritesAnswer};
+ghost use Rattle.hprof_dialogue.specs.Answering.{LeavesWriter, PassesOn, WritesAnswer};
 ghost use Rattle.hprof_dialogue.specs.Dialogue.{EndsDialogue, Finishes, GoesOver, Heard};
 
 use crate::asker::Asker;
@@ -101,11 +101,28 @@ fn flush_all<W: Flush>(target: &mut W) -> Result<(), DialogueStop>
     requires { W.health target.old ≡ Well }
     ensures bytes { Keeps (W.written target.old) (W.written target.new) }
     ensures flushed { OnOk result (W.flushed target.new) }
+    ensures passes { PassesOn result (W.flushed target.new) }
     ensures health { LeavesWriter result (W.health target.new) }
 {
     match target.flush() {
         Ok(()) => Ok(()),
         Err(fault) => Err(DialogueStop::Write(fault)),
+    }
+}
+
+/// Passes on all bytes that were written before a stop, unless the writer has failed. Returns why it stops now.
+fn pass_on<W: Flush>(stop: DialogueStop, target: &mut W) -> DialogueStop
+    requires { LeavesWriter {A = Unit {0}} (Err stop) (W.health target.old) }
+    ensures bytes { Keeps (W.written target.old) (W.written target.new) }
+    ensures passes { PassesOn {A = Unit {0}} (Err result) (W.flushed target.new) }
+    ensures health { LeavesWriter {A = Unit {0}} (Err result) (W.health target.new) }
+{
+    if let DialogueStop::Write(fault) = stop {
+        return DialogueStop::Write(fault);
+    }
+    match flush_all(target) {
+        Ok(()) => stop,
+        Err(failed) => failed,
     }
 }
 
@@ -143,10 +160,12 @@ fn finish<A: Answers, W: Flush>(
     ensures bytes { (bytes : List ℕ) (start : Option (List ℕ)) → Heard (A.is_answer answers.now) bytes start (W.written target.old) line.now
         → Finishes (A.is_answer answers.now) bytes start (W.written target.new) result }
     ensures health { LeavesWriter result (W.health target.new) }
-    ensures flushed { OnOk result (W.flushed target.new) }
+    ensures flushed { PassesOn result (W.flushed target.new) }
     ensures kept { A.keeps answers.now kept.new }
 {
-    answer_last(alloc, answers, kept, line, target)?;
+    if let Err(stop) = answer_last(alloc, answers, kept, line, target) {
+        return Err(pass_on(stop, target));
+    }
     flush_all(target)
 }
 
@@ -168,7 +187,7 @@ fn take_lines<A: Answers, Q: Asker<W>, W: Flush>(
     requires room { KEPT ≤ vec_capacity line.old }
     ensures dialogue { EndsDialogue (A.is_answer answers.now) Q.left Q.health Q.pulls W.written W.health
         questions.old questions.new target.old target.new result }
-    ensures flushed { OnOk result (W.flushed target.new) }
+    ensures flushed { PassesOn result (W.flushed target.new) }
     ensures kept { A.keeps answers.now kept.new }
 {
     'turns: for _turn in 0..u64::MAX {
@@ -183,15 +202,18 @@ fn take_lines<A: Answers, Q: Asker<W>, W: Flush>(
             return finish(alloc, answers, kept, line, target);
         }
         if let Err(stop) = go_over(alloc, answers, kept, &piece[..count], line, target) {
-            return Err(stop);
+            return Err(pass_on(stop, target));
         }
     }
     // So often no source is pulled.
-    Err(DialogueStop::Questions(ReadFault::Failed))
+    match flush_all(target) {
+        Ok(()) => Err(DialogueStop::Questions(ReadFault::Failed)),
+        Err(stop) => Err(stop),
+    }
 }
 
 /// Takes the lines of the questions and answers each, until there are no more. All answers so far are flushed before more is
-/// read, and all of them at the end. Of a line no more than its first bytes are kept.
+/// read, and at the end, also if memory runs out or the questions cannot be read on. Of a line no more than its first bytes are kept.
 pub fn converse<A: Answers, Q: Asker<W>, W: Flush>(
     alloc: Global,
     answers: &A,
@@ -204,11 +226,15 @@ pub fn converse<A: Answers, Q: Asker<W>, W: Flush>(
     requires kept { A.keeps answers.now kept.old }
     ensures dialogue { EndsDialogue (A.is_answer answers.now) Q.left Q.health Q.pulls W.written W.health
         questions.old questions.new target.old target.new result }
-    ensures flushed { OnOk result (W.flushed target.new) }
+    ensures flushed { PassesOn result (W.flushed target.new) }
     ensures kept { A.keeps answers.now kept.new }
 {
-    let mut piece = vec![in alloc; 0u8; PIECE_LEN]?;
-    let mut line = Vec::with_capacity(alloc, KEPT)?;
+    let Ok(mut piece) = vec![in alloc; 0u8; PIECE_LEN] else {
+        return Err(pass_on(DialogueStop::OutOfMemory, target));
+    };
+    let Ok(mut line) = Vec::with_capacity(alloc, KEPT) else {
+        return Err(pass_on(DialogueStop::OutOfMemory, target));
+    };
     take_lines(
         alloc, answers, kept, questions, &mut piece, &mut line, target,
     )
