@@ -19,6 +19,7 @@ use Rattle.hprof_engine.specs.Makes.{Reads}
 use Rattle.hprof_engine.specs.Summaries.{AreSummaries}
 use Rattle.hprof_dialogue.specs.declared.question.Question.{Question}
 use Rattle.hprof_dialogue.specs.declared.stop.DialogueStop.TheVariants as stops
+use Rattle.hprof_dialogue.specs.Answering.{PassesOn}
 use Rattle.hprof_dialogue.specs.Dialogue.{AnswersLines, AnswersSome, Came}
 use Rattle.hprof_dialogue.specs.Lines.{AreEndedLines, AreLines}
 use Rattle.hprof_ask.specs.declared.ask_fault.AskFault.{AskFault}
@@ -40,6 +41,13 @@ fault_of_parts (Some (faults.Dialogue stop)) = None
 abbrev pub WantsMemory : Option AskFault → Type 0
 WantsMemory (Some (faults.Dialogue stops.OutOfMemory)) = ⊤
 WantsMemory other = ⊥
+
+-- all that was written was flushed, unless the parts were refused or the writer failed
+--   Flushed: nothing is held back
+abbrev pub PassesAnswersOn : Option AskFault → (Flushed : Type 0) → Type 0
+PassesAnswersOn None Flushed = Flushed
+PassesAnswersOn (Some (faults.Parts fault)) Flushed = ⊤
+PassesAnswersOn (Some (faults.Dialogue stop)) Flushed = PassesOn {A = Unit {0}} (Err stop) Flushed
 
 -- nothing but a conflict of the parts, if anything
 abbrev pub IsAnsweredOrConflict : Option AskFault → Type 0

@@ -1,10 +1,10 @@
 //! Questions about the heap of parts.
 
-ghost use Rattle.std.specs.Prelude.{◌≡◌, ◌+◌, ◌<◌, ℕ, List, [], All, IfOk, OnErr, OnOk, vec_len, vec_capacity};
+ghost use Rattle.std.specs.Prelude.{◌≡◌, ◌+◌, ◌<◌, ℕ, List, [], All, IfOk, OnErr, vec_len, vec_capacity};
 ghost use Rattle.hprof_devices.specs.declared.health.Health.TheVariants.{Well};
 ghost use Rattle.hprof_engine.specs.Joining.{Tell, Agree};
 ghost use Rattle.hprof_heap.specs.Heap.{heap_of};
-ghost use Rattle.hprof_ask.specs.Asks.{Asks, fault_of_asking};
+ghost use Rattle.hprof_ask.specs.Asks.{Asks, PassesAnswersOn, fault_of_asking};
 
 use crate::ask_fault::AskFault;
 use crate::heap_answers::HeapAnswers;
@@ -38,7 +38,7 @@ pub fn ask_kept<R: Source, Q: Asker<W>, W: Flush>(
     requires writer { W.health target.old ≡ Well }
     ensures asks { Asks R.left R.health R.pulls Q.left Q.health Q.pulls W.written W.health limits readers.old readers.new
         questions.old questions.new target.old target.new (fault_of_asking result) }
-    ensures flushed { OnOk result (W.flushed target.new) }
+    ensures flushed { PassesAnswersOn (fault_of_asking result) (W.flushed target.new) }
 
     // What is handed back is of the parts.
     ensures heap { IfOk result (λ found. (parts : List (List ℕ)) → Tell R.left readers.old parts
@@ -66,7 +66,8 @@ pub fn ask_kept<R: Source, Q: Asker<W>, W: Flush>(
 /// Reads all parts, and then answers each line of the questions over the heap that the parts state together.
 ///
 /// All parts are read, or refused, before the first question is read. All answers so far are flushed before more questions are read, and
-/// all of them at the end. If the writer fails or memory runs out, the last answer is cut short.
+/// at the end, also if the questions cannot be read on or memory runs out. If memory runs out or the writer fails, the last answer is cut
+/// short.
 pub fn ask_to<R: Source, Q: Asker<W>, W: Flush>(
     alloc: Global,
     readers: &mut [R],
@@ -79,7 +80,7 @@ pub fn ask_to<R: Source, Q: Asker<W>, W: Flush>(
     requires writer { W.health target.old ≡ Well }
     ensures asks { Asks R.left R.health R.pulls Q.left Q.health Q.pulls W.written W.health limits readers.old readers.new
         questions.old questions.new target.old target.new (fault_of_asking result) }
-    ensures flushed { OnOk result (W.flushed target.new) }
+    ensures flushed { PassesAnswersOn (fault_of_asking result) (W.flushed target.new) }
 {
     match ask_kept(alloc, readers, questions, target, limits) {
         Ok(_heap) => Ok(()),

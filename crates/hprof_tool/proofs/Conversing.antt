@@ -1,5 +1,5 @@
 -- What answering questions about parts tells.
-use Rattle.std.proofs.Common.{◌≡◌, inl, inr, ℕ, List, ◌++◌, append-nil, Option, Some, None, refl, sym, ap, subst, ◌∙◌}
+use Rattle.std.proofs.Common.{◌≡◌, inl, inr, ℕ, List, [], ◌++◌, append-nil, Option, Some, None, refl, sym, ap, subst, ◌∙◌}
 use Rattle.std.specs.Borrow.{Bor}
 use Rattle.std.specs.Io.KnownBytes.{Consumes, IsAtEnd, append_known}
 use Rattle.hprof_devices.specs.declared.device.Device.{Device}
@@ -16,14 +16,14 @@ use Rattle.hprof_dialogue.specs.Lines.{AreEndedLines, AreLines}
 use Rattle.hprof_ask.specs.declared.ask_fault.AskFault.{AskFault}
 use Rattle.hprof_ask.specs.declared.ask_fault.AskFault.TheVariants as faults
 use Rattle.hprof_ask.specs.HeapAnswers.{IsHeapAnswer}
-use Rattle.hprof_ask.specs.Asks.{Asks}
+use Rattle.hprof_ask.specs.Asks.{Asks, PassesAnswersOn}
 use Rattle.hprof_ask.specs.Asks as asking
 use Rattle.hprof_tool.specs.declared.program.refused.Refused.{Refused}
 use Rattle.hprof_tool.specs.declared.program.refused.Refused.TheVariants as refusals
 use Rattle.hprof_tool.specs.Folder.{Answered, AreOpened}
 use Rattle.hprof_tool.specs.Program.{IsOfOpening, IsReportRefusal, usual_limits}
 use Rattle.hprof_tool.specs.Conversing.{AnswersAll, LeavesAnswers, OfFront, OverFiles, OverReaders, SaysOfReaders, refused_asking}
-use Rattle.hprof_tool.proofs.Making.{no_parts_told, part_refusal}
+use Rattle.hprof_tool.proofs.Making.{no_parts_told, none_added, part_refusal}
 
 -- what came of known questions is a front of them
 front_of : (old new : Option (List ℕ)) (questions bytes : List ℕ) → old ≡ Some questions → Consumes old new bytes
@@ -116,22 +116,24 @@ module _ {R Q W O : Type 0} (left : R → Option (List ℕ)) (health : R → Hea
       of_parts_refused tool.DumpTooLong a kind = absurd kind
       of_parts_refused tool.OutOfMemory a kind = absurd kind
 
+      -- nothing is left behind
+      none_left : unwritten ≡ [] → written after ≡ contents last
+      none_left none = at_last ∙ ap (append_known (contents last)) none ∙ none_added (contents last)
+
       -- what stopped says, and leaves
-      pub stopped : (fault : AskFault) → Asked (Some fault)
+      pub stopped : (fault : AskFault) → PassesAnswersOn (Some fault) (unwritten ≡ []) → Asked (Some fault)
           → LeavesAnswers contents first Over (SaysOfReaders left readers) (refused_asking fault) (Some last)
-      stopped (faults.Parts fault) a = elim (a.kind fault refl) [
+      stopped (faults.Parts fault) passes a = elim (a.kind fault refl) [
         | inl kind ↦ of_parts_refused fault a kind
         | inr none ↦ subst (λ (f : ToolFault). LeavesAnswers contents first Over (SaysOfReaders left readers)
             (refused_asking (faults.Parts f)) (Some last)) (sym none.0) (inl (same (a.refused fault refl).1))
       ]
-      stopped (faults.Dialogue (stops.Questions fault)) a = (
-        unwritten,
-        of_streams (λ IsAnswer. AnswersLines IsAnswer AreEndedLines) _ _ _ _ at_first at_last (fronts _ (a.questions fault refl).0),
-      )
-      stopped (faults.Dialogue (stops.Write fault)) a =
+      stopped (faults.Dialogue (stops.Questions fault)) none a = of_streams (λ IsAnswer. AnswersLines IsAnswer AreEndedLines) _ _ _ _
+          at_first (none_left none) (fronts _ (a.questions fault refl).0)
+      stopped (faults.Dialogue (stops.Write fault)) passes a =
           (unwritten, of_streams (λ IsAnswer. AnswersSome IsAnswer) _ _ _ _ at_first at_last (fronts _ (a.write fault refl).0))
-      stopped (faults.Dialogue stops.OutOfMemory) a =
-          inr (unwritten, of_streams (λ IsAnswer. AnswersSome IsAnswer) _ _ _ _ at_first at_last (fronts _ (a.memory refl).0))
+      stopped (faults.Dialogue stops.OutOfMemory) none a =
+          inr (of_streams (λ IsAnswer. AnswersSome IsAnswer) _ _ _ _ at_first (none_left none) (fronts _ (a.memory refl).0))
 
 -- ---- of files
 
@@ -154,13 +156,13 @@ module _ {F I Q O : Type 0} (answered : Answered F) (tells : F → Option (List 
 
   pub refuses_files : (refused : Refused) (new : Option O) → LeavesAnswers contents old OfReaders Says refused new
       → LeavesAnswers contents old OfFiles (IsReportRefusal dump_making answered tells names) refused new
-  refuses_files refusals.Questions (Some new) leaves = (leaves.0, over_files _ leaves.1)
+  refuses_files refusals.Questions (Some new) leaves = over_files _ leaves
   refuses_files refusals.Questions None leaves = leaves
   refuses_files (refusals.Engine (tool.Write fault)) (Some new) leaves = (leaves.0, over_files _ leaves.1)
   refuses_files (refusals.Engine (tool.Write fault)) None leaves = leaves
   refuses_files refusals.OutOfMemory (Some new) leaves = elim leaves [
     | inl none ↦ inl none
-    | inr some ↦ inr (some.0, over_files _ some.1)
+    | inr some ↦ inr (over_files _ some)
   ]
   refuses_files refusals.OutOfMemory None leaves = tt
   refuses_files (refusals.Engine (tool.Part index fault)) new leaves =

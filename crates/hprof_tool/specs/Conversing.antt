@@ -59,15 +59,14 @@ module _ {O : Type 0} (contents : O → Option (List ℕ)) (old : O) (Over : ((Q
   abbrev pub AnswersFirst : (holds : Option (List ℕ)) → Type 0
   AnswersFirst holds = Over (λ IsAnswer questions. OfFront questions (λ bytes. AnswersSome IsAnswer bytes (contents old) holds))
 
-  -- what a refusal says, and leaves of the stream: behind what it held stand those answers, but for some bytes at the end
+  -- what a refusal says, and leaves of the stream: behind what it held stand those answers, and if it failed all but some bytes at the end
   --   Says: what it says of the parts
   abbrev pub LeavesAnswers : (Says : Refused → Type 0) → Refused → (new : Option O) → Type 0
-  LeavesAnswers Says refusals.Questions (Some new) = (unwritten : List ℕ) × AnswersEnded (append_known (contents new) unwritten)
+  LeavesAnswers Says refusals.Questions (Some new) = AnswersEnded (contents new)
   LeavesAnswers Says refusals.Questions None = ⊥
   LeavesAnswers Says (refusals.Engine (tool.Write fault)) (Some new) = (unwritten : List ℕ) × AnswersFirst (append_known (contents new) unwritten)
   LeavesAnswers Says (refusals.Engine (tool.Write fault)) None = ⊥
-  LeavesAnswers Says refusals.OutOfMemory (Some new) =
-      (new ≡ old) ⊎ ((unwritten : List ℕ) × AnswersFirst (append_known (contents new) unwritten))
+  LeavesAnswers Says refusals.OutOfMemory (Some new) = (new ≡ old) ⊎ AnswersFirst (contents new)
   LeavesAnswers Says refusals.OutOfMemory None = ⊤
   LeavesAnswers Says (refusals.Engine (tool.Part index fault)) new = Says (refusals.Engine (tool.Part index fault)) × (new ≡ Some old)
   LeavesAnswers Says (refusals.Engine tool.NoParts) new = Says (refusals.Engine tool.NoParts) × (new ≡ Some old)

@@ -1,10 +1,10 @@
 //! Questions about the heap of parts in files.
 
-ghost use Rattle.std.specs.Prelude.{◌≡◌, [], All, OnOk, IfOk, IfErr};
+ghost use Rattle.std.specs.Prelude.{◌≡◌, [], All, IfOk, IfErr};
 ghost use Rattle.std.specs.Io.Buffered.{writer_buffer, writer_contents};
 ghost use Rattle.hprof_devices.specs.Buffered.{buffered_health, buffered_of};
 ghost use Rattle.hprof_devices.specs.declared.health.Health.TheVariants.{Well};
-ghost use Rattle.hprof_ask.specs.Asks.{Asks, fault_of_asking};
+ghost use Rattle.hprof_ask.specs.Asks.{Asks, PassesAnswersOn, fault_of_asking};
 ghost use Rattle.hprof_tool.specs.Conversing.{AnswersAll, AnswersQuestions, LeavesAnswers, OverReaders, RefusesQuestions, SaysOfReaders};
 ghost use Rattle.hprof_tool.specs.Program.{usual_limits};
 
@@ -32,7 +32,7 @@ fn ask_readers<R: Source, Q: Source, W: Write + Drop>(
     requires writer { buffered_health target.old ≡ Well }
     ensures asks { Asks R.left R.health R.pulls Q.left Q.health Q.pulls (λ device. writer_contents W.contents (buffered_of device))
         buffered_health usual_limits readers.old readers.new questions.old questions.new target.old target.new (fault_of_asking result) }
-    ensures flushed { OnOk result (writer_buffer (buffered_of target.new) ≡ []) }
+    ensures flushed { PassesAnswersOn (fault_of_asking result) (writer_buffer (buffered_of target.new) ≡ []) }
 {
     match ask_kept(alloc, readers, questions, target, Limits::usual()) {
         Ok(heap) => {

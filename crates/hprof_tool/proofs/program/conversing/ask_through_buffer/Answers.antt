@@ -1,8 +1,9 @@
-use Rattle.std.proofs.Common.{◌≡◌, ◌∙◌, Some, sym, subst, ap}
+use Rattle.std.proofs.Common.{◌≡◌, ◌∙◌, ℕ, List, [], Some, sym, subst, ap}
 use Rattle.std.specs.Io.KnownBytes.{append_known}
 use Rattle.std.specs.Io.Buffered.{writer_buffer, writer_contents, writer_inner}
 use Rattle.hprof_devices.specs.Buffered.{buffered_health, buffered_of}
 use Rattle.hprof_devices.specs.declared.buffered.BufferedDevice.{BufferedDevice}
+use Rattle.hprof_ask.specs.Asks.{PassesAnswersOn}
 use Rattle.hprof_tool.specs.declared.program.refused.Refused.{Refused}
 use Rattle.hprof_tool.specs.Conversing.{LeavesAnswers, OverReaders, SaysOfReaders}
 use Rattle.hprof_tool.proofs.Conversing.{answered_all, stopped}
@@ -44,6 +45,8 @@ returns-in-Err g c =
     ap (writer_contents contents) c.new-target.ensures.buffered ∙ empty in
     let at_last : writer_contents contents (buffered_of after) ≡ append_known (contents last) unwritten =
     ap (λ (w : _). append_known (contents w) held) (sym last_is) ∙ ap (append_known (contents last)) (sym unwritten_is) in
+    let passes : PassesAnswersOn (Some c.in-Err.fault) (unwritten ≡ []) =
+    subst (λ (l : List ℕ). PassesAnswersOn (Some c.in-Err.fault) (l ≡ [])) (sym unwritten_is) c.in-Err.ensures.flushed in
     let is_first : after ≡ c.new-target.result → last ≡ c.args.writer = λ same.
     last_is ∙ ap (λ (d : BufferedDevice _). writer_inner (buffered_of d)) same
     ∙ ap (λ (b : _). writer_inner b) c.new-target.ensures.buffered ∙ c.in-Ok.ensures.inner in
@@ -54,5 +57,5 @@ returns-in-Err g c =
           (stopped g.R.Source.left g.R.Source.health g.R.Source.pulls g.Q.Source.left g.Q.Source.health g.Q.Source.pulls
           (λ device. writer_contents contents (buffered_of device)) buffered_health contents c.args.readers.now asked.new.readers
           c.args.questions.now asked.new.questions c.new-target.result after c.args.writer last at_first unwritten at_last is_first
-          c.in-Err.fault c.in-Err.ensures.asks);
+          c.in-Err.fault passes c.in-Err.ensures.asks);
     }
