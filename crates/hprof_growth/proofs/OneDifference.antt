@@ -340,3 +340,24 @@ module _ (old new : LabelCounts) where
         absurd (same_none (totals_in old) (totals_in new) label
         (ap (λ (c : Counted). c.count) none, ap (λ (c : Counted). c.bytes) none)
         (ap (λ (c : Counted). c.count) none_too, ap (λ (c : Counted). c.bytes) none_too) differ)
+
+  -- so there is a difference
+  pub kept_difference : (changes : List ChangeValue) × IsDifference (totals_in old) (totals_in new) changes
+  kept_difference = difference_among (totals_in old) (totals_in new) both_labels differ_in_both
+
+-- what is kept of one heap, and the facts of another, have a difference
+pub growth_exists : (old : LabelCounts) (ids : IdSize) (facts : List FactValue) (new : Totals) → AreTotals ids facts new
+    → (changes : List ChangeValue) × IsDifference (totals_in old) new changes
+growth_exists old ids facts new is = difference_among (totals_in old) new (labels_in old ++ others) among where
+  others : List (List ℕ)
+  others = labels_of is.label is.rows
+
+  among : (label : List ℕ) → Differs (change_of (totals_in old) new label).bytes (change_of (totals_in old) new label).count
+      → IsIn label (labels_in old ++ others)
+  among label differ = by_test (has_label old label) refl (counted_or_none ids facts new is label) where
+    by_test : (b : Bool) → has_label old label ≡ b → IsIn label others ⊎ HasNone new label → IsIn label (labels_in old ++ others)
+    by_test true e either = in_front (labels_in old) others label (in_labels old label e)
+    by_test false e (inl has) = in_back (labels_in old) others label has
+    by_test false e (inr none) =
+        let none_too = none_kept old label e in
+        absurd (same_none (totals_in old) new label (ap (λ (c : Counted). c.count) none_too, ap (λ (c : Counted). c.bytes) none_too) none differ)

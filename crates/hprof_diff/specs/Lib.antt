@@ -1,0 +1,3 @@
+pub mod DifferenceText
+pub mod OneDifference
+pub mod Comparing

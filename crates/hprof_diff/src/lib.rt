@@ -1,0 +1,11 @@
+//! The report `diff`: which objects grew from one heap to another, in number and in bytes.
+#![tactic(auto)]
+
+mod fault;
+pub mod laws;
+mod parts;
+mod report;
+
+pub use fault::DiffFault;
+pub use parts::diff_to;
+pub use report::write_difference;

@@ -1,0 +1,102 @@
+//! The report `diff` of the parts of two heaps.
+
+ghost use Rattle.std.specs.Prelude.{◌≡◌, ℕ, List, All, IfOk};
+ghost use Rattle.hprof_devices.specs.declared.health.Health.TheVariants.{Well};
+ghost use Rattle.hprof_growth.specs.Kept.{totals_in};
+ghost use Rattle.hprof_engine.specs.Joining.{Tell, fault_of};
+ghost use Rattle.hprof_engine.specs.Makes.{WritesAll};
+ghost use Rattle.hprof_diff.specs.Comparing.{Counts, EndsDifference};
+ghost use Rattle.hprof_diff.specs.DifferenceText.{AreTotalsOf, IsDifferenceOf};
+
+use crate::fault::DiffFault;
+use crate::report::write_growth;
+use hprof_devices::{Source, Target};
+use hprof_engine::{HeapProduct, ToolFault, WriteStop, read_heap};
+use hprof_growth::LabelCounts;
+use hprof_heap::{Gatherer, Heap};
+use hprof_reports::report_to;
+use hprof_stream::Limits;
+use std::alloc::Global;
+
+/// The report `diff` of a heap, beside an older one.
+#[derive(Clone, Copy)]
+struct GrowthReport<'a> {
+    /// The objects of the older heap, counted by label.
+    old: &'a LabelCounts,
+}
+
+impl<'a> HeapProduct for GrowthReport<'a> {
+    ghost use Rattle.std.specs.Prelude.{⊤};
+    ghost use Rattle.hprof_growth.specs.Kept.{totals_in};
+    ghost use Rattle.hprof_diff.specs.DifferenceText.{IsGrowthText};
+    ghost use Rattle.hprof_diff.specs.OneDifference.{one_growth_text};
+
+    ghost is_text = { λ report heap. IsGrowthText (totals_in report.old.now) heap.ids heap.facts };
+
+    ghost is_too_long = { λ report heap. ⊥ };
+
+    ghost takes_memory = { λ report. ⊤ };
+
+    fn write_heap<W: Target>(
+        &self,
+        alloc: Global,
+        heap: &Heap,
+        target: &mut W,
+    ) -> Result<(), WriteStop> {
+        write_growth(alloc, self.old, heap, target)
+    }
+
+    ghost one_text = { λ report heap. one_growth_text (totals_in report.old.now) heap.ids heap.facts };
+}
+
+/// Reads all parts, and counts the objects of their heap by label. If memory runs out when all are read, the answer is
+/// [`ToolFault::OutOfMemory`].
+fn count_parts<R: Source>(
+    alloc: Global,
+    readers: &mut [R],
+    limits: Limits,
+) -> Result<LabelCounts, ToolFault>
+    requires { All (λ reader. R.health reader ≡ Well) readers.old }
+    ensures counts { Counts R.left R.health R.pulls limits readers.old readers.new (fault_of result) }
+    ensures totals { IfOk result (λ counts. (parts : List (List ℕ)) → Tell R.left readers.old parts
+        → AreTotalsOf parts (totals_in counts)) }
+{
+    let heap = match read_heap(alloc, readers, limits, Gatherer::new(alloc), &mut ()) {
+        Ok(heap) => heap,
+        Err(fault) => return Err(fault),
+    };
+    match LabelCounts::of(alloc, &heap) {
+        Ok(counts) => Ok(counts),
+        Err(_) => Err(ToolFault::OutOfMemory),
+    }
+}
+
+/// Reads the parts of two heaps, and writes the report `diff` of them: a line for each label whose objects differ in number or in bytes.
+///
+/// The parts of the older heap are read first, and judged whole: nothing is read of the newer one, and nothing written, where they are
+/// refused. Nothing is written before all are read. If the writer fails or memory runs out then, the bytes written are the beginning of the
+/// report.
+pub fn diff_to<R: Source, W: Target>(
+    alloc: Global,
+    olds: &mut [R],
+    news: &mut [R],
+    target: &mut W,
+    limits: Limits,
+) -> Result<(), DiffFault>
+    requires olds { All (λ reader. R.health reader ≡ Well) olds.old }
+    requires news { All (λ reader. R.health reader ≡ Well) news.old }
+    requires writer { W.health target.old ≡ Well }
+    ensures ends { EndsDifference R.left R.health R.pulls W.written W.health limits olds.old olds.new news.old news.new
+        target.old target.new result }
+    ensures ok { IfOk result (λ done. (old_parts new_parts : List (List ℕ)) → Tell R.left olds.old old_parts → Tell R.left news.old new_parts
+        → WritesAll (IsDifferenceOf old_parts) new_parts (W.written target.old) (W.written target.new)) }
+{
+    let old = match count_parts(alloc, olds, limits) {
+        Ok(old) => old,
+        Err(fault) => return Err(DiffFault::Old(fault)),
+    };
+    match report_to(alloc, &GrowthReport { old: &old }, news, target, limits) {
+        Ok(()) => Ok(()),
+        Err(fault) => Err(DiffFault::New(fault)),
+    }
+}

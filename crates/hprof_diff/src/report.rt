@@ -1,0 +1,101 @@
+//! The report `diff` of two heaps whose objects are counted by label.
+
+ghost use Rattle.std.specs.Prelude.{◌≡◌, ◌++◌, ℕ, List, map, IfOk, OnOk, string_bytes};
+ghost use Rattle.hprof_devices.specs.declared.health.Health.TheVariants.{Well};
+ghost use Rattle.hprof_lookup.specs.HeapFacts.{facts_of, size_of};
+ghost use Rattle.hprof_growth.specs.Changes.{change_value, step_value};
+ghost use Rattle.hprof_growth.specs.Kept.{totals_in};
+ghost use Rattle.hprof_reports.specs.Stopping.{LeavesTarget, WritesText};
+ghost use Rattle.hprof_diff.specs.DifferenceText.{IsDifferenceText, IsGrowthText, change_line, changes_text, step_text};
+
+use hprof_devices::Target;
+use hprof_engine::WriteStop;
+use hprof_growth::{Change, LabelCounts, Step, difference};
+use hprof_heap::Heap;
+use hprof_lookup::holds_of_heap;
+use hprof_reports::write_str;
+use itoa::Buffer;
+use std::alloc::{AllocError, Global};
+
+/// Appends the newer number less the older one, with its sign.
+fn push_step(line: &mut String, step: Step) -> Result<(), AllocError>
+    ensures { OnOk result (string_bytes line.new ≡ string_bytes line.old ++ step_text (step_value step)) }
+{
+    let mut digits = Buffer::new();
+    if step.old < step.new {
+        line.push('+')?;
+        line.push_str(digits.format(step.new - step.old))
+    } else if step.new < step.old {
+        line.push('-')?;
+        line.push_str(digits.format(step.old - step.new))
+    } else {
+        line.push('0')
+    }
+}
+
+/// Sets `line` to the line of a change.
+fn set_line(line: &mut String, change: Change<'_>) -> Result<(), AllocError>
+    ensures { OnOk result (string_bytes line.new ≡ change_line (change_value change.entry)) }
+{
+    line.clear();
+    push_step(line, change.bytes)?;
+    line.push(' ')?;
+    push_step(line, change.count)?;
+    line.push(' ')?;
+    line.push_str(change.label)?;
+    line.push('\n')
+}
+
+/// Writes a line for each change. If it stops, some of them were written, from the front.
+fn write_all<W: Target>(
+    alloc: Global,
+    changes: &[Change<'_>],
+    target: &mut W,
+) -> Result<(), WriteStop>
+    requires { W.health target.old ≡ Well }
+    ensures bytes { WritesText (W.written target.old) (W.written target.new) result (changes_text (map change_value changes.now)) }
+    ensures health { LeavesTarget result (W.health target.new) }
+{
+    let mut line = String::new(alloc);
+    for change in changes {
+        set_line(&mut line, *change)?;
+        write_str(&line, target)?;
+    }
+    Ok(())
+}
+
+/// Writes the report `diff` of two heaps: a line for each label whose objects differ in number or in bytes, with how many bytes and how
+/// many objects the newer heap has more. What grew by the most bytes comes first. If the writer fails or memory runs out, the bytes
+/// written are the beginning of the report.
+pub fn write_difference<W: Target>(
+    alloc: Global,
+    old: &LabelCounts,
+    new: &LabelCounts,
+    target: &mut W,
+) -> Result<(), WriteStop>
+    requires { W.health target.old ≡ Well }
+    ensures bytes { (text : List ℕ) × IsDifferenceText (totals_in old.now) (totals_in new.now) text
+        × WritesText (W.written target.old) (W.written target.new) result text }
+    ensures health { LeavesTarget result (W.health target.new) }
+{
+    let changes = difference(alloc, old, new)?;
+    write_all(alloc, &changes, target)
+}
+
+/// Writes the report `diff` of a heap, beside an older one whose objects are counted. If the writer fails or memory runs out, the bytes
+/// written are the beginning of the report.
+pub(crate) fn write_growth<W: Target>(
+    alloc: Global,
+    old: &LabelCounts,
+    heap: &Heap,
+    target: &mut W,
+) -> Result<(), WriteStop>
+    requires { W.health target.old ≡ Well }
+    ensures bytes { (text : List ℕ) × IsGrowthText (totals_in old.now) (size_of heap.now) (facts_of heap.now) text
+        × WritesText (W.written target.old) (W.written target.new) result text }
+    ensures health { LeavesTarget result (W.health target.new) }
+{
+    holds_of_heap(heap);
+    let new = LabelCounts::of(alloc, heap)?;
+    write_difference(alloc, old, &new, target)
+}
