@@ -7,5 +7,5 @@ mod parts;
 mod report;
 
 pub use fault::DiffFault;
-pub use parts::diff_to;
+pub use parts::{GrowthReport, count_parts, diff_to};
 pub use report::write_difference;

@@ -20,9 +20,9 @@ use std::alloc::Global;
 
 /// The report `diff` of a heap, beside an older one.
 #[derive(Clone, Copy)]
-struct GrowthReport<'a> {
+pub struct GrowthReport<'a> {
     /// The objects of the older heap, counted by label.
-    old: &'a LabelCounts,
+    pub old: &'a LabelCounts,
 }
 
 impl<'a> HeapProduct for GrowthReport<'a> {
@@ -51,7 +51,7 @@ impl<'a> HeapProduct for GrowthReport<'a> {
 
 /// Reads all parts, and counts the objects of their heap by label. If memory runs out when all are read, the answer is
 /// [`ToolFault::OutOfMemory`].
-fn count_parts<R: Source>(
+pub fn count_parts<R: Source>(
     alloc: Global,
     readers: &mut [R],
     limits: Limits,
