@@ -173,6 +173,7 @@ module _ {F I Q O : Type 0} (answered : Answered F) (tells : F → Option (List 
       (record { parts = parts; opened = opened; holds = leaves.0.1 }, leaves.1)
   refuses_files (refusals.Engine tool.DumpTooLong) new leaves = leaves
   refuses_files (refusals.Engine tool.OutOfMemory) new leaves = leaves
+  refuses_files (refusals.Dump place fault) new leaves = leaves
   refuses_files (refusals.Open index) new leaves = absurd leaves.0.0
   refuses_files refusals.Create new leaves = leaves
 
@@ -182,6 +183,7 @@ pub cannot_ask : {F O : Type 0} (answered : Answered F) (tells : F → Option (L
     → IsOfOpening answered names refused
     → LeavesAnswers contents old Holding (IsReportRefusal dump_making answered tells names) refused (Some old)
 cannot_ask answered tells contents names old Holding (refusals.Engine fault) is = absurd is
+cannot_ask answered tells contents names old Holding (refusals.Dump place fault) is = absurd is
 cannot_ask answered tells contents names old Holding (refusals.Open index) is = (is, refl)
 cannot_ask answered tells contents names old Holding refusals.Create is = absurd is
 cannot_ask answered tells contents names old Holding refusals.Questions is = absurd is

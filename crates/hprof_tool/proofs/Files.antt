@@ -52,6 +52,7 @@ cannot_open answered names index default parts within fails opened = record {
 pub not_of_engine : {F : Type 0} (answered : Answered F) (names : List (Bor (List ℕ))) (refused : Refused) (fault : ToolFault)
     → IsOfOpening answered names refused → refused ≡ refusals.Engine fault → ⊥
 not_of_engine answered names (refusals.Engine known) fault is same = is
+not_of_engine answered names (refusals.Dump place why) fault is same = is
 not_of_engine answered names (refusals.Open index) fault is same = cc
 not_of_engine answered names refusals.Create fault is same = cc
 not_of_engine answered names refusals.Questions fault is same = cc
@@ -61,6 +62,7 @@ module _ {F : Type 0} (making : Making) (answered : Answered F) (remaining : F �
   -- a refusal to open is one to report
   pub opening_reports : (refused : Refused) → IsOfOpening answered names refused → IsReportRefusal making answered remaining names refused
   opening_reports (refusals.Engine fault) is = absurd is
+  opening_reports (refusals.Dump place fault) is = absurd is
   opening_reports (refusals.Open index) is = is
   opening_reports refusals.Create is = absurd is
   opening_reports refusals.Questions is = absurd is
@@ -70,6 +72,7 @@ module _ {F : Type 0} (making : Making) (answered : Answered F) (remaining : F �
   pub of_opening : (out : List ℕ) (refused : Refused) → IsOfOpening answered names refused
       → IsFilesRefusal making answered remaining names out refused
   of_opening out (refusals.Engine fault) is = absurd is
+  of_opening out (refusals.Dump place fault) is = absurd is
   of_opening out (refusals.Open index) is = is
   of_opening out refusals.Create is = absurd is
   of_opening out refusals.Questions is = absurd is
@@ -88,6 +91,7 @@ module _ {F : Type 0} (making : Making) (answered : Answered F) (remaining : F �
     of_reporting (refusals.Engine tool.DumpTooLong) kind says = record { parts = parts; opened = opened; holds = says }
     of_reporting (refusals.Engine (tool.Write fault)) kind says = record { parts = parts; opened = opened; holds = says }
     of_reporting (refusals.Engine tool.OutOfMemory) kind says = absurd kind
+    of_reporting (refusals.Dump place fault) kind says = absurd kind
     of_reporting (refusals.Open index) kind says = absurd kind
     of_reporting refusals.Create kind says = absurd kind
     of_reporting refusals.Questions kind says = absurd kind
@@ -97,6 +101,7 @@ module _ {F : Type 0} (making : Making) (answered : Answered F) (remaining : F �
     pub of_making : (out : List ℕ) (refused : Refused) → IsOfMaking refused → Says refused → answered.IsRemoved out
         → IsFilesRefusal making answered remaining names out refused
     of_making out (refusals.Engine fault) kind says removed = (of_reporting (refusals.Engine fault) kind says, removed)
+    of_making out (refusals.Dump place fault) kind says removed = absurd kind
     of_making out (refusals.Open index) kind says removed = absurd kind
     of_making out refusals.Create kind says removed = absurd kind
     of_making out refusals.Questions kind says removed = absurd kind

@@ -5,3 +5,4 @@ pub mod Files
 pub mod Saving
 pub mod Streams
 pub mod Telling
+pub mod Comparing

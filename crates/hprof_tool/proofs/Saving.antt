@@ -158,6 +158,7 @@ module _ {F : Type 0} (answered : Answered F) (remaining : F → Option (List �
   -- a refusal to open is one of these refusals
   pub opening_saves : (refused : Refused) → IsOfOpening answered names refused → IsSalvageRefusal answered remaining names out refused
   opening_saves (refusals.Engine fault) is = absurd is
+  opening_saves (refusals.Dump place fault) is = absurd is
   opening_saves (refusals.Open index) is = is
   opening_saves refusals.Create is = absurd is
   opening_saves refusals.Questions is = absurd is

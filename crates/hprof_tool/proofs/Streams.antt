@@ -41,6 +41,7 @@ pub kept_at_opening : {F O : Type 0} (contents : O → Option (List ℕ)) (IsFro
     (answered : Answered F) (names : List (Bor (List ℕ))) (refused : Refused) (old : O) → IsOfOpening answered names refused
     → Leaves contents IsFront refused old (Some old)
 kept_at_opening contents IsFront answered names (refusals.Engine fault) old is = absurd is
+kept_at_opening contents IsFront answered names (refusals.Dump place fault) old is = absurd is
 kept_at_opening contents IsFront answered names (refusals.Open index) old is = refl
 kept_at_opening contents IsFront answered names refusals.Create old is = absurd is
 kept_at_opening contents IsFront answered names refusals.Questions old is = absurd is

@@ -5,6 +5,7 @@ pub mod Prompting
 pub mod SalvagedFiles
 pub mod Status
 pub mod Streams
+pub mod Comparing
 pub mod Tasks
 pub mod Telling
 pub mod Words

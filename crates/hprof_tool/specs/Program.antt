@@ -57,6 +57,7 @@ IsRefusal making (refusals.Engine (tool.Write fault)) parts = (text : List ℕ) 
 IsRefusal making (refusals.Engine tool.DumpTooLong) parts =
     (heap : HeapValue) × making.IsTooLong heap × Agree parts heap.ids heap.millis heap.facts
 IsRefusal making (refusals.Engine tool.OutOfMemory) parts = ⊥
+IsRefusal making (refusals.Dump place fault) parts = ⊥
 IsRefusal making (refusals.Open index) parts = ⊥
 IsRefusal making refusals.Create parts = ⊥
 IsRefusal making refusals.Questions parts = ⊥
@@ -95,6 +96,7 @@ abbrev pub IsReportRefusal : {F : Type 0} → Making → Answered F → (F → O
 IsReportRefusal making answered remaining names (refusals.Engine tool.OutOfMemory) = ⊥
 IsReportRefusal making answered remaining names (refusals.Engine fault) =
     OfParts answered remaining names (IsRefusal making (refusals.Engine fault))
+IsReportRefusal making answered remaining names (refusals.Dump place fault) = ⊥
 IsReportRefusal making answered remaining names (refusals.Open index) = CannotOpenAt answered names index
 IsReportRefusal making answered remaining names refusals.Create = ⊥
 IsReportRefusal making answered remaining names refusals.Questions = ⊥
@@ -112,9 +114,22 @@ abbrev pub refused_of : ToolFault → Refused
 refused_of tool.OutOfMemory = refusals.OutOfMemory
 refused_of other = refusals.Engine other
 
+-- how it refuses one of two dumps
+abbrev pub of_dump : ℕ → Refused → Refused
+of_dump place (refusals.Engine (tool.Write fault)) = refusals.Engine (tool.Write fault)
+of_dump place (refusals.Engine fault) = refusals.Dump place fault
+of_dump place other = other
+
+-- this is the text of a refusal of the dump at that place: that of a part, or `part`, its number, and why
+abbrev pub IsDumpRefusalText : ℕ → ToolFault → List ℕ → Type 0
+IsDumpRefusalText place (tool.Part index fault) text = IsFaultText (tool.Part place fault) text
+IsDumpRefusalText place other text =
+    (why : List ℕ) × IsFaultText other why × (text ≡ codes "part " ++ (decimal place ++ (codes ": " ++ why)))
+
 -- this is the text of a refusal
 abbrev pub IsRefusalText : Refused → List ℕ → Type 0
 IsRefusalText (refusals.Engine fault) text = IsFaultText fault text
+IsRefusalText (refusals.Dump place fault) text = IsDumpRefusalText place fault text
 IsRefusalText (refusals.Open index) text = text ≡ codes "cannot open part " ++ decimal index
 IsRefusalText refusals.Create text = text ≡ codes "cannot create the output"
 IsRefusalText refusals.Questions text = text ≡ codes "read failed"

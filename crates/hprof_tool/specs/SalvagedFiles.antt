@@ -58,6 +58,7 @@ IsSalvageRefusal answered remaining names out (refusals.Engine tool.OutOfMemory)
 IsSalvageRefusal answered remaining names out (refusals.Engine fault) =
     (held : Option (List ℕ)) × (holds : Option (List ℕ)) × SalvagesFiles answered remaining names held holds (Err fault)
     × answered.IsRemoved out
+IsSalvageRefusal answered remaining names out (refusals.Dump place fault) = ⊥
 IsSalvageRefusal answered remaining names out (refusals.Open index) = CannotOpenAt answered names index
 IsSalvageRefusal answered remaining names out refusals.Create = answered.CannotCreate out
 IsSalvageRefusal answered remaining names out refusals.Questions = ⊥

@@ -15,6 +15,7 @@ use Rattle.hprof_tool.specs.declared.command.Question.TheVariants as questions
 use Rattle.hprof_tool.specs.declared.command.Task.{Task}
 use Rattle.hprof_tool.specs.declared.command.Task.TheVariants as tasks
 use Rattle.hprof_tool.specs.declared.program.refused.Refused.{Refused}
+use Rattle.hprof_tool.specs.Comparing.{ComparesFiles, RefusesDiff}
 use Rattle.hprof_tool.specs.Conversing.{AnswersQuestions, RefusesQuestions}
 use Rattle.hprof_tool.specs.Folder.{Answered}
 use Rattle.hprof_tool.specs.Program.{IsMadeOfStream, IsMadeOfFiles, IsMadeInFile}
@@ -32,6 +33,7 @@ AsksFor word (tasks.Check parts) = word ≡ codes "check"
 AsksFor word (tasks.Histogram parts) = word ≡ codes "histo"
 AsksFor word (tasks.Classes parts) = word ≡ codes "classes"
 AsksFor word (tasks.Objects kind parts) = word ≡ codes "objects"
+AsksFor word (tasks.Compare older newer) = word ≡ codes "diff"
 AsksFor word (tasks.Converse parts) = word ≡ codes "ask"
 AsksFor word (tasks.Ask questions.Object id parts) = word ≡ codes "object"
 AsksFor word (tasks.Ask questions.Path id parts) = word ≡ codes "path"
@@ -40,7 +42,7 @@ AsksFor word (tasks.Ask questions.Text id parts) = word ≡ codes "text"
 AsksFor word (tasks.Write files.Dump101 out parts) = word ≡ codes "join101"
 AsksFor word (tasks.Write files.Dump out parts) = (word ≢ codes "salvage") × (word ≢ codes "check") × (word ≢ codes "histo")
     × (word ≢ codes "classes") × (word ≢ codes "objects") × (word ≢ codes "object") × (word ≢ codes "path") × (word ≢ codes "refs")
-    × (word ≢ codes "text") × (word ≢ codes "ask") × (word ≢ codes "join101")
+    × (word ≢ codes "text") × (word ≢ codes "ask") × (word ≢ codes "diff") × (word ≢ codes "join101")
 
 -- answered: what came of the names of files
 -- tells, holds: what a file has left to tell, and what one tells that it holds;  left, contents: the same of the streams
@@ -58,6 +60,7 @@ module _ {F I O : Type 0} (answered : Answered F) (tells holds : F → Option (L
   DoesTask (tasks.Classes parts) input old new = IsMadeOfFiles (IsMadeOf IsClassesReport) answered tells contents parts.items old new
   DoesTask (tasks.Objects kind parts) input old new = (named : Kind) × NamesKind kind.now named
       × IsMadeOfFiles (IsMadeOf (IsObjectsReport named)) answered tells contents parts.items old new
+  DoesTask (tasks.Compare older newer) input old new = ComparesFiles answered tells older.now newer.now contents old new
   DoesTask (tasks.Converse parts) input old new = AnswersQuestions answered tells left contents parts.items input old new
   DoesTask (tasks.Ask question id parts) input old new =
       IsIdText id.now × IsMadeOfFiles (IsMadeOf (is_answer question (id_value id.now))) answered tells contents parts.items old new
@@ -73,6 +76,7 @@ module _ {F I O : Type 0} (answered : Answered F) (tells holds : F → Option (L
   RefusesTask (tasks.Classes parts) input old why new = RefusesReport classes_making answered tells contents parts.items old why new
   RefusesTask (tasks.Objects kind parts) input old why new = (named : Kind) × NamesKind kind.now named
       × RefusesReport (objects_making named) answered tells contents parts.items old why new
+  RefusesTask (tasks.Compare older newer) input old why new = RefusesDiff answered tells older.now newer.now contents old why new
   RefusesTask (tasks.Converse parts) input old why new = RefusesQuestions answered tells left contents parts.items input old why new
   RefusesTask (tasks.Ask question id parts) input old why new =
       IsIdText id.now × RefusesReport (answer_making question (id_value id.now)) answered tells contents parts.items old why new

@@ -49,6 +49,13 @@ pub(crate) enum Task<'a> {
         /// The names of the parts, in order.
         parts: Vec<&'a str>,
     },
+    /// To report what grew from one dump to another.
+    Compare {
+        /// The name of the older dump.
+        older: &'a str,
+        /// The name of the newer dump.
+        newer: &'a str,
+    },
     /// To answer questions on standard input about the heap of the parts in files.
     Converse {
         /// The names of the parts, in order.
@@ -152,6 +159,23 @@ fn objects_command<'a>(alloc: Global) -> Result<Command<'a>, AllocError> {
         .arg(parts_arg(alloc))
 }
 
+/// Returns an argument for the name of a dump, which is required.
+fn dump_arg<'a>(alloc: Global, name: &'a str, value_name: &'a str, help: &'a str) -> Arg<'a> {
+    Arg::new(alloc, name)
+        .value_name(value_name)
+        .help(help)
+        .required(true)
+        .action(ArgAction::Set)
+}
+
+/// Returns the command that compares two dumps.
+fn diff_command<'a>(alloc: Global) -> Result<Command<'a>, AllocError> {
+    Command::new(alloc, "diff")
+        .about("Says which objects grew from one dump to another, in number and in bytes")
+        .arg(dump_arg(alloc, "older", "OLD", "The older dump, in one part"))?
+        .arg(dump_arg(alloc, "newer", "NEW", "The newer dump, in one part"))
+}
+
 /// Returns the program's command line.
 fn command<'a>(alloc: Global) -> Result<Command<'a>, AllocError> {
     Command::new(alloc, "hprof")
@@ -186,6 +210,7 @@ fn command<'a>(alloc: Global) -> Result<Command<'a>, AllocError> {
             "Says what superclass each class has, and how many objects and bytes",
         )?)?
         .subcommand(objects_command(alloc)?)?
+        .subcommand(diff_command(alloc)?)?
         .subcommand(asking_command(
             alloc,
             "object",
@@ -232,6 +257,10 @@ fn task_named<'a>(alloc: Global, name: &str, words: &ArgMatches<'a>) -> Result<T
         "classes" => Task::Classes { parts },
         "objects" => Task::Objects { kind, parts },
         "ask" => Task::Converse { parts },
+        "diff" => Task::Compare {
+            older: words.get_str("older").unwrap_or(""),
+            newer: words.get_str("newer").unwrap_or(""),
+        },
         "object" => Task::Ask {
             question: Question::Object,
             id,

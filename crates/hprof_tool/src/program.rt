@@ -7,6 +7,7 @@ ghost use Rattle.hprof_text.specs.Identifier.{IsIdText, id_value};
 ghost use Rattle.hprof_histogram.specs.declared.row.Kind.{Kind};
 ghost use Rattle.hprof_dialogue.specs.Asked.{NamesKind};
 ghost use Rattle.hprof_leaks.specs.ObjectsText.{IsObjectsReport, objects_making};
+ghost use Rattle.hprof_tool.specs.Comparing.{ComparesFiles, RefusesDiff};
 ghost use Rattle.hprof_tool.specs.Conversing.{AnswersQuestions, RefusesQuestions};
 ghost use Rattle.hprof_tool.specs.Program.{IsMadeOfStream, IsMadeInFile, IsMadeOfFiles};
 ghost use Rattle.hprof_tool.specs.SalvagedFiles.{IsSalvagedFile};
@@ -22,6 +23,7 @@ use answers::{
     Ended, answer_no_id, answer_no_kind, answer_no_words, answer_outcome, answer_stream,
     answer_words,
 };
+use comparing::compare_files;
 use conversing::ask_files;
 use folder::Folder;
 use hprof_dialogue::kind_of;
@@ -40,6 +42,7 @@ use std::io::{Read, Write};
 use std::rt::Files;
 
 mod answers;
+mod comparing;
 mod conversing;
 mod folder;
 mod joining;
@@ -253,6 +256,28 @@ fn converse<F: Folder, I: Read + Drop, P: Write + Drop, O: Write + Drop, E: Writ
     )
 }
 
+/// Writes the difference of two dumps in files to `output`, which it gives back.
+fn compare<F: Folder, O: Write + Drop, E: Write>(
+    alloc: Global,
+    files: &F,
+    older: &str,
+    newer: &str,
+    output: O,
+    errors: &mut E,
+) -> Ended<O>
+    ensures done { result.status ≡ Status.Done → (written : O) × (result.output ≡ Some written)
+        × ComparesFiles (F.answered files.now) F.File.remaining older.now newer.now O.contents output written }
+    ensures refused { result.status ≡ Status.Refused → (why : Refused) × RefusesDiff (F.answered files.now) F.File.remaining
+        older.now newer.now O.contents output why result.output }
+    ensures understood { result.status ≢ Status.NotUnderstood }
+{
+    answer_stream(
+        alloc,
+        compare_files(alloc, files, older, newer, output),
+        errors,
+    )
+}
+
 /// Returns the words as a list.
 fn list_of(alloc: Global, words: io::Result<Args>) -> io::Result<Vec<String>> {
     Ok(words?.collect(alloc)?)
@@ -294,6 +319,9 @@ fn perform<F: Folder, I: Read + Drop, O: Write + Drop, E: Write, P: Write + Drop
         }
         Task::Classes { parts } => { report(alloc, files, &ClassesReport, &parts, output, errors) }
         Task::Objects { kind, parts } => { objects(alloc, files, kind, &parts, output, errors) }
+        Task::Compare { older, newer } => {
+            compare(alloc, files, older, newer, output, errors)
+        }
         Task::Converse { parts } => {
             converse(alloc, files, &parts, input, prompts, output, errors)
         }
@@ -312,6 +340,7 @@ fn perform<F: Folder, I: Read + Drop, O: Write + Drop, E: Write, P: Write + Drop
 /// - `salvage OUT PART..` salvages parts in files to a new file, and tells their faults on `output`.
 /// - `check PART..`, `histo PART..`, `classes PART..`, `objects KIND PART..`, `object ID PART..`, `path ID PART..`, `refs ID PART..` and
 ///   `text ID PART..` write a report on parts in files to `output`.
+/// - `diff OLD NEW` writes a report on two dumps in files to `output`.
 /// - `ask PART..` reads parts in files, and answers on `output` the questions that come as lines on `input`. It prompts for each line on
 ///   `prompts`, if there are prompts.
 pub fn run<F: Files, I: Read + Drop, O: Write + Drop, E: Write, P: Write + Drop>(

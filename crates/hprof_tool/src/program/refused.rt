@@ -1,7 +1,7 @@
 //! Reasons why the program refuses.
 
 ghost use Rattle.std.specs.Prelude.{◌≡◌, IfOk, string_bytes};
-ghost use Rattle.hprof_tool.specs.Program.{IsRefusalText};
+ghost use Rattle.hprof_tool.specs.Program.{IsDumpRefusalText, IsRefusalText, of_dump};
 
 use hprof_ask::AskFault;
 use hprof_devices::WriteFault;
@@ -14,6 +14,13 @@ use std::alloc::{AllocError, AllocFailed, Global};
 pub(crate) enum Refused {
     /// The engine refused.
     Engine(ToolFault),
+    /// The engine refused one of two dumps, of which each is one part.
+    Dump {
+        /// The number of the dump: 0 for the older one, 1 for the newer one.
+        place: usize,
+        /// Its fault.
+        fault: ToolFault,
+    },
     /// A part could not be opened.
     Open(usize),
     /// The new file could not be created.
@@ -36,18 +43,46 @@ pub(crate) struct Stopped<W> {
 pub(crate) const WRITE_FAILED: Refused = Refused::Engine(ToolFault::Write(WriteFault::Failed));
 
 impl Refused {
+    /// Returns the refusal of the dump at that place of two, whose parts alone were read. A writer that failed and want of memory are of no
+    /// dump.
+    pub(crate) fn of_dump(self, place: usize) -> Refused
+        ensures { result ≡ of_dump place self }
+    {
+        match self {
+            Refused::Engine(ToolFault::Write(fault)) => Refused::Engine(ToolFault::Write(fault)),
+            Refused::Engine(fault) => Refused::Dump { place, fault },
+            other => other,
+        }
+    }
+
     /// Returns its text, in one line.
     pub(crate) fn text(&self, alloc: Global) -> Result<String, AllocError>
         ensures { IfOk result (λ text. IsRefusalText self.now (string_bytes text)) }
     {
         match self {
             Refused::Engine(fault) => fault.text(alloc),
+            Refused::Dump { place, fault } => text_of_dump(alloc, *place, *fault),
             Refused::Open(index) => format!(in alloc; "cannot open part {index}"),
             Refused::Create => String::from_str(alloc, "cannot create the output"),
             Refused::Questions => String::from_str(alloc, "read failed"),
             Refused::OutOfMemory => String::from_str(alloc, "out of memory"),
         }
     }
+}
+
+/// Returns the text that one of two dumps was refused, and why.
+fn text_of_dump(alloc: Global, place: usize, fault: ToolFault) -> Result<String, AllocError>
+    ensures { IfOk result (λ text. IsDumpRefusalText place fault (string_bytes text)) }
+{
+    if let ToolFault::Part { fault, .. } = fault {
+        let of_part = ToolFault::Part {
+            index: place,
+            fault,
+        };
+        return of_part.text(alloc);
+    }
+    let why = fault.text(alloc)?;
+    format!(in alloc; "part {place}: {why}")
 }
 
 impl<T: Drop> From<AllocFailed<T>> for Refused {

@@ -1,0 +1,68 @@
+use Rattle.std.specs.Prelude.{⊤}
+use Rattle.std.proofs.Common.{Some, ap, sym, subst, refl, ◌∙◌}
+use Rattle.hprof_stream.specs.declared.limits.Limits.{Limits}
+use Rattle.hprof_growth.specs.Kept.{totals_in}
+use Rattle.hprof_diff.specs.Comparing.{Counts}
+use Rattle.hprof_diff.specs.DifferenceText.{IsGrowthReport}
+use Rattle.hprof_tool.specs.declared.program.refused.Refused.{Refused}
+use Rattle.hprof_tool.specs.Comparing.{IsFrontOfBoth, StopsComparing}
+use Rattle.hprof_tool.specs.Program.{of_dump, usual_limits}
+use Rattle.hprof_tool.proofs.Comparing.{difference_made, dump_leaves, new_kind, new_says, old_kind, old_leaves, old_says}
+use Rattle.hprof_tool.proofs.Making.{are_usual}
+use Rattle.hprof_tool.proofs.Streams.{stream_kind, stream_left, stream_refusal}
+use Rattle.hprof_tool.proofs.program.comparing.compare_readers.Goals as goal
+
+-- the older parts were refused
+pub returns-in-Err-clause-stops : goal.returns-in-Err-clause-stops
+returns-in-Err-clause-stops g c =
+    let left = g.R.Source.left in
+    let contents = g.W.Write.contents in
+    let olds = c.args.olds.now in
+    let news = c.args.news.now in
+    let usual = c.usual.ensures in
+    let counts = subst (λ (limits : Limits). Counts left g.R.Source.health g.R.Source.pulls limits olds c.count_parts.new.readers
+    (Some c.in-Err.fault)) (are_usual c.usual.result usual.item usual.reads usual.bytes) c.in-Err.ensures.counts in
+    subst (λ (why : Refused). StopsComparing left olds news contents c.args.writer why (Some c.args.writer))
+    (sym (c.of_dump.ensures ∙ ap (of_dump 0) c.from.ensures)) (
+      old_kind c.in-Err.fault,
+      λ old_parts new_parts told told_too. old_says left g.R.Source.health g.R.Source.pulls olds c.count_parts.new.readers c.in-Err.fault
+          counts old_parts new_parts told,
+      old_leaves left g.R.Source.health g.R.Source.pulls olds c.count_parts.new.readers contents (IsFrontOfBoth left olds news) c.args.writer
+          c.in-Err.fault counts,
+    )
+
+pub returns-in-Ok-write_through_buffer-clause-ok : goal.returns-in-Ok-write_through_buffer-clause-ok
+returns-in-Ok-write_through_buffer-clause-ok g c = λ old_parts new_parts told told_too.
+    let made = (c.in-Ok-write_through_buffer.ensures.ok.1.ok refl).1 new_parts told_too in
+    let are = c.in-Ok.ensures.totals old_parts told in
+    (made.0, difference_made (totals_in c.in-Ok.old) old_parts are new_parts made.0 made.1, made.2)
+
+-- the newer parts were refused, or the writer failed
+pub returns-clause-stops : goal.returns-clause-stops
+returns-clause-stops g c =
+    let left = g.R.Source.left in
+    let contents = g.W.Write.contents in
+    let olds = c.args.olds.now in
+    let news = c.args.news.now in
+    let totals = totals_in c.in-Ok.old in
+    let stopped = c.in-Err-write_through_buffer.stopped in
+    let stops = c.in-Err-write_through_buffer.ensures.stops in
+    let kind = stream_kind left _ _ news _ (IsGrowthReport totals) (λ heap. ⊥) (λ parts. ⊥) ⊤ contents c.args.writer stopped.why
+    stopped.writer stops in
+    let says = stream_refusal left _ _ news _ (IsGrowthReport totals) (λ heap. ⊥) (λ parts. ⊥) ⊤ contents c.args.writer stopped.why
+    stopped.writer stops in
+    subst (λ (why : Refused). StopsComparing left olds news contents c.args.writer why stopped.writer)
+    (sym c.of_dump-in-Err-write_through_buffer.ensures) (
+      new_kind stopped.why kind,
+      λ old_parts new_parts told told_too.
+          new_says totals old_parts (c.in-Ok.ensures.totals old_parts told) stopped.why kind new_parts (says new_parts told_too),
+      dump_leaves contents (IsFrontOfBoth left olds news) c.args.writer stopped.why stopped.writer
+          (stream_left left _ _ news _ (IsGrowthReport totals) (λ heap. ⊥) (λ parts. ⊥) ⊤ contents c.args.writer
+          (IsFrontOfBoth left olds news) (λ held holds writes old_parts new_parts told told_too.
+          let front = writes new_parts told_too in (
+            front.0,
+            front.1,
+            difference_made totals old_parts (c.in-Ok.ensures.totals old_parts told) new_parts front.0 front.2,
+            front.3,
+          )) stopped.why stopped.writer stops),
+    )

@@ -1,0 +1,99 @@
+-- What comparing two dumps comes to.
+use Rattle.std.specs.Prelude.{◌≡◌, ◌⊎◌, ℕ, List, [], ◌∷◌, Option, Some, ⊤}
+use Rattle.hprof_devices.specs.declared.device.Device.{Device}
+use Rattle.hprof_devices.specs.Device.{inner_of}
+use Rattle.hprof_rows.specs.HeapValue.{HeapValue}
+use Rattle.hprof_engine.specs.declared.tool_fault.ToolFault.{ToolFault}
+use Rattle.hprof_engine.specs.declared.tool_fault.ToolFault.TheVariants as tool
+use Rattle.hprof_engine.specs.Joining.{Agree, Tell}
+use Rattle.hprof_engine.specs.Makes.{WritesAll, WritesFront, dump_making}
+use Rattle.hprof_diff.specs.DifferenceText.{IsDifferenceOf}
+use Rattle.hprof_tool.specs.declared.program.refused.Refused.{Refused}
+use Rattle.hprof_tool.specs.declared.program.refused.Refused.TheVariants as refusals
+use Rattle.hprof_tool.specs.Folder.{Answered}
+use Rattle.hprof_tool.specs.Program.{IsRefusal}
+use Rattle.hprof_tool.specs.Streams.{Leaves}
+
+-- ---- parts
+
+-- the older parts are refused with the fault, or they agree and the newer ones are
+abbrev pub RefusesDump : (olds news : List (List ℕ)) → (place : ℕ) → ToolFault → Type 0
+RefusesDump olds news place fault = ((place ≡ 0) × IsRefusal dump_making (refusals.Engine fault) olds)
+    ⊎ ((place ≡ 1) × ((heap : HeapValue) × Agree olds heap.ids heap.millis heap.facts) × IsRefusal dump_making (refusals.Engine fault) news)
+
+-- what a refusal to compare parts says of them
+abbrev pub SaysOfTwo : (olds news : List (List ℕ)) → Refused → Type 0
+SaysOfTwo olds news (refusals.Engine (tool.Write fault)) = (text : List ℕ) × IsDifferenceOf olds news text
+SaysOfTwo olds news (refusals.Dump place fault) = RefusesDump olds news place fault
+SaysOfTwo olds news refusals.OutOfMemory = ⊤
+SaysOfTwo olds news other = ⊥
+
+-- the parts were refused, or the writer failed, or there was no memory
+abbrev pub IsOfComparing : Refused → Type 0
+IsOfComparing (refusals.Engine (tool.Write fault)) = ⊤
+IsOfComparing (refusals.Dump place fault) = ⊤
+IsOfComparing refusals.OutOfMemory = ⊤
+IsOfComparing other = ⊥
+
+-- that holds of what the readers of both tell
+abbrev pub OverBoth : {R : Type 0} → (R → Option (List ℕ)) → (olds news : List R) → (List (List ℕ) → List (List ℕ) → Type 0) → Type 0
+OverBoth left olds news Holds = (old_parts new_parts : List (List ℕ)) → Tell left olds old_parts → Tell left news new_parts
+    → Holds old_parts new_parts
+
+-- a front of their difference
+abbrev pub IsFrontOfBoth : {R : Type 0} → (R → Option (List ℕ)) → (olds news : List R) → (held holds : Option (List ℕ)) → Type 0
+IsFrontOfBoth left olds news held holds =
+    OverBoth left olds news (λ old_parts new_parts. WritesFront (IsDifferenceOf old_parts) new_parts held holds)
+
+-- what a refusal to compare what readers tell says of it, and leaves of the stream that was to be written to
+abbrev pub StopsComparing : {R O : Type 0} → (R → Option (List ℕ)) → (olds news : List R) → (O → Option (List ℕ)) → (old : O)
+    → Refused → (new : Option O) → Type 0
+StopsComparing left olds news contents old why new = IsOfComparing why
+    × OverBoth left olds news (λ old_parts new_parts. SaysOfTwo old_parts new_parts why)
+    × Leaves contents (IsFrontOfBoth left olds news) why old new
+
+-- ---- files
+
+-- the only part is the file of that name, as it came of opening it
+abbrev pub IsOneOpened : {F : Type 0} → Answered F → List ℕ → List (Device F) → Type 0
+IsOneOpened {F} answered name parts = (part : Device F) × (parts ≡ part ∷ []) × answered.IsOpened name (inner_of part)
+
+-- the file of that name could not be opened, or there was no memory
+abbrev pub IsOfOpeningOne : {F : Type 0} → Answered F → List ℕ → (place : ℕ) → Refused → Type 0
+IsOfOpeningOne answered name place (refusals.Open other) = (other ≡ place) × answered.CannotOpen name
+IsOfOpeningOne answered name place refusals.OutOfMemory = ⊤
+IsOfOpeningOne answered name place other = ⊥
+
+-- answered: what came of the names of files;  tells: what a file has left to tell
+-- older, newer: the names of the dumps
+module _ {F : Type 0} (answered : Answered F) (tells : F → Option (List ℕ)) (older newer : List ℕ) where
+  -- the files of these names were opened, and this holds of what they tell
+  pub record OfDumps (Holds : List (List ℕ) → List (List ℕ) → Type 0) : Type 0 where
+    pub old : F
+    pub new : F
+    pub old_opened : answered.IsOpened older old
+    pub new_opened : answered.IsOpened newer new
+    pub holds : (one other : List ℕ) → tells old ≡ Some one → tells new ≡ Some other → Holds (one ∷ []) (other ∷ [])
+
+  -- the file of the older name could not be opened, or that of the newer one
+  abbrev pub CannotOpenDump : ℕ → Type 0
+  CannotOpenDump place = ((place ≡ 0) × answered.CannotOpen older)
+      ⊎ ((place ≡ 1) × ((old : F) × answered.IsOpened older old) × answered.CannotOpen newer)
+
+  -- what a refusal to compare them says
+  abbrev pub IsDiffRefusal : Refused → Type 0
+  IsDiffRefusal (refusals.Engine (tool.Write fault)) = OfDumps (λ olds news. (text : List ℕ) × IsDifferenceOf olds news text)
+  IsDiffRefusal (refusals.Dump place fault) = OfDumps (λ olds news. RefusesDump olds news place fault)
+  IsDiffRefusal (refusals.Open place) = CannotOpenDump place
+  IsDiffRefusal refusals.OutOfMemory = ⊤
+  IsDiffRefusal other = ⊥
+
+  module _ {O : Type 0} (contents : O → Option (List ℕ)) (before : O) where
+    -- their difference was written
+    abbrev pub ComparesFiles : (after : O) → Type 0
+    ComparesFiles after = OfDumps (λ olds news. WritesAll (IsDifferenceOf olds) news (contents before) (contents after))
+
+    -- what a refusal says, and leaves of the stream
+    abbrev pub RefusesDiff : Refused → (after : Option O) → Type 0
+    RefusesDiff why after = IsDiffRefusal why
+        × Leaves contents (λ held holds. OfDumps (λ olds news. WritesFront (IsDifferenceOf olds) news held holds)) why before after
