@@ -1,10 +1,11 @@
 #!/usr/bin/env python3
 """Checks that the pages name what is there, and that README shows what the program prints.
 
-In each page a link leads to a file; a path in backticks is one of the tree; a name in backticks, as `join_to` or `Gatherer::new`, stands in the
-code or the definitions; of `call`: `clause` the clause stands in a file that has the call; each crate that is named is there; and
-DEFINITIONS names each file of definitions, and LIBRARY quotes the examples. Each command that README shows behind a `$` is run on the sample dumps, and its output compared line for
-line, if the program was built. The status is 0 if nothing differs.
+In each page a link leads to a file; a path in backticks is one of the tree; a name in backticks, as `join_to` or `Gatherer::new`, stands
+in the code or the definitions; of `call`: `clause` the clause stands in a file that has the call; each crate that is named is there; and
+DEFINITIONS names each file of definitions, and LIBRARY quotes the examples. The manual page has the commands of the program, and man has
+no warning of it. Each command that README shows behind a `$` is run on the sample dumps, and its output compared line for line, if the
+program was built. The status is 0 if nothing differs.
 """
 
 import re
@@ -12,12 +13,15 @@ import subprocess
 import sys
 import tempfile
 from pathlib import Path
-from shutil import copy
+from shutil import copy, which
 
 ROOT = Path(__file__).resolve().parent.parent
 PAGES = [ROOT / "README.md", ROOT / "CONTRIBUTING.md", *sorted(ROOT.glob("docs/*.md")), *sorted(ROOT.glob("bench/*.md"))]
 PROGRAM = ROOT / "crates" / "hprof" / "out" / "hprof"
 SAMPLES = ROOT / "crates" / "hprof" / "data"
+MANUAL = ROOT / "docs" / "hprof.1"
+COMMAND = re.compile(r'(?:_command|Command::new)\(\s*alloc,\s*"(\w+)"')
+KIT = re.compile(r"rattle-kit-\w+ logic \w+")
 NAME = re.compile(r"[A-Za-z]\w*(::\w+)*(\(\))?")
 PLACES = re.compile(r"\b(hprof_\w+)(?:: |/specs/)(\w+\.antt(?:, \w+\.antt)*)")
 CLAUSES = re.compile(r"`([A-Za-z]\w*(?:::\w+)*)`: ((?:`\w+`(?:, | and )?)+)")
@@ -81,6 +85,17 @@ def examples():
     return [str(path.relative_to(ROOT)) for path in ROOT.glob("crates/example_*/src/main.rt") if path.read_text() not in quoted]
 
 
+def manual():
+    """The commands that the program or the manual page has alone, what `--version` should say, and the warnings of man."""
+    code = ROOT / "crates" / "hprof_tool" / "src" / "command.rt"
+    commands = {"hprof", *re.findall(r"(?m)^\.SS (\w+)", MANUAL.read_text())}
+    yield from sorted(commands ^ set(COMMAND.findall(code.read_text())))
+    yield from set(KIT.findall((ROOT / "README.md").read_text())) - set(KIT.findall((code.parent / "command" / "help.rt").read_text()))
+    if which("man"):
+        show = ["man", "--warnings", "-E", "UTF-8", "-l", "-Tutf8", MANUAL]
+        yield from subprocess.run(show, stdout=subprocess.DEVNULL, stderr=subprocess.PIPE, text=True).stderr.splitlines()
+
+
 def shown():
     """The commands that README shows, each with its output."""
     for block in re.findall(r"(?m)(?:^    .*\n|^\n(?=    ))+", (ROOT / "README.md").read_text()):
@@ -106,6 +121,7 @@ def main():
     faults = [f"{page.relative_to(ROOT)}: {fault}" for page in PAGES for fault in faults_of(page, files, known)]
     faults += [f"docs/DEFINITIONS.md: {place}" for place in definitions()]
     faults += [f"docs/LIBRARY.md: {path} is not quoted" for path in examples()]
+    faults += [f"docs/hprof.1: {fault}" for fault in manual()]
     if PROGRAM.exists():
         faults += [f"README.md: {fault}" for fault in outputs()]
     print(*faults, f"{len(PAGES)} pages, {len(faults)} faults", sep="\n")

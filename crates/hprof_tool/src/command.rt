@@ -6,6 +6,8 @@ ghost use Rattle.hprof_tool.specs.Tasks.{AsksFor};
 use clap::{Arg, ArgAction, ArgMatches, Command, Error};
 use std::alloc::{AllocError, Global};
 
+mod help;
+
 /// The task that the words ask for.
 #[derive(Drop)]
 pub(crate) enum Task<'a> {
@@ -98,18 +100,22 @@ pub(crate) enum Question {
 fn parts_arg<'a>(alloc: Global) -> Arg<'a> {
     Arg::new(alloc, "part")
         .value_name("PART")
-        .help("The parts, each a whole dump")
+        .help("The dump, or the parts that together hold one heap")
         .num_args(0..)
         .action(ArgAction::Append)
 }
 
-/// Returns a command that reports on parts.
+/// Returns a command that reports on parts. Its help has the text behind its arguments.
 fn reporting_command<'a>(
     alloc: Global,
     name: &'a str,
     about: &'a str,
+    text: &'a str,
 ) -> Result<Command<'a>, AllocError> {
-    Command::new(alloc, name).about(about).arg(parts_arg(alloc))
+    Command::new(alloc, name)
+        .about(about)
+        .after_help(text)
+        .arg(parts_arg(alloc))
 }
 
 /// Returns a command that writes a new file that is made of parts.
@@ -117,6 +123,7 @@ fn writing_command<'a>(
     alloc: Global,
     name: &'a str,
     about: &'a str,
+    text: &'a str,
 ) -> Result<Command<'a>, AllocError> {
     let out = Arg::new(alloc, "out")
         .value_name("OUT")
@@ -125,6 +132,7 @@ fn writing_command<'a>(
         .action(ArgAction::Set);
     Command::new(alloc, name)
         .about(about)
+        .after_help(text)
         .arg(out)?
         .arg(parts_arg(alloc))
 }
@@ -134,6 +142,7 @@ fn asking_command<'a>(
     alloc: Global,
     name: &'a str,
     about: &'a str,
+    text: &'a str,
 ) -> Result<Command<'a>, AllocError> {
     let id = Arg::new(alloc, "id")
         .value_name("ID")
@@ -142,6 +151,7 @@ fn asking_command<'a>(
         .action(ArgAction::Set);
     Command::new(alloc, name)
         .about(about)
+        .after_help(text)
         .arg(id)?
         .arg(parts_arg(alloc))
 }
@@ -150,11 +160,12 @@ fn asking_command<'a>(
 fn objects_command<'a>(alloc: Global) -> Result<Command<'a>, AllocError> {
     let kind = Arg::new(alloc, "kind")
         .value_name("KIND")
-        .help("The identifier of a class, in hexadecimal, or a type of arrays, as byte[]")
+        .help("The identifier of a class, or a type of arrays, as byte[]")
         .required(true)
         .action(ArgAction::Set);
     Command::new(alloc, "objects")
-        .about("Says which objects a class or a type has, the largest first")
+        .about("Prints the objects of a class or a type, the largest first")
+        .after_help(help::OBJECTS)
         .arg(kind)?
         .arg(parts_arg(alloc))
 }
@@ -171,67 +182,104 @@ fn dump_arg<'a>(alloc: Global, name: &'a str, value_name: &'a str, help: &'a str
 /// Returns the command that compares two dumps.
 fn diff_command<'a>(alloc: Global) -> Result<Command<'a>, AllocError> {
     Command::new(alloc, "diff")
-        .about("Says which objects grew from one dump to another, in number and in bytes")
-        .arg(dump_arg(alloc, "older", "OLD", "The older dump, in one part"))?
-        .arg(dump_arg(alloc, "newer", "NEW", "The newer dump, in one part"))
+        .about("Prints what grew from one dump to another, in bytes and objects")
+        .after_help(help::DIFF)
+        .arg(dump_arg(alloc, "older", "OLD", "The older dump"))?
+        .arg(dump_arg(alloc, "newer", "NEW", "The newer dump"))
 }
 
-/// Returns the program's command line.
-fn command<'a>(alloc: Global) -> Result<Command<'a>, AllocError> {
-    Command::new(alloc, "hprof")
-        .about(
-            "Reads and joins Java heap dumps; without a command, from standard input to standard output",
-        )
-        .disable_help_subcommand(true)
+/// Adds the commands that write a new file.
+fn with_writing<'a>(alloc: Global, program: Command<'a>) -> Result<Command<'a>, AllocError> {
+    program
         .subcommand(writing_command(
             alloc,
             "join",
-            "Joins parts of a Java heap into one canonical dump",
+            "Joins parts of one heap into one canonical dump",
+            help::JOIN,
         )?)?
         .subcommand(writing_command(
             alloc,
             "join101",
-            "Joins parts of a Java heap into one dump for tools that read JAVA PROFILE 1.0.1 alone",
+            "Joins parts of one heap into one JAVA PROFILE 1.0.1 dump",
+            help::JOIN101,
         )?)?
         .subcommand(writing_command(
             alloc,
             "salvage",
-            "Saves what is whole in damaged parts of a Java heap, and says what is wrong with them",
+            "Saves each damaged part up to its fault, and prints the faults",
+            help::SALVAGE,
+        )?)
+}
+
+/// Adds the commands that report on all parts, or on a class or a type.
+fn with_reporting<'a>(alloc: Global, program: Command<'a>) -> Result<Command<'a>, AllocError> {
+    program
+        .subcommand(reporting_command(
+            alloc,
+            "check",
+            "Prints the version and time of each part, and numbers of facts",
+            help::CHECK,
         )?)?
-        .subcommand(reporting_command(alloc, "check", "Says how many facts the parts have")?)?
         .subcommand(reporting_command(
             alloc,
             "histo",
-            "Says how many objects of each class there are, and how many bytes they have",
+            "Prints the class histogram: the bytes and objects of each class",
+            help::HISTO,
         )?)?
         .subcommand(reporting_command(
             alloc,
             "classes",
-            "Says what superclass each class has, and how many objects and bytes",
+            "Prints each class, its superclass, and its bytes and objects",
+            help::CLASSES,
         )?)?
         .subcommand(objects_command(alloc)?)?
-        .subcommand(diff_command(alloc)?)?
+        .subcommand(diff_command(alloc)?)
+}
+
+/// Adds the commands that report on an identifier.
+fn with_asking<'a>(alloc: Global, program: Command<'a>) -> Result<Command<'a>, AllocError> {
+    program
         .subcommand(asking_command(
             alloc,
             "object",
-            "Says what the class and the object of an identifier hold",
+            "Prints the contents of a class, an instance or an array",
+            help::OBJECT,
         )?)?
         .subcommand(asking_command(
             alloc,
             "path",
-            "Says how few references lead to an identifier from a root, and by which path",
+            "Prints the shortest path from a GC root to a class or an object",
+            help::PATH,
         )?)?
-        .subcommand(asking_command(alloc, "refs", "Says what refers to an identifier")?)?
+        .subcommand(asking_command(
+            alloc,
+            "refs",
+            "Prints each reference to a class or an object",
+            help::REFS,
+        )?)?
         .subcommand(asking_command(
             alloc,
             "text",
-            "Says the text of a string, or of an array of chars or bytes",
-        )?)?
-        .subcommand(reporting_command(
-            alloc,
-            "ask",
-            "Reads the parts once, and answers questions that come as lines on standard input",
+            "Prints the text of a string, or of an array of chars or bytes",
+            help::TEXT,
         )?)
+}
+
+/// Returns the program's command line.
+fn command<'a>(alloc: Global) -> Result<Command<'a>, AllocError> {
+    let program = Command::new(alloc, "hprof")
+        .version(help::VERSION)
+        .about("Reads Java heap dumps, answers questions about them, and joins them")
+        .after_help(help::PROGRAM)
+        .disable_help_subcommand(true);
+    let program = with_writing(alloc, program)?;
+    let program = with_reporting(alloc, program)?;
+    with_asking(alloc, program)?.subcommand(reporting_command(
+        alloc,
+        "ask",
+        "Reads the parts once, and answers questions on standard input",
+        help::ASK,
+    )?)
 }
 
 /// Returns the names of the parts that were given to a command.
