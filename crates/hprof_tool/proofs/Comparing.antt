@@ -185,10 +185,13 @@ module _ {F O : Type 0} (answered : Answered F) (tells : F → Option (List ℕ)
     dumps_left (refusals.Open index) after kind leaves = absurd kind
     dumps_left refusals.Create after kind leaves = absurd kind
     dumps_left refusals.Questions after kind leaves = absurd kind
-    dumps_left refusals.OutOfMemory (Some after) kind leaves = (leaves.0, elim leaves.1 [
-      | inl none ↦ inl none
-      | inr front ↦ inr (front_of_dumps _ _ front)
-    ])
+    dumps_left refusals.OutOfMemory (Some after) kind leaves = (
+      leaves.0,
+      elim leaves.1 [
+        | inl none ↦ inl none
+        | inr front ↦ inr (front_of_dumps _ _ front)
+      ],
+    )
     dumps_left refusals.OutOfMemory None kind leaves = leaves
 
     pub dumps_refused : (why : Refused) (after : Option O) → StopsComparing left olds news contents before why after → Refuses why after

@@ -319,9 +319,7 @@ fn perform<F: Folder, I: Read + Drop, O: Write + Drop, E: Write, P: Write + Drop
         }
         Task::Classes { parts } => { report(alloc, files, &ClassesReport, &parts, output, errors) }
         Task::Objects { kind, parts } => { objects(alloc, files, kind, &parts, output, errors) }
-        Task::Compare { older, newer } => {
-            compare(alloc, files, older, newer, output, errors)
-        }
+        Task::Compare { older, newer } => { compare(alloc, files, older, newer, output, errors) }
         Task::Converse { parts } => {
             converse(alloc, files, &parts, input, prompts, output, errors)
         }

@@ -6,7 +6,7 @@ use Rattle.hprof_diff.specs.Comparing.{Counts}
 use Rattle.hprof_diff.specs.DifferenceText.{IsGrowthReport}
 use Rattle.hprof_tool.specs.declared.program.refused.Refused.{Refused}
 use Rattle.hprof_tool.specs.Comparing.{IsFrontOfBoth, StopsComparing}
-use Rattle.hprof_tool.specs.Program.{of_dump, usual_limits}
+use Rattle.hprof_tool.specs.Program.{of_dump}
 use Rattle.hprof_tool.proofs.Comparing.{difference_made, dump_leaves, new_kind, new_says, old_kind, old_leaves, old_says}
 use Rattle.hprof_tool.proofs.Making.{are_usual}
 use Rattle.hprof_tool.proofs.Streams.{stream_kind, stream_left, stream_refusal}
