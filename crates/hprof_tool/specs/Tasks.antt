@@ -44,6 +44,12 @@ AsksFor word (tasks.Write files.Dump out parts) = (word ≢ codes "salvage") × 
     × (word ≢ codes "classes") × (word ≢ codes "objects") × (word ≢ codes "object") × (word ≢ codes "path") × (word ≢ codes "refs")
     × (word ≢ codes "text") × (word ≢ codes "ask") × (word ≢ codes "diff") × (word ≢ codes "join101")
 
+-- the identifier that the task is about is none, or the class or type
+abbrev pub IsMisnamed : Task → Type 0
+IsMisnamed (tasks.Objects kind parts) = (named : Kind) → NamesKind kind.now named → ⊥
+IsMisnamed (tasks.Ask question id parts) = ¬ (IsIdText id.now)
+IsMisnamed other = ⊥
+
 -- answered: what came of the names of files
 -- tells, holds: what a file has left to tell, and what one tells that it holds;  left, contents: the same of the streams
 module _ {F I O : Type 0} (answered : Answered F) (tells holds : F → Option (List ℕ)) (left : I → Option (List ℕ)) (contents : O → Option (List ℕ)) where

@@ -12,7 +12,7 @@ ghost use Rattle.hprof_tool.specs.Conversing.{AnswersQuestions, RefusesQuestions
 ghost use Rattle.hprof_tool.specs.Program.{IsMadeOfStream, IsMadeInFile, IsMadeOfFiles};
 ghost use Rattle.hprof_tool.specs.SalvagedFiles.{IsSalvagedFile};
 ghost use Rattle.hprof_tool.specs.Streams.{RefusesStream, RefusesReport};
-ghost use Rattle.hprof_tool.specs.Tasks.{DoesTask, RefusesTask};
+ghost use Rattle.hprof_tool.specs.Tasks.{DoesTask, IsMisnamed, RefusesTask};
 ghost use Rattle.hprof_tool.specs.Telling.{TellsFaults, RefusesSalvage};
 ghost use Rattle.hprof_tool.specs.Words.{is_answer, answer_making, is_new_file};
 ghost use Rattle.hprof_tool.specs.declared.program.salvaging.Written.{Written};
@@ -298,6 +298,7 @@ fn perform<F: Folder, I: Read + Drop, O: Write + Drop, E: Write, P: Write + Drop
     ensures refused { result.status ≡ Status.Refused → (why : Refused) × RefusesTask (F.answered files.now)
         F.File.remaining F.File.contents I.remaining O.contents task.entry input output why result.output }
     ensures understood { result.status ≡ Status.NotUnderstood → result.output ≡ Some output }
+    ensures misnamed { result.status ≡ Status.NotUnderstood → IsMisnamed task.entry }
 {
     match task {
         Task::JoinInput => join_input(alloc, input, output, errors),

@@ -1,6 +1,6 @@
 //! Questions about the heap of parts in files.
 
-ghost use Rattle.std.specs.Prelude.{◌≡◌, [], All, IfOk, IfErr};
+ghost use Rattle.std.specs.Prelude.{◌≡◌, [], All, None, IfOk, IfErr};
 ghost use Rattle.std.specs.Io.Buffered.{writer_buffer, writer_contents};
 ghost use Rattle.hprof_devices.specs.Buffered.{buffered_health, buffered_of};
 ghost use Rattle.hprof_devices.specs.declared.health.Health.TheVariants.{Well};
@@ -55,6 +55,7 @@ fn ask_through_buffer<R: Source, Q: Source, W: Write + Drop>(
     ensures ok { IfOk result (AnswersAll W.contents writer (OverReaders R.left Q.left readers.old questions.old)) }
     ensures stops { IfErr result (λ stopped. LeavesAnswers W.contents writer (OverReaders R.left Q.left readers.old questions.old)
         (SaysOfReaders R.left readers.old) stopped.why stopped.writer) }
+    ensures gone { IfErr result (λ stopped. stopped.writer ≡ None → (readers.new ≡ readers.old) × (questions.new ≡ questions.old)) }
 {
     let Ok(buffered) = BufWriter::with_capacity(alloc, BUFFER_LEN, writer) else {
         return Err(Stopped {

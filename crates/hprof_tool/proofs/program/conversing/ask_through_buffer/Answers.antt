@@ -1,4 +1,5 @@
-use Rattle.std.proofs.Common.{◌≡◌, ◌∙◌, ℕ, List, [], Some, sym, subst, ap}
+use Rattle.std.proofs.Common.{◌≡◌, ◌∙◌, ℕ, List, [], Option, Some, None, sym, subst, ap}
+use Rattle.std.specs.Prelude.{⊤}
 use Rattle.std.specs.Io.KnownBytes.{append_known}
 use Rattle.std.specs.Io.Buffered.{writer_buffer, writer_contents, writer_inner}
 use Rattle.hprof_devices.specs.Buffered.{buffered_health, buffered_of}
@@ -28,6 +29,10 @@ returns-in-Ok-outcome-clause-ok g c =
     (λ device. writer_contents contents (buffered_of device)) buffered_health contents c.args.readers.now asked.new.readers
     c.args.questions.now asked.new.questions c.new-target.result after c.args.writer last at_first at_last c.in-Ok-outcome.ensures.asks
 
+abbrev is_there : {X : Type 0} → Option X → Type 0
+is_there (Some x) = ⊤
+is_there None = ⊥
+
 pub returns-in-Err : goal.returns-in-Err
 returns-in-Err g c =
     let contents = g.W.Write.contents in
@@ -52,6 +57,7 @@ returns-in-Err g c =
     ∙ ap (λ (b : _). writer_inner b) c.new-target.ensures.buffered ∙ c.in-Ok.ensures.inner in
     record {
       ok = tt;
+      gone = λ none. absurd (subst is_there none tt);
       stops = subst (λ (r : Refused). LeavesAnswers contents c.args.writer (OverReaders g.R.Source.left g.Q.Source.left c.args.readers.now
           c.args.questions.now) (SaysOfReaders g.R.Source.left c.args.readers.now) r (Some last)) (sym c.from.ensures)
           (stopped g.R.Source.left g.R.Source.health g.R.Source.pulls g.Q.Source.left g.Q.Source.health g.Q.Source.pulls
