@@ -53,7 +53,7 @@ LATE = [
 
 
 REPORTS = [["histo"], ["object", "c8"], ["object", "64"], ["object", "c9"], ["object", "ca"], ["path", "63"], ["path", "c9"], ["path", "ca"]]
-REPORTS += [["refs", "63"], ["refs", "c8"], ["refs", "c9"]]
+REPORTS += [["refs", "63"], ["refs", "c8"], ["refs", "c9"], ["classes"], ["objects", "64"], ["objects", "byte[]"], ["text", "ca"]]
 
 # Each report asked for twice, so that what is kept is made and then used.
 QUESTIONS = "".join(f"{' '.join(words)}\n" for words in [["help"], ["check"], *REPORTS, *REPORTS[::-1]]).encode()
@@ -96,6 +96,8 @@ def main():
         late = [folder / f"late{index}" for index in range(len(LATE))]
         for path, part in zip(late, LATE):
             path.write_bytes(part)
+        whole = folder / "whole"
+        whole.write_bytes(HEADER + b"".join(part[len(HEADER):] for part in LATE))
         cases = {
             "join": ["join", out, one, two],
             "conflict": ["join", out, one, one, two.with_name("three")],
@@ -104,6 +106,7 @@ def main():
             "check": ["check", one, two],
             **{" ".join(words): [*words, *late] for words in REPORTS},
             "ask": ["ask", *late],
+            "diff": ["diff", one, whole],
             "passed over, 100,000 bytes": ["join", out, short],
             "passed over, 10,000,000 bytes": ["join", out, long],
         }

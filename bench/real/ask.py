@@ -117,4 +117,5 @@ def main():
             print(f"| {step} | {bytes / size:.2f} |")
 
 
-main()
+if __name__ == "__main__":
+    main()
