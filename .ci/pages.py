@@ -8,6 +8,8 @@ no warning of it. Each command that README shows behind a `$` is run on the samp
 program was built. The status is 0 if nothing differs.
 """
 
+import os
+import pty
 import re
 import subprocess
 import sys
@@ -116,6 +118,18 @@ def outputs():
                 yield f"{command}\n{found}"
 
 
+def hint():
+    """What the program says first to a person at a terminal who gives no command, if FORMAT does not have that line."""
+    ours, theirs = pty.openpty()
+    with os.fdopen(ours, "wb", buffering=0) as terminal:
+        program = subprocess.Popen([PROGRAM], stdin=theirs, stdout=subprocess.DEVNULL, stderr=subprocess.PIPE, text=True)
+        os.close(theirs)
+        terminal.write(b"\x04")
+        said = program.communicate(timeout=60)[1].splitlines()
+    if not said or f"`{said[0]}`" not in (ROOT / "docs" / "FORMAT.md").read_text() or len(said) != 2:
+        yield f"what is said at a terminal: {said}"
+
+
 def main():
     files, known = tree()
     faults = [f"{page.relative_to(ROOT)}: {fault}" for page in PAGES for fault in faults_of(page, files, known)]
@@ -124,6 +138,7 @@ def main():
     faults += [f"docs/hprof.1: {fault}" for fault in manual()]
     if PROGRAM.exists():
         faults += [f"README.md: {fault}" for fault in outputs()]
+        faults += [f"docs/FORMAT.md: {fault}" for fault in hint()]
     print(*faults, f"{len(PAGES)} pages, {len(faults)} faults", sep="\n")
     sys.exit(bool(faults))
 

@@ -2,16 +2,36 @@
 #![tactic(auto)]
 
 use hprof_tool::run;
-use std::io::IsTerminal;
+use std::env::Args;
+use std::io::{IsTerminal, Write};
 use std::process::ExitCode;
 use std::{env, io};
+
+/// Tells a person who typed no command what is read, and where the commands are listed.
+const HINT: &str = "hprof: reading a dump from standard input; hprof --help lists the commands";
+
+/// Returns whether no word is behind the program's name.
+fn is_bare(words: &io::Result<Args>) -> bool {
+    match words {
+        Ok(words) => words.len() < 2,
+        Err(_) => false,
+    }
+}
 
 fn main(rt: HostRuntime) -> ExitCode {
     let words = env::args(&rt);
     let mut errors = rt.stderr();
+    let is_typed = rt.stdin().is_terminal();
+    if is_typed && is_bare(&words) {
+        // It goes on, also if that cannot be told.
+        let _ = writeln!(errors, "{HINT}");
+    }
     // A person who types questions is prompted for each.
-    let is_typed = rt.stdin().is_terminal() && rt.stderr().is_terminal();
-    let prompts = if is_typed { Some(rt.stderr()) } else { None };
+    let prompts = if is_typed && rt.stderr().is_terminal() {
+        Some(rt.stderr())
+    } else {
+        None
+    };
     let status = run(
         rt.alloc(),
         &rt,
