@@ -9,6 +9,7 @@ the built program, java, javac and rustc, as measure.py does. It is no part of t
 """
 
 import argparse
+import os
 import statistics
 import subprocess
 import sys
@@ -27,19 +28,21 @@ class Dialogue:
 
     def __init__(self, dump):
         self.start = time.perf_counter()
-        self.process = subprocess.Popen([PROGRAM, "ask", dump], stdin=subprocess.PIPE, stdout=subprocess.PIPE)
+        self.process = subprocess.Popen([PROGRAM, "ask", dump], stdin=subprocess.PIPE, stdout=subprocess.PIPE, bufsize=0)
 
     def ask(self, question):
         """The answer, without the empty line behind it, and the seconds that it took."""
         start = time.perf_counter()
         self.process.stdin.write(question.encode() + b"\n")
         self.process.stdin.flush()
-        lines = []
-        while (line := self.process.stdout.readline()) != b"\n":
-            if not line:
+        pieces, end = [], b""
+        while not (end.endswith(b"\n\n") or (end == b"\n" and len(pieces) == 1)):
+            piece = os.read(self.process.stdout.fileno(), 1 << 20)
+            if not piece:
                 sys.exit(f"no answer to {question}")
-            lines.append(line)
-        return b"".join(lines), time.perf_counter() - start
+            pieces.append(piece)
+            end = (end + piece)[-2:]
+        return b"".join(pieces)[:-1], time.perf_counter() - start
 
     def memory(self):
         """The greatest memory so far, in bytes."""
