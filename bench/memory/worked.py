@@ -19,7 +19,8 @@ from pathlib import Path
 HERE = Path(__file__).resolve().parent
 CRATE = HERE.parent.parent / "crates" / "hprof_worked"
 PROGRAM = CRATE / "out" / "hprof_worked"
-CALLS = {"join", "join101", "salvage", "check", "histo", "object", "refs", "path", "ask", "edges", "layout", "unite", "read", "facts", "$"}
+CALLS = {"join", "join101", "salvage", "check", "histo", "classes", "objects", "object", "refs", "path", "text", "diff", "ask", "edges", "layout"}
+CALLS |= {"unite", "read", "facts", "$"}
 TITLES = [
     "two names in any order and twice",
     "classes that come late",
@@ -38,6 +39,10 @@ TITLES = [
     "names in print",
     "no words",
     "the program reports on parts",
+    "classes with their objects",
+    "objects of a class",
+    "texts of strings",
+    "what grew",
     "each question",
     "the program, asked questions",
 ]
