@@ -20,8 +20,8 @@ its memory runs out. A compressed dump goes through zcat:
 
 PARTs are pieces of one heap, in any order; mostly there is one. Two dumps of
 one process are two heaps: `diff` compares them. Identifiers are hexadecimal,
-without 0x or @. A reader that closes early, as head does, is a failed write: cut with
-sed -n 1,10p instead.
+without 0x or @. A reader that closes early, as head does, is a failed write:
+cut with sed -n 1,10p instead.
 
 Exit status: 0 done, 1 refused (one line on standard error), 2 not understood.";
 
