@@ -59,8 +59,8 @@ padding, so totals are smaller than the JVM's. Arrays of numbers are under no
 class: their line has a type, and - in place of an identifier.
 
 Two dumps of one process are two heaps: `diff` compares them. A compressed dump
-goes through zcat: hprof histo <(zcat heap.hprof.gz). A reader that closes early, as
-head does, is a failed write.
+goes through zcat: hprof histo <(zcat heap.hprof.gz). A reader that closes
+early, as head does, is a failed write.
 
 Exit status: 0 done, 1 refused (one line on standard error), 2 not understood.";
 
