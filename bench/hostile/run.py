@@ -1,6 +1,7 @@
 #!/usr/bin/env python3
 """Times the program on hostile dumps: long chains and circles of classes, classes of many fields, instances of many slots, long
-chains of objects, great arrays, many roots, many that refer to one; questions by the million; and salvages a dump that is cut short at random places.
+chains of objects, great arrays, many roots, many that refer to one; questions by the million; namesakes, objects and
+texts by the million; and salvages a dump that is cut short at random places.
 
 Each dump is written by this script, and what the program answers is compared with what the dump was made to have, or, of one
 that is cut short, with what the plain program of bench/real writes. It prints a row for each: how many bytes the dump has, and
@@ -268,6 +269,39 @@ def asked_cases(less):
     ]
 
 
+def namesakes(count):
+    """So many classes of one name, each with an instance of one byte."""
+    records = [HEADER, struct.pack(">BIII", 1, 0, 5, 1), b"A"]
+    records += [struct.pack(">BIIIIII", 2, 0, 16, serial, serial, 0, 1) for serial in range(1, count + 1)]
+    return b"".join(records) + part(instance(number, number, b"\0") for number in range(1, count + 1))[len(HEADER):]
+
+
+def descending(count):
+    """So many instances of one class, the last identifier first, each of one byte."""
+    return part(instance(number, 1, b"\0") for number in range(count, 0, -1))
+
+
+def great_text(count):
+    """An array of so many bytes, none of which prints as itself."""
+    return part([struct.pack(">BIIIB", 0x23, 1, 1, count, 8) + b"\xff" * count])
+
+
+def leak_cases(folder, less):
+    """The reports that find a leak."""
+    million = 1_000_000 // less
+    nothing = folder / "nothing.hprof"
+    nothing.write_bytes(HEADER)
+    text = 100 * million
+    return [
+        ("1,000,000 classes of one name, beside nothing", lambda: namesakes(million), ["diff", str(nothing)],
+         ends(f"+{million} +{million} A", f"+{million} +{million} A", 1)),
+        *((f"{count:,} objects of one class, in descending order", lambda count=count: descending(count), ["objects", "1"],
+           ends("1 1", f"1 {count:x}", count)) for count in (5 * million, 10 * million)),
+        ("a text of 100,000,000 units, all escaped", lambda: great_text(text), ["text", "1"],
+         lambda lines: lines == [f"text {text} " + "\\u00ff" * text]),
+    ]
+
+
 def write_questions(path, asked):
     """Writes the questions to a file, in pieces of some megabytes."""
     question, count = asked
@@ -348,7 +382,7 @@ def main():
     print("|---|---|---|---|")
     with tempfile.TemporaryDirectory() as folder:
         folder = Path(folder)
-        for case in [*CASES, *path_cases(words.less), *refs_cases(words.less), *asked_cases(words.less)]:
+        for case in [*CASES, *path_cases(words.less), *refs_cases(words.less), *asked_cases(words.less), *leak_cases(folder, words.less)]:
             if is_wanted(case[0], case[2]):
                 wrong += not run_case(folder, *case)
         if is_wanted("cut short at 20 places", ["salvage"]):
