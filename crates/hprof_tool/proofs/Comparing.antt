@@ -44,6 +44,21 @@ new_kind refusals.Create kind = absurd kind
 new_kind refusals.Questions kind = absurd kind
 new_kind refusals.OutOfMemory kind = tt
 
+-- none of the newer parts is told as one of the older dump
+pub newer_place : (why : Refused) (fault : ToolFault) → IsOfMaking why → of_dump 1 why ≡ refusals.Dump 0 fault → ⊥
+newer_place (refusals.Engine (tool.Part index why)) fault kind same = cc
+newer_place (refusals.Engine tool.NoParts) fault kind same = cc
+newer_place (refusals.Engine tool.IdSizes) fault kind same = cc
+newer_place (refusals.Engine (tool.Conflict key)) fault kind same = cc
+newer_place (refusals.Engine (tool.Write why)) fault kind same = cc
+newer_place (refusals.Engine tool.DumpTooLong) fault kind same = cc
+newer_place (refusals.Engine tool.OutOfMemory) fault kind same = kind
+newer_place (refusals.Dump place why) fault kind same = kind
+newer_place (refusals.Open index) fault kind same = kind
+newer_place refusals.Create fault kind same = kind
+newer_place refusals.Questions fault kind same = kind
+newer_place refusals.OutOfMemory fault kind same = cc
+
 -- ---- the older parts were refused
 
 module _ {R : Type 0} (left : R → Option (List ℕ)) (health : R → Health) (pulls : R → ℕ) (old new : List R) where

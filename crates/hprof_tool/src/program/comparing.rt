@@ -3,6 +3,7 @@
 ghost use Rattle.std.specs.Prelude.{◌≡◌, All, IfOk, IfErr};
 ghost use Rattle.hprof_devices.specs.declared.health.Health.TheVariants.{Well};
 ghost use Rattle.hprof_devices.specs.Device.{health_of};
+ghost use Rattle.hprof_engine.specs.declared.tool_fault.ToolFault.{ToolFault};
 ghost use Rattle.hprof_engine.specs.Makes.{WritesAll};
 ghost use Rattle.hprof_diff.specs.DifferenceText.{IsDifferenceOf};
 ghost use Rattle.hprof_tool.specs.Comparing.{ComparesFiles, IsOfOpeningOne, IsOneOpened, OverBoth, RefusesDiff, StopsComparing};
@@ -28,6 +29,7 @@ fn compare_readers<R: Source, W: Write + Drop>(
     ensures ok { IfOk result (λ written. OverBoth R.left olds.old news.old
         (λ old_parts new_parts. WritesAll (IsDifferenceOf old_parts) new_parts (W.contents writer) (W.contents written))) }
     ensures stops { IfErr result (λ stopped. StopsComparing R.left olds.old news.old W.contents writer stopped.why stopped.writer) }
+    ensures unread { IfErr result (λ stopped. (fault : ToolFault) → stopped.why ≡ Refused.Dump 0 fault → news.new ≡ news.old) }
 {
     let old = match count_parts(alloc, olds, Limits::usual()) {
         Ok(old) => old,

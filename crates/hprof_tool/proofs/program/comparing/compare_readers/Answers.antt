@@ -7,7 +7,7 @@ use Rattle.hprof_diff.specs.DifferenceText.{IsGrowthReport}
 use Rattle.hprof_tool.specs.declared.program.refused.Refused.{Refused}
 use Rattle.hprof_tool.specs.Comparing.{IsFrontOfBoth, StopsComparing}
 use Rattle.hprof_tool.specs.Program.{of_dump}
-use Rattle.hprof_tool.proofs.Comparing.{difference_made, dump_leaves, new_kind, new_says, old_kind, old_leaves, old_says}
+use Rattle.hprof_tool.proofs.Comparing.{difference_made, dump_leaves, new_kind, new_says, newer_place, old_kind, old_leaves, old_says}
 use Rattle.hprof_tool.proofs.Making.{are_usual}
 use Rattle.hprof_tool.proofs.Streams.{stream_kind, stream_left, stream_refusal}
 use Rattle.hprof_tool.proofs.program.comparing.compare_readers.Goals as goal
@@ -66,3 +66,10 @@ returns-clause-stops g c =
             front.3,
           )) stopped.why stopped.writer stops),
     )
+
+pub returns-clause-unread : goal.returns-clause-unread
+returns-clause-unread g c = λ fault same.
+    let stopped = c.in-Err-write_through_buffer.stopped in
+    let kind = stream_kind g.R.Source.left _ _ c.args.news.now _ (IsGrowthReport (totals_in c.in-Ok.old)) (λ heap. ⊥) (λ parts. ⊥) ⊤
+    g.W.Write.contents c.args.writer stopped.why stopped.writer c.in-Err-write_through_buffer.ensures.stops in
+    absurd (newer_place stopped.why fault kind (sym c.of_dump-in-Err-write_through_buffer.ensures ∙ same))
