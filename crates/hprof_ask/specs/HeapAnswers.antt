@@ -17,10 +17,11 @@ use Rattle.hprof_reports.specs.RefsText.{IsRefsText}
 use Rattle.hprof_leaks.specs.ClassesText.{IsClassesText}
 use Rattle.hprof_leaks.specs.ObjectsText.{IsObjectsText}
 use Rattle.hprof_leaks.specs.TextReport.{IsTextLine}
+use Rattle.hprof_why.specs.WhyText.{IsWhyText}
 
 -- what can be asked, one question a line
 abbrev pub help_text : List ℕ
-help_text = codes "help\ncheck\nhisto\nclasses\nobject ID\nrefs ID\npath ID\ntext ID\nobjects KIND\n"
+help_text = codes "help\ncheck\nhisto\nclasses\nobject ID\nrefs ID\npath ID\ntext ID\nwhy ID\nobjects KIND\n"
 
 -- what is told of a question of one word: the report of its name
 abbrev pub IsWordReport : List PartSummary → IdSize → List FactValue → OneWord → List ℕ → Type 0
@@ -35,6 +36,7 @@ IsReportOf ids facts subjects.Object id report = IsObjectText ids facts id repor
 IsReportOf ids facts subjects.Refs id report = IsRefsText ids facts id report
 IsReportOf ids facts subjects.Path id report = IsPathText ids facts id report
 IsReportOf ids facts subjects.Text id report = IsTextLine ids facts id report
+IsReportOf ids facts subjects.Why id report = IsWhyText ids facts id report
 
 -- what is told of a question: the report of its name, or a line
 abbrev pub IsReport : List PartSummary → IdSize → List FactValue → Question → List ℕ → Type 0

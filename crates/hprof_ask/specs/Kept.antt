@@ -2,15 +2,17 @@
 use Rattle.std.specs.Prelude.{List, IfSome}
 use Rattle.hprof_values.specs.declared.ids.IdSize.{IdSize}
 use Rattle.hprof_items.specs.FactValue.{FactValue}
+use Rattle.hprof_known_layouts.specs.Known.{Knows}
 use Rattle.hprof_reach.specs.Reaching.{IsReach}
 use Rattle.hprof_referrers.specs.Index.{IsIndexOf}
 use Rattle.hprof_reports.specs.HistogramText.{IsHistogramText}
 use Rattle.hprof_leaks.specs.ClassesText.{IsClassesText}
 use Rattle.hprof_ask.specs.declared.kept.Kept.{Kept}
 
--- if a search, an index or the text of a report is kept, it is that of these facts
+-- if a search, layouts, an index or the text of a report are kept, they are those of these facts
 pub record IsKept (ids : IdSize) (facts : List FactValue) (kept : Kept) : Type 0 where
   pub reach : IfSome kept.reach (IsReach ids facts)
+  pub layouts : IfSome kept.layouts (Knows ids facts)
   pub referrers : IfSome kept.referrers (IsIndexOf ids facts)
   pub histogram : IfSome kept.histogram (λ text. IsHistogramText ids facts text.items)
   pub classes : IfSome kept.classes (λ text. IsClassesText ids facts text.items)

@@ -11,6 +11,7 @@ use Rattle.hprof_reports.specs.OneRefs.{one_refs}
 use Rattle.hprof_leaks.specs.OneClasses.{one_classes_text}
 use Rattle.hprof_leaks.specs.OneObjects.{one_objects_text}
 use Rattle.hprof_leaks.specs.OneText.{one_text_line}
+use Rattle.hprof_why.specs.OneWhy.{one_why_text}
 use Rattle.hprof_dialogue.specs.declared.question.OneWord.{OneWord}
 use Rattle.hprof_dialogue.specs.declared.question.OneWord.TheVariants as ones
 use Rattle.hprof_dialogue.specs.declared.question.Question.{Question}
@@ -33,6 +34,7 @@ module _ (summaries : List PartSummary) (ids : IdSize) (facts : List FactValue) 
   one_report_of subjects.Refs id = one_refs ids facts id
   one_report_of subjects.Path id = one_path_text ids facts id
   one_report_of subjects.Text id = one_text_line ids facts id
+  one_report_of subjects.Why id = one_why_text ids facts id
 
   one_report : (question : Question) (one other : List ℕ) → IsReport summaries ids facts question one
       → IsReport summaries ids facts question other → one ≡ other

@@ -1,6 +1,6 @@
 -- A question has an answer over a heap and what was read of each part.
 use Rattle.std.specs.Prelude.{map}
-use Rattle.std.proofs.Common.{ℕ, List, [], ◌++◌, Option, Some, None, codes, refl}
+use Rattle.std.proofs.Common.{ℕ, List, [], ◌++◌, codes, refl}
 use Rattle.hprof_values.specs.declared.ids.IdSize.{IdSize}
 use Rattle.hprof_items.specs.FactValue.{FactValue}
 use Rattle.hprof_stream.specs.declared.summary.PartSummary.{PartSummary}
@@ -8,11 +8,7 @@ use Rattle.hprof_rows.specs.Conflict.{IsConsistent}
 use Rattle.hprof_rows.proofs.Order.{order_agrees}
 use Rattle.hprof_heap.specs.declared.heap.Heap.{Heap}
 use Rattle.hprof_heap.specs.Heap.{heap_of}
-use Rattle.hprof_lookup.specs.Classes.{ClassValue}
-use Rattle.hprof_lookup.specs.Found.{IsClassFound, IsObjectFound}
 use Rattle.hprof_lookup.specs.HeapFacts.{facts_of, size_of}
-use Rattle.hprof_lookup.proofs.ClassFacts as classes
-use Rattle.hprof_lookup.proofs.ObjectFacts as objects
 use Rattle.hprof_layouts.proofs.FieldAnswers.{fields_exist}
 use Rattle.hprof_histogram.specs.declared.row.Kind.{Kind}
 use Rattle.hprof_histogram.proofs.ObjectOrder.{some_list}
@@ -24,11 +20,13 @@ use Rattle.hprof_reports.specs.Line.{text_of_lines}
 use Rattle.hprof_reports.specs.ObjectText.{IsObjectText, found_text}
 use Rattle.hprof_reports.specs.PathText.{IsPathText, reached_text}
 use Rattle.hprof_reports.specs.RefsText.{IsRefsText, edge_line}
+use Rattle.hprof_contents.proofs.Lookups.{class_exists, object_exists}
 use Rattle.hprof_contents.proofs.OneText.{text_exists}
 use Rattle.hprof_leaks.specs.ClassesText.{IsClassesText, classes_text}
 use Rattle.hprof_leaks.specs.ObjectsText.{IsObjectsText, objects_text}
 use Rattle.hprof_leaks.specs.TextReport.{IsTextLine, text_line}
 use Rattle.hprof_leaks.proofs.ClassLists.{some_dumps}
+use Rattle.hprof_why.proofs.SomeWhy.{why_exists}
 use Rattle.hprof_dialogue.specs.declared.question.OneWord.{OneWord}
 use Rattle.hprof_dialogue.specs.declared.question.OneWord.TheVariants as ones
 use Rattle.hprof_dialogue.specs.declared.question.Question.{Question}
@@ -40,18 +38,6 @@ use Rattle.hprof_ask.specs.SomeCheck.{some_check}
 use Rattle.hprof_ask.specs.SomeReferrers.{some_referrers}
 
 -- ---- reports on an identifier
-
-class_found : (facts : List FactValue) (id : ℕ) → (class : Option ClassValue) × IsClassFound facts id class
-class_found facts id = elim (classes.look_up facts id) [
-  | classes.Found dump has same ↦ (Some dump, (has, same))
-  | classes.NotFound none ↦ (None, none)
-]
-
-object_found : (facts : List FactValue) (id : ℕ) → (object : Option FactValue) × IsObjectFound facts id object
-object_found facts id = elim (objects.look_up facts id) [
-  | objects.Found fact has is ↦ (Some fact, (has, is))
-  | objects.NotFound none ↦ (None, none)
-]
 
 module _ (ids : IdSize) (facts : List FactValue) (agree : IsConsistent facts) where
   pub some_histogram : (text : List ℕ) × IsHistogramText ids facts text
@@ -65,8 +51,8 @@ module _ (ids : IdSize) (facts : List FactValue) (agree : IsConsistent facts) wh
   some_object : (id : ℕ) → (text : List ℕ) × IsObjectText ids facts id text
   some_object id =
       let naming = naming_exists facts in
-      let class = class_found facts id in
-      let object = object_found facts id in
+      let class = class_exists facts id in
+      let object = object_exists facts id in
       let fields = fields_exist ids facts id in (
         found_text naming.0 ids id fields.0 class.0 object.0,
         record {
@@ -128,6 +114,7 @@ module _ (ids : IdSize) (facts : List FactValue) (agree : IsConsistent facts) wh
     some_report_of subjects.Refs id = some_refs id
     some_report_of subjects.Path id = some_path_text id
     some_report_of subjects.Text id = some_text id
+    some_report_of subjects.Why id = why_exists ids facts agree id
 
     some_report : (question : Question) → (report : List ℕ) × IsReport summaries ids facts question report
     some_report questions.Nothing = ([], refl)

@@ -9,7 +9,9 @@ ghost use Rattle.hprof_ask.specs.HeapAnswers.{IsHeapAnswer, IsReport, IsReportOf
 ghost use Rattle.hprof_ask.specs.Kept.{IsKept};
 
 use crate::kept::Kept;
-use crate::reports::{write_kept_classes, write_kept_histogram, write_kept_path, write_kept_refs};
+use crate::reports::{
+    write_kept_classes, write_kept_histogram, write_kept_path, write_kept_refs, write_kept_why,
+};
 use hprof_devices::Target;
 use hprof_dialogue::{Answers, DialogueStop, OneWord, Question, Subject};
 use hprof_engine::WriteStop;
@@ -21,7 +23,7 @@ use std::alloc::Global;
 
 /// The questions that can be asked, one a line.
 const HELP: &str =
-    "help\ncheck\nhisto\nclasses\nobject ID\nrefs ID\npath ID\ntext ID\nobjects KIND\n";
+    "help\ncheck\nhisto\nclasses\nobject ID\nrefs ID\npath ID\ntext ID\nwhy ID\nobjects KIND\n";
 
 /// Answers questions over a heap and the summaries of its parts. Each answer is the text of the report that the question names, or a line,
 /// and an empty line behind it.
@@ -95,6 +97,7 @@ fn write_report_of<W: Target>(
         Subject::Refs => write_kept_refs(alloc, heap, kept, id, target),
         Subject::Path => write_kept_path(alloc, heap, kept, id, target),
         Subject::Text => write_text(alloc, heap, id, target),
+        Subject::Why => write_kept_why(alloc, heap, kept, id, target),
     }
 }
 

@@ -4,6 +4,7 @@ ghost use Rattle.std.specs.Prelude.{List};
 ghost use Rattle.hprof_values.specs.declared.ids.IdSize.{IdSize};
 ghost use Rattle.hprof_items.specs.FactValue.{FactValue};
 
+use hprof_known_layouts::KnownLayouts;
 use hprof_reach::Reach;
 use hprof_referrers::ReferrerIndex;
 
@@ -12,6 +13,8 @@ use hprof_referrers::ReferrerIndex;
 pub struct Kept {
     /// The search from the GC roots.
     pub(crate) reach: Option<Reach>,
+    /// The layouts of the classes.
+    pub(crate) layouts: Option<KnownLayouts>,
     /// The index of referrers.
     pub(crate) referrers: Option<ReferrerIndex>,
     /// The text of the class histogram.
@@ -29,6 +32,7 @@ impl Kept {
     {
         Kept {
             reach: None,
+            layouts: None,
             referrers: None,
             histogram: None,
             classes: None,

@@ -7,6 +7,7 @@ ghost use Rattle.hprof_reports.specs.HistogramText.{IsHistogramText};
 ghost use Rattle.hprof_reports.specs.PathText.{IsPathText};
 ghost use Rattle.hprof_reports.specs.RefsText.{IsRefsText};
 ghost use Rattle.hprof_leaks.specs.ClassesText.{IsClassesText};
+ghost use Rattle.hprof_why.specs.WhyText.{IsWhyText};
 ghost use Rattle.hprof_reports.specs.Stopping.{LeavesTarget, WritesText};
 ghost use Rattle.hprof_ask.specs.Kept.{IsKept};
 
@@ -14,11 +15,13 @@ use crate::kept::Kept;
 use hprof_devices::{Device, Target, push_all};
 use hprof_engine::WriteStop;
 use hprof_heap::Heap;
+use hprof_known_layouts::known_layouts;
 use hprof_leaks::write_classes;
 use hprof_lookup::holds_of_heap;
 use hprof_reach::reach_of;
 use hprof_referrers::index_referrers;
 use hprof_reports::{write_histogram, write_reached, write_refs};
+use hprof_why::write_reached_why;
 use std::alloc::{AllocError, Global};
 
 /// Makes the search from the roots, if it is not kept yet. If memory runs out, nothing has changed.
@@ -30,6 +33,20 @@ fn keep_reach(alloc: Global, heap: &Heap, kept: &mut Kept) -> Result<(), AllocEr
     if kept.reach.is_none() {
         let reach = reach_of(alloc, heap)?;
         kept.reach = Some(reach);
+    }
+    Ok(())
+}
+
+/// Finds the layouts of the classes, if they are not kept yet. If memory runs out, nothing has changed.
+fn keep_layouts(alloc: Global, heap: &Heap, kept: &mut Kept) -> Result<(), AllocError>
+    requires { IsKept (size_of heap.now) (facts_of heap.now) kept.old }
+    ensures some { OnOk result (IsSome kept.new.layouts) }
+    ensures reach { kept.new.reach ≡ kept.old.reach }
+    ensures kept { IsKept (size_of heap.now) (facts_of heap.now) kept.new }
+{
+    if kept.layouts.is_none() {
+        let layouts = known_layouts(alloc, heap)?;
+        kept.layouts = Some(layouts);
     }
     Ok(())
 }
@@ -179,6 +196,34 @@ pub(crate) fn write_kept_path<W: Target>(
         Some(reach) => write_reached(alloc, reach, id, target),
         // It was made.
         None => unreachable!(),
+    }
+}
+
+/// Writes the report `why` on an identifier from the search and the layouts that are kept, or are made now. If the writer fails or memory
+/// runs out, the bytes written are the beginning of the report.
+pub(crate) fn write_kept_why<W: Target>(
+    alloc: Global,
+    heap: &Heap,
+    kept: &mut Kept,
+    id: u64,
+    target: &mut W,
+) -> Result<(), WriteStop>
+    requires well { W.health target.old ≡ Well }
+    requires kept { IsKept (size_of heap.now) (facts_of heap.now) kept.old }
+    ensures bytes { (text : List ℕ) × IsWhyText (size_of heap.now) (facts_of heap.now) id text
+        × WritesText (W.written target.old) (W.written target.new) result text }
+    ensures health { LeavesTarget result (W.health target.new) }
+    ensures kept { IsKept (size_of heap.now) (facts_of heap.now) kept.new }
+{
+    holds_of_heap(heap);
+    keep_reach(alloc, heap, kept)?;
+    keep_layouts(alloc, heap, kept)?;
+    match (&kept.reach, &kept.layouts) {
+        (Some(reach), Some(layouts)) => {
+            write_reached_why(alloc, heap, layouts, reach, id, target)
+        }
+        // They were made.
+        _ => unreachable!(),
     }
 }
 

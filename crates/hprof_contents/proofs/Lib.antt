@@ -1,4 +1,4 @@
 mod FirstNamed
-mod Lookups
+pub mod Lookups
 pub mod OneText
 mod Found

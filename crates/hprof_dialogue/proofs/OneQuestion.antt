@@ -37,20 +37,22 @@ one_back ones.Classes = refl
 same_word : (one other : OneWord) → word_of one ≡ word_of other → one ≡ other
 same_word one other e = sym (one_back one) ∙ ap (λ (l : List ℕ). one_at (get_or l 1 0)) e ∙ one_back other
 
-abbrev subject_by : Bool → Bool → Bool → Subject
-subject_by true second third = subjects.Object
-subject_by false true third = subjects.Refs
-subject_by false false true = subjects.Path
-subject_by false false false = subjects.Text
+abbrev subject_by : Bool → Bool → Bool → Bool → Subject
+subject_by true second third fourth = subjects.Object
+subject_by false true third fourth = subjects.Refs
+subject_by false false true fourth = subjects.Path
+subject_by false false false true = subjects.Text
+subject_by false false false false = subjects.Why
 
 abbrev subject_at : ℕ → Subject
-subject_at byte = subject_by (byte == 111) (byte == 114) (byte == 112)
+subject_at byte = subject_by (byte == 111) (byte == 114) (byte == 112) (byte == 116)
 
 subject_back : (subject : Subject) (word : List ℕ) → subject_at (get_or (front_of subject ++ word) 0 0) ≡ subject
 subject_back subjects.Object word = refl
 subject_back subjects.Refs word = refl
 subject_back subjects.Path word = refl
 subject_back subjects.Text word = refl
+subject_back subjects.Why word = refl
 
 same_subject : (one other : Subject) (word word_too : List ℕ) → front_of one ++ word ≡ front_of other ++ word_too → one ≡ other
 same_subject one other word word_too e =
@@ -83,6 +85,7 @@ some_space subjects.Object word = refl
 some_space subjects.Refs word = refl
 some_space subjects.Path word = refl
 some_space subjects.Text word = refl
+some_space subjects.Why word = refl
 
 no_subject : (line : List ℕ) (subject : Subject) (word : List ℕ) → has_space line ≡ false → line ≡ front_of subject ++ word → ⊥
 no_subject line subject word none e =
@@ -109,6 +112,7 @@ kind_byte subjects.Object word word_too e = let byte : 32 ≡ 115 = ap (λ (l : 
 kind_byte subjects.Refs word word_too e = let byte : 114 ≡ 111 = ap (λ (l : List ℕ). get_or l 0 0) e in absurd (omega (arith, byte))
 kind_byte subjects.Path word word_too e = let byte : 112 ≡ 111 = ap (λ (l : List ℕ). get_or l 0 0) e in absurd (omega (arith, byte))
 kind_byte subjects.Text word word_too e = let byte : 116 ≡ 111 = ap (λ (l : List ℕ). get_or l 0 0) e in absurd (omega (arith, byte))
+kind_byte subjects.Why word word_too e = let byte : 119 ≡ 111 = ap (λ (l : List ℕ). get_or l 0 0) e in absurd (omega (arith, byte))
 
 subject_no_kind : (line : List ℕ) (subject : Subject) (word word_too : List ℕ) → line ≡ front_of subject ++ word
     → line ≡ kind_front ++ word_too → ⊥

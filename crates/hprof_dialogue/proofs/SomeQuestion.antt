@@ -185,9 +185,12 @@ of_subjects line some no_word = elim (has_word line (front_of subjects.Object)) 
       | inl it ↦ of_word line it.0 subjects.Path it.1
       | inr no_path ↦ elim (has_word line (front_of subjects.Text)) [
         | inl it ↦ of_word line it.0 subjects.Text it.1
-        | inr no_text ↦ elim (has_word line kind_front) [
-          | inl it ↦ of_kind_word line it.0 it.1
-          | inr no_kind ↦ (questions.NotUnderstood, (some, no_word, none no_object no_refs no_path no_text, no_kind))
+        | inr no_text ↦ elim (has_word line (front_of subjects.Why)) [
+          | inl it ↦ of_word line it.0 subjects.Why it.1
+          | inr no_why ↦ elim (has_word line kind_front) [
+            | inl it ↦ of_kind_word line it.0 it.1
+            | inr no_kind ↦ (questions.NotUnderstood, (some, no_word, none no_object no_refs no_path no_text no_why, no_kind))
+          ]
         ]
       ]
     ]
@@ -196,11 +199,13 @@ of_subjects line some no_word = elim (has_word line (front_of subjects.Object)) 
   None : Subject → Type 0
   None subject = (word : List ℕ) → AsksOf line subject word → ⊥
 
-  none : None subjects.Object → None subjects.Refs → None subjects.Path → None subjects.Text → (subject : Subject) → None subject
-  none no_object no_refs no_path no_text subjects.Object = no_object
-  none no_object no_refs no_path no_text subjects.Refs = no_refs
-  none no_object no_refs no_path no_text subjects.Path = no_path
-  none no_object no_refs no_path no_text subjects.Text = no_text
+  none : None subjects.Object → None subjects.Refs → None subjects.Path → None subjects.Text → None subjects.Why → (subject : Subject)
+      → None subject
+  none no_object no_refs no_path no_text no_why subjects.Object = no_object
+  none no_object no_refs no_path no_text no_why subjects.Refs = no_refs
+  none no_object no_refs no_path no_text no_why subjects.Path = no_path
+  none no_object no_refs no_path no_text no_why subjects.Text = no_text
+  none no_object no_refs no_path no_text no_why subjects.Why = no_why
 
 of_words : (line : List ℕ) → line ≢ [] → (question : Question) × IsQuestion line question
 of_words line some = elim (same line (word_of ones.Help)) [

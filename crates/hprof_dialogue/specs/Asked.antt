@@ -31,6 +31,7 @@ front_of subjects.Object = codes "object "
 front_of subjects.Refs = codes "refs "
 front_of subjects.Path = codes "path "
 front_of subjects.Text = codes "text "
+front_of subjects.Why = codes "why "
 
 -- the word and the space before a class or a type
 abbrev pub kind_front : List ℕ

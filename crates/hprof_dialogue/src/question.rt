@@ -40,6 +40,8 @@ pub enum Subject {
     Path,
     /// `text`: its text, if it is a string or an array of chars or bytes.
     Text,
+    /// `why`: the shortest path from a GC root, with names.
+    Why,
 }
 
 /// The question of a line.
@@ -123,6 +125,9 @@ fn subject_of(line: &[u8]) -> Option<(Subject, &[u8])>
     }
     if let Some(word) = word_behind(line, b"text ") {
         return Some((Subject::Text, word));
+    }
+    if let Some(word) = word_behind(line, b"why ") {
+        return Some((Subject::Why, word));
     }
     None
 }

@@ -28,7 +28,7 @@ pub use histogram_report::write_histogram;
 pub use lines::{write_line, write_str};
 pub use object::{nothing_line, write_object};
 pub use object_parts::{ObjectReport, object_to};
-pub use path::{write_path, write_reached};
+pub use path::{distance_line, write_path, write_reached};
 pub use path_parts::{PathReport, path_to};
 pub use refs::{via_word, write_refs};
 pub use refs_parts::{RefsReport, refs_to};

@@ -18,7 +18,7 @@ use hprof_reach::{Reach, reach_of};
 use std::alloc::{AllocError, Global};
 
 /// Returns the line of a distance. If memory runs out, the answer is `AllocError`.
-fn distance_line(alloc: Global, distance: u64) -> Result<String, AllocError>
+pub fn distance_line(alloc: Global, distance: u64) -> Result<String, AllocError>
     ensures { IfOk result (λ line. string_bytes line ≡ distance_line distance) }
 {
     format!(in alloc; "distance {distance}\n")

@@ -39,10 +39,11 @@ AsksFor word (tasks.Ask questions.Object id parts) = word ≡ codes "object"
 AsksFor word (tasks.Ask questions.Path id parts) = word ≡ codes "path"
 AsksFor word (tasks.Ask questions.Refs id parts) = word ≡ codes "refs"
 AsksFor word (tasks.Ask questions.Text id parts) = word ≡ codes "text"
+AsksFor word (tasks.Ask questions.Why id parts) = word ≡ codes "why"
 AsksFor word (tasks.Write files.Dump101 out parts) = word ≡ codes "join101"
 AsksFor word (tasks.Write files.Dump out parts) = (word ≢ codes "salvage") × (word ≢ codes "check") × (word ≢ codes "histo")
     × (word ≢ codes "classes") × (word ≢ codes "objects") × (word ≢ codes "object") × (word ≢ codes "path") × (word ≢ codes "refs")
-    × (word ≢ codes "text") × (word ≢ codes "ask") × (word ≢ codes "diff") × (word ≢ codes "join101")
+    × (word ≢ codes "text") × (word ≢ codes "why") × (word ≢ codes "ask") × (word ≢ codes "diff") × (word ≢ codes "join101")
 
 -- the identifier that the task is about is none, or the class or type
 abbrev pub IsMisnamed : Task → Type 0

@@ -8,6 +8,7 @@ use Rattle.hprof_reports.specs.ObjectReporting.{IsObjectReport}
 use Rattle.hprof_reports.specs.PathReporting.{IsPathReport}
 use Rattle.hprof_reports.specs.RefsReporting.{IsRefsReport}
 use Rattle.hprof_leaks.specs.TextReport.{IsTextReport}
+use Rattle.hprof_why.specs.WhyText.{IsWhyReport}
 use Rattle.hprof_tool.specs.declared.command.NewFile.{NewFile}
 use Rattle.hprof_tool.specs.declared.command.NewFile.TheVariants as files
 use Rattle.hprof_tool.specs.declared.command.Question.{Question}
@@ -18,12 +19,13 @@ abbrev pub is_new_file : NewFile → List PartSummary → HeapValue → List ℕ
 is_new_file files.Dump = IsDumpText
 is_new_file files.Dump101 = IsDump101Text
 
--- what is told on an identifier: what its class and its object hold, how it is reached, what refers to it, or its text
+-- what is told on an identifier: what its class and its object hold, how it is reached, what refers to it, its text, or the path with names
 abbrev pub is_answer : Question → ℕ → List PartSummary → HeapValue → List ℕ → Type 0
 is_answer questions.Object = IsObjectReport
 is_answer questions.Path = IsPathReport
 is_answer questions.Refs = IsRefsReport
 is_answer questions.Text = IsTextReport
+is_answer questions.Why = IsWhyReport
 
 -- each of these takes memory while it is written, and is never too long
 abbrev pub answer_making : Question → ℕ → Making

@@ -94,6 +94,8 @@ pub(crate) enum Question {
     Refs,
     /// Its text.
     Text,
+    /// The path to it, with names.
+    Why,
 }
 
 /// Returns the argument for the names of the parts, any number of them.
@@ -262,6 +264,12 @@ fn with_asking<'a>(alloc: Global, program: Command<'a>) -> Result<Command<'a>, A
             "text",
             "Prints the text of a string, or of an array of chars or bytes",
             help::TEXT,
+        )?)?
+        .subcommand(asking_command(
+            alloc,
+            "why",
+            "Prints the shortest path from a GC root, with names",
+            help::WHY,
         )?)
 }
 
@@ -326,6 +334,11 @@ fn task_named<'a>(alloc: Global, name: &str, words: &ArgMatches<'a>) -> Result<T
         },
         "text" => Task::Ask {
             question: Question::Text,
+            id,
+            parts,
+        },
+        "why" => Task::Ask {
+            question: Question::Why,
             id,
             parts,
         },

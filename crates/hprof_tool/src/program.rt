@@ -32,6 +32,7 @@ use hprof_engine::{Dump, Product};
 use hprof_leaks::{ClassesReport, ObjectsReport, TextReport};
 use hprof_reports::{Check, HistogramReport, ObjectReport, PathReport, RefsReport};
 use hprof_text::parse_id;
+use hprof_why::WhyReport;
 use joining::{join_stream, report_files, write_file};
 use refused::Refused;
 use salvaging::{Written, salvage_file, tell_faults};
@@ -203,6 +204,7 @@ fn ask<F: Folder, O: Write + Drop, E: Write>(
         Question::Path => report(alloc, files, &PathReport { id }, names, output, errors),
         Question::Refs => report(alloc, files, &RefsReport { id }, names, output, errors),
         Question::Text => report(alloc, files, &TextReport { id }, names, output, errors),
+        Question::Why => report(alloc, files, &WhyReport { id }, names, output, errors),
     }
 }
 
@@ -337,8 +339,8 @@ fn perform<F: Folder, I: Read + Drop, O: Write + Drop, E: Write, P: Write + Drop
 /// - Without a word behind the program's name, it joins the part on `input` to `output`.
 /// - `join OUT PART..` and `join101 OUT PART..` join parts in files to a new file.
 /// - `salvage OUT PART..` salvages parts in files to a new file, and tells their faults on `output`.
-/// - `check PART..`, `histo PART..`, `classes PART..`, `objects KIND PART..`, `object ID PART..`, `path ID PART..`, `refs ID PART..` and
-///   `text ID PART..` write a report on parts in files to `output`.
+/// - `check PART..`, `histo PART..`, `classes PART..`, `objects KIND PART..`, `object ID PART..`, `path ID PART..`, `refs ID PART..`,
+///   `text ID PART..` and `why ID PART..` write a report on parts in files to `output`.
 /// - `diff OLD NEW` writes a report on two dumps in files to `output`.
 /// - `ask PART..` reads parts in files, and answers on `output` the questions that come as lines on `input`. It prompts for each line on
 ///   `prompts`, if there are prompts.

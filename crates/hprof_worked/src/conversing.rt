@@ -44,6 +44,7 @@ fn question_of(alloc: Global, call: Call) -> Result<Option<String>, AllocError> 
         Call::Path(id) => format!(in alloc; "path {id:x}\n")?,
         Call::Refs(id) => format!(in alloc; "refs {id:x}\n")?,
         Call::Text(id) => format!(in alloc; "text {id:x}\n")?,
+        Call::Why(id) => format!(in alloc; "why {id:x}\n")?,
         _ => return Ok(None),
     };
     Ok(Some(line))

@@ -201,10 +201,30 @@ each alone.
 
 Exit status: 0 done, 1 refused (one line on standard error), 2 not understood.";
 
+/// The command `why`.
+pub(crate) const WHY: &str = "\
+The first line is the number of references on the path. Then each GC root of its
+first object has a line, and each class or object on it, from the root to ID.
+Between two of them, indented, stands the reference: its kind and index, as
+`refs` prints them, and the name of a static field or a field.
+
+    $ hprof why 740000410 friday.hprof
+WHYEXAMPLE
+
+If no GC root leads to ID, the line is `not reached`; if the dump has no such
+class or object, it is `nothing at ID`. Of several references between two of them
+the first one by kind and index is printed.
+
+Weak, soft and phantom references count as any other: the field is `referent`.
+ID is hexadecimal, without 0x or @. Two dumps of one process are two heaps: ask
+each alone.
+
+Exit status: 0 done, 1 refused (one line on standard error), 2 not understood.";
+
 /// The command `ask`.
 pub(crate) const ASK: &str = "\
 A question is a line: check, histo, classes, objects KIND, object ID, refs ID,
-path ID, text ID or help. Its answer is what the command prints, and an empty
+path ID, text ID, why ID or help. Its answer is what the command prints, and an empty
 line behind it. Answers come in the order of the questions, each at once. A line
 that is no question is answered with a line that says so.
 

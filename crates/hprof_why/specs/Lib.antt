@@ -1,0 +1,7 @@
+pub mod Skipped
+pub mod PlaceNames
+pub mod RootLines
+pub mod NodeLines
+pub mod StepLines
+pub mod WhyText
+pub mod OneWhy

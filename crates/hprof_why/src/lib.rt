@@ -1,0 +1,15 @@
+//! The report `why`: the path from a GC root to an object, with the roots, the nodes and the references told by their names.
+#![tactic(auto)]
+
+mod field_names;
+pub mod laws;
+mod node_line;
+mod place_name;
+mod report;
+mod root_line;
+mod step_line;
+mod why_parts;
+
+pub use place_name::place_name;
+pub use report::{write_reached_why, write_why};
+pub use why_parts::{WhyReport, why_to};
