@@ -99,6 +99,14 @@ def chain(count):
     return part([sticky(1), *(array(i, 0, [i + 1]) for i in range(1, count + 1))])
 
 
+def bare_path(count):
+    """So many classes without own fields, each below the next, above them one with a field, and an instance of each of them that refers to
+    the next instance, from one root."""
+    classes = (class_dump(i, i + 1) for i in range(1, count + 1))
+    instances = (instance(1_000_000 + i, i, struct.pack(">I", 1_000_001 + i)) for i in range(1, count + 1))
+    return part([*classes, class_dump(count + 1, 0, field(1, OBJECT), 1), *instances, sticky(1_000_001)])
+
+
 def great_array(count, nodes):
     """An array of so many elements, in descending order, from one root, and as many others as are nodes, which are the least."""
     elements = struct.pack(f">{count}I", *range(count + 1, 1, -1))
@@ -292,6 +300,7 @@ def leak_cases(folder, less):
     nothing = folder / "nothing.hprof"
     nothing.write_bytes(HEADER)
     text = 100 * million
+    bare = million // 5
     return [
         ("1,000,000 classes of one name, beside nothing", lambda: namesakes(million), ["diff", str(nothing)],
          ends(f"+{million} +{million} A", f"+{million} +{million} A", 1)),
@@ -299,6 +308,10 @@ def leak_cases(folder, less):
            ends("1 1", f"1 {count:x}", count)) for count in (5 * million, 10 * million)),
         ("a text of 100,000,000 units, all escaped", lambda: great_text(text), ["text", "1"],
          lambda lines: lines == [f"text {text} " + "\\u00ff" * text]),
+        ("a path of 1,000,000 arrays", lambda: chain(million), ["why", f"{million:x}"],
+         ends(f"distance {million - 1}", f"{million:x} \\?", 2 * million + 1)),
+        ("a path of 200,000 objects, each of another class without fields", lambda: bare_path(bare), ["why", f"{1_000_000 + bare:x}"],
+         ends(f"distance {bare - 1}", f"{1_000_000 + bare:x} \\?", 2 * bare + 1)),
     ]
 
 

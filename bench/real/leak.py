@@ -1,10 +1,11 @@
 #!/usr/bin/env python3
-"""Times `classes`, `objects` of the most frequent class, `text` of the largest string and `diff` with itself, beside `check`.
+"""Times `classes`, `objects` of the most frequent class, `text` of the largest string and `diff` with itself, beside `check`, and `why` of
+that string beside `path`.
 
     bench/real/leak.py [--turns N] [--collector NAME] [--dump FILE] [MEGABYTES]    (5 turns; Serial; 100 megabytes)
 
-It prints the fastest time and the least peak memory of each command, beside those of `check` in the same turns; `diff` reads the dump
-twice, and stands beside twice that time. Then the same is asked of `hprof ask`. It needs the built program, and java, javac and rustc
+It prints the fastest time and the least peak memory of each command, beside the time of the other command in the same turns; `diff` reads
+the dump twice, and stands beside twice that time. Then the same is asked of `hprof ask`. It needs the built program, and java, javac and rustc
 where no dump is given. It is no part of the gate.
 """
 
@@ -29,24 +30,24 @@ def asked_for(dump):
     frequent = max(classes, key=lambda row: int(row[1]))
     strings = next(row for row in classes if row[3:] == ["java/lang/String"])
     string = lines(dump, "objects", strings[2])[0].split()[1]
-    return [["classes"], ["objects", frequent[2]], ["text", string]], frequent
+    return [["classes"], ["objects", frequent[2]], ["text", string], ["path", string], ["why", string]], frequent
 
 
 def compare(dump, commands, turns):
-    """Prints the fastest time and the peak memory of each command beside those of `check`."""
+    """Prints the fastest time and the peak memory of each command beside the time of another one."""
     size = dump.stat().st_size
-    runs = {"check": [["check"], 1, []]}
-    for words in commands:
-        runs[words[0]] = [words, 1, []]
-    runs["diff"] = [["diff", dump], 2, []]
+    beside = {"why": ("path", 1), "diff": ("check", 2)}
+    runs = {words[0]: (words, []) for words in [["check"], *commands, ["diff", dump]]}
     for _ in range(turns):
-        for words, _, found in runs.values():
+        for words, found in runs.values():
             found.append(run([PROGRAM, *words, dump], subprocess.DEVNULL))
-    base = min(seconds for seconds, _ in runs["check"][2])
-    print("| Command | Time | Times `check` | Memory, times the dump |\n|---|---|---|---|")
-    for name, (_, reads, found) in runs.items():
-        seconds, memory = (min(values) for values in zip(*found))
-        print(f"| `{name}` | {seconds:.3f} s | {seconds / base / reads:.2f} | {memory / size:.2f} |", flush=True)
+    fastest = {name: min(seconds for seconds, _ in found) for name, (_, found) in runs.items()}
+    print("| Command | Time | Beside | Memory, times the dump |\n|---|---|---|---|")
+    for name, (_, found) in runs.items():
+        base, reads = beside.get(name, ("check", 1))
+        ratio = fastest[name] / fastest[base] / reads
+        memory = min(memory for _, memory in found)
+        print(f"| `{name}` | {fastest[name]:.3f} s | {ratio:.2f} `{base}` | {memory / size:.2f} |", flush=True)
 
 
 def ask(dump, commands):
