@@ -1,24 +1,21 @@
 -- The names of places.
-use Rattle.std.specs.Prelude.{◌≢◌}
-use Rattle.std.proofs.Common.{◌≡◌, ◌+◌, ◌-◌, ◌<◌, ◌≤◌, ℕ, zero, suc, List, [], ◌∷◌, ◌++◌, length, map, drop, Option, Some, None, refl, sym, ap, subst, ◌∙◌, arith}
+use Rattle.std.specs.Prelude.{IfNone, IfSome}
+use Rattle.std.proofs.Common.{◌≡◌, ◌-◌, ◌≤◌, ℕ, zero, suc, List, [], ◌∷◌, ◌++◌, length, drop, Option, Some, None, refl, sym, ap, subst, ◌∙◌, arith}
 use Rattle.std.specs.List.{slice_get}
 use Rattle.std.specs.Option.{option_map}
-use Rattle.std.proofs.lemmas.Option.{slice_get-map}
 use Rattle.hprof_values.specs.declared.ids.IdSize.{IdSize}
 use Rattle.hprof_values.specs.Basic.{width_of_basic}
 use Rattle.hprof_lists.specs.declared.entry.Entry.{Entry}
-use Rattle.hprof_lists.specs.declared.value.Field.{Field}
-use Rattle.hprof_lists.specs.Value.{field_of}
+use Rattle.hprof_lists.specs.declared.value.Static.{Static}
+use Rattle.hprof_lists.specs.Value.{static_of}
 use Rattle.hprof_items.specs.FactValue.{FactValue}
-use Rattle.hprof_lookup.specs.Classes.{ClassValue}
+use Rattle.hprof_lookup.specs.Classes.{ClassValue, HasDump}
 use Rattle.hprof_layouts.specs.declared.field_value.FieldValue.{FieldValue}
 use Rattle.hprof_layouts.specs.declared.slot.Slot.{Slot}
 use Rattle.hprof_layouts.specs.Fields.{values_in}
-use Rattle.hprof_layouts.specs.Layout.{own_slots, slot_of}
-use Rattle.hprof_edges.specs.declared.edge.Edge.{Edge}
 use Rattle.hprof_edges.specs.declared.edge.Via.{Via}
 use Rattle.hprof_edges.specs.declared.edge.Via.TheVariants as vias
-use Rattle.hprof_edges.specs.Edges.{EntryRefers, FieldRefers, IsEdge, OfDump, Refers}
+use Rattle.hprof_edges.specs.Edges.{EntryRefers, FieldRefers, OfDump, Refers}
 use Rattle.hprof_why.specs.PlaceNames.{IsFieldNamed, IsPlaceName, IsStaticNamed}
 
 -- ---- slots by their places
@@ -34,9 +31,10 @@ slot_of_value ids (slot ∷ slots) bytes (suc place) value e =
 -- behind a front
 pub behind_front : {A : Type 0} (front rest : List A) (place : ℕ) → length front ≤ place
     → slice_get (front ++ rest) place ≡ slice_get rest (place - length front)
-behind_front [] rest place le = refl
+behind_front {A} [] rest place le = ap (λ (n : ℕ). slice_get rest n) (omega arith)
 behind_front (x ∷ front) rest zero le = absurd (omega (arith, le))
-behind_front (x ∷ front) rest (suc place) le = behind_front front rest place (omega (arith, le))
+behind_front (x ∷ front) rest (suc place) le =
+    behind_front front rest place (omega (arith, le)) ∙ ap (λ (n : ℕ). slice_get rest n) (omega arith)
 
 -- within it
 pub within_front : {A : Type 0} (front rest : List A) (place : ℕ) (x : A) → slice_get front place ≡ Some x
@@ -44,6 +42,18 @@ pub within_front : {A : Type 0} (front rest : List A) (place : ℕ) (x : A) → 
 within_front [] rest place x e = absurd cc
 within_front (y ∷ front) rest zero x e = e
 within_front (y ∷ front) rest (suc place) x e = within_front front rest place x e
+
+-- ---- the name that is found
+
+pub static_found : (facts : List FactValue) (class place : ℕ) (dump : ClassValue) (field : Static) → HasDump facts dump → dump.id ≡ class
+    → Some field ≡ option_map static_of (slice_get dump.statics place) → IsStaticNamed facts class place field.name
+static_found facts class place dump field has id found = go (slice_get dump.statics place) refl found where
+  go : (entry : Option Entry) → slice_get dump.statics place ≡ entry → Some field ≡ option_map static_of entry
+      → IsStaticNamed facts class place field.name
+  go None there is = absurd cc
+  go (Some entry) there is =
+      let same : field ≡ static_of entry = cc in
+      record { dump = dump; has = has; id = id; entry = entry; there = there; name_is = ap (λ (s : Static). s.name) same }
 
 -- ---- an edge has a place
 
@@ -87,3 +97,22 @@ place_exists ids facts from vias.Signers place to refers = (None, refl)
 place_exists ids facts from vias.Domain place to refers = (None, refl)
 place_exists ids facts from vias.Constant place to refers = (None, refl)
 place_exists ids facts from vias.Element place to refers = (None, refl)
+
+-- ---- the name of the place of an edge that is found
+
+pub named_static : (ids : IdSize) (facts : List FactValue) (from place to : ℕ) (via : Via) (found : Option ℕ) → via ≡ vias.Fixed
+    → IfSome found (IsStaticNamed facts from place) → IfNone found ((name : ℕ) → IsStaticNamed facts from place name → ⊥)
+    → Refers ids facts from via place to → IsPlaceName facts from via place found
+named_static ids facts from place to via (Some name) is some none refers =
+    subst (λ (v : Via). IsPlaceName facts from v place (Some name)) (sym is) some
+named_static ids facts from place to via None is some none refers =
+    let there = static_there facts from place to (subst (λ (v : Via). Refers ids facts from v place to) is refers) in
+    absurd (none there.0 there.1)
+
+pub named_field : (ids : IdSize) (facts : List FactValue) (from place to : ℕ) (via : Via) (found : Option ℕ) → via ≡ vias.Field
+    → ((named : ℕ) → IsFieldNamed facts from place named → found ≡ Some named) → Refers ids facts from via place to
+    → IsPlaceName facts from via place found
+named_field ids facts from place to via found is named refers =
+    let there = field_there ids facts from place to (subst (λ (v : Via). Refers ids facts from v place to) is refers) in
+    subst (λ (v : Via). IsPlaceName facts from v place found) (sym is)
+    (subst (λ (f : Option ℕ). IsPlaceName facts from vias.Field place f) (sym (named there.0 there.1)) there.1)

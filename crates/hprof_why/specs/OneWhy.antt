@@ -6,7 +6,6 @@ use Rattle.std.specs.Ordering.{is_eq, ordering_reverse}
 use Rattle.std.specs.declared.cmp.Ordering.{Ordering}
 use Rattle.std.specs.declared.cmp.Ordering.TheVariants.{Less, Equal, Greater}
 use Rattle.hprof_values.specs.declared.ids.IdSize.{IdSize}
-use Rattle.hprof_values.specs.declared.root.Root.{Root}
 use Rattle.hprof_lists.specs.declared.entry.Entry.{Entry}
 use Rattle.hprof_items.specs.FactValue.{FactValue, Instance}
 use Rattle.hprof_rows.specs.declared.key.Key.TheVariants as keys
@@ -54,6 +53,10 @@ least_once P (Some one) None is none = absurd (none one is.0)
 least_once P None (Some other) none is = absurd (none other is.0)
 least_once P None None none none_too = refl
 
+pub roots_once : (facts : List FactValue) (node : ℕ) (one other : List ℕ) → IsRootsText facts node one → IsRootsText facts node other → one ≡ other
+roots_once facts node one other is too =
+    is.is ∙ ap roots_text (one_list facts node is.roots too.roots is.are_roots too.are_roots) ∙ sym too.is
+
 module _ (facts : List FactValue) (agree : IsConsistent facts) where
   -- ---- the name of a place
 
@@ -94,10 +97,6 @@ module _ (facts : List FactValue) (agree : IsConsistent facts) where
 
   -- ---- the lines
 
-  pub roots_once : (node : ℕ) (one other : List ℕ) → IsRootsText facts node one → IsRootsText facts node other → one ≡ other
-  roots_once node one other is too =
-      is.is ∙ ap roots_text (one_list facts node is.roots too.roots is.are_roots too.are_roots) ∙ sym too.is
-
   pub node_once : (naming : Naming) (node : ℕ) (one other : List ℕ) → IsNodeLine facts naming node one → IsNodeLine facts naming node other
       → one ≡ other
   node_once naming node one other is too =
@@ -123,7 +122,7 @@ module _ (facts : List FactValue) (agree : IsConsistent facts) where
   one_telling : (ids : IdSize) (one other : Telling) → IsTelling ids facts one → IsTelling ids facts other → one ≡ other
   one_telling ids one other is too =
       let naming = one_naming facts agree is.naming too.naming is.is_naming too.is_naming in
-      let roots = λ (node : ℕ). roots_once node (one.roots node) (other.roots node) (is.roots_are node) (too.roots_are node) in
+      let roots = λ (node : ℕ). roots_once facts node (one.roots node) (other.roots node) (is.roots_are node) (too.roots_are node) in
       let nodes = λ (node : ℕ). node_once is.naming node (one.node node) (other.node node) (is.nodes_are node)
       (subst (λ (n : Naming). IsNodeLine facts n node (other.node node)) (sym naming) (too.nodes_are node)) in
       let steps = λ (from to : ℕ). step_once ids is.naming from to (one.step from to) (other.step from to) (is.steps_are from to)

@@ -1,6 +1,7 @@
 //! The names of fields, by their places in the layouts of classes.
 
-ghost use Rattle.std.specs.Prelude.{◌≡◌, ℕ, List, Some, None, All, IfOk, IfSome, OnOk, slice_get};
+ghost use Rattle.std.specs.Prelude.{◌≡◌, ℕ, List, Some, IfOk, IfSome, OnOk, slice_get};
+ghost use Rattle.std.specs.List.{AllByRecursion};
 ghost use Rattle.hprof_items.specs.FactValue.{FactValue};
 ghost use Rattle.hprof_lookup.specs.HeapFacts.{facts_of};
 ghost use Rattle.hprof_layouts.specs.declared.slot.Slot.{Slot};
@@ -8,7 +9,7 @@ ghost use Rattle.hprof_layouts.specs.Layout.{IsKnown};
 ghost use Rattle.hprof_why.specs.Skipped.{AreSkips, HasSameLayout};
 
 use hprof_heap::{Heap, Table};
-use hprof_lookup::{find_class, table_len};
+use hprof_lookup::{find_class, holds_of_heap, table_len};
 use std::alloc::{AllocError, Global};
 use std::collections::BTreeMap;
 
@@ -46,7 +47,7 @@ impl FieldNames {
 
     /// Remembers that classes have the layout of a class above them.
     fn remember(&mut self, heap: &Heap, passed: &[u64], above: u64) -> Result<(), AllocError>
-        ensures { OnOk result (All (λ class. HasSameLayout (facts_of heap.now) class above) passed.now
+        ensures { OnOk result (AllByRecursion (λ class. HasSameLayout (facts_of heap.now) class above) passed.now
             → AreSkips (facts_of heap.now) self.old → AreSkips (facts_of heap.now) self.new) }
     {
         let mut rest = passed;
@@ -88,6 +89,7 @@ impl FieldNames {
             → IsKnown (facts_of heap.now) class slots → slice_get slots place ≡ Some slot → name ≡ Some slot.name) }
         ensures skips { OnOk result (AreSkips (facts_of heap.now) self.old → AreSkips (facts_of heap.now) self.new) }
     {
+        holds_of_heap(heap);
         let mut at = class;
         let mut before = place as usize;
         for _passed in 0..table_len(heap, Table::Classes) {

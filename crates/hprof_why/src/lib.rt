@@ -4,12 +4,13 @@
 mod field_names;
 pub mod laws;
 mod node_line;
-mod place_name;
+mod place_names;
 mod report;
 mod root_line;
 mod step_line;
 mod why_parts;
 
-pub use place_name::place_name;
+pub use field_names::FieldNames;
+pub use place_names::place_name;
 pub use report::{write_reached_why, write_why};
 pub use why_parts::{WhyReport, why_to};

@@ -16,12 +16,7 @@ use hprof_naming::{class_label, type_word};
 use std::alloc::{AllocError, Global};
 
 /// Returns the line of an instance or an array of objects: with the label of its class.
-fn labelled_line(
-    alloc: Global,
-    heap: &Heap,
-    node: u64,
-    class: u64,
-) -> Result<String, AllocError>
+fn labelled_line(alloc: Global, heap: &Heap, node: u64, class: u64) -> Result<String, AllocError>
     ensures { (naming : Naming) → IsNaming (facts_of heap.now) naming
         → IfOk result (λ line. string_bytes line ≡ line_of (id_digits node ∷ naming.label class ∷ [])) }
 {

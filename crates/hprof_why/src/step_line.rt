@@ -9,7 +9,7 @@ ghost use Rattle.hprof_why.specs.Skipped.{AreSkips};
 ghost use Rattle.hprof_why.specs.StepLines.{IsStepLine, edge_line};
 
 use crate::field_names::FieldNames;
-use crate::place_name::place_name;
+use crate::place_names::place_name;
 use hprof_edges::{Edge, Near, least_edge};
 use hprof_heap::Heap;
 use hprof_known_layouts::{KnownLayouts, Reference};
@@ -76,7 +76,14 @@ pub(crate) fn step_line(
     ensures skips { OnOk result (AreSkips (facts_of heap.now) steps.old.names → AreSkips (facts_of heap.now) steps.new.names) }
 {
     holds_of_heap(heap);
-    let found = least_edge(heap, known, from, to, &mut steps.near, &mut steps.references)?;
+    let found = least_edge(
+        heap,
+        known,
+        from,
+        to,
+        &mut steps.near,
+        &mut steps.references,
+    )?;
     let Some(edge) = found else {
         return Ok(String::new(alloc));
     };
