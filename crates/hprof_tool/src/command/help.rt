@@ -209,7 +209,15 @@ Between two of them, indented, stands the reference: its kind and index, as
 `refs` prints them, and the name of a static field or a field.
 
     $ hprof why 740000410 friday.hprof
-WHYEXAMPLE
+    distance 3
+    root JNI global 7f0070000008
+    740000380 jdk/internal/loader/ClassLoaders$AppClassLoader
+      field 1 classes
+    7400004d8 java/util/ArrayList
+      field 0 elementData
+    7400004b8 [Ljava/lang/Object;
+      element 1
+    740000410 class shop/Server
 
 If no GC root leads to ID, the line is `not reached`; if the dump has no such
 class or object, it is `nothing at ID`. Of several references between two of them
