@@ -33,22 +33,26 @@ use hprof_leaks::{ClassesReport, ObjectsReport, TextReport};
 use hprof_reports::{Check, HistogramReport, ObjectReport, PathReport, RefsReport};
 use hprof_text::parse_id;
 use joining::{join_stream, report_files, write_file};
+use progress::Progress;
 use refused::Refused;
 use salvaging::{Written, salvage_file, tell_faults};
 use std::alloc::Global;
 use std::env::Args;
 use std::io;
 use std::io::{Read, Write};
-use std::rt::Files;
+use std::rt::{Clock, Files};
+use watching::{Clearing, Watched};
 
 mod answers;
 mod comparing;
 mod conversing;
 mod folder;
 mod joining;
+mod progress;
 mod prompting;
 mod refused;
 mod salvaging;
+mod watching;
 mod writing;
 
 /// Joins the part on `input` to `output`, which it gives back.
@@ -332,6 +336,40 @@ fn perform<F: Folder, I: Read + Drop, O: Write + Drop, E: Write, P: Write + Drop
     }
 }
 
+/// Does what a task asks for. What is read of parts in files is told on the terminal, if there is one, in a line that goes before anything
+/// else is written.
+fn watch<S: Files + Clock, I: Read + Drop, O: Write + Drop, E: Write, P: Write + Drop>(
+    alloc: Global,
+    system: &S,
+    task: Task<'_>,
+    input: I,
+    output: O,
+    errors: &mut E,
+    prompts: Option<P>,
+    terminal: Option<P>,
+) -> Status {
+    let progress = Progress::new(terminal);
+    let files = Watched {
+        system,
+        progress: &progress,
+    };
+    let output = Clearing {
+        progress: &progress,
+        writer: output,
+    };
+    let mut errors = Clearing {
+        progress: &progress,
+        writer: errors,
+    };
+    let prompts = prompts.map(|writer| Clearing {
+        progress: &progress,
+        writer,
+    });
+    let ended = perform(alloc, &files, task, input, output, &mut errors, prompts);
+    progress.clear();
+    ended.status
+}
+
 /// Does what the words ask for. Refusals are told on `errors`.
 ///
 /// - Without a word behind the program's name, it joins the part on `input` to `output`.
@@ -342,21 +380,26 @@ fn perform<F: Folder, I: Read + Drop, O: Write + Drop, E: Write, P: Write + Drop
 /// - `diff OLD NEW` writes a report on two dumps in files to `output`.
 /// - `ask PART..` reads parts in files, and answers on `output` the questions that come as lines on `input`. It prompts for each line on
 ///   `prompts`, if there are prompts.
-pub fn run<F: Files, I: Read + Drop, O: Write + Drop, E: Write, P: Write + Drop>(
+///
+/// What is read of parts in files is told on `terminal`, if there is one.
+pub fn run<S: Files + Clock, I: Read + Drop, O: Write + Drop, E: Write, P: Write + Drop>(
     alloc: Global,
-    files: &F,
+    system: &S,
     words: io::Result<Args>,
     input: I,
     mut output: O,
     errors: &mut E,
     prompts: Option<P>,
+    terminal: Option<P>,
 ) -> Status {
     let words = match list_of(alloc, words) {
         Ok(words) => words,
         Err(error) => return answer_no_words(alloc, &error, errors),
     };
     match task_of(alloc, &words) {
-        Ok(task) => perform(alloc, files, task, input, output, errors, prompts).status,
+        Ok(task) => watch(
+            alloc, system, task, input, output, errors, prompts, terminal,
+        ),
         Err(error) => answer_words(alloc, &error, &mut output, errors),
     }
 }
