@@ -33,7 +33,8 @@ use hprof_leaks::{ClassesReport, ObjectsReport, TextReport};
 use hprof_reports::{Check, HistogramReport, ObjectReport, PathReport, RefsReport};
 use hprof_text::parse_id;
 use joining::{join_stream, report_files, write_file};
-use progress::Progress;
+use meter::Meter;
+use metered::{Clearing, Metered};
 use refused::Refused;
 use salvaging::{Written, salvage_file, tell_faults};
 use std::alloc::Global;
@@ -41,18 +42,17 @@ use std::env::Args;
 use std::io;
 use std::io::{Read, Write};
 use std::rt::{Clock, Files};
-use watching::{Clearing, Watched};
 
 mod answers;
 mod comparing;
 mod conversing;
 mod folder;
 mod joining;
-mod progress;
+mod meter;
+mod metered;
 mod prompting;
 mod refused;
 mod salvaging;
-mod watching;
 mod writing;
 
 /// Joins the part on `input` to `output`, which it gives back.
@@ -336,9 +336,8 @@ fn perform<F: Folder, I: Read + Drop, O: Write + Drop, E: Write, P: Write + Drop
     }
 }
 
-/// Does what a task asks for. What is read of parts in files is told on the terminal, if there is one, in a line that goes before anything
-/// else is written.
-fn watch<S: Files + Clock, I: Read + Drop, O: Write + Drop, E: Write, P: Write + Drop>(
+/// Does what a task asks for, with a progress meter on the terminal, if there is one. The meter's line goes before anything else is written.
+fn perform_metered<S: Files + Clock, I: Read + Drop, O: Write + Drop, E: Write, P: Write + Drop>(
     alloc: Global,
     system: &S,
     task: Task<'_>,
@@ -348,25 +347,25 @@ fn watch<S: Files + Clock, I: Read + Drop, O: Write + Drop, E: Write, P: Write +
     prompts: Option<P>,
     terminal: Option<P>,
 ) -> Status {
-    let progress = Progress::new(terminal);
-    let files = Watched {
+    let meter = Meter::new(terminal);
+    let files = Metered {
         system,
-        progress: &progress,
+        meter: &meter,
     };
     let output = Clearing {
-        progress: &progress,
+        meter: &meter,
         writer: output,
     };
     let mut errors = Clearing {
-        progress: &progress,
+        meter: &meter,
         writer: errors,
     };
     let prompts = prompts.map(|writer| Clearing {
-        progress: &progress,
+        meter: &meter,
         writer,
     });
     let ended = perform(alloc, &files, task, input, output, &mut errors, prompts);
-    progress.clear();
+    meter.clear();
     ended.status
 }
 
@@ -381,7 +380,7 @@ fn watch<S: Files + Clock, I: Read + Drop, O: Write + Drop, E: Write, P: Write +
 /// - `ask PART..` reads parts in files, and answers on `output` the questions that come as lines on `input`. It prompts for each line on
 ///   `prompts`, if there are prompts.
 ///
-/// What is read of parts in files is told on `terminal`, if there is one.
+/// While parts in files are read, a line on `terminal`, if there is one, says how much of them was read.
 pub fn run<S: Files + Clock, I: Read + Drop, O: Write + Drop, E: Write, P: Write + Drop>(
     alloc: Global,
     system: &S,
@@ -397,7 +396,7 @@ pub fn run<S: Files + Clock, I: Read + Drop, O: Write + Drop, E: Write, P: Write
         Err(error) => return answer_no_words(alloc, &error, errors),
     };
     match task_of(alloc, &words) {
-        Ok(task) => watch(
+        Ok(task) => perform_metered(
             alloc, system, task, input, output, errors, prompts, terminal,
         ),
         Err(error) => answer_words(alloc, &error, &mut output, errors),

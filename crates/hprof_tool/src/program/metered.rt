@@ -1,48 +1,48 @@
-//! Files and streams that tell progress, or let it go before something else is written.
+//! Files and writers round a progress meter. What is read and written is what the file or the writer itself would give and take.
 
 use crate::program::folder::Folder;
-use crate::program::progress::{Part, Progress};
+use crate::program::meter::{Meter, Part};
 use std::fs::File;
 use std::io::{Read, Write};
 use std::rt::{Clock, Files};
 use std::{fs, io};
 
-/// The files of the system, as a folder. What is read of parts is told as progress.
+/// The files of the system, with a meter for those that are parts.
 #[derive(Drop)]
-pub(crate) struct Watched<'a, S, T> {
+pub(crate) struct Metered<'a, S, T> {
     pub(crate) system: &'a S,
-    pub(crate) progress: &'a Progress<T>,
+    pub(crate) meter: &'a Meter<T>,
 }
 
-/// An open file. What is read of a part is told as progress, whose line goes before a byte is written.
+/// An open file. The meter counts what is read of a part, and its line goes before a byte is written.
 #[derive(Drop)]
-pub(crate) struct WatchedFile<'a, F, S, T> {
+pub(crate) struct MeteredFile<'a, F, S, T> {
     file: F,
     clock: &'a S,
-    progress: &'a Progress<T>,
-    /// The part whose progress is told, if it is.
+    meter: &'a Meter<T>,
+    /// The part, if the meter counts it.
     part: Option<Part>,
 }
 
-impl<F: Read, S: Clock, T: Write> Read for WatchedFile<'_, F, S, T> {
+impl<F: Read, S: Clock, T: Write> Read for MeteredFile<'_, F, S, T> {
     ghost remaining = { λ it. F.remaining it.file };
 
     fn read(&mut self, piece: &mut [u8]) -> io::Result<usize> {
         let outcome = self.file.read(piece);
         if let Some(part) = &mut self.part {
             if let Ok(count) = &outcome {
-                self.progress.note(part, *count, self.clock);
+                self.meter.has_read(part, *count, self.clock);
             }
         }
         outcome
     }
 }
 
-impl<F: Write, S: Clock, T: Write> Write for WatchedFile<'_, F, S, T> {
+impl<F: Write, S: Clock, T: Write> Write for MeteredFile<'_, F, S, T> {
     ghost contents = { λ it. F.contents it.file };
 
     fn write(&mut self, bytes: &[u8]) -> io::Result<usize> {
-        self.progress.clear();
+        self.meter.clear();
         self.file.write(bytes)
     }
 
@@ -51,30 +51,29 @@ impl<F: Write, S: Clock, T: Write> Write for WatchedFile<'_, F, S, T> {
     }
 }
 
-impl<'a, S: Files + Clock, T: Write + Drop> Folder for Watched<'a, S, T> {
+impl<'a, S: Files + Clock, T: Write + Drop> Folder for Metered<'a, S, T> {
     ghost use Rattle.hprof_tool.specs.Folder.{nothing_told};
 
-    type File = WatchedFile<'a, S::File, S, T>;
+    type File = MeteredFile<'a, S::File, S, T>;
 
     ghost answered = { λ _. nothing_told };
 
-    fn open_part(&self, name: &str) -> io::Result<WatchedFile<'a, S::File, S, T>> {
+    fn open_part(&self, name: &str) -> io::Result<MeteredFile<'a, S::File, S, T>> {
         let file = File::open(self.system, name)?;
-        let part = self.progress.opened(&file);
-        Ok(WatchedFile {
+        let part = self.meter.opened(&file);
+        Ok(MeteredFile {
             file,
             clock: self.system,
-            progress: self.progress,
+            meter: self.meter,
             part,
         })
     }
 
-    fn create_out(&self, name: &str) -> io::Result<WatchedFile<'a, S::File, S, T>> {
-        let file = File::create_new(self.system, name)?;
-        Ok(WatchedFile {
-            file,
+    fn create_out(&self, name: &str) -> io::Result<MeteredFile<'a, S::File, S, T>> {
+        Ok(MeteredFile {
+            file: File::create_new(self.system, name)?,
             clock: self.system,
-            progress: self.progress,
+            meter: self.meter,
             part: None,
         })
     }
@@ -84,10 +83,10 @@ impl<'a, S: Files + Clock, T: Write + Drop> Folder for Watched<'a, S, T> {
     }
 }
 
-/// A writer. The line of the progress goes before a byte is written.
+/// A writer. The meter's line goes before a byte is written.
 #[derive(Drop)]
 pub(crate) struct Clearing<'a, W, T> {
-    pub(crate) progress: &'a Progress<T>,
+    pub(crate) meter: &'a Meter<T>,
     pub(crate) writer: W,
 }
 
@@ -95,7 +94,7 @@ impl<W: Write, T: Write> Write for Clearing<'_, W, T> {
     ghost contents = { λ it. W.contents it.writer };
 
     fn write(&mut self, bytes: &[u8]) -> io::Result<usize> {
-        self.progress.clear();
+        self.meter.clear();
         self.writer.write(bytes)
     }
 
@@ -104,7 +103,7 @@ impl<W: Write, T: Write> Write for Clearing<'_, W, T> {
     }
 
     fn write_all(&mut self, bytes: &[u8]) -> io::Result<()> {
-        self.progress.clear();
+        self.meter.clear();
         self.writer.write_all(bytes)
     }
 }

@@ -1,4 +1,4 @@
-//! The line on a terminal that says how much of the parts was read.
+//! The progress meter: a line on a terminal that says how much of the parts was read.
 
 use std::cell::{Cell, RefCell};
 use std::fmt;
@@ -14,8 +14,8 @@ const PAUSE: u64 = 100;
 /// The number of bytes of room for a line. Each line is shorter.
 const LINE_LEN: usize = 96;
 
-/// Goes to the front of the terminal's line, and removes it.
-const REMOVAL: &[u8] = b"\r\x1b[K";
+/// Goes to the start of the terminal's line and erases it.
+const ERASURE: &[u8] = b"\r\x1b[K";
 
 /// A part in a file, and how much of it was read.
 #[derive(Clone, Copy)]
@@ -24,11 +24,11 @@ pub(crate) struct Part {
     number: usize,
     /// The number of bytes that were read.
     read: u64,
-    /// The number of bytes of the file. It is 0 of a pipe.
+    /// The length of the file in bytes. It is 0 for a pipe.
     length: u64,
 }
 
-/// A part that is read, of so many.
+/// The part that is read, and the number of parts.
 #[derive(Clone, Copy)]
 struct Reading {
     part: Part,
@@ -46,6 +46,7 @@ impl fmt::Display for Reading {
         write!(f, "reading part {number} of {parts}: ")?;
         match read.saturating_mul(100).checked_div(length) {
             Some(percent) => {
+                // A file that is still written may grow.
                 let percent = percent.min(100);
                 write!(f, "{percent} %")
             }
@@ -67,7 +68,7 @@ struct Line<T> {
 }
 
 impl<T: Write> Line<T> {
-    /// Returns whether it is time for the next line.
+    /// Returns whether it is time for the next line, and then takes that as its time.
     fn is_due(&mut self, now: Instant) -> bool {
         let is_due = match self.last {
             Some(last) => now.duration_since(last) >= Duration::from_millis(PAUSE),
@@ -79,34 +80,34 @@ impl<T: Write> Line<T> {
         is_due
     }
 
-    /// Says how much of a part was read.
+    /// Writes the line, in one piece.
     fn show(&mut self, reading: Reading) {
         let text = InlineText::<LINE_LEN>::of(format_args!("\r{reading}\x1b[K"));
         let _ = self.terminal.write_all(text.as_str().as_bytes());
         self.is_shown = true;
     }
 
-    /// Removes the line, if it is shown.
+    /// Erases the line, if it is shown.
     fn clear(&mut self) {
         if self.is_shown {
-            let _ = self.terminal.write_all(REMOVAL);
+            let _ = self.terminal.write_all(ERASURE);
             self.is_shown = false;
         }
     }
 }
 
-/// How much of the parts in files was read. It is told on a terminal, if there is one, at most ten times a second.
+/// A progress meter. It writes to a terminal, if there is one, at most ten times a second.
 #[derive(Drop)]
-pub(crate) struct Progress<T> {
+pub(crate) struct Meter<T> {
     line: Option<RefCell<Line<T>>>,
     /// The number of parts that were opened. All are opened before one is read.
     parts: Cell<usize>,
 }
 
-impl<T: Write> Progress<T> {
-    /// Returns the progress of parts of which none was opened.
+impl<T: Write> Meter<T> {
+    /// Returns a meter of no part, with no line shown.
     pub(crate) fn new(terminal: Option<T>) -> Self {
-        Progress {
+        Meter {
             line: match terminal {
                 Some(terminal) => Some(RefCell::new(Line {
                     terminal,
@@ -119,26 +120,25 @@ impl<T: Write> Progress<T> {
         }
     }
 
-    /// Returns the part in a file that was opened, if its progress is told.
+    /// Counts a part that was opened, and returns it. Without a terminal it returns `None`, and asks nothing of the file.
     pub(crate) fn opened<F: OpenFile>(&self, file: &F) -> Option<Part> {
         if self.line.is_none() {
             return None;
         }
         let number = self.parts.get().saturating_add(1);
         self.parts.set(number);
-        let length = match file.metadata() {
-            Ok(metadata) => metadata.len(),
-            Err(_) => 0,
-        };
         Some(Part {
             number,
             read: 0,
-            length,
+            length: match file.metadata() {
+                Ok(metadata) => metadata.len(),
+                Err(_) => 0,
+            },
         })
     }
 
-    /// Notes that so many bytes of a part were read, and tells it, if it is time. The line goes at the end of the last part.
-    pub(crate) fn note<C: Clock>(&self, part: &mut Part, count: usize, clock: &C) {
+    /// Counts bytes that were read of a part, and writes the line, if it is time. At the end of the last part it erases the line.
+    pub(crate) fn has_read<C: Clock>(&self, part: &mut Part, count: usize, clock: &C) {
         part.read = part.read.saturating_add(count as u64);
         let parts = self.parts.get();
         if count == 0 && part.number == parts {
@@ -150,7 +150,7 @@ impl<T: Write> Progress<T> {
         }
     }
 
-    /// Tells how much of a part was read, if it is time.
+    /// Writes the line, if it is time.
     fn tell(&self, reading: Reading, now: Instant) {
         if let Some(line) = &self.line {
             if let Ok(mut line) = line.try_borrow_mut() {
@@ -161,7 +161,7 @@ impl<T: Write> Progress<T> {
         }
     }
 
-    /// Removes the line, if it is shown.
+    /// Erases the line, if it is shown.
     pub(crate) fn clear(&self) {
         if let Some(line) = &self.line {
             if let Ok(mut line) = line.try_borrow_mut() {
