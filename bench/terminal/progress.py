@@ -193,6 +193,7 @@ def refusals(folder):
         lines, left = lines_of(pieces)
         assert status in (1, 2) and left.startswith(told) and left.count(b"\n") == 1, (words, left, status)
         assert bool(lines) == (words[-1] not in ("1x", "there")), (words, lines)
+        check_lines(lines, len(parts), ["MB"] * len(parts))
         assert not (folder / "out").exists(), words
         yield f"{told.decode().strip()}: {len(lines)} lines"
 
