@@ -4,7 +4,7 @@
 Each case runs the program on a terminal of its own and reads all that comes there. A line of progress has one form and says which part of
 how many is read; there are at most ten a second, and what is read grows. Nothing else is written while one is shown, none is shown at the
 end, and the text that is left is that of a run without a terminal. If standard error is no terminal, no line is written. Parts come slowly
-through FIFOs, or from a file of 4 GB without blocks on the disk. It needs the built program (`rt run` in crates/hprof leaves it as
+through FIFOs, or from a file of 2 GB without blocks on the disk. It needs the built program (`rt run` in crates/hprof leaves it as
 crates/hprof/out/hprof). It is no part of the gate.
 """
 
@@ -162,11 +162,11 @@ def parts_of_three(folder):
 
 
 def percents(folder):
-    """A file that takes long to read: 4 GB that are passed over and take no room on the disk."""
+    """A file that takes long to read: 2 GB that are passed over and take no room on the disk."""
     with open(folder / "large", "wb") as large:
         large.write(HEADER)
-        large.write(passed_over(4_000_000_000))
-        large.seek(4_000_000_000, os.SEEK_CUR)
+        large.write(passed_over(2_000_000_000))
+        large.seek(2_000_000_000, os.SEEK_CUR)
         large.truncate()
     pieces, _, status = on_terminal(["check", "large"], folder)
     lines, left = lines_of(pieces)
