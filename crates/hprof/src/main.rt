@@ -26,12 +26,11 @@ fn main(rt: HostRuntime) -> ExitCode {
         // It goes on, also if that cannot be told.
         let _ = writeln!(errors, "{HINT}");
     }
+    let is_seen = rt.stderr().is_terminal();
     // A person who types questions is prompted for each.
-    let prompts = if is_typed && rt.stderr().is_terminal() {
-        Some(rt.stderr())
-    } else {
-        None
-    };
+    let prompts = (is_typed && is_seen).then_some(rt.stderr());
+    // A person who waits is told how much was read.
+    let terminal = is_seen.then_some(rt.stderr());
     let status = run(
         rt.alloc(),
         &rt,
@@ -40,6 +39,7 @@ fn main(rt: HostRuntime) -> ExitCode {
         io::writer(&rt),
         &mut errors,
         prompts,
+        terminal,
     );
     ExitCode::from(status.code())
 }

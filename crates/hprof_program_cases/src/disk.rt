@@ -45,6 +45,7 @@ fn expect_ran(
         &mut output,
         &mut errors,
         None::<Vec<u8>>,
+        None,
     );
     let found = (status.code(), output.len(), errors.as_slice());
     equal_at(rt, words, found, (code, 0, told));

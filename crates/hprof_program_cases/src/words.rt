@@ -39,6 +39,7 @@ fn words_that_cannot_be_had(rt: HostRuntime) -> Result<(), Fail> {
             &mut output,
             &mut errors,
             None::<Vec<u8>>,
+            None,
         );
         let found = (status.code(), output.len(), errors.as_slice());
         equal_at(&rt, code, found, (code, 0, text));
@@ -65,6 +66,7 @@ fn refusals_are_told_once(rt: HostRuntime) -> Result<(), Fail> {
             &mut output,
             &mut errors,
             None::<Vec<u8>>,
+            None,
         );
         let found = (status.code(), output.writes, errors.writes);
         equal_at(&rt, words, found, (code, 0, 1));

@@ -34,19 +34,23 @@ use hprof_reports::{Check, HistogramReport, ObjectReport, PathReport, RefsReport
 use hprof_text::parse_id;
 use hprof_why::WhyReport;
 use joining::{join_stream, report_files, write_file};
+use meter::Meter;
+use metered::{Clearing, Metered};
 use refused::Refused;
 use salvaging::{Written, salvage_file, tell_faults};
 use std::alloc::Global;
 use std::env::Args;
 use std::io;
 use std::io::{Read, Write};
-use std::rt::Files;
+use std::rt::{Clock, Files};
 
 mod answers;
 mod comparing;
 mod conversing;
 mod folder;
 mod joining;
+mod meter;
+mod metered;
 mod prompting;
 mod refused;
 mod salvaging;
@@ -334,6 +338,39 @@ fn perform<F: Folder, I: Read + Drop, O: Write + Drop, E: Write, P: Write + Drop
     }
 }
 
+/// Does what a task asks for, with a progress meter on the terminal, if there is one. The meter's line goes before anything else is written.
+fn perform_metered<S: Files + Clock, I: Read + Drop, O: Write + Drop, E: Write, P: Write + Drop>(
+    alloc: Global,
+    system: &S,
+    task: Task<'_>,
+    input: I,
+    output: O,
+    errors: &mut E,
+    prompts: Option<P>,
+    terminal: Option<P>,
+) -> Status {
+    let meter = Meter::new(terminal);
+    let files = Metered {
+        system,
+        meter: &meter,
+    };
+    let output = Clearing {
+        meter: &meter,
+        writer: output,
+    };
+    let mut errors = Clearing {
+        meter: &meter,
+        writer: errors,
+    };
+    let prompts = prompts.map(|writer| Clearing {
+        meter: &meter,
+        writer,
+    });
+    let ended = perform(alloc, &files, task, input, output, &mut errors, prompts);
+    meter.clear();
+    ended.status
+}
+
 /// Does what the words ask for. Refusals are told on `errors`.
 ///
 /// - Without a word behind the program's name, it joins the part on `input` to `output`.
@@ -344,21 +381,26 @@ fn perform<F: Folder, I: Read + Drop, O: Write + Drop, E: Write, P: Write + Drop
 /// - `diff OLD NEW` writes a report on two dumps in files to `output`.
 /// - `ask PART..` reads parts in files, and answers on `output` the questions that come as lines on `input`. It prompts for each line on
 ///   `prompts`, if there are prompts.
-pub fn run<F: Files, I: Read + Drop, O: Write + Drop, E: Write, P: Write + Drop>(
+///
+/// While parts in files are read, a line on `terminal`, if there is one, says how much of them was read.
+pub fn run<S: Files + Clock, I: Read + Drop, O: Write + Drop, E: Write, P: Write + Drop>(
     alloc: Global,
-    files: &F,
+    system: &S,
     words: io::Result<Args>,
     input: I,
     mut output: O,
     errors: &mut E,
     prompts: Option<P>,
+    terminal: Option<P>,
 ) -> Status {
     let words = match list_of(alloc, words) {
         Ok(words) => words,
         Err(error) => return answer_no_words(alloc, &error, errors),
     };
     match task_of(alloc, &words) {
-        Ok(task) => perform(alloc, files, task, input, output, errors, prompts).status,
+        Ok(task) => perform_metered(
+            alloc, system, task, input, output, errors, prompts, terminal,
+        ),
         Err(error) => answer_words(alloc, &error, &mut output, errors),
     }
 }

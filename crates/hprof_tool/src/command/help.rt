@@ -21,7 +21,8 @@ its memory runs out. A compressed dump goes through zcat:
 PARTs are pieces of one heap, in any order; mostly there is one. Two dumps of
 one process are two heaps: `diff` compares them. Identifiers are hexadecimal,
 without 0x or @. A reader that closes early, as head does, is a failed write:
-cut with sed -n 1,10p instead.
+cut with sed -n 1,10p instead. While files are read, a terminal shows how much
+of them was read.
 
 Exit status: 0 done, 1 refused (one line on standard error), 2 not understood.";
 

@@ -1,12 +1,10 @@
 //! The files of the program.
 
 ghost use Rattle.std.specs.Prelude.{ℕ, List, IfOk, OnErr};
-ghost use Rattle.hprof_tool.specs.Folder.{Answered, nothing_told};
+ghost use Rattle.hprof_tool.specs.Folder.{Answered};
 
-use std::fs::File;
+use std::io;
 use std::io::{Read, Write};
-use std::rt::Files;
-use std::{fs, io};
 
 /// The folder in which the program finds its files. The proofs hold for whatever a folder may tell of the files that it gives: they are
 /// about the very files that were opened and created by these names, and about no others.
@@ -30,22 +28,4 @@ pub(crate) trait Folder {
     /// Removes a file. If it cannot be removed, it stays.
     fn remove_out(&self, name: &str)
         ensures { (answered self.now).IsRemoved name.now };
-}
-
-impl<F: Files> Folder for F {
-    type File = F::File;
-
-    ghost answered = { λ _. nothing_told };
-
-    fn open_part(&self, name: &str) -> io::Result<F::File> {
-        File::open(self, name)
-    }
-
-    fn create_out(&self, name: &str) -> io::Result<F::File> {
-        File::create_new(self, name)
-    }
-
-    fn remove_out(&self, name: &str) {
-        let _ = fs::remove_file(self, name);
-    }
 }
