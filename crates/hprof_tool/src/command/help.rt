@@ -221,8 +221,8 @@ Between two of them, indented, stands the reference: its kind and index, as
     740000410 class shop/Server
 
 If no GC root leads to ID, the line is `not reached`; if the dump has no such
-class or object, it is `nothing at ID`. Of several references between two of them
-the first one by kind and index is printed.
+class or object, it is `nothing at ID`. Of several references from the one to
+the other the first by kind and index is printed.
 
 Weak, soft and phantom references count as any other: the field is `referent`.
 ID is hexadecimal, without 0x or @. Two dumps of one process are two heaps: ask
@@ -233,9 +233,9 @@ Exit status: 0 done, 1 refused (one line on standard error), 2 not understood.";
 /// The command `ask`.
 pub(crate) const ASK: &str = "\
 A question is a line: check, histo, classes, objects KIND, object ID, refs ID,
-path ID, text ID, why ID or help. Its answer is what the command prints, and an empty
-line behind it. Answers come in the order of the questions, each at once. A line
-that is no question is answered with a line that says so.
+path ID, text ID, why ID or help. Its answer is what the command prints, and an
+empty line behind it. Answers come in the order of the questions, each at once.
+A line that is no question is answered with a line that says so.
 
     $ printf 'refs 740000e58\\ntext 7400007f0\\n' | hprof ask friday.hprof
     740000410 static 0
