@@ -19,8 +19,8 @@ from pathlib import Path
 HERE = Path(__file__).resolve().parent
 CRATE = HERE.parent.parent / "crates" / "hprof_worked"
 PROGRAM = CRATE / "out" / "hprof_worked"
-CALLS = {"join", "join101", "salvage", "check", "histo", "classes", "objects", "object", "refs", "path", "text", "diff", "ask", "edges", "layout"}
-CALLS |= {"unite", "read", "facts", "$"}
+CALLS = {"join", "join101", "salvage", "check", "histo", "classes", "objects", "object", "refs", "path", "text", "why", "diff", "ask"}
+CALLS |= {"edges", "layout", "unite", "read", "facts", "$"}
 TITLES = [
     "two names in any order and twice",
     "classes that come late",
@@ -42,6 +42,7 @@ TITLES = [
     "classes with their objects",
     "objects of a class",
     "texts of strings",
+    "why an array of numbers is alive",
     "what grew from nothing",
     "each question",
     "the program, asked questions",
