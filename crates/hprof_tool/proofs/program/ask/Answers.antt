@@ -15,3 +15,7 @@ returns-in-Refs-clause-refused g c = λ refused.
 pub returns-in-Text-clause-refused : goal.returns-in-Text-clause-refused
 returns-in-Text-clause-refused g c = λ refused.
     (c.in-Some.ensures.value.0, rw (c.in-Text.is, ← c.in-Some.ensures.value.1) (c.report-in-Text.ensures.refused refused))
+
+pub returns-in-Why-clause-refused : goal.returns-in-Why-clause-refused
+returns-in-Why-clause-refused g c = λ refused.
+    (c.in-Some.ensures.value.0, rw (c.in-Why.is, ← c.in-Some.ensures.value.1) (c.report-in-Why.ensures.refused refused))
