@@ -4,7 +4,7 @@ from collections import namedtuple
 
 from . import lines
 from .markup import Markup, element, joined, link
-from .printed import NAME, cut, readable, shown
+from .printed import SHORT, cut, readable, shown
 from .subjects import about
 from .values import REFERENCES, WIDTHS, text_of, thousands
 
@@ -19,7 +19,7 @@ NOTHING = Brief(0, None, None, None)
 def has_text(answer):
     """Whether the fields of an instance are those of a string: the first that is named `value` refers to something."""
     for _ in range(FIELDS):
-        line = answer.line(limit=NAME)
+        line = answer.line(limit=SHORT)
         if line is None or lines.word(line) != b"field":
             return False
         field = lines.field(line)
@@ -38,7 +38,7 @@ def start_of(head, answer):
 def brief(answer):
     """A brief of the answer to `object ID`. Its preview is True if the text of a string is still to be asked for."""
     of_class = None
-    for line in answer.lines(limit=NAME):
+    for line in answer.lines(limit=SHORT):
         if lines.word(line) == b"class":
             of_class = lines.class_head(line)
         elif lines.word(line) in OBJECTS:

@@ -1,7 +1,10 @@
 """What stands around every page: its title, the way to the others, and the field for a search."""
 
+import os
+
 from .look import SCRIPT, STYLE
 from .markup import Markup, element, joined, link
+from .printed import visible
 
 
 class Reply:
@@ -22,7 +25,7 @@ def document(title, body, *heads):
         element("meta", charset="utf-8"),
         element("meta", name="viewport", content="width=device-width, initial-scale=1"),
         element("link", rel="icon", href="data:,"),
-        element("title", joined([title, " \u00b7 hprof"])),
+        element("title", title),
         *heads,
         element("style", Markup(STYLE)),
     )
@@ -39,9 +42,11 @@ def plain(status, title, sentence, **headers):
 class Frame:
     """The frame of the pages below one address."""
 
-    def __init__(self, base, compares):
+    def __init__(self, base, parts, compares):
         self.base = base
+        self.parts = [visible(os.path.basename(part)) for part in parts]
         self.compares = compares
+        self.named = " \u2192 ".join(self.parts) if compares else self.parts[0]
 
     def at(self, *words):
         """The address of a page: words and numbers, which are identifiers."""
@@ -55,10 +60,10 @@ class Frame:
         grew = [link(self.at("grew"), "What grew")] if self.compares else []
         return element("header", *grew, link(self.at(""), "Overview"), self.search(word))
 
-    def page(self, title, *children, status=200, word="", heads=()):
-        """A page with the frame around it. The title is text or markup without elements."""
-        body = joined([self.header(word), element("main", element("h1", title), *children)])
-        return Reply(status, document(title, body, *heads))
+    def page(self, title, *children, heading=None, status=200, word="", heads=()):
+        """A page with the frame around it. The heading is the title if nothing else is said."""
+        main = element("main", element("h1", heading or title), *children)
+        return Reply(status, document(f"{title} \u00b7 {self.named}", joined([self.header(word), main]), *heads))
 
     def missing(self, title, sentence):
         return self.page(title, element("p", sentence), status=404)

@@ -16,6 +16,24 @@ def page(number, size=PAGE):
     return Page(number, size, (number - 1) * size)
 
 
+class Kept:
+    """The entries of one page, of all lines that are added one after the other."""
+
+    def __init__(self, page):
+        self.page = page
+        self.entries = []
+        self.total = 0
+
+    def add(self, parse, line):
+        """Counts a line, and keeps what is parsed of it if the page has it."""
+        if self.page.first <= self.total < self.page.first + self.page.size:
+            self.entries.append(parse(line))
+        self.total += 1
+
+    def part(self):
+        return Part(self.entries, self.total, self.page)
+
+
 def taken(lines, parse, limit, page):
     """A reader of one page of an answer, of each line at most `limit` bytes, and of the number of all lines."""
     passed = lines.skip(page.first)

@@ -9,6 +9,8 @@ from .places import Places
 
 # No line of hprof on standard error is longer; more of it is passed over.
 SAID = 4096
+# Control-C at the terminal is for the viewer, which then ends hprof.
+APART = {"start_new_session": True}
 DESCRIPTOR = re.compile(r"/(?:dev/fd|proc/self/fd)/([0-9]+)")
 
 
@@ -35,7 +37,7 @@ class Program:
     """A running hprof. `refusal` is None until it ended."""
 
     def __init__(self, words, parts, **pipes):
-        self.process = subprocess.Popen([*words, *map(as_word, parts)], stderr=subprocess.PIPE, pass_fds=inherited(parts), **pipes)
+        self.process = subprocess.Popen([*words, *map(as_word, parts)], stderr=subprocess.PIPE, pass_fds=inherited(parts), **APART, **pipes)
         self.places = Places(self.process.pid, parts)
         self.ended = threading.Event()
         self.line = ""

@@ -2,8 +2,10 @@
 
 import socket
 import socketserver
+import sys
 import threading
 import time
+import traceback
 from http import HTTPStatus
 
 from .look import HEADERS
@@ -79,7 +81,7 @@ class Server(socketserver.ThreadingMixIn, socketserver.TCPServer):
     def process_request(self, request, client_address):
         try:
             super().process_request(request, client_address)
-        except RuntimeError:
+        except Exception:
             self.room.release()
             self.shutdown_request(request)
 
@@ -90,4 +92,6 @@ class Server(socketserver.ThreadingMixIn, socketserver.TCPServer):
             self.room.release()
 
     def handle_error(self, request, client_address):
-        """A client that went away is no fault; anything else is answered where it happens."""
+        """Tells a fault, but not that a client went away."""
+        if not isinstance(sys.exc_info()[1], OSError):
+            traceback.print_exc()

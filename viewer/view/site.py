@@ -25,7 +25,7 @@ class Site:
 
     def __init__(self, guard, base, hprof, parts, compares):
         self.guard = guard
-        self.frame = Frame(base, compares)
+        self.frame = Frame(base, parts, compares)
         self.hprof, self.parts = hprof, parts
         self.lock = threading.Lock()
         self.growth = Growth(hprof, *parts) if compares else None

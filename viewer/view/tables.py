@@ -3,12 +3,13 @@
 from .markup import element
 
 
-def head(name, class_=None):
-    return element("th", name, scope="col", class_=class_)
+def head(name, class_=None, sorted_=None):
+    """The head of a column, with the class of its cells and the way in which the rows are sorted by it."""
+    return element("th", name, scope="col", class_=class_, aria_sort=sorted_)
 
 
 def table(heads, rows, class_=None):
-    """A table of rows. A head is a text, or a text with the class of its column."""
+    """A table of rows. A head is a text, or what `head` takes."""
     named = [head(one) if isinstance(one, str) else head(*one) for one in heads]
     parts = element("thead", element("tr", *named)), element("tbody", *rows)
     return element("div", element("table", *parts, class_=class_), class_="wide")

@@ -70,3 +70,8 @@ def text_of(kind, bits):
 
 def thousands(number):
     return f"{number:,}"
+
+
+def counted(number, one, more=None):
+    """A number of things, as `1 object` or `2 objects`."""
+    return f"{number:,} {one if number == 1 else more or one + 's'}"

@@ -4,12 +4,12 @@ import re
 
 from .. import lines
 from ..frame import Reply
-from ..markup import element, joined
-from ..paging import PAGE, Part, is_there, page, pager
-from ..printed import NAME, readable
+from ..markup import element
+from ..paging import PAGE, Kept, is_there, page, pager
+from ..printed import SHORT, readable
 from ..subjects import about, is_marked, written
 from ..tables import cell, number, row, table
-from ..values import thousands
+from ..values import counted, thousands
 from ..visit import Missing
 from .overview import kind_link
 
@@ -39,15 +39,11 @@ class Search:
     def __init__(self, pattern, is_wanted, wanted):
         self.pattern = pattern
         self.is_wanted = is_wanted
-        self.wanted = wanted
-        self.entries = []
-        self.total = 0
+        self.kept = Kept(wanted)
 
     def add(self, one):
         if self.is_wanted(one.label):
-            if self.wanted.first <= self.total < self.wanted.first + self.wanted.size:
-                self.entries.append(one._replace(label=one.label[: NAME + 1]))
-            self.total += 1
+            self.kept.add(lambda row: row._replace(label=row.label[:SHORT]), one)
 
     def in_histogram(self, answer):
         for line in answer.found(self.pattern):
@@ -61,7 +57,7 @@ class Search:
 
     def made(self, visit):
         visit.ask(("histo", self.in_histogram), ("classes", self.in_classes))
-        return Part(self.entries, self.total, self.wanted)
+        return self.kept.part()
 
 
 def result(frame, one):
@@ -74,9 +70,9 @@ def results(visit, part, word, **words):
     frame = visit.frame
     rows = [result(frame, one) for one in part.entries]
     heads = ["Class or type", ("Bytes", "n"), ("Objects", "n"), "Identifier"]
-    said = element("p", f"{thousands(part.total)} classes and types have ", element("b", readable(word)), " in their name.")
-    found = joined([table(heads, rows), pager(part, **words)]) if rows else ""
-    return frame.page("Search", said, found, word=word)
+    found = counted(part.total, "class or type", "classes and types")
+    said = element("p", f"{found} with ", element("b", readable(word)), " in the name.")
+    return frame.page("Search", said, table(heads, rows) if rows else "", pager(part, **words), word=word)
 
 
 def named_so(visit, label):

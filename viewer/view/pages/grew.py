@@ -4,10 +4,9 @@ from urllib.parse import urlencode
 
 from .. import lines
 from ..markup import element, joined, link
-from ..paging import Part, is_there, page, pager
-from ..printed import NAME, shown
+from ..paging import Kept, is_there, page, pager
+from ..printed import shown
 from ..tables import bar, cell, number, row, table
-from ..values import thousands
 from ..visit import Missing
 from .find import LONGEST
 from .overview import ROWS, filter_field
@@ -17,16 +16,13 @@ class Growth:
     """The rows of one page of `diff`, and over all rows their number, their sums, and the most bytes to either side."""
 
     def __init__(self, page):
-        self.page = page
-        self.rows = []
-        self.total = self.bytes = self.objects = self.most = 0
+        self.kept = Kept(page)
+        self.bytes = self.objects = self.most = 0
 
     def read(self, answer):
         for line in answer.lines(limit=LONGEST + 100):
             one = lines.grown(line)
-            if self.page.first <= self.total < self.page.first + self.page.size:
-                self.rows.append(one)
-            self.total += 1
+            self.kept.add(lines.grown, line)
             self.bytes += one.bytes
             self.objects += one.count
             self.most = max(self.most, abs(one.bytes))
@@ -57,11 +53,11 @@ def grown_row(frame, growth, one):
 
 def show(visit):
     growth = visit.growth.read(Growth(page(visit.number(), ROWS)).read)
-    part = Part(growth.rows, growth.total, growth.page)
+    part = growth.kept.part()
     if not is_there(part):
         raise Missing
-    heads = ["Class or type", ("Bytes", "n"), ("Less \u00b7 more", "plain"), ("Objects", "n")]
-    rows = [grown_row(visit.frame, growth, one) for one in growth.rows]
+    heads = ["Class or type", ("Bytes", "n", "descending"), ("Less \u00b7 more", "plain"), ("Objects", "n")]
+    rows = [grown_row(visit.frame, growth, one) for one in part.entries]
     said = f"{signed(growth.bytes)} bytes and {signed(growth.objects)} objects from the old dump to the new one. Names lead to the new one."
     return visit.frame.page(
         "What grew",

@@ -6,11 +6,11 @@ from collections import namedtuple
 from .. import lines
 from ..briefs import briefs, target, texts
 from ..markup import Markup, element, joined, link
-from ..paging import Part, is_there, page, pager, taken
-from ..printed import NAME, shown
+from ..paging import Kept, is_there, page, pager
+from ..printed import SHORT, shown, titled
 from ..subjects import about, objects_of
 from ..tables import cell, facts, number, row, table
-from ..values import REFERENCES, thousands
+from ..values import REFERENCES, counted, thousands
 from ..values import number as value_of
 from ..visit import Missing
 from . import sizes
@@ -18,6 +18,7 @@ from .overview import kind_link
 
 # More superclasses are left out.
 CHAIN = 100
+NAMELESS = "(a name without bytes)"
 SECTIONS = {b"static": ("statics", lines.static), b"own": ("fields", lines.own), b"constant": ("constants", lines.constant)}
 Contents = namedtuple("Contents", "head parts has_object has_value")
 
@@ -28,23 +29,22 @@ def contents(visit):
 
     def read(answer):
         head, has_object, has_value = None, False, False
-        kept, totals = {name: [] for name in pages}, dict.fromkeys(pages, 0)
-        for line in answer.lines():
+        kept = {name: Kept(one) for name, one in pages.items()}
+        first = answer.line()
+        if lines.word(first) == b"class":
+            head = lines.class_head(first)
+        else:
+            has_object = lines.word(first) != b"nothing"
+        for line in answer.lines(limit=SHORT):
             word = lines.word(line)
-            if word == b"class":
-                head = lines.class_head(line)
-            elif word in SECTIONS:
+            if word in SECTIONS:
                 name, parse = SECTIONS[word]
-                wanted = pages[name]
-                if wanted.first <= totals[name] < wanted.first + wanted.size:
-                    kept[name].append(parse(line))
-                totals[name] += 1
+                kept[name].add(parse, line)
                 has_value = has_value or (word == b"own" and line.endswith(b" value"))
             else:
-                has_object = word != b"nothing"
+                has_object = True
                 break
-        parts = {name: Part(kept[name], totals[name], pages[name]) for name in pages}
-        return Contents(head, parts, has_object, has_value)
+        return Contents(head, {name: one.part() for name, one in kept.items()}, has_object, has_value)
 
     return read
 
@@ -54,14 +54,11 @@ def subclasses(id, wanted):
     pattern = re.compile(rb" super %x bytes " % id)
 
     def read(answer):
-        entries, total = [], 0
+        kept = Kept(wanted)
         for line in answer.found(pattern):
-            one = lines.class_row(line)
-            if one.parent == id:
-                if wanted.first <= total < wanted.first + wanted.size:
-                    entries.append(one._replace(label=one.label[: NAME + 1]))
-                total += 1
-        return Part(entries, total, wanted)
+            if lines.class_row(line).parent == id:
+                kept.add(lines.class_row, line[:SHORT])
+        return kept.part()
 
     return read
 
@@ -79,10 +76,10 @@ def label_in_histogram(visit, id):
 
 def superclass(answer):
     """The head of a class, and whether it has an own field named `value`."""
-    first = answer.line(limit=NAME + 200)
+    first = answer.line(limit=SHORT)
     if lines.word(first) != b"class":
         return None, False
-    return lines.class_head(first), any(line.startswith(b"own ") and line.endswith(b" value") for line in answer.lines(limit=NAME))
+    return lines.class_head(first), any(line.startswith(b"own ") and line.endswith(b" value") for line in answer.lines(limit=SHORT))
 
 
 def chain(visit, head):
@@ -119,21 +116,21 @@ def section(title, heads, part, name, cells):
     if not part.total:
         return Markup()
     rows = [row(*cells(one)) for one in part.entries]
-    return joined([element("h2", f"{thousands(part.total)} {title}"), table(heads, rows), pager(part, name)])
+    return joined([element("h2", counted(part.total, *title)), table(heads, rows), pager(part, name)])
 
 
 def sections(frame, parts, found):
-    statics = section("static fields", ["Name", "Type", "Value"], parts["statics"], "statics",
+    statics = section(("static field",), ["Name", "Type", "Value"], parts["statics"], "statics",
                       lambda one: (cell(shown(one.name), "name"), cell(one.type), cell(value(frame, one, found), "text")))
-    fields = section("own fields", ["Name", "Type"], parts["fields"], "fields", lambda one: (cell(shown(one.name), "name"), cell(one.type)))
-    constants = section("constants", [("Index", "n"), "Type", "Value"], parts["constants"], "constants",
+    fields = section(("own field",), ["Name", "Type"], parts["fields"], "fields", lambda one: (cell(shown(one.name), "name"), cell(one.type)))
+    constants = section(("constant",), [("Index", "n"), "Type", "Value"], parts["constants"], "constants",
                         lambda one: (number(str(one.index)), cell(one.type), cell(value(frame, one, found), "text")))
     return joined([statics, fields, constants])
 
 
 def below(frame, part):
     heads = ["Class", ("Bytes", "n"), ("Objects", "n")]
-    return section("subclasses", heads, part, "subclasses", lambda one: (
+    return section(("subclass", "subclasses"), heads, part, "subclasses", lambda one: (
         cell(kind_link(frame, one.id, one.label), "name"), number(thousands(one.bytes)), number(thousands(one.count))))
 
 
@@ -164,7 +161,7 @@ def ways(frame, id):
 
 
 def by_size(frame, part, texts):
-    return joined([element("h2", f"{thousands(part.total)} objects by size"), sizes.shown_objects(frame, part, texts)])
+    return joined([element("h2", f"{counted(part.total, 'object')} by size"), sizes.shown_objects(frame, part, texts)])
 
 
 def without_dump(visit, id, contents, objects):
@@ -174,7 +171,7 @@ def without_dump(visit, id, contents, objects):
         if contents.has_object:
             return visit.frame.missing("No class", joined(["At ", link(visit.frame.at("object", id), f"{id:x}"), " is an object."]))
         return visit.frame.missing(f"Nothing at {id:x}", "The dump has neither a class nor an object with this identifier.")
-    title = shown(label) if label else f"Class {id:x}"
+    title = titled(label) if label else f"Class {id:x}"
     note = element("p", "The dump has no class dump of this class: its fields and its superclass are not known.")
     return visit.frame.page(title, note, ways(visit.frame, id), by_size(visit.frame, objects, {}))
 
@@ -194,12 +191,13 @@ def show(visit, id):
     found = briefs(visit.heap, referred(content.head, content.parts))
     strings = texts(visit.heap, [one for _, one in objects.entries]) if has_value or content.has_value else {}
     strings = {id: text for id, text in strings.items() if text}
-    title = shown(content.head.label, len(content.head.label)) or element("i", "(a name without bytes)")
+    label = content.head.label
     return visit.frame.page(
-        title,
+        titled(label) or NAMELESS,
         head_facts(visit, content, objects, above, end, found),
         ways(visit.frame, id),
         sections(visit.frame, content.parts, found),
         below(visit.frame, subs),
         by_size(visit.frame, objects, strings),
+        heading=shown(label, len(label)) or element("i", NAMELESS),
     )

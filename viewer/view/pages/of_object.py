@@ -7,10 +7,10 @@ from ..briefs import OBJECTS, briefs, named, target
 from ..frame import Reply
 from ..markup import Markup, element, joined, link
 from ..paging import PAGE, Part, is_there, page, pager, taken
-from ..printed import readable, shown
+from ..printed import SHORT, readable, shown, titled
 from ..subjects import about
 from ..tables import cell, facts, number, row, table
-from ..values import REFERENCES, WIDTHS, text_of, thousands
+from ..values import REFERENCES, WIDTHS, counted, text_of, thousands
 from ..values import number as value_of
 from ..visit import Missing
 from .of_class import ways
@@ -37,7 +37,7 @@ def entries(head, answer, wanted):
         notes.append(line.decode("ascii"))
         return None
 
-    part = taken(answer, parse, 1 << 17, wanted)
+    part = taken(answer, parse, SHORT, wanted)
     return (Part([], 0, wanted), "", notes[0]) if notes else (part, "", None)
 
 
@@ -46,7 +46,7 @@ def contents(wanted):
 
     def read(answer):
         of_class = False
-        for line in answer.lines():
+        for line in answer.lines(limit=SHORT):
             of_class = of_class or lines.word(line) == b"class"
             if lines.word(line) in OBJECTS:
                 head = lines.head(line)
@@ -139,7 +139,7 @@ def text_of_string(visit, content):
     if content.head.form != "instance" or not is_string(content):
         return Markup()
     (text,) = visit.ask((about("text", content.head.id), whole_text))
-    return joined([element("h2", f"Text, {thousands(text[0])} units"), element("pre", text[1])]) if text else Markup()
+    return joined([element("h2", f"Text, {counted(text[0], 'unit')}"), element("pre", text[1])]) if text else Markup()
 
 
 def referred(content):
@@ -161,9 +161,10 @@ def show(visit, id):
     found = briefs(visit.heap, referred(content))
     body = {"instance": lambda: instance(frame, content, found), "objects": lambda: elements(frame, content, found), "values": lambda: numbers(content)}
     return frame.page(
-        named(False, content.head.label),
+        titled(content.head.label),
         head_facts(visit, content, found),
         ways(frame, id),
         text_of_string(visit, content),
         body[content.head.form](),
+        heading=named(False, content.head.label),
     )

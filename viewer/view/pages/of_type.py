@@ -3,7 +3,7 @@
 from ..markup import element
 from ..paging import is_there, page
 from ..subjects import objects_of
-from ..values import thousands
+from ..values import counted
 from ..visit import Missing
 from . import sizes
 
@@ -12,5 +12,5 @@ def show(visit, kind):
     (part,) = visit.ask((objects_of(kind), sizes.read(page(visit.number()))))
     if not is_there(part):
         raise Missing
-    heading = element("h2", f"{thousands(part.total)} arrays by size")
+    heading = element("h2", f"{counted(part.total, 'array')} by size")
     return visit.frame.page(f"{kind}[]", heading, sizes.shown_objects(visit.frame, part, {}))

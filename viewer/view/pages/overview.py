@@ -3,11 +3,11 @@
 from datetime import datetime, timezone
 
 from .. import lines
-from ..markup import Markup, element, joined, link
-from ..paging import is_there, page, pager, Part
-from ..printed import NAME, shown
+from ..markup import element, joined, link
+from ..paging import Kept, is_there, page, pager
+from ..printed import SHORT, shown
 from ..tables import bar, cell, facts, number, row, table
-from ..values import thousands
+from ..values import counted, thousands
 from ..visit import Missing
 
 ROWS = 2000
@@ -22,9 +22,9 @@ def moment(milliseconds):
 
 
 def checked(answer):
-    """The parts, and the counts with their names. More parts than a page has are left out."""
+    """The parts, and the counts with their names. More parts than a page has rows are left out."""
     parts, counts = [], []
-    for line in answer.lines(limit=NAME):
+    for line in answer.lines(limit=SHORT):
         words = line.decode("ascii").split(" ")
         if words[0] != "part":
             counts.append((" ".join(words[:-1]), int(words[-1])))
@@ -37,33 +37,30 @@ class Weights:
     """The rows of one page of `histo`, and the sums of all."""
 
     def __init__(self, page):
-        self.page = page
-        self.rows = []
-        self.total = self.bytes = self.objects = self.largest = 0
+        self.kept = Kept(page)
+        self.bytes = self.objects = self.largest = 0
 
     def read(self, answer):
-        for line in answer.lines(limit=NAME + 80):
+        for line in answer.lines(limit=SHORT):
             size, count = map(int, line.split(b" ", 2)[:2])
-            if self.page.first <= self.total < self.page.first + self.page.size:
-                self.rows.append(lines.row(line))
-            self.total += 1
+            self.kept.add(lines.row, line)
             self.bytes += size
             self.objects += count
             self.largest = max(self.largest, size)
         return self
 
 
-def part_row(words):
-    """A line `part 0: version 1.0.2 ids 8 time 1 records 2 facts 3 end yes`."""
+def part_row(name, words):
+    """A line `part 0: version 1.0.2 ids 8 time 1 records 2 facts 3 end yes`, of the part with this name."""
     _, index, _, version, _, ids, _, time, _, records, _, facts, _, end = words
     cells = [number(thousands(int(value))) for value in (ids, records, facts)]
-    return row(cell(index.rstrip(":")), cell(version), cell(moment(int(time))), *cells, cell(end))
+    return row(number(index.rstrip(":")), cell(name, "name"), cell(version), cell(moment(int(time))), *cells, cell(end))
 
 
-def checks(parts, counts):
-    heads = ["Part", "Version", "Time", ("Bytes of an identifier", "n"), ("Records", "n"), ("Facts", "n"), "End record"]
+def checks(names, parts, counts):
+    heads = [("Part", "n"), "File", "Version", "Time", ("Bytes of an identifier", "n"), ("Records", "n"), ("Facts", "n"), "End record"]
     told = facts([(name, thousands(count)) for name, count in counts])
-    return element("details", element("summary", "What check says"), table(heads, map(part_row, parts)), told, open=True)
+    return joined([element("h2", "The dump"), table(heads, map(part_row, names, parts)), told])
 
 
 def kind_link(frame, kind, label):
@@ -92,24 +89,24 @@ def filter_field(frame):
 
 
 def summary(weights):
-    totals = f"{thousands(weights.bytes)} bytes in {thousands(weights.objects)} objects of {thousands(weights.total)} classes and types. "
+    kinds = counted(weights.kept.total, "class or type", "classes and types")
+    totals = f"{counted(weights.bytes, 'byte')} in {counted(weights.objects, 'object')} of {kinds}. "
     return element("p", totals, "Bytes are the field and element data in the dump, without object headers and padding.")
 
 
 def show(visit):
     wanted = page(visit.number(), ROWS)
     (parts, counts), weights = visit.ask(("check", checked), ("histo", Weights(wanted).read))
-    part = Part(weights.rows, weights.total, wanted)
+    part = weights.kept.part()
     if not is_there(part):
         raise Missing
-    heads = ["Class or type", ("Bytes", "n"), ("Share", "n share"), ("Objects", "n"), ("Identifier", "plain")]
-    rows = [weight_row(visit.frame, weights, one) for one in weights.rows]
+    heads = ["Class or type", ("Bytes", "n", "descending"), ("Share", "n share"), ("Objects", "n"), ("Identifier", "plain")]
+    rows = [weight_row(visit.frame, weights, one) for one in part.entries]
     return visit.frame.page(
         "Overview",
         summary(weights),
         filter_field(visit.frame),
         table(heads, rows, "sortable") if rows else element("p", "The dump has no objects."),
         pager(part),
-        element("h2", "The dump") if parts else Markup(),
-        checks(parts, counts),
+        checks(visit.frame.parts[-1:] if visit.frame.compares else visit.frame.parts, parts, counts),
     )

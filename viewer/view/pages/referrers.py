@@ -6,10 +6,10 @@ from .. import lines
 from ..briefs import OBJECTS, brief, named, target
 from ..markup import element, joined, link
 from ..paging import is_there, page, pager, taken
-from ..printed import NAME, shown
+from ..printed import SHORT, shown
 from ..subjects import about
 from ..tables import cell, number, row, table
-from ..values import thousands
+from ..values import counted
 from ..visit import Missing
 from .of_class import ways
 
@@ -29,7 +29,7 @@ def holder(wanted):
 
     def read(answer):
         of_class, head, names = None, None, {}
-        for line in answer.lines(limit=NAME + 200):
+        for line in answer.lines(limit=SHORT):
             word = lines.word(line)
             if word == b"class":
                 of_class = lines.class_head(line)
@@ -82,7 +82,7 @@ def show(visit, id):
         raise Missing
     found = holders(visit, part.entries)
     rows = [reference(visit.frame, one, found[one.id]) for one in part.entries]
-    heading = element("h2", f"{thousands(part.total)} references")
+    heading = element("h2", counted(part.total, "reference"))
     return visit.frame.page(
         "Who refers to it",
         element("p", target(visit.frame, id, {id: subject}) if id else "0 is null."),

@@ -5,10 +5,10 @@ from collections import namedtuple
 from .. import lines
 from ..briefs import brief, target
 from ..markup import element, joined, link
-from ..paging import PAGE, Part, is_there, page, pager
-from ..printed import NAME, shown
+from ..paging import PAGE, Kept, is_there, page, pager
+from ..printed import SHORT, shown
 from ..subjects import about
-from ..values import thousands
+from ..values import counted, thousands
 from ..visit import Missing
 from .of_class import ways
 
@@ -23,17 +23,16 @@ class Reading:
     """A path, line by line: the roots, and the nodes of one page, each with the edge that leads to it."""
 
     def __init__(self, wanted):
-        self.wanted = wanted
         self.distance = self.note = None
         self.roots = []
-        self.other_roots = self.total = 0
-        self.nodes = []
+        self.other_roots = 0
+        self.nodes = Kept(wanted)
         self.edge = None
 
     def read(self, answer):
-        for line in answer.lines(limit=NAME + 200):
+        for line in answer.lines(limit=SHORT):
             self.take(line)
-        return Path(self.distance, self.roots, self.other_roots, Part(self.nodes, self.total, self.wanted), self.note)
+        return Path(self.distance, self.roots, self.other_roots, self.nodes.part(), self.note)
 
     def take(self, line):
         word = lines.word(line)
@@ -44,7 +43,7 @@ class Reading:
         elif word == b"":
             self.edge = line.strip(b" ").split(b" ", 2)
         else:
-            self.node(line)
+            self.nodes.add(self.node, line)
 
     def begin(self, word, line):
         if word == b"distance":
@@ -59,11 +58,9 @@ class Reading:
             self.other_roots += 1
 
     def node(self, line):
-        if self.wanted.first <= self.total < self.wanted.first + self.wanted.size:
-            id, label = line.split(b" ", 1)
-            of_class = label.startswith(b"class ")
-            self.nodes.append(Node(int(id, 16), of_class, label[6:] if of_class else label, self.edge))
-        self.total += 1
+        id, label = line.split(b" ", 1)
+        of_class = label.startswith(b"class ")
+        return Node(int(id, 16), of_class, label[6:] if of_class else label, self.edge)
 
 
 def by_way_of(edge):
@@ -91,7 +88,7 @@ def shown_path(frame, path):
 
 def told(frame, path):
     if path.note is None:
-        return joined([element("p", f"{thousands(path.distance)} references lead to it from a GC root."), shown_path(frame, path)])
+        return joined([element("p", f"{counted(path.distance, 'reference leads', 'references lead')} to it from a GC root."), shown_path(frame, path)])
     if path.note == b"not reached":
         return element("p", "No GC root leads to it: it is garbage, or the dump has no roots, as one that was cut short.")
     return element("p", "The dump has neither a class nor an object with this identifier.")
