@@ -151,49 +151,14 @@ class Attacks(unittest.TestCase):
             connection.close()
         self.stands()
 
-    def test_more_connections_than_there_is_room_for(self):
-        idle = [self.viewer.connect() for _ in range(400)]
-        for connection in idle[:300]:
-            connection.close()
-        for _ in range(50):
-            try:
-                return self.stands()
-            except (IndexError, ConnectionError, AssertionError):
-                time.sleep(0.2)
-            finally:
-                for connection in idle[300:]:
-                    connection.close()
-        self.fail("the server does not come back")
-
     def test_a_hundred_requests_at_once(self):
-        request_bytes = f"GET {self.viewer.base}class/740000070 HTTP/1.1\r\nHost: 127.0.0.1:{self.viewer.port}\r\n\r\n".encode()
+        request_bytes = f"GET {self.viewer.base}object/740000850 HTTP/1.1\r\nHost: 127.0.0.1:{self.viewer.port}\r\n\r\n".encode()
         open_now = [self.viewer.connect() for _ in range(100)]
         for connection in open_now:
             connection.sendall(request_bytes)
         for connection in open_now:
             with connection:
-                self.assertEqual(Response(received(connection)).page.heading, "java/lang/String")
-
-    def test_a_client_that_stops_half_way_in_sending(self):
-        with self.viewer.connect() as connection:
-            start = time.monotonic()
-            connection.sendall(f"GET {self.viewer.base} HTTP/1.1\r\nHo".encode())
-            self.stands()
-            self.refused(Response(received(connection)), 408)
-            self.assertLess(time.monotonic() - start, request.SECONDS + 3)
-
-    def test_a_client_that_sends_byte_by_byte(self):
-        """Each byte is no new start: all of a request comes within one time."""
-        with self.viewer.connect() as connection:
-            start = time.monotonic()
-            while time.monotonic() - start < request.SECONDS + 4:
-                try:
-                    connection.sendall(b"G")
-                except ConnectionError:
-                    break
-                time.sleep(0.2)
-            self.assertLess(time.monotonic() - start, request.SECONDS + 3)
-        self.stands()
+                self.assertEqual(Response(received(connection)).page.heading, "shop/Session")
 
     def test_a_client_that_goes_away(self):
         for sent in (b"", b"GET", f"GET {self.viewer.base} HTTP/1.1\r\nHost: 127.0.0.1:{self.viewer.port}\r\n\r\n".encode()):

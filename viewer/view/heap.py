@@ -19,6 +19,7 @@ class Heap:
         self.settled = threading.Event()
         self.refusal = None
         self.questions = frozenset()
+        self.kept = {}
         threading.Thread(target=self.wait, daemon=True).start()
 
     def wait(self):
@@ -36,6 +37,12 @@ class Heap:
         except Ended:
             self.refusal = self.program.refusal()
             raise
+
+    def ask_once(self, question, reader):
+        """The same, of a question whose answer never changes and is small once it is read: it is asked once."""
+        if question not in self.kept:
+            self.kept[question] = self.ask([(question, reader)])[0]
+        return self.kept[question]
 
     def end(self):
         self.program.end()

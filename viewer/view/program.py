@@ -1,5 +1,6 @@
 """hprof as a running process: what it was given, how far it has read, and why it ended."""
 
+import os
 import re
 import subprocess
 import threading
@@ -11,6 +12,7 @@ from .places import Places
 SAID = 4096
 # Control-C at the terminal is for the viewer, which then ends hprof.
 APART = {"start_new_session": True}
+STANDARD_INPUT = ("/dev/stdin", "/dev/fd/0", "/proc/self/fd/0")
 DESCRIPTOR = re.compile(r"/(?:dev/fd|proc/self/fd)/([0-9]+)")
 
 
@@ -24,30 +26,33 @@ class Refusal(Exception):
 
 
 def as_word(part):
-    """The name of a part, so that no command takes it for an option."""
+    """The name of a part, so that hprof takes it neither for an option nor for the questions, which are its standard input."""
+    if part in STANDARD_INPUT:
+        return f"/dev/fd/{os.dup(0)}"
     return "./" + part if part.startswith("-") else part
 
 
-def inherited(parts):
-    """The open files that parts name, as the shell's <(..) does."""
-    return [int(match.group(1)) for match in map(DESCRIPTOR.fullmatch, parts) if match]
+def inherited(words):
+    """The open files that words name, as the shell's <(..) does."""
+    return [int(match.group(1)) for match in map(DESCRIPTOR.fullmatch, words) if match]
 
 
 class Program:
     """A running hprof. `refusal` is None until it ended."""
 
     def __init__(self, words, parts, **pipes):
-        self.process = subprocess.Popen([*words, *map(as_word, parts)], stderr=subprocess.PIPE, pass_fds=inherited(parts), **APART, **pipes)
-        self.places = Places(self.process.pid, parts)
+        named = [as_word(part) for part in parts]
+        self.process = subprocess.Popen([*words, *named], stderr=subprocess.PIPE, pass_fds=inherited(named), **APART, **pipes)
+        self.places = Places(self.process.pid, named)
         self.ended = threading.Event()
         self.line = ""
         threading.Thread(target=self.listen, daemon=True).start()
 
     def listen(self):
         """Keeps the first line that hprof writes on standard error, and waits for its end."""
-        said = self.process.stderr.read(SAID)
-        while self.process.stderr.read(SAID):
-            pass
+        said = b""
+        for piece in iter(lambda: self.process.stderr.read(SAID), b""):
+            said = (said + piece)[:SAID]
         status = self.process.wait()
         self.line = said.decode("utf-8", "replace").split("\n")[0] or self.silence(status)
         self.ended.set()

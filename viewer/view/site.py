@@ -21,13 +21,17 @@ FAULT = plain(500, "A fault of the viewer", "The page could not be made; the ter
 
 
 class Site:
-    """The pages about one dump, or about two and the newer of them. A heap that is one of two is read once it is looked at."""
+    """The pages about one dump, or about two and the newer of them. A heap that is one of two is read once it is looked at.
+
+    Pages are made one after the other: hprof answers in this way too, and threads would wait for each other longer than they work.
+    """
 
     def __init__(self, guard, base, hprof, parts, compares):
         self.guard = guard
         self.frame = Frame(base, parts, compares)
         self.hprof, self.parts = hprof, parts
         self.lock = threading.Lock()
+        self.making = threading.Lock()
         self.growth = Growth(hprof, *parts) if compares else None
         self.heap = None if compares else Heap(hprof, parts)
         self.refusal = None
@@ -82,7 +86,8 @@ class Site:
             return refused.show(self.frame, self.refusal)
         if not settled:
             return waiting.show(self.frame, job.places)
-        return show(Visit(self.frame, words, self.heap, self.growth))
+        with self.making:
+            return show(Visit(self.frame, words, self.heap, self.growth))
 
     def page_of(self, path):
         """What shows the page of a path."""

@@ -96,7 +96,8 @@ def summary(weights):
 
 def show(visit):
     wanted = page(visit.number(), ROWS)
-    (parts, counts), weights = visit.ask(("check", checked), ("histo", Weights(wanted).read))
+    parts, counts = visit.heap.ask_once("check", checked)
+    (weights,) = visit.ask(("histo", Weights(wanted).read))
     part = weights.kept.part()
     if not is_there(part):
         raise Missing

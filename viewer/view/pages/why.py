@@ -41,7 +41,7 @@ class Reading:
         elif word == b"root":
             self.root(line)
         elif word == b"":
-            self.edge = line.strip(b" ").split(b" ", 2)
+            self.edge = line[2:].split(b" ", 2)
         else:
             self.nodes.add(self.node, line)
 
