@@ -19,13 +19,13 @@ h1{font-size:1.3rem;margin:.6rem 0;overflow-wrap:anywhere}h2{font-size:1.05rem;m
 a{color:var(--link)}a:focus-visible,button:focus-visible,input:focus-visible,summary:focus-visible{outline:2px solid var(--link);
 outline-offset:2px}
 .wide{overflow-x:auto}
-table{border-collapse:collapse;width:100%}
-th,td{text-align:left;vertical-align:top;padding:.2rem .6rem .2rem 0;border-bottom:1px solid var(--line)}
+table{border-collapse:collapse}table.sortable{width:100%;margin-top:.4rem}
+th,td{text-align:left;vertical-align:top;padding:.2rem 1rem .2rem 0;border-bottom:1px solid var(--line)}
 th{background:var(--head);font-weight:600;white-space:nowrap}
 th.n,td.n{text-align:right;font-variant-numeric:tabular-nums;white-space:nowrap}
 td.name{overflow-wrap:anywhere;min-width:9rem}
 td.share{width:22%;min-width:5rem;white-space:nowrap}
-td.both{width:30%;min-width:7rem}
+td.both{width:30%;min-width:7rem}th.both{text-align:center}
 th button{font:inherit;font-weight:600;color:inherit;background:none;border:0;padding:0;cursor:pointer}
 th[aria-sort=ascending] button::after{content:" \\2191"}th[aria-sort=descending] button::after{content:" \\2193"}
 .bar{display:inline-block;height:.75em;background:var(--bar);vertical-align:baseline;min-width:1px}

@@ -56,7 +56,7 @@ def show(visit):
     part = growth.kept.part()
     if not is_there(part):
         raise Missing
-    heads = ["Class or type", ("Bytes", "n", "descending"), ("Less \u00b7 more", "plain"), ("Objects", "n")]
+    heads = ["Class or type", ("Bytes", "n", "descending"), ("Less \u00b7 more", "plain both"), ("Objects", "n")]
     rows = [grown_row(visit.frame, growth, one) for one in part.entries]
     said = f"{signed(growth.bytes)} bytes and {signed(growth.objects)} objects from the old dump to the new one. Names lead to the new one."
     return visit.frame.page(
