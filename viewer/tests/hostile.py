@@ -62,9 +62,13 @@ class Writer:
         """A class: own fields (name, type), statics (name, type, bits), constants (type, bits)."""
         self.load(this, text)
         body = b"\x20" + self.id(this) + bytes(4) + b"".join(map(self.id, (parent, loader, 0, 0, 0, 0))) + bytes(4)
-        body += struct.pack(">H", len(constants)) + b"".join(struct.pack(">HB", index, kind) + bits for index, (kind, bits) in enumerate(constants))
-        body += struct.pack(">H", len(statics)) + b"".join(self.id(self.name(name)) + bytes([kind]) + bits for name, kind, bits in statics)
-        self.subs.append(body + struct.pack(">H", len(fields)) + b"".join(self.id(self.name(name)) + bytes([kind]) for name, kind in fields))
+        body += self.counted([struct.pack(">HB", index, kind) + bits for index, (kind, bits) in enumerate(constants)])
+        body += self.counted([self.id(self.name(name)) + bytes([kind]) + bits for name, kind, bits in statics])
+        self.subs.append(body + self.counted([self.id(self.name(name)) + bytes([kind]) for name, kind in fields]))
+
+    @staticmethod
+    def counted(entries):
+        return struct.pack(">H", len(entries)) + b"".join(entries)
 
     def instance(self, this, kind, held=b""):
         self.subs.append(b"\x21" + self.id(this) + bytes(4) + self.id(kind) + struct.pack(">I", len(held)) + held)
@@ -88,7 +92,8 @@ def classes(dump):
     for place, text in enumerate(NAMES.values()):
         this = 0x1000 + 16 * place
         fields = [(text, INT), (b"value", OBJECT)]
-        dump.class_dump(this, text, 0x10, fields, [(text, OBJECT, dump.id(this)), (text, CHAR, b"\0<")], [(BOOLEAN, b"\2"), (OBJECT, dump.id(0x9999))])
+        statics = [(text, OBJECT, dump.id(this)), (text, CHAR, b"\0<")]
+        dump.class_dump(this, text, 0x10, fields, statics, [(BOOLEAN, b"\2"), (OBJECT, dump.id(0x9999))])
         dump.instance(0x2000 + 16 * place, this, b"\xff\xff\xff\xfe" + dump.id(0x3000))
     dump.class_dump(0x10, b"java/lang/Object")
     dump.class_dump(0x100, b"circle/One", 0x110)
@@ -129,7 +134,8 @@ def arrays(dump):
     dump.numbers(0x5620, CHAR, "<b>\u202e\ud800\U0001f600\0\n".encode("utf-16-be", "surrogatepass") * 30)
     dump.class_dump(0x600, b"java/lang/String", 0x10, [(b"value", OBJECT), (b"coder", BYTE)])
     dump.numbers(0x3010, BYTE, "<script>\u202e\0\n\u20ac</pre>".encode("utf-16-le"))
-    for this, value, coder in ((0x3000, 0x3010, 1), (0x3020, 0x5610, 0), (0x3030, 0x5620, 0), (0x3040, 0, 0), (0x3050, 0x9999, 0), (0x3060, 0x3060, 0)):
+    values = (0x3010, 1), (0x5610, 0), (0x5620, 0), (0, 0), (0x9999, 0), (0x3060, 0)
+    for this, (value, coder) in zip((0x3000, 0x3020, 0x3030, 0x3040, 0x3050, 0x3060), values):
         dump.instance(this, 0x600, dump.id(value) + bytes([coder]))
 
 

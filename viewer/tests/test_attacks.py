@@ -10,6 +10,28 @@ from view.look import HEADERS, POLICY, SCRIPT, source
 from .running import FRIDAY, Response, Viewer, received
 
 LEAF = "object/740000850"
+# Addresses behind the token that no page has.
+PATHS = (
+    "..", "../", "../../etc/passwd", "%2e%2e/", "object/../class/7400003a0", "object/..%2fcheck", "object/740000850/",
+    "object//740000850", "object/740000850%0acheck", "object/740000850%20x", "object/740000850%00", "object/740000850;x",
+    "object/0740000850", "object/0x740000850", "object/", "object", "why/" + "f" * 17, "class/-1", "find/",
+    "type/byte[]", "type/byte%5b%5d", "type/Byte", "type/..", "grew", "check", "help", "view/command.py",
+    "?page=0", "?page=-1", "?page=x", "?page=1e9", "?page=999999999999", "?page=%31%00", "class/7400003a0?statics=0",
+    "refs/740000850?page=2", "object/740000850?page=2", "type/byte?page=3",
+)
+# What stands where the first line of a request should: BASE is an address that has a page.
+FIRST_LINES = (
+    b"", b"GET", b"GET BASE", b"GET BASE HTTP/2.0", b"GET BASE HTTP/1.12", b"GET  BASE HTTP/1.1", b"GET http://127.0.0.1BASE HTTP/1.1",
+    b"GET * HTTP/1.1", b"GET BASE\x00 HTTP/1.1", b"GET BASE\xff HTTP/1.1", b"GET BASEx y HTTP/1.1", b"GET\tBASE HTTP/1.1",
+    b"GET BASE HTTP/1.1 ", b" GET BASE HTTP/1.1", b"\x16\x03\x01\x02\x00\x01\x00",
+)
+HEADERS_THAT_ARE_NONE = (
+    b"x", b": x", b"a b: x", b" folded", b"X: a\nHost: evil.example", b"X: a\rb", b"X: a\x00", b"X: \x7f", b"Host : x", b"\xff: x",
+)
+WORDS = (
+    "<script>alert(1)</script>", "\"><img src=x onerror=alert(1)>", "'+alert(1)+'", "</title><script>", "&lt;b&gt;", "a\r\nSet-Cookie: x=1",
+    "\x00\x1b[31m", "\u202etxet", "javascript:alert(1)", "{{7*7}}", "%3Cb%3E", "\U0001f600",
+)
 
 
 class Attacks(unittest.TestCase):
@@ -41,8 +63,9 @@ class Attacks(unittest.TestCase):
 
     def test_hosts(self):
         port = self.viewer.port
-        for host in ("evil.example", f"evil.example:{port}", "127.0.0.1", f"127.0.0.1:{port + 1}", f"127.0.0.1.evil.example:{port}",
-                     f"localhost.:{port}", f"127.1:{port}", f"2130706433:{port}", f"[::1]:{port}", f"user@127.0.0.1:{port}", f"127.0.0.1:0{port}"):
+        names = ("evil.example", "127.0.0.1.evil.example", "localhost.", "127.1", "2130706433", "[::1]", "user@127.0.0.1", "0.0.0.0")
+        others = ("evil.example", "127.0.0.1", f"127.0.0.1:{port + 1}", f"127.0.0.1:0{port}", f"127.0.0.1:{port}, evil.example")
+        for host in (*others, *(f"{name}:{port}" for name in names)):
             with self.subTest(host=host):
                 self.refused(self.viewer.request(self.viewer.base, host), 403)
         for host in (f"127.0.0.1:{port}", f"localhost:{port}", f"LOCALHOST:{port}"):
@@ -66,8 +89,10 @@ class Attacks(unittest.TestCase):
 
     def test_tokens(self):
         token = self.viewer.base.strip("/")
-        for path in ("/", "//", f"//{token}/", f"/./{token}/", f"/x/../{token}/", f"/{token[:-1]}/", f"/{token}x/", f"/{token.swapcase()}/",
-                     f"/%{ord(token[0]):02x}{token[1:]}/", f"/?{token}", f"/{token}%00/", "/favicon.ico", f"/x/{token}/", f"/{token}?q=1"[:-6], "/" + "x" * 5000):
+        wrong = (token[:-1], token + "x", token.swapcase(), f"%{ord(token[0]):02x}{token[1:]}", token + "%00", token[:-1] + "\\")
+        hidden = (f"//{token}/", f"/./{token}/", f"/x/../{token}/", f"/?{token}", f"/x/{token}/")
+        others = ("/", "//", "/favicon.ico", "/" + "x" * 5000, *hidden)
+        for path in (*others, *(f"/{one}/" for one in wrong)):
             with self.subTest(path=path):
                 self.refused(self.viewer.request(path), 403)
         self.assertEqual(len(token), 32)
@@ -90,11 +115,7 @@ class Attacks(unittest.TestCase):
         self.assertEqual([given for given, _ in asked], [b"secret", b"secreT", b"s", b"", b"secret2"])
 
     def test_paths(self):
-        for path in ("..", "../", "../../etc/passwd", "object/../class/7400003a0", "object/..%2fcheck", "object/740000850/", "object//740000850",
-                     "object/740000850%0acheck", "object/740000850%20x", "object/0740000850", "object/740000850;x", "object/0x740000850", "object/",
-                     "object", "type/byte[]", "type/byte%5b%5d", "type/Byte", "type/..", "grew", "check", "help", "object/740000850%00", "%2e%2e/",
-                     "why/" + "f" * 17, "find/", "class/-1", "view/command.py", "?page=0", "?page=-1", "?page=x", "?page=1e9", "?page=999999999999",
-                     "?page=%31%00", "class/7400003a0?statics=0", "refs/740000850?page=2", "object/740000850?page=2", "type/byte?page=3"):
+        for path in PATHS:
             with self.subTest(path=path):
                 response = self.viewer.get(path)
                 self.assertEqual(response.status, 404)
@@ -104,17 +125,14 @@ class Attacks(unittest.TestCase):
 
     def test_requests_that_are_none(self):
         own = f"Host: 127.0.0.1:{self.viewer.port}\r\n\r\n".encode()
-        base = self.viewer.base.encode()
-        for first in (b"", b"GET", b"GET " + base, b"GET " + base + b" HTTP/2.0", b"GET " + base + b" HTTP/1.12", b"GET  " + base + b" HTTP/1.1",
-                      b"GET http://127.0.0.1" + base + b" HTTP/1.1", b"GET * HTTP/1.1", b"GET " + base + b"\x00 HTTP/1.1", b"GET " + base + b"\xff HTTP/1.1",
-                      b"GET " + base + b"x y HTTP/1.1", b"GET\t" + base + b" HTTP/1.1", b"\x16\x03\x01\x02\x00\x01\x00", b"GET " + base + b" HTTP/1.1 "):
+        for first in FIRST_LINES:
             with self.subTest(first=first):
-                self.refused(self.viewer.raw(first + b"\r\n" + own), 400)
+                self.refused(self.viewer.raw(first.replace(b"BASE", self.viewer.base.encode()) + b"\r\n" + own), 400)
         self.stands()
 
     def test_headers_that_are_none(self):
         first = f"GET {self.viewer.base} HTTP/1.1\r\nHost: 127.0.0.1:{self.viewer.port}\r\n".encode()
-        for header in (b"x", b": x", b"a b: x", b" folded", b"X: a\nHost: evil.example", b"X: a\rb", b"X: a\x00", b"X: \x7f", b"Host : x", b"\xff: x"):
+        for header in HEADERS_THAT_ARE_NONE:
             with self.subTest(header=header):
                 self.refused(self.viewer.raw(first + header + b"\r\n\r\n"), 400)
         self.assertEqual(self.viewer.raw(first + b"X: \xc3\xa9\t\"x\"\r\nY:\r\n\r\n").status, 200)
@@ -182,8 +200,7 @@ class Attacks(unittest.TestCase):
             connection.close()
 
     def test_a_word_comes_back_as_text_alone(self):
-        for word in ("<script>alert(1)</script>", "\"><img src=x onerror=alert(1)>", "'+alert(1)+'", "</title><script>", "&lt;b&gt;", "a\r\nSet-Cookie: x=1",
-                     "\x00\x1b[31m", "\u202etxet", "javascript:alert(1)", "{{7*7}}", "%3Cb%3E", "\ud83d\ude00".encode("utf-16", "surrogatepass").decode("utf-16")):
+        for word in WORDS:
             for path in ("find?q=", "find?label="):
                 with self.subTest(word=word, path=path):
                     encoded = "".join(f"%{byte:02X}" for byte in word.encode("utf-8"))

@@ -19,7 +19,8 @@ class Asked:
         self.folder = tempfile.TemporaryDirectory()
         path = Path(self.folder.name) / "script"
         path.write_text(json.dumps(script))
-        self.process = subprocess.Popen([FAKE, "ask", path], stdin=subprocess.PIPE, stdout=subprocess.PIPE, stderr=subprocess.DEVNULL, bufsize=0)
+        pipes = {"stdin": subprocess.PIPE, "stdout": subprocess.PIPE, "stderr": subprocess.DEVNULL}
+        self.process = subprocess.Popen([FAKE, "ask", path], bufsize=0, **pipes)
         self.dialogue = Dialogue(self.process.stdin.fileno(), self.process.stdout.fileno())
 
     def __enter__(self):

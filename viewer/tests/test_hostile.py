@@ -161,7 +161,8 @@ class Hostile(unittest.TestCase):
         self.assertEqual(len(page.rows), 101)
         self.assertEqual(self.viewer.page("refs/2000").rows[1], ["400", "class many/Entries", "static field static0"])
         self.assertIn(["430", "[Ljava/lang/Object;", "element 245"], self.viewer.page("refs/2000?page=3").rows)
-        self.assertIn(["1000", "class <script>alert(1)</script>", "static field <script>alert(1)</script>"], self.viewer.page("refs/1000").rows)
+        script = "<script>alert(1)</script>"
+        self.assertIn(["1000", f"class {script}", f"static field {script}"], self.viewer.page("refs/1000").rows)
 
     def test_identifiers_at_the_edges(self):
         self.assertEqual(self.viewer.page("class/ffffffffffffffff").heading, "edge/Last")

@@ -161,7 +161,8 @@ class Search(unittest.TestCase):
         self.leads_to("++", "")
 
     def test_names(self):
-        self.assertEqual(self.viewer.page("find?q=SHOP").rows[1:], [["shop/Session", "288", "9", "7400003a0"], ["shop/Server", "0", "0", "740000410"]])
+        rows = [["shop/Session", "288", "9", "7400003a0"], ["shop/Server", "0", "0", "740000410"]]
+        self.assertEqual(self.viewer.page("find?q=SHOP").rows[1:], rows)
         self.assertEqual(self.viewer.page("find?q=java.util.abstract").rows[1:], [["java/util/AbstractList", "0", "0", "740000150"]])
         self.assertEqual(self.viewer.page("find?q=byte").rows[1:], [["byte[]", "466", "29", ""]])
         self.assertIn("0 classes and types with face in the name.", self.viewer.page("find?q=face").text)

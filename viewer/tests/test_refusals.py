@@ -141,7 +141,8 @@ class Waiting(unittest.TestCase):
         """The page that waits tells how far the reader is, asks for itself again, and becomes what was asked for."""
         with tempfile.TemporaryDirectory() as folder:
             script = Path(folder) / "script"
-            script.write_text(json.dumps({"answers": {"help": "help\n", "check": "objects 7\n", "histo": "1 1 - byte[]\n"}, "wait": 1.5}))
+            answers = {"help": "help\n", "check": "objects 7\n", "histo": "1 1 - byte[]\n"}
+            script.write_text(json.dumps({"answers": answers, "wait": 1.5}))
             with Viewer(script, program=FAKE) as viewer:
                 first = viewer.request(viewer.base)
                 self.assertTrue(first.page.refreshes)
@@ -153,11 +154,13 @@ class Waiting(unittest.TestCase):
 
 class Words(unittest.TestCase):
     def run_with(self, *words):
-        found = subprocess.run([sys.executable, VIEWER, *map(str, words)], stdout=subprocess.PIPE, stderr=subprocess.PIPE, text=True, timeout=20)
+        command = [sys.executable, VIEWER, *map(str, words)]
+        found = subprocess.run(command, stdout=subprocess.PIPE, stderr=subprocess.PIPE, text=True, timeout=20)
         return found.returncode, found.stdout, found.stderr
 
     def test_words_that_are_not_understood(self):
-        for words in ((), ("--diff", FRIDAY), ("--diff", FRIDAY, MONDAY, MONDAY), ("--port", "x", FRIDAY), ("--port", "65536", FRIDAY), ("--nothing",)):
+        diffs = ("--diff", FRIDAY), ("--diff", FRIDAY, MONDAY, MONDAY)
+        for words in ((), *diffs, ("--port", "x", FRIDAY), ("--port", "65536", FRIDAY), ("--nothing",)):
             status, out, said = self.run_with(*words)
             self.assertEqual((status, out), (2, ""), words)
             self.assertIn("usage: hprof_view.py", said)

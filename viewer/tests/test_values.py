@@ -21,10 +21,11 @@ class Numbers(unittest.TestCase):
 
     def test_reals(self):
         cases = {
-            ("float", "3dcccccd"): "0.1", ("float", "3f800000"): "1.0", ("float", "80000000"): "-0.0", ("float", "7f7fffff"): "3.4028235e+38",
-            ("float", "00000001"): "1e-45", ("float", "7fc00000"): "NaN", ("float", "ffc00001"): "NaN", ("float", "7f800000"): "Infinity",
-            ("double", "3fb999999999999a"): "0.1", ("double", "400921fb54442d18"): "3.141592653589793",
-            ("double", "fff0000000000000"): "-Infinity", ("double", "0000000000000001"): "5e-324", ("double", "7fefffffffffffff"): "1.7976931348623157e+308",
+            ("float", "3dcccccd"): "0.1", ("float", "3f800000"): "1.0", ("float", "80000000"): "-0.0", ("float", "00000001"): "1e-45",
+            ("float", "7f7fffff"): "3.4028235e+38", ("float", "7fc00000"): "NaN", ("float", "ffc00001"): "NaN",
+            ("float", "7f800000"): "Infinity", ("double", "3fb999999999999a"): "0.1", ("double", "400921fb54442d18"): "3.141592653589793",
+            ("double", "fff0000000000000"): "-Infinity", ("double", "0000000000000001"): "5e-324",
+            ("double", "7fefffffffffffff"): "1.7976931348623157e+308",
             ("double", "0000000000000000"): "0.0", ("double", "4197d78400000000"): "1e+08",
         }
         self.assertEqual({case: number(*case) for case in cases}, cases)
@@ -42,7 +43,8 @@ class Numbers(unittest.TestCase):
 
     def test_counts(self):
         self.assertEqual(thousands(1234567), "1,234,567")
-        self.assertEqual([counted(1, "object"), counted(2000, "object"), counted(0, "class", "classes")], ["1 object", "2,000 objects", "0 classes"])
+        found = [counted(1, "object"), counted(2000, "object"), counted(0, "class", "classes")]
+        self.assertEqual(found, ["1 object", "2,000 objects", "0 classes"])
 
     def test_bars(self):
         self.assertEqual([width(0, 5), width(1, 1000), width(1, 2), width(7, 7), width(0, 0)], ["w0", "w1", "w50", "w100", "w0"])

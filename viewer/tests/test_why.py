@@ -10,10 +10,12 @@ from .running import FAKE, FRIDAY, Viewer
 HELP = "help\ncheck\nhisto\nclasses\nobject ID\nrefs ID\npath ID\ntext ID\nwhy ID\nobjects KIND\n"
 BASKET = "distance 2\nroot sticky class\nff5bfc40 class Basket\n  static 0 last\nff5dbc58 Basket\n  field 2 next\nff5dbc08 Basket\n"
 ROOTS = [
-    "JNI global 7f0070000008", "JNI local thread 1 no frame", "JNI local thread 1 frame 3", "Java frame thread 2 frame 0", "native stack thread 3",
-    "sticky class", "thread block thread 4", "monitor used", "thread object thread 4294967295 trace 4294967295", "unknown",
+    "JNI global 7f0070000008", "JNI local thread 1 no frame", "JNI local thread 1 frame 3", "Java frame thread 2 frame 0",
+    "native stack thread 3", "sticky class", "thread block thread 4", "monitor used",
+    "thread object thread 4294967295 trace 4294967295", "unknown",
 ]
 LONG = "distance 249\nroot unknown\n" + "  field 0 next\n".join(f"{0x1000 + place:x} Node\n" for place in range(250))
+FRAMES = "".join(f"root Java frame thread 1 frame {place}\n" for place in range(150))
 ANSWERS = {
     "help": HELP,
     "object ff5dbc08": "instance ff5dbc08 class ff5bfc40 bytes 4 Basket\nfield 0 ff5bfc40 int 00000000 size\n",
@@ -21,7 +23,7 @@ ANSWERS = {
     "object a": "values a byte elements 1\nbytes 41\n",
     "why a": "distance 0\n" + "".join(f"root {root}\n" for root in ROOTS) + "a byte[]\n",
     "object b": "objects b class c elements 1 [Ljava/lang/Object;\nelement 0 0\n",
-    "why b": "distance 1\n" + "".join(f"root Java frame thread 1 frame {place}\n" for place in range(150)) + "c class <b>\n  super 0\nb class \n",
+    "why b": f"distance 1\n{FRAMES}c class <b>\n  super 0\nb class \n",
     "object 10f9": "instance 10f9 class 1 bytes 0 Node\n",
     "why 10f9": LONG,
     "object d": "instance d class 1 bytes 0 Node\n",
@@ -66,7 +68,8 @@ class Why(unittest.TestCase):
         page = self.viewer.page("why/10f9?page=3")
         self.assertIn("page 3 of 3", page.text)
         self.assertNotIn("root: ", page.text)
-        self.assertEqual([link for link in page.links if "/object/" in link][1:], [f"{self.viewer.base}object/{0x1000 + place:x}" for place in range(200, 250)])
+        nodes = [f"{self.viewer.base}object/{0x1000 + place:x}" for place in range(200, 250)]
+        self.assertEqual([link for link in page.links if "/object/" in link][1:], nodes)
         self.assertIn("field next \u2192 Node 10c8", page.text)
         self.assertIn('start="200"', page.source)
         self.assertEqual(self.viewer.page("why/10f9?page=4", 404).heading, "No such page")

@@ -6,8 +6,8 @@ import hashlib
 BARS = "".join(f".w{part}{{width:{part}%}}" for part in range(101))
 STYLE = (
     """
-:root{color-scheme:light dark;--back:#fff;--text:#1c1f24;--soft:#5b6470;--line:#d9dde3;--link:#0b57b7;--bar:#3f7fce;--less:#3d8b57;
---more:#c2552d;--head:#f3f5f8;--escape:#8a4b00}
+:root{color-scheme:light dark;--back:#fff;--text:#1c1f24;--soft:#5b6470;--line:#d9dde3;--link:#0b57b7;--bar:#3f7fce;
+--less:#3d8b57;--more:#c2552d;--head:#f3f5f8;--escape:#8a4b00}
 @media (prefers-color-scheme:dark){:root{--back:#15181c;--text:#e4e7eb;--soft:#9aa4b0;--line:#343a42;--link:#82b4f7;--bar:#4a7fc4;
 --less:#4f9e6a;--more:#d0693f;--head:#1e2329;--escape:#e0a860}}
 *{box-sizing:border-box}
@@ -40,7 +40,8 @@ pre{white-space:pre-wrap;overflow-wrap:anywhere;background:var(--head);padding:.
 .pager{display:flex;flex-wrap:wrap;gap:.2rem .9rem;align-items:center;margin:.6rem 0}
 input,button{font:inherit;color:inherit;background:var(--back);border:1px solid var(--soft);border-radius:3px;padding:.15rem .4rem}
 input[type=number]{width:7rem}input[type=search]{width:16rem;max-width:70vw}
-dl{display:grid;grid-template-columns:max-content 1fr;gap:.1rem .9rem;margin:.4rem 0}dt{color:var(--soft)}dd{margin:0;overflow-wrap:anywhere}
+dl{display:grid;grid-template-columns:max-content 1fr;gap:.1rem .9rem;margin:.4rem 0}
+dt{color:var(--soft)}dd{margin:0;overflow-wrap:anywhere}
 ol.path{padding-left:1.2rem}ol.path li{margin:.25rem 0;overflow-wrap:anywhere}
 .refusal{border-left:4px solid var(--more);padding-left:.8rem}
 progress{width:100%;height:1.2rem}

@@ -12,8 +12,9 @@ class Opener:
 
     def __init__(self, address):
         handle, self.path = tempfile.mkstemp(suffix=".html", prefix="hprof-view-")
+        leads_on = element("meta", http_equiv="refresh", content=f"0;url={address}")
         with os.fdopen(handle, "w", encoding="utf-8") as page:
-            page.write("<!DOCTYPE html>" + element("meta", charset="utf-8") + element("meta", http_equiv="refresh", content=f"0;url={address}"))
+            page.write("<!DOCTYPE html>" + element("meta", charset="utf-8") + leads_on)
 
     def open(self):
         return webbrowser.open("file://" + self.path)

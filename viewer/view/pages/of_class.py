@@ -120,18 +120,27 @@ def section(title, heads, part, name, cells):
 
 
 def sections(frame, parts, found):
-    statics = section(("static field",), ["Name", "Type", "Value"], parts["statics"], "statics",
-                      lambda one: (cell(shown(one.name), "name"), cell(one.type), cell(value(frame, one, found), "text")))
-    fields = section(("own field",), ["Name", "Type"], parts["fields"], "fields", lambda one: (cell(shown(one.name), "name"), cell(one.type)))
-    constants = section(("constant",), [("Index", "n"), "Type", "Value"], parts["constants"], "constants",
-                        lambda one: (number(str(one.index)), cell(one.type), cell(value(frame, one, found), "text")))
+    def field(one):
+        return cell(shown(one.name), "name"), cell(one.type)
+
+    def static(one):
+        return (*field(one), cell(value(frame, one, found), "text"))
+
+    def constant(one):
+        return number(str(one.index)), cell(one.type), cell(value(frame, one, found), "text")
+
+    statics = section(("static field",), ["Name", "Type", "Value"], parts["statics"], "statics", static)
+    fields = section(("own field",), ["Name", "Type"], parts["fields"], "fields", field)
+    constants = section(("constant",), [("Index", "n"), "Type", "Value"], parts["constants"], "constants", constant)
     return joined([statics, fields, constants])
 
 
 def below(frame, part):
+    def subclass(one):
+        return cell(kind_link(frame, one.id, one.label), "name"), number(thousands(one.bytes)), number(thousands(one.count))
+
     heads = ["Class", ("Bytes", "n"), ("Objects", "n")]
-    return section(("subclass", "subclasses"), heads, part, "subclasses", lambda one: (
-        cell(kind_link(frame, one.id, one.label), "name"), number(thousands(one.bytes)), number(thousands(one.count))))
+    return section(("subclass", "subclasses"), heads, part, "subclasses", subclass)
 
 
 def referred(head, parts):

@@ -13,7 +13,7 @@ from ..tables import cell, facts, number, row, table
 from ..values import REFERENCES, WIDTHS, counted, text_of, thousands
 from ..values import number as value_of
 from ..visit import Missing
-from .of_class import ways
+from .of_class import NAMELESS, ways
 
 # The bytes of a string's own page that its text may have as printed.
 TEXT = 60_000
@@ -112,8 +112,11 @@ def numbers(content):
         beside = [cell(readable(text_of(head.kind, bits)), "bits")] if as_text else []
         rows.append(row(number(str(first + place // width)), *map(number, values), *beside))
     heads = [("Index", "n"), *[(f"+{column}", "n") for column in range(ROW)], *(["Text"] if as_text else [])]
-    whole = joined([element("h2", "As text"), element("pre", readable(text_of(head.kind, content.bits), True))]) if as_text else Markup()
-    return joined([table(heads, rows), pager(content.part), whole]) if rows else element("p", "It has no elements.")
+    if not rows:
+        return element("p", "It has no elements.")
+    whole = text_of(head.kind, content.bits) if as_text else None
+    shown_whole = joined([element("h2", "As text"), element("pre", readable(whole, True))]) if as_text else Markup()
+    return joined([table(heads, rows), pager(content.part), shown_whole])
 
 
 def plain(kind, bits):
@@ -121,16 +124,20 @@ def plain(kind, bits):
     return str(int(bits, 16)) if kind == "char" else value_of(kind, bits)
 
 
-def head_facts(visit, content, found):
-    head, frame = content.head, visit.frame
-    of = link(frame.at("type", head.kind), f"{head.kind}[]") if head.form == "values" else link(frame.at("class", head.kind), shown(head.label))
+def head_facts(frame, content):
+    head, of_values = content.head, content.head.form == "values"
+    kind = link(frame.at("type" if of_values else "class", head.kind), shown(head.label) or NAMELESS)
     other = link(frame.at("class", head.id), "a class has this identifier too") if content.of_class else None
-    size = ("Bytes of fields" if head.form == "instance" else "Elements", thousands(head.count))
-    return facts([("Identifier", element("code", f"{head.id:x}")), ("Class" if head.form != "values" else "Type", of), size, ("Beside it", other)])
+    return facts([
+        ("Identifier", element("code", f"{head.id:x}")),
+        ("Type" if of_values else "Class", kind),
+        ("Bytes of fields" if head.form == "instance" else "Elements", thousands(head.count)),
+        ("Beside it", other),
+    ])
 
 
 def is_string(content):
-    """Whether a text may be asked for: the first field named `value` refers to something. It stands on the first page or is not looked for."""
+    """Whether a text may be asked for: the first field named `value` refers to something. It is looked for on the first page."""
     named_so = [field for field in content.part.entries if field and field.name == b"value"][:1]
     return any(field.type in REFERENCES and int(field.bits, 16) for field in named_so)
 
@@ -149,6 +156,12 @@ def referred(content):
     return [field.owner for field in fields] + [int(field.bits, 16) for field in fields if field.type in REFERENCES]
 
 
+def body(frame, content, found):
+    if content.head.form == "values":
+        return numbers(content)
+    return (instance if content.head.form == "instance" else elements)(frame, content, found)
+
+
 def show(visit, id):
     (content,) = visit.ask((about("object", id), contents(page(visit.number(), PAGE))))
     frame = visit.frame
@@ -159,12 +172,11 @@ def show(visit, id):
     if not is_there(content.part):
         raise Missing
     found = briefs(visit.heap, referred(content))
-    body = {"instance": lambda: instance(frame, content, found), "objects": lambda: elements(frame, content, found), "values": lambda: numbers(content)}
     return frame.page(
-        titled(content.head.label),
-        head_facts(visit, content, found),
+        titled(content.head.label) or NAMELESS,
+        head_facts(frame, content),
         ways(frame, id),
         text_of_string(visit, content),
-        body[content.head.form](),
+        body(frame, content, found),
         heading=named(False, content.head.label),
     )

@@ -13,6 +13,8 @@ from ..visit import Missing
 from .of_class import ways
 
 QUESTION = b"why ID"
+TITLE = "Why it is alive"
+WEAK = joined(["Weak, soft and phantom references count as any other: a field ", element("code", "referent"), " shows one."])
 # More roots of one object are counted alone.
 ROOTS = 100
 Node = namedtuple("Node", "id of_class label edge")
@@ -81,14 +83,16 @@ def step(frame, node):
 def shown_path(frame, path):
     first = path.part.page.first
     roots = [element("li", "root: ", shown(root)) for root in path.roots] if not first else []
-    more = [element("li", f"and {thousands(path.other_roots)} other roots of the same")] if path.other_roots and not first else []
+    if roots and path.other_roots:
+        roots.append(element("li", f"and {thousands(path.other_roots)} other roots of the same"))
     steps = [step(frame, node) for node in path.part.entries]
-    return joined([element("ul", *roots, *more) if roots else "", element("ol", *steps, class_="path", start=first), pager(path.part)])
+    return joined([element("ul", *roots) if roots else "", element("ol", *steps, class_="path", start=first), pager(path.part)])
 
 
 def told(frame, path):
     if path.note is None:
-        return joined([element("p", f"{counted(path.distance, 'reference leads', 'references lead')} to it from a GC root."), shown_path(frame, path)])
+        lead = counted(path.distance, "reference leads", "references lead")
+        return joined([element("p", f"{lead} to it from a GC root."), shown_path(frame, path)])
     if path.note == b"not reached":
         return element("p", "No GC root leads to it: it is garbage, or the dump has no roots, as one that was cut short.")
     return element("p", "The dump has neither a class nor an object with this identifier.")
@@ -96,15 +100,15 @@ def told(frame, path):
 
 def show(visit, id):
     if QUESTION not in visit.heap.questions:
-        return visit.frame.page("Why it is alive", element("p", "This hprof cannot tell it: it has no question ", element("code", "why ID"), "."))
+        return visit.frame.page(TITLE, element("p", "This hprof cannot tell it: it has no question ", element("code", "why ID"), "."))
     subject, path = visit.ask((about("object", id), brief), (about("why", id), Reading(page(visit.number(), PAGE)).read))
     if not is_there(path.part):
         raise Missing
     return visit.frame.page(
-        "Why it is alive",
+        TITLE,
         element("p", target(visit.frame, id, {id: subject}) if id else "0 is null."),
         ways(visit.frame, id),
         told(visit.frame, path),
-        element("p", "Weak, soft and phantom references count as any other: a field ", element("code", "referent"), " shows one.", class_="soft"),
+        element("p", WEAK, class_="soft"),
         status=404 if path.note and path.note.startswith(b"nothing") else 200,
     )
