@@ -63,7 +63,7 @@ def faults_of(page, files, known):
         elif NAME.fullmatch(token) and not set(re.findall(r"\w+", token)) <= known:
             yield f"name {token}"
     for crate in set(re.findall(r"\bhprof_\w+", text)):
-        if not (ROOT / "crates" / crate).is_dir() and not any(ROOT.glob(f"crates/*/src/{crate}.rt")) and crate != "hprof_view":
+        if not any(any(ROOT.glob(place)) for place in (f"crates/{crate}/", f"crates/*/src/{crate}.rt", f"viewer/{crate}.py")):
             yield f"crate {crate}"
     for call, clauses in CLAUSES.findall("\n".join(line for line in text.splitlines() if line.startswith("|"))):
         last = call.split("::")[-1]
