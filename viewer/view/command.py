@@ -29,7 +29,7 @@ def serve(found, hprof):
     server = Server(found.port, was_sent=lambda reply: seen.set() if reply.tells_refusal else None)
     port = server.server_address[1]
     base = f"/{token}/"
-    site = Site(Guard(port, token), base, hprof, found.diff or found.parts, bool(found.diff))
+    site = Site(Guard(port, token), base, hprof, found.diff or found.parts, bool(found.diff), tell)
     server.answer = site.answer
     threading.Thread(target=server.serve_forever, daemon=True).start()
     opener = None
@@ -38,14 +38,12 @@ def serve(found, hprof):
         print(address, flush=True)
         opener = open_in_browser(address) if found.open else None
         site.refused.wait()
-        tell(site.refusal)
         if seen.wait(UNSEEN_SECONDS):
             threading.Event().wait(SEEN_SECONDS)
     except (Interrupted, KeyboardInterrupt):
         pass
     finally:
         status = 1 if site.refused.is_set() else 0
-        server.shutdown()
         site.end()
         if opener:
             opener.end()

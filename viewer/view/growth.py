@@ -2,9 +2,8 @@
 
 import os
 import tempfile
-import threading
 
-from .answers import Answer, Stream
+from .answers import Answer, Ended, Stream
 from .program import Program
 
 
@@ -15,18 +14,12 @@ class Growth:
         self.lines = tempfile.TemporaryFile()
         self.program = Program([hprof, "diff"], [old, new], stdout=self.lines)
         self.places = self.program.places
-        self.settled = threading.Event()
-        self.refusal = None
-        threading.Thread(target=self.wait, daemon=True).start()
-
-    def wait(self):
-        self.program.ended.wait()
-        if self.program.process.returncode:
-            self.refusal = self.program.refusal()
-        self.settled.set()
+        self.settled = self.program.ended
 
     def read(self, reader):
         """What the reader makes of the lines."""
+        if self.program.process.returncode:
+            raise Ended
         return reader(Answer(Stream(self.pieces())))
 
     def pieces(self):

@@ -17,7 +17,6 @@ class Heap:
         self.dialogue = Dialogue(process.stdin.fileno(), process.stdout.fileno())
         self.places = self.program.places
         self.settled = threading.Event()
-        self.refusal = None
         self.questions = frozenset()
         self.kept = {}
         threading.Thread(target=self.wait, daemon=True).start()
@@ -32,11 +31,7 @@ class Heap:
 
     def ask(self, asked):
         """What each reader made of the answer to its question."""
-        try:
-            return self.dialogue.ask(asked)
-        except Ended:
-            self.refusal = self.program.refusal()
-            raise
+        return self.dialogue.ask(asked)
 
     def ask_once(self, question, reader):
         """The same, of a question whose answer never changes and is small once it is read: it is asked once."""

@@ -7,6 +7,7 @@ import threading
 
 from .advice import advice
 from .places import Places
+from .printed import visible
 
 # No line of hprof on standard error is longer; more of it is passed over.
 SAID = 4096
@@ -21,7 +22,7 @@ class Refusal(Exception):
 
     def __init__(self, line):
         super().__init__(line)
-        self.line = line
+        self.line = visible(line)
         self.cause, self.help = advice(line)
 
 

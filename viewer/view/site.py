@@ -26,7 +26,7 @@ class Site:
     Pages are made one after the other: hprof answers in this way too, and threads would wait for each other longer than they work.
     """
 
-    def __init__(self, guard, base, hprof, parts, compares):
+    def __init__(self, guard, base, hprof, parts, compares, tell):
         self.guard = guard
         self.frame = Frame(base, parts, compares)
         self.hprof, self.parts = hprof, parts
@@ -34,6 +34,7 @@ class Site:
         self.making = threading.Lock()
         self.growth = Growth(hprof, *parts) if compares else None
         self.heap = None if compares else Heap(hprof, parts)
+        self.tell = tell
         self.refusal = None
         self.refused = threading.Event()
         self.watch(self.growth or self.heap)
@@ -50,19 +51,23 @@ class Site:
         threading.Thread(target=wait, daemon=True).start()
 
     def note(self, refusal):
-        if not self.refused.is_set():
-            self.refusal = refusal
-            self.refused.set()
-
-    def job(self, path):
-        """What has to be read before the page of a path can be shown."""
-        if path == "grew":
-            return self.growth
+        """Tells a refusal, the first alone, before any page shows it."""
         with self.lock:
-            if self.heap is None:
-                self.heap = Heap(self.hprof, self.parts[-1:])
-                self.watch(self.heap)
-            return self.heap
+            if self.refusal is None:
+                self.refusal = refusal
+                self.tell(refusal)
+                self.refused.set()
+
+    def jobs(self, path):
+        """What has to be read before the page of a path can be shown, one after the other."""
+        if self.growth:
+            yield self.growth
+        if path != "grew":
+            with self.lock:
+                if self.heap is None:
+                    self.heap = Heap(self.hprof, self.parts[-1:])
+                    self.watch(self.heap)
+            yield self.heap
 
     def answer(self, head):
         """The reply to the head of a request."""
@@ -80,12 +85,12 @@ class Site:
 
     def reply(self, path, words):
         show = self.page_of(path)
-        job = self.job(path)
-        settled = job.settled.wait(HOLD)
-        if self.refused.is_set():
-            return refused.show(self.frame, self.refusal)
-        if not settled:
-            return waiting.show(self.frame, job.places)
+        for job in self.jobs(path):
+            settled = job.settled.wait(HOLD)
+            if self.refused.is_set():
+                return refused.show(self.frame, self.refusal)
+            if not settled:
+                return waiting.show(self.frame, job.places)
         with self.making:
             return show(Visit(self.frame, words, self.heap, self.growth))
 
