@@ -64,7 +64,7 @@ def asked(program, dump, questions):
 
 
 def drawn(program, dump, count):
-    """Identifiers of classes, and of objects of some classes, those with more objects more often."""
+    """Identifiers of classes, of classes with objects, and of objects of some classes, those with more objects more often."""
     dice = random.Random(1)
     classes = [line.split(" ", 7) for line in asked(program, dump, ["classes"])[0]]
     weights = [int(one[6]) for one in classes]
@@ -72,7 +72,8 @@ def drawn(program, dump, count):
     lists = asked(program, dump, [f"objects {kind}" for kind in kinds])
     objects = [dice.choice(lines).split(" ")[1] for lines in lists if lines for _ in range(-(-count // KINDS))]
     dice.shuffle(objects)
-    return [one[0] for one in dice.choices(classes, k=count)], objects[:count]
+    held = [one[0] for one in classes if int(one[6])]
+    return [one[0] for one in dice.choices(classes, k=count)], dice.choices(held, k=-(-count // 10)), objects[:count]
 
 
 def row(what, value, beside=""):
@@ -96,7 +97,7 @@ def main():
     words.add_argument("--hprof", default=PROGRAM, help=argparse.SUPPRESS)
     words.add_argument("dump")
     words = words.parse_args()
-    classes, objects = drawn(words.hprof, words.dump, words.pages)
+    classes, held, objects = drawn(words.hprof, words.dump, words.pages)
     size = Path(words.dump).stat().st_size
     print(f"{size / 1e6:.1f} MB\n\n| Page | Time | Beside |\n|---|---|---|")
     viewer = Viewer(words.hprof, words.dump)
@@ -104,6 +105,7 @@ def main():
     row("the overview, once it is", f"{viewer.get('')[2] * 1000:.0f} ms")
     timed(viewer, "overview", [""] * 100)
     timed(viewer, "class", [f"class/{id}" for id in classes])
+    timed(viewer, "class with objects", [f"class/{id}" for id in held])
     for name in ("object", "refs", "why"):
         timed(viewer, f"{name}, the first", [f"{name}/{objects[0]}"])
         timed(viewer, name, [f"{name}/{id}" for id in objects])

@@ -6,7 +6,7 @@ from collections import namedtuple
 from .. import lines
 from ..briefs import briefs, target, texts
 from ..markup import Markup, element, joined, link
-from ..paging import Kept, is_there, page, pager
+from ..paging import Kept, Part, is_there, page, pager
 from ..printed import SHORT, shown, titled
 from ..subjects import about, objects_of
 from ..tables import cell, facts, number, row, table
@@ -49,18 +49,28 @@ def contents(visit):
     return read
 
 
-def subclasses(id, wanted):
-    """A reader of a page of the classes whose superclass this one is."""
-    pattern = re.compile(rb" super %x bytes " % id)
+def beside(id, wanted):
+    """A reader of the row of a class, and of a page of the classes whose superclass it is."""
+    pattern = re.compile(rb"^%x super | super %x bytes " % (id, id), re.MULTILINE)
 
     def read(answer):
-        kept = Kept(wanted)
+        own, kept = None, Kept(wanted)
         for line in answer.found(pattern):
-            if lines.class_row(line).parent == id:
-                kept.add(lines.class_row, line[:SHORT])
-        return kept.part()
+            one = lines.class_row(line[:SHORT])
+            own = one if one.id == id else own
+            if one.parent == id:
+                kept.add(lambda kept_row: kept_row, one)
+        return own, kept.part()
 
     return read
+
+
+def objects(visit, id, own):
+    """A page of the objects. Where a class has none it is not asked for them: hprof looks at all objects to answer that."""
+    wanted = page(visit.number())
+    if own and own.count == 0:
+        return Part([], 0, wanted)
+    return visit.ask((objects_of(id), sizes.read(wanted)))[0]
 
 
 def label_in_histogram(visit, id):
@@ -187,26 +197,23 @@ def without_dump(visit, id, contents, objects):
 
 def show(visit, id):
     wanted = page(visit.number("subclasses"))
-    content, subs, objects = visit.ask(
-        (about("object", id), contents(visit)),
-        ("classes", subclasses(id, wanted)),
-        (objects_of(id), sizes.read(page(visit.number()))),
-    )
-    if not all(map(is_there, (subs, objects, *content.parts.values()))):
+    content, (own, subclasses) = visit.ask((about("object", id), contents(visit)), ("classes", beside(id, wanted)))
+    part = objects(visit, id, own)
+    if not all(map(is_there, (subclasses, part, *content.parts.values()))):
         raise Missing
     if content.head is None:
-        return without_dump(visit, id, content, objects)
+        return without_dump(visit, id, content, part)
     above, end, has_value = chain(visit, content.head)
     found = briefs(visit.heap, referred(content.head, content.parts))
-    strings = texts(visit.heap, [one for _, one in objects.entries]) if has_value or content.has_value else {}
+    strings = texts(visit.heap, [one for _, one in part.entries]) if has_value or content.has_value else {}
     strings = {id: text for id, text in strings.items() if text}
     label = content.head.label
     return visit.frame.page(
         titled(label) or NAMELESS,
-        head_facts(visit, content, objects, above, end, found),
+        head_facts(visit, content, part, above, end, found),
         ways(visit.frame, id),
         sections(visit.frame, content.parts, found),
-        below(visit.frame, subs),
-        by_size(visit.frame, objects, strings),
+        below(visit.frame, subclasses),
+        by_size(visit.frame, part, strings),
         heading=shown(label, len(label)) or element("i", NAMELESS),
     )
