@@ -1,5 +1,6 @@
 """A dump that is hard to show: every page of it stays well formed, and shows the names as text."""
 
+import re
 import tempfile
 import unittest
 from pathlib import Path
@@ -7,6 +8,10 @@ from pathlib import Path
 from .hostile import NAMES, hostile
 from .running import Viewer
 from .test_pages import crawled
+
+
+# All but the first three of the subclasses that are alike.
+MOST_SUBCLASSES = re.compile(r"/8([1-6]\w|0[3-9a-f])0\b")
 
 
 def place_of(name):
@@ -27,8 +32,8 @@ class Hostile(unittest.TestCase):
         return self.viewer.page(f"class/{0x1000 + 16 * place_of(name):x}")
 
     def test_every_link(self):
-        found = crawled(self.viewer)
-        self.assertGreater(len(found), 600)
+        found = crawled(self.viewer, without=MOST_SUBCLASSES)
+        self.assertGreater(len(found), 300)
         for path, response in found.items():
             with self.subTest(path=path):
                 self.assertIn(response.status, (200, 303, 404))

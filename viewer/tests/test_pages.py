@@ -9,12 +9,12 @@ from .running import FRIDAY, MONDAY, Viewer
 LATER = re.compile(r"=([3-9]|\d\d+)$")
 
 
-def crawled(viewer, start="", most=2000):
+def crawled(viewer, start="", most=2000, without=LATER):
     """Every page that links lead to, by its address; of long lists the first two pages."""
     found, due = {}, [start]
     while due and len(found) < most:
         path = due.pop()
-        if path in found or LATER.search(path):
+        if path in found or LATER.search(path) or without.search(path):
             continue
         found[path] = response = viewer.get(path)
         links = [response.headers["Location"]] if response.status == 303 else response.page.links

@@ -18,7 +18,7 @@ LARGE = 30_000_000
 
 class Slow(unittest.TestCase):
     def setUp(self):
-        for place, name, value in ((request, "SECONDS", 0.6), (server, "SEND_SECONDS", 0.6), (server, "CONNECTIONS", 8)):
+        for place, name, value in ((request, "SECONDS", 0.4), (server, "SEND_SECONDS", 0.4), (server, "CONNECTIONS", 8)):
             patch = mock.patch.object(place, name, value)
             patch.start()
             self.addCleanup(patch.stop)
@@ -65,7 +65,7 @@ class Slow(unittest.TestCase):
             connection.sendall(REQUEST[:-3])
             self.stands()
             self.assertEqual(Response(received(connection)).status, 408)
-            self.assertTrue(0.5 < time.monotonic() - start < 4)
+            self.assertTrue(0.3 < time.monotonic() - start < 4)
 
     def test_it_sends_byte_by_byte(self):
         """Each byte is no new start: all of a request comes within one time."""
