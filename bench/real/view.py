@@ -73,7 +73,7 @@ def drawn(program, dump, count):
     objects = [dice.choice(lines).split(" ")[1] for lines in lists if lines for _ in range(-(-count // KINDS))]
     dice.shuffle(objects)
     held = [one[0] for one in classes if int(one[6])]
-    return [one[0] for one in dice.choices(classes, k=count)], dice.choices(held, k=-(-count // 10)), objects[:count]
+    return [one[0] for one in dice.choices(classes, k=count)], dice.choices(held, k=count), objects[:count]
 
 
 def row(what, value, beside=""):
@@ -104,8 +104,9 @@ def main():
     row("until the dump is read", f"{viewer.wait() * 1000:.0f} ms")
     row("the overview, once it is", f"{viewer.get('')[2] * 1000:.0f} ms")
     timed(viewer, "overview", [""] * 100)
-    timed(viewer, "class", [f"class/{id}" for id in classes])
+    timed(viewer, "class with objects, the first visit", [f"class/{id}" for id in sorted(set(held))])
     timed(viewer, "class with objects", [f"class/{id}" for id in held])
+    timed(viewer, "class", [f"class/{id}" for id in classes])
     for name in ("object", "refs", "why"):
         timed(viewer, f"{name}, the first", [f"{name}/{objects[0]}"])
         timed(viewer, name, [f"{name}/{id}" for id in objects])

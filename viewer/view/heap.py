@@ -2,10 +2,15 @@
 
 import subprocess
 import threading
+from collections import OrderedDict
 
 from .answers import Ended
 from .dialogue import Dialogue
 from .program import Program
+
+
+# A page has a hundred entries at most.
+KEPT = 500
 
 
 class Heap:
@@ -18,7 +23,7 @@ class Heap:
         self.places = self.program.places
         self.settled = threading.Event()
         self.questions = frozenset()
-        self.kept = {}
+        self.kept = OrderedDict()
         threading.Thread(target=self.wait, daemon=True).start()
 
     def wait(self):
@@ -33,11 +38,14 @@ class Heap:
         """What each reader made of the answer to its question."""
         return self.dialogue.ask(asked)
 
-    def ask_once(self, question, reader):
-        """The same, of a question whose answer never changes and is small once it is read: it is asked once."""
-        if question not in self.kept:
-            self.kept[question] = self.ask([(question, reader)])[0]
-        return self.kept[question]
+    def ask_once(self, question, reader, page=1):
+        """The same, of a page of an answer that hprof takes long for. The last of such pages are kept, since a dump does not change."""
+        if (question, page) not in self.kept:
+            self.kept[question, page] = self.ask([(question, reader)])[0]
+        self.kept.move_to_end((question, page))
+        if len(self.kept) > KEPT:
+            self.kept.popitem(last=False)
+        return self.kept[question, page]
 
     def end(self):
         self.program.end()

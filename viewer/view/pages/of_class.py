@@ -70,7 +70,7 @@ def objects(visit, id, own):
     wanted = page(visit.number())
     if own and own.count == 0:
         return Part([], 0, wanted)
-    return visit.ask((objects_of(id), sizes.read(wanted)))[0]
+    return sizes.asked(visit, objects_of(id), wanted)
 
 
 def label_in_histogram(visit, id):

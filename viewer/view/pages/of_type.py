@@ -9,7 +9,7 @@ from . import sizes
 
 
 def show(visit, kind):
-    (part,) = visit.ask((objects_of(kind), sizes.read(page(visit.number()))))
+    part = sizes.asked(visit, objects_of(kind), page(visit.number()))
     if not is_there(part):
         raise Missing
     heading = element("h2", f"{counted(part.total, 'array')} by size")

@@ -7,9 +7,9 @@ from ..tables import cell, number, row, table
 from ..values import thousands
 
 
-def read(page):
-    """A reader of one page of the objects."""
-    return lambda answer: taken(answer, lines.sized, 100, page)
+def asked(visit, question, page):
+    """A page of the objects that the question is for. hprof looks at all objects to answer it, so the page is kept."""
+    return visit.heap.ask_once(question, lambda answer: taken(answer, lines.sized, 100, page), page.number)
 
 
 def shown_objects(frame, part, texts):
