@@ -116,6 +116,8 @@ def many(dump):
     dump.instance(0x410, 0x400, b"".join(struct.pack(">i", -place) for place in range(250)))
     for place in range(110):
         dump.class_dump(0x8000 + 16 * place, b"many/Sub%d" % place, 0x400)
+    for place in range(150):
+        dump.instance(0xA000 + 16 * place, 0x8000, bytes(200 - place))
     dump.class_dump(0x420, b"[Ljava/lang/Object;", 0x10)
     dump.objects(0x430, 0x420, [0x2000, 0, 0x9999, 0x430, 0x10] * 60)
     dump.objects(0x440, 0x420, [])

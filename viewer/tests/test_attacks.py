@@ -34,6 +34,14 @@ WORDS = (
 )
 
 
+def own_addresses():
+    """The addresses of this machine but the one that the viewer listens on, as far as its name tells them."""
+    try:
+        return {found[4][0] for found in socket.getaddrinfo(socket.gethostname(), None, socket.AF_INET)} - {"127.0.0.1"}
+    except socket.gaierror:
+        return set()
+
+
 class Attacks(unittest.TestCase):
     @classmethod
     def setUpClass(cls):
@@ -45,7 +53,7 @@ class Attacks(unittest.TestCase):
         """The server goes on, and answers at once."""
         start = time.monotonic()
         self.assertEqual(self.viewer.page(LEAF).heading, "shop/Session")
-        self.assertLess(time.monotonic() - start, 2)
+        self.assertLess(time.monotonic() - start, request.SECONDS)
 
     def refused(self, response, status):
         """A refusal that tells nothing of the dump and leads nowhere."""
@@ -226,8 +234,7 @@ class Attacks(unittest.TestCase):
         self.headers(self.viewer.get(""))
 
     def test_it_listens_on_this_machine_alone(self):
-        for address in {found[4][0] for found in socket.getaddrinfo(socket.gethostname(), None, socket.AF_INET)} - {"127.0.0.1"}:
-            with self.assertRaises(OSError):
-                socket.create_connection((address, self.viewer.port), timeout=2).close()
-        with self.assertRaises(OSError):
-            socket.create_connection(("::1", self.viewer.port), timeout=2).close()
+        for address in ("127.0.0.2", "::1", *own_addresses()):
+            with self.subTest(address=address):
+                with self.assertRaises(OSError):
+                    socket.create_connection((address, self.viewer.port), timeout=2).close()

@@ -10,8 +10,8 @@ from .running import Viewer
 from .test_pages import crawled
 
 
-# All but the first three of the subclasses that are alike.
-MOST_SUBCLASSES = re.compile(r"/8([1-6]\w|0[3-9a-f])0\b")
+# All but the first three of the subclasses, and of the objects of one of them, that are alike.
+MOST_SUBCLASSES = re.compile(r"/8([1-6]\w|0[3-9a-f])0\b|/a([1-9]\w|0[3-9a-f])0\b")
 
 
 def place_of(name):
@@ -124,6 +124,15 @@ class Hostile(unittest.TestCase):
         self.assertEqual(self.viewer.page("class/400?statics=4", 404).heading, "No such page")
         rows = self.viewer.page("object/410?page=3").rows
         self.assertEqual((len(rows), rows[-1][:3]), (51, ["field249", "int", "-249"]))
+
+    def test_pages_of_objects(self):
+        """Each page by itself, also when it is looked at again."""
+        for _ in range(2):
+            first, second = self.viewer.page("class/8000"), self.viewer.page("class/8000?page=2")
+            self.assertIn("150 objects by size", first.text)
+            self.assertEqual((len(first.rows), first.rows[1], first.rows[-1]), (101, ["a000", "200"], ["a630", "101"]))
+            self.assertEqual((len(second.rows), second.rows[1], second.rows[-1]), (51, ["a640", "100"], ["a950", "51"]))
+        self.assertEqual(self.viewer.page("class/8000?page=3", 404).heading, "No such page")
 
     def test_pages_of_elements(self):
         rows = self.viewer.page("object/430?page=3").rows

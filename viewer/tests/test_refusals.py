@@ -1,6 +1,7 @@
 """Every way in which hprof refuses: its line and what helps are shown and printed, and the status is 1."""
 
 import json
+import os
 import re
 import signal
 import subprocess
@@ -9,8 +10,9 @@ import tempfile
 import time
 import unittest
 from pathlib import Path
+from unittest import mock
 
-from view import command
+from view import command, words
 from view.advice import ADVICE, KILLED, UNKNOWN, advice
 
 from .running import FAKE, FRIDAY, MONDAY, ROOT, VIEWER, Viewer
@@ -56,9 +58,9 @@ class Refused(unittest.TestCase):
     def script(self, **script):
         return self.file("script", json.dumps({"answers": {"help": "help\n", "check": "objects 7\n", "histo": HISTO}, **script}).encode())
 
-    def refused(self, line, *words, path="", program=None):
+    def refused(self, line, *named, path="", program=None):
         """The page has the line and what helps; so has standard error; the status is 1."""
-        with Viewer(*words, program=program) as viewer:
+        with Viewer(*named, program=program) as viewer:
             page = viewer.page(path)
             self.assertEqual((page.heading, page.faults), ("hprof refused", []))
             self.assertIn(line, page.text)
@@ -153,16 +155,16 @@ class Waiting(unittest.TestCase):
 
 
 class Words(unittest.TestCase):
-    def run_with(self, *words):
-        command = [sys.executable, VIEWER, *map(str, words)]
+    def run_with(self, *named):
+        command = [sys.executable, VIEWER, *map(str, named)]
         found = subprocess.run(command, stdout=subprocess.PIPE, stderr=subprocess.PIPE, text=True, timeout=20)
         return found.returncode, found.stdout, found.stderr
 
     def test_words_that_are_not_understood(self):
         diffs = ("--diff", FRIDAY), ("--diff", FRIDAY, MONDAY, MONDAY)
-        for words in ((), *diffs, ("--port", "x", FRIDAY), ("--port", "65536", FRIDAY), ("--nothing",)):
-            status, out, said = self.run_with(*words)
-            self.assertEqual((status, out), (2, ""), words)
+        for named in ((), *diffs, ("--port", "x", FRIDAY), ("--port", "65536", FRIDAY), ("--nothing",)):
+            status, out, said = self.run_with(*named)
+            self.assertEqual((status, out), (2, ""), named)
             self.assertIn("usage: hprof_view.py", said)
 
     def test_help(self):
@@ -174,6 +176,17 @@ class Words(unittest.TestCase):
     def test_no_program(self):
         self.assertEqual(self.run_with("--hprof", "/nowhere/hprof", FRIDAY)[:2], (1, ""))
 
+    def test_the_program_in_path(self):
+        """Without `--hprof` it takes the program in PATH, and else the one that was built beside it."""
+        with tempfile.TemporaryDirectory() as folder, mock.patch.dict(os.environ, PATH=folder):
+            built = words.program(None)
+            self.assertIn(built, (None, str(ROOT / "crates" / "hprof" / "out" / "hprof")))
+            path = Path(folder) / "hprof"
+            path.symlink_to(FAKE)
+            self.assertEqual(words.program(None), str(path))
+            self.assertEqual(words.program(str(FAKE)), str(FAKE))
+            self.assertIsNone(words.program(str(FRIDAY)))
+
     def test_a_port_that_is_taken(self):
         with Viewer(FRIDAY) as viewer:
             status, out, said = self.run_with("--hprof", viewer.program, "--port", viewer.port, FRIDAY)
@@ -184,7 +197,7 @@ class Words(unittest.TestCase):
         """As `<(zcat heap.hprof.gz)`, and as standard input."""
         for opened in (lambda pipe: ([f"/dev/fd/{pipe}"], {"pass_fds": [pipe]}), lambda pipe: (["/dev/stdin"], {"stdin": pipe})):
             with subprocess.Popen(["cat", FRIDAY], stdout=subprocess.PIPE) as cat:
-                words, options = opened(cat.stdout.fileno())
-                with Viewer(*words, **options) as viewer:
+                named, options = opened(cat.stdout.fileno())
+                with Viewer(*named, **options) as viewer:
                     self.assertIn("82 objects", viewer.page("").text)
                     self.assertEqual(viewer.page("object/740000850").heading, "shop/Session")
