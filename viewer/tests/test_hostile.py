@@ -166,6 +166,9 @@ class Hostile(unittest.TestCase):
         self.assertIn("Text, 18 units<script>\\u202e\\u0000\n\u20ac</pre>", self.viewer.page("object/3000").text)
         self.assertIn("Text, 112,000 units", self.viewer.page("object/3020").text)
         self.assertLess(len(self.viewer.get("object/3020").body), 300_000)
+        start = ("<script>alert(1)</script>\\u0000\\n\u00ff" * 4)[: 100 + 3 * 6]
+        rows = {row[0]: row[-1] for row in self.viewer.page("class/600").rows if len(row) == 3}
+        self.assertEqual((rows["3020"], rows["3000"]), (start + "\u2026", "<script>\\u202e\\u0000\\n\u20ac</pre>"))
         for id in ("3040", "3050", "3060"):
             self.assertNotIn("Text, ", self.viewer.page(f"object/{id}").text)
 

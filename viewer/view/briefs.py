@@ -4,7 +4,7 @@ from collections import namedtuple
 
 from . import lines
 from .markup import Markup, element, joined, link
-from .printed import SHORT, cut, readable, shown
+from .printed import SHORT, cut, meant, readable, shown
 from .subjects import about
 from .values import REFERENCES, WIDTHS, text_of, thousands
 
@@ -28,11 +28,16 @@ def has_text(answer):
     return False
 
 
+def quoted(text, units):
+    """The start of a text in quotes, and a sign that there is more if it has more units than are shown."""
+    return element("q", readable(text), "\u2026" if units > PREVIEW else "")
+
+
 def start_of(head, answer):
     """The first elements of an array of bytes or chars as text."""
     bits = answer.line(start=len("bytes "), limit=2 * WIDTHS[head.kind] * PREVIEW)
     text = text_of(head.kind, (bits or b"").decode("ascii"))
-    return None if text is None else element("q", readable(text), "\u2026" if head.count > PREVIEW else "")
+    return None if text is None else quoted(text, head.count)
 
 
 def brief(answer):
@@ -50,11 +55,11 @@ def brief(answer):
 
 def text(answer):
     """The beginning of a text, in quotes. None where there is none."""
-    line = answer.line(limit=7 * PREVIEW + 30)
+    line = answer.line(limit=6 * PREVIEW + 30)
     if line is None or not line.startswith(b"text "):
         return None
     _, count, printed = line.split(b" ", 2)
-    return element("q", shown(cut(printed, 6 * PREVIEW)[0], PREVIEW), "")
+    return quoted(meant(cut(printed, 6 * PREVIEW)[0])[:PREVIEW], int(count))
 
 
 def texts(heap, numbers):

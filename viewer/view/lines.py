@@ -14,10 +14,6 @@ Referrer = namedtuple("Referrer", "id via place")
 Grown = namedtuple("Grown", "bytes count label")
 
 
-class Unexpected(Exception):
-    """A line that no report has."""
-
-
 def word(line):
     return line.split(b" ", 1)[0]
 

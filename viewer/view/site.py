@@ -1,12 +1,11 @@
 """The site: which page an address has, and what is shown before there is one and after hprof ended."""
 
-import re
 import sys
 import threading
 import traceback
 
 from .answers import Ended
-from .frame import Frame, Reply, plain
+from .frame import Frame, plain
 from .growth import Growth
 from .heap import Heap
 from .pages import find, grew, of_class, of_object, of_type, overview, refused, referrers, waiting, why

@@ -8,7 +8,7 @@ from ..markup import element, joined, link
 from ..paging import is_there, page, pager, taken
 from ..printed import SHORT, shown
 from ..subjects import about
-from ..tables import cell, number, row, table
+from ..tables import cell, row, table
 from ..values import counted
 from ..visit import Missing
 from .of_class import ways
