@@ -79,6 +79,12 @@ class Attacks(unittest.TestCase):
         for host in (f"127.0.0.1:{port}", f"localhost:{port}", f"LOCALHOST:{port}"):
             self.assertEqual(self.viewer.request(self.viewer.base, host).status, 200)
 
+    def test_the_port_that_browsers_leave_out(self):
+        head = b"GET /secret/ HTTP/1.1\r\nHost: localhost"
+        self.assertEqual(request.Guard(80, "secret").judge(head), ("", {}))
+        with self.assertRaises(request.Refused):
+            request.Guard(8080, "secret").judge(head)
+
     def test_no_host_or_several(self):
         base, own = self.viewer.base, f"Host: 127.0.0.1:{self.viewer.port}\r\n"
         for headers in ("", own + own, own + "Host: evil.example\r\n", "Host: evil.example\r\n" + own):

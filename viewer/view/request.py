@@ -67,7 +67,10 @@ class Guard:
     """Who may look: those who know the token, and come by this server's own name."""
 
     def __init__(self, port, token):
-        self.hosts = {f"{name}:{port}".encode() for name in ("127.0.0.1", "localhost")}
+        names = ("127.0.0.1", "localhost")
+        self.hosts = {f"{name}:{port}".encode() for name in names}
+        if port == 80:
+            self.hosts |= {name.encode() for name in names}
         self.token = token.encode()
 
     def judge(self, head):
