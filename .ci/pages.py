@@ -36,8 +36,8 @@ def words_of(path):
 
 def tree():
     """The words of each file of the tree that has names, by the file."""
-    kinds = ("crates/*/src/**/*.rt", "crates/*/specs/**/*.antt", "crates/*/proofs/*.antt", "crates/*/must-fail/*.edit", "bench/**/*.py")
-    files = {path: words_of(path) for kind in kinds for path in ROOT.glob(kind)}
+    crates = ("crates/*/src/**/*.rt", "crates/*/specs/**/*.antt", "crates/*/proofs/*.antt", "crates/*/must-fail/*.edit")
+    files = {path: words_of(path) for kind in (*crates, "bench/**/*.py", "viewer/**/*.py") for path in ROOT.glob(kind)}
     known = set().union(*files.values(), *({*path.parts, path.stem} for path in files))
     return files, known
 
@@ -63,7 +63,7 @@ def faults_of(page, files, known):
         elif NAME.fullmatch(token) and not set(re.findall(r"\w+", token)) <= known:
             yield f"name {token}"
     for crate in set(re.findall(r"\bhprof_\w+", text)):
-        if not (ROOT / "crates" / crate).is_dir() and not any(ROOT.glob(f"crates/*/src/{crate}.rt")):
+        if not any(any(ROOT.glob(place)) for place in (f"crates/{crate}/", f"crates/*/src/{crate}.rt", f"viewer/{crate}.py")):
             yield f"crate {crate}"
     for call, clauses in CLAUSES.findall("\n".join(line for line in text.splitlines() if line.startswith("|"))):
         last = call.split("::")[-1]

@@ -1,0 +1,12 @@
+#!/usr/bin/env python3
+"""Shows a Java heap dump as pages in a browser: hprof_view.py PART.. or hprof_view.py --diff OLD NEW."""
+
+import sys
+
+if sys.version_info < (3, 8):
+    sys.exit("hprof_view: needs Python 3.8 or later")
+
+from view.command import main  # noqa: E402
+
+if __name__ == "__main__":
+    main()

@@ -1,0 +1,1 @@
+"""The tests of the viewer: `viewer/test` runs them."""

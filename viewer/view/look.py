@@ -1,0 +1,126 @@
+"""The style and the script of every page, and the policy that lets a browser take these and nothing else."""
+
+import base64
+import hashlib
+
+BARS = "".join(f".w{part}{{width:{part}%}}" for part in range(101))
+STYLE = (
+    """
+:root{color-scheme:light dark;--back:#fff;--text:#1c1f24;--soft:#5b6470;--line:#d9dde3;--link:#0b57b7;--bar:#3f7fce;
+--less:#3d8b57;--more:#c2552d;--head:#f3f5f8;--escape:#8a4b00}
+@media (prefers-color-scheme:dark){:root{--back:#15181c;--text:#e4e7eb;--soft:#9aa4b0;--line:#343a42;--link:#82b4f7;--bar:#4a7fc4;
+--less:#4f9e6a;--more:#d0693f;--head:#1e2329;--escape:#e0a860}}
+*{box-sizing:border-box}
+body{margin:0;background:var(--back);color:var(--text);font:15px/1.45 system-ui,sans-serif}
+header,main{padding:.6rem 1rem;max-width:76rem;margin:auto}
+header{display:flex;flex-wrap:wrap;gap:.4rem 1.2rem;align-items:center;border-bottom:1px solid var(--line)}
+header form{margin-left:auto}
+h1{font-size:1.3rem;margin:.6rem 0;overflow-wrap:anywhere}h2{font-size:1.05rem;margin:1.4rem 0 .4rem}
+a{color:var(--link)}a:focus-visible,button:focus-visible,input:focus-visible,summary:focus-visible{outline:2px solid var(--link);
+outline-offset:2px}
+.wide{overflow-x:auto}
+table{border-collapse:collapse}table.sortable{width:100%;margin-top:.4rem}
+th,td{text-align:left;vertical-align:top;padding:.2rem 1rem .2rem 0;border-bottom:1px solid var(--line)}
+th{background:var(--head);font-weight:600;white-space:nowrap}
+th.n,td.n{text-align:right;font-variant-numeric:tabular-nums;white-space:nowrap}
+td.name{overflow-wrap:anywhere;min-width:9rem}
+td.share{width:22%;min-width:5rem;white-space:nowrap}
+td.both{width:30%;min-width:7rem}th.both{text-align:center}
+th button{font:inherit;font-weight:600;color:inherit;background:none;border:0;padding:0;cursor:pointer}
+th[aria-sort=ascending] button::after{content:" \\2191"}th[aria-sort=descending] button::after{content:" \\2193"}
+.bar{display:inline-block;height:.75em;background:var(--bar);vertical-align:baseline;min-width:1px}
+.w0{min-width:0}
+.track{display:inline-block;width:calc(100% - 4.5rem);margin-right:.4rem}
+.half{display:inline-block;width:50%;line-height:1}.half.less{text-align:right;border-right:1px solid var(--soft)}
+.less .bar{background:var(--less)}.more .bar{background:var(--more)}
+i{color:var(--escape);font-style:normal}small,.soft,.off{color:var(--soft)}
+code,pre,.bits{font-family:ui-monospace,monospace;font-size:.92em}
+pre{white-space:pre-wrap;overflow-wrap:anywhere;background:var(--head);padding:.6rem;margin:.4rem 0;max-height:30rem;overflow:auto}
+.text{overflow-wrap:anywhere}
+.pager{display:flex;flex-wrap:wrap;gap:.2rem .9rem;align-items:center;margin:.6rem 0}
+input,button{font:inherit;color:inherit;background:var(--back);border:1px solid var(--soft);border-radius:3px;padding:.15rem .4rem}
+input[type=number]{width:7rem}input[type=search]{width:16rem;max-width:70vw}
+dl{display:grid;grid-template-columns:max-content 1fr;gap:.1rem .9rem;margin:.4rem 0}
+dt{color:var(--soft)}dd{margin:0;overflow-wrap:anywhere}
+ol.path{padding-left:1.2rem}ol.path li{margin:.25rem 0;overflow-wrap:anywhere}
+.refusal{border-left:4px solid var(--more);padding-left:.8rem}
+progress{width:100%;height:1.2rem}
+"""
+    + BARS
+)
+
+SCRIPT = """
+"use strict";
+for (const table of document.querySelectorAll("table.sortable")) {
+  const body = table.tBodies[0];
+  const rows = Array.from(body.rows);
+  const heads = Array.from(table.tHead.rows[0].cells);
+  const key = (row, place, number) => {
+    const text = row.cells[place].textContent;
+    return number ? Number(text.replace(/[^-0-9.]/g, "")) : text;
+  };
+  const sort = (head, place) => {
+    const number = head.classList.contains("n");
+    const before = head.getAttribute("aria-sort");
+    const up = before ? before === "descending" : !number;
+    heads.forEach((one) => one.removeAttribute("aria-sort"));
+    head.setAttribute("aria-sort", up ? "ascending" : "descending");
+    const keyed = rows.map((row) => [key(row, place, number), row]);
+    keyed.sort(([one], [other]) => (one < other ? -1 : one > other ? 1 : 0) * (up ? 1 : -1));
+    body.append(...keyed.map(([, row]) => row));
+  };
+  heads.forEach((head, place) => {
+    if (head.classList.contains("plain")) return;
+    const button = document.createElement("button");
+    button.type = "button";
+    button.append(...head.childNodes);
+    head.append(button);
+    button.addEventListener("click", () => sort(head, place));
+  });
+}
+for (const form of document.querySelectorAll("form.filter")) {
+  form.hidden = false;
+  const field = form.querySelector("input");
+  const count = form.querySelector("output");
+  const rows = Array.from(document.querySelector("table.sortable").tBodies[0].rows);
+  const named = rows.map((row) => [row, row.querySelector(".name").textContent.toLowerCase().replaceAll(".", "/")]);
+  const filter = () => {
+    const part = field.value.trim().toLowerCase().replaceAll(".", "/");
+    let left = 0;
+    for (const [row, name] of named) {
+      row.hidden = !name.includes(part);
+      left += row.hidden ? 0 : 1;
+    }
+    count.textContent = part ? left.toLocaleString("en") + " of " + rows.length.toLocaleString("en") : "";
+  };
+  field.addEventListener("input", filter);
+  filter();
+}
+"""
+
+
+def source(text):
+    """The name by which the policy knows a text."""
+    return "'sha256-" + base64.b64encode(hashlib.sha256(text.encode()).digest()).decode() + "'"
+
+
+POLICY = "; ".join(
+    (
+        "default-src 'none'",
+        f"script-src {source(SCRIPT)}",
+        f"style-src {source(STYLE)}",
+        "img-src data:",
+        "form-action 'self'",
+        "base-uri 'none'",
+        "frame-ancestors 'none'",
+    )
+)
+HEADERS = (
+    ("Content-Security-Policy", POLICY),
+    ("X-Content-Type-Options", "nosniff"),
+    ("X-Frame-Options", "DENY"),
+    ("Referrer-Policy", "no-referrer"),
+    ("Cross-Origin-Opener-Policy", "same-origin"),
+    ("Cross-Origin-Resource-Policy", "same-origin"),
+    ("Cache-Control", "no-store"),
+)

@@ -1,0 +1,1 @@
+"""The pages, one a file. Each has `show`, which makes a reply of a visit."""

@@ -1,0 +1,110 @@
+"""A search: an identifier leads to its page, a part of a name to the classes and types that have it."""
+
+import re
+
+from .. import lines
+from ..frame import Reply
+from ..markup import element
+from ..paging import PAGE, Kept, is_there, page, pager
+from ..printed import SHORT, readable
+from ..subjects import about, is_marked, written
+from ..tables import cell, number, row, table
+from ..values import counted, thousands
+from ..visit import Missing
+from .overview import kind_link
+
+LONGEST = 1000
+
+
+def printed_form(word):
+    """A word as hprof prints names: ASCII but the backslash as it is, each other UTF-16 unit escaped."""
+    pieces = []
+    for character in word:
+        if " " <= character <= "~" and character != "\\":
+            pieces.append(character)
+        else:
+            held = character.encode("utf-16-be", "surrogatepass").hex()
+            pieces.extend("\\u" + held[place : place + 4] for place in range(0, len(held), 4))
+    return "".join(pieces).encode("ascii")
+
+
+def pattern_of(word):
+    """Names that have the word as a part, whatever the case. A dot and a slash are one."""
+    return re.compile(b"[./]".join(re.escape(part) for part in re.split(rb"[./]", printed_form(word))), re.IGNORECASE)
+
+
+class Search:
+    """A page of the rows whose label is wanted: those with objects by size, then classes without objects."""
+
+    def __init__(self, pattern, is_wanted, wanted):
+        self.pattern = pattern
+        self.is_wanted = is_wanted
+        self.kept = Kept(wanted)
+
+    def add(self, one):
+        if self.is_wanted(one.label):
+            self.kept.add(lambda row: row._replace(label=row.label[:SHORT]), one)
+
+    def in_histogram(self, answer):
+        for line in answer.found(self.pattern):
+            self.add(lines.row(line))
+
+    def in_classes(self, answer):
+        for line in answer.found(self.pattern):
+            one = lines.class_row(line)
+            if one.count == 0:
+                self.add(lines.Row(0, 0, one.id, one.label))
+
+    def made(self, visit):
+        visit.ask(("histo", self.in_histogram), ("classes", self.in_classes))
+        return self.kept.part()
+
+
+def result(frame, one):
+    id = f"{one.kind:x}" if isinstance(one.kind, int) else ""
+    link = cell(kind_link(frame, one.kind, one.label), "name")
+    return row(link, number(thousands(one.bytes)), number(thousands(one.count)), cell(id, "bits"))
+
+
+def results(visit, part, word, **words):
+    frame = visit.frame
+    rows = [result(frame, one) for one in part.entries]
+    heads = ["Class or type", ("Bytes", "n"), ("Objects", "n"), "Identifier"]
+    found = counted(part.total, "class or type", "classes and types")
+    said = element("p", f"{found} with ", element("b", readable(word)), " in the name.")
+    return frame.page("Search", said, table(heads, rows) if rows else "", pager(part, **words), word=word)
+
+
+def named_so(visit, label):
+    """The class or the type with exactly this printed label, or a list of those; the page of growth leads here."""
+    exact = printed_exactly(label)
+    part = Search(re.compile(re.escape(exact)), lambda one: one == exact, page(visit.number(), PAGE)).made(visit)
+    if part.total == 1 and part.entries:
+        kind = part.entries[0].kind
+        return Reply(303, location=visit.frame.at("type", kind) if isinstance(kind, str) else visit.frame.at("class", kind))
+    if not is_there(part):
+        raise Missing
+    return results(visit, part, label, label=label)
+
+
+def printed_exactly(label):
+    """The bytes of a label that an address has in its printed form. Any other text is the label of nothing."""
+    return label.encode("ascii", "replace")
+
+
+def show(visit):
+    if "label" in visit.words:
+        return named_so(visit, visit.words["label"][:LONGEST])
+    word = visit.words.get("q", "")[:LONGEST].strip()
+    if not word:
+        return Reply(303, location=visit.frame.at(""))
+    id = written(word)
+    if id is not None:
+        ((is_there_one),) = visit.ask((about("object", id), lambda answer: not answer.line().startswith(b"nothing at ")))
+        if is_there_one or is_marked(word):
+            return Reply(303, location=visit.frame.at("object", id))
+    pattern = pattern_of(word)
+    part = Search(pattern, pattern.search, page(visit.number(), PAGE)).made(visit)
+    if not is_there(part):
+        raise Missing
+    return results(visit, part, word, q=word)

@@ -1,0 +1,68 @@
+"""What grew from one dump to another, as bars to both sides."""
+
+from urllib.parse import urlencode
+
+from .. import lines
+from ..markup import element, joined, link
+from ..paging import Kept, is_there, page, pager
+from ..printed import shown
+from ..tables import bar, cell, number, row, table
+from ..visit import Missing
+from .find import LONGEST
+from .overview import ROWS, filter_field
+
+
+class Growth:
+    """The rows of one page of `diff`, and over all rows their number, their sums, and the most bytes to either side."""
+
+    def __init__(self, page):
+        self.kept = Kept(page)
+        self.bytes = self.objects = self.most = 0
+
+    def read(self, answer):
+        for line in answer.lines(limit=LONGEST + 100):
+            one = lines.grown(line)
+            self.kept.add(lines.grown, line)
+            self.bytes += one.bytes
+            self.objects += one.count
+            self.most = max(self.most, abs(one.bytes))
+        return self
+
+
+def signed(number):
+    return f"{number:+,}" if number else "0"
+
+
+def both_sides(one, most):
+    """A bar to the left of the middle for less, to the right for more."""
+    less = element("span", bar(max(-one.bytes, 0), most), class_="half less")
+    more = element("span", bar(max(one.bytes, 0), most), class_="half more")
+    return joined([less, more])
+
+
+def name(frame, label):
+    """The name, which leads to the class in the newer dump; one that is too long for an address leads nowhere."""
+    text = shown(label) if label else element("i", "(a name without bytes)")
+    return link(frame.at("find") + "?" + urlencode({"label": label.decode("ascii")}), text) if 0 < len(label) <= LONGEST else text
+
+
+def grown_row(frame, growth, one):
+    sides = both_sides(one, growth.most)
+    return row(cell(name(frame, one.label), "name"), number(signed(one.bytes)), cell(sides, "both"), number(signed(one.count)))
+
+
+def show(visit):
+    growth = visit.growth.read(Growth(page(visit.number(), ROWS)).read)
+    part = growth.kept.part()
+    if not is_there(part):
+        raise Missing
+    heads = ["Class or type", ("Bytes", "n", "descending"), ("Less \u00b7 more", "plain both"), ("Objects", "n")]
+    rows = [grown_row(visit.frame, growth, one) for one in part.entries]
+    said = f"{signed(growth.bytes)} bytes and {signed(growth.objects)} objects from the old dump to the new one. Names lead to the new one."
+    return visit.frame.page(
+        "What grew",
+        element("p", said if rows else "Nothing grew: no class or type has another number of bytes or objects."),
+        filter_field(visit.frame) if rows else "",
+        table(heads, rows, "sortable") if rows else "",
+        pager(part),
+    )

@@ -1,0 +1,219 @@
+"""The page of a class: what it stands below and above, its fields, and its objects by size."""
+
+import re
+from collections import namedtuple
+
+from .. import lines
+from ..briefs import briefs, target, texts
+from ..markup import Markup, element, joined, link
+from ..paging import Kept, Part, is_there, page, pager
+from ..printed import SHORT, shown, titled
+from ..subjects import about, objects_of
+from ..tables import cell, facts, number, row, table
+from ..values import REFERENCES, counted, thousands
+from ..values import number as value_of
+from ..visit import Missing
+from . import sizes
+from .overview import kind_link
+
+# More superclasses are left out.
+CHAIN = 100
+NAMELESS = "(a name without bytes)"
+SECTIONS = {b"static": ("statics", lines.static), b"own": ("fields", lines.own), b"constant": ("constants", lines.constant)}
+Contents = namedtuple("Contents", "head parts has_object has_value")
+
+
+def contents(visit):
+    """A reader of a class dump: its head, and a page of each kind of its entries."""
+    pages = {name: page(visit.number(name)) for name, _ in SECTIONS.values()}
+
+    def read(answer):
+        head, has_object, has_value = None, False, False
+        kept = {name: Kept(one) for name, one in pages.items()}
+        first = answer.line()
+        if lines.word(first) == b"class":
+            head = lines.class_head(first)
+        else:
+            has_object = lines.word(first) != b"nothing"
+        for line in answer.lines(limit=SHORT):
+            word = lines.word(line)
+            if word in SECTIONS:
+                name, parse = SECTIONS[word]
+                kept[name].add(parse, line)
+                has_value = has_value or (word == b"own" and line.endswith(b" value"))
+            else:
+                has_object = True
+                break
+        return Contents(head, {name: one.part() for name, one in kept.items()}, has_object, has_value)
+
+    return read
+
+
+def beside(id, wanted):
+    """A reader of the row of a class, and of a page of the classes whose superclass it is."""
+    pattern = re.compile(rb"^%x super | super %x bytes " % (id, id), re.MULTILINE)
+
+    def read(answer):
+        own, kept = None, Kept(wanted)
+        for line in answer.found(pattern):
+            one = lines.class_row(line[:SHORT])
+            own = one if one.id == id else own
+            if one.parent == id:
+                kept.add(lambda kept_row: kept_row, one)
+        return own, kept.part()
+
+    return read
+
+
+def objects(visit, id, own):
+    """A page of the objects. Where a class has none it is not asked for them: hprof looks at all objects to answer that."""
+    wanted = page(visit.number())
+    if own and own.count == 0:
+        return Part([], 0, wanted)
+    return sizes.asked(visit, objects_of(id), wanted)
+
+
+def label_in_histogram(visit, id):
+    """The label of a class without a class dump, where it has objects."""
+    pattern = re.compile(rb" %x " % id)
+
+    def read(answer):
+        rows = (lines.row(line) for line in answer.found(pattern))
+        return next((one.label for one in rows if one.kind == id), None)
+
+    return visit.ask(("histo", read))[0]
+
+
+def superclass(answer):
+    """The head of a class, and whether it has an own field named `value`."""
+    first = answer.line(limit=SHORT)
+    if lines.word(first) != b"class":
+        return None, False
+    return lines.class_head(first), any(line.startswith(b"own ") and line.endswith(b" value") for line in answer.lines(limit=SHORT))
+
+
+def chain(visit, head):
+    """The superclasses from the next one up, each with its label if it has a class dump; why it ends; and whether one has `value`."""
+    found, seen, parent, has_value = [], {head.id}, head.parent, False
+    while parent and len(found) < CHAIN:
+        if parent in seen:
+            return found, "the superclasses run in a circle", has_value
+        seen.add(parent)
+        ((one, value),) = visit.ask((about("object", parent), superclass))
+        found.append((parent, one and one.label))
+        if one is None:
+            return found, "this class is missing", has_value
+        parent, has_value = one.parent, has_value or value
+    return found, "and so on" if parent else "", has_value
+
+
+def shown_chain(frame, above, end):
+    """The superclasses as links."""
+    steps = [joined([link(frame.at("class", id), shown(label) if label else f"{id:x}"), " "]) for id, label in above]
+    parts = [joined(["\u2192 ", step]) if index else step for index, step in enumerate(steps)]
+    return joined([*parts, element("small", end)]) if parts else joined(["none", element("small", end)])
+
+
+def value(frame, static, found):
+    """The value of a static field or a constant."""
+    if static.type in REFERENCES:
+        return target(frame, int(static.bits, 16), found)
+    return element("code", value_of(static.type, static.bits))
+
+
+def section(title, heads, part, name, cells):
+    """A page of the entries of a class, under a heading."""
+    if not part.total:
+        return Markup()
+    rows = [row(*cells(one)) for one in part.entries]
+    return joined([element("h2", counted(part.total, *title)), table(heads, rows), pager(part, name)])
+
+
+def sections(frame, parts, found):
+    def field(one):
+        return cell(shown(one.name), "name"), cell(one.type)
+
+    def static(one):
+        return (*field(one), cell(value(frame, one, found), "text"))
+
+    def constant(one):
+        return number(str(one.index)), cell(one.type), cell(value(frame, one, found), "text")
+
+    statics = section(("static field",), ["Name", "Type", "Value"], parts["statics"], "statics", static)
+    fields = section(("own field",), ["Name", "Type"], parts["fields"], "fields", field)
+    constants = section(("constant",), [("Index", "n"), "Type", "Value"], parts["constants"], "constants", constant)
+    return joined([statics, fields, constants])
+
+
+def below(frame, part):
+    def subclass(one):
+        return cell(kind_link(frame, one.id, one.label), "name"), number(thousands(one.bytes)), number(thousands(one.count))
+
+    heads = ["Class", ("Bytes", "n"), ("Objects", "n")]
+    return section(("subclass", "subclasses"), heads, part, "subclasses", subclass)
+
+
+def referred(head, parts):
+    """All identifiers that the page shows as references."""
+    entries = parts["statics"].entries + parts["constants"].entries
+    return [head.loader, head.signers, head.domain, *(int(one.bits, 16) for one in entries if one.type in REFERENCES)]
+
+
+def head_facts(visit, contents, objects, above, end, found):
+    head, frame = contents.head, visit.frame
+    other = link(frame.at("object", head.id), "an object has this identifier too") if contents.has_object else None
+    return facts([
+        ("Identifier", element("code", f"{head.id:x}")),
+        ("Superclasses", shown_chain(frame, above, end)),
+        ("Loader", target(frame, head.loader, found) if head.loader else "none (the bootstrap loader)"),
+        ("Signers", target(frame, head.signers, found) if head.signers else None),
+        ("Domain", target(frame, head.domain, found) if head.domain else None),
+        ("Bytes of fields", thousands(head.size)),
+        ("Objects", thousands(objects.total)),
+        ("Beside it", other),
+    ])
+
+
+def ways(frame, id):
+    """The questions that lead on from a class or an object."""
+    return element("p", link(frame.at("refs", id), "Who refers to it"), " \u00b7 ", link(frame.at("why", id), "Why it is alive"))
+
+
+def by_size(frame, part, texts):
+    return joined([element("h2", f"{counted(part.total, 'object')} by size"), sizes.shown_objects(frame, part, texts)])
+
+
+def without_dump(visit, id, contents, objects):
+    """The page of a class without a class dump: it may have objects all the same."""
+    label = label_in_histogram(visit, id)
+    if label is None and not objects.total:
+        if contents.has_object:
+            return visit.frame.missing("No class", joined(["At ", link(visit.frame.at("object", id), f"{id:x}"), " is an object."]))
+        return visit.frame.missing(f"Nothing at {id:x}", "The dump has neither a class nor an object with this identifier.")
+    title = titled(label) if label else f"Class {id:x}"
+    note = element("p", "The dump has no class dump of this class: its fields and its superclass are not known.")
+    return visit.frame.page(title, note, ways(visit.frame, id), by_size(visit.frame, objects, {}))
+
+
+def show(visit, id):
+    wanted = page(visit.number("subclasses"))
+    content, (own, subclasses) = visit.ask((about("object", id), contents(visit)), ("classes", beside(id, wanted)))
+    part = objects(visit, id, own)
+    if not all(map(is_there, (subclasses, part, *content.parts.values()))):
+        raise Missing
+    if content.head is None:
+        return without_dump(visit, id, content, part)
+    above, end, has_value = chain(visit, content.head)
+    found = briefs(visit.heap, referred(content.head, content.parts))
+    strings = texts(visit.heap, [one for _, one in part.entries]) if has_value or content.has_value else {}
+    strings = {id: text for id, text in strings.items() if text}
+    label = content.head.label
+    return visit.frame.page(
+        titled(label) or NAMELESS,
+        head_facts(visit, content, part, above, end, found),
+        ways(visit.frame, id),
+        sections(visit.frame, content.parts, found),
+        below(visit.frame, subclasses),
+        by_size(visit.frame, part, strings),
+        heading=shown(label, len(label)) or element("i", NAMELESS),
+    )

@@ -1,0 +1,113 @@
+"""The site: which page an address has, and what is shown before there is one and after hprof ended."""
+
+import sys
+import threading
+import traceback
+
+from .answers import Ended
+from .frame import Frame, plain
+from .growth import Growth
+from .heap import Heap
+from .pages import find, grew, of_class, of_object, of_type, overview, refused, referrers, waiting, why
+from .subjects import TYPES, identifier
+from .visit import Missing, Visit
+
+# A request waits so long for a dump to be read before it is shown how far that is.
+HOLD = 0.5
+PAGES = {"": overview.show, "find": find.show}
+OF_IDENTIFIERS = {"class": of_class.show, "object": of_object.show, "refs": referrers.show, "why": why.show}
+FAULT = plain(500, "A fault of the viewer", "The page could not be made; the terminal of hprof_view.py shows why.")
+
+
+class Site:
+    """The pages about one dump, or about two and the newer of them. A heap that is one of two is read once it is looked at.
+
+    Pages are made one after the other: hprof answers in this way too, and threads would wait for each other longer than they work.
+    """
+
+    def __init__(self, guard, base, hprof, parts, compares, tell):
+        self.guard = guard
+        self.frame = Frame(base, parts, compares)
+        self.hprof, self.parts = hprof, parts
+        self.lock = threading.Lock()
+        self.making = threading.Lock()
+        self.growth = Growth(hprof, *parts) if compares else None
+        self.heap = None if compares else Heap(hprof, parts)
+        self.tell = tell
+        self.refusal = None
+        self.refused = threading.Event()
+        self.watch(self.growth or self.heap)
+
+    def watch(self, job):
+        """Notes the refusal of a job as soon as there is one."""
+
+        def wait():
+            job.program.ended.wait()
+            job.settled.wait()
+            if job.program.process.returncode or job is self.heap:
+                self.note(job.program.refusal())
+
+        threading.Thread(target=wait, daemon=True).start()
+
+    def note(self, refusal):
+        """Tells a refusal, the first alone, before any page shows it."""
+        with self.lock:
+            if self.refusal is None:
+                self.refusal = refusal
+                self.tell(refusal)
+                self.refused.set()
+
+    def jobs(self, path):
+        """What has to be read before the page of a path can be shown, one after the other."""
+        if self.growth:
+            yield self.growth
+        if path != "grew":
+            with self.lock:
+                if self.heap is None:
+                    self.heap = Heap(self.hprof, self.parts[-1:])
+                    self.watch(self.heap)
+            yield self.heap
+
+    def answer(self, head):
+        """The reply to the head of a request."""
+        path, words = self.guard.judge(head)
+        try:
+            return self.reply(path, words)
+        except Missing:
+            return self.frame.missing("No such page", "Nothing has this address.")
+        except Ended:
+            self.refused.wait()
+            return refused.show(self.frame, self.refusal)
+        except Exception:
+            traceback.print_exc(file=sys.stderr)
+            return FAULT
+
+    def reply(self, path, words):
+        show = self.page_of(path)
+        for job in self.jobs(path):
+            settled = job.settled.wait(HOLD)
+            if self.refused.is_set():
+                return refused.show(self.frame, self.refusal)
+            if not settled:
+                return waiting.show(self.frame, job.places)
+        with self.making:
+            return show(Visit(self.frame, words, self.heap, self.growth))
+
+    def page_of(self, path):
+        """What shows the page of a path."""
+        if path in PAGES:
+            return PAGES[path]
+        if path == "grew" and self.growth:
+            return grew.show
+        name, _, subject = path.partition("/")
+        id = identifier(subject)
+        if name in OF_IDENTIFIERS and id is not None:
+            return lambda visit: OF_IDENTIFIERS[name](visit, id)
+        if name == "type" and subject in TYPES:
+            return lambda visit: of_type.show(visit, subject)
+        raise Missing
+
+    def end(self):
+        for job in (self.growth, self.heap):
+            if job:
+                job.end()

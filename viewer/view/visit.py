@@ -1,0 +1,27 @@
+"""A visit to a page: the words of its address, the heap, and the frame to put the page in."""
+
+import re
+
+NUMBER = re.compile(r"[1-9][0-9]{0,11}")
+
+
+class Missing(Exception):
+    """An address that no page has."""
+
+
+class Visit:
+    def __init__(self, frame, words, heap=None, growth=None):
+        self.frame = frame
+        self.words = words
+        self.heap = heap
+        self.growth = growth
+
+    def number(self, name="page"):
+        """The number of a page; 1 where the address has none."""
+        word = self.words.get(name, "1")
+        if not NUMBER.fullmatch(word):
+            raise Missing
+        return int(word)
+
+    def ask(self, *asked):
+        return self.heap.ask(asked)
