@@ -42,7 +42,7 @@ TITLES = [
     "classes with their objects",
     "objects of a class",
     "texts of strings",
-    "why an array of numbers is alive",
+    "parts in any order tell one path",
     "what grew from nothing",
     "each question",
     "the program, asked questions",
