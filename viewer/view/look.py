@@ -78,6 +78,7 @@ for (const table of document.querySelectorAll("table.sortable")) {
     button.addEventListener("click", () => sort(head, place));
   });
 }
+if (document.querySelector("progress")) setTimeout(() => location.reload(), 100);
 for (const form of document.querySelectorAll("form.filter")) {
   form.hidden = false;
   const field = form.querySelector("input");
