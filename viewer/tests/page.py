@@ -8,7 +8,7 @@ from view.look import SCRIPT, STYLE
 EMPTY = {"input", "link", "meta", "br"}
 KNOWN = EMPTY | set(
     "html head title style body header main h1 h2 p a b i q small code pre dl dt dd ol ul li table thead tbody tr th td div span nav"
-    " form button output progress script".split()
+    " form button output progress script noscript".split()
 )
 ATTRIBUTES = set(
     "lang charset name content rel href http-equiv class hidden type value min max required aria-label aria-hidden aria-sort scope"
