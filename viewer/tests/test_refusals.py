@@ -14,6 +14,7 @@ from unittest import mock
 
 from view import command, words
 from view.advice import ADVICE, KILLED, UNKNOWN, advice
+from view.site import Site
 
 from .running import FAKE, FRIDAY, MONDAY, ROOT, VIEWER, Viewer
 
@@ -127,6 +128,16 @@ class Refused(unittest.TestCase):
         with Viewer(self.script(wait=60), program=FAKE) as viewer:
             self.assertIn("Reading the dump", viewer.request(viewer.base).page.text)
             self.assertEqual(viewer.end(), (0, ""))
+
+    def test_an_end_that_was_asked_for_is_no_refusal(self):
+        told = []
+        site = Site(None, "/secret/", str(FAKE), [str(self.script())], False, told.append)
+        self.assertTrue(site.heap.settled.wait(20))
+        site.end()
+        self.assertFalse(site.refused.wait(0.5))
+        self.assertEqual(told, [])
+        for pipe in (site.heap.program.process.stdout, site.heap.program.process.stderr):
+            pipe.close()
 
     def test_answers_that_no_report_has(self):
         script = self.script(answers={"help": "help\n", "check": "sections 3 and 4\n", "histo": "x\n"})

@@ -36,6 +36,7 @@ class Site:
         self.tell = tell
         self.refusal = None
         self.refused = threading.Event()
+        self.is_ended = False
         self.watch(self.growth or self.heap)
 
     def watch(self, job):
@@ -50,9 +51,9 @@ class Site:
         threading.Thread(target=wait, daemon=True).start()
 
     def note(self, refusal):
-        """Tells a refusal, the first alone, before any page shows it."""
+        """Tells a refusal, the first alone, before any page shows it. An end that the viewer asked for is none."""
         with self.lock:
-            if self.refusal is None:
+            if self.refusal is None and not self.is_ended:
                 self.refusal = refusal
                 self.tell(refusal)
                 self.refused.set()
@@ -108,6 +109,8 @@ class Site:
         raise Missing
 
     def end(self):
+        with self.lock:
+            self.is_ended = True
         for job in (self.growth, self.heap):
             if job:
                 job.end()
