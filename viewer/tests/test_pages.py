@@ -159,6 +159,7 @@ class Search(unittest.TestCase):
         self.leads_to("@face", "object/face")
         self.leads_to("", "")
         self.leads_to("++", "")
+        self.leads_to("&label=", "")
 
     def test_names(self):
         rows = [["shop/Session", "288", "9", "7400003a0"], ["shop/Server", "0", "0", "740000410"]]
