@@ -3,6 +3,9 @@
 import re
 import unittest
 
+from view.answers import Answer, Stream
+from view.pages.of_class import superclass
+
 from .running import FRIDAY, MONDAY, Viewer
 
 
@@ -178,6 +181,17 @@ class Search(unittest.TestCase):
             response = self.viewer.get("find?label=" + label)
             self.assertEqual((response.status, response.headers.get("Location")), (303, self.viewer.base + path))
         self.assertIn("0 classes and types", self.viewer.page("find?label=shop").text)
+
+
+class Superclass(unittest.TestCase):
+    def test_an_own_field_named_value(self):
+        head = b"class 10 super 8 loader 0 signers 0 domain 0 size 4 a value\nstatic 0 int 00000000 value\n"
+        for field, has_value in ((b"value", True), (b"values", False), (b"a", False)):
+            data = head + b"own 0 int b\nown 1 object " + field + b"\n\n"
+            for size in (1, 20, len(data)):
+                pieces = [data[place : place + size] for place in range(0, len(data), size)]
+                one, found = superclass(Answer(Stream(lambda _: pieces.pop(0))))
+                self.assertEqual((one.id, one.parent, found), (0x10, 8, has_value))
 
 
 class TwoParts(unittest.TestCase):
