@@ -53,6 +53,8 @@ class Sample(unittest.TestCase):
         page = self.viewer.page("class/7400001c0")
         self.assertEqual(page.title, "java/util/ArrayList \u00b7 friday.hprof")
         self.assertIn("java/util/AbstractList \u2192 java/lang/Object", page.text)
+        above = [link[len(self.viewer.base) :] for link in page.links if "/class/" in link]
+        self.assertEqual(above[:2], ["class/740000150", "class/740000000"])
         self.assertIn("2 own fields", page.text)
         self.assertEqual(page.rows[1:3], [["elementData", "object"], ["size", "int"]])
         self.assertIn("11 objects by size", page.text)
@@ -119,6 +121,7 @@ class Sample(unittest.TestCase):
         page = self.viewer.page("refs/740000e58")
         self.assertIn("740000e58 java/util/ArrayList", page.text)
         self.assertEqual(page.rows[1:], [["740000410", "class shop/Server", "static field SESSIONS"]])
+        self.assertIn(self.viewer.base + "class/740000410", page.links)
         self.assertEqual(self.viewer.page("refs/740000850").rows[1:], [["740000df8", "[Ljava/lang/Object;", "element 2"]])
         self.assertIn(["7400007f0", "java/lang/String", "field value"], self.viewer.page("refs/7400007d8").rows)
         self.assertIn("0 referencesNothing refers to it.", self.viewer.page("refs/1").text)

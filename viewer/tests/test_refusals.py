@@ -129,6 +129,23 @@ class Refused(unittest.TestCase):
             self.assertIn("Reading the dump", viewer.request(viewer.base).page.text)
             self.assertEqual(viewer.end(), (0, ""))
 
+    def test_a_refusal_that_nobody_saw(self):
+        with Viewer(self.folder / "nowhere") as viewer:
+            self.assertEqual(viewer.process.stderr.readline(), "hprof: cannot open part 0\n")
+            time.sleep(0.2)
+            self.assertEqual(viewer.end()[0], 1)
+
+    def test_hprof_ends_with_the_viewer(self):
+        parts = [str(self.script(wait=60))] * 2
+        for compares in (False, True):
+            site = Site(None, "/secret/", str(FAKE), parts, compares, None)
+            process = (site.growth or site.heap).program.process
+            site.end()
+            self.assertIsNotNone(process.returncode)
+            for pipe in (process.stdout, process.stderr):
+                if pipe:
+                    pipe.close()
+
     def test_an_end_that_was_asked_for_is_no_refusal(self):
         told = []
         site = Site(None, "/secret/", str(FAKE), [str(self.script())], False, told.append)
