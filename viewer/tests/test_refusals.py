@@ -14,6 +14,7 @@ from unittest import mock
 
 from view import command, words
 from view.advice import ADVICE, KILLED, UNKNOWN, advice
+from view.request import Guard
 from view.site import Site
 
 from .running import FAKE, FRIDAY, MONDAY, ROOT, VIEWER, Viewer
@@ -145,6 +146,16 @@ class Refused(unittest.TestCase):
             for pipe in (process.stdout, process.stderr):
                 if pipe:
                     pipe.close()
+
+    def test_no_page_is_made_for_a_client_that_is_gone(self):
+        site = Site(Guard(80, "secret"), "/secret/", str(FAKE), [str(self.script())], False, None)
+        self.assertTrue(site.heap.settled.wait(20))
+        head = b"GET /secret/ HTTP/1.1\r\nHost: localhost"
+        self.assertIsNone(site.answer(head, lambda: True))
+        self.assertEqual(site.answer(head, lambda: False).status, 200)
+        site.end()
+        for pipe in (site.heap.program.process.stdout, site.heap.program.process.stderr):
+            pipe.close()
 
     def test_an_end_that_was_asked_for_is_no_refusal(self):
         told = []
