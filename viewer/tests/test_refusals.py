@@ -122,10 +122,10 @@ class Refused(unittest.TestCase):
             self.assertLess(time.monotonic() - start, command.SEEN_SECONDS + 5)
 
     def test_it_ends_on_a_signal(self):
-        for sign, status in ((signal.SIGINT, 0), (signal.SIGTERM, 0)):
+        for sign in (signal.SIGINT, signal.SIGTERM, signal.SIGHUP):
             with Viewer(FRIDAY) as viewer:
                 viewer.page("")
-                self.assertEqual(viewer.end(sign), (status, ""))
+                self.assertEqual(viewer.end(sign), (0, ""))
         with Viewer(self.script(wait=60), program=FAKE) as viewer:
             self.assertIn("Reading the dump", viewer.request(viewer.base).page.text)
             self.assertEqual(viewer.end(), (0, ""))
@@ -183,9 +183,11 @@ class Waiting(unittest.TestCase):
         with tempfile.TemporaryDirectory() as folder:
             script = Path(folder) / "script"
             answers = {"help": "help\n", "check": "objects 7\n", "histo": "1 1 - byte[]\n"}
-            script.write_text(json.dumps({"answers": answers, "wait": 1.5}))
+            script.write_text(json.dumps({"answers": answers, "wait": 4}))
             with Viewer(script, program=FAKE) as viewer:
                 first = viewer.request(viewer.base)
+                if "MB" not in first.page.text:  # On a busy machine, the file may not be open yet.
+                    first = viewer.request(viewer.base)
                 self.assertTrue(first.page.refreshes)
                 self.assertEqual((first.status, first.page.heading, first.page.faults), (200, "Reading the dump", []))
                 self.assertIn("0.0 MB of 0.0 MB", first.page.text)
