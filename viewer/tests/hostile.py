@@ -58,11 +58,11 @@ class Writer:
         name = self.name(text) if text is not None else 0x77
         self.records.append(self.record(0x02, struct.pack(">I", self.serial) + self.id(this) + struct.pack(">I", 0) + self.id(name)))
 
-    def class_dump(self, this, text, parent=0, fields=(), statics=(), constants=(), loader=0):
-        """A class: own fields (name, type), statics (name, type, bits), constants (type, bits)."""
+    def class_dump(self, this, text, parent=0, fields=(), statics=(), constants=(), held_by=(0, 0, 0)):
+        """A class: own fields (name, type), statics (name, type, bits), constants (type, bits); its loader, signers and domain."""
         self.load(this, text)
-        body = b"\x20" + self.id(this) + bytes(4) + b"".join(map(self.id, (parent, loader, 0, 0, 0, 0))) + bytes(4)
-        body += self.counted([struct.pack(">HB", index, kind) + bits for index, (kind, bits) in enumerate(constants)])
+        body = b"\x20" + self.id(this) + bytes(4) + b"".join(map(self.id, (parent, *held_by, 0, 0))) + bytes(4)
+        body += self.counted([struct.pack(">HB", 3 * index, kind) + bits for index, (kind, bits) in enumerate(constants)])
         body += self.counted([self.id(self.name(name)) + bytes([kind]) + bits for name, kind, bits in statics])
         self.subs.append(body + self.counted([self.id(self.name(name)) + bytes([kind]) for name, kind in fields]))
 
@@ -102,7 +102,7 @@ def classes(dump):
     dump.class_dump(0x130, b"lost/Child", 0x140)
     dump.load(0x150, b"lost/Class<i>")
     dump.class_dump(0x170, None)
-    dump.class_dump((1 << 8 * dump.size) - 1, b"edge/Last", 0x10, loader=0x9999)
+    dump.class_dump((1 << 8 * dump.size) - 1, b"edge/Last", 0x10, held_by=(0x9999, 0x430, 0x440))
     for place, kind in enumerate((0x100, 0x110, 0x120, 0x130, 0x150, 0x160, 0x170)):
         dump.instance(0x2800 + 16 * place, kind, bytes(8))
     dump.instance(0x2900, 0x1000, b"too short"[:3])

@@ -4,7 +4,7 @@ import socket
 import time
 import unittest
 
-from view import request
+from view import request, server
 from view.look import HEADERS, POLICY, SCRIPT, source
 
 from .running import FRIDAY, Response, Viewer, received
@@ -163,6 +163,10 @@ class Attacks(unittest.TestCase):
         self.refused(self.viewer.raw(start + b"a" + own + b"X: y\r\n" * 5000 + b"\r\n"), 431)
         self.stands()
 
+    def test_the_bounds(self):
+        bounds = request.LONGEST, request.SECONDS, server.CONNECTIONS, server.SEND_SECONDS, server.LINGER_SECONDS
+        self.assertEqual(bounds, (8192, 5.0, 256, 20.0, 0.5))
+
     def test_many_words(self):
         self.assertEqual(self.viewer.get("find?" + "&".join(f"q={number}" for number in range(9))).status, 400)
         self.assertEqual(self.viewer.page("find?q=shop&q=session").heading, "Search")
@@ -237,6 +241,14 @@ class Attacks(unittest.TestCase):
         self.assertIn(f"script-src {source(SCRIPT)};", POLICY)
         self.assertNotIn("unsafe", POLICY)
         self.assertNotIn("http", POLICY)
+        self.assertIn("frame-ancestors 'none'", POLICY)
+        self.assertIn("form-action 'self'; base-uri 'none'", POLICY)
+        named = dict(HEADERS)
+        self.assertEqual(named.pop("Content-Security-Policy"), POLICY)
+        self.assertEqual(named, {
+            "X-Content-Type-Options": "nosniff", "X-Frame-Options": "DENY", "Referrer-Policy": "no-referrer", "Cache-Control": "no-store",
+            "Cross-Origin-Opener-Policy": "same-origin", "Cross-Origin-Resource-Policy": "same-origin",
+        })
         self.headers(self.viewer.get(""))
 
     def test_it_listens_on_this_machine_alone(self):

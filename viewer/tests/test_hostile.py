@@ -83,7 +83,7 @@ class Hostile(unittest.TestCase):
         page = self.of_class("script")
         self.assertIn(["<script>alert(1)</script>", "char", "'<' 60"], page.rows)
         self.assertIn(["0", "boolean", "2, neither true nor false"], page.rows)
-        self.assertIn(["1", "object", "9999 not in the dump"], page.rows)
+        self.assertIn(["3", "object", "9999 not in the dump"], page.rows)
 
     def test_circles_and_missing_classes(self):
         chains = {
@@ -140,6 +140,7 @@ class Hostile(unittest.TestCase):
                                      ["203", "430 [Ljava/lang/Object; 300 elements"], ["204", "10 class java/lang/Object"]])
         self.assertEqual(len(rows), 101)
         self.assertIn("It has no elements.", self.viewer.page("object/440").text)
+        self.assertEqual([row[0] for row in self.viewer.page("object/5610?page=2").rows], ["Index", *map(str, range(100, 200, 10))])
         self.assertIn("page 1,120 of 1,120", self.viewer.page("object/5610?page=1120").text)
 
     def test_numbers_of_each_type(self):
@@ -164,7 +165,9 @@ class Hostile(unittest.TestCase):
 
     def test_texts(self):
         self.assertIn("Text, 18 units<script>\\u202e\\u0000\n\u20ac</pre>", self.viewer.page("object/3000").text)
-        self.assertIn("Text, 112,000 units", self.viewer.page("object/3020").text)
+        page = self.viewer.page("object/3020")
+        self.assertIn("Text, 112,000 units", page.text)
+        self.assertIn("\u2026Field", page.text)
         self.assertLess(len(self.viewer.get("object/3020").body), 300_000)
         start = ("<script>alert(1)</script>\\u0000\\n\u00ff" * 4)[: 100 + 3 * 6]
         rows = {row[0]: row[-1] for row in self.viewer.page("class/600").rows if len(row) == 3}
@@ -180,6 +183,17 @@ class Hostile(unittest.TestCase):
         self.assertIn(["430", "[Ljava/lang/Object;", "element 245"], self.viewer.page("refs/2000?page=3").rows)
         script = "<script>alert(1)</script>"
         self.assertIn(["1000", f"class {script}", f"static field {script}"], self.viewer.page("refs/1000").rows)
+
+    def test_loader_signers_and_domain(self):
+        page = self.viewer.page("class/ffffffffffffffff")
+        label = "[Ljava/lang/Object;"
+        self.assertIn(f"Loader9999 not in the dumpSigners430 {label} 300 elementsDomain440 {label} 0 elements", page.text)
+        for id, way in (("430", "has it as signers"), ("440", "has it as protection domain")):
+            self.assertIn(["ffffffffffffffff", "class edge/Last", way], self.viewer.page(f"refs/{id}").rows)
+
+    def test_a_class_whose_objects_have_no_bytes(self):
+        rows = [row for row in self.viewer.page("find?q=java.lang.Object").rows if row[0] == "java/lang/Object"]
+        self.assertEqual(rows, [["java/lang/Object", "0", "1", "10"]])
 
     def test_identifiers_at_the_edges(self):
         self.assertEqual(self.viewer.page("class/ffffffffffffffff").heading, "edge/Last")

@@ -3,6 +3,9 @@
 import re
 import unittest
 
+from view.answers import Answer, Stream
+from view.pages.of_class import superclass
+
 from .running import FRIDAY, MONDAY, Viewer
 
 
@@ -50,6 +53,8 @@ class Sample(unittest.TestCase):
         page = self.viewer.page("class/7400001c0")
         self.assertEqual(page.title, "java/util/ArrayList \u00b7 friday.hprof")
         self.assertIn("java/util/AbstractList \u2192 java/lang/Object", page.text)
+        above = [link[len(self.viewer.base) :] for link in page.links if "/class/" in link]
+        self.assertEqual(above[:2], ["class/740000150", "class/740000000"])
         self.assertIn("2 own fields", page.text)
         self.assertEqual(page.rows[1:3], [["elementData", "object"], ["size", "int"]])
         self.assertIn("11 objects by size", page.text)
@@ -116,6 +121,7 @@ class Sample(unittest.TestCase):
         page = self.viewer.page("refs/740000e58")
         self.assertIn("740000e58 java/util/ArrayList", page.text)
         self.assertEqual(page.rows[1:], [["740000410", "class shop/Server", "static field SESSIONS"]])
+        self.assertIn(self.viewer.base + "class/740000410", page.links)
         self.assertEqual(self.viewer.page("refs/740000850").rows[1:], [["740000df8", "[Ljava/lang/Object;", "element 2"]])
         self.assertIn(["7400007f0", "java/lang/String", "field value"], self.viewer.page("refs/7400007d8").rows)
         self.assertIn("0 referencesNothing refers to it.", self.viewer.page("refs/1").text)
@@ -159,6 +165,7 @@ class Search(unittest.TestCase):
         self.leads_to("@face", "object/face")
         self.leads_to("", "")
         self.leads_to("++", "")
+        self.leads_to("&label=", "")
 
     def test_names(self):
         rows = [["shop/Session", "288", "9", "7400003a0"], ["shop/Server", "0", "0", "740000410"]]
@@ -177,6 +184,17 @@ class Search(unittest.TestCase):
             response = self.viewer.get("find?label=" + label)
             self.assertEqual((response.status, response.headers.get("Location")), (303, self.viewer.base + path))
         self.assertIn("0 classes and types", self.viewer.page("find?label=shop").text)
+
+
+class Superclass(unittest.TestCase):
+    def test_an_own_field_named_value(self):
+        head = b"class 10 super 8 loader 0 signers 0 domain 0 size 4 a value\nstatic 0 int 00000000 value\n"
+        for field, has_value in ((b"value", True), (b"values", False), (b"a", False)):
+            data = head + b"own 0 int b\nown 1 object " + field + b"\n\n"
+            for size in (1, 20, len(data)):
+                pieces = [data[place : place + size] for place in range(0, len(data), size)]
+                one, found = superclass(Answer(Stream(lambda _: pieces.pop(0))))
+                self.assertEqual((one.id, one.parent, found), (0x10, 8, has_value))
 
 
 class TwoParts(unittest.TestCase):

@@ -14,6 +14,8 @@ from unittest import mock
 
 from view import command, words
 from view.advice import ADVICE, KILLED, UNKNOWN, advice
+from view.request import Guard
+from view.site import Site
 
 from .running import FAKE, FRIDAY, MONDAY, ROOT, VIEWER, Viewer
 
@@ -120,13 +122,50 @@ class Refused(unittest.TestCase):
             self.assertLess(time.monotonic() - start, command.SEEN_SECONDS + 5)
 
     def test_it_ends_on_a_signal(self):
-        for sign, status in ((signal.SIGINT, 0), (signal.SIGTERM, 0)):
+        for sign in (signal.SIGINT, signal.SIGTERM, signal.SIGHUP):
             with Viewer(FRIDAY) as viewer:
                 viewer.page("")
-                self.assertEqual(viewer.end(sign), (status, ""))
+                self.assertEqual(viewer.end(sign), (0, ""))
         with Viewer(self.script(wait=60), program=FAKE) as viewer:
             self.assertIn("Reading the dump", viewer.request(viewer.base).page.text)
             self.assertEqual(viewer.end(), (0, ""))
+
+    def test_a_refusal_that_nobody_saw(self):
+        with Viewer(self.folder / "nowhere") as viewer:
+            self.assertEqual(viewer.process.stderr.readline(), "hprof: cannot open part 0\n")
+            time.sleep(0.2)
+            self.assertEqual(viewer.end()[0], 1)
+
+    def test_hprof_ends_with_the_viewer(self):
+        parts = [str(self.script(wait=60))] * 2
+        for compares in (False, True):
+            site = Site(None, "/secret/", str(FAKE), parts, compares, None)
+            process = (site.growth or site.heap).program.process
+            site.end()
+            self.assertIsNotNone(process.returncode)
+            for pipe in (process.stdout, process.stderr):
+                if pipe:
+                    pipe.close()
+
+    def test_no_page_is_made_for_a_client_that_is_gone(self):
+        site = Site(Guard(80, "secret"), "/secret/", str(FAKE), [str(self.script())], False, None)
+        self.assertTrue(site.heap.settled.wait(20))
+        head = b"GET /secret/ HTTP/1.1\r\nHost: localhost"
+        self.assertIsNone(site.answer(head, lambda: True))
+        self.assertEqual(site.answer(head, lambda: False).status, 200)
+        site.end()
+        for pipe in (site.heap.program.process.stdout, site.heap.program.process.stderr):
+            pipe.close()
+
+    def test_an_end_that_was_asked_for_is_no_refusal(self):
+        told = []
+        site = Site(None, "/secret/", str(FAKE), [str(self.script())], False, told.append)
+        self.assertTrue(site.heap.settled.wait(20))
+        site.end()
+        self.assertFalse(site.refused.wait(0.5))
+        self.assertEqual(told, [])
+        for pipe in (site.heap.program.process.stdout, site.heap.program.process.stderr):
+            pipe.close()
 
     def test_answers_that_no_report_has(self):
         script = self.script(answers={"help": "help\n", "check": "sections 3 and 4\n", "histo": "x\n"})
@@ -144,9 +183,11 @@ class Waiting(unittest.TestCase):
         with tempfile.TemporaryDirectory() as folder:
             script = Path(folder) / "script"
             answers = {"help": "help\n", "check": "objects 7\n", "histo": "1 1 - byte[]\n"}
-            script.write_text(json.dumps({"answers": answers, "wait": 1.5}))
+            script.write_text(json.dumps({"answers": answers, "wait": 4}))
             with Viewer(script, program=FAKE) as viewer:
                 first = viewer.request(viewer.base)
+                if "MB" not in first.page.text:  # On a busy machine, the file may not be open yet.
+                    first = viewer.request(viewer.base)
                 self.assertTrue(first.page.refreshes)
                 self.assertEqual((first.status, first.page.heading, first.page.faults), (200, "Reading the dump", []))
                 self.assertIn("0.0 MB of 0.0 MB", first.page.text)

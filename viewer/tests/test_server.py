@@ -23,7 +23,7 @@ class Slow(unittest.TestCase):
             patch.start()
             self.addCleanup(patch.stop)
         self.size = 5
-        self.server = server.Server(0, lambda head: Reply(200, Markup("x" * self.size)))
+        self.server = server.Server(0, lambda head, is_gone: Reply(200, Markup("x" * self.size)))
         self.addCleanup(self.server.server_close)
         threading.Thread(target=self.server.serve_forever, args=(0.01,), daemon=True).start()
         self.addCleanup(self.server.shutdown)
@@ -116,8 +116,25 @@ class Slow(unittest.TestCase):
             self.connect().close()
         self.all_room()
 
+    def test_it_goes_away_before_its_page_is_made(self):
+        told = []
+
+        def answer(head, is_gone):
+            time.sleep(0.2)
+            told.append(is_gone())
+            return Reply(200, Markup("x" * self.size))
+
+        self.server.answer = answer
+        self.stands()
+        with self.connect() as connection:
+            connection.sendall(REQUEST)
+        end = time.monotonic() + 5
+        while len(told) < 2 and time.monotonic() < end:
+            time.sleep(0.05)
+        self.assertEqual(told, [False, True])
+
     def test_a_fault_of_a_page_ends_its_connection_alone(self):
-        answer, self.server.answer = self.server.answer, lambda head: {}["fault"]
+        answer, self.server.answer = self.server.answer, lambda head, is_gone: {}["fault"]
         with mock.patch("traceback.print_exc") as told:
             with self.connect() as connection:
                 connection.sendall(REQUEST)

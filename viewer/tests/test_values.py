@@ -1,10 +1,12 @@
 """Values, names and identifiers as a person reads and writes them."""
 
+import re
 import unittest
 
 from view import subjects
 from view.pages.find import pattern_of, printed_form
 from view.pages.overview import moment
+from view.paging import Part, page, pager
 from view.printed import cut, shown, titled
 from view.tables import width
 from view.values import counted, number, text_of, thousands
@@ -52,6 +54,19 @@ class Numbers(unittest.TestCase):
     def test_times(self):
         self.assertEqual(moment(1795766400000), "2026-11-27 08:00:00 UTC")
         self.assertEqual(moment((1 << 64) - 1), "18446744073709551615 ms")
+
+
+class Pages(unittest.TestCase):
+    """The links from one page of a list to the others."""
+
+    def links(self, number, total):
+        return dict((text, int(at)) for at, text in re.findall(r'href="\?page=(\d+)">(\w+)<', pager(Part([], total, page(number)))))
+
+    def test_links(self):
+        self.assertEqual(self.links(3, 1000), {"First": 1, "Previous": 2, "Next": 4, "Last": 10})
+        self.assertEqual(self.links(1, 101), {"Next": 2, "Last": 2})
+        self.assertEqual(self.links(2, 101), {"First": 1, "Previous": 1})
+        self.assertEqual(self.links(1, 100), {})
 
 
 class Names(unittest.TestCase):

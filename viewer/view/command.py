@@ -16,7 +16,7 @@ SEEN_SECONDS, UNSEEN_SECONDS = 3.0, 60.0
 
 
 class Interrupted(Exception):
-    """Control-C, or a signal to end."""
+    """Control-C, a signal to end, or a terminal that is closed."""
 
 
 def interrupt(number, frame):
@@ -67,6 +67,8 @@ def main():
     if not hprof:
         sys.exit("hprof_view: no hprof was found; build it, or name it with --hprof")
     signal.signal(signal.SIGTERM, interrupt)
+    if signal.getsignal(signal.SIGHUP) != signal.SIG_IGN:
+        signal.signal(signal.SIGHUP, interrupt)
     try:
         sys.exit(serve(found, hprof))
     except OSError as fault:

@@ -46,7 +46,7 @@ def pass_over(connection):
 class Connection(socketserver.BaseRequestHandler):
     def handle(self):
         try:
-            reply, refused = self.server.answer(read_head(self.request)), False
+            reply, refused = self.server.answer(read_head(self.request), self.is_gone), False
         except Refused as refusal:
             reply, refused = refusal.reply, True
         if reply is None:
@@ -60,9 +60,17 @@ class Connection(socketserver.BaseRequestHandler):
             return
         self.server.was_sent(reply)
 
+    def is_gone(self):
+        """Whether the client closed its side, as a browser does that loads a page again."""
+        self.request.settimeout(0)
+        try:
+            return not self.request.recv(1, socket.MSG_PEEK)
+        except OSError as fault:
+            return not isinstance(fault, BlockingIOError)
+
 
 class Server(socketserver.ThreadingMixIn, socketserver.TCPServer):
-    """Listens on this machine alone. `answer` makes a reply of the head of a request."""
+    """Listens on this machine alone. `answer` makes a reply of the head of a request; it may ask if the client is gone."""
 
     allow_reuse_address = True
     daemon_threads = True

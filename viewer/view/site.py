@@ -36,6 +36,7 @@ class Site:
         self.tell = tell
         self.refusal = None
         self.refused = threading.Event()
+        self.is_ended = False
         self.watch(self.growth or self.heap)
 
     def watch(self, job):
@@ -50,9 +51,9 @@ class Site:
         threading.Thread(target=wait, daemon=True).start()
 
     def note(self, refusal):
-        """Tells a refusal, the first alone, before any page shows it."""
+        """Tells a refusal, the first alone, before any page shows it. An end that the viewer asked for is none."""
         with self.lock:
-            if self.refusal is None:
+            if self.refusal is None and not self.is_ended:
                 self.refusal = refusal
                 self.tell(refusal)
                 self.refused.set()
@@ -68,11 +69,11 @@ class Site:
                     self.watch(self.heap)
             yield self.heap
 
-    def answer(self, head):
-        """The reply to the head of a request."""
+    def answer(self, head, is_gone):
+        """The reply to the head of a request. None if its client is gone when its turn comes."""
         path, words = self.guard.judge(head)
         try:
-            return self.reply(path, words)
+            return self.reply(path, words, is_gone)
         except Missing:
             return self.frame.missing("No such page", "Nothing has this address.")
         except Ended:
@@ -82,7 +83,7 @@ class Site:
             traceback.print_exc(file=sys.stderr)
             return FAULT
 
-    def reply(self, path, words):
+    def reply(self, path, words, is_gone):
         show = self.page_of(path)
         for job in self.jobs(path):
             settled = job.settled.wait(HOLD)
@@ -91,7 +92,7 @@ class Site:
             if not settled:
                 return waiting.show(self.frame, job.places)
         with self.making:
-            return show(Visit(self.frame, words, self.heap, self.growth))
+            return None if is_gone() else show(Visit(self.frame, words, self.heap, self.growth))
 
     def page_of(self, path):
         """What shows the page of a path."""
@@ -108,6 +109,8 @@ class Site:
         raise Missing
 
     def end(self):
+        with self.lock:
+            self.is_ended = True
         for job in (self.growth, self.heap):
             if job:
                 job.end()

@@ -93,7 +93,7 @@ def printed_exactly(label):
 
 
 def show(visit):
-    if "label" in visit.words:
+    if visit.words.get("label"):
         return named_so(visit, visit.words["label"][:LONGEST])
     word = visit.words.get("q", "")[:LONGEST].strip()
     if not word:

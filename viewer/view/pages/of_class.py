@@ -19,6 +19,7 @@ from .overview import kind_link
 # More superclasses are left out.
 CHAIN = 100
 NAMELESS = "(a name without bytes)"
+VALUE = re.compile(rb"^own .* value$", re.MULTILINE)
 SECTIONS = {b"static": ("statics", lines.static), b"own": ("fields", lines.own), b"constant": ("constants", lines.constant)}
 Contents = namedtuple("Contents", "head parts has_object has_value")
 
@@ -89,7 +90,7 @@ def superclass(answer):
     first = answer.line(limit=SHORT)
     if lines.word(first) != b"class":
         return None, False
-    return lines.class_head(first), any(line.startswith(b"own ") and line.endswith(b" value") for line in answer.lines(limit=SHORT))
+    return lines.class_head(first), any(answer.found(VALUE))
 
 
 def chain(visit, head):
