@@ -62,6 +62,8 @@ class Site:
         """What has to be read before the page of a path can be shown, one after the other."""
         if self.growth:
             yield self.growth
+            if self.growth.program.process.returncode:
+                raise Ended
         if path != "grew":
             with self.lock:
                 if self.heap is None:
