@@ -1,5 +1,8 @@
 pub mod SortedRows
 pub mod Union
+pub mod PageRows
+pub mod Page
+pub mod Pages
 pub mod GapRun
 pub mod SortedTable
 pub mod Relation

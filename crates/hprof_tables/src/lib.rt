@@ -8,6 +8,7 @@ mod content;
 mod gap_run;
 mod hinted_map;
 mod merging;
+mod page;
 mod relation;
 mod rows;
 mod side_by_side;

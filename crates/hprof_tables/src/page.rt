@@ -1,0 +1,192 @@
+//! A page of a table: all rows whose keys lie from one key to another.
+
+ghost use Rattle.std.specs.Prelude.{◌≡◌, ◌+◌, ◌↔◌, ◌++◌, ◌<◌, ◌≤◌, ◌^◌, ◌⊎◌, ℕ, List, [], length, take, drop, true, false, IsTrue, IfOk, IfErr};
+ghost use Rattle.std.specs.Prelude.{OnOk, OnErr, slice_index_or, vec_len, vec_capacity};
+ghost use Rattle.std.specs.BTreeMap.{insert_entry};
+ghost use Rattle.std.specs.Option.{option_copied};
+ghost use Rattle.std.specs.Ordering.{nat_cmp};
+ghost use Rattle.hprof_tables.specs.PageRows.{GoesTo, IsPage, IsPage-prop};
+ghost use Rattle.hprof_tables.specs.SortedRows.{AreKeys, IsAscending, row_at};
+
+use std::alloc::{AllocError, Global};
+use std::mem;
+
+/// A page of so many rows is cut before a row goes among them, which moves those behind it.
+const MOST_AMONG: usize = 64;
+
+/// A page of so many rows is cut before a row goes behind them, which moves none.
+const MOST: usize = 1024;
+
+/// The room for so many rows is taken at once.
+const SPARE: usize = 16;
+
+/// Where a page is cut in two: in front of the row at a place, and at a key.
+#[derive(Clone, Copy)]
+pub(crate) struct Cut {
+    pub(crate) place: usize,
+    pub(crate) key: u64,
+}
+
+/// All rows whose keys lie from one key to another, in order of key.
+#[derive(Drop)]
+pub(crate) struct Page<V> {
+    pub(crate) from: u64,
+    pub(crate) to: u64,
+    pub(crate) rows: Vec<(u64, V)>,
+    ghost sound: { IsPage from to rows.items } by { IsPage-prop from to rows.items },
+}
+
+impl<V> Page<V> {
+    ghost use Rattle.hprof_tables.specs.Page.{CutsFor, HasRoom, IsCutAt};
+
+    /// Returns a page of all keys, with those rows.
+    pub(crate) fn of(rows: Vec<(u64, V)>) -> Self
+        requires ascending { IsAscending rows.items }
+        requires keys { AreKeys (λ key. key < 2 ^ 64) rows.items }
+        ensures from { result.from ≡ 0 }
+        ensures to { result.to + 1 ≡ 2 ^ 64 }
+        ensures rows { result.rows.items ≡ rows.items }
+    {
+        Page {
+            from: 0,
+            to: u64::MAX,
+            rows,
+        }
+    }
+
+    /// Returns whether the key is one of its keys.
+    #[inline(always)]
+    pub(crate) fn has(&self, key: u64) -> bool
+        ensures { IsTrue result ↔ ((self.now.from ≤ key) × (key ≤ self.now.to)) }
+    {
+        self.from <= key && key <= self.to
+    }
+
+    /// Returns the place of the row under a key, or the one in front of which it goes.
+    #[inline(always)]
+    pub(crate) fn place_of(&self, key: u64) -> Result<usize, usize>
+        ensures there { IfOk result (λ place. (place < length self.now.rows.items)
+            × ((row : ℕ × V) → (slice_index_or self.now.rows.items place row).0 ≡ key)) }
+        ensures new { IfErr result (λ place. GoesTo key place self.now.rows.items) }
+    {
+        match self.rows.last() {
+            Some(last) if key <= last.0 => self.rows.binary_search_by_key(&key, |row| row.0),
+            _ => Err(self.rows.len()),
+        }
+    }
+
+    /// Returns the row under a key.
+    #[inline(always)]
+    pub(crate) fn get(&self, key: u64) -> Option<&V>
+        ensures { option_copied result ≡ row_at key self.now.rows.items }
+    {
+        match self.place_of(key) {
+            Ok(place) => Some(&self.rows[place].1),
+            Err(_) => None,
+        }
+    }
+
+    /// Returns whether there is room behind the last row for one under that key, so that it is put there without a search.
+    #[inline(always)]
+    pub(crate) fn has_end_for(&self, key: u64) -> bool
+        ensures goes { result ≡ true → GoesTo key (length self.now.rows.items) self.now.rows.items }
+        ensures room { result ≡ true → HasRoom self.now }
+    {
+        let len = self.rows.len();
+        len < MOST && len < self.rows.capacity() && self.rows.last().is_some_and(|last| last.0 < key)
+    }
+
+    /// Returns whether a row may go to a place without a cut.
+    #[inline(always)]
+    pub(crate) fn takes(&self, place: usize) -> bool
+        ensures { result ≡ false → (64 ≤ length self.now.rows.items)
+            × ((1024 ≤ length self.now.rows.items) ⊎ (place ≡ length self.now.rows.items → ⊥)) }
+    {
+        let len = self.rows.len();
+        len < MOST_AMONG || (place == len && len < MOST)
+    }
+
+    /// Makes room for one row more.
+    #[inline(always)]
+    pub(crate) fn make_room(&mut self) -> Result<(), AllocError>
+        ensures from { self.new.from ≡ self.old.from }
+        ensures to { self.new.to ≡ self.old.to }
+        ensures rows { self.new.rows.items ≡ self.old.rows.items }
+        ensures ok { OnOk result (HasRoom self.new) }
+        ensures full { OnErr result (vec_capacity self.old.rows ≤ vec_len self.old.rows) }
+    {
+        if self.rows.len() < self.rows.capacity() {
+            return Ok(());
+        }
+        if self.rows.len() < MOST_AMONG {
+            return self.rows.reserve_exact(SPARE);
+        }
+        self.rows.reserve(1)
+    }
+
+    /// Puts a row at the place where it goes. There is room for it.
+    #[inline(always)]
+    pub(crate) fn put(&mut self, place: usize, key: u64, row: V)
+    where
+        V: Drop,
+        requires has { (self.old.from ≤ key) × (key ≤ self.old.to) }
+        requires goes { GoesTo key place self.old.rows.items }
+        requires room { HasRoom self.old }
+        ensures from { self.new.from ≡ self.old.from }
+        ensures to { self.new.to ≡ self.old.to }
+        ensures rows { self.new.rows.items ≡ insert_entry nat_cmp self.old.rows.items key row }
+    {
+        if place == self.rows.len() {
+            self.rows.push_reserved((key, row));
+            return;
+        }
+        let Ok(()) = self.rows.insert(place, (key, row)) else {
+            unreachable!()
+        };
+    }
+
+    /// Returns where the page is cut for a row that goes to a place: there, if it goes before or behind all others, so that keys that
+    /// ascend or descend leave full pages; else in the middle.
+    pub(crate) fn cut_for(&self, key: u64, place: usize) -> Cut
+        requires has { (self.now.from ≤ key) × (key ≤ self.now.to) }
+        requires goes { GoesTo key place self.now.rows.items }
+        requires some { 0 < length self.now.rows.items }
+        ensures { CutsFor self.now result }
+    {
+        if place == self.rows.len() {
+            return Cut { place, key };
+        }
+        let half = if place == 0 { 0 } else { self.rows.len() / 2 };
+        let key = self.rows[half].0;
+        Cut { place: half, key }
+    }
+
+    /// Cuts the page in two. It keeps the keys and rows before the cut; the page that is returned has the others.
+    pub(crate) fn cut(&mut self, cut: Cut) -> Result<Self, AllocError>
+        requires { CutsFor self.old cut }
+        ensures ok { IfOk result (λ next. IsCutAt cut.key self.old self.new next) }
+        ensures err { OnErr result (self.new ≡ self.old) }
+    {
+        let rows = self.rows.split_off(cut.place)?;
+        self.rows.shrink_to(cut.place + SPARE);
+        let next = Page {
+            from: cut.key,
+            to: self.to,
+            rows,
+        };
+        self.to = cut.key - 1;
+        Ok(next)
+    }
+
+    /// Takes all rows out of the page.
+    pub(crate) fn take_rows(&mut self, alloc: Global) -> Vec<(u64, V)>
+    where
+        V: Drop,
+        ensures from { self.new.from ≡ self.old.from }
+        ensures to { self.new.to ≡ self.old.to }
+        ensures rows { result.items ≡ self.old.rows.items }
+        ensures none { self.new.rows.items ≡ [] }
+    {
+        mem::replace(&mut self.rows, Vec::new(alloc))
+    }
+}
