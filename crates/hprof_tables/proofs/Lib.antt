@@ -1,5 +1,6 @@
 pub mod SortedRows
-pub mod GapRuns
+pub mod PageRows
+pub mod SortedList
 pub mod SortedTable
 pub mod Framed
 pub mod Spans
@@ -11,3 +12,4 @@ pub mod Taking
 pub mod Missing
 pub mod SameTables
 pub mod Places
+pub mod Pages

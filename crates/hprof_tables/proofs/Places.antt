@@ -31,7 +31,7 @@ placed_once keys places sound =
     absurd (omega arith)))
 
 -- a key among more is one of them, or the last
-one_of_more : (keys : List ℕ) (last place key : ℕ) → slice_get (keys ++ last ∷ []) place ≡ Some key
+pub one_of_more : (keys : List ℕ) (last place key : ℕ) → slice_get (keys ++ last ∷ []) place ≡ Some key
     → (slice_get keys place ≡ Some key) ⊎ ((place ≡ length keys) × (last ≡ key))
 one_of_more [] last zero key e = inr (refl, cc)
 one_of_more [] last (suc place) key e = absurd cc

@@ -1,292 +1,217 @@
--- A sorted table: what is found in it, where a row goes, and what a visit of a key does.
-use Rattle.std.proofs.Common.{◌≡◌, ◌<◌, ◌≤◌, ◌⊎◌, Result, Ok, Err, ◌≢◌, ℕ, Bool, true, false, cond, eqb}
-use Rattle.std.proofs.Common.{List, [], ◌∷◌, Option, Some, None, refl, sym, ap, subst, ◌∙◌, inl, inr, arith}
-use Rattle.std.specs.Prelude.{is_some, IfOk, OnErr}
-use Rattle.std.specs.Option.{option_or}
+-- The pages of a sorted table: the spot of a key, a page that is cut, and what is taken out page by page.
+use Rattle.std.proofs.Common.{◌≡◌, ◌<◌, ◌≤◌, ◌+◌, ◌^◌, ◌⊎◌, ◌++◌, Result, Ok, Err, ◌≢◌, ℕ, zero, suc, get_or, drop}
+use Rattle.std.proofs.Common.{List, [], ◌∷◌, length, Option, Some, None, refl, sym, ap, subst, ◌∙◌, inl, inr, arith}
+use Rattle.std.specs.Prelude.{OnErr, OnOk, slice_get, slice_set}
+use Rattle.std.specs.Map.{values_of}
 use Rattle.std.specs.Ordering.{nat_cmp}
 use Rattle.std.specs.BTreeMap.{insert_entry}
-use Rattle.std.proofs.lemmas.Bool.{eqb-true, cases_lt, cases_order, le-ltb, lt-ltb, ne_eqb}
-use Rattle.hprof_tables.specs.SortedRows.{row_at, IsAscending, Misses, IsTable, IsListOfBoth, Visits, merged, AreKeys, IsClear, Precedes}
-use Rattle.hprof_tables.proofs.SortedRows.{is_none, AreKeys-weaker, ascending_head, ascending_tail, row_at-here}
-use Rattle.hprof_tables.proofs.SortedRows.{row_at-past, row_at-none, insert-all, Misses-head, Misses-tail}
-use Rattle.hprof_tables.proofs.SortedRows.{insert-ascending, insert-row, merged-row, merged-ascending, merged-length}
-
--- what holds holds at an error
-pub at_err : {T E : Type 0} (r : Result T E) (P : Type 0) → P → OnErr r P
-at_err (Ok value) P p = tt
-at_err (Err e) P p = p
-
--- what follows at an error
-pub at_err-then : {T E : Type 0} (r : Result T E) (P Q : Type 0) → (P → Q) → OnErr r P → OnErr r Q
-at_err-then (Ok value) P Q more p = tt
-at_err-then (Err e) P Q more p = more p
+use Rattle.std.proofs.lemmas.Bool.{cases_lt, cases_order}
+use Rattle.std.proofs.lemmas.List.{append_assoc, append-nil}
+use Rattle.std.proofs.lemmas.Option.{get_or_from_slice_get, slice_get_within}
+use Rattle.hprof_tables.specs.declared.page.Page.{Page}
+use Rattle.hprof_tables.specs.declared.sorted_table.Spot.{Spot}
+use Rattle.hprof_tables.specs.Page.{LacksRoomFor}
+use Rattle.hprof_tables.specs.PageRows.{GoesTo}
+use Rattle.hprof_tables.specs.Pages.{AreChained, AreListed, ArePagesCut, HasKey, HaveAllKeys, first_key, last_key, rows_along, rows_in}
+use Rattle.hprof_tables.specs.SortedRows.{row_at, AreKeys, IsAscending}
+use Rattle.hprof_tables.specs.SortedTable.{GoesIn, IsSpot, LacksRoomThere}
+use Rattle.hprof_tables.proofs.PageRows.{goes_new, row_at_place}
+use Rattle.hprof_tables.proofs.Pages.{along-replaced, chained-replaced, cut_first, cut_next, get_replaced, listed-cut, listed-row, listed-single, rows-cut}
 
 module _ {V : Type 0} where
-  -- ---- a table
+  -- ---- pages and spots
 
-  -- the list of both ascends
-  pub table-ascending : (run below : List (ℕ × V)) → IsTable run below → IsAscending (merged run below)
-  table-ascending run below sound = merged-ascending run below sound.run_ascends sound.far_ascends sound.are_apart
+  -- the page at a number
+  pub page_there : (pages : List (Page V)) (number : ℕ) (found page : Page V) → slice_get pages number ≡ Some found
+      → page ≡ get_or pages number page → slice_get pages number ≡ Some page
+  page_there pages number found page there at =
+      let same : page ≡ found = at ∙ get_or_from_slice_get pages number found page there in
+      there ∙ ap Some (sym same)
 
-  -- a row is in the run, or else in the map
-  pub table-row : (key : ℕ) (run below : List (ℕ × V)) → IsTable run below
-      → row_at key (merged run below) ≡ option_or (row_at key run) (row_at key below)
-  table-row key run below sound = merged-row key run below sound.are_apart
+  -- the page that has a key
+  pub page_found : (pages : List (Page V)) (number key : ℕ) (page : Page V) → HasKey (slice_get pages number) key
+      → page ≡ get_or pages number page → slice_get pages number ≡ Some page
+  page_found pages number key page has at = by_found (slice_get pages number) refl has
+    where
+      by_found : (found : Option (Page V)) → slice_get pages number ≡ found → HasKey found key → slice_get pages number ≡ Some page
+      by_found None e has = absurd has
+      by_found (Some found) e has = page_there pages number found page e at
 
-  pub table-in_run : (key : ℕ) (run below : List (ℕ × V)) (row : V) → IsTable run below → row_at key run ≡ Some row
-      → row_at key (merged run below) ≡ Some row
-  table-in_run key run below row sound e = table-row key run below sound ∙ ap (λ (found : Option V). option_or found (row_at key below)) e
+  pub page_within : (pages : List (Page V)) (number key : ℕ) → HasKey (slice_get pages number) key → number < length pages
+  page_within pages number key has = by_found (slice_get pages number) refl has
+    where
+      by_found : (found : Option (Page V)) → slice_get pages number ≡ found → HasKey found key → number < length pages
+      by_found None e has = absurd has
+      by_found (Some found) e has = slice_get_within pages number found e
 
-  pub table-below : (key : ℕ) (run below : List (ℕ × V)) → IsTable run below → row_at key run ≡ None
-      → row_at key (merged run below) ≡ row_at key below
-  table-below key run below sound e = table-row key run below sound ∙ ap (λ (found : Option V). option_or found (row_at key below)) e
+  -- a row is found in the page that has its key
+  pub key_row : (pages : List (Page V)) (places : List (ℕ × ℕ)) (number key : ℕ) (page : Page V) → AreListed pages places
+      → HasKey (slice_get pages number) key → page ≡ get_or pages number page
+      → row_at key (rows_along pages (values_of places)) ≡ row_at key page.rows.items
+  key_row pages places number key page listed has at =
+      listed-row pages places number key listed has
+      ∙ ap (λ (found : Option (Page V)). row_at key (rows_in found)) (page_found pages number key page has at)
 
-  -- what holds of each key holds of one that is found
-  found_key : (P : ℕ → Type 0) (key : ℕ) (row : V) (rows : List (ℕ × V)) → AreKeys P rows → row_at key rows ≡ Some row → P key
-  found_key P key row [] all e = absurd cc
-  found_key P key row (first ∷ rows) all e = elim (cases_order key first.0) [
-    | inl here ↦ subst P (sym here) all.0
-    | inr apart ↦
-        let past : key ≢ first.0 = λ same. elim apart [ inl lt ↦ omega arith | inr gt ↦ omega arith ] in
-        found_key P key row rows all.1 (sym (row_at-past key first rows past) ∙ e)
+  -- a row that a page has at a place is found, whichever way the page was come by
+  pub row_there : (pages : List (Page V)) (places : List (ℕ × ℕ)) (number key place : ℕ) (page again : Page V) (row : ℕ × V)
+      → AreListed pages places → HasKey (slice_get pages number) key → page ≡ get_or pages number page → again ≡ get_or pages number again
+      → place < length page.rows.items → ((r : ℕ × V) → (get_or page.rows.items place r).0 ≡ key) → row ≡ get_or again.rows.items place row
+      → row_at key (rows_along pages (values_of places)) ≡ Some row.1
+  row_there pages places number key place page again row listed has at at_again lt keys is =
+      let both : Some page ≡ Some again = sym (page_found pages number key page has at) ∙ page_found pages number key again has at_again in
+      let same : page ≡ again = cc in
+      let here : row ≡ get_or page.rows.items place row =
+      subst (λ (p : Page V). row ≡ get_or p.rows.items place row) (sym same) is in
+      let one : row.0 ≡ key = ap (λ (r : ℕ × V). r.0) here ∙ keys row in
+      key_row pages places number key page listed has at
+      ∙ subst (λ (k : ℕ). row_at k page.rows.items ≡ Some row.1) one (row_at_place page.rows.items place row page.sound.ascends lt here)
+
+  -- the page of a spot
+  pub spot_page : (pages : List (Page V)) (key : ℕ) (spot : Spot) → IsSpot pages key spot
+      → (page : Page V) × (slice_get pages spot.page ≡ Some page) × HasKey (Some page) key × GoesTo key spot.place page.rows.items
+  spot_page pages key spot is = by_found (slice_get pages spot.page) refl is
+    where
+      by_found : (found : Option (Page V)) → slice_get pages spot.page ≡ found → GoesIn found key spot.place
+          → (page : Page V) × (slice_get pages spot.page ≡ Some page) × HasKey (Some page) key × GoesTo key spot.place page.rows.items
+      by_found None e is = absurd is
+      by_found (Some page) e is = (page, e, is.0, is.1)
+
+  pub spot_at : (pages : List (Page V)) (key : ℕ) (spot : Spot) (page : Page V) → IsSpot pages key spot → page ≡ get_or pages spot.page page
+      → (slice_get pages spot.page ≡ Some page) × HasKey (Some page) key × GoesTo key spot.place page.rows.items
+  spot_at pages key spot page is at =
+      let there = spot_page pages key spot is in
+      let here = page_there pages spot.page there.0 page there.1 at in
+      let same : Some there.0 ≡ Some page = sym there.1 ∙ here in
+      let one : there.0 ≡ page = cc in (
+        here,
+        subst (λ (p : Page V). HasKey (Some p) key) one there.2,
+        subst (λ (p : Page V). GoesTo key spot.place p.rows.items) one there.3,
+      )
+
+  pub spot_within : (pages : List (Page V)) (key : ℕ) (spot : Spot) → IsSpot pages key spot → spot.page < length pages
+  spot_within pages key spot is = let there = spot_page pages key spot is in slice_get_within pages spot.page there.0 there.1
+
+  -- the key of a spot is new
+  pub spot_new : (pages : List (Page V)) (places : List (ℕ × ℕ)) (key : ℕ) (spot : Spot) → AreListed pages places → IsSpot pages key spot
+      → row_at key (rows_along pages (values_of places)) ≡ None
+  spot_new pages places key spot listed is =
+      let there = spot_page pages key spot is in
+      listed-row pages places spot.page key listed (subst (λ (found : Option (Page V)). HasKey found key) (sym there.1) there.2)
+      ∙ ap (λ (found : Option (Page V)). row_at key (rows_in found)) there.1 ∙ goes_new key spot.place there.0.rows.items there.3
+
+  -- a spot in a page
+  pub spot_is : (pages : List (Page V)) (key : ℕ) (spot : Spot) (page : Page V) → slice_get pages spot.page ≡ Some page → HasKey (Some page) key
+      → GoesTo key spot.place page.rows.items → IsSpot pages key spot
+  spot_is pages key spot page there has goes =
+      subst (λ (found : Option (Page V)). GoesIn found key spot.place) (sym there) (has, goes)
+
+  -- ---- a page that is cut
+
+  -- pages of which one was cut, or not
+  pub cut_tried : {T E : Type 0} (r : Result T E) (pages new : List (Page V)) (places after : List (ℕ × ℕ)) (number key : ℕ)
+      → AreListed pages places → OnOk r (ArePagesCut number key pages new)
+      → OnOk r (after ≡ insert_entry nat_cmp places key (length pages)) → OnErr r (new ≡ pages) → OnErr r (after ≡ places)
+      → AreListed new after × (rows_along new (values_of after) ≡ rows_along pages (values_of places))
+  cut_tried (Ok x) pages new places after number key listed cut more same kept =
+      subst (λ (l : List (ℕ × ℕ)). AreListed new l × (rows_along new (values_of l) ≡ rows_along pages (values_of places))) (sym more)
+      (listed-cut pages new places number key listed cut, rows-cut pages new places number key listed cut)
+  cut_tried (Err e) pages new places after number key listed cut more same kept =
+      subst (λ (l : List (ℕ × ℕ)). AreListed new l × (rows_along new (values_of l) ≡ rows_along pages (values_of places))) (sym kept)
+      (subst (λ (l : List (Page V)). AreListed l places × (rows_along l (values_of places) ≡ rows_along pages (values_of places))) (sym same)
+      (listed, refl))
+
+  -- the key is in the part that has it
+  pub cut_has : (pages new : List (Page V)) (number at key : ℕ) (page : Page V) → ArePagesCut number at pages new
+      → slice_get pages number ≡ Some page → HasKey (Some page) key
+      → (key < at → HasKey (slice_get new number) key) × (at ≤ key → HasKey (slice_get new (length pages)) key)
+  cut_has pages new number at key page cut there has =
+      let same : Some cut.page ≡ Some page = sym cut.there ∙ there in
+      let one : cut.page ≡ page = cc in
+      let low = has.0 in
+      let high = has.1 in
+      let from : cut.first.from ≡ page.from = cut.cut.from ∙ ap (λ (p : Page V). p.from) one in
+      let to : cut.next.to ≡ page.to = cut.cut.to ∙ ap (λ (p : Page V). p.to) one in
+      let below = cut.cut.below in
+      let above = cut.cut.above in (
+        λ lt. subst (λ (found : Option (Page V)). HasKey found key) (sym (cut_first pages new number at cut)) (omega arith, omega arith),
+        λ le. subst (λ (found : Option (Page V)). HasKey found key) (sym (cut_next pages new number at cut)) (omega arith, omega arith),
+      )
+
+  -- a row that goes in front of others does not go behind all
+  among : (key place : ℕ) (rows : List (ℕ × V)) → place < length rows → AreKeys (λ other. key < other) (drop place rows)
+      → AreKeys (λ other. other < key) rows → ⊥
+  among key place [] lt above all = absurd (omega arith)
+  among key zero (row ∷ rows) lt above all = let one : key < row.0 = above.0 in let other : row.0 < key = all.0 in absurd (omega arith)
+  among key (suc place) (row ∷ rows) lt above all = among key place rows (omega arith) above all.1
+
+  -- a page that does not take a row lacks room for it
+  pub lacks_place : (key place : ℕ) (page : Page V) → GoesTo key place page.rows.items → 64 ≤ length page.rows.items
+      → (1024 ≤ length page.rows.items) ⊎ (place ≡ length page.rows.items → ⊥) → LacksRoomFor page key
+  lacks_place key place page goes some (inl most) = inr (some, inl most)
+  lacks_place key place page goes some (inr within) = elim (cases_lt place (length page.rows.items)) [
+    | inl lt ↦ inr (some, inr (among key place page.rows.items lt goes.above))
+    | inr le ↦ let most : place ≤ length page.rows.items = goes.within in absurd (within (omega arith))
   ]
 
-  in_one : (found other : Option V) (row : V) → option_or found other ≡ Some row → (found ≡ Some row) ⊎ (other ≡ Some row)
-  in_one None other row e = inr e
-  in_one (Some first) other row e = inl e
+  -- where it goes
+  pub lacks_there : (pages : List (Page V)) (key : ℕ) (spot : Spot) (page : Page V) → IsSpot pages key spot → page ≡ get_or pages spot.page page
+      → 64 ≤ length page.rows.items → (1024 ≤ length page.rows.items) ⊎ (spot.place ≡ length page.rows.items → ⊥) → LacksRoomThere pages key
+  lacks_there pages key spot page is at some within =
+      let there = spot_at pages key spot page is at in
+      record {
+        number = spot.page;
+        page = page;
+        there = there.0;
+        has = there.1;
+        lacks = lacks_place key spot.place page there.2 some within;
+      }
 
-  -- the list of both is ascending, and has exactly the rows of both
-  pub table-both : (run below : List (ℕ × V)) → IsTable run below → IsListOfBoth run below (merged run below)
-  table-both run below sound = record {
-    ascends = table-ascending run below sound;
-    both = λ key row. (
-      λ e. in_one (row_at key run) (row_at key below) row (sym (table-row key run below sound) ∙ e),
-      λ found. elim found [
-        | inl e ↦ table-in_run key run below row sound e
-        | inr e ↦ table-below key run below sound (is_none (row_at key run)
-            (found_key (Misses run) key row below sound.are_apart e)) ∙ e
-      ],
-    );
-    count = merged-length run below;
-  }
+  -- a spot stays one where its page makes room
+  pub spot_stays : (pages : List (Page V)) (key : ℕ) (spot : Spot) (old new : Page V) → IsSpot pages key spot → old ≡ get_or pages spot.page old
+      → new.from ≡ old.from → new.to ≡ old.to → new.rows.items ≡ old.rows.items → IsSpot (slice_set pages spot.page new) key spot
+  spot_stays pages key spot old new is at from to rows =
+      let there = spot_at pages key spot old is at in
+      let low = there.1.0 in
+      let high = there.1.1 in
+      spot_is (slice_set pages spot.page new) key spot new (get_replaced pages spot.page old new there.0) (omega arith, omega arith)
+      (subst (GoesTo key spot.place) (sym rows) there.2)
 
-  -- the keys of a list are above its first, so that this one is not among them
-  not_past : (row : ℕ × V) (rows : List (ℕ × V)) (key : ℕ) → IsAscending (row ∷ rows) → key ≤ row.0 → row_at key rows ≡ None
-  not_past row rows key up le =
-      row_at-none key rows (AreKeys-weaker (λ k. row.0 < k) (λ k. key ≢ k) rows (λ k h e. omega arith) (ascending_head row rows up))
+  -- ---- what is taken out page by page
 
-  one_row : (row other : ℕ × V) → row.0 ≡ other.0 → row.1 ≡ other.1 → row ≡ other
-  one_row row other e h =
-      let with_key : ℕ → ℕ × V = λ key. (key, row.1) in
-      let with_value : V → ℕ × V = λ value. (other.0, value) in
-      ap with_key e ∙ ap with_value h
+  -- pages that have all keys are chained from some key on
+  pub some_chain : (pages : List (Page V)) (places : List (ℕ × ℕ)) → HaveAllKeys pages places → (from : ℕ) × AreChained pages from places
+  some_chain pages [] all = (2 ^ 64, refl)
+  some_chain pages (place ∷ places) all = (0, all)
 
-  -- two ascending lists with the same rows are one
-  one_list : (rows others : List (ℕ × V)) → IsAscending rows → IsAscending others → ((key : ℕ) → row_at key rows ≡ row_at key others)
-      → rows ≡ others
-  one_list [] [] up more same = refl
-  one_list [] (other ∷ others) up more same = let e : None ≡ Some other.1 =
-      same other.0 ∙ row_at-here other.0 other others refl in absurd cc
-  one_list (row ∷ rows) [] up more same = let e : Some row.1 ≡ None = sym (row_at-here row.0 row rows refl) ∙ same row.0 in absurd cc
-  one_list (row ∷ rows) (other ∷ others) up more same = elim (cases_order row.0 other.0) [
-    | inr apart ↦ elim apart [
-      | inl lt ↦
-          let past : row.0 ≢ other.0 = λ e. omega arith in
-          let none : row_at row.0 (other ∷ others) ≡ None =
-          row_at-past row.0 other others past ∙ not_past other others row.0 more (omega arith) in
-          let e : Some row.1 ≡ None = sym (row_at-here row.0 row rows refl) ∙ same row.0 ∙ none in
-          absurd cc
-      | inr gt ↦
-          let past : other.0 ≢ row.0 = λ e. omega arith in
-          let none : row_at other.0 (row ∷ rows) ≡ None = row_at-past other.0 row rows past ∙ not_past row rows other.0 up (omega arith) in
-          let e : None ≡ Some other.1 = sym none ∙ same other.0 ∙ row_at-here other.0 other others refl in
-          absurd cc
-    ]
-    | inl one ↦
-        let found : Some row.1 ≡ Some other.1 = sym (row_at-here row.0 row rows refl) ∙ same row.0 ∙ row_at-here row.0 other others one in
-        let values : row.1 ≡ other.1 = cc in
-        let first : row ≡ other = one_row row other one values in
-        let rest : rows ≡ others =
-        one_list rows others (ascending_tail row rows up) (ascending_tail other others more) (λ key. elim (cases_order key row.0) [
-          | inl here ↦ not_past row rows key up (omega arith) ∙ sym (not_past other others key more (omega arith))
-          | inr apart ↦
-              let past : key ≢ row.0 = λ e. elim apart [ inl lt ↦ omega arith | inr gt ↦ omega arith ] in
-              let beyond : key ≢ other.0 = λ e. past (e ∙ sym one) in
-              sym (row_at-past key row rows past) ∙ same key ∙ row_at-past key other others beyond
-        ]) in
-        cc
-  ]
+  -- the rows of the first page of a chain are taken out; the pages behind it stay as they are
+  pub taken_page : (pages : List (Page V)) (from : ℕ) (place : ℕ × ℕ) (places : List (ℕ × ℕ)) (page new : Page V)
+      → AreChained pages from (place ∷ places) → slice_get pages place.1 ≡ Some page
+      → AreChained (slice_set pages place.1 new) (page.to + 1) places
+      × (rows_along (slice_set pages place.1 new) (values_of places) ≡ rows_along pages (values_of places))
+  taken_page pages from place places page new chained there =
+      let first : first_key (slice_get pages place.1) ≡ page.from = ap first_key there in
+      let last : last_key (slice_get pages place.1) ≡ page.to = ap last_key there in
+      let begin : first_key (slice_get pages place.1) ≡ from = chained.2 in
+      let some : from ≤ last_key (slice_get pages place.1) = chained.3 in
+      let rest = subst (λ (n : ℕ). AreChained pages (n + 1) places) last chained.4 in
+      let below : page.from < page.to + 1 = omega arith in (
+        chained-replaced pages (page.to + 1) places place.1 page new rest there below,
+        along-replaced pages (page.to + 1) places place.1 page new rest there below,
+      )
 
-  -- ---- a row in the run
+  -- ---- a single page
 
-  -- what is found of one of the two is nothing at the key
-  new_apart : (key : ℕ) (rows : List (ℕ × V)) → Misses rows key → AreKeys (λ other. other ≢ key) rows
-  new_apart key [] missed = tt
-  new_apart key (row ∷ rows) missed =
-      (λ same. Misses-head key row rows missed (sym same), new_apart key rows (Misses-tail key row rows missed))
+  pub single_listed : (pages : List (Page V)) (places : List (ℕ × ℕ)) (page : Page V) → pages ≡ page ∷ [] → places ≡ (0, 0) ∷ []
+      → page.from ≡ 0 → page.to + 1 ≡ 2 ^ 64 → AreListed pages places
+  single_listed pages places page one other from to = rw (one, other) (listed-single page from to)
 
-  AreKeys-both : (P Q R : ℕ → Type 0) (rows : List (ℕ × V)) → ((key : ℕ) → P key → Q key → R key) → AreKeys P rows → AreKeys Q rows
-      → AreKeys R rows
-  AreKeys-both P Q R [] more one two = tt
-  AreKeys-both P Q R (row ∷ rows) more one two = (more row.0 one.0 two.0, AreKeys-both P Q R rows more one.1 two.1)
+  pub single_rows : (pages : List (Page V)) (places : List (ℕ × ℕ)) (page : Page V) → pages ≡ page ∷ [] → places ≡ (0, 0) ∷ []
+      → rows_along pages (values_of places) ≡ page.rows.items
+  single_rows pages places page one other = rw (one, other) (append-nil page.rows.items)
 
-  -- a row of another key is not missed less
-  still_missed : (rows : List (ℕ × V)) (key : ℕ) (row : V) (other : ℕ) → Misses rows other → other ≢ key
-      → Misses (insert_entry nat_cmp rows key row) other
-  still_missed rows key row other missed apart =
-      ap is_some (insert-row other rows key row)
-      ∙ ap (λ (t : Bool). is_some (cond t (Some row) (row_at other rows))) (ne_eqb other key apart) ∙ missed
-
-  pub put_run-sound : (run below : List (ℕ × V)) (key : ℕ) (row : V) → IsTable run below → Misses below key
-      → IsTable (insert_entry nat_cmp run key row) below
-  put_run-sound run below key row sound missed = record {
-    run_ascends = insert-ascending run key row sound.run_ascends;
-    far_ascends = sound.far_ascends;
-    are_apart =
-        AreKeys-both (Misses run) (λ other. other ≢ key) (Misses (insert_entry nat_cmp run key row)) below
-        (λ other gone apart. still_missed run key row other gone apart) sound.are_apart (new_apart key below missed);
-  }
-
-  or_first : (t : Bool) (row : V) (found other : Option V)
-      → option_or (cond t (Some row) found) other ≡ cond t (Some row) (option_or found other)
-  or_first true row found other = refl
-  or_first false row found other = refl
-
-  pub put_run : (run below : List (ℕ × V)) (key : ℕ) (row : V) → IsTable run below → Misses below key
-      → merged (insert_entry nat_cmp run key row) below ≡ insert_entry nat_cmp (merged run below) key row
-  put_run run below key row sound missed =
-      let after = put_run-sound run below key row sound missed in
-      one_list (merged (insert_entry nat_cmp run key row) below) (insert_entry nat_cmp (merged run below) key row)
-      (table-ascending (insert_entry nat_cmp run key row) below after)
-      (insert-ascending (merged run below) key row (table-ascending run below sound))
-      (λ sought.
-      table-row sought (insert_entry nat_cmp run key row) below after
-      ∙ ap (λ (found : Option V). option_or found (row_at sought below)) (insert-row sought run key row)
-      ∙ or_first (eqb sought key) row (row_at sought run) (row_at sought below)
-      ∙ sym (insert-row sought (merged run below) key row ∙ ap (cond (eqb sought key) (Some row)) (table-row sought run below sound)))
-
-  -- the table has no row of a key that both miss
-  pub table-missed : (key : ℕ) (run below : List (ℕ × V)) → IsTable run below → Misses run key → Misses below key
-      → row_at key (merged run below) ≡ None
-  table-missed key run below sound gone missed =
-      table-below key run below sound (is_none (row_at key run) gone) ∙ is_none (row_at key below) missed
-
-  some_row : (found : Option V) → is_some found ≡ true → (row : V) × (found ≡ Some row)
-  some_row None e = absurd cc
-  some_row (Some row) e = (row, refl)
-
-  -- the run misses what the map has
-  pub missed_there : (key : ℕ) (run below : List (ℕ × V)) → IsTable run below → is_some (row_at key below) ≡ true → Misses run key
-  missed_there key run below sound there =
-      let found = some_row (row_at key below) there in
-      found_key (Misses run) key found.0 below sound.are_apart found.1
-
-  -- and the table has it
-  pub table-there : (key : ℕ) (run below : List (ℕ × V)) → IsTable run below → is_some (row_at key below) ≡ true
-      → row_at key (merged run below) ≡ None → ⊥
-  table-there key run below sound there none =
-      let gone = is_none (row_at key run) (missed_there key run below sound there) in
-      let both : row_at key below ≡ None = sym (table-below key run below sound gone) ∙ none in
-      let t = sym there ∙ ap is_some both in
-      cc
-
-  -- ---- a row in the map
-
-  pub put_below-sound : (run below : List (ℕ × V)) (key : ℕ) (row : V) → IsTable run below → row_at key run ≡ None
-      → IsTable run (insert_entry nat_cmp below key row)
-  put_below-sound run below key row sound none = record {
-    run_ascends = sound.run_ascends;
-    far_ascends = insert-ascending below key row sound.far_ascends;
-    are_apart = insert-all (Misses run) below key row sound.are_apart (ap is_some none);
-  }
-
-  or_second : (t : Bool) (row : V) (found other : Option V) → (t ≡ true → found ≡ None)
-      → option_or found (cond t (Some row) other) ≡ cond t (Some row) (option_or found other)
-  or_second true row found other none = rw (none refl) refl
-  or_second false row found other none = refl
-
-  pub put_below : (run below : List (ℕ × V)) (key : ℕ) (row : V) → IsTable run below → row_at key run ≡ None
-      → merged run (insert_entry nat_cmp below key row) ≡ insert_entry nat_cmp (merged run below) key row
-  put_below run below key row sound none =
-      let after = put_below-sound run below key row sound none in
-      one_list (merged run (insert_entry nat_cmp below key row)) (insert_entry nat_cmp (merged run below) key row)
-      (table-ascending run (insert_entry nat_cmp below key row) after)
-      (insert-ascending (merged run below) key row (table-ascending run below sound))
-      (λ sought.
-      table-row sought run (insert_entry nat_cmp below key row) after
-      ∙ ap (option_or (row_at sought run)) (insert-row sought below key row)
-      ∙ or_second (eqb sought key) row (row_at sought run) (row_at sought below)
-      (λ t. subst (λ (k : ℕ). row_at k run ≡ None) (sym (eqb-true sought key t)) none)
-      ∙ sym (insert-row sought (merged run below) key row ∙ ap (cond (eqb sought key) (Some row)) (table-row sought run below sound)))
-
-  -- ---- a visit of the map
-
-  -- what a visit of a key that the run has not does to the map it does to the list of both
-  pub visit_below : {A : Type 0} (answers : V → A → Type 0) (makes : V → Type 0) (run below after : List (ℕ × V)) (key : ℕ)
-      (answer : Option A) → IsTable run below
-      → row_at key run ≡ None → Visits answers makes below key answer after
-      → Visits answers makes (merged run below) key answer (merged run after)
-  visit_below answers makes run below after key None sound none v =
-      (table-below key run below sound none ∙ v.0, (v.1.0, v.1.1, ap (merged run) v.1.2 ∙ put_below run below key v.1.0 sound none))
-  visit_below answers makes run below after key (Some answer) sound none v =
-      (ap (merged run) v.0, (v.1.0, table-below key run below sound none ∙ v.1.1, v.1.2))
-
-  -- and the table is still one
-  pub visit_below-sound : {A : Type 0} (answers : V → A → Type 0) (makes : V → Type 0) (run below after : List (ℕ × V)) (key : ℕ)
-      (answer : Option A) → IsTable run below
-      → row_at key run ≡ None → Visits answers makes below key answer after → IsTable run after
-  visit_below-sound answers makes run below after key None sound none v =
-      subst (IsTable run) (sym v.1.2) (put_below-sound run below key v.1.0 sound none)
-  visit_below-sound answers makes run below after key (Some answer) sound none v = subst (IsTable run) (sym v.0) sound
-
-  -- the same of what a visit that may fail came to
-  pub tried_below : {A E : Type 0} (answers : V → A → Type 0) (makes : V → Type 0) (run below after : List (ℕ × V)) (key : ℕ)
-      (r : Result (Option A) E) → IsTable run below
-      → row_at key run ≡ None → IfOk r (λ answer. Visits answers makes below key answer after)
-      → IfOk r (λ answer. Visits answers makes (merged run below) key answer (merged run after))
-  tried_below answers makes run below after key (Ok answer) sound none v =
-      visit_below answers makes run below after key answer sound none v
-  tried_below answers makes run below after key (Err e) sound none v = tt
-
-  pub tried_below-sound : {A E : Type 0} (answers : V → A → Type 0) (makes : V → Type 0) (run below after : List (ℕ × V)) (key : ℕ)
-      (r : Result (Option A) E) → IsTable run below
-      → row_at key run ≡ None → IfOk r (λ answer. Visits answers makes below key answer after) → OnErr r (after ≡ below)
-      → IsTable run after
-  tried_below-sound answers makes run below after key (Ok answer) sound none v kept =
-      visit_below-sound answers makes run below after key answer sound none v
-  tried_below-sound answers makes run below after key (Err e) sound none v kept = subst (IsTable run) (sym kept) sound
-
-  -- a map of which a key was visited has none of the keys that it had not, but for that one
-  pub still_clear : {A : Type 0} (answers : V → A → Type 0) (makes : V → Type 0) (far after : List (ℕ × V)) (key : ℕ) (answer : Option A)
-      (from to less more : ℕ) → Visits answers makes far key answer after → IsClear far from to
-      → ((other : ℕ) → less ≤ other → other ≤ more → (from ≤ other) × (other ≤ to) × (other ≢ key)) → IsClear after less more
-  still_clear answers makes far after key None from to less more v clear within = λ other low high.
-      let is = within other low high in
-      subst (λ (l : List (ℕ × V)). Misses l other) (sym v.1.2) (still_missed far key v.1.0 other (clear other is.0 is.1) is.2)
-  still_clear answers makes far after key (Some answer) from to less more v clear within = λ other low high.
-      let is = within other low high in
-      subst (λ (l : List (ℕ × V)). Misses l other) (sym v.0) (clear other is.0 is.1)
-
-  -- ---- the rows, one after the other
-
-  -- where the run's first row comes first, it is the first of both
-  pub run_first : (rows : List (ℕ × V)) (row first : ℕ × V) (rest : List (ℕ × V)) → Precedes (row ∷ rows) first.0
-      → merged (row ∷ rows) (first ∷ rest) ≡ row ∷ merged rows (first ∷ rest)
-  run_first rows row first rest lt = rw (lt-ltb row.0 first.0 lt) refl
-
-  -- and else the map's is
-  pub far_first : (run : List (ℕ × V)) (first : ℕ × V) (rest : List (ℕ × V)) → (Precedes run first.0 → ⊥)
-      → merged run (first ∷ rest) ≡ first ∷ merged run rest
-  far_first [] first rest not = refl
-  far_first (row ∷ rows) first rest not = elim (cases_lt row.0 first.0) [
-    | inl lt ↦ absurd (not lt)
-    | inr le ↦ rw (le-ltb row.0 first.0 le) refl
-  ]
-
-  -- ---- what is found at a key, of a table that is that one
-
-  pub absent : (key : ℕ) (run below rows others : List (ℕ × V)) → IsTable run below → rows ≡ run → others ≡ below
-      → row_at key rows ≡ None → Misses others key → row_at key (merged run below) ≡ None
-  absent key run below rows others sound e e_other none missed =
-      table-missed key run below sound (ap is_some (ap (row_at key) (sym e) ∙ none))
-      (subst (λ (l : List (ℕ × V)). Misses l key) e_other missed)
+-- rows that are moved behind others, with what is to come, are all
+pub moved_rows : {X : Type 0} (rows new taken page rest more all : List X) → rows ++ (page ++ rest) ≡ all → new ≡ rows ++ taken → taken ≡ page
+    → more ≡ rest → new ++ more ≡ all
+moved_rows rows new taken page rest more all whole pushed is same =
+    ap (λ (l : List _). l ++ more) pushed ∙ ap (λ (l : List _). (rows ++ taken) ++ l) same ∙ append_assoc rows taken rest
+    ∙ ap (λ (l : List _). rows ++ (l ++ rest)) is ∙ whole

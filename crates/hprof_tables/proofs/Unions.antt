@@ -1,4 +1,4 @@
--- Rows whose keys are new, taken into the run of a table.
+-- Rows whose keys are new, taken into those of a table.
 use Rattle.std.proofs.Common.{◌≡◌, ◌≢◌, ◌<◌, ◌⊎◌, ℕ, List, [], ◌∷◌, length, Option, Some, None, refl, sym, ap, subst, ◌∙◌, inl, inr}
 use Rattle.std.proofs.Common.{arith}
 use Rattle.std.specs.Prelude.{is_some}
@@ -9,7 +9,6 @@ use Rattle.hprof_tables.specs.SortedRows.{row_at, IsAscending, IsTable, Misses, 
 use Rattle.hprof_tables.specs.Union.{AreApart, AreUnion}
 use Rattle.hprof_tables.proofs.SortedRows.{ascending_head, ascending_tail, is_none, row_at-here}
 use Rattle.hprof_tables.proofs.SortedRows.{row_at-past, merged-row, merged-ascending}
-use Rattle.hprof_tables.proofs.SortedTable.{table-row, table-ascending, table-in_run, table-below}
 
 module _ {V : Type 0} where
   -- ---- rows that have no key in common
@@ -83,75 +82,15 @@ module _ {V : Type 0} where
         key_found P rows key all.1 (there.0, sym (row_at-past key row rows past) ∙ there.1)
   ]
 
-  -- ---- the run with more rows
+  -- ---- the rows of both
 
-  module _ (run below fresh : List (ℕ × V)) (sound : IsTable run below) (up : IsAscending fresh)
-      (apart : AreApart (merged run below) fresh) where
-    -- a row of the table is not among the others
-    not_fresh : (key : ℕ) → IsThere (merged run below) key → row_at key fresh ≡ None
-    not_fresh key there = elim (apart key) [
-      | inl none ↦ absurd (found-none there.0 (sym there.1 ∙ none))
-      | inr none ↦ none
-    ]
-
-    apart_run : AreApart run fresh
-    apart_run key = by_run (row_at key run) refl
-      where
-        by_run : (found : Option V) → row_at key run ≡ found → (row_at key run ≡ None) ⊎ (row_at key fresh ≡ None)
-        by_run None e = inl e
-        by_run (Some row) e = inr (not_fresh key (row, table-in_run key run below row sound e))
-
-    all_row : (key : ℕ) → row_at key (merged run fresh) ≡ option_or (row_at key run) (row_at key fresh)
-    all_row key = merged-row key run fresh (apart_all run fresh apart_run)
-
-    all_ascends : IsAscending (merged run fresh)
-    all_ascends = merged-ascending run fresh sound.run_ascends up (apart_all run fresh apart_run)
-
-    missed_below : (key : ℕ) → Misses run key → IsThere below key → Misses (merged run fresh) key
-    missed_below key missed there =
-        let none : row_at key run ≡ None = is_none (row_at key run) missed in
-        ap is_some (all_row key ∙ ap (λ (found : Option V). option_or found (row_at key fresh)) none
-        ∙ not_fresh key (there.0, table-below key run below sound none ∙ there.1))
-
-    pub merge_sound : IsTable (merged run fresh) below
-    merge_sound = record {
-      run_ascends = all_ascends;
-      far_ascends = sound.far_ascends;
-      are_apart = AreKeys-two (Misses run) (IsThere below) (Misses (merged run fresh)) below missed_below sound.are_apart
-          (all_found below sound.far_ascends);
-    }
-
-    -- at a key two of the three have nothing
-    turned : (found other more : Option V) → (option_or found other ≡ None) ⊎ (more ≡ None)
-        → option_or (option_or found more) other ≡ option_or (option_or found other) more
-    turned None None more one = or_none more
-    turned None (Some row) None one = refl
-    turned None (Some row) (Some more) (inl none) = absurd (found-none row none)
-    turned None (Some row) (Some more) (inr none) = absurd (found-none more none)
-    turned (Some row) other more one = refl
-
-    pub merge_union : AreUnion (merged run below) fresh (merged (merged run fresh) below)
-    merge_union = record {
-      ascends = table-ascending (merged run fresh) below merge_sound;
-      each = λ key.
-          table-row key (merged run fresh) below merge_sound
-          ∙ ap (λ (found : Option V). option_or found (row_at key below)) (all_row key)
-          ∙ turned (row_at key run) (row_at key below) (row_at key fresh) (either key (apart key))
-          ∙ ap (λ (found : Option V). option_or found (row_at key fresh)) (sym (table-row key run below sound));
-    }
-      where
-        either : (key : ℕ) → (row_at key (merged run below) ≡ None) ⊎ (row_at key fresh ≡ None)
-            → (option_or (row_at key run) (row_at key below) ≡ None) ⊎ (row_at key fresh ≡ None)
-        either key (inl none) = inl (sym (table-row key run below sound) ∙ none)
-        either key (inr none) = inr none
-
-    -- the same of lists that are these
-    pub table_is : (all after : List (ℕ × V)) → all ≡ merged run fresh → after ≡ below → IsTable all after
-    table_is all after e e_after = rw (e, e_after) merge_sound
-
-    pub union_is : (all after : List (ℕ × V)) → all ≡ merged run fresh → after ≡ below
-        → AreUnion (merged run below) fresh (merged all after)
-    union_is all after e e_after = rw (e, e_after) merge_union
+  -- two lists without a common key are one
+  pub merged_union : (rows fresh : List (ℕ × V)) → IsAscending rows → IsAscending fresh → AreApart rows fresh
+      → AreUnion rows fresh (merged rows fresh)
+  merged_union rows fresh up more apart = record {
+    ascends = merged-ascending rows fresh up more (apart_all rows fresh apart);
+    each = λ key. merged-row key rows fresh (apart_all rows fresh apart);
+  }
 
   -- ---- each row of a union is one of both
 

@@ -3,7 +3,6 @@ pub mod Union
 pub mod PageRows
 pub mod Page
 pub mod Pages
-pub mod GapRun
 pub mod SortedTable
 pub mod Relation
 pub mod Spans

@@ -49,6 +49,18 @@ module _ {V : Type 0} where
     pub chained : HaveAllKeys pages places
     pub found : ArePlaces (map (λ page. page.from) pages) places
 
+  pub AreChained-prop : (pages : List (Page V)) (from : ℕ) (places : List (ℕ × ℕ)) → IsProp (AreChained pages from places)
+  AreChained-prop pages from [] = hlevel props
+  AreChained-prop pages from (place ∷ places) = hlevel (props, le_prop, AreChained-prop pages (last_key (slice_get pages place.1) + 1) places)
+
+  pub HaveAllKeys-prop : (pages : List (Page V)) (places : List (ℕ × ℕ)) → IsProp (HaveAllKeys pages places)
+  HaveAllKeys-prop pages [] = hlevel props
+  HaveAllKeys-prop pages (place ∷ places) = AreChained-prop pages 0 (place ∷ places)
+
+  -- it has at most one proof
+  pub AreListed-prop : (pages : List (Page V)) (places : List (ℕ × ℕ)) → IsProp (AreListed pages places)
+  AreListed-prop pages places = hlevel (props, HaveAllKeys-prop pages places, ArePlaces-prop)
+
   -- the page of that number was cut in two at a key; the part above it stands behind all others
   pub record ArePagesCut (number key : ℕ) (old new : List (Page V)) : Type 0 where
     pub page : Page V

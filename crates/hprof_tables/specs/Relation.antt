@@ -1,12 +1,12 @@
 -- A table of rows by key.
-use Rattle.std.specs.Prelude.{◌≡◌, ◌≢◌, ℕ, List, Some, None, map, vec_capacity}
+use Rattle.std.specs.Prelude.{◌≡◌, ◌≢◌, ℕ, List, Some, None, map}
 use Rattle.std.specs.Ordering.{nat_cmp}
 use Rattle.std.specs.BTreeMap.{is_at, insert_entry}
 use Rattle.std.specs.Map.{lookup}
 use Rattle.hprof_tables.specs.declared.relation.Relation.{Relation}
 use Rattle.hprof_tables.specs.declared.relation.Stated.{Stated}
 use Rattle.hprof_tables.specs.declared.relation.Stated.TheVariants.{New, Same, Differs}
-use Rattle.hprof_tables.specs.SortedTable.{entries_of, LacksRoom}
+use Rattle.hprof_tables.specs.SortedTable.{HasNoSpace, LacksRoom, entries_of}
 
 -- the rows with their keys, in order of key
 abbrev pub rows_of : {V : Type 0} → Relation V → List (ℕ × V)
@@ -14,7 +14,7 @@ rows_of relation = entries_of relation.rows
 
 -- it has room for no row
 abbrev pub HasNoRoom : {V : Type 0} → Relation V → Type 0
-HasNoRoom relation = (vec_capacity relation.rows.run.low ≡ 0) × (vec_capacity relation.rows.run.high ≡ 0)
+HasNoRoom relation = HasNoSpace relation.rows
 
 -- a row under the key may need memory: it does not go behind all others, or there is no room for it
 abbrev pub MayNeedMemory : {V : Type 0} → Relation V → ℕ → Type 0

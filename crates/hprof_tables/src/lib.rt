@@ -3,9 +3,7 @@
 #![tactic(auto)]
 
 mod bytes_table;
-mod clear;
 mod content;
-mod gap_run;
 mod hinted_map;
 mod merging;
 mod page;

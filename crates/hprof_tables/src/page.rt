@@ -36,17 +36,30 @@ pub(crate) struct Page<V> {
     ghost sound: { IsPage from to rows.items } by { IsPage-prop from to rows.items },
 }
 
+/// Returns the key of the last row, and 0 where there is none.
+#[inline(always)]
+fn last_key<V>(rows: &[(u64, V)]) -> u64
+    requires { IsAscending rows.now }
+    ensures { AreKeys (λ key. key ≤ result) rows.now }
+{
+    match rows.last() {
+        None => 0,
+        Some(row) => row.0,
+    }
+}
+
 impl<V> Page<V> {
     ghost use Rattle.hprof_tables.specs.Page.{CutsFor, HasRoom, IsCutAt};
 
     /// Returns a page of all keys, with those rows.
     pub(crate) fn of(rows: Vec<(u64, V)>) -> Self
-        requires ascending { IsAscending rows.items }
-        requires keys { AreKeys (λ key. key < 2 ^ 64) rows.items }
+        requires { IsAscending rows.items }
         ensures from { result.from ≡ 0 }
         ensures to { result.to + 1 ≡ 2 ^ 64 }
         ensures rows { result.rows.items ≡ rows.items }
     {
+        // No key is above the last one, and so above all numbers of its type.
+        let _last = last_key(&rows);
         Page {
             from: 0,
             to: u64::MAX,
@@ -62,6 +75,14 @@ impl<V> Page<V> {
         self.from <= key && key <= self.to
     }
 
+    /// Returns whether all rows have keys below that one.
+    #[inline(always)]
+    fn ends_below(&self, key: u64) -> bool
+        ensures { result ≡ true → AreKeys (λ other. other < key) self.now.rows.items }
+    {
+        self.rows.is_empty() || last_key(&self.rows) < key
+    }
+
     /// Returns the place of the row under a key, or the one in front of which it goes.
     #[inline(always)]
     pub(crate) fn place_of(&self, key: u64) -> Result<usize, usize>
@@ -69,10 +90,10 @@ impl<V> Page<V> {
             × ((row : ℕ × V) → (slice_index_or self.now.rows.items place row).0 ≡ key)) }
         ensures new { IfErr result (λ place. GoesTo key place self.now.rows.items) }
     {
-        match self.rows.last() {
-            Some(last) if key <= last.0 => self.rows.binary_search_by_key(&key, |row| row.0),
-            _ => Err(self.rows.len()),
+        if self.ends_below(key) {
+            return Err(self.rows.len());
         }
+        self.rows.binary_search_by_key(&key, |row| row.0)
     }
 
     /// Returns the row under a key.
@@ -93,7 +114,7 @@ impl<V> Page<V> {
         ensures room { result ≡ true → HasRoom self.now }
     {
         let len = self.rows.len();
-        len < MOST && len < self.rows.capacity() && self.rows.last().is_some_and(|last| last.0 < key)
+        len < MOST && len < self.rows.capacity() && self.ends_below(key)
     }
 
     /// Returns whether a row may go to a place without a cut.

@@ -1,21 +1,21 @@
-//! A table of rows by key, which takes rows that come near one another at the cost of a push.
+//! A table of rows by key, which keeps them in pages: a key that comes near the one before is mostly in the same page.
 
-ghost use Rattle.std.specs.Prelude.{◌≡◌, ◌+◌, ◌↔◌, ◌≤◌, ◌⊎◌, ℕ, List, [], length, IsTrue, IfOk, IfSome, OnErr, None, ◌<◌, vec_len};
-ghost use Rattle.std.specs.Prelude.{vec_capacity, true, false, is_some};
+ghost use Rattle.std.specs.Prelude.{◌≡◌, ◌+◌, ◌++◌, ◌↔◌, ◌≤◌, ◌^◌, ◌⊎◌, ℕ, List, [], length, IsTrue, IfOk, IfSome, IfNone, OnOk, OnErr, None, ◌<◌};
+ghost use Rattle.std.specs.Prelude.{slice_get, true, vec_capacity, vec_len};
+ghost use Rattle.std.specs.Option.{option_copied};
 ghost use Rattle.std.specs.Ordering.{nat_cmp};
 ghost use Rattle.std.specs.BTreeMap.{insert_entry};
-ghost use Rattle.std.specs.Option.{option_copied};
-ghost use Rattle.hprof_tables.specs.SortedRows.{IsTable, IsTable-prop, IsClear, IsClear-prop, IsAscending, IsListOfBoth, LeavesUnmade, Misses};
-ghost use Rattle.hprof_tables.specs.SortedRows.{Precedes, row_at, Visits};
-ghost use Rattle.hprof_tables.specs.GapRun.{IsGapAt, run_rows};
+ghost use Rattle.std.specs.Map.{values_of};
+ghost use Rattle.hprof_tables.specs.Page.{CutsFor, HasRoom};
+ghost use Rattle.hprof_tables.specs.Pages.{AreListed, AreListed-prop, ArePagesCut, HasKey, rows_along, rows_in};
+ghost use Rattle.hprof_tables.specs.SortedRows.{IsAscending, LeavesUnmade, row_at, Visits};
 ghost use Rattle.hprof_tables.specs.Union.{AreApart, AreUnion};
 
-use crate::clear::Clear;
-use crate::gap_run::GapRun;
-use crate::merging::merge_into;
+use crate::merging::{merge_into, push_all};
+use crate::page::{Cut, Page};
 use std::alloc::{AllocError, Global};
-use std::collections::btree_map::Entry;
-use std::collections::{BTreeMap, btree_map};
+use std::collections::btree_map::{Entry, Values};
+use std::collections::BTreeMap;
 use std::mem;
 
 /// A visit of a key: a row that is there is asked, and one is made if there is none.
@@ -53,41 +53,128 @@ pub(crate) trait Visit<V> {
         ensures room { grows room.old room.new };
 }
 
-/// Rows by key. Those that come near one another stand in the run; the others stand in the map. No key has a row in both.
+/// Where the row of a key goes: the number of the page that has the key, and the place among its rows.
+#[derive(Clone, Copy)]
+pub(crate) struct Spot {
+    pub(crate) page: usize,
+    pub(crate) place: usize,
+}
+
+/// Rows by key, in pages. Each key is in one page; the page of the last key is tried first.
 #[derive(Drop)]
 pub(crate) struct SortedTable<V> {
-    run: GapRun<V>,
-    far: BTreeMap<u64, V>,
-    // Of these keys the map has no row, so that it is not asked.
-    clear: Clear,
-    ghost sound: { IsTable (run_rows run) far.entries } by { IsTable-prop (run_rows run) far.entries },
-    ghost no_row: { IsClear far.entries clear.from clear.to } by { IsClear-prop far.entries clear.from clear.to },
+    pages: Vec<Page<V>>,
+    /// The number of each page, by its first key.
+    places: BTreeMap<u64, usize>,
+    /// The number of the page that had the last key.
+    last: usize,
+    /// The number of rows.
+    len: usize,
+    alloc: Global,
+    ghost listed: { AreListed pages.items places.entries } by { AreListed-prop pages.items places.entries },
+    ghost count: { len ≡ length (rows_along pages.items (values_of places.entries)) },
+}
+
+/// Cuts a page in two, and lists the part above the cut under its first key.
+#[inline(never)]
+fn cut_page<V: Drop>(
+    pages: &mut Vec<Page<V>>,
+    places: &mut BTreeMap<u64, usize>,
+    number: usize,
+    cut: Cut,
+) -> Result<(), AllocError>
+    requires within { number < length pages.old.items }
+    requires cut { (page : Page V) → slice_get pages.old.items number ≡ Some page → CutsFor page cut }
+    requires new { row_at cut.key places.old.entries ≡ None }
+    ensures pages { OnOk result (ArePagesCut number cut.key pages.old.items pages.new.items) }
+    ensures places { OnOk result (places.new.entries ≡ insert_entry nat_cmp places.old.entries cut.key (length pages.old.items)) }
+    ensures err { OnErr result (pages.new.items ≡ pages.old.items) }
+    ensures unlisted { OnErr result (places.new.entries ≡ places.old.entries) }
+{
+    let count = pages.len();
+    pages.reserve(1)?;
+    match places.entry(cut.key)? {
+        Entry::Vacant(entry) => {
+            let above = pages[number].cut(cut)?;
+            pages.push_reserved(above);
+            entry.insert(count);
+            Ok(())
+        }
+        Entry::Occupied(_) => unreachable!(),
+    }
+}
+
+/// Moves the rows of pages behind others, for which there is room, in the order in which the pages are listed.
+fn move_rows<V: Drop>(
+    alloc: Global,
+    pages: Vec<Page<V>>,
+    places: BTreeMap<u64, usize>,
+    rows: &mut Vec<(u64, V)>,
+)
+    requires listed { AreListed pages.items places.entries }
+    requires room { vec_len rows.old + length (rows_along pages.items (values_of places.entries)) ≤ vec_capacity rows.old }
+    ensures { rows.new.items ≡ rows.old.items ++ rows_along pages.items (values_of places.entries) }
+{
+    let mut pages = pages;
+    for (_, number) in places.iter() {
+        if let Some(page) = pages.get_mut(*number) {
+            push_all(page.take_rows(alloc), rows);
+        }
+    }
 }
 
 impl<V> SortedTable<V> {
-    ghost use Rattle.hprof_tables.specs.SortedTable.{entries_of, entries_left, LacksRoom};
+    ghost use Rattle.hprof_tables.specs.SortedTable.{HasNoSpace, HasRoomAt, IsSpot, LacksRoom, entries_of, entries_left};
 
     /// Returns a table with no rows. It takes no memory yet.
     pub(crate) fn new(alloc: Global) -> Self
         ensures none { entries_of result ≡ [] }
-        ensures no_room { (vec_capacity result.run.low ≡ 0) × (vec_capacity result.run.high ≡ 0) }
+        ensures no_room { HasNoSpace result }
     {
         SortedTable {
-            run: GapRun::new(alloc),
-            far: BTreeMap::new(alloc),
-            clear: Clear::all(),
+            pages: Vec::new(alloc),
+            places: BTreeMap::new(alloc),
+            last: 0,
+            len: 0,
+            alloc,
         }
     }
 
-    /// Returns the row under a key in the map.
-    #[inline(always)]
-    fn get_far(&self, key: u64) -> Option<&V>
-        ensures { option_copied result ≡ row_at key self.now.far.entries }
+    /// Returns the number of the page that has a key, by a search. There is a page.
+    #[inline(never)]
+    fn listed_page(&self, key: u64) -> usize
+        requires { 0 < length self.now.pages.items }
+        ensures { HasKey (slice_get self.now.pages.items result) key }
     {
-        if self.clear.has(key) {
+        match self.places.range(..=key).next_back() {
+            Some((_, number)) => *number,
+            None => unreachable!(),
+        }
+    }
+
+    /// Returns the number of the page that has a key, which is looked for at a number first. There is a page.
+    #[inline(always)]
+    fn page_near(&self, key: u64, near: usize) -> usize
+        requires { 0 < length self.now.pages.items }
+        ensures { HasKey (slice_get self.now.pages.items result) key }
+    {
+        match self.pages.get(near) {
+            Some(page) if page.has(key) => near,
+            _ => self.listed_page(key),
+        }
+    }
+
+    /// Returns the row under a key, which is looked for first in the page of that number. The number of its page is noted there.
+    #[inline(always)]
+    pub(crate) fn get_near(&self, key: u64, near: &mut usize) -> Option<&V>
+        ensures { option_copied result ≡ row_at key (entries_of self.now) }
+    {
+        if self.pages.is_empty() {
             return None;
         }
-        self.far.get(&key)
+        let number = self.page_near(key, *near);
+        *near = number;
+        self.pages[number].get(key)
     }
 
     /// Returns the row under a key.
@@ -95,91 +182,130 @@ impl<V> SortedTable<V> {
     pub(crate) fn get(&self, key: u64) -> Option<&V>
         ensures { option_copied result ≡ row_at key (entries_of self.now) }
     {
-        match self.run.get(key) {
-            Some(row) => Some(row),
-            None => self.get_far(key),
+        self.get_near(key, &mut { self.last })
+    }
+
+    /// Makes a page of all keys, if there is none.
+    #[inline(always)]
+    fn begin(&mut self) -> Result<(), AllocError>
+    where
+        V: Drop,
+        ensures rows { entries_of self.new ≡ entries_of self.old }
+        ensures some { OnOk result (0 < length self.new.pages.items) }
+        ensures none { OnErr result (length self.old.pages.items ≡ 0) }
+        ensures same { 0 < length self.old.pages.items → self.new ≡ self.old }
+    {
+        if !self.pages.is_empty() {
+            return Ok(());
+        }
+        self.pages.reserve(1)?;
+        self.places.insert(0, 0)?;
+        self.pages.push_reserved(Page::of(Vec::new(self.alloc)));
+        Ok(())
+    }
+
+    /// Returns the spot behind the last row of the page that had the last key, if a row of the key goes there and has room.
+    #[inline(always)]
+    fn end_spot(&self, key: u64) -> Option<Spot>
+        ensures spot { IfSome result (λ spot. IsSpot self.now.pages.items key spot) }
+        ensures room { IfSome result (λ spot. HasRoomAt self.now.pages.items spot) }
+        ensures count { IfSome result (λ _. self.now.len + 1 < 2 ^ 64) }
+    {
+        let page = self.pages.get(self.last)?;
+        if page.has(key) && page.has_end_for(key) && self.len < usize::MAX {
+            return Some(Spot {
+                page: self.last,
+                place: page.rows.len(),
+            });
+        }
+        None
+    }
+
+    /// Returns the spot of a key in its page. There is no row of the key.
+    fn spot_in(&self, key: u64, page: usize) -> Spot
+        requires has { HasKey (slice_get self.now.pages.items page) key }
+        requires new { row_at key (entries_of self.now) ≡ None }
+        ensures { IsSpot self.now.pages.items key result }
+    {
+        match self.pages[page].place_of(key) {
+            Err(place) => Spot { page, place },
+            Ok(_) => unreachable!(),
         }
     }
 
-    /// Returns the row under a key, which is looked for near a place of the run. Its place is noted there.
-    #[inline(always)]
-    pub(crate) fn get_near(&self, key: u64, near: &mut usize) -> Option<&V>
-        ensures { option_copied result ≡ row_at key (entries_of self.now) }
+    /// Returns a spot of a key whose page may take a row there: this one, or one in the page that is left or made where the page is cut.
+    fn cut_spot(&mut self, key: u64, spot: Spot) -> Result<Spot, AllocError>
+    where
+        V: Drop,
+        requires { IsSpot self.old.pages.items key spot }
+        ensures rows { entries_of self.new ≡ entries_of self.old }
+        ensures ok { IfOk result (λ spot. IsSpot self.new.pages.items key spot) }
+        ensures full { OnErr result (LacksRoom self.old key) }
+        ensures count { self.new.len ≡ self.old.len }
+        ensures same { (self.new ≡ self.old) ⊎ LacksRoom self.old key }
     {
-        match self.run.get_near(key, near) {
-            Some(row) => Some(row),
-            None => self.get_far(key),
+        if self.pages[spot.page].takes(spot.place) {
+            return Ok(spot);
         }
-    }
-
-    /// Returns whether the map has no row under a key. The keys round it for which there is none either are noted.
-    #[inline(always)]
-    fn clears(&mut self, key: u64) -> bool
-        ensures none { result ≡ true → Misses self.new.far.entries key }
-        ensures some { result ≡ false → is_some (row_at key self.new.far.entries) ≡ true }
-        ensures run { self.new.run ≡ self.old.run }
-        ensures far { self.new.far ≡ self.old.far }
-    {
-        self.clear.has(key) || self.clears_round(key)
-    }
-
-    /// Returns whether the map has no row under a key, which is looked up.
-    #[inline(never)]
-    fn clears_round(&mut self, key: u64) -> bool
-        ensures none { result ≡ true → Misses self.new.far.entries key }
-        ensures some { result ≡ false → is_some (row_at key self.new.far.entries) ≡ true }
-        ensures run { self.new.run ≡ self.old.run }
-        ensures far { self.new.far ≡ self.old.far }
-    {
-        if self.far.contains_key(&key) {
-            return false;
+        let cut = self.pages[spot.page].cut_for(key, spot.place);
+        let count = self.pages.len();
+        cut_page(&mut self.pages, &mut self.places, spot.page, cut)?;
+        if key < cut.key {
+            return Ok(self.spot_in(key, spot.page));
         }
-        self.clear = Clear::round(&self.far, key);
-        true
+        Ok(self.spot_in(key, count))
     }
 
-    /// Brings the gap of the run to the place of a key, if that is near and there is no row of it, and returns whether it is there now.
-    #[inline(always)]
-    fn opens(&mut self, key: u64) -> bool
-        ensures run { run_rows self.new.run ≡ run_rows self.old.run }
-        ensures far { self.new.far ≡ self.old.far }
-        ensures gap { result ≡ true → IsGapAt self.new.run key }
-        ensures none { result ≡ true → Misses self.new.far.entries key }
-        ensures not { result ≡ false → LacksRoom self.old key ⊎ (is_some (row_at key self.old.far.entries) ≡ true) }
-        ensures room { (self.new.run ≡ self.old.run) ⊎ LacksRoom self.old key }
+    /// Returns a spot of a key at which there is room for its row. Pages may be cut for it; the rows stay.
+    fn room_for(&mut self, key: u64, spot: Spot) -> Result<Spot, AllocError>
+    where
+        V: Drop,
+        requires { IsSpot self.old.pages.items key spot }
+        ensures rows { entries_of self.new ≡ entries_of self.old }
+        ensures ok { IfOk result (λ spot. IsSpot self.new.pages.items key spot) }
+        ensures room { IfOk result (λ spot. HasRoomAt self.new.pages.items spot) }
+        ensures count { OnOk result (self.new.len + 1 < 2 ^ 64) }
+        ensures full { OnErr result (LacksRoom self.old key) }
     {
-        if self.run.is_gap_at(key) {
-            return self.clears(key);
+        if self.len == usize::MAX {
+            return Err(AllocError);
         }
-        self.run.is_near(key) && self.clears(key) && self.run.takes(key)
+        let spot = self.cut_spot(key, spot)?;
+        self.pages[spot.page].make_room()?;
+        Ok(spot)
     }
 
-    /// Makes a row in the run, if the gap is at the place of its key.
+    /// Makes a row and puts it at its spot, where there is room for it.
     #[inline(always)]
-    fn make_at_gap<T: Visit<V> + Drop>(
+    fn make_at<T: Visit<V> + Drop>(
         &mut self,
+        spot: Spot,
         key: u64,
         visitor: T,
         room: &mut T::Room,
     ) -> Result<(), AllocError>
     where
         V: Drop,
-        requires gap { IsGapAt self.old.run key }
-        requires none { Misses self.old.far.entries key }
+        requires spot { IsSpot self.old.pages.items key spot }
+        requires room { HasRoomAt self.old.pages.items spot }
+        requires count { self.old.len + 1 < 2 ^ 64 }
         ensures ok { IfOk result (λ _. (row : V) × T.makes visitor (T.held room.old) row (T.held room.new)
             × (entries_of self.new ≡ insert_entry nat_cmp (entries_of self.old) key row)) }
+        ensures absent { row_at key (entries_of self.old) ≡ None }
         ensures err { OnErr result (entries_of self.new ≡ entries_of self.old) }
         ensures kept { OnErr result (T.held room.new ≡ T.held room.old) }
-        ensures full { OnErr result (LacksRoom self.old key ⊎ T.refuses visitor room.old) }
+        ensures full { OnErr result (T.refuses visitor room.old) }
     {
-        self.run.make_room()?;
         let row = visitor.make(room)?;
-        self.run.put(key, row);
+        self.pages[spot.page].put(spot.place, key, row);
+        self.len += 1;
+        self.last = spot.page;
         Ok(())
     }
 
-    /// Asks the row under a key in the map, or makes one there if there is none. The run has no row of the key.
-    fn visit_far<T: Visit<V> + Drop>(
+    /// Asks the row under a key, or makes one if there is none, as `visit` does.
+    #[inline(never)]
+    fn visit_within<T: Visit<V> + Drop>(
         &mut self,
         key: u64,
         visitor: T,
@@ -187,19 +313,28 @@ impl<V> SortedTable<V> {
     ) -> Result<Option<T::Answer>, AllocError>
     where
         V: Drop,
-        requires { Misses (run_rows self.old.run) key }
         ensures ok { IfOk result (λ answer. Visits (T.answers visitor (T.held room.old)) (λ row.
             T.makes visitor (T.held room.old) row (T.held room.new))
             (entries_of self.old) key answer (entries_of self.new)) }
         ensures err { OnErr result (entries_of self.new ≡ entries_of self.old) }
         ensures absent { OnErr result (row_at key (entries_of self.old) ≡ None) }
+        ensures full { OnErr result (LacksRoom self.old key ⊎ T.refuses visitor room.old) }
         ensures kept { LeavesUnmade result (T.held room.old) (T.held room.new) }
         ensures same_room { IfOk result (λ answer. IfSome answer (λ _. room.new ≡ room.old)) }
     {
-        let clear = self.clear.beside(key, self.run.reaches_above(key));
-        let answer = visit_map(&mut self.far, key, visitor, room)?;
-        self.clear = clear;
-        Ok(answer)
+        self.begin()?;
+        let page = self.page_near(key, self.last);
+        match self.pages[page].place_of(key) {
+            Ok(place) => {
+                self.last = page;
+                Ok(Some(visitor.ask(&self.pages[page].rows[place].1, room)))
+            }
+            Err(place) => {
+                let spot = self.room_for(key, Spot { page, place })?;
+                self.make_at(spot, key, visitor, room)?;
+                Ok(None)
+            }
+        }
     }
 
     /// Asks the row under a key, or makes one if there is none.
@@ -221,21 +356,15 @@ impl<V> SortedTable<V> {
         ensures kept { LeavesUnmade result (T.held room.old) (T.held room.new) }
         ensures same_room { IfOk result (λ answer. IfSome answer (λ _. room.new ≡ room.old)) }
     {
-        if self.opens(key) {
-            self.make_at_gap(key, visitor, room)?;
-            return Ok(None);
-        }
-        match self.run.get(key) {
-            Some(row) => Ok(Some(visitor.ask(row, room))),
-            None => {
-                self.run.approach(key);
-                self.visit_far(key, visitor, room)
-            }
-        }
+        let Some(spot) = self.end_spot(key) else {
+            return self.visit_within(key, visitor, room);
+        };
+        self.make_at(spot, key, visitor, room)?;
+        Ok(None)
     }
 
-    /// Takes rows whose keys are new. They and those of the run are gone over once, side by side; the map stays as it is. If there is no
-    /// row, no memory is needed.
+    /// Takes rows whose keys are new. They and those of the table are gone over once, side by side, and stand in a single page then. If
+    /// there is no row, no memory is needed.
     pub(crate) fn merge(&mut self, alloc: Global, fresh: Vec<(u64, V)>) -> Result<(), AllocError>
     where
         V: Drop,
@@ -249,14 +378,27 @@ impl<V> SortedTable<V> {
         if fresh.is_empty() {
             return Ok(());
         }
+        let Some(len) = self.len.checked_add(fresh.len()) else {
+            return Err(AllocError);
+        };
+        let mut run = Vec::new(alloc);
+        run.reserve_exact(self.len)?;
         let mut all = Vec::new(alloc);
-        all.reserve_exact(self.run.len() + fresh.len())?;
-        let SortedTable { run, far, clear } = mem::replace(self, SortedTable::new(alloc));
-        merge_into(run.into_rows(), fresh, &mut all);
+        all.reserve_exact(len)?;
+        let mut pages = Vec::new(alloc);
+        pages.reserve_exact(1)?;
+        let mut places = BTreeMap::new(alloc);
+        places.insert(0, 0)?;
+        let old = mem::replace(self, SortedTable::new(alloc));
+        move_rows(alloc, old.pages, old.places, &mut run);
+        merge_into(run, fresh, &mut all);
+        pages.push_reserved(Page::of(all));
         *self = SortedTable {
-            run: GapRun::of(alloc, all),
-            far,
-            clear,
+            pages,
+            places,
+            last: 0,
+            len,
+            alloc,
         };
         Ok(())
     }
@@ -265,91 +407,60 @@ impl<V> SortedTable<V> {
     pub(crate) fn len(&self) -> usize
         ensures { result ≡ length (entries_of self.now) }
     {
-        self.run.len() + self.far.len()
+        self.len
     }
 
     /// Returns the rows, in order of key.
     pub(crate) fn iter(&self) -> Entries<'_, V>
         ensures all { entries_left result ≡ entries_of self.now }
-        ensures both { IsListOfBoth (run_rows self.now.run) self.now.far.entries (entries_of self.now) }
+        ensures ascending { IsAscending (entries_of self.now) }
     {
-        let mut far = self.far.iter();
-        let first = far.next();
         Entries {
-            low: self.run.low.as_slice(),
-            high: self.run.high.as_slice(),
-            first,
-            far,
+            rows: &[],
+            numbers: self.places.values(),
+            pages: self.pages.as_slice(),
         }
     }
 }
 
-/// Asks the row under a key of a map, or makes one if there is none. The key is looked up once.
-fn visit_map<V: Drop, T: Visit<V> + Drop>(
-    map: &mut BTreeMap<u64, V>,
-    key: u64,
-    visitor: T,
-    room: &mut T::Room,
-) -> Result<Option<T::Answer>, AllocError>
-    ensures ok { IfOk result (λ answer. Visits (T.answers visitor (T.held room.old)) (λ row.
-        T.makes visitor (T.held room.old) row (T.held room.new))
-        map.old.entries key answer map.new.entries) }
-    ensures err { OnErr result (map.new.entries ≡ map.old.entries) }
-    ensures absent { OnErr result (row_at key map.old.entries ≡ None) }
-    ensures kept { LeavesUnmade result (T.held room.old) (T.held room.new) }
-    ensures same_room { IfOk result (λ answer. IfSome answer (λ _. room.new ≡ room.old)) }
+/// Returns the rows of the page of that number.
+#[inline(always)]
+fn rows_of_page<V>(pages: &[Page<V>], number: usize) -> &[(u64, V)]
+    ensures { result.now ≡ rows_in (slice_get pages.now number) }
 {
-    match map.entry(key)? {
-        Entry::Occupied(entry) => Ok(Some(visitor.ask(entry.get(), room))),
-        Entry::Vacant(entry) => {
-            let row = visitor.make(room)?;
-            entry.insert(row);
-            Ok(None)
-        }
+    match pages.get(number) {
+        Some(page) => page.rows.as_slice(),
+        None => &[],
     }
 }
 
 /// The rows of a table with their keys, in order of key.
 #[derive(Drop)]
 pub(crate) struct Entries<'a, V> {
-    low: &'a [(u64, V)],
-    high: &'a [(u64, V)],
-    first: Option<(&'a u64, &'a V)>,
-    far: btree_map::Iter<'a, u64, V>,
+    /// Those of a page that are still to come.
+    rows: &'a [(u64, V)],
+    /// The numbers of the pages behind it.
+    numbers: Values<'a, u64, usize>,
+    pages: &'a [Page<V>],
 }
 
 impl<'a, V> Entries<'a, V> {
     ghost use Rattle.std.specs.Iterator.{YieldsFirstBy};
-    ghost use Rattle.hprof_tables.specs.SortedTable.{run_left};
+    ghost use Rattle.hprof_tables.specs.SortedTable.{entries_left};
 
-    /// Takes the first row of the run.
-    #[inline(always)]
-    fn next_of_run(&mut self) -> Option<(u64, &'a V)>
-        ensures run { YieldsFirstBy (λ row. (row.0, row.1.now)) run_left self.old result self.new }
-        ensures first { self.new.first ≡ self.old.first }
-        ensures far { self.new.far ≡ self.old.far }
+    /// Takes the first row of the next page that has one.
+    #[inline(never)]
+    fn next_of_page(&mut self) -> Option<(u64, &'a V)>
+        requires { self.old.rows.now ≡ [] }
+        ensures { YieldsFirstBy (λ row. (row.0, row.1.now)) entries_left self.old result self.new }
     {
-        if let Some((row, rest)) = self.low.split_first() {
-            self.low = rest;
-            return Some((row.0, &row.1));
+        while let Some(number) = self.numbers.next() {
+            if let Some((row, rest)) = rows_of_page(self.pages, *number).split_first() {
+                self.rows = rest;
+                return Some((row.0, &row.1));
+            }
         }
-        let (row, rest) = self.high.split_last()?;
-        self.high = rest;
-        Some((row.0, &row.1))
-    }
-
-    /// Returns whether the first row of the run has a key below that one.
-    #[inline(always)]
-    fn run_precedes(&self, key: u64) -> bool
-        ensures { IsTrue result ↔ Precedes (run_left self.now) key }
-    {
-        if let Some(row) = self.low.first() {
-            return row.0 < key;
-        }
-        match self.high.last() {
-            None => false,
-            Some(row) => row.0 < key,
-        }
+        None
     }
 }
 
@@ -365,13 +476,10 @@ impl<'a, V> Iterator for Entries<'a, V> {
 
     #[inline(always)]
     fn next(&mut self) -> Option<(u64, &'a V)> {
-        let Some((key, row)) = self.first else {
-            return self.next_of_run();
+        let Some((row, rest)) = self.rows.split_first() else {
+            return self.next_of_page();
         };
-        if self.run_precedes(*key) {
-            return self.next_of_run();
-        }
-        self.first = self.far.next();
-        Some((*key, row))
+        self.rows = rest;
+        Some((row.0, &row.1))
     }
 }

@@ -5,7 +5,7 @@ use Rattle.hprof_tables.specs.Relation.{States}
 use Rattle.hprof_tables.specs.StatedBytes.{bytes_of}
 use Rattle.hprof_tables.specs.SortedTable.{entries_of}
 use Rattle.hprof_tables.proofs.Spans.{row_lying, stated_by, visited, visited-within}
-use Rattle.hprof_tables.proofs.SortedTable.{at_err}
+use Rattle.hprof_tables.proofs.SortedList.{at_err}
 use Rattle.hprof_tables.proofs.bytes_table.BytesTable.state_row.Goals as goal
 
 pub invariant_of-self : goal.invariant_of-self

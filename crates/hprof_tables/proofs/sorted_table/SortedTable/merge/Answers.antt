@@ -1,57 +1,87 @@
-use Rattle.std.proofs.Common.{◌≡◌, [], length, sym, subst, ap, ◌∙◌, refl, rules}
-use Rattle.hprof_tables.specs.GapRun.{run_rows}
-use Rattle.hprof_tables.specs.SortedRows.{IsClear, merged}
+use Rattle.std.proofs.Common.{◌≡◌, ◌+◌, ◌++◌, ◌∷◌, ℕ, List, [], length, sym, subst, ap, ◌∙◌, rules, arith}
+use Rattle.std.specs.Map.{values_of}
+use Rattle.hprof_tables.specs.SortedRows.{merged, IsAscending}
+use Rattle.hprof_tables.specs.declared.page.Page.{Page}
 use Rattle.hprof_tables.specs.declared.sorted_table.SortedTable.{SortedTable}
-use Rattle.hprof_tables.proofs.Unions.{table_is, union_is, nothing_taken}
-use Rattle.hprof_tables.proofs.SortedTable.{table-ascending}
+use Rattle.hprof_tables.specs.Pages.{rows_along}
+use Rattle.hprof_tables.specs.Union.{AreUnion}
+use Rattle.hprof_tables.proofs.SortedRows.{merged-length}
+use Rattle.hprof_tables.proofs.Pages.{listed-ascending}
+use Rattle.hprof_tables.proofs.SortedTable.{single_listed, single_rows}
+use Rattle.hprof_tables.proofs.Unions.{merged_union, nothing_taken}
 use Rattle.hprof_tables.proofs.sorted_table.SortedTable.merge.Goals as goal
-
-pub of-requires : goal.of-requires
-of-requires g c =
-    let old = c.args.self.now in
-    let none : c.reserve_exact.new.self.items ≡ [] = search rules in
-    let run : c.into_rows.result.items ≡ run_rows old.run =
-    c.into_rows.ensures ∙ ap (λ (t : SortedTable g.row.V.Denot). run_rows t.run) c.replace-run.ensures.value in
-    let all : c.merge_into.new.all.items ≡ merged (run_rows old.run) c.args.fresh.items = search rules in
-    (table_is (run_rows old.run) old.far.entries c.args.fresh.items old.sound c.requires.ascending c.requires.apart
-    c.merge_into.new.all.items old.far.entries all refl).run_ascends
-
-pub invariant_of-drop : goal.invariant_of-drop
-invariant_of-drop g c =
-    let old = c.args.self.now in
-    let none : c.reserve_exact.new.self.items ≡ [] = search rules in
-    let run : c.into_rows.result.items ≡ run_rows old.run =
-    c.into_rows.ensures ∙ ap (λ (t : SortedTable g.row.V.Denot). run_rows t.run) c.replace-run.ensures.value in
-    let far = ap (λ (t : SortedTable g.row.V.Denot). t.far.entries) c.replace-run.ensures.value in
-    let all : c.merge_into.new.all.items ≡ merged (run_rows old.run) c.args.fresh.items = search rules in
-    record {
-      sound = table_is (run_rows old.run) old.far.entries c.args.fresh.items old.sound c.requires.ascending c.requires.apart
-          (run_rows c.of.result) c.replace-run.result.far.entries (c.of.ensures ∙ all) far;
-      no_row =
-          subst (λ (t : SortedTable g.row.V.Denot). IsClear t.far.entries t.clear.from t.clear.to) (sym c.replace-run.ensures.value)
-          old.no_row;
-    }
-
-pub returns-clause-ok : goal.returns-clause-ok
-returns-clause-ok g c =
-    let old = c.args.self.now in
-    let none : c.reserve_exact.new.self.items ≡ [] = search rules in
-    let run : c.into_rows.result.items ≡ run_rows old.run =
-    c.into_rows.ensures ∙ ap (λ (t : SortedTable g.row.V.Denot). run_rows t.run) c.replace-run.ensures.value in
-    let far = ap (λ (t : SortedTable g.row.V.Denot). t.far.entries) c.replace-run.ensures.value in
-    let all : c.merge_into.new.all.items ≡ merged (run_rows old.run) c.args.fresh.items = search rules in
-    union_is (run_rows old.run) old.far.entries c.args.fresh.items old.sound c.requires.ascending c.requires.apart
-    (run_rows c.of.result) c.replace-run.result.far.entries (c.of.ensures ∙ all) far
-
-pub returns-clause-unchanged : goal.returns-clause-unchanged
-returns-clause-unchanged g c = λ none. let not_none = c.if-is_empty.false in absurd (search rules)
 
 pub returns-then-is_empty-clause-ok : goal.returns-then-is_empty-clause-ok
 returns-then-is_empty-clause-ok g c =
     let old = c.args.self.now in
     let none : length c.args.fresh.items ≡ 0 = search rules in
-    nothing_taken (merged (run_rows old.run) old.far.entries) c.args.fresh.items
-    (table-ascending (run_rows old.run) old.far.entries old.sound) none
+    nothing_taken (rows_along old.pages.items (values_of old.places.entries)) c.args.fresh.items
+    (listed-ascending old.pages.items old.places.entries old.listed) none
 
-pub returns-then-is_empty-clause-some : goal.returns-then-is_empty-clause-some
-returns-then-is_empty-clause-some g c = search rules
+pub of-requires : goal.of-requires
+of-requires g c =
+    let old = c.args.self.now in
+    let fresh = c.args.fresh.items in
+    let rows = rows_along old.pages.items (values_of old.places.entries) in
+    let none : c.reserve_exact.new.self.items ≡ [] = search rules in
+    let none_all : c.reserve_exact-2.new.self.items ≡ [] = search rules in
+    let run : c.move_rows.new.rows.items ≡ rows =
+    c.move_rows.ensures
+    ∙ ap (λ (l : List (ℕ × g.row.V.Denot)). l ++ rows_along c.replace-old.result.pages.items (values_of c.replace-old.result.places.entries)) none
+    ∙ ap (λ (t : SortedTable g.row.V.Denot). rows_along t.pages.items (values_of t.places.entries)) c.replace-old.ensures.value in
+    let all : c.merge_into.new.all.items ≡ merged rows fresh =
+    c.merge_into.ensures ∙ ap (λ (l : List (ℕ × g.row.V.Denot)). l ++ merged c.move_rows.new.rows.items fresh) none_all
+    ∙ ap (λ (l : List (ℕ × g.row.V.Denot)). merged l fresh) run in
+    subst IsAscending (sym all)
+    (merged_union rows fresh (listed-ascending old.pages.items old.places.entries old.listed) c.requires.ascending c.requires.apart).ascends
+
+pub invariant_of-drop : goal.invariant_of-drop
+invariant_of-drop g c =
+    let old = c.args.self.now in
+    let fresh = c.args.fresh.items in
+    let rows = rows_along old.pages.items (values_of old.places.entries) in
+    let none : c.reserve_exact.new.self.items ≡ [] = search rules in
+    let none_all : c.reserve_exact-2.new.self.items ≡ [] = search rules in
+    let run : c.move_rows.new.rows.items ≡ rows =
+    c.move_rows.ensures
+    ∙ ap (λ (l : List (ℕ × g.row.V.Denot)). l ++ rows_along c.replace-old.result.pages.items (values_of c.replace-old.result.places.entries)) none
+    ∙ ap (λ (t : SortedTable g.row.V.Denot). rows_along t.pages.items (values_of t.places.entries)) c.replace-old.ensures.value in
+    let all : c.merge_into.new.all.items ≡ merged rows fresh =
+    c.merge_into.ensures ∙ ap (λ (l : List (ℕ × g.row.V.Denot)). l ++ merged c.move_rows.new.rows.items fresh) none_all
+    ∙ ap (λ (l : List (ℕ × g.row.V.Denot)). merged l fresh) run in
+    let none_pages : c.reserve_exact-3.new.self.items ≡ [] = search rules in
+    let pages : c.push_reserved.new.self.items ≡ c.of.result ∷ [] =
+    c.push_reserved.ensures.items ∙ ap (λ (l : List (Page g.row.V.Denot)). l ++ c.of.result ∷ []) none_pages in
+    let places : c.insert.new.self.entries ≡ (0, 0) ∷ [] = search rules in
+    let single = single_rows c.push_reserved.new.self.items c.insert.new.self.entries c.of.result pages places ∙ c.of.ensures.rows ∙ all in
+    let both = ap (λ (l : List (ℕ × g.row.V.Denot)). length l) single ∙ merged-length rows fresh in
+    let count = old.count in
+    let more : c.len.result ≡ length fresh = search rules in
+    let sum : c.in-Some.len ≡ old.len + c.len.result = search rules in
+    let len : c.in-Some.len ≡ length rows + length fresh = omega arith in
+    record {
+      listed = single_listed c.push_reserved.new.self.items c.insert.new.self.entries c.of.result pages places c.of.ensures.from c.of.ensures.to;
+      count = len ∙ sym both;
+    }
+
+pub returns-clause-ok : goal.returns-clause-ok
+returns-clause-ok g c =
+    let old = c.args.self.now in
+    let fresh = c.args.fresh.items in
+    let rows = rows_along old.pages.items (values_of old.places.entries) in
+    let none : c.reserve_exact.new.self.items ≡ [] = search rules in
+    let none_all : c.reserve_exact-2.new.self.items ≡ [] = search rules in
+    let run : c.move_rows.new.rows.items ≡ rows =
+    c.move_rows.ensures
+    ∙ ap (λ (l : List (ℕ × g.row.V.Denot)). l ++ rows_along c.replace-old.result.pages.items (values_of c.replace-old.result.places.entries)) none
+    ∙ ap (λ (t : SortedTable g.row.V.Denot). rows_along t.pages.items (values_of t.places.entries)) c.replace-old.ensures.value in
+    let all : c.merge_into.new.all.items ≡ merged rows fresh =
+    c.merge_into.ensures ∙ ap (λ (l : List (ℕ × g.row.V.Denot)). l ++ merged c.move_rows.new.rows.items fresh) none_all
+    ∙ ap (λ (l : List (ℕ × g.row.V.Denot)). merged l fresh) run in
+    let none_pages : c.reserve_exact-3.new.self.items ≡ [] = search rules in
+    let pages : c.push_reserved.new.self.items ≡ c.of.result ∷ [] =
+    c.push_reserved.ensures.items ∙ ap (λ (l : List (Page g.row.V.Denot)). l ++ c.of.result ∷ []) none_pages in
+    let places : c.insert.new.self.entries ≡ (0, 0) ∷ [] = search rules in
+    let single = single_rows c.push_reserved.new.self.items c.insert.new.self.entries c.of.result pages places ∙ c.of.ensures.rows ∙ all in
+    subst (AreUnion rows fresh) (sym single)
+    (merged_union rows fresh (listed-ascending old.pages.items old.places.entries old.listed) c.requires.ascending c.requires.apart)
