@@ -1,8 +1,7 @@
 -- The rows of a page: where a row goes among them, looking up, and what becomes of them where one is put, or the page is cut.
-use Rattle.std.proofs.Common.{◌≡◌, ◌<◌, ◌≤◌, ◌+◌, ◌-◌, ◌⊎◌, zero, suc, get_or, ◌++◌, ◌≢◌, ℕ, List, [], ◌∷◌, length, Option, Some, None, refl}
+use Rattle.std.proofs.Common.{◌≡◌, ◌<◌, ◌≤◌, ◌+◌, ◌-◌, ◌⊎◌, zero, suc, get_or, ◌++◌, ◌≢◌, ℕ, List, [], ◌∷◌, length, Some, None, refl}
 use Rattle.std.proofs.Common.{Result, Ok, Err, sym, ap, subst, ◌∙◌, inl, inr, arith, take, drop}
 use Rattle.std.specs.Prelude.{IfErr, IfOk, slice_get}
-use Rattle.std.specs.declared.cmp.Ordering.{Ordering}
 use Rattle.std.specs.declared.cmp.Ordering.TheVariants.{Less, Equal, Greater}
 use Rattle.std.specs.List.{insert}
 use Rattle.std.specs.List.Sorted.{IsBinarySearchResult, IsNonDecreasingBy, IsSearchInRange, IsStrictlySortedBy}

@@ -1,11 +1,11 @@
 -- The pages of a sorted table: the spot of a key, a page that is cut, and what is taken out page by page.
-use Rattle.std.proofs.Common.{◌≡◌, ◌<◌, ◌≤◌, ◌+◌, ◌^◌, ◌⊎◌, ◌++◌, Result, Ok, Err, ◌≢◌, ℕ, zero, suc, get_or, drop}
+use Rattle.std.proofs.Common.{◌≡◌, ◌<◌, ◌≤◌, ◌+◌, ◌^◌, ◌⊎◌, ◌++◌, Result, Ok, Err, ℕ, zero, suc, get_or, drop}
 use Rattle.std.proofs.Common.{List, [], ◌∷◌, length, Option, Some, None, refl, sym, ap, subst, ◌∙◌, inl, inr, arith}
 use Rattle.std.specs.Prelude.{OnErr, OnOk, slice_get, slice_set}
 use Rattle.std.specs.Map.{values_of}
 use Rattle.std.specs.Ordering.{nat_cmp}
 use Rattle.std.specs.BTreeMap.{insert_entry}
-use Rattle.std.proofs.lemmas.Bool.{cases_lt, cases_order}
+use Rattle.std.proofs.lemmas.Bool.{cases_lt}
 use Rattle.std.proofs.lemmas.List.{append_assoc, append-nil}
 use Rattle.std.proofs.lemmas.Option.{get_or_from_slice_get, slice_get_within}
 use Rattle.hprof_tables.specs.declared.page.Page.{Page}
@@ -13,7 +13,7 @@ use Rattle.hprof_tables.specs.declared.sorted_table.Spot.{Spot}
 use Rattle.hprof_tables.specs.Page.{LacksRoomFor}
 use Rattle.hprof_tables.specs.PageRows.{GoesTo}
 use Rattle.hprof_tables.specs.Pages.{AreChained, AreListed, ArePagesCut, HasKey, HaveAllKeys, first_key, last_key, rows_along, rows_in}
-use Rattle.hprof_tables.specs.SortedRows.{row_at, AreKeys, IsAscending}
+use Rattle.hprof_tables.specs.SortedRows.{row_at, AreKeys}
 use Rattle.hprof_tables.specs.SortedTable.{GoesIn, IsSpot, LacksRoomThere}
 use Rattle.hprof_tables.proofs.PageRows.{goes_new, row_at_place}
 use Rattle.hprof_tables.proofs.Pages.{along-replaced, chained-replaced, cut_first, cut_next, get_replaced, listed-cut, listed-row, listed-single, rows-cut}

@@ -5,10 +5,11 @@ use Rattle.std.specs.Prelude.{is_some}
 use Rattle.std.specs.List.{AllByRecursion}
 use Rattle.std.specs.Option.{option_or}
 use Rattle.std.proofs.lemmas.Bool.{cases_order}
-use Rattle.hprof_tables.specs.SortedRows.{row_at, IsAscending, IsTable, Misses, merged, AreKeys}
+use Rattle.hprof_tables.specs.SortedRows.{row_at, IsAscending, Misses, merged, AreKeys}
 use Rattle.hprof_tables.specs.Union.{AreApart, AreUnion}
-use Rattle.hprof_tables.proofs.SortedRows.{ascending_head, ascending_tail, is_none, row_at-here}
+use Rattle.hprof_tables.proofs.SortedRows.{ascending_head, ascending_tail, row_at-here}
 use Rattle.hprof_tables.proofs.SortedRows.{row_at-past, merged-row, merged-ascending}
+use Rattle.hprof_tables.proofs.PageRows.{AreKeys-both}
 
 module _ {V : Type 0} where
   -- ---- rows that have no key in common
@@ -53,11 +54,6 @@ module _ {V : Type 0} where
 
   -- ---- each key of a list
 
-  AreKeys-two : (P Q R : ℕ → Type 0) (rows : List (ℕ × V)) → ((key : ℕ) → P key → Q key → R key) → AreKeys P rows → AreKeys Q rows
-      → AreKeys R rows
-  AreKeys-two P Q R [] more one two = tt
-  AreKeys-two P Q R (row ∷ rows) more one two = (more row.0 one.0 two.0, AreKeys-two P Q R rows more one.1 two.1)
-
   -- a row is found
   abbrev IsThere : List (ℕ × V) → ℕ → Type 0
   IsThere rows key = (row : V) × (row_at key rows ≡ Some row)
@@ -67,7 +63,7 @@ module _ {V : Type 0} where
   all_found [] up = tt
   all_found (row ∷ rows) up = (
     (row.1, row_at-here row.0 row rows refl),
-    AreKeys-two (λ key. row.0 < key) (IsThere rows) (IsThere (row ∷ rows)) rows
+    AreKeys-both (λ key. row.0 < key) (IsThere rows) (IsThere (row ∷ rows)) rows
         (λ key lt there. let past : key ≢ row.0 = λ e. omega arith in (there.0, row_at-past key row rows past ∙ there.1))
         (ascending_head row rows up) (all_found rows (ascending_tail row rows up)),
   )

@@ -1,5 +1,5 @@
 -- What a page shows, and where it is cut in two.
-use Rattle.std.specs.Prelude.{◌≡◌, ◌+◌, ◌++◌, ◌<◌, ◌≤◌, ◌⊎◌, ℕ, List, length, take, drop, vec_len, vec_capacity}
+use Rattle.std.specs.Prelude.{◌≡◌, ◌+◌, ◌++◌, ◌<◌, ◌≤◌, ◌⊎◌, ℕ, length, take, drop, vec_len, vec_capacity}
 use Rattle.hprof_tables.specs.declared.page.Page.{Page}
 use Rattle.hprof_tables.specs.declared.page.Cut.{Cut}
 use Rattle.hprof_tables.specs.SortedRows.{AreKeys}

@@ -1,13 +1,11 @@
--- Rows in order of key: one list of them, two lists as one, and what a sorted table keeps of its two.
-use Rattle.std.specs.Prelude.{◌≡◌, ◌+◌, ◌<◌, ◌≤◌, ◌↔◌, ◌⊎◌, ℕ, length, nat_lt, false, List, [], ◌∷◌, Option, Some, None, Result, Ok, Err, ⊤}
+-- Rows in order of key: one list of them, two lists as one, and what a visit of a key does.
+use Rattle.std.specs.Prelude.{◌≡◌, ◌+◌, ℕ, nat_lt, false, List, [], ◌∷◌, Option, Some, None, Result, Ok, Err, ⊤}
 use Rattle.std.specs.Prelude.{is_some, if◌then◌else◌}
-use Rattle.std.specs.Coded.{le_prop}
 use Rattle.std.specs.List.{AllByRecursion}
 use Rattle.std.specs.List.Sorted.{IsStrictlySortedBy, IsStrictlySortedBy-prop}
 use Rattle.std.specs.Map.{keys_of, lookup}
 use Rattle.std.specs.Ordering.{nat_cmp}
 use Rattle.std.specs.BTreeMap.{is_at, insert_entry}
-use Rattle.std.proofs.Props.{props}
 
 module _ {V : Type 0} where
   -- the row of a key
@@ -31,7 +29,7 @@ module _ {V : Type 0} where
   put_among row rest [] = row ∷ rest []
   put_among row rest (other ∷ others) = if nat_lt row.0 other.0 then row ∷ rest (other ∷ others) else other ∷ put_among row rest others
 
-  -- two lists as one: of their first rows the one with the lesser key comes first (IsListOfBoth says what this is)
+  -- two lists as one: of their first rows the one with the lesser key comes first
   abbrev pub merged : List (ℕ × V) → List (ℕ × V) → List (ℕ × V)
   merged [] others = others
   merged (row ∷ rows) others = put_among row (merged rows) others
@@ -41,44 +39,15 @@ module _ {V : Type 0} where
   behind_first None rows = []
   behind_first (Some row) rows = row ∷ rows
 
-  -- the list is that of both: it ascends and has exactly their rows
-  pub record IsListOfBoth (run below rows : List (ℕ × V)) : Type 0 where
-    pub ascends : IsAscending rows
-    pub both : (key : ℕ) (row : V) → (row_at key rows ≡ Some row) ↔ ((row_at key run ≡ Some row) ⊎ (row_at key below ≡ Some row))
-    pub count : length rows ≡ length run + length below
-
   -- one above the last key, and 0 where there is no row
   abbrev pub end_of : List (ℕ × V) → ℕ
   end_of [] = 0
   end_of (row ∷ []) = row.0 + 1
   end_of (row ∷ next ∷ rows) = end_of (next ∷ rows)
 
-  -- the first of the rows has a key below this one
-  abbrev pub Precedes : List (ℕ × V) → ℕ → Type 0
-  Precedes [] key = ⊥
-  Precedes (row ∷ rows) key = row.0 < key
-
   -- none of the rows has this key
   abbrev pub Misses : List (ℕ × V) → ℕ → Type 0
   Misses rows key = is_some (row_at key rows) ≡ false
-
-  -- what a sorted table keeps of its run and its map: no key has a row in both
-  pub record IsTable (run far : List (ℕ × V)) : Type 0 where
-    pub run_ascends : IsAscending run
-    pub far_ascends : IsAscending far
-    pub are_apart : AreKeys (Misses run) far
-
-  -- it has at most one proof
-  pub IsTable-prop : (run far : List (ℕ × V)) → IsProp (IsTable run far)
-  IsTable-prop run far = hlevel (props, le_prop, IsStrictlySortedBy-prop)
-
-  -- the rows have none of these keys, from one to another
-  abbrev pub IsClear : List (ℕ × V) → (from to : ℕ) → Type 0
-  IsClear rows from to = (key : ℕ) → from ≤ key → key ≤ to → Misses rows key
-
-  -- it has at most one proof
-  pub IsClear-prop : (rows : List (ℕ × V)) (from to : ℕ) → IsProp (IsClear rows from to)
-  IsClear-prop rows from to = hlevel (props, le_prop)
 
 module _ {V A : Type 0} (answers : V → A → Type 0) (makes : V → Type 0) where
   -- what a visit of a key does: at a new key a row is added; else nothing changes, and the row that is there was asked

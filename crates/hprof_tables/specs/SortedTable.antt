@@ -1,5 +1,5 @@
 -- What a sorted table and its iterator show.
-use Rattle.std.specs.Prelude.{◌≡◌, ◌+◌, ◌++◌, ◌<◌, ◌≤◌, ◌⊎◌, ◌^◌, ℕ, List, length, Option, Some, None, slice_get, vec_capacity}
+use Rattle.std.specs.Prelude.{◌≡◌, ◌+◌, ◌++◌, ◌⊎◌, ◌^◌, ℕ, List, length, Option, Some, None, slice_get, vec_capacity}
 use Rattle.std.specs.Map.{values_of}
 use Rattle.hprof_tables.specs.declared.page.Page.{Page}
 use Rattle.hprof_tables.specs.declared.sorted_table.SortedTable.{SortedTable}

@@ -14,8 +14,8 @@ ghost use Rattle.hprof_tables.specs.Union.{AreApart, AreUnion};
 use crate::merging::{merge_into, push_all};
 use crate::page::{Cut, Page};
 use std::alloc::{AllocError, Global};
-use std::collections::btree_map::{Entry, Values};
 use std::collections::BTreeMap;
+use std::collections::btree_map::{Entry, Values};
 use std::mem;
 
 /// A visit of a key: a row that is there is asked, and one is made if there is none.

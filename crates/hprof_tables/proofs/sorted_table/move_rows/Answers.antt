@@ -60,7 +60,7 @@ loop-number-preserved-in-Some-get_mut g c =
     let old_len = now.rows.ok.0 in
     let new_len = c.push_all.new.all.ok.0 in
     let room : vec_len c.push_all.new.all
-        + length (rows_along (slice_set now.pages.items place.1 c.take_rows.new.self) (values_of c.next.new.self)) ≤ vec_capacity c.push_all.new.all =
+    + length (rows_along (slice_set now.pages.items place.1 c.take_rows.new.self) (values_of c.next.new.self)) ≤ vec_capacity c.push_all.new.all =
     omega arith in
     record {
       chain = (page.to + 1, taken.0);

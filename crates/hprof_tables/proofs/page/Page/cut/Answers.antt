@@ -1,4 +1,4 @@
-use Rattle.std.proofs.Common.{◌≡◌, ◌<◌, ◌-◌, ◌+◌, ℕ, List, take, drop, arith, rules, sym, subst, ◌∙◌}
+use Rattle.std.proofs.Common.{◌≡◌, ◌<◌, ◌-◌, ◌+◌, take, drop, arith, rules, sym, subst}
 use Rattle.hprof_tables.specs.PageRows.{IsPage}
 use Rattle.hprof_tables.proofs.SortedRows.{AreKeys-weaker}
 use Rattle.hprof_tables.proofs.PageRows.{page_above, page_below}

@@ -1,4 +1,4 @@
-use Rattle.std.proofs.Common.{◌≡◌, ◌<◌, ◌≤◌, ◌+◌, ℕ, length, arith, rules, sym, subst, inl, inr}
+use Rattle.std.proofs.Common.{◌≡◌, ◌<◌, ◌≤◌, length, arith, rules, inl, inr}
 use Rattle.std.proofs.lemmas.Bool.{cases_lt}
 use Rattle.hprof_tables.proofs.SortedRows.{AreKeys-weaker}
 use Rattle.hprof_tables.proofs.PageRows.{cut_within, end_above, keys_below_row, keys_from_row}
@@ -32,14 +32,14 @@ returns g c =
           absurd (c.if-place-len.false (omega arith))
     ] in
     let lt : half < length page.rows.items = elim c.if-place-eq0.branch [
-      then-place-eq0 w ↦ let none = w.half-is in omega arith
+      | then-place-eq0 w ↦ let none = w.half-is in omega arith
       | else-place-eq0 w ↦
           let is = w.half-is in
           let all : w.len-else-place-eq0.result ≡ length page.rows.items = search rules in
           omega arith
     ] in
     let first : half ≡ 0 → c.args.place ≡ 0 = elim c.if-place-eq0.branch [
-      then-place-eq0 w ↦ λ none. w.if-place-eq0.true
+      | then-place-eq0 w ↦ λ none. w.if-place-eq0.true
       | else-place-eq0 w ↦ λ none.
           let is = w.half-is in
           let all : w.len-else-place-eq0.result ≡ length page.rows.items = search rules in

@@ -1,4 +1,4 @@
-use Rattle.std.proofs.Common.{◌≤◌, ◌<◌, arith, subst}
+use Rattle.std.proofs.Common.{◌≤◌, arith, subst}
 use Rattle.hprof_tables.specs.SortedRows.{AreKeys}
 use Rattle.hprof_tables.proofs.SortedRows.{AreKeys-weaker}
 use Rattle.hprof_tables.proofs.page.Page.of.Goals as goal

@@ -1,6 +1,5 @@
-use Rattle.std.proofs.Common.{◌≡◌, ◌<◌, ℕ, List, length, ap, subst, sym, inl, inr, ◌∙◌, arith, rules}
+use Rattle.std.proofs.Common.{◌≡◌, ℕ, List, length, ap, subst, sym, inl, inr, ◌∙◌, rules}
 use Rattle.std.specs.Prelude.{slice_get}
-use Rattle.std.proofs.lemmas.Bool.{cases_lt}
 use Rattle.hprof_tables.specs.Pages.{HasKey}
 use Rattle.hprof_tables.specs.SortedRows.{row_at}
 use Rattle.hprof_tables.proofs.Pages.{listed-within}

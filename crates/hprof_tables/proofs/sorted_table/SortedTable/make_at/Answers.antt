@@ -1,4 +1,4 @@
-use Rattle.std.proofs.Common.{◌≡◌, ◌<◌, ◌+◌, ℕ, List, length, ap, sym, subst, ◌∙◌, arith, rules}
+use Rattle.std.proofs.Common.{◌<◌, ◌+◌, ℕ, List, length, ap, sym, subst, ◌∙◌, rules}
 use Rattle.std.specs.Map.{values_of}
 use Rattle.hprof_tables.specs.Pages.{rows_along}
 use Rattle.hprof_tables.specs.SortedTable.{HasRoomIn}

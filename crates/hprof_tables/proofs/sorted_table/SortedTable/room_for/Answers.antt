@@ -1,4 +1,4 @@
-use Rattle.std.proofs.Common.{◌≡◌, ℕ, List, length, ap, subst, sym, inl, inr, ◌∙◌}
+use Rattle.std.proofs.Common.{ℕ, List, length, ap, subst, sym, inl, inr, ◌∙◌}
 use Rattle.hprof_tables.specs.declared.sorted_table.SortedTable.{SortedTable}
 use Rattle.hprof_tables.specs.SortedTable.{HasRoomIn, LacksRoomThere}
 use Rattle.hprof_tables.proofs.Pages.{get_replaced, listed-replaced, rows-replaced}
@@ -40,12 +40,12 @@ returns-in_err-make_room-clause-full g c =
     let at = spot_at now.pages.items c.args.key spot page c.in_ok-spot.ensures.ok c.index_mut.ensures.value in
     at_err c.from_residual-in_err-make_room.result _ (elim c.cut_spot.ensures.same [
       | inl same ↦ inr (inl (subst (λ (t : SortedTable g.row.V.Denot). LacksRoomThere t.pages.items c.args.key) same (record {
-          number = spot.page;
-          page = page;
-          there = at.0;
-          has = at.1;
-          lacks = inl c.in_err-make_room.ensures.full;
-        })))
+        number = spot.page;
+        page = page;
+        there = at.0;
+        has = at.1;
+        lacks = inl c.in_err-make_room.ensures.full;
+      })))
       | inr lacks ↦ lacks
     ])
 
