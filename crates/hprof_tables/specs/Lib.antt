@@ -2,6 +2,7 @@ pub mod SortedRows
 pub mod Union
 pub mod GapRun
 pub mod SortedTable
+pub mod PlacedRows
 pub mod Relation
 pub mod Spans
 pub mod StatedBytes

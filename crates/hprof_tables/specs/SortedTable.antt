@@ -1,5 +1,5 @@
 -- What a sorted table and its iterator show.
-use Rattle.std.specs.Prelude.{ℕ, List, [], ◌∷◌, ◌++◌, Option, Some, None, reverse}
+use Rattle.std.specs.Prelude.{◌≡◌, ℕ, List, [], ◌∷◌, ◌++◌, Option, Some, None, reverse, vec_capacity}
 use Rattle.std.specs.Borrow.{Bor}
 use Rattle.hprof_tables.specs.declared.sorted_table.SortedTable.{SortedTable}
 use Rattle.hprof_tables.specs.declared.sorted_table.Entries.{Entries}
@@ -23,6 +23,10 @@ module _ {V : Type 0} where
   -- the rows that are still to come
   abbrev pub entries_left : Entries V → List (ℕ × V)
   entries_left entries = merged (run_left entries) (with_first entries.first entries.far)
+
+  -- it has space for no row
+  abbrev pub HasNoSpace : SortedTable V → Type 0
+  HasNoSpace table = (vec_capacity table.run.low ≡ 0) × (vec_capacity table.run.high ≡ 0)
 
   -- a row under the key may need memory: it does not go behind all others of the run, or there is no room for it
   abbrev pub LacksRoom : SortedTable V → ℕ → Type 0

@@ -1,11 +1,11 @@
 //! A table of rows by key, which takes rows that come near one another at the cost of a push.
 
 ghost use Rattle.std.specs.Prelude.{◌≡◌, ◌+◌, ◌↔◌, ◌≤◌, ◌⊎◌, ℕ, List, [], length, IsTrue, IfOk, IfSome, OnErr, None, ◌<◌, vec_len};
-ghost use Rattle.std.specs.Prelude.{vec_capacity, true, false, is_some};
+ghost use Rattle.std.specs.Prelude.{true, false, is_some};
 ghost use Rattle.std.specs.Ordering.{nat_cmp};
 ghost use Rattle.std.specs.BTreeMap.{insert_entry};
 ghost use Rattle.std.specs.Option.{option_copied};
-ghost use Rattle.hprof_tables.specs.SortedRows.{IsTable, IsTable-prop, IsClear, IsClear-prop, IsAscending, IsListOfBoth, LeavesUnmade, Misses};
+ghost use Rattle.hprof_tables.specs.SortedRows.{IsTable, IsTable-prop, IsClear, IsClear-prop, IsAscending, LeavesUnmade, Misses};
 ghost use Rattle.hprof_tables.specs.SortedRows.{Precedes, row_at, Visits};
 ghost use Rattle.hprof_tables.specs.GapRun.{IsGapAt, run_rows};
 ghost use Rattle.hprof_tables.specs.Union.{AreApart, AreUnion};
@@ -65,12 +65,12 @@ pub(crate) struct SortedTable<V> {
 }
 
 impl<V> SortedTable<V> {
-    ghost use Rattle.hprof_tables.specs.SortedTable.{entries_of, entries_left, LacksRoom};
+    ghost use Rattle.hprof_tables.specs.SortedTable.{entries_of, entries_left, HasNoSpace, LacksRoom};
 
     /// Returns a table with no rows. It takes no memory yet.
     pub(crate) fn new(alloc: Global) -> Self
         ensures none { entries_of result ≡ [] }
-        ensures no_room { (vec_capacity result.run.low ≡ 0) × (vec_capacity result.run.high ≡ 0) }
+        ensures no_room { HasNoSpace result }
     {
         SortedTable {
             run: GapRun::new(alloc),
@@ -271,7 +271,7 @@ impl<V> SortedTable<V> {
     /// Returns the rows, in order of key.
     pub(crate) fn iter(&self) -> Entries<'_, V>
         ensures all { entries_left result ≡ entries_of self.now }
-        ensures both { IsListOfBoth (run_rows self.now.run) self.now.far.entries (entries_of self.now) }
+        ensures ascending { IsAscending (entries_of self.now) }
     {
         let mut far = self.far.iter();
         let first = far.next();

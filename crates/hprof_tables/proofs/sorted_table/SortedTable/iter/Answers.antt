@@ -1,12 +1,12 @@
 use Rattle.std.proofs.Common.{rules}
 use Rattle.hprof_tables.specs.GapRun.{run_rows}
-use Rattle.hprof_tables.proofs.SortedTable.{table-both}
+use Rattle.hprof_tables.proofs.SortedTable.{table-ascending}
 use Rattle.hprof_tables.proofs.sorted_table.SortedTable.iter.Goals as goal
 
-pub returns-clause-both : goal.returns-clause-both
-returns-clause-both g c =
+pub returns-clause-ascending : goal.returns-clause-ascending
+returns-clause-ascending g c =
     let table = c.args.self.now in
-    table-both (run_rows table.run) table.far.entries table.sound
+    table-ascending (run_rows table.run) table.far.entries table.sound
 
 pub returns-clause-all : goal.returns-clause-all
 returns-clause-all g c = search rules
