@@ -177,9 +177,11 @@ visit_new answers place key old new (Some answer) v none = let e : None ≡ Some
 -- ---- numbers
 
 module _ {X : Type 0} where
-  pub numbered-step : (first : ℕ) (lent : List (ℕ × X)) (row : ℕ × X) (done : List (ℕ × ℕ))
-      → (done ++ (row.0, first) ∷ []) ++ numbered (first + 1) lent ≡ done ++ numbered first (row ∷ lent)
-  numbered-step first lent row done = append_assoc done ((row.0, first) ∷ []) (numbered (first + 1) lent)
+  -- places that were counted from the number of rows on
+  pub counted : {V : Type 0} (old rows : List V) (lent these : List (ℕ × X)) (fresh : List (ℕ × ℕ)) (first len : ℕ)
+      → fresh ≡ numbered first these → first ≡ len → len ≡ length rows → rows ≡ old → these ≡ lent → fresh ≡ numbered (length old) lent
+  counted old rows lent these fresh first len put start count same all =
+      put ∙ ap (λ (n : ℕ). numbered n these) (start ∙ count ∙ ap length same) ∙ ap (numbered (length old)) all
 
   numbered_keys : (first : ℕ) (lent : List (ℕ × X)) → keys_of (numbered first lent) ≡ keys_of lent
   numbered_keys first [] = refl
