@@ -26,6 +26,18 @@ returns-then-is_empty-clause-ok g c =
     union_missing (contents_of content rows) (contents_of content others) missing (contents_of content rows) are
     (nothing_taken (contents_of content rows) missing up (length-map c.in_ok-missing.missing.items (λ row. (row.0, content row.1.now)) ∙ empty))
 
+pub returns-clause-ok : goal.returns-clause-ok
+returns-clause-ok g c =
+    let content = g.V.Content.content in
+    let rows = rows_of c.args.self.now in
+    let others = rows_of c.args.other.now in
+    let missing = contents_of (λ row. content row.now) c.in_ok-missing.missing.items in
+    let are = missing_of content _ _ rows others _ c.rows.ensures.all c.rows-2.ensures.all c.in_ok-missing.ensures.ok in
+    IfOk-weaker c.take_rows.result _ _
+    (λ done union. union_missing (contents_of content rows) (contents_of content others) missing
+    (contents_of content (rows_of c.take_rows.new.self)) are union)
+    c.take_rows.ensures.ok
+
 pub returns-clause-absent : goal.returns-clause-absent
 returns-clause-absent g c =
     let content = g.V.Content.content in
