@@ -1,5 +1,5 @@
 -- Rows that stand in a list, by their places: the laws of one list, of one row more, and of rows that are taken.
-use Rattle.std.proofs.Common.{◌≡◌, ◌≢◌, ◌<◌, ◌≤◌, ◌+◌, ◌++◌, ℕ, zero, suc, List, [], ◌∷◌, length, map, Option, Some, None, slice_get}
+use Rattle.std.proofs.Common.{◌≡◌, ◌≢◌, ◌<◌, ◌≤◌, ◌+◌, ◌++◌, ℕ, zero, suc, List, [], ◌∷◌, length, map, get_or, Option, Some, None, slice_get}
 use Rattle.std.proofs.Common.{Result, Ok, Err, refl, sym, ap, subst, ◌∙◌, inl, inr, arith}
 use Rattle.std.specs.Prelude.{IsOk, is_ok, if◌then◌else◌}
 use Rattle.std.specs.declared.cmp.Ordering.TheVariants.{Less, Equal, Greater}
@@ -47,10 +47,19 @@ module _ {V : Type 0} where
 
   pub rows_at-first : (rows : List V) (entry : ℕ × ℕ) (entries : List (ℕ × ℕ)) (row : V) → slice_get rows entry.1 ≡ Some row
       → rows_at rows (entry ∷ entries) ≡ (entry.0, row) ∷ rows_at rows entries
+  unfolding rows_at
   rows_at-first rows entry entries row e = ap (λ (found : Option V). with_row entry.0 found (rows_at rows entries)) e
+
+  -- the first of them
+  pub placed-first : (rows : List V) (entries : List (ℕ × ℕ)) (entry : ℕ × ℕ) (rest : List (ℕ × ℕ)) (other : V) → AreWithin rows entries
+      → entries ≡ entry ∷ rest → rows_at rows entries ≡ (entry.0, get_or rows entry.1 other) ∷ rows_at rows rest
+  placed-first rows entries entry rest other within e =
+      let there : AreWithin rows (entry ∷ rest) = subst (AreWithin rows) e within in
+      ap (rows_at rows) e ∙ rows_at-first rows entry rest (get_or rows entry.1 other) (slice_get-get_or rows entry.1 other there.0)
 
   pub placed_row : (key : ℕ) (rows : List V) (entries : List (ℕ × ℕ)) → AreWithin rows entries
       → row_at key (rows_at rows entries) ≡ option_and_then (slice_get rows) (row_at key entries)
+  unfolding rows_at
   placed_row key rows [] within = refl
   placed_row key rows (entry ∷ entries) within =
       let there = row_there rows entry.1 within.0 in
@@ -66,6 +75,7 @@ module _ {V : Type 0} where
       ]
 
   placed_keys : (rows : List V) (entries : List (ℕ × ℕ)) → AreWithin rows entries → keys_of (rows_at rows entries) ≡ keys_of entries
+  unfolding rows_at
   placed_keys rows [] within = refl
   placed_keys rows (entry ∷ entries) within =
       let there = row_there rows entry.1 within.0 in
@@ -110,6 +120,7 @@ module _ {V : Type 0} where
 
   pub placed-append : (rows more : List V) (entries : List (ℕ × ℕ)) → AreWithin rows entries
       → rows_at (rows ++ more) entries ≡ rows_at rows entries
+  unfolding rows_at
   placed-append rows more [] within = refl
   placed-append rows more (entry ∷ entries) within =
       ap (λ (found : Option V). with_row entry.0 found (rows_at (rows ++ more) entries)) (slice_get-append rows more entry.1 within.0)
@@ -127,6 +138,7 @@ module _ {V : Type 0} where
   placed-insert : (rows : List V) (entries : List (ℕ × ℕ)) (key place : ℕ) (row : V) → AreWithin rows entries
       → slice_get rows place ≡ Some row
       → rows_at rows (insert_entry nat_cmp entries key place) ≡ insert_entry nat_cmp (rows_at rows entries) key row
+  unfolding rows_at
   placed-insert rows [] key place row within e = rows_at-first rows (key, place) [] row e
   placed-insert rows (first ∷ entries) key place row within e =
       let there = row_there rows first.1 within.0 in
@@ -205,6 +217,7 @@ module _ {V X : Type 0} (content : V → List ℕ) (other : X → List ℕ) wher
   numbered-contents : (all old copied : List V) (first : ℕ) (lent : List (ℕ × X)) → all ≡ old ++ copied → first ≡ length old
       → map content copied ≡ map (λ row. other row.1) lent
       → contents_of content (rows_at all (numbered first lent)) ≡ contents_of other lent
+  unfolding rows_at
   numbered-contents all old [] first [] e start same = refl
   numbered-contents all old [] first (row ∷ lent) e start same = absurd cc
   numbered-contents all old (copy ∷ copied) first [] e start same = absurd cc

@@ -11,7 +11,7 @@ module _ {V : Type 0} where
   with_row key (Some row) rows = (key, row) ∷ rows
 
   -- the keys with the rows that stand at their places; a key whose place is beyond the list has no row
-  abbrev pub rows_at : List V → List (ℕ × ℕ) → List (ℕ × V)
+  unfoldable pub rows_at : List V → List (ℕ × ℕ) → List (ℕ × V)
   rows_at rows [] = []
   rows_at rows (entry ∷ entries) = with_row entry.0 (slice_get rows entry.1) (rows_at rows entries)
 
