@@ -36,36 +36,6 @@ module _ {V : Type 0} (content : V → List ℕ) where
 
   -- ---- rows that were missing
 
-  pub missing_ascend : (rows others : List (ℕ × List ℕ)) (fresh : List (ℕ × V)) (missing : List (ℕ × List ℕ))
-      → AreMissing rows others missing
-      → contents_of content fresh ≡ missing → IsAscending fresh
-  missing_ascend rows others fresh missing are e = contents_down fresh (subst IsAscending (sym e) are.ascends)
-
-  pub missing_apart : (rows fresh : List (ℕ × V)) (others missing : List (ℕ × List ℕ))
-      → AreMissing (contents_of content rows) others missing
-      → contents_of content fresh ≡ missing → AreApart rows fresh
-  missing_apart rows fresh others missing are e key = by_row (row_at key rows) refl
-    where
-      by_row : (found : Option V) → row_at key rows ≡ found → (row_at key rows ≡ None) ⊎ (row_at key fresh ≡ None)
-      by_row None is = inl is
-      by_row (Some row) is = inr (map-none (row_at key fresh)
-          (sym (contents-row key fresh) ∙ ap (λ (l : List (ℕ × List ℕ)). row_at key l) e ∙ are.each key
-          ∙ ap (λ (found : Option (List ℕ)). only_other found (row_at key others)) (contents-row key rows ∙ ap (option_map content) is)))
-
-  -- the rows and those that they lacked are those of both
-  pub missing_union : (rows fresh all : List (ℕ × V)) (others missing : List (ℕ × List ℕ))
-      → AreMissing (contents_of content rows) others missing
-      → contents_of content fresh ≡ missing → AreUnion rows fresh all → AreUnion (contents_of content rows) others (contents_of content all)
-  missing_union rows fresh all others missing are e union = record {
-    ascends = contents_up all union.ascends;
-    each = λ key.
-        contents-row key all ∙ ap (option_map content) (union.each key) ∙ or-map (row_at key rows) (row_at key fresh)
-        ∙ ap (λ (found : Option (List ℕ)). option_or found (option_map content (row_at key fresh))) (sym (contents-row key rows))
-        ∙ ap (option_or (row_at key (contents_of content rows)))
-        (sym (contents-row key fresh) ∙ ap (λ (l : List (ℕ × List ℕ)). row_at key l) e ∙ are.each key)
-        ∙ or_only (row_at key (contents_of content rows)) (row_at key others);
-  }
-
   -- rows that were missing of what iterators had left
   pub missing_of : (left other_left rows others : List (ℕ × V)) (missing : List (ℕ × List ℕ)) → left ≡ rows → other_left ≡ others
       → AreMissing (contents_of content left) (contents_of content other_left) missing

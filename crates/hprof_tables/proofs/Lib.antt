@@ -9,6 +9,7 @@ pub mod Merged
 pub mod Unions
 pub mod Contents
 pub mod Taking
+pub mod PlacedRows
 pub mod Missing
 pub mod SameTables
 pub mod Places

@@ -4,6 +4,7 @@ pub mod PageRows
 pub mod Page
 pub mod Pages
 pub mod SortedTable
+pub mod PlacedRows
 pub mod Relation
 pub mod Spans
 pub mod StatedBytes

@@ -1,11 +1,12 @@
 //! A table of rows by key.
 
-ghost use Rattle.std.specs.Prelude.{◌≡◌, ◌<◌, ℕ, List, [], length, IfOk, OnErr, IsTrue, ◌↔◌, ◌⊎◌, ⊤, None, vec_capacity};
+ghost use Rattle.std.specs.Prelude.{◌≡◌, ◌<◌, ◌+◌, ◌^◌, ℕ, List, [], length, map, IfOk, OnErr, IsTrue, ◌↔◌, ◌⊎◌, ⊤, None};
 ghost use Rattle.std.specs.Option.{option_copied};
 ghost use Rattle.std.specs.Ordering.{nat_cmp};
-ghost use Rattle.std.specs.BTreeMap.{is_at};
+ghost use Rattle.std.specs.BTreeMap.{is_at, insert_entry};
 ghost use Rattle.std.specs.Map.{lookup};
-ghost use Rattle.hprof_tables.specs.Relation.{contents_of};
+ghost use Rattle.hprof_tables.specs.PlacedRows.{AreWithin, AreWithin-prop, numbered};
+ghost use Rattle.hprof_tables.specs.SortedTable.{entries_of};
 
 use crate::content::{Content, Made, Statement};
 use crate::rows::Rows;
@@ -24,66 +25,81 @@ pub enum Stated {
     Differs,
 }
 
-/// A statement that visits its key: it is compared with the row that is there, and becomes one if there is none.
-#[derive(Drop)]
-struct Stating<T> {
-    statement: T,
-    alloc: Global,
+/// A visit that leaves the place of a row under its key.
+#[derive(Clone, Copy)]
+struct Placing {
+    place: usize,
 }
 
-impl<V: Content, T: Statement<V> + Drop> Visit<V> for Stating<T> {
-    type Answer = bool;
+impl Visit<usize> for Placing {
+    type Answer = ();
 
-    // Each row stands in the table, with all that it has.
+    // A place stands in the table.
     type Room = ();
 
     ghost held = { λ _. [] };
 
-    ghost answers = { λ stating _ row same. IsTrue same ↔ (V.content row ≡ T.content stating.statement) };
+    ghost answers = { λ _ _ _ _. ⊤ };
 
-    ghost makes = { λ stating _ row _. V.content row ≡ T.content stating.statement };
+    ghost makes = { λ placing _ place _. place ≡ placing.place };
 
-    ghost refuses = { λ stating _. T.refuses stating.statement };
+    ghost refuses = { λ _ _. ⊥ };
 
     ghost grows = { λ _ _. ⊤ };
 
-    fn ask(self, row: &V, _room: &()) -> bool {
-        self.statement.matches(row)
-    }
+    fn ask(self, _place: &usize, _room: &()) {}
 
-    fn make(self, _room: &mut ()) -> Result<V, AllocError> {
-        let Stating { statement, alloc } = self;
-        statement.into_row(alloc)
+    fn make(self, _room: &mut ()) -> Result<usize, AllocError> {
+        Ok(self.place)
     }
 }
 
-/// Returns copies of rows. If there is no row, no memory is needed.
-fn copies<V: Content + Drop>(
+/// Returns the keys of rows with places that count up from the first one.
+fn number<V>(
     alloc: Global,
-    lent: Vec<(u64, &V)>,
-) -> Result<Vec<(u64, V)>, AllocError>
-    ensures ok { IfOk result (λ rows. contents_of V.content rows.items ≡ contents_of (λ row. V.content row.now) lent.entry.items) }
-    ensures some { OnErr result (0 < length lent.entry.items) }
+    first: usize,
+    lent: &[(u64, &V)],
+) -> Result<Vec<(u64, usize)>, AllocError>
+    requires { first + length lent.now < 2 ^ 64 }
+    ensures { IfOk result (λ places. places.items ≡ numbered first lent.now) }
+{
+    let mut places = Vec::new(alloc);
+    places.reserve_exact(lent.len())?;
+    let mut place = first;
+    for row in lent {
+        places.push((row.0, place))?;
+        place += 1;
+    }
+    Ok(places)
+}
+
+/// Returns copies of rows.
+fn copies<V: Content + Drop>(alloc: Global, lent: Vec<(u64, &V)>) -> Result<Vec<V>, AllocError>
+    ensures { IfOk result (λ rows. map V.content rows.items ≡ map (λ row. V.content row.1.now) lent.entry.items) }
 {
     let mut rows = Vec::new(alloc);
     rows.reserve_exact(lent.len())?;
-    for (key, row) in lent {
-        rows.push((key, V::copied(row, alloc)?))?;
+    for (_key, row) in lent {
+        rows.push(V::copied(row, alloc)?)?;
     }
     Ok(rows)
 }
 
 /// A table of rows by key, in order of key. No key has two rows.
 #[derive(Drop)]
-pub struct Relation<V: Content + Drop> {
-    rows: SortedTable<V>,
+pub struct Relation<V> {
+    /// The rows, in the order in which they came.
+    rows: Vec<V>,
+    /// The place of each row, by its key.
+    places: SortedTable<usize>,
     alloc: Global,
+    ghost sound: { AreWithin rows.items (entries_of places) } by { AreWithin-prop rows.items (entries_of places) },
 }
 
 impl<V: Content + Drop> Relation<V> {
-    ghost use Rattle.hprof_tables.specs.Relation.{rows_of, States};
+    ghost use Rattle.hprof_tables.specs.Relation.{contents_of, rows_of, States};
     ghost use Rattle.hprof_tables.specs.SideBySide.{IsFirstDifference, LacksOne};
-    ghost use Rattle.hprof_tables.specs.Union.{AreUnion};
+    ghost use Rattle.hprof_tables.specs.Union.{AreApart, AreUnion};
     ghost use Rattle.hprof_tables.specs.Rows.{rows_left};
     ghost use Rattle.hprof_tables.specs.SortedRows.{IsAscending};
     ghost use Rattle.hprof_tables.specs.Relation.{HasNoRoom, MayNeedMemory};
@@ -94,7 +110,8 @@ impl<V: Content + Drop> Relation<V> {
         ensures no_room { HasNoRoom result }
     {
         Relation {
-            rows: SortedTable::new(alloc),
+            rows: Vec::new(alloc),
+            places: SortedTable::new(alloc),
             alloc,
         }
     }
@@ -120,29 +137,47 @@ impl<V: Content + Drop> Relation<V> {
         ensures absent { OnErr result (lookup (is_at (nat_cmp key)) (rows_of self.old) ≡ None) }
         ensures full { OnErr result (MayNeedMemory self.old key ⊎ T.refuses statement) }
     {
-        let stating = Stating {
-            statement,
-            alloc: self.alloc,
-        };
-        match self.rows.visit(key, stating, &mut ())? {
-            None => Ok(Stated::New),
-            Some(true) => Ok(Stated::Same),
-            Some(false) => Ok(Stated::Differs),
+        match self.get(key) {
+            None => {
+                self.add(key, statement)?;
+                Ok(Stated::New)
+            }
+            Some(row) if statement.matches(row) => Ok(Stated::Same),
+            Some(_) => Ok(Stated::Differs),
         }
+    }
+
+    /// Adds the row of a statement under a key that is new. If memory runs out, no row changes.
+    fn add<T: Statement<V> + Drop>(&mut self, key: u64, statement: T) -> Result<(), AllocError>
+        requires { lookup (is_at (nat_cmp key)) (rows_of self.old) ≡ None }
+        ensures ok { IfOk result (λ _. (row : V) × (V.content row ≡ T.content statement)
+            × (rows_of self.new ≡ insert_entry nat_cmp (rows_of self.old) key row)) }
+        ensures err { OnErr result (rows_of self.new ≡ rows_of self.old) }
+        ensures full { OnErr result (MayNeedMemory self.old key ⊎ T.refuses statement) }
+    {
+        self.rows.reserve(1)?;
+        let row = statement.into_row(self.alloc)?;
+        let placing = Placing {
+            place: self.rows.len(),
+        };
+        self.places.visit(key, placing, &mut ())?;
+        self.rows.push_reserved(row);
+        Ok(())
     }
 
     /// Returns the row under a key.
     pub fn get(&self, key: u64) -> Option<&V>
         ensures { option_copied result ≡ lookup (is_at (nat_cmp key)) (rows_of self.now) }
     {
-        self.rows.get(key)
+        let place = self.places.get(key)?;
+        Some(&self.rows[*place])
     }
 
     /// Returns the number of rows.
     pub fn len(&self) -> usize
         ensures { result ≡ length (rows_of self.now) }
     {
-        self.rows.len()
+        self.places.len()
     }
 
     /// Returns whether both have the same keys with the same contents.
@@ -159,6 +194,24 @@ impl<V: Content + Drop> Relation<V> {
         first_difference(self.rows(), other.rows())
     }
 
+    /// Takes copies of rows whose keys are new. If memory runs out, no row changes.
+    fn take_rows(&mut self, lent: Vec<(u64, &V)>) -> Result<(), AllocError>
+        requires ascending { IsAscending (contents_of (λ row. V.content row.now) lent.items) }
+        requires apart { AreApart (contents_of V.content (rows_of self.old)) (contents_of (λ row. V.content row.now) lent.items) }
+        ensures ok { IfOk result (λ _. AreUnion (contents_of V.content (rows_of self.old))
+            (contents_of (λ row. V.content row.now) lent.entry.items) (contents_of V.content (rows_of self.new))) }
+        ensures err { OnErr result (rows_of self.new ≡ rows_of self.old) }
+    {
+        self.rows.reserve(lent.len())?;
+        let fresh = number(self.alloc, self.rows.len(), &lent)?;
+        let mut copied = copies(self.alloc, lent)?;
+        self.places.merge(self.alloc, fresh)?;
+        let Ok(()) = self.rows.append(&mut copied) else {
+            unreachable!()
+        };
+        Ok(())
+    }
+
     /// Takes the rows of another whose keys are new. Both are gone over side by side. If memory runs out, nothing changes. No memory is
     /// needed if no key is new.
     pub fn join(&mut self, other: &Self) -> Result<(), AllocError>
@@ -170,8 +223,10 @@ impl<V: Content + Drop> Relation<V> {
             (contents_of V.content (rows_of other.now)) → ⊥) → self.new ≡ self.old) }
     {
         let missing = missing_rows(self.alloc, self.rows(), other.rows())?;
-        let fresh = copies(self.alloc, missing)?;
-        self.rows.merge(self.alloc, fresh)
+        if missing.is_empty() {
+            return Ok(());
+        }
+        self.take_rows(missing)
     }
 
     /// Returns the rows, in order of key.
@@ -179,6 +234,6 @@ impl<V: Content + Drop> Relation<V> {
         ensures all { rows_left result ≡ rows_of self.now }
         ensures ascending { IsAscending (rows_left result) }
     {
-        Rows::new(self.rows.iter())
+        Rows::new(self.places.iter(), self.rows.as_slice())
     }
 }

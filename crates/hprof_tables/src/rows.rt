@@ -1,22 +1,31 @@
 //! The rows of a table, one after the other.
 
+ghost use Rattle.hprof_tables.specs.PlacedRows.{AreWithin, AreWithin-prop};
+ghost use Rattle.hprof_tables.specs.SortedTable.{entries_left};
+
 use crate::sorted_table::Entries;
 
 /// The rows of a table with their keys, in order of key.
 #[derive(Drop)]
 pub struct Rows<'a, V> {
-    entries: Entries<'a, V>,
+    /// The keys that are still to come, with the places of their rows.
+    entries: Entries<'a, usize>,
+    /// The rows.
+    rows: &'a [V],
+    ghost sound: { AreWithin rows.now (entries_left entries) } by { AreWithin-prop rows.now (entries_left entries) },
 }
 
 impl<'a, V> Rows<'a, V> {
     ghost use Rattle.std.specs.Prelude.{◌≡◌};
+    ghost use Rattle.hprof_tables.specs.PlacedRows.{rows_at};
     ghost use Rattle.hprof_tables.specs.Rows.{rows_left};
-    ghost use Rattle.hprof_tables.specs.SortedTable.{entries_left};
 
-    pub(crate) fn new(entries: Entries<'a, V>) -> Self
-        ensures { rows_left result ≡ entries_left entries.entry }
+    /// Returns the rows that stand at the places of entries.
+    pub(crate) fn new(entries: Entries<'a, usize>, rows: &'a [V]) -> Self
+        requires { AreWithin rows.now (entries_left entries) }
+        ensures { rows_left result ≡ rows_at rows.entry.now (entries_left entries.entry) }
     {
-        Rows { entries }
+        Rows { entries, rows }
     }
 }
 
@@ -32,6 +41,7 @@ impl<'a, V> Iterator for Rows<'a, V> {
 
     #[inline(always)]
     fn next(&mut self) -> Option<(u64, &'a V)> {
-        self.entries.next()
+        let (key, place) = self.entries.next()?;
+        Some((key, &self.rows[*place]))
     }
 }

@@ -1,4 +1,3 @@
-use Rattle.std.proofs.Common.{rules}
 use Rattle.hprof_tables.proofs.Contents.{contents_up}
 use Rattle.hprof_tables.proofs.relation.Relation.first_difference.Goals as goal
 
@@ -7,6 +6,3 @@ first_difference-requires-clause-ascending g c = contents_up g.V.Content.content
 
 pub first_difference-requires-clause-others_ascending : goal.first_difference-requires-clause-others_ascending
 first_difference-requires-clause-others_ascending g c = contents_up g.V.Content.content _ c.rows-2.ensures.ascending
-
-pub returns : goal.returns
-returns g c = search rules

@@ -1,0 +1,33 @@
+use Rattle.std.proofs.Common.{◌++◌, ◌∷◌, [], List, length, ap, ◌∙◌}
+use Rattle.hprof_tables.specs.SortedTable.{entries_of}
+use Rattle.hprof_tables.proofs.PlacedRows.{added-rows, added-within, placed_none, visit_new}
+use Rattle.hprof_tables.proofs.relation.Relation.add.Goals as goal
+
+pub invariant_of-self-2 : goal.invariant_of-self-2
+invariant_of-self-2 g c =
+    let old = c.args.self.now in
+    let row = c.in_ok-row.row in
+    let place = c.len.result in
+    let rows = c.push_reserved.ensures.items ∙ ap (λ (l : List g.row.V.Denot). l ++ row ∷ []) c.reserve.ensures.items in
+    let last = c.len.ensures ∙ c.reserve.new.self.ok.0 ∙ ap (λ (l : List g.row.V.Denot). length l) c.reserve.ensures.items in
+    let put = visit_new _ place c.args.key (entries_of old.places) (entries_of c.visit.new.self) c.in_ok-visit.field-0 c.in_ok-visit.ensures.ok
+    (placed_none old.rows.items (entries_of old.places) c.args.key old.sound c.requires) in
+    record {
+      sound = added-within old.rows.items c.push_reserved.new.self.items (entries_of old.places) (entries_of c.visit.new.self) c.args.key
+          place row old.sound rows last put;
+    }
+
+pub returns-clause-ok : goal.returns-clause-ok
+returns-clause-ok g c =
+    let old = c.args.self.now in
+    let row = c.in_ok-row.row in
+    let place = c.len.result in
+    let rows = c.push_reserved.ensures.items ∙ ap (λ (l : List g.row.V.Denot). l ++ row ∷ []) c.reserve.ensures.items in
+    let last = c.len.ensures ∙ c.reserve.new.self.ok.0 ∙ ap (λ (l : List g.row.V.Denot). length l) c.reserve.ensures.items in
+    let put = visit_new _ place c.args.key (entries_of old.places) (entries_of c.visit.new.self) c.in_ok-visit.field-0 c.in_ok-visit.ensures.ok
+    (placed_none old.rows.items (entries_of old.places) c.args.key old.sound c.requires) in (
+      row,
+      c.in_ok-row.ensures.row,
+      added-rows old.rows.items c.push_reserved.new.self.items (entries_of old.places) (entries_of c.visit.new.self) c.args.key
+          place row old.sound rows last put,
+    )
