@@ -12,7 +12,7 @@ ghost use Rattle.hprof_edges.specs.Edges.{IsEdge};
 use crate::collect::Collect;
 use crate::of_identifier::put_of_class;
 use crate::of_object::object_edges;
-use hprof_heap::Heap;
+use hprof_heap::{Finger, Heap};
 use hprof_known_layouts::{KnownLayouts, Reference};
 use hprof_lookup::{find_object_near, id_size};
 use std::alloc::AllocError;
@@ -22,20 +22,20 @@ use std::alloc::AllocError;
 #[derive(Clone, Copy, Debug, PartialEq, Eq)]
 pub struct Near {
     /// The place of the class dump.
-    pub class: usize,
+    pub class: Finger,
     /// The place of the object dump.
-    pub object: usize,
+    pub object: Finger,
 }
 
 impl Near {
     /// Returns the first places.
     pub fn start() -> Near
-        ensures class { result.class ≡ 0 }
-        ensures object { result.object ≡ 0 }
+        ensures class { (result.class.page ≡ 0) × (result.class.place ≡ 0) }
+        ensures object { (result.object.page ≡ 0) × (result.object.place ≡ 0) }
     {
         Near {
-            class: 0,
-            object: 0,
+            class: Finger::start(),
+            object: Finger::start(),
         }
     }
 }
@@ -45,7 +45,7 @@ fn put_of_known_object<C: Collect>(
     heap: &Heap,
     known: &KnownLayouts,
     id: u64,
-    near: &mut usize,
+    near: &mut Finger,
     references: &mut Vec<Reference>,
     into: &mut C,
 ) -> Result<(), AllocError>
@@ -86,7 +86,7 @@ pub fn known_object_edges<C: Collect>(
     heap: &Heap,
     known: &KnownLayouts,
     id: u64,
-    near: &mut usize,
+    near: &mut Finger,
     references: &mut Vec<Reference>,
     into: &mut C,
 ) -> Result<(), AllocError>

@@ -14,7 +14,7 @@ use crate::of_class::class_edges;
 use crate::of_object::{array_edges, edge_to_class};
 use crate::putting::put_values;
 use crate::sorting::sort_edges;
-use hprof_heap::Heap;
+use hprof_heap::{Finger, Heap};
 use hprof_known_layouts::Wanted;
 use hprof_layouts::{Fields, fields};
 use hprof_lookup::{ObjectDump, find_class_near, find_object, holds_of_heap};
@@ -24,7 +24,7 @@ use std::alloc::{AllocError, Global};
 pub(crate) fn put_of_class<C: Collect>(
     heap: &Heap,
     id: u64,
-    near: &mut usize,
+    near: &mut Finger,
     into: &mut C,
 ) -> Result<(), AllocError>
     ensures holds { OnOk result ((edges : List Edge) → C.holds into.old edges

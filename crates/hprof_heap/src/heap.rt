@@ -13,7 +13,7 @@ ghost use Rattle.hprof_heap.specs.Tables.{rows_in_tables};
 use crate::tables::Tables;
 use hprof_items::Fact;
 use hprof_rows::{Facts, RootSet, SubRows, Table, kept_fact, spelled_fact};
-use hprof_tables::{BytesTable, Relation};
+use hprof_tables::{BytesTable, Finger, Relation};
 use hprof_values::IdSize;
 use std::alloc::Global;
 
@@ -140,13 +140,13 @@ impl Heap {
         ensures value { option_map value_of result ≡ find (has_key (keys.Class id)) (heap_of self.now).facts }
         ensures lists { IfSome result (ListsHave (heap_of self.now).ids) }
     {
-        self.class_near(id, &mut 0)
+        self.class_near(id, &mut Finger::start())
     }
 
-    /// Returns the class with that identifier, which is looked for near a place. If it is found, its place is noted there, so that classes
-    /// that are asked for in order of their identifiers are found one behind the other.
+    /// Returns the class with that identifier, which is looked for near a finger. Its place is noted there, so that classes that are asked for
+    /// in order of their identifiers are found one behind the other.
     #[inline(always)]
-    pub fn class_near(&self, id: u64, near: &mut usize) -> Option<Fact<'_>>
+    pub fn class_near(&self, id: u64, near: &mut Finger) -> Option<Fact<'_>>
         ensures value { option_map value_of result ≡ find (has_key (keys.Class id)) (heap_of self.now).facts }
         ensures lists { IfSome result (ListsHave (heap_of self.now).ids) }
     {
@@ -160,12 +160,12 @@ impl Heap {
         ensures value { option_map value_of result ≡ find (has_key (keys.Object id)) (heap_of self.now).facts }
         ensures lists { IfSome result (ListsHave (heap_of self.now).ids) }
     {
-        self.object_near(id, &mut 0)
+        self.object_near(id, &mut Finger::start())
     }
 
-    /// Returns the instance or the array with that identifier, which is looked for near a place, as a class is by `class_near`.
+    /// Returns the instance or the array with that identifier, which is looked for near a finger, as a class is by `class_near`.
     #[inline(always)]
-    pub fn object_near(&self, id: u64, near: &mut usize) -> Option<Fact<'_>>
+    pub fn object_near(&self, id: u64, near: &mut Finger) -> Option<Fact<'_>>
         ensures value { option_map value_of result ≡ find (has_key (keys.Object id)) (heap_of self.now).facts }
         ensures lists { IfSome result (ListsHave (heap_of self.now).ids) }
     {

@@ -15,6 +15,6 @@ pub use gather::Gather;
 pub use gatherer::Gatherer;
 pub use heap::Heap;
 pub use hprof_rows::{Facts, FrameRow, Key, KeyRow, LoadRow, StartRow, Table, TraceRow};
-pub use hprof_tables::{BytesTable, Content, Relation, Rows, Stated, Statement};
+pub use hprof_tables::{BytesTable, Content, Finger, Relation, Rows, Stated, Statement};
 pub use join_refusal::JoinRefusal;
 pub use standing::{Refusal, Standing};

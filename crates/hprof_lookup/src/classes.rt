@@ -12,12 +12,12 @@ ghost use Rattle.hprof_lookup.specs.ClassDump.{ClassListsHave, IsFoundClass, cla
 
 use crate::class_dump::ClassDump;
 use crate::heap_facts::holds_of_heap;
-use hprof_heap::Heap;
+use hprof_heap::{Finger, Heap};
 use hprof_items::Fact;
 
 /// Returns the fact with the key of a class.
 #[inline(always)]
-fn class_fact<'a>(heap: &'a Heap, class: u64, near: &mut usize) -> Option<Fact<'a>>
+fn class_fact<'a>(heap: &'a Heap, class: u64, near: &mut Finger) -> Option<Fact<'a>>
     ensures value { option_map value_of result ≡ find (has_key (keys.Class class)) (facts_of heap.now) }
     ensures lists { IfSome result (ListsHave (size_of heap.now)) }
 {
@@ -68,7 +68,7 @@ pub fn to_class_dump<'a>(fact: &Fact<'a>) -> Option<ClassDump<'a>>
 pub fn find_class(heap: &Heap, class: u64) -> Option<ClassDump<'_>>
     ensures { IsFoundClass (size_of heap.now) (facts_of heap.now) class result }
 {
-    find_class_near(heap, class, &mut 0)
+    find_class_near(heap, class, &mut Finger::start())
 }
 
 /// Returns the dump of a class, as [`find_class`] does, and looks for it near a place first.
@@ -76,7 +76,7 @@ pub fn find_class(heap: &Heap, class: u64) -> Option<ClassDump<'_>>
 /// `near` is set to the place of the dump, so that classes that are asked for in order of their identifiers are found one behind the other.
 /// The answer is the same for every `near`.
 #[inline(always)]
-pub fn find_class_near<'a>(heap: &'a Heap, class: u64, near: &mut usize) -> Option<ClassDump<'a>>
+pub fn find_class_near<'a>(heap: &'a Heap, class: u64, near: &mut Finger) -> Option<ClassDump<'a>>
     ensures { IsFoundClass (size_of heap.now) (facts_of heap.now) class result }
 {
     holds_of_heap(heap);

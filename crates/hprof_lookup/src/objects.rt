@@ -12,12 +12,12 @@ ghost use Rattle.hprof_lookup.specs.ObjectDump.{ElementsHave, IsFoundObject, fac
 
 use crate::heap_facts::holds_of_heap;
 use crate::object_dump::ObjectDump;
-use hprof_heap::Heap;
+use hprof_heap::{Finger, Heap};
 use hprof_items::Fact;
 
 /// Returns the fact with the key of an object.
 #[inline(always)]
-fn object_fact<'a>(heap: &'a Heap, object: u64, near: &mut usize) -> Option<Fact<'a>>
+fn object_fact<'a>(heap: &'a Heap, object: u64, near: &mut Finger) -> Option<Fact<'a>>
     ensures value { option_map value_of result ≡ find (has_key (keys.Object object)) (facts_of heap.now) }
     ensures lists { IfSome result (ListsHave (size_of heap.now)) }
 {
@@ -74,7 +74,7 @@ pub fn to_object_dump<'a>(fact: &Fact<'a>) -> Option<ObjectDump<'a>>
 pub fn find_object(heap: &Heap, object: u64) -> Option<ObjectDump<'_>>
     ensures { IsFoundObject (size_of heap.now) (facts_of heap.now) object result }
 {
-    find_object_near(heap, object, &mut 0)
+    find_object_near(heap, object, &mut Finger::start())
 }
 
 /// Returns the dump of an object, as [`find_object`] does, and looks for it near a place first.
@@ -82,7 +82,7 @@ pub fn find_object(heap: &Heap, object: u64) -> Option<ObjectDump<'_>>
 /// `near` is set to the place of the dump, so that objects that are asked for in order of their identifiers are found one behind the other.
 /// The answer is the same for every `near`.
 #[inline(always)]
-pub fn find_object_near<'a>(heap: &'a Heap, object: u64, near: &mut usize) -> Option<ObjectDump<'a>>
+pub fn find_object_near<'a>(heap: &'a Heap, object: u64, near: &mut Finger) -> Option<ObjectDump<'a>>
     ensures { IsFoundObject (size_of heap.now) (facts_of heap.now) object result }
 {
     holds_of_heap(heap);

@@ -273,7 +273,8 @@ fact_stated r rows new are (End thread) fits s =
 fact_stated r rows new are (Rooted root) fits s =
     in_table r rows new are tables.Roots s.1 (Rooted root) fits (root_of_table root)
     (roots_tried r rows.roots new.roots root s.0.ok) (roots_kept r rows.roots new.roots s.0.err)
-    (unseen_in_heap r rows 7 (Rooted root) are (root_of_table root) (roots_unseen r rows.roots root s.0.absent)) tt
+    (unseen_in_heap r rows (number_of_table tables.Roots) (Rooted root) are (root_of_table root)
+    (roots_unseen r rows.roots root s.0.absent)) tt
 fact_stated r rows new are (Class id trace parent loader signers domain reserved1 reserved2 size constants statics fields) fits s =
     let fact : FactValue = Class id trace parent loader signers domain reserved1 reserved2 size constants statics fields in
     under_key r rows new are tables.Classes s.1 fact fits tt id refl (class_again rows.ids id fact refl fits) s.0

@@ -21,7 +21,8 @@ use Rattle.std.proofs.Math.ListN.{get_or-map}
 use Rattle.std.proofs.Math.Seq.{take-length}
 use Rattle.hprof_tables.specs.PageRows.{GoesTo, IsPage}
 use Rattle.hprof_tables.specs.SortedRows.{row_at, AreKeys, IsAscending, end_of}
-use Rattle.hprof_tables.proofs.SortedRows.{AreKeys-weaker, ascending_cons, ascending_head, ascending_tail, below_end, insert-all, insert-ascending}
+use Rattle.hprof_tables.proofs.SortedRows.{AreKeys-weaker, ascending_cons, ascending_head, ascending_tail, below_end}
+use Rattle.hprof_tables.proofs.SortedRows.{insert-all, insert-ascending}
 use Rattle.hprof_tables.proofs.SortedRows.{row_at-none}
 
 -- no rows ascend
@@ -64,7 +65,8 @@ module _ {V : Type 0} where
   AreKeys-both P Q R (row ∷ rows) more one two = (more row.0 one.0 two.0, AreKeys-both P Q R rows more one.1 two.1)
 
   pub AreKeys-take : (P : ℕ → Type 0) (place : ℕ) (rows : List (ℕ × V)) → AreKeys P rows → AreKeys P (take place rows)
-  AreKeys-take P place rows all = AreKeys-front P (take place rows) (drop place rows) (subst (AreKeys P) (sym (take-append-drop place rows)) all)
+  AreKeys-take P place rows all =
+      AreKeys-front P (take place rows) (drop place rows) (subst (AreKeys P) (sym (take-append-drop place rows)) all)
 
   pub AreKeys-drop : (P : ℕ → Type 0) (place : ℕ) (rows : List (ℕ × V)) → AreKeys P rows → AreKeys P (drop place rows)
   AreKeys-drop P place rows all = behind P (take place rows) (drop place rows) (subst (AreKeys P) (sym (take-append-drop place rows)) all)
@@ -138,6 +140,26 @@ module _ {V : Type 0} where
         | inr more ↦ let same : i ≡ j = omega arith in subst (λ (k : ℕ). (get_or rows i d).0 ≤ (get_or rows k d).0) same (omega arith)
       ])
 
+  -- no row is at the key
+  apart_keys : (rows : List (ℕ × V)) (key : ℕ) → ((k : ℕ) (d : ℕ × V) → k < length rows → key ≢ (get_or rows k d).0)
+      → AreKeys (λ other. key ≢ other) rows
+  apart_keys [] key apart = tt
+  apart_keys (row ∷ rows) key apart = (apart zero row (omega arith), apart_keys rows key (λ k d lt. apart (suc k) d (omega arith)))
+
+  -- a key between those of two rows that are next to one another has no row
+  pub none_between : (rows : List (ℕ × V)) (key place : ℕ) (row : ℕ × V) → IsAscending rows → place < length rows
+      → row ≡ get_or rows place row → key < row.0 → ((other : ℕ) (d : ℕ × V) → other < place → (get_or rows other d).0 < key)
+      → row_at key rows ≡ None
+  none_between rows key place row up lt here below above =
+      row_at-none key rows (apart_keys rows key (λ k d within same. apart k d within same (cases_lt k place)))
+    where
+      apart : (k : ℕ) (d : ℕ × V) → k < length rows → key ≡ (get_or rows k d).0 → (k < place) ⊎ (place ≤ k) → ⊥
+      apart k d within same (inl before) = let less = above k d before in omega arith
+      apart k d within same (inr after) =
+          let le = not_falling rows place k row d up after within in
+          let e : row.0 ≡ (get_or rows place row).0 = ap (λ (r : ℕ × V). r.0) here in
+          omega arith
+
   -- ---- where a row goes
 
   pub put_at_gap : (key : ℕ) (row : V) (low upper : List (ℕ × V)) → AreKeys (λ other. other < key) low
@@ -190,7 +212,9 @@ module _ {V : Type 0} where
       → IfOk r (λ place. (place < length rows) × ((row : ℕ × V) → (get_or rows place row).0 ≡ key))
   searched_there rows others key (Ok place) e within is = (
     subst (λ (l : List (ℕ × V)). place < length l) e within,
-    λ row. exact_unsigned (get_or rows place row).0 key (subst (λ (l : List (ℕ × V)). nat_cmp (get_or l place row).0 key ≡ Equal) e (is row)),
+    λ row.
+        exact_unsigned (get_or rows place row).0 key
+        (subst (λ (l : List (ℕ × V)). nat_cmp (get_or l place row).0 key ≡ Equal) e (is row)),
   )
   searched_there rows others key (Err place) e within is = tt
 
@@ -211,7 +235,8 @@ module _ {V : Type 0} where
       → IfErr r (λ place. GoesTo key place rows)
   searched_new rows others key (Ok place) e up within is = tt
   searched_new rows others key (Err place) e up within is =
-      let sorted = subst (λ (l : List (ℕ × V)). IsNonDecreasingBy (λ row. ordering_index (nat_cmp row.0 key)) l) (sym e) (searchable rows key up) in
+      let sorted =
+      subst (λ (l : List (ℕ × V)). IsNonDecreasingBy (λ row. ordering_index (nat_cmp row.0 key)) l) (sym e) (searchable rows key up) in
       let split = is sorted in
       subst (GoesTo key place) e (record {
         within = within;
@@ -231,7 +256,8 @@ module _ {V : Type 0} where
   }
 
   -- the parts of a page that is cut
-  pub page_below : (from to key place : ℕ) (rows : List (ℕ × V)) → IsPage from to rows → AreKeys (λ other. other < key + 1) (take place rows)
+  pub page_below : (from to key place : ℕ) (rows : List (ℕ × V)) → IsPage from to rows
+      → AreKeys (λ other. other < key + 1) (take place rows)
       → IsPage from key (take place rows)
   page_below from to key place rows page below = record {
     ascends = ascending_front (take place rows) (drop place rows) (subst IsAscending (sym (take-append-drop place rows)) page.ascends);
@@ -250,7 +276,8 @@ module _ {V : Type 0} where
   }
 
   -- the keys on both sides of a row's place
-  pub keys_below_row : (rows : List (ℕ × V)) (place : ℕ) (row : ℕ × V) → IsAscending rows → place < length rows → row ≡ get_or rows place row
+  pub keys_below_row : (rows : List (ℕ × V)) (place : ℕ) (row : ℕ × V) → IsAscending rows → place < length rows
+      → row ≡ get_or rows place row
       → AreKeys (λ other. other < row.0) (take place rows)
   keys_below_row rows place row up lt here =
       keys_before (λ other. other < row.0) rows place (omega arith) (λ k d less.
@@ -276,7 +303,8 @@ module _ {V : Type 0} where
       omega arith
 
   -- the key of a row at which a page is cut for a key is one of the page's, and not its first one
-  pub cut_within : (from to key place half : ℕ) (rows : List (ℕ × V)) (row : ℕ × V) → IsPage from to rows → GoesTo key place rows → from ≤ key
+  pub cut_within : (from to key place half : ℕ) (rows : List (ℕ × V)) (row : ℕ × V) → IsPage from to rows → GoesTo key place rows
+      → from ≤ key
       → half < length rows → row ≡ get_or rows half row → (half ≡ 0 → place ≡ 0) → (from < row.0) × (row.0 ≤ to)
   cut_within from to key place half rows row page goes low lt here first =
       let both : (from ≤ (get_or rows half row).0) × ((get_or rows half row).0 ≤ to) =
@@ -289,7 +317,8 @@ module _ {V : Type 0} where
       above (inl some) = above_from from to rows half row page some lt here
       above (inr none) =
           let zero_place : place ≡ 0 = first (omega arith) in
-          let all : AreKeys (λ other. key < other) rows = subst (λ (n : ℕ). AreKeys (λ other. key < other) (drop n rows)) zero_place goes.above in
+          let all : AreKeys (λ other. key < other) rows =
+          subst (λ (n : ℕ). AreKeys (λ other. key < other) (drop n rows)) zero_place goes.above in
           let over : key < (get_or rows half row).0 = key_at (λ other. key < other) rows half row all lt in
           let e : row.0 ≡ (get_or rows half row).0 = ap (λ (r : ℕ × V). r.0) here in
           omega arith

@@ -508,7 +508,8 @@ module _ {V : Type 0} where
       ap (λ (l : List (Page V)). slice_get l at) cut.pages ∙ get_before (slice_set pages number cut.first) cut.next at (omega arith)
       ∙ get_other pages number at cut.first apart
 
-  pub cut_first : (pages new : List (Page V)) (number key : ℕ) (cut : ArePagesCut number key pages new) → slice_get new number ≡ Some cut.first
+  pub cut_first : (pages new : List (Page V)) (number key : ℕ) (cut : ArePagesCut number key pages new)
+      → slice_get new number ≡ Some cut.first
   cut_first pages new number key cut =
       let count = length_replaced pages number cut.first in
       let lt = slice_get_within pages number cut.page cut.there in

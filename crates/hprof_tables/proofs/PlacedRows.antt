@@ -1,5 +1,6 @@
 -- Rows that stand in a list, by their places: the laws of one list, of one row more, and of rows that are taken.
-use Rattle.std.proofs.Common.{◌≡◌, ◌≢◌, ◌<◌, ◌≤◌, ◌+◌, ◌++◌, ℕ, zero, suc, List, [], ◌∷◌, length, map, get_or, Option, Some, None, slice_get}
+use Rattle.std.proofs.Common.{◌≡◌, ◌≢◌, ◌<◌, ◌≤◌, ◌+◌, ◌++◌, ℕ, zero, suc, List, []}
+use Rattle.std.proofs.Common.{◌∷◌, length, map, get_or, Option, Some, None, slice_get}
 use Rattle.std.proofs.Common.{Result, Ok, Err, refl, sym, ap, subst, ◌∙◌, inl, inr, arith}
 use Rattle.std.specs.Prelude.{IsOk, is_ok, if◌then◌else◌}
 use Rattle.std.specs.declared.cmp.Ordering.TheVariants.{Less, Equal, Greater}
@@ -113,7 +114,8 @@ module _ {V : Type 0} where
       by_place None is = refl
       by_place (Some place) is =
           let there = row_there rows place (place_within rows entries key place within is) in
-          let e : None ≡ Some there.0 = sym none ∙ placed_row key rows entries within ∙ ap (option_and_then (slice_get rows)) is ∙ there.1 in
+          let e : None ≡ Some there.0 = sym none ∙ placed_row key rows entries within ∙ ap (option_and_then (slice_get rows)) is
+          ∙ there.1 in
           absurd cc
 
   -- ---- more rows behind them
@@ -265,7 +267,8 @@ module _ {V X : Type 0} (content : V → List ℕ) (other : X → List ℕ) wher
 
     pub taken_apart : AreApart (contents_of content (rows_at old places)) (contents_of other lent) → AreApart places fresh
     taken_apart apart key =
-        elim (apart_rows content (rows_at old places) (rows_at new fresh) (contents_of content (rows_at old places)) (contents_of other lent)
+        elim (apart_rows content (rows_at old places) (rows_at new fresh) (contents_of content (rows_at old places)) (contents_of other
+        lent)
         refl fresh_contents apart key) [
           | inl none ↦ inl (placed_none old places key within none)
           | inr none ↦ inr (placed_none new fresh key fresh_within none)

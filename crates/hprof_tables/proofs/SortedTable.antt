@@ -16,7 +16,8 @@ use Rattle.hprof_tables.specs.Pages.{AreChained, AreListed, ArePagesCut, HasKey,
 use Rattle.hprof_tables.specs.SortedRows.{row_at, AreKeys}
 use Rattle.hprof_tables.specs.SortedTable.{GoesIn, IsSpot, LacksRoomThere}
 use Rattle.hprof_tables.proofs.PageRows.{goes_new, row_at_place}
-use Rattle.hprof_tables.proofs.Pages.{along-replaced, chained-replaced, cut_first, cut_next, get_replaced, listed-cut, listed-row, listed-single, rows-cut}
+use Rattle.hprof_tables.proofs.Pages.{along-replaced, chained-replaced, cut_first, cut_next, get_replaced, listed-cut}
+use Rattle.hprof_tables.proofs.Pages.{listed-row, listed-single, rows-cut}
 
 module _ {V : Type 0} where
   -- ---- pages and spots
@@ -100,7 +101,8 @@ module _ {V : Type 0} where
       ∙ ap (λ (found : Option (Page V)). row_at key (rows_in found)) there.1 ∙ goes_new key spot.place there.0.rows.items there.3
 
   -- a spot in a page
-  pub spot_is : (pages : List (Page V)) (key : ℕ) (spot : Spot) (page : Page V) → slice_get pages spot.page ≡ Some page → HasKey (Some page) key
+  pub spot_is : (pages : List (Page V)) (key : ℕ) (spot : Spot) (page : Page V) → slice_get pages spot.page ≡ Some page
+      → HasKey (Some page) key
       → GoesTo key spot.place page.rows.items → IsSpot pages key spot
   spot_is pages key spot page there has goes =
       subst (λ (found : Option (Page V)). GoesIn found key spot.place) (sym there) (has, goes)
@@ -117,7 +119,8 @@ module _ {V : Type 0} where
       (listed-cut pages new places number key listed cut, rows-cut pages new places number key listed cut)
   cut_tried (Err e) pages new places after number key listed cut more same kept =
       subst (λ (l : List (ℕ × ℕ)). AreListed new l × (rows_along new (values_of l) ≡ rows_along pages (values_of places))) (sym kept)
-      (subst (λ (l : List (Page V)). AreListed l places × (rows_along l (values_of places) ≡ rows_along pages (values_of places))) (sym same)
+      (subst (λ (l : List (Page V)). AreListed l places × (rows_along l (values_of places) ≡ rows_along pages (values_of places)))
+      (sym same)
       (listed, refl))
 
   -- the key is in the part that has it
@@ -154,7 +157,8 @@ module _ {V : Type 0} where
   ]
 
   -- where it goes
-  pub lacks_there : (pages : List (Page V)) (key : ℕ) (spot : Spot) (page : Page V) → IsSpot pages key spot → page ≡ get_or pages spot.page page
+  pub lacks_there : (pages : List (Page V)) (key : ℕ) (spot : Spot) (page : Page V) → IsSpot pages key spot
+      → page ≡ get_or pages spot.page page
       → 64 ≤ length page.rows.items → (1024 ≤ length page.rows.items) ⊎ (spot.place ≡ length page.rows.items → ⊥) → LacksRoomThere pages key
   lacks_there pages key spot page is at some within =
       let there = spot_at pages key spot page is at in
@@ -167,7 +171,8 @@ module _ {V : Type 0} where
       }
 
   -- a spot stays one where its page makes room
-  pub spot_stays : (pages : List (Page V)) (key : ℕ) (spot : Spot) (old new : Page V) → IsSpot pages key spot → old ≡ get_or pages spot.page old
+  pub spot_stays : (pages : List (Page V)) (key : ℕ) (spot : Spot) (old new : Page V) → IsSpot pages key spot
+      → old ≡ get_or pages spot.page old
       → new.from ≡ old.from → new.to ≡ old.to → new.rows.items ≡ old.rows.items → IsSpot (slice_set pages spot.page new) key spot
   spot_stays pages key spot old new is at from to rows =
       let there = spot_at pages key spot old is at in
@@ -210,7 +215,8 @@ module _ {V : Type 0} where
   single_rows pages places page one other = rw (one, other) (append-nil page.rows.items)
 
 -- rows that are moved behind others, with what is to come, are all
-pub moved_rows : {X : Type 0} (rows new taken page rest more all : List X) → rows ++ (page ++ rest) ≡ all → new ≡ rows ++ taken → taken ≡ page
+pub moved_rows : {X : Type 0} (rows new taken page rest more all : List X) → rows ++ (page ++ rest) ≡ all → new ≡ rows ++ taken
+    → taken ≡ page
     → more ≡ rest → new ++ more ≡ all
 moved_rows rows new taken page rest more all whole pushed is same =
     ap (λ (l : List _). l ++ more) pushed ∙ ap (λ (l : List _). (rows ++ taken) ++ l) same ∙ append_assoc rows taken rest

@@ -15,7 +15,7 @@ module _ {V : Type 0} where
   pub IsPage-prop : (from to : ℕ) (rows : List (ℕ × V)) → IsProp (IsPage from to rows)
   IsPage-prop from to rows = hlevel (props, le_prop, IsStrictlySortedBy-prop)
 
-  -- a row of the key goes in front of the row at that place: there is none yet, those before it have lesser keys, and the others greater ones
+  -- a row of the key goes in front of the row at that place: those before it have lesser keys, and the others greater ones
   pub record GoesTo (key place : ℕ) (rows : List (ℕ × V)) : Type 0 where
     pub within : place ≤ length rows
     pub below : AreKeys (λ other. other < key) (take place rows)

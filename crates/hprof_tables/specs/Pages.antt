@@ -36,7 +36,8 @@ module _ {V : Type 0} where
   abbrev pub AreChained : List (Page V) → ℕ → List (ℕ × ℕ) → Type 0
   AreChained pages from [] = from ≡ 2 ^ 64
   AreChained pages from (place ∷ places) =
-      (place.0 ≡ from) × (place.1 < length pages) × (first_key (slice_get pages place.1) ≡ from) × (from ≤ last_key (slice_get pages place.1))
+      (place.0 ≡ from) × (place.1 < length pages) × (first_key (slice_get pages place.1) ≡ from)
+      × (from ≤ last_key (slice_get pages place.1))
       × AreChained pages (last_key (slice_get pages place.1) + 1) places
 
   -- the pages have all keys, unless there is none
@@ -51,7 +52,8 @@ module _ {V : Type 0} where
 
   pub AreChained-prop : (pages : List (Page V)) (from : ℕ) (places : List (ℕ × ℕ)) → IsProp (AreChained pages from places)
   AreChained-prop pages from [] = hlevel props
-  AreChained-prop pages from (place ∷ places) = hlevel (props, le_prop, AreChained-prop pages (last_key (slice_get pages place.1) + 1) places)
+  AreChained-prop pages from (place ∷ places) =
+      hlevel (props, le_prop, AreChained-prop pages (last_key (slice_get pages place.1) + 1) places)
 
   pub HaveAllKeys-prop : (pages : List (Page V)) (places : List (ℕ × ℕ)) → IsProp (HaveAllKeys pages places)
   HaveAllKeys-prop pages [] = hlevel props

@@ -48,7 +48,7 @@ module _ {V : Type 0} where
     pub has : HasKey (Some page) key
     pub lacks : LacksRoomFor page key
 
-  -- a row under the key may need memory: there is no page; or the page of the key has no room for it; or there is a row for each number but one
+  -- a row under the key may need memory: there is no page; or that of the key has no room; or each number but one has a row
   abbrev pub LacksRoom : SortedTable V → ℕ → Type 0
   LacksRoom table key =
       (length table.pages.items ≡ 0) ⊎ LacksRoomThere table.pages.items key ⊎ (length (entries_of table) + 1 ≡ 2 ^ 64)

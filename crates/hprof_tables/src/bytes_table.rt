@@ -14,7 +14,7 @@ ghost use Rattle.hprof_tables.specs.SortedTable.{entries_of, entries_left};
 
 use crate::relation::Stated;
 use crate::side_by_side::{LentBytes, first_difference, missing_rows, same_rows};
-use crate::sorted_table::{Entries, SortedTable, Visit};
+use crate::sorted_table::{Entries, Finger, SortedTable, Visit};
 use std::alloc::{AllocError, Global};
 
 /// The place of a row: its length and its bytes start there.
@@ -333,13 +333,13 @@ impl BytesTable {
     pub fn get(&self, key: u64) -> Option<&[u8]>
         ensures { option_copied result ≡ lookup (is_at (nat_cmp key)) (byte_rows self.now) }
     {
-        self.get_near(key, &mut 0)
+        self.get_near(key, &mut Finger::start())
     }
 
-    /// Returns the bytes under a key, which are looked for near a place. If they are found, their place is noted there, so that keys that
-    /// come in order are found one behind the other.
+    /// Returns the bytes under a key, which are looked for near a finger. Their place is noted there, so that keys that come in order are
+    /// found one behind the other.
     #[inline(always)]
-    pub fn get_near(&self, key: u64, near: &mut usize) -> Option<&[u8]>
+    pub fn get_near(&self, key: u64, near: &mut Finger) -> Option<&[u8]>
         ensures { option_copied result ≡ lookup (is_at (nat_cmp key)) (byte_rows self.now) }
     {
         let span = self.rows.get_near(key, near)?;

@@ -17,3 +17,4 @@ pub use content::{Content, Statement};
 pub use hinted_map::HintedMap;
 pub use relation::{Relation, Stated};
 pub use rows::Rows;
+pub use sorted_table::Finger;

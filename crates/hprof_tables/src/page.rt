@@ -1,6 +1,7 @@
 //! A page of a table: all rows whose keys lie from one key to another.
 
-ghost use Rattle.std.specs.Prelude.{◌≡◌, ◌+◌, ◌↔◌, ◌++◌, ◌<◌, ◌≤◌, ◌^◌, ◌⊎◌, ℕ, List, [], length, take, drop, true, false, IsTrue, IfOk, IfErr};
+ghost use Rattle.std.specs.Prelude.{◌≡◌, ◌+◌, ◌↔◌, ◌++◌, ◌<◌, ◌≤◌, ◌^◌, ◌⊎◌, ℕ, List, []};
+ghost use Rattle.std.specs.Prelude.{length, take, drop, true, false, IsTrue, IfOk, IfErr};
 ghost use Rattle.std.specs.Prelude.{OnOk, OnErr, slice_index_or, vec_len, vec_capacity};
 ghost use Rattle.std.specs.BTreeMap.{insert_entry};
 ghost use Rattle.std.specs.Option.{option_copied};
@@ -105,6 +106,55 @@ impl<V> Page<V> {
             Ok(place) => Some(&self.rows[place].1),
             Err(_) => None,
         }
+    }
+
+    /// Returns a place at which a key may stand, or in front of which it lies. It is looked for from a place on, by doubled steps and then
+    /// by halves, and among all if it lies before that place. It is a guess.
+    #[inline(always)]
+    fn guess(&self, key: u64, near: usize) -> usize {
+        let rows = self.rows.as_slice();
+        let mut from = near.min(rows.len());
+        if from > 0 && key <= rows[from - 1].0 {
+            from = 0;
+        }
+        let mut step = 1;
+        while step < rows.len() - from && rows[from + step].0 < key {
+            from += step;
+            step *= 2;
+        }
+        let to = rows.len().min(from.saturating_add(step).saturating_add(1));
+        from + rows[from..to].partition_point(|row| row.0 < key)
+    }
+
+    /// Returns whether the key is above that of the row before a place.
+    #[inline(always)]
+    fn lies_behind(&self, key: u64, place: usize) -> bool
+        requires { place < length self.now.rows.items }
+        ensures { result ≡ true → (other : ℕ) (row : ℕ × V) → other < place → (slice_index_or self.now.rows.items other row).0 < key }
+    {
+        match place.checked_sub(1) {
+            None => true,
+            Some(before) => self.rows[before].0 < key,
+        }
+    }
+
+    /// Returns the row under a key, as `get` does. It is looked for near a place, and its place is noted there.
+    #[inline(always)]
+    pub(crate) fn get_near(&self, key: u64, near: &mut usize) -> Option<&V>
+        ensures { option_copied result ≡ row_at key self.now.rows.items }
+    {
+        let place = self.guess(key, *near);
+        *near = place;
+        let Some(row) = self.rows.get(place) else {
+            return self.get(key);
+        };
+        if row.0 == key {
+            return Some(&row.1);
+        }
+        if key < row.0 && self.lies_behind(key, place) {
+            return None;
+        }
+        self.get(key)
     }
 
     /// Returns whether there is room behind the last row for one under that key, so that it is put there without a search.

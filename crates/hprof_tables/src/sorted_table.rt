@@ -1,6 +1,7 @@
 //! A table of rows by key, which keeps them in pages: a key that comes near the one before is mostly in the same page.
 
-ghost use Rattle.std.specs.Prelude.{◌≡◌, ◌+◌, ◌++◌, ◌↔◌, ◌≤◌, ◌^◌, ◌⊎◌, ℕ, List, [], length, IsTrue, IfOk, IfSome, IfNone, OnOk, OnErr, None, ◌<◌};
+ghost use Rattle.std.specs.Prelude.{◌≡◌, ◌+◌, ◌++◌, ◌↔◌, ◌≤◌, ◌^◌, ◌⊎◌, ℕ, List, [], length};
+ghost use Rattle.std.specs.Prelude.{IsTrue, IfOk, IfSome, IfNone, OnOk, OnErr, None, ◌<◌};
 ghost use Rattle.std.specs.Prelude.{slice_get, true, vec_capacity, vec_len};
 ghost use Rattle.std.specs.Option.{option_copied};
 ghost use Rattle.std.specs.Ordering.{nat_cmp};
@@ -51,6 +52,26 @@ pub(crate) trait Visit<V> {
         ensures err { OnErr result (held room.new ≡ held room.old) }
         ensures full { OnErr result (refuses self room.old) }
         ensures room { grows room.old room.new };
+}
+
+/// Where a row was found in a table: the number of its page, and its place there. Keys that come in order are found one behind the other
+/// from there on; the answers are the same for all fingers.
+#[derive(Clone, Copy, Debug, PartialEq, Eq)]
+pub struct Finger {
+    /// The number of a page of the table.
+    pub page: usize,
+    /// The place of a row of the page.
+    pub place: usize,
+}
+
+impl Finger {
+    /// Returns the finger from which a first key is looked for.
+    pub fn start() -> Finger
+        ensures page { result.page ≡ 0 }
+        ensures place { result.place ≡ 0 }
+    {
+        Finger { page: 0, place: 0 }
+    }
 }
 
 /// Where the row of a key goes: the number of the page that has the key, and the place among its rows.
@@ -164,25 +185,30 @@ impl<V> SortedTable<V> {
         }
     }
 
-    /// Returns the row under a key, which is looked for first in the page of that number. The number of its page is noted there.
-    #[inline(always)]
-    pub(crate) fn get_near(&self, key: u64, near: &mut usize) -> Option<&V>
-        ensures { option_copied result ≡ row_at key (entries_of self.now) }
-    {
-        if self.pages.is_empty() {
-            return None;
-        }
-        let number = self.page_near(key, *near);
-        *near = number;
-        self.pages[number].get(key)
-    }
-
     /// Returns the row under a key.
     #[inline(always)]
     pub(crate) fn get(&self, key: u64) -> Option<&V>
         ensures { option_copied result ≡ row_at key (entries_of self.now) }
     {
-        self.get_near(key, &mut { self.last })
+        if self.pages.is_empty() {
+            return None;
+        }
+        self.pages[self.page_near(key, self.last)].get(key)
+    }
+
+    /// Returns the row under a key, which is looked for near a finger. Its place is noted there.
+    #[inline(always)]
+    pub(crate) fn get_near(&self, key: u64, near: &mut Finger) -> Option<&V>
+        ensures { option_copied result ≡ row_at key (entries_of self.now) }
+    {
+        if self.pages.is_empty() {
+            return None;
+        }
+        let page = self.page_near(key, near.page);
+        if page != near.page {
+            *near = Finger { page, place: 0 };
+        }
+        self.pages[page].get_near(key, &mut near.place)
     }
 
     /// Makes a page of all keys, if there is none.

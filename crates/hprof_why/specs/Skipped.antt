@@ -1,4 +1,4 @@
--- Classes that are passed over on the way up a chain of superclasses; no public contract speaks of it.
+-- Classes that are passed over on the way up a chain of superclasses.
 use Rattle.std.specs.Prelude.{◌≡◌, ℕ, ◌≤◌, List, length, Some}
 use Rattle.std.specs.Ordering.{nat_cmp}
 use Rattle.std.specs.BTreeMap.{get}

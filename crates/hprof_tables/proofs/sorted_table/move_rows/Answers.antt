@@ -46,10 +46,12 @@ loop-number-preserved-in-Some-get_mut g c =
     slice_get_read now.pages.items (length now.pages.items) place.1 page refl chain.1 (search rules) in
     let all = now.invariant.rows in
     let rows = rows_along now.pages.items (values_of c.next.new.self) in
-    let whole : now.rows.items ++ (page.rows.items ++ rows) ≡ c.args.rows.now.items ++ rows_along c.args.pages.items (values_of c.args.places.entries) =
+    let whole : now.rows.items ++ (page.rows.items ++ rows)
+    ≡ c.args.rows.now.items ++ rows_along c.args.pages.items (values_of c.args.places.entries) =
     ap (λ (found : Option (Page g.row.V.Denot)). now.rows.items ++ (rows_in found ++ rows)) (sym there)
     ∙ ap (λ (l : List (ℕ × ℕ)). now.rows.items ++ rows_along now.pages.items (values_of l)) (sym e) ∙ all in
-    let long = ap (λ (l : List (ℕ × g.row.V.Denot)). length l) c.push_all.ensures.items ∙ length-append now.rows.items c.take_rows.result.items in
+    let long = ap (λ (l : List (ℕ × g.row.V.Denot)). length l) c.push_all.ensures.items
+    ∙ length-append now.rows.items c.take_rows.result.items in
     let whole_count = ap (λ (l : List (ℕ × g.row.V.Denot)). length l) (ap (λ (l : List (ℕ × ℕ)). rows_along now.pages.items (values_of l)) e
     ∙ ap (λ (found : Option (Page g.row.V.Denot)). rows_in found ++ rows) there) ∙ length-append page.rows.items rows in
     let count = ap (λ (l : List (ℕ × g.row.V.Denot)). length l) c.take_rows.ensures.rows in
@@ -60,7 +62,8 @@ loop-number-preserved-in-Some-get_mut g c =
     let old_len = now.rows.ok.0 in
     let new_len = c.push_all.new.all.ok.0 in
     let room : vec_len c.push_all.new.all
-    + length (rows_along (slice_set now.pages.items place.1 c.take_rows.new.self) (values_of c.next.new.self)) ≤ vec_capacity c.push_all.new.all =
+    + length (rows_along (slice_set now.pages.items place.1 c.take_rows.new.self) (values_of c.next.new.self))
+    ≤ vec_capacity c.push_all.new.all =
     omega arith in
     record {
       chain = (page.to + 1, taken.0);
@@ -83,5 +86,6 @@ loop-number-preserved g c =
 pub returns : goal.returns
 returns g c =
     let none : c.loop-number.number-iterator ≡ [] = search rules in
-    sym (append-nil c.loop-number.rows.items) ∙ ap (λ (l : List (ℕ × ℕ)). c.loop-number.rows.items ++ rows_along c.loop-number.pages.items (values_of l)) (sym none)
+    sym (append-nil c.loop-number.rows.items)
+    ∙ ap (λ (l : List (ℕ × ℕ)). c.loop-number.rows.items ++ rows_along c.loop-number.pages.items (values_of l)) (sym none)
     ∙ c.loop-number.invariant.rows

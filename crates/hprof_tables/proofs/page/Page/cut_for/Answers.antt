@@ -46,7 +46,8 @@ returns g c =
           omega arith
     ] in
     let within =
-    cut_within page.from page.to c.args.key c.args.place half page.rows.items row page.sound c.requires.goes c.requires.has.0 lt c.index.ensures
+    cut_within page.from page.to c.args.key c.args.place half page.rows.items row page.sound c.requires.goes c.requires.has.0 lt
+    c.index.ensures
     first in
     record {
       above = within.0;

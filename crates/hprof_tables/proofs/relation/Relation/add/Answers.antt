@@ -10,7 +10,8 @@ invariant_of-self-2 g c =
     let place = c.len.result in
     let rows = c.push_reserved.ensures.items ∙ ap (λ (l : List g.row.V.Denot). l ++ row ∷ []) c.reserve.ensures.items in
     let last = c.len.ensures ∙ c.reserve.new.self.ok.0 ∙ ap (λ (l : List g.row.V.Denot). length l) c.reserve.ensures.items in
-    let put = visit_new _ place c.args.key (entries_of old.places) (entries_of c.visit.new.self) c.in_ok-visit.field-0 c.in_ok-visit.ensures.ok
+    let put = visit_new _ place c.args.key (entries_of old.places) (entries_of c.visit.new.self) c.in_ok-visit.field-0
+    c.in_ok-visit.ensures.ok
     (placed_none old.rows.items (entries_of old.places) c.args.key old.sound c.requires) in
     record {
       sound = added-within old.rows.items c.push_reserved.new.self.items (entries_of old.places) (entries_of c.visit.new.self) c.args.key
@@ -24,7 +25,8 @@ returns-clause-ok g c =
     let place = c.len.result in
     let rows = c.push_reserved.ensures.items ∙ ap (λ (l : List g.row.V.Denot). l ++ row ∷ []) c.reserve.ensures.items in
     let last = c.len.ensures ∙ c.reserve.new.self.ok.0 ∙ ap (λ (l : List g.row.V.Denot). length l) c.reserve.ensures.items in
-    let put = visit_new _ place c.args.key (entries_of old.places) (entries_of c.visit.new.self) c.in_ok-visit.field-0 c.in_ok-visit.ensures.ok
+    let put = visit_new _ place c.args.key (entries_of old.places) (entries_of c.visit.new.self) c.in_ok-visit.field-0
+    c.in_ok-visit.ensures.ok
     (placed_none old.rows.items (entries_of old.places) c.args.key old.sound c.requires) in (
       row,
       c.in_ok-row.ensures.row,

@@ -24,7 +24,8 @@ returns-then-is_empty-clause-ok g c =
     let up = contents_up content rows (subst IsAscending c.rows.ensures.all c.rows.ensures.ascending) in
     let empty : length c.in_ok-missing.missing.items ≡ 0 = search rules in
     union_missing (contents_of content rows) (contents_of content others) missing (contents_of content rows) are
-    (nothing_taken (contents_of content rows) missing up (length-map c.in_ok-missing.missing.items (λ row. (row.0, content row.1.now)) ∙ empty))
+    (nothing_taken (contents_of content rows) missing up (length-map c.in_ok-missing.missing.items (λ row. (row.0, content row.1.now))
+    ∙ empty))
 
 pub returns-clause-ok : goal.returns-clause-ok
 returns-clause-ok g c =
@@ -55,6 +56,7 @@ returns-clause-unchanged g c =
     let others = rows_of c.args.other.now in
     let are = missing_of content _ _ rows others _ c.rows.ensures.all c.rows-2.ensures.all c.in_ok-missing.ensures.ok in
     let some : 0 < length c.in_ok-missing.missing.items = search rules in
-    let lacked = missing_lacks (λ row. content row.now) (contents_of content rows) (contents_of content others) c.in_ok-missing.missing.items
+    let lacked = missing_lacks (λ row. content row.now) (contents_of content rows) (contents_of content others)
+    c.in_ok-missing.missing.items
     are some in
     IfOk-weaker c.take_rows.result _ _ (λ done union lacks. absurd (lacks lacked)) c.take_rows.ensures.ok

@@ -26,12 +26,14 @@ invariant_of-self g c =
 pub returns-in_err-cut_page-clause-full : goal.returns-in_err-cut_page-clause-full
 returns-in_err-cut_page-clause-full g c =
     let takes = c.takes.ensures c.if-takes.false in
-    at_err c.from_residual.result _ (inr (inl (lacks_there c.args.self.now.pages.items c.args.key c.args.spot c.index.result.now c.requires c.index.ensures takes.0 takes.1)))
+    at_err c.from_residual.result _ (inr (inl (lacks_there c.args.self.now.pages.items c.args.key c.args.spot c.index.result.now c.requires
+    c.index.ensures takes.0 takes.1)))
 
 pub returns-in_err-cut_page-clause-same : goal.returns-in_err-cut_page-clause-same
 returns-in_err-cut_page-clause-same g c =
     let takes = c.takes.ensures c.if-takes.false in
-    inr (inr (inl (lacks_there c.args.self.now.pages.items c.args.key c.args.spot c.index.result.now c.requires c.index.ensures takes.0 takes.1)))
+    inr (inr (inl (lacks_there c.args.self.now.pages.items c.args.key c.args.spot c.index.result.now c.requires c.index.ensures takes.0
+    takes.1)))
 
 pub spot_in-requires-clause-has : goal.spot_in-requires-clause-has
 spot_in-requires-clause-has g c =
@@ -39,7 +41,8 @@ spot_in-requires-clause-has g c =
     let page = c.index-2.result.now in
     let at = spot_at table.pages.items c.args.key c.args.spot page c.requires c.index-2.ensures in
     let has =
-    cut_has table.pages.items c.cut_page.new.pages.items c.args.spot.page c.cut_for-cut.result.key c.args.key page c.in_ok-cut_page.ensures.pages
+    cut_has table.pages.items c.cut_page.new.pages.items c.args.spot.page c.cut_for-cut.result.key c.args.key page
+    c.in_ok-cut_page.ensures.pages
     at.0 at.1 in
     has.0 c.if-key-cut.true
 
@@ -64,7 +67,8 @@ returns-then-key-cut-clause-rows g c =
 pub returns-then-key-cut-clause-same : goal.returns-then-key-cut-clause-same
 returns-then-key-cut-clause-same g c =
     let takes = c.takes.ensures c.if-takes.false in
-    inr (inr (inl (lacks_there c.args.self.now.pages.items c.args.key c.args.spot c.index.result.now c.requires c.index.ensures takes.0 takes.1)))
+    inr (inr (inl (lacks_there c.args.self.now.pages.items c.args.key c.args.spot c.index.result.now c.requires c.index.ensures takes.0
+    takes.1)))
 
 pub spot_in-requires-2-clause-has : goal.spot_in-requires-2-clause-has
 spot_in-requires-2-clause-has g c =
@@ -72,7 +76,8 @@ spot_in-requires-2-clause-has g c =
     let page = c.index-2.result.now in
     let at = spot_at table.pages.items c.args.key c.args.spot page c.requires c.index-2.ensures in
     let has =
-    cut_has table.pages.items c.cut_page.new.pages.items c.args.spot.page c.cut_for-cut.result.key c.args.key page c.in_ok-cut_page.ensures.pages
+    cut_has table.pages.items c.cut_page.new.pages.items c.args.spot.page c.cut_for-cut.result.key c.args.key page
+    c.in_ok-cut_page.ensures.pages
     at.0 at.1 in
     let count : c.len-count.result ≡ length table.pages.items = search rules in
     subst (λ (n : ℕ). HasKey (slice_get c.cut_page.new.pages.items n) c.args.key) (sym count) (has.1 c.if-key-cut.false)
@@ -98,4 +103,5 @@ returns-clause-rows g c =
 pub returns-clause-same : goal.returns-clause-same
 returns-clause-same g c =
     let takes = c.takes.ensures c.if-takes.false in
-    inr (inr (inl (lacks_there c.args.self.now.pages.items c.args.key c.args.spot c.index.result.now c.requires c.index.ensures takes.0 takes.1)))
+    inr (inr (inl (lacks_there c.args.self.now.pages.items c.args.key c.args.spot c.index.result.now c.requires c.index.ensures takes.0
+    takes.1)))

@@ -5,5 +5,5 @@ use Rattle.hprof_tables.proofs.sorted_table.SortedTable.get_near.Goals as goal
 pub returns : goal.returns
 returns g c =
     let table = c.args.self.now in
-    c.get.ensures ∙ sym (key_row table.pages.items table.places.entries c.page_near-number.result c.args.key c.index.result.now table.listed
-    c.page_near-number.ensures c.index.ensures)
+    c.get_near.ensures ∙ sym (key_row table.pages.items table.places.entries c.page_near-page.result c.args.key c.index.result.now
+    table.listed c.page_near-page.ensures c.index.ensures)

@@ -26,7 +26,8 @@ pub returns : goal.returns
 returns g c =
     let table = c.args.self.now in
     let entry = (c.range.ensures.in_range tt).3 _ _ c.in-Some.ensures.steps in
-    listed-found table.pages.items table.places.entries c.in-Some.number.now c.in-Some.field-0-0.now c.args.key table.listed entry.1 (search rules)
+    listed-found table.pages.items table.places.entries c.in-Some.number.now c.in-Some.field-0-0.now c.args.key table.listed entry.1
+    (search rules)
     (search rules) (λ other le there. not_less c.in-Some.field-0-0.now other
     ((c.range.ensures.in_range tt).4 _ _ c.in-Some.ensures.steps other (tt, not_greater other c.args.key le) there))
 

@@ -13,7 +13,8 @@ returns-in_err-row-clause-absent g c =
 
 pub index_mut-requires : goal.index_mut-requires
 index_mut-requires g c =
-    let lt : c.args.spot.page < length c.args.self.now.pages.items = spot_within c.args.self.now.pages.items c.args.key c.args.spot c.requires.spot in
+    let lt : c.args.spot.page < length c.args.self.now.pages.items =
+    spot_within c.args.self.now.pages.items c.args.key c.args.spot c.requires.spot in
     search rules
 
 pub put-requires-clause-has : goal.put-requires-clause-has

@@ -27,7 +27,8 @@ of-requires g c =
     let none_all : c.reserve_exact-2.new.self.items ≡ [] = search rules in
     let run : c.move_rows.new.rows.items ≡ rows =
     c.move_rows.ensures
-    ∙ ap (λ (l : List (ℕ × g.row.V.Denot)). l ++ rows_along c.replace-old.result.pages.items (values_of c.replace-old.result.places.entries)) none
+    ∙ ap (λ (l : List (ℕ × g.row.V.Denot)). l
+    ++ rows_along c.replace-old.result.pages.items (values_of c.replace-old.result.places.entries)) none
     ∙ ap (λ (t : SortedTable g.row.V.Denot). rows_along t.pages.items (values_of t.places.entries)) c.replace-old.ensures.value in
     let all : c.merge_into.new.all.items ≡ merged rows fresh =
     c.merge_into.ensures ∙ ap (λ (l : List (ℕ × g.row.V.Denot)). l ++ merged c.move_rows.new.rows.items fresh) none_all
@@ -44,7 +45,8 @@ invariant_of-drop g c =
     let none_all : c.reserve_exact-2.new.self.items ≡ [] = search rules in
     let run : c.move_rows.new.rows.items ≡ rows =
     c.move_rows.ensures
-    ∙ ap (λ (l : List (ℕ × g.row.V.Denot)). l ++ rows_along c.replace-old.result.pages.items (values_of c.replace-old.result.places.entries)) none
+    ∙ ap (λ (l : List (ℕ × g.row.V.Denot)). l
+    ++ rows_along c.replace-old.result.pages.items (values_of c.replace-old.result.places.entries)) none
     ∙ ap (λ (t : SortedTable g.row.V.Denot). rows_along t.pages.items (values_of t.places.entries)) c.replace-old.ensures.value in
     let all : c.merge_into.new.all.items ≡ merged rows fresh =
     c.merge_into.ensures ∙ ap (λ (l : List (ℕ × g.row.V.Denot)). l ++ merged c.move_rows.new.rows.items fresh) none_all
@@ -60,7 +62,8 @@ invariant_of-drop g c =
     let sum : c.in-Some.len ≡ old.len + c.len.result = search rules in
     let len : c.in-Some.len ≡ length rows + length fresh = omega arith in
     record {
-      listed = single_listed c.push_reserved.new.self.items c.insert.new.self.entries c.of.result pages places c.of.ensures.from c.of.ensures.to;
+      listed = single_listed c.push_reserved.new.self.items c.insert.new.self.entries c.of.result pages places c.of.ensures.from
+          c.of.ensures.to;
       count = len ∙ sym both;
     }
 
@@ -73,7 +76,8 @@ returns-clause-ok g c =
     let none_all : c.reserve_exact-2.new.self.items ≡ [] = search rules in
     let run : c.move_rows.new.rows.items ≡ rows =
     c.move_rows.ensures
-    ∙ ap (λ (l : List (ℕ × g.row.V.Denot)). l ++ rows_along c.replace-old.result.pages.items (values_of c.replace-old.result.places.entries)) none
+    ∙ ap (λ (l : List (ℕ × g.row.V.Denot)). l
+    ++ rows_along c.replace-old.result.pages.items (values_of c.replace-old.result.places.entries)) none
     ∙ ap (λ (t : SortedTable g.row.V.Denot). rows_along t.pages.items (values_of t.places.entries)) c.replace-old.ensures.value in
     let all : c.merge_into.new.all.items ≡ merged rows fresh =
     c.merge_into.ensures ∙ ap (λ (l : List (ℕ × g.row.V.Denot)). l ++ merged c.move_rows.new.rows.items fresh) none_all
