@@ -98,7 +98,7 @@ pub fn edges_of(alloc: Global, heap: &Heap, id: u64) -> Result<Vec<Edge>, AllocE
     ensures { IfOk result (λ edges. AreEdgesFrom (size_of heap.now) (facts_of heap.now) id edges.items) }
 {
     let mut set = EdgeSet::new(alloc, Wanted::All);
-    put_of_class(heap, id, &mut 0, &mut set)?;
+    put_of_class(heap, id, &mut Finger::start(), &mut set)?;
     put_of_object(alloc, heap, id, &mut set)?;
     let mut edges = set.edges;
     sort_edges(&mut edges);
