@@ -46,12 +46,12 @@ module _ {V : Type 0} where
 
   -- ---- the rows at places
 
-  pub rows_at-first : (rows : List V) (entry : ℕ × ℕ) (entries : List (ℕ × ℕ)) (row : V) → slice_get rows entry.1 ≡ Some row
+  rows_at-first : (rows : List V) (entry : ℕ × ℕ) (entries : List (ℕ × ℕ)) (row : V) → slice_get rows entry.1 ≡ Some row
       → rows_at rows (entry ∷ entries) ≡ (entry.0, row) ∷ rows_at rows entries
   unfolding rows_at
   rows_at-first rows entry entries row e = ap (λ (found : Option V). with_row entry.0 found (rows_at rows entries)) e
 
-  -- those of the first, and of the others
+  -- the place of the first, and those of the others
   pub first_within : (rows : List V) (entries : List (ℕ × ℕ)) (entry : ℕ × ℕ) (rest : List (ℕ × ℕ)) → AreWithin rows entries
       → entries ≡ entry ∷ rest → entry.1 < length rows
   unfolding AreWithin
@@ -64,13 +64,13 @@ module _ {V : Type 0} where
   rest_within rows entries entry rest within e =
       let there : AreWithin rows (entry ∷ rest) = subst (AreWithin rows) e within in there.1
 
-  -- those that are left when the first was asked for
+  -- the places that are left when the first was asked for
   pub left_within : (rows : List V) (old new : List (ℕ × ℕ)) (taken : Option (ℕ × Bor ℕ)) → AreWithin rows old
       → MatchOption taken ((old ≡ []) × (new ≡ [])) (λ entry. old ≡ (entry.0, entry.1.now) ∷ new) → AreWithin rows new
   left_within rows old new None within steps = subst (AreWithin rows) (steps.0 ∙ sym steps.1) within
   left_within rows old new (Some entry) within steps = rest_within rows old (entry.0, entry.1.now) new within steps
 
-  -- the first of them
+  -- the first of the rows
   pub placed-first : (rows : List V) (entries : List (ℕ × ℕ)) (entry : ℕ × ℕ) (rest : List (ℕ × ℕ)) (other : V) → AreWithin rows entries
       → entries ≡ entry ∷ rest → rows_at rows entries ≡ (entry.0, get_or rows entry.1 other) ∷ rows_at rows rest
   placed-first rows entries entry rest other within e =
