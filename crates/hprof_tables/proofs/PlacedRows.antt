@@ -2,7 +2,8 @@
 use Rattle.std.proofs.Common.{◌≡◌, ◌≢◌, ◌<◌, ◌≤◌, ◌+◌, ◌++◌, ℕ, zero, suc, List, []}
 use Rattle.std.proofs.Common.{◌∷◌, length, map, get_or, Option, Some, None, slice_get}
 use Rattle.std.proofs.Common.{Result, Ok, Err, refl, sym, ap, subst, ◌∙◌, inl, inr, arith}
-use Rattle.std.specs.Prelude.{IsOk, is_ok, if◌then◌else◌}
+use Rattle.std.specs.Prelude.{IsOk, MatchOption, is_ok, if◌then◌else◌}
+use Rattle.std.specs.Borrow.{Bor}
 use Rattle.std.specs.declared.cmp.Ordering.TheVariants.{Less, Equal, Greater}
 use Rattle.std.specs.List.{AllByRecursion}
 use Rattle.std.specs.List.Sorted.{IsStrictlySortedBy}
@@ -46,21 +47,40 @@ module _ {V : Type 0} where
 
   -- ---- the rows at places
 
-  pub rows_at-first : (rows : List V) (entry : ℕ × ℕ) (entries : List (ℕ × ℕ)) (row : V) → slice_get rows entry.1 ≡ Some row
+  rows_at-first : (rows : List V) (entry : ℕ × ℕ) (entries : List (ℕ × ℕ)) (row : V) → slice_get rows entry.1 ≡ Some row
       → rows_at rows (entry ∷ entries) ≡ (entry.0, row) ∷ rows_at rows entries
   unfolding rows_at
   rows_at-first rows entry entries row e = ap (λ (found : Option V). with_row entry.0 found (rows_at rows entries)) e
 
-  -- the first of them
+  -- the place of the first, and those of the others
+  pub first_within : (rows : List V) (entries : List (ℕ × ℕ)) (entry : ℕ × ℕ) (rest : List (ℕ × ℕ)) → AreWithin rows entries
+      → entries ≡ entry ∷ rest → entry.1 < length rows
+  unfolding AreWithin
+  first_within rows entries entry rest within e =
+      let there : AreWithin rows (entry ∷ rest) = subst (AreWithin rows) e within in there.0
+
+  pub rest_within : (rows : List V) (entries : List (ℕ × ℕ)) (entry : ℕ × ℕ) (rest : List (ℕ × ℕ)) → AreWithin rows entries
+      → entries ≡ entry ∷ rest → AreWithin rows rest
+  unfolding AreWithin
+  rest_within rows entries entry rest within e =
+      let there : AreWithin rows (entry ∷ rest) = subst (AreWithin rows) e within in there.1
+
+  -- the places that are left when the first was asked for
+  pub left_within : (rows : List V) (old new : List (ℕ × ℕ)) (taken : Option (ℕ × Bor ℕ)) → AreWithin rows old
+      → MatchOption taken ((old ≡ []) × (new ≡ [])) (λ entry. old ≡ (entry.0, entry.1.now) ∷ new) → AreWithin rows new
+  left_within rows old new None within steps = subst (AreWithin rows) (steps.0 ∙ sym steps.1) within
+  left_within rows old new (Some entry) within steps = rest_within rows old (entry.0, entry.1.now) new within steps
+
+  -- the first of the rows
   pub placed-first : (rows : List V) (entries : List (ℕ × ℕ)) (entry : ℕ × ℕ) (rest : List (ℕ × ℕ)) (other : V) → AreWithin rows entries
       → entries ≡ entry ∷ rest → rows_at rows entries ≡ (entry.0, get_or rows entry.1 other) ∷ rows_at rows rest
   placed-first rows entries entry rest other within e =
-      let there : AreWithin rows (entry ∷ rest) = subst (AreWithin rows) e within in
-      ap (rows_at rows) e ∙ rows_at-first rows entry rest (get_or rows entry.1 other) (slice_get-get_or rows entry.1 other there.0)
+      ap (rows_at rows) e ∙ rows_at-first rows entry rest (get_or rows entry.1 other)
+      (slice_get-get_or rows entry.1 other (first_within rows entries entry rest within e))
 
   pub placed_row : (key : ℕ) (rows : List V) (entries : List (ℕ × ℕ)) → AreWithin rows entries
       → row_at key (rows_at rows entries) ≡ option_and_then (slice_get rows) (row_at key entries)
-  unfolding rows_at
+  unfolding AreWithin rows_at
   placed_row key rows [] within = refl
   placed_row key rows (entry ∷ entries) within =
       let there = row_there rows entry.1 within.0 in
@@ -76,7 +96,7 @@ module _ {V : Type 0} where
       ]
 
   placed_keys : (rows : List V) (entries : List (ℕ × ℕ)) → AreWithin rows entries → keys_of (rows_at rows entries) ≡ keys_of entries
-  unfolding rows_at
+  unfolding AreWithin rows_at
   placed_keys rows [] within = refl
   placed_keys rows (entry ∷ entries) within =
       let there = row_there rows entry.1 within.0 in
@@ -94,6 +114,7 @@ module _ {V : Type 0} where
   -- a place that is found is one of them
   pub place_within : (rows : List V) (entries : List (ℕ × ℕ)) (key place : ℕ) → AreWithin rows entries → row_at key entries ≡ Some place
       → place < length rows
+  unfolding AreWithin
   place_within rows [] key place within e = absurd cc
   place_within rows (entry ∷ entries) key place within e = elim (cases_order key entry.0) [
     | inl here ↦
@@ -122,13 +143,14 @@ module _ {V : Type 0} where
 
   pub placed-append : (rows more : List V) (entries : List (ℕ × ℕ)) → AreWithin rows entries
       → rows_at (rows ++ more) entries ≡ rows_at rows entries
-  unfolding rows_at
+  unfolding AreWithin rows_at
   placed-append rows more [] within = refl
   placed-append rows more (entry ∷ entries) within =
       ap (λ (found : Option V). with_row entry.0 found (rows_at (rows ++ more) entries)) (slice_get-append rows more entry.1 within.0)
       ∙ ap (with_row entry.0 (slice_get rows entry.1)) (placed-append rows more entries within.1)
 
   pub within-append : (rows more : List V) (entries : List (ℕ × ℕ)) → AreWithin rows entries → AreWithin (rows ++ more) entries
+  unfolding AreWithin
   within-append rows more [] within = tt
   within-append rows more (entry ∷ entries) within =
       let first = within.0 in
@@ -140,7 +162,7 @@ module _ {V : Type 0} where
   placed-insert : (rows : List V) (entries : List (ℕ × ℕ)) (key place : ℕ) (row : V) → AreWithin rows entries
       → slice_get rows place ≡ Some row
       → rows_at rows (insert_entry nat_cmp entries key place) ≡ insert_entry nat_cmp (rows_at rows entries) key row
-  unfolding rows_at
+  unfolding AreWithin rows_at
   placed-insert rows [] key place row within e = rows_at-first rows (key, place) [] row e
   placed-insert rows (first ∷ entries) key place row within e =
       let there = row_there rows first.1 within.0 in
@@ -158,6 +180,7 @@ module _ {V : Type 0} where
 
   within-insert : (rows : List V) (entries : List (ℕ × ℕ)) (key place : ℕ) → AreWithin rows entries → place < length rows
       → AreWithin rows (insert_entry nat_cmp entries key place)
+  unfolding AreWithin
   within-insert rows [] key place within new = (new, tt)
   within-insert rows (first ∷ entries) key place within new = elim (cases_order key first.0) [
     | inl same ↦ rw (← nat_cmp_is key first.0 Equal same) (new, within.1)
@@ -243,6 +266,7 @@ module _ {V X : Type 0} (content : V → List ℕ) (other : X → List ℕ) wher
   module _ (old copied new : List V) (places : List (ℕ × ℕ)) (lent : List (ℕ × X)) (fresh : List (ℕ × ℕ)) (within : AreWithin old places)
       (e : new ≡ old ++ copied) (put : fresh ≡ numbered (length old) lent) (same : map content copied ≡ map (λ row. other row.1) lent) where
     fresh_within : AreWithin new fresh
+    unfolding AreWithin
     fresh_within =
         let room : length old + length lent ≤ length (old ++ copied) =
         omega (arith, length-append old copied, copied_count copied lent same) in
@@ -283,6 +307,7 @@ module _ {V X : Type 0} (content : V → List ℕ) (other : X → List ℕ) wher
         rw there.1 refl
 
     pub taken_within : (all : List (ℕ × ℕ)) → AreUnion places fresh all → AreWithin new all
+    unfolding AreWithin
     taken_within all union = union_rows (λ key place. place < length new) places fresh all old_within fresh_within union
 
     placed_union : (all : List (ℕ × ℕ)) → AreUnion places fresh all → AreUnion (rows_at new places) (rows_at new fresh) (rows_at new all)

@@ -16,11 +16,12 @@ module _ {V : Type 0} where
   rows_at rows (entry ∷ entries) = with_row entry.0 (slice_get rows entry.1) (rows_at rows entries)
 
   -- a row stands at each place
-  abbrev pub AreWithin : List V → List (ℕ × ℕ) → Type 0
+  unfoldable pub AreWithin : List V → List (ℕ × ℕ) → Type 0
   AreWithin rows entries = AllByRecursion (λ entry. entry.1 < length rows) entries
 
   -- it has at most one proof
   pub AreWithin-prop : (rows : List V) (entries : List (ℕ × ℕ)) → IsProp (AreWithin rows entries)
+  unfolding AreWithin
   AreWithin-prop rows entries = hlevel (props, le_prop)
 
   -- the keys with places that count up from the first one

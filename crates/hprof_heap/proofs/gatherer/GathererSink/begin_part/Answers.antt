@@ -9,3 +9,6 @@ returns-in-Some c = search rules
 
 pub returns-in-Some-2 : goal.returns-in-Some-2
 returns-in-Some-2 c = search rules
+
+pub invariant_of-self : goal.invariant_of-self
+invariant_of-self c = search rules
