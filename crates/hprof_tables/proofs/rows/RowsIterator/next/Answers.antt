@@ -32,7 +32,8 @@ invariant_of-self g c =
 pub offset_bounds-self-place : goal.offset_bounds-self-place
 offset_bounds-self-place g c =
     let rows = c.args.self.now in
-    let there = first_within rows.rows.now (entries_left rows.entries) (c.in_ok-key.key, c.in_ok-key.place.now) (entries_left c.next.new.self)
+    let there = first_within rows.rows.now (entries_left rows.entries) (c.in_ok-key.key, c.in_ok-key.place.now) (entries_left
+    c.next.new.self)
     rows.sound c.in_ok-key.ensures.steps in
     search rules
 
