@@ -137,6 +137,7 @@ impl<V: Content + Drop> Relation<V> {
         ensures absent { OnErr result (lookup (is_at (nat_cmp key)) (rows_of self.old) ≡ None) }
         ensures full { OnErr result (MayNeedMemory self.old key ⊎ T.refuses statement) }
     {
+        self.places.turn_to(key);
         match self.get(key) {
             None => {
                 self.add(key, statement)?;
