@@ -162,9 +162,9 @@ def measure(folder, dump, turns, work):
     return fastest, peaks
 
 
-def build(folder, programs):
-    """Builds the Java program that fills a heap, and Rust programs of this folder."""
-    subprocess.run(["javac", "-d", folder, HERE / "Fill.java"], check=True)
+def build(folder, programs, heap="Fill.java"):
+    """Builds a Java program that fills a heap, and Rust programs of this folder."""
+    subprocess.run(["javac", "-Xlint:-options", "-nowarn", "-d", folder, HERE / heap], check=True)
     for name in programs:
         subprocess.run(["rustc", "-O", "--edition", "2024", "-o", folder / name, HERE / f"{name}.rs"], check=True)
 

@@ -82,7 +82,11 @@ pub fn find_object(heap: &Heap, object: u64) -> Option<ObjectDump<'_>>
 /// `near` is set to the place of the dump, so that objects that are asked for in order of their identifiers are found one behind the other.
 /// The answer is the same for every `near`.
 #[inline(always)]
-pub fn find_object_near<'a>(heap: &'a Heap, object: u64, near: &mut Finger) -> Option<ObjectDump<'a>>
+pub fn find_object_near<'a>(
+    heap: &'a Heap,
+    object: u64,
+    near: &mut Finger,
+) -> Option<ObjectDump<'a>>
     ensures { IsFoundObject (size_of heap.now) (facts_of heap.now) object result }
 {
     holds_of_heap(heap);
