@@ -94,6 +94,8 @@ pub struct Relation<V> {
     places: SortedTable<usize>,
     alloc: Global,
     ghost sound: { AreWithin rows.items (entries_of places) } by { AreWithin-prop rows.items (entries_of places) },
+    // Each row has its key.
+    ghost count: { length rows.items ≡ length (entries_of places) },
 }
 
 impl<V: Content + Drop> Relation<V> {
