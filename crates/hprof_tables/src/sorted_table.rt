@@ -412,9 +412,10 @@ impl<V> SortedTable<V> {
         ensures same_room { IfOk result (λ answer. IfSome answer (λ _. room.new ≡ room.old)) }
     {
         self.begin()?;
+        let before = self.last;
         self.turn_to(key);
         let page = self.last;
-        match self.pages[page].place_of(key) {
+        match self.pages[page].place(key, page == before) {
             Ok(place) => Ok(Some(visitor.ask(&self.pages[page].rows[place].1, room))),
             Err(place) => {
                 let spot = self.room_for(key, Spot { page, place })?;
