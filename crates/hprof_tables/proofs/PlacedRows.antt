@@ -220,6 +220,11 @@ module _ {X : Type 0} where
   counted old rows lent these fresh first len put start count same all =
       put ∙ ap (λ (n : ℕ). numbered n these) (start ∙ count ∙ ap length same) ∙ ap (numbered (length old)) all
 
+  -- as many as there are rows
+  pub numbered-length : (first : ℕ) (lent : List (ℕ × X)) → length (numbered first lent) ≡ length lent
+  numbered-length first [] = refl
+  numbered-length first (row ∷ lent) = ap suc (numbered-length (first + 1) lent)
+
   numbered_keys : (first : ℕ) (lent : List (ℕ × X)) → keys_of (numbered first lent) ≡ keys_of lent
   numbered_keys first [] = refl
   numbered_keys first (row ∷ lent) = ap (λ (keys : List ℕ). row.0 ∷ keys) (numbered_keys (first + 1) lent)

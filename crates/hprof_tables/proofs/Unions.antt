@@ -1,5 +1,5 @@
 -- Rows whose keys are new, taken into those of a table.
-use Rattle.std.proofs.Common.{◌≡◌, ◌≢◌, ◌<◌, ◌⊎◌, ℕ, List, [], ◌∷◌, length, Option, Some, None, refl, sym, ap, subst, ◌∙◌, inl, inr}
+use Rattle.std.proofs.Common.{◌≡◌, ◌+◌, ◌≢◌, ◌<◌, ◌⊎◌, ℕ, List, [], ◌∷◌, length, Option, Some, None, refl, sym, ap, subst, ◌∙◌, inl, inr}
 use Rattle.std.proofs.Common.{arith}
 use Rattle.std.specs.Prelude.{is_some}
 use Rattle.std.specs.List.{AllByRecursion}
@@ -8,7 +8,8 @@ use Rattle.std.proofs.lemmas.Bool.{cases_order}
 use Rattle.hprof_tables.specs.SortedRows.{row_at, IsAscending, Misses, merged, AreKeys}
 use Rattle.hprof_tables.specs.Union.{AreApart, AreUnion}
 use Rattle.hprof_tables.proofs.SortedRows.{ascending_head, ascending_tail, row_at-here}
-use Rattle.hprof_tables.proofs.SortedRows.{row_at-past, merged-row, merged-ascending}
+use Rattle.hprof_tables.proofs.SortedRows.{row_at-past, merged-row, merged-ascending, merged-length}
+use Rattle.hprof_tables.proofs.SortedList.{one_list}
 use Rattle.hprof_tables.proofs.PageRows.{AreKeys-both}
 
 module _ {V : Type 0} where
@@ -87,6 +88,15 @@ module _ {V : Type 0} where
     ascends = merged-ascending rows fresh up more (apart_all rows fresh apart);
     each = λ key. merged-row key rows fresh (apart_all rows fresh apart);
   }
+
+  -- both have as many rows as they have apart
+  pub union-length : (rows fresh all : List (ℕ × V)) → IsAscending rows → IsAscending fresh → AreApart rows fresh → AreUnion rows fresh all
+      → length all ≡ length rows + length fresh
+  union-length rows fresh all up more apart union =
+      let one = merged_union rows fresh up more apart in
+      ap (λ (l : List (ℕ × V)). length l)
+      (one_list all (merged rows fresh) union.ascends one.ascends (λ key. union.each key ∙ sym (one.each key)))
+      ∙ merged-length rows fresh
 
   -- ---- each row of a union is one of both
 

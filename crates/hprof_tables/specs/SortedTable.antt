@@ -20,7 +20,7 @@ module _ {V : Type 0} where
 
   -- it has space for no row
   abbrev pub HasNoSpace : SortedTable V → Type 0
-  HasNoSpace table = vec_capacity table.pages ≡ 0
+  HasNoSpace table = (vec_capacity table.pages ≡ 0) × (vec_capacity table.hints.numbers ≡ 0)
 
   -- the row of a key goes to that place of the page, which has the key
   abbrev pub GoesIn : Option (Page V) → (key place : ℕ) → Type 0

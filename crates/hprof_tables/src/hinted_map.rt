@@ -11,14 +11,14 @@ use std::alloc::{AllocError, Global};
 use std::collections::BTreeMap;
 
 /// The number of hints.
-const HINTS: usize = 65_536;
+pub(crate) const HINTS: usize = 65_536;
 
 /// An odd number: the first bits of a key's product with it tell the slot of its hint.
 const SPREAD: u64 = 0x9E37_79B9_7F4A_7C15;
 
 /// Returns the slot of a key's hint. Other keys may have it too.
 #[inline(always)]
-fn slot_of(key: u64) -> usize
+pub(crate) fn slot_of(key: u64) -> usize
     ensures { result < HINTS }
 {
     (key.wrapping_mul(SPREAD) >> 48) as usize

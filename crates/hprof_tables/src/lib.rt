@@ -7,6 +7,7 @@ mod content;
 mod hinted_map;
 mod merging;
 mod page;
+mod page_hints;
 mod relation;
 mod rows;
 mod side_by_side;

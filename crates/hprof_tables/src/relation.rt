@@ -94,6 +94,8 @@ pub struct Relation<V> {
     places: SortedTable<usize>,
     alloc: Global,
     ghost sound: { AreWithin rows.items (entries_of places) } by { AreWithin-prop rows.items (entries_of places) },
+    // Each row has its key.
+    ghost count: { length rows.items ≡ length (entries_of places) },
 }
 
 impl<V: Content + Drop> Relation<V> {
@@ -137,6 +139,7 @@ impl<V: Content + Drop> Relation<V> {
         ensures absent { OnErr result (lookup (is_at (nat_cmp key)) (rows_of self.old) ≡ None) }
         ensures full { OnErr result (MayNeedMemory self.old key ⊎ T.refuses statement) }
     {
+        self.places.turn_to(key);
         match self.get(key) {
             None => {
                 self.add(key, statement)?;

@@ -14,6 +14,7 @@ ghost use Rattle.hprof_tables.specs.Union.{AreApart, AreUnion};
 
 use crate::merging::{merge_into, push_all};
 use crate::page::{Cut, Page};
+use crate::page_hints::PageHints;
 use std::alloc::{AllocError, Global};
 use std::collections::BTreeMap;
 use std::collections::btree_map::{Entry, Values};
@@ -89,6 +90,7 @@ pub(crate) struct SortedTable<V> {
     places: BTreeMap<u64, usize>,
     /// The number of the page that had the last key.
     last: usize,
+    hints: PageHints,
     /// The number of rows.
     len: usize,
     alloc: Global,
@@ -156,6 +158,7 @@ impl<V> SortedTable<V> {
             pages: Vec::new(alloc),
             places: BTreeMap::new(alloc),
             last: 0,
+            hints: PageHints::new(alloc),
             len: 0,
             alloc,
         }
@@ -173,15 +176,75 @@ impl<V> SortedTable<V> {
         }
     }
 
+    /// Returns whether the page of that number has a key.
+    #[inline(always)]
+    fn has_page(&self, number: usize, key: u64) -> bool
+        ensures { result ≡ true → HasKey (slice_get self.now.pages.items number) key }
+    {
+        match self.pages.get(number) {
+            Some(page) => page.has(key),
+            None => false,
+        }
+    }
+
+    /// Returns the number of the page that has a key, which is looked for by its hint first. There is a page.
+    #[inline(always)]
+    fn hinted_page(&self, key: u64) -> usize
+        requires { 0 < length self.now.pages.items }
+        ensures { HasKey (slice_get self.now.pages.items result) key }
+    {
+        match self.hints.get(key) {
+            Some(number) if self.has_page(number, key) => number,
+            _ => self.listed_page(key),
+        }
+    }
+
     /// Returns the number of the page that has a key, which is looked for at a number first. There is a page.
     #[inline(always)]
     fn page_near(&self, key: u64, near: usize) -> usize
         requires { 0 < length self.now.pages.items }
         ensures { HasKey (slice_get self.now.pages.items result) key }
     {
-        match self.pages.get(near) {
-            Some(page) if page.has(key) => near,
-            _ => self.listed_page(key),
+        if self.has_page(near, key) {
+            return near;
+        }
+        self.hinted_page(key)
+    }
+
+    /// Spreads the hints, if there are many pages, and again when they have doubled.
+    #[inline(always)]
+    fn spread_hints(&mut self)
+        ensures pages { self.new.pages ≡ self.old.pages }
+        ensures places { self.new.places ≡ self.old.places }
+        ensures count { self.new.len ≡ self.old.len }
+        ensures last { self.new.last ≡ self.old.last }
+    {
+        let count = self.pages.len();
+        if !self.hints.suit(count)
+            && let Some(lowest) = self.pages.first()
+            && let Some((highest, _)) = self.places.last_key_value()
+        {
+            self.hints.spread(highest.saturating_sub(lowest.to), count);
+        }
+    }
+
+    /// Turns to the page that has a key, if there is a page, so that it is found at once when the key comes next.
+    #[inline(always)]
+    pub(crate) fn turn_to(&mut self, key: u64)
+        ensures has { 0 < length self.old.pages.items → HasKey (slice_get self.new.pages.items self.new.last) key }
+        ensures rows { entries_of self.new ≡ entries_of self.old }
+        ensures pages { self.new.pages ≡ self.old.pages }
+        ensures places { self.new.places ≡ self.old.places }
+        ensures count { self.new.len ≡ self.old.len }
+    {
+        if self.pages.is_empty() {
+            return;
+        }
+        let page = self.page_near(key, self.last);
+        if page != self.last {
+            self.spread_hints();
+            self.hints.leave(key, page);
+            self.last = page;
         }
     }
 
@@ -349,12 +412,11 @@ impl<V> SortedTable<V> {
         ensures same_room { IfOk result (λ answer. IfSome answer (λ _. room.new ≡ room.old)) }
     {
         self.begin()?;
-        let page = self.page_near(key, self.last);
-        match self.pages[page].place_of(key) {
-            Ok(place) => {
-                self.last = page;
-                Ok(Some(visitor.ask(&self.pages[page].rows[place].1, room)))
-            }
+        let before = self.last;
+        self.turn_to(key);
+        let page = self.last;
+        match self.pages[page].place(key, page == before) {
+            Ok(place) => Ok(Some(visitor.ask(&self.pages[page].rows[place].1, room))),
             Err(place) => {
                 let spot = self.room_for(key, Spot { page, place })?;
                 self.make_at(spot, key, visitor, room)?;
@@ -423,6 +485,7 @@ impl<V> SortedTable<V> {
             pages,
             places,
             last: 0,
+            hints: PageHints::new(alloc),
             len,
             alloc,
         };
