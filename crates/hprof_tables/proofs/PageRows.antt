@@ -200,18 +200,6 @@ module _ {V : Type 0} where
     above = keys_behind (λ other. key < other) rows (length rows) (λ k d le lt. absurd (omega arith));
   }
 
-  -- a row goes between two that are next to one another
-  pub goes_between : (rows : List (ℕ × V)) (key place : ℕ) (row : ℕ × V) → IsAscending rows → place < length rows
-      → row ≡ get_or rows place row → key < row.0 → ((other : ℕ) (d : ℕ × V) → other < place → (get_or rows other d).0 < key)
-      → GoesTo key place rows
-  goes_between rows key place row up lt here below above = record {
-    within = omega arith;
-    below = keys_before (λ other. other < key) rows place (omega arith) above;
-    above = keys_behind (λ other. key < other) rows place (λ k d le less.
-        let e : row.0 ≡ (get_or rows place row).0 = ap (λ (r : ℕ × V). r.0) here in
-        let h = not_falling rows place k row d up le less in omega arith);
-  }
-
   -- all keys are below one that is above the last of them
   pub all_below : (key : ℕ) (rows : List (ℕ × V)) → IsAscending rows → end_of rows ≤ key → AreKeys (λ other. other < key) rows
   all_below key rows up le =

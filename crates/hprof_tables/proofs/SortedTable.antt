@@ -9,12 +9,13 @@ use Rattle.std.proofs.lemmas.Bool.{cases_lt}
 use Rattle.std.proofs.lemmas.List.{append_assoc, append-nil}
 use Rattle.std.proofs.lemmas.Option.{get_or_from_slice_get, slice_get_within}
 use Rattle.hprof_tables.specs.declared.page.Page.{Page}
+use Rattle.hprof_tables.specs.declared.sorted_table.SortedTable.{SortedTable}
 use Rattle.hprof_tables.specs.declared.sorted_table.Spot.{Spot}
 use Rattle.hprof_tables.specs.Page.{LacksRoomFor}
 use Rattle.hprof_tables.specs.PageRows.{GoesTo}
 use Rattle.hprof_tables.specs.Pages.{AreChained, AreListed, ArePagesCut, HasKey, HaveAllKeys, first_key, last_key, rows_along, rows_in}
-use Rattle.hprof_tables.specs.SortedRows.{row_at, AreKeys}
-use Rattle.hprof_tables.specs.SortedTable.{GoesIn, IsSpot, LacksRoomThere}
+use Rattle.hprof_tables.specs.SortedRows.{merged, row_at, AreKeys}
+use Rattle.hprof_tables.specs.SortedTable.{entries_of, GoesIn, IsSpot, LacksRoomThere}
 use Rattle.hprof_tables.proofs.PageRows.{goes_new, row_at_place}
 use Rattle.hprof_tables.proofs.Pages.{along-replaced, chained-replaced, cut_first, cut_next, get_replaced, listed-cut}
 use Rattle.hprof_tables.proofs.Pages.{listed-row, listed-single, rows-cut}
@@ -206,13 +207,23 @@ module _ {V : Type 0} where
 
   -- ---- a single page
 
-  pub single_listed : (pages : List (Page V)) (places : List (ℕ × ℕ)) (page : Page V) → pages ≡ page ∷ [] → places ≡ (0, 0) ∷ []
-      → page.from ≡ 0 → page.to + 1 ≡ 2 ^ 64 → AreListed pages places
-  single_listed pages places page one other from to = rw (one, other) (listed-single page from to)
+  pub single_listed : (before pages : List (Page V)) (places : List (ℕ × ℕ)) (page : Page V) → before ≡ []
+      → pages ≡ before ++ page ∷ [] → places ≡ (0, 0) ∷ [] → page.from ≡ 0 → page.to + 1 ≡ 2 ^ 64 → AreListed pages places
+  single_listed before pages places page none one other from to = rw (one, none, other) (listed-single page from to)
 
-  pub single_rows : (pages : List (Page V)) (places : List (ℕ × ℕ)) (page : Page V) → pages ≡ page ∷ [] → places ≡ (0, 0) ∷ []
-      → rows_along pages (values_of places) ≡ page.rows.items
-  single_rows pages places page one other = rw (one, other) (append-nil page.rows.items)
+  pub single_rows : (before pages : List (Page V)) (places : List (ℕ × ℕ)) (page : Page V) → before ≡ []
+      → pages ≡ before ++ page ∷ [] → places ≡ (0, 0) ∷ [] → rows_along pages (values_of places) ≡ page.rows.items
+  single_rows before pages places page none one other = rw (one, none, other) (append-nil page.rows.items)
+
+  -- ---- rows that are merged
+
+  -- the rows of a table that are moved behind none, and then merged with others behind none, are those of both
+  pub all_merged : (table taken : SortedTable V) (fresh before run none all : List (ℕ × V)) → before ≡ [] → taken ≡ table
+      → run ≡ before ++ entries_of taken → none ≡ [] → all ≡ none ++ merged run fresh → all ≡ merged (entries_of table) fresh
+  all_merged table taken fresh before run none all no_before same moved no_all is =
+      let rows : run ≡ entries_of table = moved ∙ ap (λ (l : List (ℕ × V)). l ++ entries_of taken) no_before
+      ∙ ap (λ (t : SortedTable V). entries_of t) same in
+      is ∙ ap (λ (l : List (ℕ × V)). l ++ merged run fresh) no_all ∙ ap (λ (l : List (ℕ × V)). merged l fresh) rows
 
 -- rows that are moved behind others, with what is to come, are all
 pub moved_rows : {X : Type 0} (rows new taken page rest more all : List X) → rows ++ (page ++ rest) ≡ all → new ≡ rows ++ taken

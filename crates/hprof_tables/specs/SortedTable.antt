@@ -4,7 +4,7 @@ use Rattle.std.specs.Map.{values_of}
 use Rattle.hprof_tables.specs.declared.page.Page.{Page}
 use Rattle.hprof_tables.specs.declared.sorted_table.SortedTable.{SortedTable}
 use Rattle.hprof_tables.specs.declared.sorted_table.Spot.{Spot}
-use Rattle.hprof_tables.specs.declared.sorted_table.Entries.{Entries}
+use Rattle.hprof_tables.specs.declared.entries.Entries.{Entries}
 use Rattle.hprof_tables.specs.Page.{HasRoom, LacksRoomFor}
 use Rattle.hprof_tables.specs.PageRows.{GoesTo}
 use Rattle.hprof_tables.specs.Pages.{HasKey, rows_along}

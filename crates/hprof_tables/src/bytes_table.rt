@@ -12,9 +12,12 @@ ghost use Rattle.hprof_tables.specs.StatedBytes.{bytes_of};
 ghost use Rattle.hprof_tables.specs.Relation.{contents_of};
 ghost use Rattle.hprof_tables.specs.SortedTable.{entries_of, entries_left};
 
+use crate::entries::Entries;
+use crate::finger::Finger;
 use crate::relation::Stated;
 use crate::side_by_side::{LentBytes, first_difference, missing_rows, same_rows};
-use crate::sorted_table::{Entries, Finger, SortedTable, Visit};
+use crate::sorted_table::SortedTable;
+use crate::visit::Visit;
 use std::alloc::{AllocError, Global};
 
 /// The place of a row: its length and its bytes start there.

@@ -4,6 +4,8 @@
 
 mod bytes_table;
 mod content;
+mod entries;
+mod finger;
 mod hinted_map;
 mod merging;
 mod page;
@@ -12,10 +14,11 @@ mod relation;
 mod rows;
 mod side_by_side;
 mod sorted_table;
+mod visit;
 
 pub use bytes_table::{BytesRows, BytesTable};
 pub use content::{Content, Statement};
+pub use finger::Finger;
 pub use hinted_map::HintedMap;
 pub use relation::{Relation, Stated};
 pub use rows::Rows;
-pub use sorted_table::Finger;

@@ -18,9 +18,6 @@ const MOST_AMONG: usize = 64;
 /// A page of so many rows is cut before a row goes behind them, which moves none.
 const MOST: usize = 1024;
 
-/// So many rows are looked at side by side.
-const BLOCK: usize = 16;
-
 /// The room for so many rows is taken at once.
 const SPARE: usize = 16;
 
@@ -62,7 +59,7 @@ impl<V> Page<V> {
         ensures to { result.to + 1 ≡ 2 ^ 64 }
         ensures rows { result.rows.items ≡ rows.items }
     {
-        // No key is above the last one, and so above all numbers of its type.
+        // The last key is a `u64`, and no other key is above it.
         let _last = last_key(&rows);
         Page {
             from: 0,
@@ -105,7 +102,7 @@ impl<V> Page<V> {
     pub(crate) fn get(&self, key: u64) -> Option<&V>
         ensures { option_copied result ≡ row_at key self.now.rows.items }
     {
-        match self.place_apart(key) {
+        match self.place_of(key) {
             Ok(place) => Some(&self.rows[place].1),
             Err(_) => None,
         }
@@ -158,55 +155,6 @@ impl<V> Page<V> {
             return None;
         }
         self.get(key)
-    }
-
-    /// Returns a place at which a key may stand, or in front of which it lies, among the first 64 rows. Its steps do not wait for one another,
-    /// so that memory is asked for side by side. It is a guess.
-    #[inline(always)]
-    fn guess_wide(&self, key: u64) -> usize {
-        let rows = self.rows.as_slice();
-        let blocks = rows.iter().skip(BLOCK - 1).step_by(BLOCK).take(3);
-        let from = rows
-            .len()
-            .min(BLOCK * blocks.filter(|row| row.0 < key).count().min(3));
-        let block = rows[from..].iter().take(BLOCK);
-        from.saturating_add(block.filter(|row| row.0 < key).count())
-    }
-
-    /// Returns the place of a key, as `place_of` does, if the page is not at hand.
-    #[inline(always)]
-    pub(crate) fn place_apart(&self, key: u64) -> Result<usize, usize>
-        ensures there { IfOk result (λ place. (place < length self.now.rows.items)
-            × ((row : ℕ × V) → (slice_index_or self.now.rows.items place row).0 ≡ key)) }
-        ensures new { IfErr result (λ place. GoesTo key place self.now.rows.items) }
-    {
-        if self.ends_below(key) {
-            return Err(self.rows.len());
-        }
-        let place = self.guess_wide(key);
-        if place < self.rows.len() {
-            let other = self.rows[place].0;
-            if other == key {
-                return Ok(place);
-            }
-            if key < other && self.lies_behind(key, place) {
-                return Err(place);
-            }
-        }
-        self.place_of(key)
-    }
-
-    /// Returns the place of a key, as `place_of` does, in a page that is at hand or not.
-    #[inline(always)]
-    pub(crate) fn place(&self, key: u64, is_at_hand: bool) -> Result<usize, usize>
-        ensures there { IfOk result (λ place. (place < length self.now.rows.items)
-            × ((row : ℕ × V) → (slice_index_or self.now.rows.items place row).0 ≡ key)) }
-        ensures new { IfErr result (λ place. GoesTo key place self.now.rows.items) }
-    {
-        if is_at_hand {
-            return self.place_of(key);
-        }
-        self.place_apart(key)
     }
 
     /// Returns whether there is room behind the last row for one under that key, so that it is put there without a search.

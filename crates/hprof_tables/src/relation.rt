@@ -11,7 +11,8 @@ ghost use Rattle.hprof_tables.specs.SortedTable.{entries_of};
 use crate::content::{Content, Made, Statement};
 use crate::rows::Rows;
 use crate::side_by_side::{first_difference, missing_rows, same_rows};
-use crate::sorted_table::{SortedTable, Visit};
+use crate::sorted_table::SortedTable;
+use crate::visit::Visit;
 use std::alloc::{AllocError, Global};
 
 /// The result of stating a fact.

@@ -3,7 +3,7 @@
 ghost use Rattle.hprof_tables.specs.PlacedRows.{AreWithin, AreWithin-prop};
 ghost use Rattle.hprof_tables.specs.SortedTable.{entries_left};
 
-use crate::sorted_table::Entries;
+use crate::entries::Entries;
 
 /// The rows of a table with their keys, in order of key.
 #[derive(Drop)]

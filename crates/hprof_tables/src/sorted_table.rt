@@ -1,79 +1,27 @@
 //! A table of rows by key, which keeps them in pages: a key that comes near the one before is mostly in the same page.
 
-ghost use Rattle.std.specs.Prelude.{◌≡◌, ◌+◌, ◌++◌, ◌↔◌, ◌≤◌, ◌^◌, ◌⊎◌, ℕ, List, [], length};
-ghost use Rattle.std.specs.Prelude.{IsTrue, IfOk, IfSome, IfNone, OnOk, OnErr, None, ◌<◌};
+ghost use Rattle.std.specs.Prelude.{◌≡◌, ◌+◌, ◌++◌, ◌≤◌, ◌^◌, ◌⊎◌, ℕ, List, [], length};
+ghost use Rattle.std.specs.Prelude.{IfOk, IfSome, OnOk, OnErr, None, ◌<◌};
 ghost use Rattle.std.specs.Prelude.{slice_get, true, vec_capacity, vec_len};
 ghost use Rattle.std.specs.Option.{option_copied};
 ghost use Rattle.std.specs.Ordering.{nat_cmp};
 ghost use Rattle.std.specs.BTreeMap.{insert_entry};
 ghost use Rattle.std.specs.Map.{values_of};
 ghost use Rattle.hprof_tables.specs.Page.{CutsFor, HasRoom};
-ghost use Rattle.hprof_tables.specs.Pages.{AreListed, AreListed-prop, ArePagesCut, HasKey, rows_along, rows_in};
+ghost use Rattle.hprof_tables.specs.Pages.{AreListed, AreListed-prop, ArePagesCut, HasKey, rows_along};
 ghost use Rattle.hprof_tables.specs.SortedRows.{IsAscending, LeavesUnmade, row_at, Visits};
 ghost use Rattle.hprof_tables.specs.Union.{AreApart, AreUnion};
 
+use crate::entries::Entries;
+use crate::finger::Finger;
 use crate::merging::{merge_into, push_all};
 use crate::page::{Cut, Page};
 use crate::page_hints::PageHints;
+use crate::visit::Visit;
 use std::alloc::{AllocError, Global};
 use std::collections::BTreeMap;
-use std::collections::btree_map::{Entry, Values};
+use std::collections::btree_map::Entry;
 use std::mem;
-
-/// A visit of a key: a row that is there is asked, and one is made if there is none.
-pub(crate) trait Visit<V> {
-    /// The answer of a row that is there.
-    type Answer;
-
-    /// The room for the data that rows have outside the table.
-    type Room;
-
-    // The bytes of the room.
-    ghost held: { Self.Room → List ℕ };
-
-    // What a row may answer, with those bytes in the room.
-    ghost answers: { Self → List ℕ → V → Self.Answer → Type 0 };
-
-    // The rows that may be made, with the bytes that were in the room and those that then are.
-    ghost makes: { Self → List ℕ → V → List ℕ → Type 0 };
-
-    // Where the memory for a row may be refused.
-    ghost refuses: { Self → Self.Room → Type 0 };
-
-    // What becomes of the room that was had, used or to spare.
-    ghost grows: { Self.Room → Self.Room → Type 0 };
-
-    /// Asks the row that is there.
-    fn ask(self, row: &V, room: &Self::Room) -> Self::Answer
-        ensures { answers self (held room.now) row.now result };
-
-    /// Makes the row. If memory runs out, the room keeps what it had.
-    fn make(self, room: &mut Self::Room) -> Result<V, AllocError>
-        ensures ok { IfOk result (λ row. makes self (held room.old) row (held room.new)) }
-        ensures err { OnErr result (held room.new ≡ held room.old) }
-        ensures full { OnErr result (refuses self room.old) }
-        ensures room { grows room.old room.new };
-}
-
-/// Where a row was found in a table: the number of its page, and its place there. Keys that come in order are found one behind the other
-/// from there on; the answers are the same for all fingers.
-#[derive(Clone, Copy, Debug, PartialEq, Eq)]
-pub struct Finger {
-    /// The number of a page of the table.
-    pub page: usize,
-    /// The place of a row of the page.
-    pub place: usize,
-}
-
-impl Finger {
-    /// Returns the finger from which a first key is looked for.
-    pub fn start() -> Finger
-        ensures page { result.page ≡ 0 }
-        ensures place { result.place ≡ 0 }
-    {
-        Finger { page: 0, place: 0 }
-    }
-}
 
 /// Where the row of a key goes: the number of the page that has the key, and the place among its rows.
 #[derive(Clone, Copy)]
@@ -412,10 +360,9 @@ impl<V> SortedTable<V> {
         ensures same_room { IfOk result (λ answer. IfSome answer (λ _. room.new ≡ room.old)) }
     {
         self.begin()?;
-        let before = self.last;
         self.turn_to(key);
         let page = self.last;
-        match self.pages[page].place(key, page == before) {
+        match self.pages[page].place_of(key) {
             Ok(place) => Ok(Some(visitor.ask(&self.pages[page].rows[place].1, room))),
             Err(place) => {
                 let spot = self.room_for(key, Spot { page, place })?;
@@ -509,66 +456,5 @@ impl<V> SortedTable<V> {
             numbers: self.places.values(),
             pages: self.pages.as_slice(),
         }
-    }
-}
-
-/// Returns the rows of the page of that number.
-#[inline(always)]
-fn rows_of_page<V>(pages: &[Page<V>], number: usize) -> &[(u64, V)]
-    ensures { result.now ≡ rows_in (slice_get pages.now number) }
-{
-    match pages.get(number) {
-        Some(page) => page.rows.as_slice(),
-        None => &[],
-    }
-}
-
-/// The rows of a table with their keys, in order of key.
-#[derive(Drop)]
-pub(crate) struct Entries<'a, V> {
-    /// Those of a page that are still to come.
-    rows: &'a [(u64, V)],
-    /// The numbers of the pages behind it.
-    numbers: Values<'a, u64, usize>,
-    pages: &'a [Page<V>],
-}
-
-impl<'a, V> Entries<'a, V> {
-    ghost use Rattle.std.specs.Iterator.{YieldsFirstBy};
-    ghost use Rattle.hprof_tables.specs.SortedTable.{entries_left};
-
-    /// Takes the first row of the next page that has one.
-    #[inline(never)]
-    fn next_of_page(&mut self) -> Option<(u64, &'a V)>
-        requires { self.old.rows.now ≡ [] }
-        ensures { YieldsFirstBy (λ row. (row.0, row.1.now)) entries_left self.old result self.new }
-    {
-        while let Some(number) = self.numbers.next() {
-            if let Some((row, rest)) = rows_of_page(self.pages, *number).split_first() {
-                self.rows = rest;
-                return Some((row.0, &row.1));
-            }
-        }
-        None
-    }
-}
-
-impl<'a, V> Iterator for Entries<'a, V> {
-    ghost use Rattle.std.specs.Iterator.{YieldsFirstBy, item_count};
-    ghost use Rattle.hprof_tables.specs.SortedTable.{entries_left};
-
-    type Item = (u64, &'a V);
-
-    ghost next_gives = { YieldsFirstBy (λ row. (row.0, row.1.now)) entries_left };
-
-    ghost remaining = { item_count entries_left };
-
-    #[inline(always)]
-    fn next(&mut self) -> Option<(u64, &'a V)> {
-        let Some((row, rest)) = self.rows.split_first() else {
-            return self.next_of_page();
-        };
-        self.rows = rest;
-        Some((row.0, &row.1))
     }
 }

@@ -7,7 +7,7 @@ use Rattle.hprof_tables.specs.Pages.{rows_along}
 use Rattle.hprof_tables.specs.Union.{AreUnion}
 use Rattle.hprof_tables.proofs.SortedRows.{merged-length}
 use Rattle.hprof_tables.proofs.Pages.{listed-ascending}
-use Rattle.hprof_tables.proofs.SortedTable.{single_listed, single_rows}
+use Rattle.hprof_tables.proofs.SortedTable.{all_merged, single_listed, single_rows}
 use Rattle.hprof_tables.proofs.Unions.{merged_union, nothing_taken}
 use Rattle.hprof_tables.proofs.sorted_table.SortedTable.merge.Goals as goal
 
@@ -23,16 +23,10 @@ of-requires g c =
     let old = c.args.self.now in
     let fresh = c.args.fresh.items in
     let rows = rows_along old.pages.items (values_of old.places.entries) in
-    let none : c.reserve_exact.new.self.items ≡ [] = search rules in
-    let none_all : c.reserve_exact-2.new.self.items ≡ [] = search rules in
-    let run : c.move_rows.new.rows.items ≡ rows =
-    c.move_rows.ensures
-    ∙ ap (λ (l : List (ℕ × g.row.V.Denot)). l
-    ++ rows_along c.replace-old.result.pages.items (values_of c.replace-old.result.places.entries)) none
-    ∙ ap (λ (t : SortedTable g.row.V.Denot). rows_along t.pages.items (values_of t.places.entries)) c.replace-old.ensures.value in
-    let all : c.merge_into.new.all.items ≡ merged rows fresh =
-    c.merge_into.ensures ∙ ap (λ (l : List (ℕ × g.row.V.Denot)). l ++ merged c.move_rows.new.rows.items fresh) none_all
-    ∙ ap (λ (l : List (ℕ × g.row.V.Denot)). merged l fresh) run in
+    let all =
+    all_merged old c.replace-old.result fresh c.reserve_exact.new.self.items c.move_rows.new.rows.items
+    c.reserve_exact-2.new.self.items c.merge_into.new.all.items (search rules) c.replace-old.ensures.value c.move_rows.ensures (search rules)
+    c.merge_into.ensures in
     subst IsAscending (sym all)
     (merged_union rows fresh (listed-ascending old.pages.items old.places.entries old.listed) c.requires.ascending c.requires.apart).ascends
 
@@ -41,29 +35,24 @@ invariant_of-drop g c =
     let old = c.args.self.now in
     let fresh = c.args.fresh.items in
     let rows = rows_along old.pages.items (values_of old.places.entries) in
-    let none : c.reserve_exact.new.self.items ≡ [] = search rules in
-    let none_all : c.reserve_exact-2.new.self.items ≡ [] = search rules in
-    let run : c.move_rows.new.rows.items ≡ rows =
-    c.move_rows.ensures
-    ∙ ap (λ (l : List (ℕ × g.row.V.Denot)). l
-    ++ rows_along c.replace-old.result.pages.items (values_of c.replace-old.result.places.entries)) none
-    ∙ ap (λ (t : SortedTable g.row.V.Denot). rows_along t.pages.items (values_of t.places.entries)) c.replace-old.ensures.value in
-    let all : c.merge_into.new.all.items ≡ merged rows fresh =
-    c.merge_into.ensures ∙ ap (λ (l : List (ℕ × g.row.V.Denot)). l ++ merged c.move_rows.new.rows.items fresh) none_all
-    ∙ ap (λ (l : List (ℕ × g.row.V.Denot)). merged l fresh) run in
-    let none_pages : c.reserve_exact-3.new.self.items ≡ [] = search rules in
-    let pages : c.push_reserved.new.self.items ≡ c.of.result ∷ [] =
-    c.push_reserved.ensures.items ∙ ap (λ (l : List (Page g.row.V.Denot)). l ++ c.of.result ∷ []) none_pages in
+    let all =
+    all_merged old c.replace-old.result fresh c.reserve_exact.new.self.items c.move_rows.new.rows.items
+    c.reserve_exact-2.new.self.items c.merge_into.new.all.items (search rules) c.replace-old.ensures.value c.move_rows.ensures (search rules)
+    c.merge_into.ensures in
+    let none : c.reserve_exact-3.new.self.items ≡ [] = search rules in
     let places : c.insert.new.self.entries ≡ (0, 0) ∷ [] = search rules in
-    let single = single_rows c.push_reserved.new.self.items c.insert.new.self.entries c.of.result pages places ∙ c.of.ensures.rows ∙ all in
+    let single =
+    single_rows c.reserve_exact-3.new.self.items c.push_reserved.new.self.items c.insert.new.self.entries c.of.result none
+    c.push_reserved.ensures.items places
+    ∙ c.of.ensures.rows ∙ all in
     let both = ap (λ (l : List (ℕ × g.row.V.Denot)). length l) single ∙ merged-length rows fresh in
     let count = old.count in
     let more : c.len.result ≡ length fresh = search rules in
     let sum : c.in-Some.len ≡ old.len + c.len.result = search rules in
     let len : c.in-Some.len ≡ length rows + length fresh = omega arith in
     record {
-      listed = single_listed c.push_reserved.new.self.items c.insert.new.self.entries c.of.result pages places c.of.ensures.from
-          c.of.ensures.to;
+      listed = single_listed c.reserve_exact-3.new.self.items c.push_reserved.new.self.items c.insert.new.self.entries c.of.result none
+          c.push_reserved.ensures.items places c.of.ensures.from c.of.ensures.to;
       count = len ∙ sym both;
     }
 
@@ -72,20 +61,15 @@ returns-clause-ok g c =
     let old = c.args.self.now in
     let fresh = c.args.fresh.items in
     let rows = rows_along old.pages.items (values_of old.places.entries) in
-    let none : c.reserve_exact.new.self.items ≡ [] = search rules in
-    let none_all : c.reserve_exact-2.new.self.items ≡ [] = search rules in
-    let run : c.move_rows.new.rows.items ≡ rows =
-    c.move_rows.ensures
-    ∙ ap (λ (l : List (ℕ × g.row.V.Denot)). l
-    ++ rows_along c.replace-old.result.pages.items (values_of c.replace-old.result.places.entries)) none
-    ∙ ap (λ (t : SortedTable g.row.V.Denot). rows_along t.pages.items (values_of t.places.entries)) c.replace-old.ensures.value in
-    let all : c.merge_into.new.all.items ≡ merged rows fresh =
-    c.merge_into.ensures ∙ ap (λ (l : List (ℕ × g.row.V.Denot)). l ++ merged c.move_rows.new.rows.items fresh) none_all
-    ∙ ap (λ (l : List (ℕ × g.row.V.Denot)). merged l fresh) run in
-    let none_pages : c.reserve_exact-3.new.self.items ≡ [] = search rules in
-    let pages : c.push_reserved.new.self.items ≡ c.of.result ∷ [] =
-    c.push_reserved.ensures.items ∙ ap (λ (l : List (Page g.row.V.Denot)). l ++ c.of.result ∷ []) none_pages in
+    let all =
+    all_merged old c.replace-old.result fresh c.reserve_exact.new.self.items c.move_rows.new.rows.items
+    c.reserve_exact-2.new.self.items c.merge_into.new.all.items (search rules) c.replace-old.ensures.value c.move_rows.ensures (search rules)
+    c.merge_into.ensures in
+    let none : c.reserve_exact-3.new.self.items ≡ [] = search rules in
     let places : c.insert.new.self.entries ≡ (0, 0) ∷ [] = search rules in
-    let single = single_rows c.push_reserved.new.self.items c.insert.new.self.entries c.of.result pages places ∙ c.of.ensures.rows ∙ all in
+    let single =
+    single_rows c.reserve_exact-3.new.self.items c.push_reserved.new.self.items c.insert.new.self.entries c.of.result none
+    c.push_reserved.ensures.items places
+    ∙ c.of.ensures.rows ∙ all in
     subst (AreUnion rows fresh) (sym single)
     (merged_union rows fresh (listed-ascending old.pages.items old.places.entries old.listed) c.requires.ascending c.requires.apart)

@@ -1,6 +1,6 @@
 use Rattle.std.proofs.Common.{◌≡◌, [], length}
 use Rattle.hprof_tables.specs.SortedTable.{entries_left}
-use Rattle.hprof_tables.proofs.sorted_table.Entries.next_of_page.Given as goal
+use Rattle.hprof_tables.proofs.entries.Entries.next_of_page.Given as goal
 
 -- no row was taken
 abbrev pub invariant-loop-number : goal.invariant-loop-number
