@@ -3,7 +3,6 @@ pub mod LabelTexts
 pub mod RowSums
 pub mod Keeping
 pub mod ChangeOrder
-pub mod Joining
 pub mod OneTotal
 pub mod KeptLabels
 pub mod OneDifference

@@ -23,7 +23,7 @@ use Rattle.hprof_growth.specs.Difference.{ChangeValue, Differs, IsDifference, ch
 use Rattle.hprof_growth.specs.Changes.{changes_among, differs}
 use Rattle.hprof_growth.specs.Kept.{has_label, labels_in, totals_in}
 use Rattle.hprof_growth.proofs.ChangeOrder.{change_cmp_total, same_label, tied_labels}
-use Rattle.hprof_growth.proofs.Joining.{join_one}
+use Rattle.hprof_histogram.proofs.Joining.{join_one}
 use Rattle.hprof_growth.proofs.KeptLabels.{in_labels, label_in, none_kept}
 use Rattle.hprof_growth.proofs.OneTotal.{HasNone, counted_or_none, labels_of}
 

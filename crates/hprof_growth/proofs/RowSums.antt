@@ -24,7 +24,7 @@ use Rattle.hprof_histogram.proofs.Members.{Contains-from_in}
 use Rattle.hprof_histogram.proofs.OneHistogram.{one_kind}
 use Rattle.hprof_histogram.proofs.RowOrder.{row_cmp_total, same_kind_flips, same_row_kind}
 use Rattle.hprof_growth.specs.Sources.{FitsCounted, counted_of_row, sum_of}
-use Rattle.hprof_growth.proofs.Joining.{all_from_in}
+use Rattle.hprof_histogram.proofs.Joining.{all_from_in}
 
 -- ---- an object has at most 2^36 bytes
 

@@ -2,6 +2,7 @@ pub mod Gathered
 pub mod RowOrder
 pub mod Tallies
 pub mod Members
+pub mod Joining
 pub mod OneHistogram
 pub mod FactCounts
 pub mod CandidateRows

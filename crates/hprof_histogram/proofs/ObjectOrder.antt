@@ -22,11 +22,12 @@ use Rattle.hprof_histogram.specs.declared.row.Kind.{Kind}
 use Rattle.hprof_histogram.specs.Histogram.{is_kind, object_kind, of_kind}
 use Rattle.hprof_histogram.specs.Objects.{AreObjects, IsObjectOfKind, id_of_object, object_cmp, sized_of}
 use Rattle.hprof_histogram.proofs.KindObjects.{object_cmp_total, of_these}
+use Rattle.hprof_histogram.proofs.Joining.{join_one}
 use Rattle.hprof_histogram.proofs.Members.{IsIn, Contains-from_in, in_from_Contains, one_sorted}
 use Rattle.hprof_histogram.proofs.FactCounts.{kept_first, left_out}
 use Rattle.hprof_histogram.proofs.OneHistogram.{is_of_kind}
 use Rattle.hprof_histogram.proofs.RowOrder.{then_tied, tied_numbers}
-use Rattle.hprof_histogram.proofs.SomeHistogram.{first_tied, join_one}
+use Rattle.hprof_histogram.proofs.SomeHistogram.{first_tied}
 use Rattle.hprof_histogram.proofs.Tallies.{same_itself}
 
 -- ---- members
