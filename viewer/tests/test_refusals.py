@@ -126,6 +126,10 @@ class Refused(unittest.TestCase):
             with Viewer(FRIDAY) as viewer:
                 viewer.page("")
                 self.assertEqual(viewer.end(sign), (0, ""))
+        with Viewer(FRIDAY) as viewer:
+            viewer.page("")
+            viewer.process.send_signal(signal.SIGINT)
+            self.assertEqual(viewer.end(signal.SIGTERM), (0, ""))
         with Viewer(self.script(wait=60), program=FAKE) as viewer:
             self.assertIn("Reading the dump", viewer.request(viewer.base).page.text)
             self.assertEqual(viewer.end(), (0, ""))

@@ -20,7 +20,19 @@ class Interrupted(Exception):
 
 
 def interrupt(number, frame):
+    handle_endings(be_patient)
     raise Interrupted
+
+
+def be_patient(number, frame):
+    """A further signal changes nothing: hprof and the server are being ended."""
+
+
+def handle_endings(handler):
+    """Sets what the signals to end do. A SIGHUP that is ignored, as under nohup, stays so."""
+    for sign in (signal.SIGINT, signal.SIGTERM, signal.SIGHUP):
+        if signal.getsignal(sign) != signal.SIG_IGN:
+            signal.signal(sign, handler)
 
 
 def serve(found, hprof):
@@ -40,9 +52,10 @@ def serve(found, hprof):
         site.refused.wait()
         if seen.wait(UNSEEN_SECONDS):
             threading.Event().wait(SEEN_SECONDS)
-    except (Interrupted, KeyboardInterrupt):
+    except Interrupted:
         pass
     finally:
+        handle_endings(be_patient)
         status = 1 if site.refused.is_set() else 0
         site.end()
         if opener:
@@ -66,10 +79,10 @@ def main():
     hprof = words.program(found.hprof)
     if not hprof:
         sys.exit("hprof_view: no hprof was found; build it, or name it with --hprof")
-    signal.signal(signal.SIGTERM, interrupt)
-    if signal.getsignal(signal.SIGHUP) != signal.SIG_IGN:
-        signal.signal(signal.SIGHUP, interrupt)
+    handle_endings(interrupt)
     try:
         sys.exit(serve(found, hprof))
+    except Interrupted:
+        sys.exit(0)
     except OSError as fault:
         sys.exit(f"hprof_view: {fault}")
