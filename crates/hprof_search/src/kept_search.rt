@@ -18,7 +18,7 @@ pub struct Search {
     /// Of each number that was found the one that it was found from; of a start, its own.
     pub(crate) before: Numbers,
     /// The numbers that were found, in the order in which they were found: by their distances.
-    pub(crate) order: IndexSet<usize, BuildHasherDefault<NodeHasher>>,
+    pub(crate) order: IndexSet<u32, BuildHasherDefault<NodeHasher>>,
     /// The number of levels.
     pub(crate) levels: usize,
     ghost whole: { IsKept nodes.items found.items (items_in before) order.keys },

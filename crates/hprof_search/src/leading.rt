@@ -15,7 +15,7 @@ use std::alloc::AllocError;
 pub(crate) fn lead_on<G: Graph>(
     graph: &mut G,
     numbered: &Numbered,
-    level: &[usize],
+    level: &[u32],
     targets: &mut Vec<u64>,
     trail: &mut Trail,
 ) -> Result<(), AllocError>
@@ -29,8 +29,9 @@ pub(crate) fn lead_on<G: Graph>(
     ensures stands { G.stands graph.new }
 {
     for number in level {
-        graph.targets_of(numbered.nodes[*number], targets)?;
-        follow(numbered, Some(*number), targets, trail)?;
+        let from = *number as usize;
+        graph.targets_of(numbered.nodes[from], targets)?;
+        follow(numbered, Some(from), targets, trail)?;
     }
     Ok(())
 }

@@ -6,7 +6,7 @@ ghost use Rattle.hprof_search.specs.NodeHash.{hash_of_number, written};
 use std::hash::Hasher;
 
 // So many numbers in a row share a group of an index table, which holds as many on average.
-const NUMBERS_OF_A_GROUP: u64 = 9;
+const NUMBERS_OF_A_GROUP: u32 = 9;
 
 // The tag begins there. A table of the greatest size takes the bits below it to choose a group.
 const TAG_BIT: u32 = 28;
@@ -19,7 +19,7 @@ const TAG_BIT: u32 = 28;
 /// all of them no group gets more than nine, and no dump can make them collide. Nothing rests on it but speed.
 #[derive(Clone, Copy)]
 pub(crate) struct NodeHasher {
-    number: u64,
+    number: u32,
 }
 
 impl Default for NodeHasher {
@@ -37,21 +37,21 @@ impl Hasher for NodeHasher {
 
     #[inline(always)]
     fn finish(&self) -> u64 {
-        self.number / NUMBERS_OF_A_GROUP + ((self.number % NUMBERS_OF_A_GROUP + 1) << TAG_BIT)
+        let group = self.number / NUMBERS_OF_A_GROUP;
+        let tag = self.number % NUMBERS_OF_A_GROUP + 1;
+        u64::from(group + (tag << TAG_BIT))
     }
 
-    // A number is written as its eight bytes; no other bytes are.
+    // A number is written as its four bytes; no other bytes are.
     #[inline(always)]
     fn write(&mut self, bytes: &[u8]) {
-        if bytes.len() == 8 {
-            self.number = u64::from_le_bytes([
-                bytes[0], bytes[1], bytes[2], bytes[3], bytes[4], bytes[5], bytes[6], bytes[7],
-            ]);
+        if bytes.len() == 4 {
+            self.number = u32::from_le_bytes([bytes[0], bytes[1], bytes[2], bytes[3]]);
         }
     }
 
     #[inline(always)]
-    fn write_usize(&mut self, number: usize) {
-        self.number = number as u64;
+    fn write_u32(&mut self, number: u32) {
+        self.number = number;
     }
 }

@@ -15,7 +15,7 @@ use std::alloc::{AllocError, Global};
 /// Goes from the starts that are nodes along the edges of a graph that lead to nodes, level by level.
 ///
 /// The nodes are given in ascending order. Edges to identifiers that are no nodes are not followed, and each edge is looked at once. If
-/// memory runs out, the answer is `AllocError`.
+/// memory runs out, or there are more than 9 * 2^28 nodes, the answer is `AllocError`: an `IndexSet` has room for no more.
 pub fn search<G: Graph>(
     alloc: Global,
     graph: &mut G,

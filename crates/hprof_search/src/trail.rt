@@ -17,8 +17,8 @@ pub(crate) struct Trail {
     pub(crate) found: Vec<bool>,
     /// Of each number that was found the one that it was found from; of a start, its own.
     pub(crate) before: Numbers,
-    /// The numbers that were found, in the order in which they were found.
-    pub(crate) order: IndexSet<usize, BuildHasherDefault<NodeHasher>>,
+    /// The numbers that were found, in the order in which they were found. Each fits four bytes, since an `IndexSet` holds fewer than 2^32.
+    pub(crate) order: IndexSet<u32, BuildHasherDefault<NodeHasher>>,
     /// The place in the order at which the next level begins.
     next: usize,
     ghost paired: { length (items_in before) ≡ length found.items },
@@ -34,8 +34,8 @@ impl Trail {
     ghost use Rattle.std.specs.List.{IsDistinct};
     ghost use Rattle.hprof_search.specs.Finds.{Arrives, Follows, finds_of, next_in};
 
-    /// Returns a trail of `count` nodes of which none was found, with room for all in the order. If memory runs out, the answer is
-    /// `AllocError`.
+    /// Returns a trail of `count` nodes of which none was found, with room for all in the order. If memory runs out, or there are more than
+    /// 9 * 2^28 nodes, the answer is `AllocError`.
     pub(crate) fn new(alloc: Global, count: usize) -> Result<Trail, AllocError>
         ensures found { IfOk result (λ trail. trail.found.items ≡ replicate count false) }
         ensures order { IfOk result (λ trail. trail.order.keys ≡ []) }
@@ -48,8 +48,8 @@ impl Trail {
         })
     }
 
-    /// Finds a number from another, if it was not found before, and puts it behind the order then. If memory runs out, nothing holds of the
-    /// nodes that were found.
+    /// Finds a number from another, if it was not found before, and puts it behind the order then. If memory runs out, or the number does
+    /// not fit four bytes, the answer is `AllocError`, and nothing holds of the nodes that were found.
     #[inline(always)]
     pub(crate) fn arrive(&mut self, number: usize, from: usize) -> Result<(), AllocError>
         requires within { number < length self.old.found.items }
@@ -57,7 +57,10 @@ impl Trail {
         ensures { OnOk result (Follows (Arrives from number) (finds_of self.old) (finds_of self.new)) }
     {
         if !self.found[number] {
-            self.order.insert(number)?;
+            let Ok(key) = u32::try_from(number) else {
+                return Err(AllocError);
+            };
+            self.order.insert(key)?;
             self.found[number] = true;
             self.before.set(number, from);
         }
@@ -66,7 +69,7 @@ impl Trail {
 
     /// Makes a list the next level, in ascending order. Then the next level is empty, and begins where the order ends. If memory runs out,
     /// nothing holds of the list.
-    pub(crate) fn take_next(&mut self, level: &mut Vec<usize>) -> Result<(), AllocError>
+    pub(crate) fn take_next(&mut self, level: &mut Vec<u32>) -> Result<(), AllocError>
         ensures ascend { OnOk result (IsNonDecreasing level.new.items) }
         ensures same { OnOk result ((number : ℕ) → Contains level.new.items number ↔ Contains (next_in self.old) number) }
         ensures as_many { OnOk result (length level.new.items ≡ length (next_in self.old)) }

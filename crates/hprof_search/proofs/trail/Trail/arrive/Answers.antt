@@ -1,4 +1,4 @@
-use Rattle.std.proofs.Common.{◌≡◌, ◌∙◌, ◌∷◌, ◌++◌, [], Bool, true, false, if◌then◌else◌, drop, get_or, nat_eq, slice_set, refl, sym, ap, arith}
+use Rattle.std.proofs.Common.{◌≡◌, ◌∙◌, ◌∷◌, ◌++◌, [], ℕ, Bool, true, false, if◌then◌else◌, drop, get_or, nat_eq, slice_set, refl, sym, ap, subst, arith}
 use Rattle.std.specs.List.{list_any}
 use Rattle.std.proofs.lemmas.List.{drop-append-le, get_or_read}
 use Rattle.hprof_search.specs.Finds.{Finds, finds_of}
@@ -17,6 +17,7 @@ returns-in_ok-insert c =
     sym (get_or_read trail.found.items number c.index.result.now c.requires.within c.index.ensures false) ∙ is in
     let absent : list_any (nat_eq number) keys ≡ false = trail.ordered number ∙ unfound in
     let pushed : c.insert.new.self.keys ≡ keys ++ number ∷ [] =
+    subst (λ (n : ℕ). c.insert.new.self.keys ≡ (if list_any (nat_eq n) keys then keys else keys ++ n ∷ [])) c.in-Ok.ensures.1
     c.in_ok-insert.ensures.keys ∙ ap (λ (b : Bool). if b then keys else keys ++ number ∷ []) absent in
     let new : Finds = record {
       found = slice_set trail.found.items number true;
