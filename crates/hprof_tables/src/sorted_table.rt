@@ -190,7 +190,6 @@ impl<V> SortedTable<V> {
         }
         let page = self.page_near(key, self.last);
         if page != self.last {
-            self.spread_hints();
             self.hints.leave(key, page);
             self.last = page;
         }
@@ -365,6 +364,7 @@ impl<V> SortedTable<V> {
         match self.pages[page].place_of(key) {
             Ok(place) => Ok(Some(visitor.ask(&self.pages[page].rows[place].1, room))),
             Err(place) => {
+                self.spread_hints();
                 let spot = self.room_for(key, Spot { page, place })?;
                 self.make_at(spot, key, visitor, room)?;
                 Ok(None)
