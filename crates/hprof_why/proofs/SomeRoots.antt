@@ -13,7 +13,7 @@ use Rattle.hprof_rows.specs.Facts.{Has}
 use Rattle.hprof_rows.specs.Order.{IsBefore, IsCanonicalOrder, root_cmp}
 use Rattle.hprof_rows.proofs.Roots.{root_place, same_root}
 use Rattle.hprof_histogram.proofs.Members.{IsIn, Contains-from_in, in_from_Contains}
-use Rattle.hprof_histogram.proofs.SomeHistogram.{join_one}
+use Rattle.hprof_histogram.proofs.Joining.{join_one}
 use Rattle.hprof_reach.specs.Reaching.{root_id}
 use Rattle.hprof_reach.specs.Roots.{AreRootsOf, root_in}
 
