@@ -4,11 +4,16 @@ use Rattle.std.proofs.lemmas.Result.{err_from_is_err_and}
 use Rattle.hprof_devices.proofs.Writes.{WritesFront}
 use Rattle.hprof_lookup.specs.HeapFacts.{facts_of, size_of}
 use Rattle.hprof_reports.specs.Stopping.{WritesText}
-use Rattle.hprof_reports.proofs.TextWriting.{text_stops, text_then}
+use Rattle.hprof_reports.proofs.TextWriting.{text_stops, text_then, text_unwritten}
 use Rattle.hprof_why.specs.RootLines.{roots_text}
 use Rattle.hprof_why.specs.WhyText.{path_text, steps_text}
 use Rattle.hprof_why.proofs.WhyTexts.{told_roots}
 use Rattle.hprof_why.proofs.report.write_path_nodes.Goals as goal
+
+pub returns-in_err-roots-clause-bytes : goal.returns-in_err-roots-clause-bytes
+returns-in_err-roots-clause-bytes g c = λ told is knows.
+    let p = err_from_is_err_and c.from_residual.result c.from_residual.ensures.1 in
+    text_unwritten c.from_residual.result (g.W.Target.written c.args.target.now) p.0 (path_text told c.args.nodes.now) p.1
 
 pub returns-in_err-write_roots-clause-bytes : goal.returns-in_err-write_roots-clause-bytes
 returns-in_err-write_roots-clause-bytes g c = λ told is knows.
