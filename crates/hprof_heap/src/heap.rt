@@ -12,7 +12,7 @@ ghost use Rattle.hprof_heap.specs.Tables.{rows_in_tables};
 
 use crate::tables::Tables;
 use hprof_items::Fact;
-use hprof_rows::{Facts, RootSet, SubRows, Table, kept_fact, spelled_fact};
+use hprof_rows::{Facts, RootSet, SubRows, Table, kept_fact, kept_trace, spelled_fact};
 use hprof_tables::{BytesTable, Finger, Relation};
 use hprof_values::IdSize;
 use std::alloc::Global;
@@ -48,7 +48,7 @@ impl Heap {
                 loads: Relation::new(alloc),
                 unloads: Relation::new(alloc),
                 frames: Relation::new(alloc),
-                traces: Relation::new(alloc),
+                traces: BytesTable::new(alloc),
                 starts: Relation::new(alloc),
                 ends: Relation::new(alloc),
                 roots: RootSet::new(alloc),
@@ -130,8 +130,8 @@ impl Heap {
         ensures value { option_map value_of result ≡ find (has_key (keys.Trace serial)) (heap_of self.now).facts }
         ensures lists { IfSome result (ListsHave (heap_of self.now).ids) }
     {
-        let row = self.tables.traces.get(serial as u64)?;
-        Some(row.fact(serial, self.tables.ids))
+        let kept = self.tables.traces.get(serial as u64)?;
+        Some(kept_trace(serial, kept, self.tables.ids))
     }
 
     /// Returns the class with that identifier.

@@ -4,7 +4,7 @@ ghost use Rattle.std.specs.Prelude.{◌≡◌};
 ghost use Rattle.hprof_rows.specs.EachTable.{count_at};
 ghost use Rattle.hprof_heap.specs.Tables.{rows_in_tables, AreRowsOf};
 
-use hprof_rows::{FrameRow, KeyRow, LoadRow, RootSet, StartRow, Table, TableRows, TraceRow};
+use hprof_rows::{FrameRow, KeyRow, LoadRow, RootSet, StartRow, Table, TableRows};
 use hprof_tables::{BytesTable, Relation};
 use hprof_values::IdSize;
 
@@ -21,7 +21,7 @@ pub(crate) struct Tables {
     pub(crate) loads: Relation<LoadRow>,
     pub(crate) unloads: Relation<KeyRow>,
     pub(crate) frames: Relation<FrameRow>,
-    pub(crate) traces: Relation<TraceRow>,
+    pub(crate) traces: BytesTable,
     pub(crate) starts: Relation<StartRow>,
     pub(crate) ends: Relation<KeyRow>,
     pub(crate) roots: RootSet,

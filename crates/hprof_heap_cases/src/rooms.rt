@@ -35,32 +35,32 @@ fn traces_of(rt: &impl Abort, alloc: Global, count: u32, bytes: &[u8]) -> Result
     Ok(gatherer)
 }
 
-// The process grows by the 20,224,000 bytes of the rows, and by a hundredth more at most; so it does where they are joined to a heap
-// that has none of them.
+// Room for rows grows twofold. So the process grows by twice their 20,224,000 bytes at most, and a hundredth of them; by twice as much
+// where they are joined to a heap that has none of them, since glibc keeps the blocks that became too small.
 #[test]
-fn rows_have_no_room_to_spare(rt: HostRuntime) -> Result<(), Fail> {
+fn rows_have_room_twice(rt: HostRuntime) -> Result<(), Fail> {
     let bytes = vec![in rt.alloc(); 0; 79_000]?;
     let before = size(&rt)?;
     let other = traces_of(&rt, rt.alloc(), 256, &bytes)?.finish()?;
     let grown = size(&rt)?.saturating_sub(before);
-    assert!(rt; grown <= 20_426_240, "{grown}");
+    assert!(rt; grown <= 40_650_240, "{grown}");
     let mut heap = begun(rt.alloc(), IdSize::Four, 1)?.finish()?;
     let before = size(&rt)?;
     heap.join(&other)?;
     let grown = size(&rt)?.saturating_sub(before);
-    assert!(rt; grown <= 20_426_240, "{grown}");
+    assert!(rt; grown <= 81_300_480, "{grown}");
     equal(&rt, (other.count(), heap.count()), (256, 256));
     Ok(())
 }
 
-// A stack of two frames takes a row of some 40 bytes, for which the table may have room twice, and a piece of memory.
+// A stack of two frames takes 29 bytes, for which the table may have room twice.
 #[test]
 fn rows_of_small_stacks_are_small(rt: HostRuntime) -> Result<(), Fail> {
     let before = size(&rt)?;
     let heap = traces_of(&rt, rt.alloc(), 100_000, &[0; 8])?.finish()?;
     let grown = size(&rt)?.saturating_sub(before);
     equal(&rt, heap.count(), 100_000);
-    assert!(rt; grown <= 20_000_000, "{grown}");
+    assert!(rt; grown <= 6_500_000, "{grown}");
     Ok(())
 }
 

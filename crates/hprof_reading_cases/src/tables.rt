@@ -1,10 +1,8 @@
 //! Tables of rows, and maps that guess the place of a key.
 
-ghost use Rattle.hprof_rows.specs.NumberRows.{load_numbers};
-
 use crate::expecting::{equal, holds};
 use hprof_rows::LoadRow;
-use hprof_tables::{BytesTable, Content, HintedMap, Relation, Stated, Statement};
+use hprof_tables::{BytesTable, Content, HintedMap, Relation, Stated};
 use std::alloc::{AllocError, Global};
 use std::process::Abort;
 use std::test::*;
@@ -15,25 +13,6 @@ fn load_of(name: u64) -> LoadRow {
         class: 1,
         trace: 2,
         name,
-    }
-}
-
-// A class that was loaded, stated by a row of its own.
-#[derive(Drop)]
-struct Prepared(LoadRow);
-
-impl Statement<LoadRow> for Prepared {
-    ghost content = { λ load. load_numbers load.0 };
-
-    ghost refuses = { λ _. ⊥ };
-
-    fn matches(&self, row: &LoadRow) -> bool {
-        row.agrees(&self.0)
-    }
-
-    fn into_row(self, _alloc: Global) -> Result<LoadRow, AllocError> {
-        let Prepared(row) = self;
-        Ok(row)
     }
 }
 
@@ -69,11 +48,13 @@ fn check_loads(
 #[test]
 fn stating_rows(rt: HostRuntime) -> Result<(), Fail> {
     let mut loads = Relation::new(rt.alloc());
-    for (name, stated) in [(3, Stated::New), (3, Stated::Same), (4, Stated::Differs)] {
-        equal(&rt, loads.state(1, load_of(name))?, stated);
-    }
-    for (key, name, stated) in [(1, 5, Stated::Differs), (0, 4, Stated::New)] {
-        equal(&rt, loads.state_from(key, Prepared(load_of(name)))?, stated);
+    for (key, name, stated) in [
+        (1, 3, Stated::New),
+        (1, 3, Stated::Same),
+        (1, 4, Stated::Differs),
+        (0, 4, Stated::New),
+    ] {
+        equal(&rt, loads.state(key, load_of(name))?, stated);
     }
     let row = loads.get(1).ok_or("no row")?;
     holds(&rt, row.agrees(&load_of(3)) && loads.get(2).is_none());
@@ -128,8 +109,23 @@ fn stating_bytes(rt: HostRuntime) -> Result<(), Fail> {
     ] {
         equal(&rt, state_bytes(&mut rows, key, first, rest)?, stated);
     }
+    for (front, rest, stated) in [
+        (*b"ABCD", b"E".as_slice(), Stated::New),
+        (*b"ABCD", b"E".as_slice(), Stated::Same),
+        (*b"ABCE", b"E".as_slice(), Stated::Differs),
+        (*b"ABCD", b"".as_slice(), Stated::Differs),
+    ] {
+        equal(&rt, rows.state_four_apart(13, front, rest)?, stated);
+    }
     holds(&rt, rows.get(3).is_none());
-    let expected: [(u64, &[u8]); 5] = [(0, b"BC"), (1, b"A"), (2, b""), (11, b"ABC"), (12, b"A")];
+    let expected: [(u64, &[u8]); 6] = [
+        (0, b"BC"),
+        (1, b"A"),
+        (2, b""),
+        (11, b"ABC"),
+        (12, b"A"),
+        (13, b"ABCDE"),
+    ];
     check_bytes(&rt, &rows, &expected);
     Ok(())
 }

@@ -22,7 +22,7 @@ use Rattle.hprof_rows.specs.declared.key.Key.{Key}
 use Rattle.hprof_rows.specs.declared.key.Key.TheVariants as keys
 use Rattle.hprof_rows.specs.declared.table.Table.{Table}
 use Rattle.hprof_rows.specs.declared.table.Table.TheVariants as tables
-use Rattle.hprof_rows.specs.Content.{content_of, load_fact, unload_fact, frame_fact, trace_fact, start_fact, end_fact, facts_of_rows, IsRight}
+use Rattle.hprof_rows.specs.Content.{content_of, load_fact, unload_fact, frame_fact, start_fact, end_fact, facts_of_rows, IsRight}
 use Rattle.hprof_rows.specs.Content.{AreRight}
 use Rattle.hprof_rows.specs.EachTable.{IsKeyed, fact_at, contents_at, count_at, with_rows, StatesRow, StatesFact}
 use Rattle.hprof_rows.specs.HeapRows.{HeapRows, AreHeap, heap_of_rows, tables_of, no_content}
@@ -32,7 +32,6 @@ use Rattle.hprof_rows.specs.NumberRows.{load_numbers, frame_numbers, start_numbe
 use Rattle.hprof_rows.specs.Order.{order_of}
 use Rattle.hprof_rows.specs.Stating.{StatesInto, IsNewAmong}
 use Rattle.hprof_rows.specs.Tables.{number_of_table, joined}
-use Rattle.hprof_rows.specs.TraceRow.{trace_content}
 use Rattle.hprof_rows.proofs.HeapRows.{names_right, loads_right, unloads_right, frames_right, starts_right, ends_right, line_again}
 use Rattle.hprof_rows.proofs.HeapRows.{root_of_table, into_heap, into_heap-sound, into_heap-kept, of_key, unseen_in_heap, unseen_row}
 use Rattle.hprof_rows.proofs.HeapRows.{trace_again, class_again, length_rows, length_roots, look_up_row, found_fits}
@@ -42,7 +41,7 @@ use Rattle.hprof_rows.proofs.Roots.{roots_tried, roots_kept, roots_unseen}
 use Rattle.hprof_rows.proofs.RowFacts.{rows_tried, rows_kept, tried_right, right_found}
 use Rattle.hprof_rows.proofs.Stating.{StatesAmong, with_facts}
 use Rattle.hprof_rows.proofs.Tables.{IsOf, table_at, with_table}
-use Rattle.hprof_rows.proofs.UnionRows.{contents_right, right_contents}
+use Rattle.hprof_rows.proofs.UnionRows.{contents_right}
 
 -- facts are known by keys and contents
 from_contents : {V : Type 0} (fact : ℕ → List ℕ → FactValue) (content : V → List ℕ) (rows : List (ℕ × V))
@@ -66,7 +65,7 @@ facts_at tables.Names keyed rows = refl
 facts_at tables.Loads keyed rows = from_contents load_fact load_numbers rows.loads
 facts_at tables.Unloads keyed rows = from_contents unload_fact no_content rows.unloads
 facts_at tables.Frames keyed rows = from_contents frame_fact frame_numbers rows.frames
-facts_at tables.Traces keyed rows = from_contents (trace_fact rows.ids) trace_content rows.traces
+facts_at tables.Traces keyed rows = refl
 facts_at tables.Starts keyed rows = from_contents start_fact start_numbers rows.starts
 facts_at tables.Ends keyed rows = from_contents end_fact no_content rows.ends
 facts_at tables.Roots keyed rows = absurd keyed
@@ -87,7 +86,7 @@ right_at tables.Names rows are = names_right rows.ids rows.names
 right_at tables.Loads rows are = contents_right rows.ids 1 load_fact load_numbers rows.loads (loads_right rows.ids rows.loads)
 right_at tables.Unloads rows are = contents_right rows.ids 2 unload_fact no_content rows.unloads (unloads_right rows.ids rows.unloads)
 right_at tables.Frames rows are = contents_right rows.ids 3 frame_fact frame_numbers rows.frames (frames_right rows.ids rows.frames)
-right_at tables.Traces rows are = contents_right rows.ids 4 (trace_fact rows.ids) trace_content rows.traces are.traces
+right_at tables.Traces rows are = are.traces
 right_at tables.Starts rows are = contents_right rows.ids 5 start_fact start_numbers rows.starts (starts_right rows.ids rows.starts)
 right_at tables.Ends rows are = contents_right rows.ids 6 end_fact no_content rows.ends (ends_right rows.ids rows.ends)
 right_at tables.Roots rows are = tt
@@ -114,12 +113,8 @@ ids_with table rows new = refl
 -- they are a heap's rows where those of the table can be read back
 are_with : (table : Table) (rows new : HeapRows) → AreHeap rows → IsHeap (heap_of_rows (with_rows table rows new))
     → RightAt table (with_rows table rows new) → AreHeap (with_rows table rows new)
-are_with tables.Traces rows new are heap right = record {
-  heap = heap;
-  traces = right_contents rows.ids 4 (trace_fact rows.ids) trace_content new.traces right;
-  classes = are.classes;
-  objects = are.objects;
-}
+are_with tables.Traces rows new are heap right =
+    record { heap = heap; traces = right; classes = are.classes; objects = are.objects }
 are_with tables.Classes rows new are heap right =
     record { heap = heap; traces = are.traces; classes = right; objects = are.objects }
 are_with tables.Objects rows new are heap right =
@@ -263,7 +258,7 @@ fact_stated r rows new are (Frame id method signature source class_serial line) 
     (contents_state frame_numbers rows.frames new.frames id _ r s.0)
 fact_stated r rows new are (Trace serial thread frames) fits s =
     under_key r rows new are tables.Traces s.1 (Trace serial thread frames) fits tt serial refl
-    (trace_again rows.ids serial thread frames fits) (contents_state trace_content rows.traces new.traces serial _ r s.0)
+    (trace_again rows.ids serial thread frames fits) s.0
 fact_stated r rows new are (Start thread object trace name group parent_group) fits s =
     under_key r rows new are tables.Starts s.1 (Start thread object trace name group parent_group) fits tt thread refl refl
     (contents_state start_numbers rows.starts new.starts thread _ r s.0)

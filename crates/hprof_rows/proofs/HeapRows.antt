@@ -1,11 +1,13 @@
 -- The rows of a heap: each table has facts of its own, and stating one into a table states it into the heap.
-use Rattle.std.proofs.Common.{◌≡◌, ℕ, zero, suc, ◌<◌, ◌≤◌, List, [], ◌∷◌, length, drop, ◌%◌, Bool, cond, find, Option, Some, None, Result}
+use Rattle.std.proofs.Common.{◌≡◌, ℕ, zero, suc, ◌<◌, ◌≤◌, List, [], ◌∷◌, ◌++◌, length, drop, Bool, cond, find, Option, Some, None, Result}
 use Rattle.std.proofs.Common.{Ok, Err, refl, sym, ap, subst, ◌∙◌, arith}
 use Rattle.std.specs.Prelude.{ℤ, pos, negsuc, IfOk, OnErr, slice_index, bytes_eq}
 use Rattle.std.specs.Option.{option_map}
 use Rattle.std.proofs.lemmas.Bool.{false_from_ne_true}
 use Rattle.std.proofs.lemmas.Slice.Eq.{bytes_eq-Decides}
-use Rattle.std.proofs.lemmas.List.{append-nil}
+use Rattle.std.proofs.lemmas.List.{append-nil, drop_at, length-append}
+use Rattle.byteorder.specs.Endian.{big_bytes, big_number}
+use Rattle.byteorder.specs.Numbers.{big_number-reads_back, length-bytes_high_first}
 use Rattle.hprof_values.specs.declared.ids.IdSize.{IdSize}
 use Rattle.hprof_values.specs.declared.root.Root.{Root}
 use Rattle.hprof_values.specs.Root.{tag_of_root, root_numbers}
@@ -13,7 +15,6 @@ use Rattle.hprof_values.specs.SubTag.{code_of_tag}
 use Rattle.hprof_values.specs.declared.record_tag.RecordTag.{RecordTag}
 use Rattle.hprof_values.specs.FieldGroups.{exactly, field_bytes}
 use Rattle.hprof_lists.specs.Lists.{id_widths, ids_in}
-use Rattle.hprof_values.specs.Ids.{width_of}
 use Rattle.hprof_lists.proofs.IdLists.{ids_again}
 use Rattle.hprof_items.specs.FactValue.{FactValue, Name, Load, Unload, Frame, Trace, Start, End, Rooted, Class, Instance, ObjArray}
 use Rattle.hprof_items.specs.FactValue.{PrimArray}
@@ -42,7 +43,7 @@ use Rattle.hprof_rows.specs.Order.{order_of}
 use Rattle.hprof_rows.specs.NumberRows.{line_numbers, load_numbers, frame_numbers, start_numbers}
 use Rattle.hprof_tables.specs.Relation.{States}
 use Rattle.hprof_rows.specs.Spelled.{Spells}
-use Rattle.hprof_rows.specs.TraceRow.{trace_content}
+use Rattle.hprof_rows.specs.Trace.{IsTrace}
 use Rattle.hprof_rows.proofs.Inserting.{find-Some, unseen}
 use Rattle.hprof_rows.proofs.RowFacts.{right_by, find_rows}
 use Rattle.hprof_rows.proofs.Stating.{StatesAmong, with_facts, tried_among, tried_among-sound}
@@ -101,7 +102,7 @@ heap_tables rows are =
     let loads = all_of_rows ids 1 load_fact load_numbers rows.loads (loads_right ids rows.loads) in
     let unloads = all_of_rows ids 2 unload_fact no_content rows.unloads (unloads_right ids rows.unloads) in
     let frames = all_of_rows ids 3 frame_fact frame_numbers rows.frames (frames_right ids rows.frames) in
-    let traces = all_of_rows ids 4 (trace_fact ids) trace_content rows.traces are.traces in
+    let traces = all_of_rows ids 4 (trace_fact ids) the_bytes rows.traces are.traces in
     let starts = all_of_rows ids 5 start_fact start_numbers rows.starts (starts_right ids rows.starts) in
     let ends = all_of_rows ids 6 end_fact no_content rows.ends (ends_right ids rows.ends) in
     let roots = all_of_roots rows.roots in
@@ -205,12 +206,18 @@ table_length rows table n are e = e ∙ sym (ap length (table_facts rows table a
 
 -- ---- traces
 
+-- what a trace has behind the serial of its thread
+behind_thread : (thread : ℕ) (bytes : List ℕ) → drop 4 (big_bytes 4 thread ++ bytes) ≡ bytes
+behind_thread thread bytes = drop_at (big_bytes 4 thread) bytes 4 (length-bytes_high_first 4 thread)
+
 -- a trace is that of its thread and of the bytes of its frames
 pub trace_again : (ids : IdSize) (serial thread : ℕ) (frames : List ℕ) → Fits ids (Trace serial thread frames)
     → trace_fact ids serial (content_of ids (Trace serial thread frames)) ≡ Trace serial thread frames
 trace_again ids serial thread frames fits =
-    ap (Trace serial thread) (ids_again ids frames (field_bytes (id_widths ids (length frames)) frames)
-    (record { fits = fits.0.rest; spelled = refl })).1
+    let bytes : List ℕ = field_bytes (id_widths ids (length frames)) frames in
+    ap (λ (n : ℕ). Trace serial n (ids_in ids (drop 4 (big_bytes 4 thread ++ bytes)))) (big_number-reads_back 4 thread bytes fits.0.numbers.1.0)
+    ∙ ap (λ (rest : List ℕ). Trace serial thread (ids_in ids rest)) (behind_thread thread bytes)
+    ∙ ap (Trace serial thread) (ids_again ids frames bytes (record { fits = fits.0.rest; spelled = refl })).1
 
 -- ---- classes and objects
 
@@ -325,8 +332,14 @@ row_spells ids key bytes right fits =
     let same : bytes ≡ dump_bytes ids fact = sym right.1 ∙ class_content ids key fact right.0 in
     record { fits = spells.fits; spelled = same; short = subst (λ (b : List ℕ). length b ≤ longest_body) (sym same) spells.short }
 
--- no identifier of a trace's row is cut
-pub row_whole : (ids : IdSize) (key thread : ℕ) (bytes : List ℕ) → IsRight ids 4 (trace_fact ids) key (thread ∷ bytes)
-    → Fits ids (trace_fact ids key (thread ∷ bytes)) → length bytes % width_of ids ≡ 0
-row_whole ids key thread bytes right fits =
-    (ids_again ids (ids_in ids bytes) bytes (record { fits = fits.0.rest; spelled = sym (ap (drop 1) right.1) })).0
+-- the bytes of a trace's row are those of a trace
+pub row_is_trace : (ids : IdSize) (key : ℕ) (bytes : List ℕ) → IsRight ids 4 (trace_fact ids) key bytes → Fits ids (trace_fact ids key bytes)
+    → IsTrace ids bytes
+row_is_trace ids key bytes right fits =
+    let thread : ℕ = big_number 4 bytes in
+    let frames : List ℕ = ids_in ids (drop 4 bytes) in
+    let spelled : List ℕ = field_bytes (id_widths ids (length frames)) frames in
+    let behind : drop 4 bytes ≡ spelled = ap (drop 4) (sym right.1) ∙ behind_thread thread spelled in (
+      omega (arith, ap length right.1, length-append (big_bytes 4 thread) spelled, length-bytes_high_first 4 thread),
+      (ids_again ids frames (drop 4 bytes) (record { fits = fits.0.rest; spelled = behind })).0,
+    )

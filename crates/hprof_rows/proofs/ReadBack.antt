@@ -13,9 +13,8 @@ use Rattle.hprof_rows.specs.NumberRows.{load_numbers, start_numbers}
 use Rattle.hprof_rows.specs.Order.{IsBefore, IsCanonicalOrder}
 use Rattle.hprof_rows.specs.TableRows.{HasSerial, IsWhole, IsSpelled, IsObject, AreSerials, AreWhole, AreSpelled, AreObjects}
 use Rattle.hprof_rows.specs.Tables.{joined}
-use Rattle.hprof_rows.specs.TraceRow.{trace_content, frames_bytes}
 use Rattle.hprof_rows.proofs.FactSets.{Has-front, Has-back}
-use Rattle.hprof_rows.proofs.HeapRows.{loads_right, unloads_right, starts_right, ends_right, row_spells, row_whole}
+use Rattle.hprof_rows.proofs.HeapRows.{loads_right, unloads_right, starts_right, ends_right, row_spells, row_is_trace}
 use Rattle.hprof_rows.proofs.KeptObjects.{row_keeps}
 use Rattle.hprof_rows.proofs.Tables.{table_at}
 
@@ -53,8 +52,8 @@ unload_serials rows are =
     (unloads_right rows.ids rows.unloads) (table_fits rows are 2)
 
 pub traces_whole : (rows : HeapRows) → AreHeap rows → AreWhole rows.ids rows.traces
-traces_whole rows are = each_row rows.ids 4 (trace_fact rows.ids) trace_content (IsWhole rows.ids)
-    (λ row right fits. (fits.0.numbers.0, row_whole rows.ids row.0 row.1.thread (frames_bytes row.1) right fits)) rows.traces are.traces
+traces_whole rows are = each_row rows.ids 4 (trace_fact rows.ids) the_bytes (IsWhole rows.ids)
+    (λ row right fits. (fits.0.numbers.0, row_is_trace rows.ids row.0 (the_bytes row.1) right fits)) rows.traces are.traces
     (table_fits rows are 4)
 
 pub start_serials : (rows : HeapRows) → AreHeap rows → AreSerials rows.starts

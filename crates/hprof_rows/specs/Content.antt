@@ -1,6 +1,7 @@
 -- What rows say of their facts: a fact is its key and its content, a list of numbers.
-use Rattle.std.specs.Prelude.{◌≡◌, ◌==◌, ℕ, ℤ, pos, negsuc, List, [], ◌∷◌, length, drop, slice_index, map, Result, Ok, Err, if◌then◌else◌}
+use Rattle.std.specs.Prelude.{◌≡◌, ◌==◌, ℕ, ℤ, pos, negsuc, List, [], ◌∷◌, ◌++◌, length, drop, slice_index, map, Result, Ok, Err, if◌then◌else◌}
 use Rattle.std.specs.List.{AllByRecursion}
+use Rattle.byteorder.specs.Endian.{big_bytes, big_number}
 use Rattle.hprof_values.specs.declared.ids.IdSize.{IdSize}
 use Rattle.hprof_values.specs.declared.stop.Stop.{Stop}
 use Rattle.hprof_values.specs.FieldGroups.{exactly, field_bytes}
@@ -17,7 +18,7 @@ content_of ids (Name id text) = text
 content_of ids (Load serial class trace name) = class ∷ trace ∷ name ∷ []
 content_of ids (Unload serial) = []
 content_of ids (Frame id method signature source class_serial line) = method ∷ signature ∷ source ∷ class_serial ∷ line_numbers line
-content_of ids (Trace serial thread frames) = thread ∷ field_bytes (id_widths ids (length frames)) frames
+content_of ids (Trace serial thread frames) = big_bytes 4 thread ++ field_bytes (id_widths ids (length frames)) frames
 content_of ids (Start thread object trace name group parent_group) = object ∷ trace ∷ name ∷ group ∷ parent_group ∷ []
 content_of ids (End thread) = []
 content_of ids (Instance id trace class bytes) = without_id ids (dump_bytes ids (Instance id trace class bytes))
@@ -43,7 +44,7 @@ frame_fact key content =
     (line_with (slice_index content 4) (slice_index content 5))
 
 abbrev pub trace_fact : IdSize → ℕ → List ℕ → FactValue
-trace_fact ids key content = Trace key (slice_index content 0) (ids_in ids (drop 1 content))
+trace_fact ids key content = Trace key (big_number 4 content) (ids_in ids (drop 4 content))
 
 abbrev pub start_fact : ℕ → List ℕ → FactValue
 start_fact key content =

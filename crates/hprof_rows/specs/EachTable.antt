@@ -22,7 +22,6 @@ use Rattle.hprof_rows.specs.HeapRows.{HeapRows, no_content}
 use Rattle.hprof_rows.specs.NumberRows.{load_numbers, frame_numbers, start_numbers}
 use Rattle.hprof_rows.specs.Order.{root_cmp}
 use Rattle.hprof_rows.specs.RootSet.{StatesRoot, IsUnionOfRoots, LacksRoot}
-use Rattle.hprof_rows.specs.TraceRow.{trace_content}
 
 -- ---- each table
 
@@ -50,7 +49,7 @@ contents_at tables.Names rows = rows.names
 contents_at tables.Loads rows = contents_of load_numbers rows.loads
 contents_at tables.Unloads rows = contents_of no_content rows.unloads
 contents_at tables.Frames rows = contents_of frame_numbers rows.frames
-contents_at tables.Traces rows = contents_of trace_content rows.traces
+contents_at tables.Traces rows = rows.traces
 contents_at tables.Starts rows = contents_of start_numbers rows.starts
 contents_at tables.Ends rows = contents_of no_content rows.ends
 contents_at tables.Roots rows = []
@@ -117,7 +116,7 @@ StatesFact old (Frame id method signature source class_serial line) r new =
     StatesRow frame_numbers old.frames id (content_of old.ids (Frame id method signature source class_serial line)) r new.frames
     × (new ≡ with_rows tables.Frames old new)
 StatesFact old (Trace serial thread frames) r new =
-    StatesRow trace_content old.traces serial (content_of old.ids (Trace serial thread frames)) r new.traces
+    StatesRow the_bytes old.traces serial (content_of old.ids (Trace serial thread frames)) r new.traces
     × (new ≡ with_rows tables.Traces old new)
 StatesFact old (Start thread object trace name group parent_group) r new =
     StatesRow start_numbers old.starts thread (object ∷ trace ∷ name ∷ group ∷ parent_group ∷ []) r new.starts

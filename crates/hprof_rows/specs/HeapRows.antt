@@ -9,7 +9,6 @@ use Rattle.hprof_rows.specs.declared.number_rows.LoadRow.{LoadRow}
 use Rattle.hprof_rows.specs.declared.number_rows.FrameRow.{FrameRow}
 use Rattle.hprof_rows.specs.declared.number_rows.StartRow.{StartRow}
 use Rattle.hprof_rows.specs.declared.number_rows.KeyRow.{KeyRow}
-use Rattle.hprof_rows.specs.declared.trace_row.TraceRow.{TraceRow}
 use Rattle.hprof_rows.specs.Content.{load_fact, unload_fact, frame_fact, trace_fact, start_fact, end_fact, spelled_fact, object_fact, facts_of_rows}
 use Rattle.hprof_rows.specs.Content.{IsRight, AreRight}
 use Rattle.hprof_tables.specs.Spans.{the_bytes}
@@ -17,7 +16,6 @@ use Rattle.hprof_rows.specs.HeapValue.{HeapValue, IsHeap, IsHeap-prop}
 use Rattle.hprof_rows.specs.NumberRows.{load_numbers, frame_numbers, start_numbers}
 use Rattle.hprof_tables.specs.Relation.{contents_of}
 use Rattle.hprof_rows.specs.Tables.{joined}
-use Rattle.hprof_rows.specs.TraceRow.{trace_content}
 
 -- a row whose key says all has no content
 abbrev pub no_content : KeyRow → List ℕ
@@ -37,8 +35,8 @@ unload_facts rows = facts_of_rows unload_fact no_content rows
 abbrev pub frame_facts : List (ℕ × FrameRow) → List FactValue
 frame_facts rows = facts_of_rows frame_fact frame_numbers rows
 
-abbrev pub trace_facts : IdSize → List (ℕ × TraceRow) → List FactValue
-trace_facts ids rows = facts_of_rows (trace_fact ids) trace_content rows
+abbrev pub trace_facts : IdSize → List (ℕ × List ℕ) → List FactValue
+trace_facts ids rows = facts_of_rows (trace_fact ids) the_bytes rows
 
 abbrev pub start_facts : List (ℕ × StartRow) → List FactValue
 start_facts rows = facts_of_rows start_fact start_numbers rows
@@ -64,7 +62,7 @@ pub record HeapRows : Type 0 where
   pub loads : List (ℕ × LoadRow)
   pub unloads : List (ℕ × KeyRow)
   pub frames : List (ℕ × FrameRow)
-  pub traces : List (ℕ × TraceRow)
+  pub traces : List (ℕ × List ℕ)
   pub starts : List (ℕ × StartRow)
   pub ends : List (ℕ × KeyRow)
   pub roots : List Root
@@ -85,7 +83,7 @@ heap_of_rows rows = record { ids = rows.ids; millis = rows.millis; facts = joine
 -- what the rows of every heap keep: they are a heap, and each row can be read back
 pub record AreHeap (rows : HeapRows) : Type 0 where
   pub heap : IsHeap (heap_of_rows rows)
-  pub traces : AreRight rows.ids 4 (trace_fact rows.ids) trace_content rows.traces
+  pub traces : AreRight rows.ids 4 (trace_fact rows.ids) the_bytes rows.traces
   pub classes : AreRight rows.ids 8 (spelled_fact rows.ids) the_bytes rows.classes
   pub objects : AreRight rows.ids 9 (object_fact rows.ids) the_bytes rows.objects
 
@@ -97,7 +95,7 @@ pub record HaveSameRecords (one other : HeapRows) : Type 0 where
   pub loads : contents_of load_numbers one.loads ≡ contents_of load_numbers other.loads
   pub unloads : contents_of no_content one.unloads ≡ contents_of no_content other.unloads
   pub frames : contents_of frame_numbers one.frames ≡ contents_of frame_numbers other.frames
-  pub traces : contents_of trace_content one.traces ≡ contents_of trace_content other.traces
+  pub traces : one.traces ≡ other.traces
   pub starts : contents_of start_numbers one.starts ≡ contents_of start_numbers other.starts
   pub ends : contents_of no_content one.ends ≡ contents_of no_content other.ends
 

@@ -6,7 +6,7 @@ pub mod NumberRows
 pub mod Kept
 pub mod Content
 pub mod Tables
-pub mod TraceRow
+pub mod Trace
 pub mod Spelled
 pub mod Fitting
 pub mod HeapValue

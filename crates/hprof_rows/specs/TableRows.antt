@@ -1,14 +1,12 @@
 -- What the rows of one table state, and that each of them can be read back.
-use Rattle.std.specs.Prelude.{◌≡◌, ◌<◌, ◌^◌, ◌%◌, ℕ, List, [], ◌∷◌, length, ⊤}
+use Rattle.std.specs.Prelude.{◌<◌, ◌^◌, ℕ, List, [], ◌∷◌, ⊤}
 use Rattle.std.specs.Coded.{×_prop, Unit-prop, le_prop}
 use Rattle.std.specs.List.{AllByRecursion}
 use Rattle.std.proofs.Props.{props}
 use Rattle.hprof_values.specs.declared.ids.IdSize.{IdSize}
-use Rattle.hprof_values.specs.Ids.{width_of}
 use Rattle.hprof_items.specs.FactValue.{FactValue}
 use Rattle.hprof_rows.specs.declared.table_rows.TableRows.{TableRows}
 use Rattle.hprof_rows.specs.declared.table_rows.TableRows.TheVariants as tables
-use Rattle.hprof_rows.specs.declared.trace_row.TraceRow.{TraceRow}
 use Rattle.hprof_rows.specs.Content.{spelled_fact, object_fact}
 use Rattle.hprof_tables.specs.Spans.{the_bytes}
 use Rattle.hprof_rows.specs.Fitting.{DumpFits-prop}
@@ -18,7 +16,7 @@ use Rattle.hprof_tables.specs.Rows.{rows_left}
 use Rattle.hprof_tables.specs.BytesTable.{byte_rows_left}
 use Rattle.hprof_rows.specs.Spelled.{Spells}
 use Rattle.hprof_rows.specs.Kept.{KeepsObject}
-use Rattle.hprof_rows.specs.TraceRow.{frames_bytes}
+use Rattle.hprof_rows.specs.Trace.{IsTrace}
 
 -- ---- rows that can be read back
 
@@ -26,9 +24,9 @@ use Rattle.hprof_rows.specs.TraceRow.{frames_bytes}
 abbrev pub HasSerial : {V : Type 0} → ℕ × V → Type 0
 HasSerial row = row.0 < 2 ^ 32
 
--- the key is a serial, and no identifier of the frames is cut
-abbrev pub IsWhole : IdSize → ℕ × TraceRow → Type 0
-IsWhole ids row = HasSerial row × (length (frames_bytes row.1) % width_of ids ≡ 0)
+-- the key is a serial, and the bytes are those of a trace
+abbrev pub IsWhole : IdSize → ℕ × List ℕ → Type 0
+IsWhole ids row = HasSerial row × IsTrace ids (the_bytes row.1)
 
 -- the bytes spell the fact of the row
 abbrev pub IsSpelled : IdSize → ℕ × List ℕ → Type 0
@@ -41,7 +39,7 @@ IsObject ids row = KeepsObject ids row.0 (object_fact ids row.0 (the_bytes row.1
 abbrev pub AreSerials : {V : Type 0} → List (ℕ × V) → Type 0
 AreSerials rows = AllByRecursion HasSerial rows
 
-abbrev pub AreWhole : IdSize → List (ℕ × TraceRow) → Type 0
+abbrev pub AreWhole : IdSize → List (ℕ × List ℕ) → Type 0
 AreWhole ids rows = AllByRecursion (IsWhole ids) rows
 
 abbrev pub AreSpelled : IdSize → List (ℕ × List ℕ) → Type 0
@@ -56,7 +54,7 @@ AreReadable ids (tables.Names rows) = ⊤
 AreReadable ids (tables.Loads rows) = AreSerials (rows_left rows)
 AreReadable ids (tables.Unloads rows) = AreSerials (rows_left rows)
 AreReadable ids (tables.Frames rows) = ⊤
-AreReadable ids (tables.Traces rows) = AreWhole ids (rows_left rows)
+AreReadable ids (tables.Traces rows) = AreWhole ids (byte_rows_left rows)
 AreReadable ids (tables.Starts rows) = AreSerials (rows_left rows)
 AreReadable ids (tables.Ends rows) = AreSerials (rows_left rows)
 AreReadable ids (tables.Roots roots) = ⊤
@@ -71,7 +69,7 @@ facts_in_rows ids (tables.Names rows) = name_facts (byte_rows_left rows)
 facts_in_rows ids (tables.Loads rows) = load_facts (rows_left rows)
 facts_in_rows ids (tables.Unloads rows) = unload_facts (rows_left rows)
 facts_in_rows ids (tables.Frames rows) = frame_facts (rows_left rows)
-facts_in_rows ids (tables.Traces rows) = trace_facts ids (rows_left rows)
+facts_in_rows ids (tables.Traces rows) = trace_facts ids (byte_rows_left rows)
 facts_in_rows ids (tables.Starts rows) = start_facts (rows_left rows)
 facts_in_rows ids (tables.Ends rows) = end_facts (rows_left rows)
 facts_in_rows ids (tables.Roots roots) = root_facts roots
@@ -87,7 +85,7 @@ all-prop P each (row ∷ rows) = ×_prop (each row) (all-prop P each rows)
 AreSerials-prop : {V : Type 0} (rows : List (ℕ × V)) → IsProp (AreSerials rows)
 AreSerials-prop rows = all-prop HasSerial (λ row. le_prop) rows
 
-IsWhole-prop : (ids : IdSize) (row : ℕ × TraceRow) → IsProp (IsWhole ids row)
+IsWhole-prop : (ids : IdSize) (row : ℕ × List ℕ) → IsProp (IsWhole ids row)
 IsWhole-prop ids row = hlevel (props, le_prop)
 
 IsSpelled-prop : (ids : IdSize) (row : ℕ × List ℕ) → IsProp (IsSpelled ids row)
@@ -107,7 +105,7 @@ AreReadable-prop ids (tables.Names rows) = Unit-prop
 AreReadable-prop ids (tables.Loads rows) = AreSerials-prop (rows_left rows)
 AreReadable-prop ids (tables.Unloads rows) = AreSerials-prop (rows_left rows)
 AreReadable-prop ids (tables.Frames rows) = Unit-prop
-AreReadable-prop ids (tables.Traces rows) = all-prop (IsWhole ids) (IsWhole-prop ids) (rows_left rows)
+AreReadable-prop ids (tables.Traces rows) = all-prop (IsWhole ids) (IsWhole-prop ids) (byte_rows_left rows)
 AreReadable-prop ids (tables.Starts rows) = AreSerials-prop (rows_left rows)
 AreReadable-prop ids (tables.Ends rows) = AreSerials-prop (rows_left rows)
 AreReadable-prop ids (tables.Roots roots) = Unit-prop

@@ -11,7 +11,7 @@ mod sub_row;
 mod sub_rows;
 mod table;
 mod table_rows;
-mod trace_row;
+mod trace;
 
 pub use facts::Facts;
 pub use kept::kept_fact;
@@ -23,4 +23,4 @@ pub use sub_row::SubRow;
 pub use sub_rows::SubRows;
 pub use table::Table;
 pub use table_rows::TableRows;
-pub use trace_row::{TraceFrames, TraceRow};
+pub use trace::{kept_trace, thread_bytes};

@@ -13,7 +13,7 @@ ghost use Rattle.hprof_rows.specs.TableRows.{AreSerials, AreWhole, AreSpelled, A
 use crate::kept::{kept_fact, kept_fact_into};
 use crate::number_rows::{FrameRow, KeyRow, LoadRow, StartRow};
 use crate::spelled::spelled_fact;
-use crate::trace_row::TraceRow;
+use crate::trace::kept_trace;
 use hprof_items::Fact;
 use hprof_tables::{BytesRows, Rows};
 use hprof_values::{IdSize, Root};
@@ -31,7 +31,7 @@ pub enum TableRows<'a> {
     /// Frames of stacks, by identifier.
     Frames(Rows<'a, FrameRow>),
     /// Stacks, by serial.
-    Traces(Rows<'a, TraceRow>),
+    Traces(BytesRows<'a>),
     /// Threads that were started, by serial.
     Starts(Rows<'a, StartRow>),
     /// Threads that ended, by serial.
@@ -143,14 +143,14 @@ fn next_frame<'a>(rows: &mut Rows<'a, FrameRow>) -> Option<Fact<'a>>
 }
 
 /// Returns the first stack.
-fn next_trace<'a>(rows: &mut Rows<'a, TraceRow>, ids: IdSize) -> Option<Fact<'a>>
-    requires { AreWhole ids (rows_left rows.old) }
-    ensures first { YieldsFirstBy value_of (λ rows. trace_facts ids (rows_left rows)) rows.old result rows.new }
+fn next_trace<'a>(rows: &mut BytesRows<'a>, ids: IdSize) -> Option<Fact<'a>>
+    requires { AreWhole ids (byte_rows_left rows.old) }
+    ensures first { YieldsFirstBy value_of (λ rows. trace_facts ids (byte_rows_left rows)) rows.old result rows.new }
     ensures lists { IfSome result (ListsHave ids) }
-    ensures kept { AreWhole ids (rows_left rows.new) }
+    ensures kept { AreWhole ids (byte_rows_left rows.new) }
 {
-    let (serial, row) = rows.next()?;
-    Some(row.fact(serial as u32, ids))
+    let (serial, kept) = rows.next()?;
+    Some(kept_trace(serial as u32, kept, ids))
 }
 
 /// Returns the first thread that was started.

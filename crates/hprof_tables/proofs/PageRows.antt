@@ -292,13 +292,13 @@ module _ {V : Type 0} where
       let h = not_falling rows place k row d up le less in omega arith)
 
   -- a row that is not the first has a key above the first one of its page
-  pub above_from : (from to : ℕ) (rows : List (ℕ × V)) (place : ℕ) (row : ℕ × V) → IsPage from to rows → 0 < place → place < length rows
-      → row ≡ get_or rows place row → from < row.0
-  above_from from to rows place row page some lt here =
-      let first : (from ≤ (get_or rows 0 row).0) × ((get_or rows 0 row).0 ≤ to) =
-      key_at (λ k. (from ≤ k) × (k ≤ to)) rows 0 row page.within (omega arith) in
-      let e : row.0 ≡ (get_or rows place row).0 = ap (λ (r : ℕ × V). r.0) here in
-      let h = rising rows 0 place row page.ascends some lt in
+  pub above_from : (from to : ℕ) (list : List (ℕ × V)) (place : ℕ) (row : ℕ × V) → IsPage from to list → 0 < place → place < length list
+      → row ≡ get_or list place row → from < row.0
+  above_from from to list place row page some lt here =
+      let first : (from ≤ (get_or list 0 row).0) × ((get_or list 0 row).0 ≤ to) =
+      key_at (λ k. (from ≤ k) × (k ≤ to)) list 0 row page.within (omega arith) in
+      let e : row.0 ≡ (get_or list place row).0 = ap (λ (r : ℕ × V). r.0) here in
+      let h = rising list 0 place row page.ascends some lt in
       let low = first.0 in
       omega arith
 

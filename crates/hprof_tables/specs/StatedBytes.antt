@@ -1,12 +1,15 @@
 -- A row that is stated.
-use Rattle.std.specs.Prelude.{ℕ, List, [], ◌∷◌, ◌++◌, Option, Some, None}
+use Rattle.std.specs.Prelude.{ℕ, List, [], ◌∷◌, ◌++◌}
+use Rattle.hprof_tables.specs.declared.bytes_table.Front.{Front}
+use Rattle.hprof_tables.specs.declared.bytes_table.Front.TheVariants as fronts
 use Rattle.hprof_tables.specs.declared.bytes_table.StatedBytes.{StatedBytes}
 
--- the byte, if there is one
-abbrev pub as_bytes : Option ℕ → List ℕ
-as_bytes None = []
-as_bytes (Some byte) = byte ∷ []
+-- the bytes that stand apart
+abbrev pub front_bytes : Front → List ℕ
+front_bytes fronts.Nothing = []
+front_bytes (fronts.One byte) = byte ∷ []
+front_bytes (fronts.Four bytes) = bytes
 
--- its bytes: the first, where it stands apart, and the others
+-- its bytes: the first, where they stand apart, and the others
 abbrev pub bytes_of : StatedBytes → List ℕ
-bytes_of stated = as_bytes stated.first ++ stated.rest.now
+bytes_of stated = front_bytes stated.front ++ stated.rest.now

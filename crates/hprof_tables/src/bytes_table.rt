@@ -1,4 +1,4 @@
-//! The tables of names, classes and objects: bytes by key.
+//! The tables of names, stacks, classes and objects: bytes by key.
 
 ghost use Rattle.std.specs.Prelude.{◌≡◌, ◌↔◌, ◌++◌, ◌+◌, ◌<◌, ◌≤◌, ◌⊎◌, List, [], length, IfOk, OnOk, OnErr, IsTrue, Some, None, vec_len};
 ghost use Rattle.std.specs.Prelude.{◌^◌, ◌∷◌, drop, take, vec_capacity};
@@ -68,7 +68,7 @@ const MOST_DOUBLED: usize = 268_435_456;
 
 /// Makes room for `count` bytes behind others. If there is none, more is taken, for those that follow.
 fn make_room(bytes: &mut Vec<u8>, count: usize) -> Result<(), AllocError>
-    requires small { count < 2 ^ 63 + 10 }
+    requires small { count < 2 ^ 63 + 13 }
     ensures same { bytes.new.items ≡ bytes.old.items }
     ensures ok { OnOk result (vec_len bytes.old + count ≤ vec_capacity bytes.new) }
     ensures full { OnErr result (vec_capacity bytes.old < vec_len bytes.old + count) }
@@ -84,11 +84,34 @@ fn make_room(bytes: &mut Vec<u8>, count: usize) -> Result<(), AllocError>
     bytes.reserve_exact(count + more)
 }
 
+/// Puts bytes behind others. There is room for them.
+#[inline(always)]
+fn put_reserved(bytes: &mut Vec<u8>, more: &[u8])
+    requires { vec_len bytes.old + length more.now ≤ vec_capacity bytes.old }
+    ensures items { bytes.new.items ≡ bytes.old.items ++ more.now }
+    ensures room { vec_capacity bytes.old ≤ vec_capacity bytes.new }
+{
+    let Ok(()) = bytes.extend_from_slice(more) else {
+        unreachable!()
+    };
+}
+
+/// The first bytes of a row that is stated, where they stand apart from the others.
+#[derive(Clone, Copy)]
+enum Front {
+    /// None stands apart.
+    Nothing,
+    /// One does.
+    One(u8),
+    /// Four do.
+    Four([u8; 4]),
+}
+
 /// A row that is stated: its bytes, the first of which may stand apart from the others.
 #[derive(Clone, Copy)]
 struct StatedBytes<'a> {
-    /// The first byte, if it stands apart.
-    first: Option<u8>,
+    /// The first bytes, if they stand apart.
+    front: Front,
     /// The others.
     rest: &'a [u8],
 }
@@ -98,11 +121,12 @@ impl StatedBytes<'_> {
     #[inline(always)]
     fn len(self) -> usize
         ensures value { result ≡ length (bytes_of self.entry) }
-        ensures small { result < 2 ^ 63 + 1 }
+        ensures small { result < 2 ^ 63 + 4 }
     {
-        match self.first {
-            None => self.rest.len(),
-            Some(_) => 1 + self.rest.len(),
+        match self.front {
+            Front::Nothing => self.rest.len(),
+            Front::One(_) => 1 + self.rest.len(),
+            Front::Four(_) => 4 + self.rest.len(),
         }
     }
 
@@ -111,11 +135,15 @@ impl StatedBytes<'_> {
     fn is(self, bytes: &[u8]) -> bool
         ensures { IsTrue result ↔ (bytes.now ≡ bytes_of self.entry) }
     {
-        match self.first {
-            None => bytes == self.rest,
-            Some(first) => match bytes.split_first() {
+        match self.front {
+            Front::Nothing => bytes == self.rest,
+            Front::One(front) => match bytes.split_first() {
                 None => false,
-                Some((front, behind)) => *front == first && behind == self.rest,
+                Some((first, behind)) => *first == front && behind == self.rest,
+            },
+            Front::Four(front) => match bytes.split_first_chunk::<4>() {
+                None => false,
+                Some((first, behind)) => *first == front && behind == self.rest,
             },
         }
     }
@@ -127,12 +155,12 @@ impl StatedBytes<'_> {
         ensures items { bytes.new.items ≡ bytes.old.items ++ bytes_of self.entry }
         ensures room { vec_capacity bytes.old ≤ vec_capacity bytes.new }
     {
-        if let Some(first) = self.first {
-            bytes.push_reserved(first);
+        match self.front {
+            Front::Nothing => {}
+            Front::One(front) => bytes.push_reserved(front),
+            Front::Four(front) => put_reserved(bytes, &front),
         }
-        let Ok(()) = bytes.extend_from_slice(self.rest) else {
-            unreachable!()
-        };
+        put_reserved(bytes, self.rest);
     }
 }
 
@@ -234,7 +262,7 @@ fn append_rows(
     spans.reserve_exact(lent.len())?;
     for (key, row) in lent {
         let stated = StatedBytes {
-            first: None,
+            front: Front::Nothing,
             rest: row.0,
         };
         let span = stated.make(bytes)?;
@@ -305,7 +333,7 @@ impl BytesTable {
         self.state_row(
             key,
             StatedBytes {
-                first: None,
+                front: Front::Nothing,
                 rest: bytes,
             },
         )
@@ -326,7 +354,32 @@ impl BytesTable {
         self.state_row(
             key,
             StatedBytes {
-                first: Some(first),
+                front: Front::One(first),
+                rest,
+            },
+        )
+    }
+
+    /// States bytes under a key, the first four of which stand apart from the others. A key that is there takes no memory, and keeps
+    /// its row.
+    pub fn state_four_apart(
+        &mut self,
+        key: u64,
+        front: [u8; 4],
+        rest: &[u8],
+    ) -> Result<Stated, AllocError>
+        ensures ok { IfOk result (λ stated. States the_bytes (byte_rows self.old) key (front ++ rest.now) stated (byte_rows self.new)) }
+        ensures err { OnErr result (byte_rows self.new ≡ byte_rows self.old) }
+        ensures absent { OnErr result (lookup (is_at (nat_cmp key)) (byte_rows self.old) ≡ None) }
+        ensures full { OnErr result (MayNeedMemory self.old key (front ++ rest.now)) }
+        ensures kept { IfOk result (λ stated. LeavesBytes stated self.old.bytes self.new.bytes) }
+        ensures put { IfOk result (λ stated. PutsNew stated (front ++ rest.now) self.old.bytes.items self.new.bytes.items) }
+        ensures left { OnErr result (self.new.bytes.items ≡ self.old.bytes.items) }
+    {
+        self.state_row(
+            key,
+            StatedBytes {
+                front: Front::Four(front),
                 rest,
             },
         )

@@ -17,7 +17,7 @@ mod sorted_table;
 mod visit;
 
 pub use bytes_table::{BytesRows, BytesTable};
-pub use content::{Content, Statement};
+pub use content::Content;
 pub use finger::Finger;
 pub use hinted_map::HintedMap;
 pub use relation::{Relation, Stated};

@@ -8,7 +8,7 @@ ghost use Rattle.std.specs.Map.{lookup};
 ghost use Rattle.hprof_tables.specs.PlacedRows.{AreWithin, AreWithin-prop, numbered};
 ghost use Rattle.hprof_tables.specs.SortedTable.{entries_of};
 
-use crate::content::{Content, Made, Statement};
+use crate::content::Content;
 use crate::rows::Rows;
 use crate::side_by_side::{first_difference, missing_rows, same_rows};
 use crate::sorted_table::SortedTable;
@@ -126,41 +126,25 @@ impl<V: Content + Drop> Relation<V> {
         ensures absent { OnErr result (lookup (is_at (nat_cmp key)) (rows_of self.old) ≡ None) }
         ensures full { OnErr result (MayNeedMemory self.old key) }
     {
-        self.state_from(key, Made(row))
-    }
-
-    /// States under a key a statement that can become a row. It becomes one only if the key is new.
-    pub fn state_from<T: Statement<V> + Drop>(
-        &mut self,
-        key: u64,
-        statement: T,
-    ) -> Result<Stated, AllocError>
-        ensures ok { IfOk result (λ stated. States V.content (rows_of self.old) key (T.content statement) stated (rows_of self.new)) }
-        ensures err { OnErr result (rows_of self.new ≡ rows_of self.old) }
-        ensures absent { OnErr result (lookup (is_at (nat_cmp key)) (rows_of self.old) ≡ None) }
-        ensures full { OnErr result (MayNeedMemory self.old key ⊎ T.refuses statement) }
-    {
         self.places.turn_to(key);
         match self.get(key) {
             None => {
-                self.add(key, statement)?;
+                self.add(key, row)?;
                 Ok(Stated::New)
             }
-            Some(row) if statement.matches(row) => Ok(Stated::Same),
+            Some(there) if there.agrees(&row) => Ok(Stated::Same),
             Some(_) => Ok(Stated::Differs),
         }
     }
 
-    /// Adds the row of a statement under a key that is new. If memory runs out, no row changes.
-    fn add<T: Statement<V> + Drop>(&mut self, key: u64, statement: T) -> Result<(), AllocError>
+    /// Adds a row under a key that is new. If memory runs out, no row changes.
+    fn add(&mut self, key: u64, row: V) -> Result<(), AllocError>
         requires { lookup (is_at (nat_cmp key)) (rows_of self.old) ≡ None }
-        ensures ok { IfOk result (λ _. (row : V) × (V.content row ≡ T.content statement)
-            × (rows_of self.new ≡ insert_entry nat_cmp (rows_of self.old) key row)) }
+        ensures ok { IfOk result (λ _. rows_of self.new ≡ insert_entry nat_cmp (rows_of self.old) key row) }
         ensures err { OnErr result (rows_of self.new ≡ rows_of self.old) }
-        ensures full { OnErr result (MayNeedMemory self.old key ⊎ T.refuses statement) }
+        ensures full { OnErr result (MayNeedMemory self.old key) }
     {
         self.rows.reserve(1)?;
-        let row = statement.into_row(self.alloc)?;
         let placing = Placing {
             place: self.rows.len(),
         };

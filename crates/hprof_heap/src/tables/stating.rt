@@ -16,12 +16,12 @@ ghost use Rattle.hprof_heap.specs.Tables.{rows_in_tables};
 use super::Tables;
 use hprof_items::Fact;
 use hprof_lists::IdList;
-use hprof_rows::{FrameRow, KeyRow, LoadRow, StartRow, TraceFrames};
+use hprof_rows::{FrameRow, KeyRow, LoadRow, StartRow, thread_bytes};
 use hprof_tables::Stated;
 use std::alloc::AllocError;
 
 impl Tables {
-    /// States a stack.
+    /// States a stack. It is kept as the serial of its thread with the identifiers of its frames behind it.
     fn state_trace(
         &mut self,
         serial: u32,
@@ -32,7 +32,7 @@ impl Tables {
         ensures { StatesFact (rows_in_tables self.old) (Trace serial thread (identifiers_of frames.entry)) result (rows_in_tables self.new) }
     {
         self.traces
-            .state_from(serial as u64, TraceFrames { thread, frames })
+            .state_four_apart(serial as u64, thread_bytes(thread), frames.bytes())
     }
 
     /// States an instance or an array, which is spelled by these bytes. They are kept without the identifier.

@@ -1,30 +1,31 @@
-use Rattle.std.proofs.Common.{◌≡◌, ℕ, List, ◌∷◌, length, Result, refl, subst}
+use Rattle.std.proofs.Common.{◌≡◌, ℕ, List, ◌++◌, length, Result, refl, subst, ap, ◌∙◌}
 use Rattle.std.specs.Prelude.{IfOk}
 use Rattle.hprof_values.specs.declared.ids.IdSize.{IdSize}
 use Rattle.hprof_values.specs.FieldGroups.{field_bytes}
 use Rattle.hprof_lists.specs.Lists.{id_widths, identifiers_of}
 use Rattle.hprof_tables.specs.declared.relation.Stated.{Stated}
-use Rattle.hprof_tables.specs.Relation.{rows_of, States}
-use Rattle.hprof_rows.specs.declared.trace_row.TraceRow.{TraceRow}
-use Rattle.hprof_rows.specs.TraceRow.{trace_content}
+use Rattle.hprof_tables.specs.BytesTable.{byte_rows}
+use Rattle.hprof_tables.specs.Relation.{States}
+use Rattle.hprof_tables.specs.Spans.{the_bytes}
 use Rattle.hprof_heap.proofs.tables.Tables.state_trace.Goals as goal
 
--- what was stated of frames of one size was stated of the fact
-stated_as : {E : Type 0} (r : Result Stated E) (ids size : IdSize) (serial thread : ℕ) (frames : List ℕ) (old new : List (ℕ × TraceRow))
-    → size ≡ ids
-    → IfOk r (λ answer. States trace_content old serial (thread ∷ field_bytes (id_widths size (length frames)) frames) answer new)
-    → IfOk r (λ answer. States trace_content old serial (thread ∷ field_bytes (id_widths ids (length frames)) frames) answer new)
-stated_as r ids size serial thread frames old new e ok =
-    subst (λ (i : IdSize). IfOk r (λ answer. States trace_content old serial (thread ∷ field_bytes (id_widths i (length frames)) frames)
-    answer new)) e ok
+-- what was stated of bytes was stated of the content that they are
+stated_as : {E : Type 0} (r : Result Stated E) (serial : ℕ) (bytes content : List ℕ) (old new : List (ℕ × List ℕ)) → bytes ≡ content
+    → IfOk r (λ answer. States the_bytes old serial bytes answer new) → IfOk r (λ answer. States the_bytes old serial content answer new)
+stated_as r serial bytes content old new e ok =
+    subst (λ (those : List ℕ). IfOk r (λ answer. States the_bytes old serial those answer new)) e ok
 
 pub returns : goal.returns
 returns c =
     let its = c.args.self.now in
-    let state = c.state_from in (
+    let state = c.state_four_apart in
+    let frames = identifiers_of c.args.frames in
+    let bytes = c.bytes.ensures.spelled.spelled
+    ∙ ap (λ (i : IdSize). field_bytes (id_widths i (length frames)) frames) c.requires in
+    let is = ap (λ (l : List ℕ). c.thread_bytes.result ++ l) bytes
+    ∙ ap (λ (l : List ℕ). l ++ field_bytes (id_widths its.ids (length frames)) frames) c.thread_bytes.ensures in (
       record {
-        ok = stated_as state.result its.ids _ c.args.serial c.args.thread (identifiers_of c.args.frames) (rows_of its.traces)
-            (rows_of state.new.self) c.requires state.ensures.ok;
+        ok = stated_as state.result c.args.serial _ _ (byte_rows its.traces) (byte_rows state.new.self) is state.ensures.ok;
         err = state.ensures.err;
         absent = state.ensures.absent;
       },

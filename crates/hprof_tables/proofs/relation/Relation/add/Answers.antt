@@ -8,7 +8,7 @@ use Rattle.hprof_tables.proofs.relation.Relation.add.Goals as goal
 pub invariant_of-self-2 : goal.invariant_of-self-2
 invariant_of-self-2 g c =
     let old = c.args.self.now in
-    let row = c.in_ok-row.row in
+    let row = c.args.row in
     let place = c.len.result in
     let rows = c.push_reserved.ensures.items ∙ ap (λ (l : List g.row.V.Denot). l ++ row ∷ []) c.reserve.ensures.items in
     let last = c.len.ensures ∙ c.reserve.new.self.ok.0 ∙ ap (λ (l : List g.row.V.Denot). length l) c.reserve.ensures.items in
@@ -26,15 +26,12 @@ invariant_of-self-2 g c =
 pub returns-clause-ok : goal.returns-clause-ok
 returns-clause-ok g c =
     let old = c.args.self.now in
-    let row = c.in_ok-row.row in
+    let row = c.args.row in
     let place = c.len.result in
     let rows = c.push_reserved.ensures.items ∙ ap (λ (l : List g.row.V.Denot). l ++ row ∷ []) c.reserve.ensures.items in
     let last = c.len.ensures ∙ c.reserve.new.self.ok.0 ∙ ap (λ (l : List g.row.V.Denot). length l) c.reserve.ensures.items in
     let put = visit_new _ place c.args.key (entries_of old.places) (entries_of c.visit.new.self) c.in_ok-visit.field-0
     c.in_ok-visit.ensures.ok
-    (placed_none old.rows.items (entries_of old.places) c.args.key old.sound c.requires) in (
-      row,
-      c.in_ok-row.ensures.row,
-      added-rows old.rows.items c.push_reserved.new.self.items (entries_of old.places) (entries_of c.visit.new.self) c.args.key
-          place row old.sound rows last put,
-    )
+    (placed_none old.rows.items (entries_of old.places) c.args.key old.sound c.requires) in
+    added-rows old.rows.items c.push_reserved.new.self.items (entries_of old.places) (entries_of c.visit.new.self) c.args.key
+    place row old.sound rows last put

@@ -1,8 +1,6 @@
-use Rattle.std.proofs.Common.{◌≡◌, ◌+◌, ◌++◌, ◌∷◌, ℕ, List, [], length, sym, subst, ap, ◌∙◌, rules, arith}
+use Rattle.std.proofs.Common.{◌≡◌, ◌+◌, ◌∷◌, ℕ, List, [], length, sym, subst, ap, ◌∙◌, rules, arith}
 use Rattle.std.specs.Map.{values_of}
-use Rattle.hprof_tables.specs.SortedRows.{merged, IsAscending}
-use Rattle.hprof_tables.specs.declared.page.Page.{Page}
-use Rattle.hprof_tables.specs.declared.sorted_table.SortedTable.{SortedTable}
+use Rattle.hprof_tables.specs.SortedRows.{IsAscending}
 use Rattle.hprof_tables.specs.Pages.{rows_along}
 use Rattle.hprof_tables.specs.Union.{AreUnion}
 use Rattle.hprof_tables.proofs.SortedRows.{merged-length}

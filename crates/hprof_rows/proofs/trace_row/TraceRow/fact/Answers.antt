@@ -1,8 +1,0 @@
-use Rattle.std.proofs.Common.{rules}
-use Rattle.hprof_rows.proofs.trace_row.TraceRow.fact.Goals as goal
-
-pub returns-clause-lists : goal.returns-clause-lists
-returns-clause-lists c = search rules
-
-pub returns-clause-value : goal.returns-clause-value
-returns-clause-value c = search rules

@@ -1,0 +1,36 @@
+//! Stacks, which are kept as the serials of their threads with the identifiers of their frames behind them.
+
+ghost use Rattle.std.specs.Prelude.{◌≡◌};
+ghost use Rattle.byteorder.specs.Endian.{big_bytes};
+ghost use Rattle.hprof_items.specs.FactValue.{ListsHave, value_of};
+ghost use Rattle.hprof_rows.specs.Content.{trace_fact};
+ghost use Rattle.hprof_rows.specs.Trace.{IsTrace};
+
+use byteorder::{BigEndian, ByteOrder};
+use hprof_items::Fact;
+use hprof_lists::IdList;
+use hprof_values::IdSize;
+use hprof_values::number::split_u32;
+
+/// Returns the first four of the bytes that are kept of a stack: the serial of its thread.
+pub fn thread_bytes(thread: u32) -> [u8; 4]
+    ensures { result ≡ big_bytes 4 thread }
+{
+    let mut bytes = [0; 4];
+    BigEndian::write_u32(&mut bytes, thread);
+    bytes
+}
+
+/// Returns the stack with that serial, of which these bytes are kept.
+pub fn kept_trace(serial: u32, kept: &[u8], ids: IdSize) -> Fact<'_>
+    requires { IsTrace ids kept.now }
+    ensures value { value_of result ≡ trace_fact ids serial kept.now }
+    ensures lists { ListsHave ids result }
+{
+    let (thread, frames) = split_u32(kept);
+    Fact::Trace {
+        serial,
+        thread,
+        frames: IdList::of_whole(frames, ids),
+    }
+}
