@@ -1,9 +1,12 @@
 """The command: starts hprof and the server, and waits for the end."""
 
+import math
 import secrets
 import signal
 import sys
 import threading
+import time
+from queue import Empty, SimpleQueue
 
 from . import words
 from .opening import Opener
@@ -13,53 +16,53 @@ from .site import Site
 
 # After hprof ended, the page that says so is served until somebody has seen it, and a little longer; or so long without that.
 SEEN_SECONDS, UNSEEN_SECONDS = 3.0, 60.0
-
-
-class Interrupted(Exception):
-    """Control-C, a signal to end, or a terminal that is closed."""
-
-
-def interrupt(number, frame):
-    handle_endings(be_patient)
-    raise Interrupted
-
-
-def be_patient(number, frame):
-    """A further signal changes nothing: hprof and the server are being ended."""
+# A signal may come to another thread, which does not wake the one that waits: this one looks up so often.
+GLANCE_SECONDS = 0.1
+# What the viewer waits for, beside the end of hprof.
+SIGNAL, SEEN = "signal", "seen"
 
 
 def handle_endings(handler):
-    """Sets what the signals to end do. A SIGHUP that is ignored, as under nohup, stays so."""
+    """Sets what the signals to end do: Control-C, a signal to end, a terminal that is closed. A SIGHUP that is ignored, as under nohup,
+    stays so."""
     for sign in (signal.SIGINT, signal.SIGTERM, signal.SIGHUP):
         if signal.getsignal(sign) != signal.SIG_IGN:
             signal.signal(sign, handler)
 
 
+def wait_for_end(events):
+    """Waits for a signal to end, or until hprof ended and somebody has seen that."""
+    end = math.inf
+    while time.monotonic() < end:
+        try:
+            event = events.get(timeout=GLANCE_SECONDS)
+        except Empty:
+            continue
+        if event == SIGNAL:
+            return
+        end = min(end, time.monotonic() + (SEEN_SECONDS if event == SEEN else UNSEEN_SECONDS))
+
+
 def serve(found, hprof):
-    """Serves until Control-C or until hprof ended, and returns the status."""
-    token, seen = secrets.token_urlsafe(24), threading.Event()
-    server = Server(found.port, was_sent=lambda reply: seen.set() if reply.tells_refusal else None)
+    """Serves until a signal to end or until hprof ended, and returns the status."""
+    token, events = secrets.token_urlsafe(24), SimpleQueue()
+    handle_endings(lambda number, frame: events.put(SIGNAL))
+    server = Server(found.port, was_sent=lambda reply: events.put(SEEN) if reply.tells_refusal else None)
     port = server.server_address[1]
     base = f"/{token}/"
     site = Site(Guard(port, token), base, hprof, found.diff or found.parts, bool(found.diff), tell)
     server.answer = site.answer
     threading.Thread(target=server.serve_forever, daemon=True).start()
-    opener = None
-    try:
-        address = f"http://127.0.0.1:{port}{base}{'grew' if found.diff else ''}"
-        print(address, flush=True)
-        opener = open_in_browser(address) if found.open else None
-        site.refused.wait()
-        if seen.wait(UNSEEN_SECONDS):
-            threading.Event().wait(SEEN_SECONDS)
-    except Interrupted:
-        pass
-    finally:
-        handle_endings(be_patient)
-        status = 1 if site.refused.is_set() else 0
-        site.end()
-        if opener:
-            opener.end()
+    threading.Thread(target=lambda: events.put(site.refused.wait()), daemon=True).start()
+    address = f"http://127.0.0.1:{port}{base}{'grew' if found.diff else ''}"
+    print(address, flush=True)
+    opener = open_in_browser(address) if found.open else None
+    wait_for_end(events)
+    handle_endings(signal.SIG_IGN)
+    status = 1 if site.refused.is_set() else 0
+    site.end()
+    if opener:
+        opener.end()
     return status
 
 
@@ -79,10 +82,7 @@ def main():
     hprof = words.program(found.hprof)
     if not hprof:
         sys.exit("hprof_view: no hprof was found; build it, or name it with --hprof")
-    handle_endings(interrupt)
     try:
         sys.exit(serve(found, hprof))
-    except Interrupted:
-        sys.exit(0)
     except OSError as fault:
         sys.exit(f"hprof_view: {fault}")
