@@ -55,14 +55,17 @@ def serve(found, hprof):
     threading.Thread(target=server.serve_forever, daemon=True).start()
     threading.Thread(target=lambda: events.put(site.refused.wait()), daemon=True).start()
     address = f"http://127.0.0.1:{port}{base}{'grew' if found.diff else ''}"
-    print(address, flush=True)
-    opener = open_in_browser(address) if found.open else None
-    wait_for_end(events)
-    handle_endings(signal.SIG_IGN)
-    status = 1 if site.refused.is_set() else 0
-    site.end()
-    if opener:
-        opener.end()
+    opener = None
+    try:
+        print(address, flush=True)
+        opener = open_in_browser(address) if found.open else None
+        wait_for_end(events)
+    finally:
+        handle_endings(signal.SIG_IGN)
+        status = 1 if site.refused.is_set() else 0
+        site.end()
+        if opener:
+            opener.end()
     return status
 
 
