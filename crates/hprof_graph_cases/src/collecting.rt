@@ -5,7 +5,8 @@ use crate::samples::{CLASS_100, heap_of};
 use hprof_edges::{
     Collect, Edge, EdgeSet, Via, class_edges, edge_to_class, field_edges, object_edges, sort_edges,
 };
-use hprof_known_layouts::{Wanted, known_layouts};
+use hprof_heap::Heap;
+use hprof_known_layouts::{KnownLayouts, Reference, Wanted, known_layouts};
 use hprof_lookup::{find_class, find_object};
 use hprof_values::IdSize;
 use std::test::*;
@@ -51,29 +52,60 @@ const NARROW_99: &[u8] = b"\x20\0\0\0\x63\0\0\0\x01\0\0\0\0\
 /// Instance 200 of class 100: 7, and a reference to 201.
 const NARROW_200: &[u8] = b"\x21\0\0\0\xc8\0\0\0\x01\0\0\0\x64\0\0\0\x08\0\0\0\x07\0\0\0\xc9";
 
-#[test]
-fn edges_of_rows(rt: HostRuntime) -> Result<(), Fail> {
-    let bytes = b"\0\0\0\x07\0\0\0\xc9";
-    let heap = heap_of(rt.alloc(), &[CLASS_100, NARROW_99, NARROW_200])?;
-    let known = known_layouts(rt.alloc(), &heap)?;
-    let mut references = Vec::new(rt.alloc());
-    let mut list = EdgeSet::new(rt.alloc(), Wanted::All);
-    let ids = IdSize::Four;
-    if let (Some(class), Some(object)) = (find_class(&heap, 100), find_object(&heap, 200)) {
-        class_edges(&class, &mut list)?;
-        object_edges(&known, &object, ids, &mut references, &mut list)?;
+/// Puts the edges of class 100 and of instance 200, as they stand in the heap.
+fn put_rows(
+    heap: &Heap,
+    known: &KnownLayouts,
+    list: &mut EdgeSet,
+    references: &mut Vec<Reference>,
+) -> Result<(), Fail> {
+    if let (Some(class), Some(object)) = (find_class(heap, 100), find_object(heap, 200)) {
+        class_edges(&class, list)?;
+        object_edges(known, &object, IdSize::Four, references, list)?;
     }
-    edge_to_class(300, 100, &mut list)?;
-    let laid = field_edges(&known, 300, 100, bytes, ids, &mut references, &mut list)?;
-    let unknown = field_edges(&known, 400, 101, bytes, ids, &mut references, &mut list)?;
-    equal(&rt, (laid, unknown), (true, false));
-    let edges = [
+    Ok(())
+}
+
+/// Puts the edges of instance 300 of class 100, which has the same bytes, and returns whether the layout of its class is known.
+fn put_instance(
+    known: &KnownLayouts,
+    list: &mut EdgeSet,
+    references: &mut Vec<Reference>,
+) -> Result<bool, Fail> {
+    let bytes = b"\0\0\0\x07\0\0\0\xc9";
+    edge_to_class(300, 100, list)?;
+    Ok(field_edges(known, 300, 100, bytes, IdSize::Four, references, list)?)
+}
+
+/// Returns the edges that both put.
+fn edges_put() -> [Edge; 5] {
+    [
         edge(100, Via::Parent, 0, 99),
         edge(200, Via::Class, 0, 100),
         edge(200, Via::Field, 1, 201),
         edge(300, Via::Class, 0, 100),
         edge(300, Via::Field, 1, 201),
-    ];
-    equal(&rt, list.edges.as_slice(), edges.as_slice());
+    ]
+}
+
+#[test]
+fn edges_of_rows(rt: HostRuntime) -> Result<(), Fail> {
+    let heap = heap_of(rt.alloc(), &[CLASS_100, NARROW_99, NARROW_200])?;
+    let known = known_layouts(rt.alloc(), &heap)?;
+    let mut references = Vec::new(rt.alloc());
+    let mut list = EdgeSet::new(rt.alloc(), Wanted::All);
+    put_rows(&heap, &known, &mut list, &mut references)?;
+    let laid = put_instance(&known, &mut list, &mut references)?;
+    let unknown = field_edges(
+        &known,
+        400,
+        101,
+        b"",
+        IdSize::Four,
+        &mut references,
+        &mut list,
+    )?;
+    equal(&rt, (laid, unknown), (true, false));
+    equal(&rt, list.edges.as_slice(), edges_put().as_slice());
     Ok(())
 }

@@ -25,11 +25,10 @@ const SUBS: [&[u8]; 4] = [
     b"\x22\0\0\0\x62\0\0\0\x01\0\0\0\x01\0\0\0\x64\0\0\0\x63",
 ];
 
-#[test]
-fn classes(rt: HostRuntime) -> Result<(), Fail> {
+/// Returns what is told of class 95.
+fn class_95() -> Result<ClassDump<'static>, Fail> {
     let ids = IdSize::Four;
-    let heap = heap_of(rt.alloc(), &SUBS)?;
-    let row = ClassDump {
+    Ok(ClassDump {
         id: 95,
         trace: 1,
         parent: 100,
@@ -42,11 +41,18 @@ fn classes(rt: HostRuntime) -> Result<(), Fail> {
         constants: ConstantList::new(b"", ids).ok_or("no list")?,
         statics: StaticList::new(b"", ids).ok_or("no list")?,
         fields: FieldList::new(BYTE, ids).ok_or("no list")?,
-    };
-    for (id, expected) in [(95, Some(row)), (98, None), (100, None)] {
-        equal_at(&rt, id, find_class(&heap, id), expected);
+    })
+}
+
+#[test]
+fn classes(rt: HostRuntime) -> Result<(), Fail> {
+    let heap = heap_of(rt.alloc(), &SUBS)?;
+    equal(&rt, find_class(&heap, 95), Some(class_95()?));
+    for id in [98, 100] {
+        equal_at(&rt, id, find_class(&heap, id), None);
     }
-    equal(&rt, (id_size(&heap), class_name(&heap, 95)), (ids, None));
+    let found = (id_size(&heap), class_name(&heap, 95));
+    equal(&rt, found, (IdSize::Four, None));
     Ok(())
 }
 
@@ -60,38 +66,44 @@ fn reason_in(fields: &Fields) -> &'static str {
     }
 }
 
+/// Returns what is told of object 97, 98 or 99.
+fn object_of(id: u64) -> Option<ObjectDump<'static>> {
+    Some(match id {
+        97 => ObjectDump::Instance {
+            id,
+            trace: 1,
+            class: 95,
+            bytes: b"ab",
+        },
+        98 => ObjectDump::ObjArray {
+            id,
+            trace: 1,
+            class: 100,
+            elements: IdList::new(b"\0\0\0\x63", IdSize::Four)?,
+        },
+        99 => ObjectDump::PrimArray {
+            id,
+            trace: 1,
+            elem: Basic::Char,
+            bytes: b"cd",
+        },
+        _ => return None,
+    })
+}
+
 #[test]
 fn objects(rt: HostRuntime) -> Result<(), Fail> {
-    let alloc = rt.alloc();
-    let heap = heap_of(alloc, &SUBS)?;
-    let instance = ObjectDump::Instance {
-        id: 97,
-        trace: 1,
-        class: 95,
-        bytes: b"ab",
-    };
-    let array = ObjectDump::ObjArray {
-        id: 98,
-        trace: 1,
-        class: 100,
-        elements: IdList::new(b"\0\0\0\x63", IdSize::Four).ok_or("no list")?,
-    };
-    let numbers = ObjectDump::PrimArray {
-        id: 99,
-        trace: 1,
-        elem: Basic::Char,
-        bytes: b"cd",
-    };
-    let cases = [
-        (97, Some(instance)),
-        (98, Some(array)),
-        (99, Some(numbers)),
-        (95, None),
-        (100, None),
-    ];
-    for (id, row) in cases {
-        equal_at(&rt, id, find_object(&heap, id), row);
+    let heap = heap_of(rt.alloc(), &SUBS)?;
+    for id in [97, 98, 99, 95, 100] {
+        equal_at(&rt, id, find_object(&heap, id), object_of(id));
     }
+    equal(&rt, object_of(98).is_some(), true);
+    Ok(())
+}
+
+#[test]
+fn reasons_why_there_are_no_fields(rt: HostRuntime) -> Result<(), Fail> {
+    let heap = heap_of(rt.alloc(), &SUBS)?;
     for (id, reason) in [
         (97, "class 100 is missing"),
         (98, "no instance"),
@@ -99,7 +111,7 @@ fn objects(rt: HostRuntime) -> Result<(), Fail> {
         (95, "no object"),
         (100, "no object"),
     ] {
-        equal_at(&rt, id, reason_in(&fields(alloc, &heap, id)?), reason);
+        equal_at(&rt, id, reason_in(&fields(rt.alloc(), &heap, id)?), reason);
     }
     Ok(())
 }

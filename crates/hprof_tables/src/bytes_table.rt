@@ -96,6 +96,20 @@ fn put_reserved(bytes: &mut Vec<u8>, more: &[u8])
     };
 }
 
+/// Puts four bytes behind others. There is room for them.
+#[inline(always)]
+fn put_four(bytes: &mut Vec<u8>, front: [u8; 4])
+    requires { vec_len bytes.old + 4 ≤ vec_capacity bytes.old }
+    ensures items { bytes.new.items ≡ bytes.old.items ++ front }
+    ensures room { vec_capacity bytes.old ≤ vec_capacity bytes.new }
+{
+    let [first, second, third, fourth] = front;
+    bytes.push_reserved(first);
+    bytes.push_reserved(second);
+    bytes.push_reserved(third);
+    bytes.push_reserved(fourth);
+}
+
 /// The first bytes of a row that is stated, where they stand apart from the others.
 #[derive(Clone, Copy)]
 enum Front {
@@ -158,7 +172,7 @@ impl StatedBytes<'_> {
         match self.front {
             Front::Nothing => {}
             Front::One(front) => bytes.push_reserved(front),
-            Front::Four(front) => put_reserved(bytes, &front),
+            Front::Four(front) => put_four(bytes, front),
         }
         put_reserved(bytes, self.rest);
     }

@@ -4,8 +4,10 @@ ghost use Rattle.std.specs.Prelude.{IfOk};
 ghost use Rattle.hprof_tool.specs.Tasks.{AsksFor};
 
 use clap::{Arg, ArgAction, ArgMatches, Command, Error};
+use entries::{ASKING, Entry, REPORTING, WRITING, Word};
 use std::alloc::{AllocError, Global};
 
+mod entries;
 mod help;
 
 /// The task that the words ask for.
@@ -107,170 +109,60 @@ fn parts_arg<'a>(alloc: Global) -> Arg<'a> {
         .action(ArgAction::Append)
 }
 
-/// Returns a command that reports on parts. Its help has the text behind its arguments.
-fn reporting_command<'a>(
-    alloc: Global,
-    name: &'a str,
-    about: &'a str,
-    text: &'a str,
-) -> Result<Command<'a>, AllocError> {
-    Command::new(alloc, name)
-        .about(about)
-        .after_help(text)
-        .arg(parts_arg(alloc))
-}
-
-/// Returns a command that writes a new file that is made of parts.
-fn writing_command<'a>(
-    alloc: Global,
-    name: &'a str,
-    about: &'a str,
-    text: &'a str,
-) -> Result<Command<'a>, AllocError> {
-    let out = Arg::new(alloc, "out")
-        .value_name("OUT")
-        .help("The new file for the dump")
-        .required(true)
-        .action(ArgAction::Set);
-    Command::new(alloc, name)
-        .about(about)
-        .after_help(text)
-        .arg(out)?
-        .arg(parts_arg(alloc))
-}
-
-/// Returns a command that reports on an identifier.
-fn asking_command<'a>(
-    alloc: Global,
-    name: &'a str,
-    about: &'a str,
-    text: &'a str,
-) -> Result<Command<'a>, AllocError> {
-    let id = Arg::new(alloc, "id")
-        .value_name("ID")
-        .help("The identifier of a class or an object, in hexadecimal")
-        .required(true)
-        .action(ArgAction::Set);
-    Command::new(alloc, name)
-        .about(about)
-        .after_help(text)
-        .arg(id)?
-        .arg(parts_arg(alloc))
-}
-
-/// Returns the command that reports on a class or a type.
-fn objects_command<'a>(alloc: Global) -> Result<Command<'a>, AllocError> {
-    let kind = Arg::new(alloc, "kind")
-        .value_name("KIND")
-        .help("The identifier of a class, or a type of arrays, as byte[]")
-        .required(true)
-        .action(ArgAction::Set);
-    Command::new(alloc, "objects")
-        .about("Prints the objects of a class or a type, the largest first")
-        .after_help(help::OBJECTS)
-        .arg(kind)?
-        .arg(parts_arg(alloc))
-}
-
-/// Returns an argument for the name of a dump, which is required.
-fn dump_arg<'a>(alloc: Global, name: &'a str, value_name: &'a str, help: &'a str) -> Arg<'a> {
-    Arg::new(alloc, name)
-        .value_name(value_name)
-        .help(help)
+/// Returns the argument for a word that a command must be given.
+fn word_arg<'a>(alloc: Global, word: Word) -> Arg<'a> {
+    Arg::new(alloc, word.name)
+        .value_name(word.value_name)
+        .help(word.help)
         .required(true)
         .action(ArgAction::Set)
 }
 
-/// Returns the command that compares two dumps.
-fn diff_command<'a>(alloc: Global) -> Result<Command<'a>, AllocError> {
-    Command::new(alloc, "diff")
-        .about("Prints what grew from one dump to another, in bytes and objects")
-        .after_help(help::DIFF)
-        .arg(dump_arg(alloc, "older", "OLD", "The older dump"))?
-        .arg(dump_arg(alloc, "newer", "NEW", "The newer dump"))
+/// Adds arguments for the words that a command must be given.
+fn with_words<'a>(
+    alloc: Global,
+    command: Command<'a>,
+    words: &[Word],
+) -> Result<Command<'a>, AllocError> {
+    let mut command = command;
+    for word in words {
+        command = command.arg(word_arg(alloc, *word))?;
+    }
+    Ok(command)
 }
 
-/// Adds the commands that write a new file.
-fn with_writing<'a>(alloc: Global, program: Command<'a>) -> Result<Command<'a>, AllocError> {
-    program
-        .subcommand(writing_command(
-            alloc,
-            "join",
-            "Joins parts of one heap into one canonical dump",
-            help::JOIN,
-        )?)?
-        .subcommand(writing_command(
-            alloc,
-            "join101",
-            "Joins parts of one heap into one JAVA PROFILE 1.0.1 dump",
-            help::JOIN101,
-        )?)?
-        .subcommand(writing_command(
-            alloc,
-            "salvage",
-            "Saves each damaged part up to its fault, and prints the faults",
-            help::SALVAGE,
-        )?)
+/// Returns a command of the program.
+fn subcommand_of<'a>(alloc: Global, entry: &Entry) -> Result<Command<'a>, AllocError> {
+    let command = Command::new(alloc, entry.name)
+        .about(entry.about)
+        .after_help(entry.help);
+    let command = with_words(alloc, command, entry.words)?;
+    if entry.takes_parts {
+        return command.arg(parts_arg(alloc));
+    }
+    Ok(command)
 }
 
-/// Adds the commands that report on all parts, or on a class or a type.
-fn with_reporting<'a>(alloc: Global, program: Command<'a>) -> Result<Command<'a>, AllocError> {
-    program
-        .subcommand(reporting_command(
-            alloc,
-            "check",
-            "Prints the version and time of each part, and numbers of facts",
-            help::CHECK,
-        )?)?
-        .subcommand(reporting_command(
-            alloc,
-            "histo",
-            "Prints the class histogram: the bytes and objects of each class",
-            help::HISTO,
-        )?)?
-        .subcommand(reporting_command(
-            alloc,
-            "classes",
-            "Prints each class, its superclass, and its bytes and objects",
-            help::CLASSES,
-        )?)?
-        .subcommand(objects_command(alloc)?)?
-        .subcommand(diff_command(alloc)?)
+/// Adds a command to the program.
+fn with_subcommand<'a>(
+    alloc: Global,
+    program: Command<'a>,
+    entry: &Entry,
+) -> Result<Command<'a>, AllocError> {
+    program.subcommand(subcommand_of(alloc, entry)?)
 }
 
-/// Adds the commands that report on an identifier.
-fn with_asking<'a>(alloc: Global, program: Command<'a>) -> Result<Command<'a>, AllocError> {
-    program
-        .subcommand(asking_command(
-            alloc,
-            "object",
-            "Prints the contents of a class, an instance or an array",
-            help::OBJECT,
-        )?)?
-        .subcommand(asking_command(
-            alloc,
-            "path",
-            "Prints the shortest path from a GC root to a class or an object",
-            help::PATH,
-        )?)?
-        .subcommand(asking_command(
-            alloc,
-            "refs",
-            "Prints each reference to a class or an object",
-            help::REFS,
-        )?)?
-        .subcommand(asking_command(
-            alloc,
-            "text",
-            "Prints the text of a string, or of an array of chars or bytes",
-            help::TEXT,
-        )?)?
-        .subcommand(asking_command(
-            alloc,
-            "why",
-            "Prints the shortest path from a GC root, with names",
-            help::WHY,
-        )?)
+/// Adds commands to the program.
+fn with_subcommands<'a>(
+    alloc: Global,
+    program: Command<'a>,
+    entries: &[Entry],
+) -> Result<Command<'a>, AllocError> {
+    let mut program = program;
+    for entry in entries {
+        program = with_subcommand(alloc, program, entry)?;
+    }
+    Ok(program)
 }
 
 /// Returns the program's command line.
@@ -280,14 +172,9 @@ fn command<'a>(alloc: Global) -> Result<Command<'a>, AllocError> {
         .about("Reads Java heap dumps, answers questions about them, and joins them")
         .after_help(help::PROGRAM)
         .disable_help_subcommand(true);
-    let program = with_writing(alloc, program)?;
-    let program = with_reporting(alloc, program)?;
-    with_asking(alloc, program)?.subcommand(reporting_command(
-        alloc,
-        "ask",
-        "Reads the parts once, and answers questions on standard input",
-        help::ASK,
-    )?)
+    let program = with_subcommands(alloc, program, &WRITING)?;
+    let program = with_subcommands(alloc, program, &REPORTING)?;
+    with_subcommands(alloc, program, &ASKING)
 }
 
 /// Returns the names of the parts that were given to a command.

@@ -1,0 +1,169 @@
+//! The commands of the program, in the order in which its help lists them.
+
+use super::help;
+
+/// A word that a command must be given.
+#[derive(Clone, Copy)]
+pub(crate) struct Word {
+    /// The name that it is asked for by.
+    pub(crate) name: &'static str,
+    /// What stands for it in the help.
+    pub(crate) value_name: &'static str,
+    /// What it is.
+    pub(crate) help: &'static str,
+}
+
+/// A command of the program.
+#[derive(Clone, Copy)]
+pub(crate) struct Entry {
+    /// Its name.
+    pub(crate) name: &'static str,
+    /// What it does, in a line.
+    pub(crate) about: &'static str,
+    /// The text behind its arguments.
+    pub(crate) help: &'static str,
+    /// The words that it must be given, in order.
+    pub(crate) words: &'static [Word],
+    /// Whether names of parts follow.
+    pub(crate) takes_parts: bool,
+}
+
+const OUT: Word = Word {
+    name: "out",
+    value_name: "OUT",
+    help: "The new file for the dump",
+};
+
+const ID: Word = Word {
+    name: "id",
+    value_name: "ID",
+    help: "The identifier of a class or an object, in hexadecimal",
+};
+
+const KIND: Word = Word {
+    name: "kind",
+    value_name: "KIND",
+    help: "The identifier of a class, or a type of arrays, as byte[]",
+};
+
+const OLDER: Word = Word {
+    name: "older",
+    value_name: "OLD",
+    help: "The older dump",
+};
+
+const NEWER: Word = Word {
+    name: "newer",
+    value_name: "NEW",
+    help: "The newer dump",
+};
+
+/// The commands that write a new file.
+pub(crate) static WRITING: [Entry; 3] = [
+    Entry {
+        name: "join",
+        about: "Joins parts of one heap into one canonical dump",
+        help: help::JOIN,
+        words: &[OUT],
+        takes_parts: true,
+    },
+    Entry {
+        name: "join101",
+        about: "Joins parts of one heap into one JAVA PROFILE 1.0.1 dump",
+        help: help::JOIN101,
+        words: &[OUT],
+        takes_parts: true,
+    },
+    Entry {
+        name: "salvage",
+        about: "Saves each damaged part up to its fault, and prints the faults",
+        help: help::SALVAGE,
+        words: &[OUT],
+        takes_parts: true,
+    },
+];
+
+/// The commands that report on all parts, or on a class or a type.
+pub(crate) static REPORTING: [Entry; 5] = [
+    Entry {
+        name: "check",
+        about: "Prints the version and time of each part, and numbers of facts",
+        help: help::CHECK,
+        words: &[],
+        takes_parts: true,
+    },
+    Entry {
+        name: "histo",
+        about: "Prints the class histogram: the bytes and objects of each class",
+        help: help::HISTO,
+        words: &[],
+        takes_parts: true,
+    },
+    Entry {
+        name: "classes",
+        about: "Prints each class, its superclass, and its bytes and objects",
+        help: help::CLASSES,
+        words: &[],
+        takes_parts: true,
+    },
+    Entry {
+        name: "objects",
+        about: "Prints the objects of a class or a type, the largest first",
+        help: help::OBJECTS,
+        words: &[KIND],
+        takes_parts: true,
+    },
+    Entry {
+        name: "diff",
+        about: "Prints what grew from one dump to another, in bytes and objects",
+        help: help::DIFF,
+        words: &[OLDER, NEWER],
+        takes_parts: false,
+    },
+];
+
+/// The commands that report on an identifier, and the one that answers questions.
+pub(crate) static ASKING: [Entry; 6] = [
+    Entry {
+        name: "object",
+        about: "Prints the contents of a class, an instance or an array",
+        help: help::OBJECT,
+        words: &[ID],
+        takes_parts: true,
+    },
+    Entry {
+        name: "path",
+        about: "Prints the shortest path from a GC root to a class or an object",
+        help: help::PATH,
+        words: &[ID],
+        takes_parts: true,
+    },
+    Entry {
+        name: "refs",
+        about: "Prints each reference to a class or an object",
+        help: help::REFS,
+        words: &[ID],
+        takes_parts: true,
+    },
+    Entry {
+        name: "text",
+        about: "Prints the text of a string, or of an array of chars or bytes",
+        help: help::TEXT,
+        words: &[ID],
+        takes_parts: true,
+    },
+    Entry {
+        name: "why",
+        about: "Prints the shortest path from a GC root, with names",
+        help: help::WHY,
+        words: &[ID],
+        takes_parts: true,
+    },
+    Entry {
+        name: "ask",
+        about: "Reads the parts once, and answers questions on standard input",
+        help: help::ASK,
+        words: &[],
+        takes_parts: true,
+    },
+];
