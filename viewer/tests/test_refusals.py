@@ -87,6 +87,7 @@ class Refused(unittest.TestCase):
     def test_files(self):
         self.refused("hprof: cannot open part 0", self.folder / "nowhere")
         self.refused("hprof: cannot open part 1", "--", FRIDAY, "-x")
+        self.refused("hprof: the words are no text", self.file("\udcff", FRIDAY.read_bytes()))
         self.refused("hprof: part 0: read failed", self.folder)
         self.refused("hprof: conflict at load 1", MONDAY, FRIDAY)
 

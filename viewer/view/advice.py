@@ -14,6 +14,7 @@ ADVICE = (
     (r"read failed", "the questions of ask could not be read", "see where they come from"),
     (r"(part \d+: )?conflict at .*", "two dumps were given as parts of one", "ask each alone; hprof diff OLD NEW"),
     (r"identifier sizes differ", "dumps of two machines were given as parts of one", "ask each alone"),
+    (r"the words are no text", "a word is not UTF-8, often the name of a file", "give the file another name"),
     (r"no parts", "no part was named, or salvage found no whole header", "name one"),
     (r"(part \d+: )?out of memory", "the system gave no more memory", MEMORY),
     (r"write failed", "the disk is full, or the reader of the output closed it (head)", "make room; sed -n 1,10p in place of head"),

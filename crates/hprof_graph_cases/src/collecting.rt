@@ -9,6 +9,8 @@ use hprof_heap::Heap;
 use hprof_known_layouts::{KnownLayouts, Reference, Wanted, known_layouts};
 use hprof_lookup::{find_class, find_object};
 use hprof_values::IdSize;
+use std::alloc::Global;
+use std::process::Abort;
 use std::test::*;
 
 /// Returns an edge.
@@ -88,16 +90,19 @@ fn edges_put() -> [Edge; 5] {
     ]
 }
 
-#[test]
-fn edges_of_rows(rt: HostRuntime) -> Result<(), Fail> {
-    let heap = heap_of(rt.alloc(), &[CLASS_100, NARROW_99, NARROW_200])?;
-    let known = known_layouts(rt.alloc(), &heap)?;
-    let mut references = Vec::new(rt.alloc());
-    let mut list = EdgeSet::new(rt.alloc(), Wanted::All);
-    put_rows(&heap, &known, &mut list, &mut references)?;
-    let laid = put_instance(&known, &mut list, &mut references)?;
+/// Checks the edges that both put, and that a class without a layout puts none.
+fn expect_edges(
+    rt: &impl Abort,
+    alloc: Global,
+    heap: &Heap,
+    known: &KnownLayouts,
+) -> Result<(), Fail> {
+    let mut references = Vec::new(alloc);
+    let mut list = EdgeSet::new(alloc, Wanted::All);
+    put_rows(heap, known, &mut list, &mut references)?;
+    let laid = put_instance(known, &mut list, &mut references)?;
     let unknown = field_edges(
-        &known,
+        known,
         400,
         101,
         b"",
@@ -105,7 +110,14 @@ fn edges_of_rows(rt: HostRuntime) -> Result<(), Fail> {
         &mut references,
         &mut list,
     )?;
-    equal(&rt, (laid, unknown), (true, false));
-    equal(&rt, list.edges.as_slice(), edges_put().as_slice());
+    equal(rt, (laid, unknown), (true, false));
+    equal(rt, list.edges.as_slice(), edges_put().as_slice());
     Ok(())
+}
+
+#[test]
+fn edges_of_rows(rt: HostRuntime) -> Result<(), Fail> {
+    let heap = heap_of(rt.alloc(), &[CLASS_100, NARROW_99, NARROW_200])?;
+    let known = known_layouts(rt.alloc(), &heap)?;
+    expect_edges(&rt, rt.alloc(), &heap, &known)
 }

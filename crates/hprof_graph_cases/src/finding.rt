@@ -2,7 +2,7 @@
 
 use crate::expecting::{equal, equal_at};
 use crate::samples::heap_of;
-use hprof_heap::Table;
+use hprof_heap::{Heap, Table};
 use hprof_items::{Fact, IdSize};
 use hprof_layouts::{Fields, fields};
 use hprof_lists::{ConstantList, FieldList, IdList, StaticList};
@@ -10,6 +10,8 @@ use hprof_lookup::{
     ClassDump, ObjectDump, class_name, find_class, find_object, id_size, table_facts, table_len,
 };
 use hprof_values::Basic;
+use std::alloc::Global;
+use std::process::Abort;
 use std::test::*;
 
 /// Own field 7 of type byte.
@@ -44,16 +46,20 @@ fn class_95() -> Result<ClassDump<'static>, Fail> {
     })
 }
 
+/// Checks the classes of a heap.
+fn expect_classes(rt: &impl Abort, heap: &Heap) -> Result<(), Fail> {
+    equal(rt, find_class(heap, 95), Some(class_95()?));
+    for id in [98, 100] {
+        equal_at(rt, id, find_class(heap, id), None);
+    }
+    let found = (id_size(heap), class_name(heap, 95));
+    equal(rt, found, (IdSize::Four, None));
+    Ok(())
+}
+
 #[test]
 fn classes(rt: HostRuntime) -> Result<(), Fail> {
-    let heap = heap_of(rt.alloc(), &SUBS)?;
-    equal(&rt, find_class(&heap, 95), Some(class_95()?));
-    for id in [98, 100] {
-        equal_at(&rt, id, find_class(&heap, id), None);
-    }
-    let found = (id_size(&heap), class_name(&heap, 95));
-    equal(&rt, found, (IdSize::Four, None));
-    Ok(())
+    expect_classes(&rt, &heap_of(rt.alloc(), &SUBS)?)
 }
 
 /// Returns the reason why an object has no fields.
@@ -101,9 +107,8 @@ fn objects(rt: HostRuntime) -> Result<(), Fail> {
     Ok(())
 }
 
-#[test]
-fn reasons_why_there_are_no_fields(rt: HostRuntime) -> Result<(), Fail> {
-    let heap = heap_of(rt.alloc(), &SUBS)?;
+/// Checks the reasons why objects of a heap have no fields.
+fn expect_reasons(rt: &impl Abort, alloc: Global, heap: &Heap) -> Result<(), Fail> {
     for (id, reason) in [
         (97, "class 100 is missing"),
         (98, "no instance"),
@@ -111,24 +116,33 @@ fn reasons_why_there_are_no_fields(rt: HostRuntime) -> Result<(), Fail> {
         (95, "no object"),
         (100, "no object"),
     ] {
-        equal_at(&rt, id, reason_in(&fields(rt.alloc(), &heap, id)?), reason);
+        equal_at(rt, id, reason_in(&fields(alloc, heap, id)?), reason);
     }
     Ok(())
 }
 
 #[test]
-fn tables(rt: HostRuntime) -> Result<(), Fail> {
-    let heap = heap_of(rt.alloc(), &SUBS)?;
-    equal(&rt, table_len(&heap, Table::Objects), 3);
-    let mut facts = table_facts(&heap, Table::Objects);
+fn objects_without_fields(rt: HostRuntime) -> Result<(), Fail> {
+    expect_reasons(&rt, rt.alloc(), &heap_of(rt.alloc(), &SUBS)?)
+}
+
+/// Checks the table of objects of a heap.
+fn expect_objects(rt: &impl Abort, heap: &Heap) {
+    equal(rt, table_len(heap, Table::Objects), 3);
+    let mut facts = table_facts(heap, Table::Objects);
     for id in [97, 98, 99] {
         let found = match facts.next() {
             Some(Fact::Instance { id, .. } | Fact::ObjArray { id, .. }) => Some(id),
             Some(Fact::PrimArray { id, .. }) => Some(id),
             _ => None,
         };
-        equal(&rt, found, Some(id));
+        equal(rt, found, Some(id));
     }
-    equal(&rt, facts.next(), None);
+    equal(rt, facts.next(), None);
+}
+
+#[test]
+fn tables(rt: HostRuntime) -> Result<(), Fail> {
+    expect_objects(&rt, &heap_of(rt.alloc(), &SUBS)?);
     Ok(())
 }

@@ -26,6 +26,11 @@ const INSTANCE_IN_FRAME: [&[u8]; 4] = [
     b"\x03\0\0\0\xc8\0\0\0\x01\0\0\0\0",
 ];
 
+/// Returns what is reached in a heap of these sub-records.
+fn reach_in(alloc: Global, subs: &[&[u8]]) -> Result<Reach, Fail> {
+    Ok(reach_of(alloc, &heap_of(alloc, subs)?)?)
+}
+
 /// Checks the distance of an identifier, and its path.
 fn expect_reach(
     rt: &impl Abort,
@@ -41,42 +46,60 @@ fn expect_reach(
     Ok(())
 }
 
+/// Checks that these identifiers are reached, at which distance, and by which path.
+fn expect_reached(
+    rt: &impl Abort,
+    alloc: Global,
+    reach: &Reach,
+    reached: &[(u64, u64, &[u64])],
+) -> Result<(), Fail> {
+    for (id, distance, path) in reached {
+        expect_reach(rt, alloc, reach, *id, Some(*distance), Some(path))?;
+    }
+    Ok(())
+}
+
+/// Checks that these identifiers are not reached.
+fn expect_unreached(
+    rt: &impl Abort,
+    alloc: Global,
+    reach: &Reach,
+    ids: &[u64],
+) -> Result<(), Fail> {
+    for id in ids {
+        expect_reach(rt, alloc, reach, *id, None, None)?;
+    }
+    Ok(())
+}
+
 #[test]
 fn an_instance_leads_to_its_classes(rt: HostRuntime) -> Result<(), Fail> {
-    let alloc = rt.alloc();
-    let reach = reach_of(alloc, &heap_of(alloc, &INSTANCE_IN_FRAME)?)?;
+    let reach = reach_in(rt.alloc(), &INSTANCE_IN_FRAME)?;
     let reached: [(u64, u64, &[u64]); 3] = [
         (200, 0, &[200]),
         (100, 1, &[200, 100]),
         (99, 2, &[200, 100, 99]),
     ];
-    for (id, distance, path) in reached {
-        expect_reach(&rt, alloc, &reach, id, Some(distance), Some(path))?;
-    }
-    expect_reach(&rt, alloc, &reach, 201, None, None)?;
-    Ok(())
+    expect_reached(&rt, rt.alloc(), &reach, &reached)?;
+    expect_unreached(&rt, rt.alloc(), &reach, &[201])
 }
 
 #[test]
 fn distances_and_paths(rt: HostRuntime) -> Result<(), Fail> {
-    let alloc = rt.alloc();
-    let reach = reach_of(alloc, &heap_of(alloc, &SUBS)?)?;
+    let reach = reach_in(rt.alloc(), &SUBS)?;
     let reached: [(u64, u64, &[u64]); 4] = [
         (16, 0, &[16]),
         (17, 1, &[16, 17]),
         (18, 1, &[16, 18]),
         (19, 2, &[16, 17, 19]),
     ];
-    for (id, distance, path) in reached {
-        expect_reach(&rt, alloc, &reach, id, Some(distance), Some(path))?;
-    }
-    for id in [20, 0, 100, 119, 153] {
-        expect_reach(&rt, alloc, &reach, id, None, None)?;
-    }
+    expect_reached(&rt, rt.alloc(), &reach, &reached)?;
+    expect_unreached(&rt, rt.alloc(), &reach, &[20, 0, 100, 119, 153])
+}
+
+#[test]
+fn without_roots_nothing_is_reached(rt: HostRuntime) -> Result<(), Fail> {
     let (arrays, _roots) = SUBS.split_at(5);
-    let reach = reach_of(alloc, &heap_of(alloc, arrays)?)?;
-    for id in [0, 16, 17, 18, 19, 20] {
-        expect_reach(&rt, alloc, &reach, id, None, None)?;
-    }
-    Ok(())
+    let reach = reach_in(rt.alloc(), arrays)?;
+    expect_unreached(&rt, rt.alloc(), &reach, &[0, 16, 17, 18, 19, 20])
 }

@@ -41,7 +41,20 @@ fn check_differ(
     Ok(())
 }
 
-// That a heap without facts is like one of the same size and time alone, whichever is asked.
+// That the heap is like one of this size and time without facts, or not, whichever is asked.
+fn check_empty(
+    rt: &impl Abort,
+    alloc: Global,
+    heap: &Heap,
+    (ids, millis): (IdSize, u64),
+    alike: bool,
+) -> Result<(), Fail> {
+    let other = begun(alloc, ids, millis)?.finish()?;
+    equal(rt, (same(heap, &other), same(&other, heap)), (alike, alike));
+    Ok(())
+}
+
+// That a heap without facts is like one of the same size and time alone.
 fn check_sizes_and_times(rt: &impl Abort, alloc: Global) -> Result<(), Fail> {
     let heap = begun(alloc, IdSize::Four, 1)?.finish()?;
     for (ids, millis, alike) in [
@@ -49,12 +62,7 @@ fn check_sizes_and_times(rt: &impl Abort, alloc: Global) -> Result<(), Fail> {
         (IdSize::Four, 2, false),
         (IdSize::Eight, 1, false),
     ] {
-        let other = begun(alloc, ids, millis)?.finish()?;
-        equal(
-            rt,
-            (same(&heap, &other), same(&other, &heap)),
-            (alike, alike),
-        );
+        check_empty(rt, alloc, &heap, (ids, millis), alike)?;
     }
     Ok(())
 }

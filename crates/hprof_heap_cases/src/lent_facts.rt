@@ -1,8 +1,11 @@
 //! Facts of all tables, as a heap looks them up and lends them.
 
+ghost use Rattle.std.specs.Prelude.{◌≡◌, Some, OnOk};
+ghost use Rattle.hprof_heap.specs.Gathering.{gathered};
+
 use crate::expecting::{equal, holds};
 use crate::samples::{array, begun, frame_of, heap_of, start_of, state_each, state_fact, trace_of};
-use hprof_heap::{Heap, Key, Refusal, Standing, Table, same};
+use hprof_heap::{Gatherer, Heap, Key, Refusal, Standing, Table, same};
 use hprof_items::{Fact, IdSize};
 use hprof_lists::{ConstantList, FieldList, IdList, StaticList};
 use hprof_tables::Stated;
@@ -105,13 +108,27 @@ fn check_look_ups(rt: &impl Abort, heap: &Heap, facts: &[Fact<'_>; 21]) {
 }
 
 // That these facts are new to a gatherer, and then there, and that its heap gives each by its key.
+fn check_given(
+    rt: &impl Abort,
+    alloc: Global,
+    gatherer: &mut Gatherer,
+    ids: IdSize,
+    facts: &[Fact<'_>; 21],
+) -> Result<(), Fail>
+    requires { (gathered gatherer.old).begun ≡ Some ids }
+    ensures { OnOk result ((gathered gatherer.new).begun ≡ Some ids) }
+{
+    state_each(rt, alloc, gatherer, ids, facts, Stated::New)?;
+    state_each(rt, alloc, gatherer, ids, facts, Stated::Same)?;
+    check_look_ups(rt, gatherer.heap().ok_or("no heap")?, facts);
+    Ok(())
+}
+
+// That these facts stand in a gatherer. From the first that differs on, its heap is shown no more.
 fn check_gatherer(rt: &impl Abort, alloc: Global, facts: &[Fact<'_>; 21]) -> Result<(), Fail> {
     let ids = IdSize::Four;
     let mut gatherer = begun(alloc, ids, 5)?;
-    state_each(rt, alloc, &mut gatherer, ids, facts, Stated::New)?;
-    state_each(rt, alloc, &mut gatherer, ids, facts, Stated::Same)?;
-    check_look_ups(rt, gatherer.heap().ok_or("no heap")?, facts);
-    // From the first that differs on, the heap is shown no more.
+    check_given(rt, alloc, &mut gatherer, ids, facts)?;
     let came = state_fact(alloc, &mut gatherer, ids, load(1, 100, 3))?;
     equal(
         rt,

@@ -70,6 +70,21 @@ fn heap_below(alloc: Global, above: u64, count: usize) -> Result<Heap, Fail> {
     Ok(gatherer.finish()?)
 }
 
+/// Checks the heap of the instance with `count` bytes, and of the classes below that one: the layouts of the first class and of the last,
+/// and the fields of the instance.
+fn expect_chain(
+    rt: &impl Abort,
+    alloc: Global,
+    (above, count): (u64, usize),
+    [first, last]: [Shape<'_>; 2],
+    read: Read<'_>,
+) -> Result<(), Fail> {
+    let heap = heap_below(alloc, above, count)?;
+    expect_layout(rt, alloc, &heap, 1, first)?;
+    expect_layout(rt, alloc, &heap, LAST, last)?;
+    expect_fields(rt, alloc, &heap, 2_000, read)
+}
+
 #[test]
 fn layouts(rt: HostRuntime) -> Result<(), Fail> {
     let alloc = rt.alloc();
@@ -85,13 +100,17 @@ fn layouts(rt: HostRuntime) -> Result<(), Fail> {
         (1_000, 0, circle, Read::Cyclic),
         (1_001, 0, missing, Read::Missing(1_001)),
     ];
-    for (above, count, [first, last], read) in cases {
-        let heap = heap_below(alloc, above, count)?;
-        expect_layout(&rt, alloc, &heap, 1, first)?;
-        expect_layout(&rt, alloc, &heap, LAST, last)?;
-        expect_fields(&rt, alloc, &heap, 2_000, read)?;
+    for (above, count, layouts, read) in cases {
+        expect_chain(&rt, alloc, (above, count), layouts, read)?;
     }
     Ok(())
+}
+
+/// Returns a live heap of the instance, with a byte for each class.
+fn live_heap(alloc: Global) -> Result<LiveHeap, Fail> {
+    let mut live = LiveHeap::new(alloc);
+    give_instance(alloc, &mut live, 1_000)?;
+    Ok(live)
 }
 
 /// Checks that the instance waits, and that this is the layout of class 1.
@@ -128,34 +147,40 @@ fn give_last(rt: &impl Abort, alloc: Global, live: &mut LiveHeap, id: u64) -> Re
 }
 
 #[test]
-fn classes_ascend_and_descend(rt: HostRuntime) -> Result<(), Fail> {
-    let alloc = rt.alloc();
-    let mut live = LiveHeap::new(alloc);
-    give_instance(alloc, &mut live, 1_000)?;
-    expect_waiting(&rt, alloc, &live, Shape::Missing(1))?;
+fn classes_ascend(rt: HostRuntime) -> Result<(), Fail> {
+    let mut live = live_heap(rt.alloc())?;
+    expect_waiting(&rt, rt.alloc(), &live, Shape::Missing(1))?;
     for id in 1..LAST {
-        give_early(&rt, alloc, &mut live, id, id + 1)?;
+        give_early(&rt, rt.alloc(), &mut live, id, id + 1)?;
     }
-    give_last(&rt, alloc, &mut live, LAST)?;
+    give_last(&rt, rt.alloc(), &mut live, LAST)
+}
 
-    let mut live = LiveHeap::new(alloc);
-    give_instance(alloc, &mut live, 1_000)?;
+#[test]
+fn classes_descend(rt: HostRuntime) -> Result<(), Fail> {
+    let mut live = live_heap(rt.alloc())?;
     for id in (2..=LAST).rev() {
-        give_early(&rt, alloc, &mut live, id, 1)?;
+        give_early(&rt, rt.alloc(), &mut live, id, 1)?;
     }
-    give_last(&rt, alloc, &mut live, 1)
+    give_last(&rt, rt.alloc(), &mut live, 1)
+}
+
+/// Checks a live heap of the instance and of the classes below that one.
+fn expect_unlaid(
+    rt: &impl Abort,
+    alloc: Global,
+    above: u64,
+    layout: Shape<'_>,
+) -> Result<(), Fail> {
+    let mut live = live_heap(alloc)?;
+    for id in 1..=LAST {
+        give_class(alloc, &mut live, id, above)?;
+    }
+    expect_waiting(rt, alloc, &live, layout)
 }
 
 #[test]
 fn the_last_class_closes_a_circle_or_misses_another(rt: HostRuntime) -> Result<(), Fail> {
-    let alloc = rt.alloc();
-    for (above, layout) in [(1, Shape::Cyclic), (1_001, Shape::Missing(1_001))] {
-        let mut live = LiveHeap::new(alloc);
-        give_instance(alloc, &mut live, 1_000)?;
-        for id in 1..=LAST {
-            give_class(alloc, &mut live, id, above)?;
-        }
-        expect_waiting(&rt, alloc, &live, layout)?;
-    }
-    Ok(())
+    expect_unlaid(&rt, rt.alloc(), 1, Shape::Cyclic)?;
+    expect_unlaid(&rt, rt.alloc(), 1_001, Shape::Missing(1_001))
 }

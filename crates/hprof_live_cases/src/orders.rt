@@ -5,9 +5,9 @@ use crate::expecting::{equal, equal_at};
 use crate::plain_list::{count_instances, edges_from, edges_in, edges_to, layout_in};
 use hprof_edges::{Edge, edges_of, referrers};
 use hprof_fixtures::{Dump, NO_CLASS, Whole, give};
-use hprof_heap::{Key, Refusal};
+use hprof_heap::{Heap, Key, Refusal};
 use hprof_items::Fact;
-use hprof_live::{Live, LiveHeap};
+use hprof_live::{Index, Live, LiveHeap};
 use hprof_values::Basic;
 use std::alloc::Global;
 use std::process::Abort;
@@ -142,6 +142,22 @@ fn give_in_order(rt: &impl Abort, alloc: Global, order: &[Dump<'_>]) -> Result<L
     Ok(live)
 }
 
+/// Checks the edges of an identifier in a heap, and those to it in its index.
+fn expect_edges(
+    rt: &impl Abort,
+    alloc: Global,
+    (heap, index): (&Heap, &Index),
+    edges: &[Edge],
+    id: u64,
+) -> Result<(), Fail> {
+    let to = edges_to(alloc, edges, id)?;
+    equal_at(rt, id, index.referrers(id), to.as_slice());
+    equal_at(rt, id, referrers(alloc, heap, id)?, to);
+    let from = edges_from(alloc, edges, id)?;
+    equal_at(rt, id, edges_of(alloc, heap, id)?, from);
+    Ok(())
+}
+
 /// Checks that the heap at the end, and its index, have the edges of the dumps.
 fn expect_found(
     rt: &impl Abort,
@@ -151,11 +167,7 @@ fn expect_found(
 ) -> Result<(), Fail> {
     let (heap, index) = live.finish()?;
     for id in 0..16 {
-        let to = edges_to(alloc, edges, id)?;
-        equal_at(rt, id, index.referrers(id), to.as_slice());
-        equal_at(rt, id, referrers(alloc, &heap, id)?, to);
-        let from = edges_from(alloc, edges, id)?;
-        equal_at(rt, id, edges_of(alloc, &heap, id)?, from);
+        expect_edges(rt, alloc, (&heap, &index), edges, id)?;
     }
     Ok(())
 }

@@ -82,6 +82,15 @@ fn expect_failed(rt: &impl Abort, alloc: Global, live: LiveHeap) {
     equal(rt, live.finish().err(), Some(Refusal::Failed));
 }
 
+/// Checks that the instance was laid.
+fn expect_laid(rt: &impl Abort, alloc: Global, live: &mut LiveHeap) -> Result<(), Fail> {
+    let layout = Live::Is(Shape::Known(SLOTS));
+    expect_layout_now(rt, alloc, live, 100, layout)?;
+    expect_counts(rt, live, Live::Is(0), Live::Is(1));
+    expect_referrers(rt, live, LAID);
+    Ok(())
+}
+
 /// If memory runs out in the live heap, it has failed from then on, and the test ends with that fault.
 #[test]
 fn refused_memory(rt: HostRuntime) -> Result<(), Fail> {
@@ -93,9 +102,5 @@ fn refused_memory(rt: HostRuntime) -> Result<(), Fail> {
         return given;
     }
     given?;
-    let layout = Live::Is(Shape::Known(SLOTS));
-    expect_layout_now(&rt, alloc, &live, 100, layout)?;
-    expect_counts(&rt, &live, Live::Is(0), Live::Is(1));
-    expect_referrers(&rt, &mut live, LAID);
-    Ok(())
+    expect_laid(&rt, alloc, &mut live)
 }
