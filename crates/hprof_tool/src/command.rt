@@ -4,11 +4,11 @@ ghost use Rattle.std.specs.Prelude.{IfOk};
 ghost use Rattle.hprof_tool.specs.Tasks.{AsksFor};
 
 use clap::{Arg, ArgAction, ArgMatches, Command, Error};
-use entries::{ASKING, Entry, REPORTING, WRITING, Word};
 use std::alloc::{AllocError, Global};
+use subcommands::{ASKING, Argument, REPORTING, Subcommand, WRITING};
 
-mod entries;
 mod help;
+mod subcommands;
 
 /// The task that the words ask for.
 #[derive(Drop)]
@@ -109,35 +109,35 @@ fn parts_arg<'a>(alloc: Global) -> Arg<'a> {
         .action(ArgAction::Append)
 }
 
-/// Returns the argument for a word that a command must be given.
-fn word_arg<'a>(alloc: Global, word: Word) -> Arg<'a> {
-    Arg::new(alloc, word.name)
-        .value_name(word.value_name)
-        .help(word.help)
+/// Returns an argument that a command must be given.
+fn required_arg<'a>(alloc: Global, argument: Argument) -> Arg<'a> {
+    Arg::new(alloc, argument.name)
+        .value_name(argument.value_name)
+        .help(argument.help)
         .required(true)
         .action(ArgAction::Set)
 }
 
-/// Adds arguments for the words that a command must be given.
-fn with_words<'a>(
+/// Adds arguments that a command must be given.
+fn with_required<'a>(
     alloc: Global,
     command: Command<'a>,
-    words: &[Word],
+    arguments: &[Argument],
 ) -> Result<Command<'a>, AllocError> {
     let mut command = command;
-    for word in words {
-        command = command.arg(word_arg(alloc, *word))?;
+    for argument in arguments {
+        command = command.arg(required_arg(alloc, *argument))?;
     }
     Ok(command)
 }
 
 /// Returns a command of the program.
-fn subcommand_of<'a>(alloc: Global, entry: &Entry) -> Result<Command<'a>, AllocError> {
-    let command = Command::new(alloc, entry.name)
-        .about(entry.about)
-        .after_help(entry.help);
-    let command = with_words(alloc, command, entry.words)?;
-    if entry.takes_parts {
+fn subcommand_of<'a>(alloc: Global, told: &Subcommand) -> Result<Command<'a>, AllocError> {
+    let command = Command::new(alloc, told.name)
+        .about(told.about)
+        .after_help(told.help);
+    let command = with_required(alloc, command, told.arguments)?;
+    if told.takes_parts {
         return command.arg(parts_arg(alloc));
     }
     Ok(command)
@@ -147,20 +147,20 @@ fn subcommand_of<'a>(alloc: Global, entry: &Entry) -> Result<Command<'a>, AllocE
 fn with_subcommand<'a>(
     alloc: Global,
     program: Command<'a>,
-    entry: &Entry,
+    told: &Subcommand,
 ) -> Result<Command<'a>, AllocError> {
-    program.subcommand(subcommand_of(alloc, entry)?)
+    program.subcommand(subcommand_of(alloc, told)?)
 }
 
 /// Adds commands to the program.
 fn with_subcommands<'a>(
     alloc: Global,
     program: Command<'a>,
-    entries: &[Entry],
+    all: &[Subcommand],
 ) -> Result<Command<'a>, AllocError> {
     let mut program = program;
-    for entry in entries {
-        program = with_subcommand(alloc, program, entry)?;
+    for told in all {
+        program = with_subcommand(alloc, program, told)?;
     }
     Ok(program)
 }
