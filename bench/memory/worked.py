@@ -1,9 +1,9 @@
 #!/usr/bin/env python3
 """Runs worked cases with each of their requests for memory refused in turn.
 
-A case is read from crates/hprof_worked/stdin by its title, with the names of bytes that it uses. With one request refused all may
-hold, as where a join is made once more; or a line says that memory ran out; or the call answers that a write failed, since the writers of the table
-keep in memory what they are given. Anything else is wrong. It needs the built program (`rt run` in crates/hprof_worked leaves it as
+A case is read from crates/hprof_worked/stdin by its title, with the names of bytes that it uses. With one request refused all may hold,
+as where a join is made once more; or a line says that memory ran out; or the call answers that a write failed, since the writers of the
+table keep in memory what they are given. Anything else is wrong. It needs the built program (`rt run` in crates/hprof_worked leaves it as
 out/hprof_worked) and cc. Without titles it runs a case of each call that can want memory. It is no part of the gate.
 
     bench/memory/worked.py [TITLE..]
