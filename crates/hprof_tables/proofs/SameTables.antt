@@ -4,7 +4,7 @@ use mathlib.Core.HLevel.{is_prop→PathP}
 use Rattle.hprof_tables.specs.declared.bytes_table.BytesTable.{BytesTable}
 use Rattle.hprof_tables.specs.Spans.{AreSpansOf, AreSpansOf-prop, lying, rows_lying}
 use Rattle.hprof_tables.specs.Relation.{contents_of}
-use Rattle.hprof_tables.specs.declared.bytes_table.Span.{Span}
+use Rattle.hprof_tables.specs.declared.framed_rows.Span.{Span}
 use Rattle.std.proofs.lemmas.List.{length-map}
 use Rattle.hprof_tables.specs.SortedTable.{entries_of}
 

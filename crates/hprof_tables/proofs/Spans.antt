@@ -11,7 +11,7 @@ use Rattle.std.proofs.lemmas.Bool.{cases_order}
 use Rattle.std.proofs.lemmas.List.{flat_map_more, drop-append-le, length-drop, append_assoc}
 use Rattle.std.proofs.Math.Seq.{drop-append_seam}
 use Rattle.std.proofs.lemmas.Map.Made.{lookup-map_values, keys_of-map_values}
-use Rattle.hprof_tables.specs.declared.bytes_table.Span.{Span}
+use Rattle.hprof_tables.specs.declared.framed_rows.Span.{Span}
 use Rattle.hprof_tables.specs.declared.relation.Stated.{Stated}
 use Rattle.hprof_tables.specs.declared.relation.Stated.TheVariants.{New, Same, Differs}
 use Rattle.hprof_tables.specs.Spans.{IsSpanOf, AreSpansOf, IsBehind, framed, front_row, row_bytes, lying, rows_lying, the_bytes}

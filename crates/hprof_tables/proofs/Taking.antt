@@ -2,7 +2,7 @@
 use Rattle.std.proofs.Common.{◌≡◌, ℕ, List, Result, Ok, Err, sym, ap, subst, ◌∙◌}
 use Rattle.std.specs.Prelude.{IfOk, OnErr}
 use Rattle.std.proofs.lemmas.Result.{IfOk-weaker}
-use Rattle.hprof_tables.specs.declared.bytes_table.Span.{Span}
+use Rattle.hprof_tables.specs.declared.framed_rows.Span.{Span}
 use Rattle.hprof_tables.specs.Spans.{IsSpanOf, AreSpansOf, IsBehind, lying, rows_lying}
 use Rattle.hprof_tables.specs.SortedRows.{IsAscending}
 use Rattle.hprof_tables.specs.Union.{AreApart, AreUnion}

@@ -4,7 +4,7 @@ use Rattle.std.specs.Int.{w64, from_be_bytes, to_be_bytes}
 use Rattle.std.specs.Coded.{le_prop}
 use Rattle.std.specs.List.{AllByRecursion, flat_map}
 use Rattle.std.proofs.Props.{props}
-use Rattle.hprof_tables.specs.declared.bytes_table.Span.{Span}
+use Rattle.hprof_tables.specs.declared.framed_rows.Span.{Span}
 
 -- what a row of bytes says is the bytes, as they are
 abbrev pub the_bytes : List ℕ → List ℕ

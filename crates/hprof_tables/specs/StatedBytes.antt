@@ -1,8 +1,8 @@
 -- A row that is stated.
 use Rattle.std.specs.Prelude.{ℕ, List, [], ◌∷◌, ◌++◌}
-use Rattle.hprof_tables.specs.declared.bytes_table.Front.{Front}
-use Rattle.hprof_tables.specs.declared.bytes_table.Front.TheVariants as fronts
-use Rattle.hprof_tables.specs.declared.bytes_table.StatedBytes.{StatedBytes}
+use Rattle.hprof_tables.specs.declared.framed_rows.Front.{Front}
+use Rattle.hprof_tables.specs.declared.framed_rows.Front.TheVariants as fronts
+use Rattle.hprof_tables.specs.declared.framed_rows.StatedBytes.{StatedBytes}
 
 -- the bytes that stand apart
 abbrev pub front_bytes : Front → List ℕ

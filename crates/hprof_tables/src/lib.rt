@@ -6,6 +6,7 @@ mod bytes_table;
 mod content;
 mod entries;
 mod finger;
+mod framed_rows;
 mod hinted_map;
 mod merging;
 mod page;

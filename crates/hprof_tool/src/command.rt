@@ -132,12 +132,12 @@ fn with_required<'a>(
 }
 
 /// Returns a command of the program.
-fn subcommand_of<'a>(alloc: Global, told: &Subcommand) -> Result<Command<'a>, AllocError> {
-    let command = Command::new(alloc, told.name)
-        .about(told.about)
-        .after_help(told.help);
-    let command = with_required(alloc, command, told.arguments)?;
-    if told.takes_parts {
+fn subcommand_of<'a>(alloc: Global, subcommand: &Subcommand) -> Result<Command<'a>, AllocError> {
+    let command = Command::new(alloc, subcommand.name)
+        .about(subcommand.about)
+        .after_help(subcommand.help);
+    let command = with_required(alloc, command, subcommand.arguments)?;
+    if subcommand.takes_parts {
         return command.arg(parts_arg(alloc));
     }
     Ok(command)
@@ -147,9 +147,9 @@ fn subcommand_of<'a>(alloc: Global, told: &Subcommand) -> Result<Command<'a>, Al
 fn with_subcommand<'a>(
     alloc: Global,
     program: Command<'a>,
-    told: &Subcommand,
+    subcommand: &Subcommand,
 ) -> Result<Command<'a>, AllocError> {
-    program.subcommand(subcommand_of(alloc, told)?)
+    program.subcommand(subcommand_of(alloc, subcommand)?)
 }
 
 /// Adds commands to the program.
@@ -159,8 +159,8 @@ fn with_subcommands<'a>(
     all: &[Subcommand],
 ) -> Result<Command<'a>, AllocError> {
     let mut program = program;
-    for told in all {
-        program = with_subcommand(alloc, program, told)?;
+    for subcommand in all {
+        program = with_subcommand(alloc, program, subcommand)?;
     }
     Ok(program)
 }

@@ -5,7 +5,7 @@ use super::help;
 /// An argument that a command must be given.
 #[derive(Clone, Copy)]
 pub(crate) struct Argument {
-    /// The name that it is asked for by.
+    /// The name by which its value is asked for.
     pub(crate) name: &'static str,
     /// What stands for it in the help.
     pub(crate) value_name: &'static str,

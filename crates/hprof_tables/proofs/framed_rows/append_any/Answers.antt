@@ -3,7 +3,7 @@ use Rattle.std.specs.Int.{w64, to_be_bytes}
 use Rattle.hprof_tables.specs.StatedBytes.{bytes_of}
 use Rattle.hprof_tables.proofs.Framed.{long_put, long_size, short_put, short_size}
 use Rattle.hprof_tables.proofs.SortedList.{at_err}
-use Rattle.hprof_tables.proofs.bytes_table.append_any.Goals as goal
+use Rattle.hprof_tables.proofs.framed_rows.append_any.Goals as goal
 
 pub returns-in_err-make_room-clause-full : goal.returns-in_err-make_room-clause-full
 returns-in_err-make_room-clause-full c =

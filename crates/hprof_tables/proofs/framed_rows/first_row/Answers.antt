@@ -2,7 +2,7 @@ use Rattle.std.proofs.Common.{◌≡◌, List, ℕ, Some, subst, sym, ap, ◌∙
 use Rattle.std.specs.Option.{option_copied}
 use Rattle.hprof_tables.specs.Spans.{HasFrontRow, front_row}
 use Rattle.hprof_tables.proofs.Framed.{front_got, front_width-some, long_found, short_found}
-use Rattle.hprof_tables.proofs.bytes_table.first_row.Goals as goal
+use Rattle.hprof_tables.proofs.framed_rows.first_row.Goals as goal
 
 pub returns-in_err-first : goal.returns-in_err-first
 returns-in_err-first c there =

@@ -4,7 +4,7 @@ use Rattle.hprof_tables.specs.Spans.{AreSpansOf, framed, row_bytes, rows_lying}
 use Rattle.hprof_tables.specs.Relation.{contents_of}
 use Rattle.hprof_tables.proofs.Missing.{contents-append}
 use Rattle.hprof_tables.proofs.Spans.{behind_more, put_more, within-next, lying-next}
-use Rattle.hprof_tables.proofs.bytes_table.append_rows.Goals as goal
+use Rattle.hprof_tables.proofs.framed_rows.append_rows.Goals as goal
 
 pub loop-key-init : goal.loop-key-init
 loop-key-init c =

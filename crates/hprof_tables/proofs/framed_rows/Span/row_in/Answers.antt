@@ -1,6 +1,6 @@
 use Rattle.std.proofs.Common.{inl, inr, arith}
 use Rattle.hprof_tables.proofs.Spans.{span_start}
-use Rattle.hprof_tables.proofs.bytes_table.Span.row_in.Goals as goal
+use Rattle.hprof_tables.proofs.framed_rows.Span.row_in.Goals as goal
 
 pub returns-in_err-get : goal.returns-in_err-get
 returns-in_err-get c there =

@@ -1,7 +1,7 @@
 use Rattle.std.proofs.Common.{◌≡◌, ◌≤◌, ◌++◌, length, vec_capacity}
 use Rattle.hprof_tables.specs.Spans.{AreSpansOf, IsBehind, row_bytes, rows_lying}
 use Rattle.hprof_tables.specs.Relation.{contents_of}
-use Rattle.hprof_tables.proofs.bytes_table.append_rows.Given as goal
+use Rattle.hprof_tables.proofs.framed_rows.append_rows.Given as goal
 
 -- the bytes of the rows that were taken lie at their spans, behind those that were there
 abbrev pub invariant-loop-key : goal.invariant-loop-key

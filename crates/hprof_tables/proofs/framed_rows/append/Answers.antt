@@ -1,7 +1,7 @@
 use Rattle.std.proofs.Common.{◌<◌, ◌++◌, ◌∷◌, [], ℕ, List, length, ap, ◌∙◌, arith}
 use Rattle.hprof_tables.specs.StatedBytes.{bytes_of}
 use Rattle.hprof_tables.proofs.Framed.{short_put, short_size}
-use Rattle.hprof_tables.proofs.bytes_table.append.Goals as goal
+use Rattle.hprof_tables.proofs.framed_rows.append.Goals as goal
 
 pub returns-then-len-capacity-clause-ok : goal.returns-then-len-capacity-clause-ok
 returns-then-len-capacity-clause-ok c =

@@ -2,7 +2,7 @@ use Rattle.std.proofs.Common.{◌≡◌, ◌≤◌, ◌+◌, ℕ, List, Some, le
 use Rattle.std.specs.Int.{w64, from_be_bytes}
 use Rattle.hprof_tables.specs.Spans.{long_length}
 use Rattle.hprof_tables.proofs.Framed.{front_got}
-use Rattle.hprof_tables.proofs.bytes_table.long_row.Goals as goal
+use Rattle.hprof_tables.proofs.framed_rows.long_row.Goals as goal
 
 pub returns : goal.returns
 unfolding long_length
