@@ -1,8 +1,8 @@
 -- The edges that private functions put, one behind the other; no public contract speaks of them.
 use Rattle.std.specs.Prelude.{ℕ, ◌+◌, ◌==◌, List, [], ◌∷◌, ◌++◌, map, if◌then◌else◌}
 use Rattle.hprof_values.specs.declared.basic.Basic.{Basic}
-use Rattle.hprof_lists.specs.declared.entry.Entry.{Entry}
-use Rattle.hprof_lists.specs.Value.{constant_of, static_of}
+use Rattle.hprof_values.specs.declared.entry.Entry.{Entry}
+use Rattle.hprof_values.specs.Value.{constant_of, static_of}
 use Rattle.hprof_layouts.specs.declared.field_value.FieldValue.{FieldValue}
 use Rattle.hprof_lookup.specs.Classes.{ClassValue}
 use Rattle.hprof_known_layouts.specs.declared.reference.Reference.{Reference}

@@ -3,7 +3,7 @@
 use Rattle.std.specs.Prelude.{◌≡◌, ◌≢◌, ◌⊎◌, ◌↔◌, ℕ, List, Some, slice_get, true, Contains}
 use Rattle.std.specs.List.Sorted.{IsStrictlySortedBy}
 use Rattle.hprof_values.specs.declared.ids.IdSize.{IdSize}
-use Rattle.hprof_lists.specs.declared.entry.Entry.{Entry}
+use Rattle.hprof_values.specs.declared.entry.Entry.{Entry}
 use Rattle.hprof_items.specs.FactValue.{FactValue}
 use Rattle.hprof_lookup.specs.Classes.{ClassValue, HasDump}
 use Rattle.hprof_lookup.specs.Objects.{HasInstance, HasElements}

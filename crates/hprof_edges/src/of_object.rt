@@ -3,7 +3,7 @@
 ghost use Rattle.std.specs.Prelude.{◌≡◌, ◌↔◌, ◌⊎◌, false, List, IsTrue, IfOk, OnOk};
 ghost use Rattle.hprof_values.specs.declared.ids.IdSize.{IdSize};
 ghost use Rattle.hprof_items.specs.FactValue.{FactValue};
-ghost use Rattle.hprof_lists.specs.Lists.{identifiers_of};
+ghost use Rattle.hprof_values.specs.Lists.{identifiers_of};
 ghost use Rattle.hprof_lookup.specs.ObjectDump.{fact_of_object};
 ghost use Rattle.hprof_known_layouts.specs.Known.{HasLayout, Knows};
 ghost use Rattle.hprof_edges.specs.declared.edge.Edge.{Edge};
@@ -14,9 +14,8 @@ use crate::collect::Collect;
 use crate::edge::{Edge, Via};
 use crate::putting::{put_edge, put_elements, put_references};
 use hprof_known_layouts::{KnownLayouts, Reference};
-use hprof_lists::IdList;
+use hprof_values::{IdList, IdSize};
 use hprof_lookup::ObjectDump;
-use hprof_values::IdSize;
 use std::alloc::AllocError;
 
 /// Puts the edge of an instance or of an array of objects to its class into `into`, if `into` wants it. There is none to class 0.

@@ -2,7 +2,7 @@
 
 ghost use Rattle.std.specs.Prelude.{◌≡◌, ◌++◌, ℕ, List, Contains, false, OnOk};
 ghost use Rattle.hprof_known_layouts.specs.References.{is_wanted};
-ghost use Rattle.hprof_lists.specs.Lists.{constants_of, identifiers_of, statics_of};
+ghost use Rattle.hprof_values.specs.Lists.{constants_of, identifiers_of, statics_of};
 ghost use Rattle.hprof_edges.specs.declared.edge.Edge.{Edge};
 ghost use Rattle.hprof_edges.specs.declared.edge.Via.TheVariants as vias;
 ghost use Rattle.hprof_edges.specs.EdgeLists.{numbered, reference_edges, target_of, targets_of_constants, targets_of_statics};
@@ -12,8 +12,7 @@ use crate::collect::Collect;
 use crate::edge::{Edge, Via};
 use hprof_known_layouts::{Reference, Wanted, refers};
 use hprof_layouts::FieldValue;
-use hprof_lists::{ConstantList, IdList, StaticList};
-use hprof_values::Basic;
+use hprof_values::{Basic, ConstantList, IdList, StaticList};
 use std::alloc::AllocError;
 
 /// Puts an edge, unless it refers to nothing.

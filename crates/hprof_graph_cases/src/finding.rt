@@ -5,11 +5,10 @@ use crate::samples::heap_of;
 use hprof_heap::{Heap, Table};
 use hprof_items::{Fact, IdSize};
 use hprof_layouts::{Fields, fields};
-use hprof_lists::{ConstantList, FieldList, IdList, StaticList};
+use hprof_values::{Basic, ConstantList, FieldList, IdList, StaticList};
 use hprof_lookup::{
     ClassDump, ObjectDump, class_name, find_class, find_object, id_size, table_facts, table_len,
 };
-use hprof_values::Basic;
 use std::alloc::Global;
 use std::process::Abort;
 use std::test::*;

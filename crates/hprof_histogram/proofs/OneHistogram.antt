@@ -5,7 +5,7 @@ use Rattle.std.proofs.lemmas.Bool.{eqb-true}
 use Rattle.hprof_values.specs.declared.ids.IdSize.{IdSize}
 use Rattle.hprof_values.specs.declared.basic.Basic.{Basic}
 use Rattle.hprof_values.specs.Basic.{code_of_basic, basic_of_code}
-use Rattle.hprof_lists.proofs.EntryLists.{code_again}
+use Rattle.hprof_values.proofs.EntryLists.{code_again}
 use Rattle.hprof_items.specs.FactValue.{FactValue}
 use Rattle.hprof_rows.specs.Facts.{Has}
 use Rattle.hprof_histogram.specs.declared.row.Kind.{Kind}

@@ -11,14 +11,14 @@ use Rattle.hprof_values.specs.declared.stop.Stop.{Stop}
 use Rattle.hprof_values.specs.Ids.{width_of, IsBytes}
 use Rattle.hprof_values.specs.Basic.{code_of_basic, basic_of_code, width_of_basic}
 use Rattle.hprof_values.specs.FieldGroups.{field_bytes, fields_in, FitFields, Bounds, ◌>>=◌, reached, IsWithin}
-use Rattle.hprof_lists.specs.Lists.{id_widths, IsIdList, ids_in}
+use Rattle.hprof_values.specs.Lists.{id_widths, IsIdList, ids_in}
 use Rattle.hprof_items.specs.FactValue.{FactValue, ObjArray, PrimArray}
 use Rattle.hprof_items.specs.SubRecord.{cut, obj_array_widths, obj_array_numbers, obj_array_at, prim_array_widths, prim_array_numbers}
 use Rattle.hprof_items.specs.SubRecord.{prim_array_at, element_type, dump_bytes, DumpFits, IsDumpOf}
 use Rattle.hprof_values.proofs.Numbers.{IsBytes-drop, IsBytes-take}
 use Rattle.hprof_values.proofs.FieldGroups.{length-fields, then_ok, then_next, within-less}
-use Rattle.hprof_lists.proofs.EntryLists.{code_found, code_again}
-use Rattle.hprof_lists.proofs.IdLists.{sum-id_widths, ids_whole, length-ids, ids_found, ids_again}
+use Rattle.hprof_values.proofs.EntryLists.{code_found, code_again}
+use Rattle.hprof_values.proofs.IdLists.{sum-id_widths, ids_whole, length-ids, ids_found, ids_again}
 use Rattle.hprof_items.proofs.SubRecords.{dump_found, dump_again, along_answer}
 
 -- ---- arrays of objects

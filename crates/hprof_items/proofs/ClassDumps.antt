@@ -4,19 +4,19 @@ use Rattle.std.proofs.lemmas.List.{length-append, length-drop}
 use Rattle.std.proofs.Math.Seq.{drop-drop}
 use Rattle.std.specs.Prelude.{sum}
 use Rattle.hprof_values.specs.declared.ids.IdSize.{IdSize}
-use Rattle.hprof_lists.specs.declared.entry.Entry.{Entry}
-use Rattle.hprof_lists.specs.declared.entry.EntryKind.TheVariants as kinds
+use Rattle.hprof_values.specs.declared.entry.Entry.{Entry}
+use Rattle.hprof_values.specs.declared.entry.EntryKind.TheVariants as kinds
 use Rattle.hprof_values.specs.declared.stop.Stop.{Stop}
 use Rattle.hprof_values.specs.Ids.{width_of, IsBytes}
 use Rattle.hprof_values.specs.FieldGroups.{field_bytes, fields_in, Bounds, ◌>>=◌, reached, IsWithin}
-use Rattle.hprof_lists.specs.Entries.{list_bytes, ListFits, list_in, list_end}
+use Rattle.hprof_values.specs.Entries.{list_bytes, ListFits, list_in, list_end}
 use Rattle.hprof_items.specs.FactValue.{FactValue, Class}
 use Rattle.hprof_items.specs.ClassDump.{class_widths, class_lists, class_of, class_at}
 use Rattle.hprof_items.specs.SubRecord.{class_numbers, dump_bytes, DumpFits, IsDumpOf}
 use Rattle.hprof_values.proofs.Numbers.{IsBytes-drop}
 use Rattle.hprof_values.proofs.FieldGroups.{length-fields, fields_again, fields_rest, fields_fit, fields_found, then_ok, then_next}
 use Rattle.hprof_values.proofs.FieldGroups.{within-less, reached_within, reached_passed}
-use Rattle.hprof_lists.proofs.ListEnds.{IsListAt, list_passed, list_passes}
+use Rattle.hprof_values.proofs.ListEnds.{IsListAt, list_passed, list_passes}
 use Rattle.hprof_items.proofs.SubRecords.{along_answer}
 
 -- ---- three lists, one behind the other

@@ -13,14 +13,14 @@ use Rattle.hprof_values.specs.declared.sub_tag.SubTag.{SubTag}
 use Rattle.hprof_values.specs.declared.sub_tag.SubTag.TheVariants as tags
 use Rattle.hprof_values.specs.declared.stop.Stop.{Stop}
 use Rattle.hprof_values.specs.declared.stop.Stop.TheVariants.{Short}
-use Rattle.hprof_lists.specs.declared.entry.EntryKind.TheVariants as kinds
+use Rattle.hprof_values.specs.declared.entry.EntryKind.TheVariants as kinds
 use Rattle.hprof_values.specs.Ids.{width_of, IsBytes}
 use Rattle.hprof_values.specs.Basic.{basic_of_code, width_of_basic}
 use Rattle.hprof_values.specs.FieldGroups.{fields_in, Bounds, ◌>>=◌, reached, IsWithin, exactly}
 use Rattle.hprof_values.specs.SubTag.{code_of_tag, all_tags, tag_of_code}
 use Rattle.hprof_values.specs.Root.{tag_of_root, root_fields}
-use Rattle.hprof_lists.specs.Entries.{list_in, list_end}
-use Rattle.hprof_lists.specs.Lists.{ids_in}
+use Rattle.hprof_values.specs.Entries.{list_in, list_end}
+use Rattle.hprof_values.specs.Lists.{ids_in}
 use Rattle.hprof_items.specs.FactValue.{FactValue, Name, Load, Unload, Frame, Trace, Start, End, Rooted, Class, Instance, ObjArray}
 use Rattle.hprof_items.specs.FactValue.{PrimArray, value_of, ListsHave}
 use Rattle.hprof_items.specs.declared.fact.Fact.{Fact}
@@ -30,7 +30,7 @@ use Rattle.hprof_items.specs.ClassDump.{class_widths, class_of, class_at}
 use Rattle.hprof_items.specs.SubRecord.{cut, instance_widths, instance_at, obj_array_widths, obj_array_at, prim_array_widths, prim_array_at}
 use Rattle.hprof_items.specs.SubRecord.{element_type, root_of, root_at, dump_at, judged_tag, tag_at, sub_at, dump_bytes, DumpFits}
 use Rattle.hprof_items.specs.SubRecord.{is_root_tag, tag_of_dump, IsDumpOf, IsSubOf}
-use Rattle.hprof_lists.proofs.EntryLists.{find_passes}
+use Rattle.hprof_values.proofs.EntryLists.{find_passes}
 use Rattle.hprof_values.proofs.FieldGroups.{sum_widths, then_ok, then_next, then_stop, within-less, reached_within}
 use Rattle.hprof_items.proofs.SubRecords.{answer_parts, answered, numbers_same, root_again, root_found, instance_again, instance_found}
 use Rattle.hprof_items.proofs.ArrayRecords.{obj_array_again, obj_array_found, prim_array_again, prim_array_found}

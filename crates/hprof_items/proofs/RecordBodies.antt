@@ -16,11 +16,11 @@ use Rattle.hprof_values.specs.declared.record_tag.RecordTag.{RecordTag}
 use Rattle.hprof_values.specs.declared.record_tag.RecordTag.TheVariants as tags
 use Rattle.hprof_values.specs.Ids.{width_of, IsBytes}
 use Rattle.hprof_values.specs.FieldGroups.{field_bytes, fields_in, FitFields}
-use Rattle.hprof_lists.specs.Lists.{id_widths, IsIdList, ids_in}
+use Rattle.hprof_values.specs.Lists.{id_widths, IsIdList, ids_in}
 use Rattle.hprof_values.specs.RecordTag.{code_of_record, record_of_code, record_fields}
 use Rattle.hprof_values.proofs.Numbers.{IsBytes-drop, same_parts}
 use Rattle.hprof_values.proofs.FieldGroups.{length-fields, fields_again, fields_rest, fields_fit, fields_found}
-use Rattle.hprof_lists.proofs.IdLists.{sum-id_widths, ids_whole, length-ids, ids_found, ids_again}
+use Rattle.hprof_values.proofs.IdLists.{sum-id_widths, ids_whole, length-ids, ids_found, ids_again}
 use Rattle.hprof_items.specs.Head.{record_bytes}
 use Rattle.hprof_items.specs.Spelling.{longest_body}
 use Rattle.hprof_items.specs.FactValue.{FactValue, Name, Load, Unload, Frame, Trace, Start, End}

@@ -3,12 +3,12 @@ use Rattle.std.proofs.Common.{◌≡◌, ℕ, zero, suc, ◌+◌, ◌-◌, ◌<�
 use Rattle.std.proofs.Common.{sym, ap, ◌∙◌, inl, inr, arith, append-nil}
 use Rattle.byteorder.specs.Endian.{big_number}
 use Rattle.hprof_values.specs.declared.ids.IdSize.{IdSize}
-use Rattle.hprof_lists.specs.declared.entry.EntryKind.{EntryKind}
-use Rattle.hprof_lists.specs.declared.entry.EntryKind.TheVariants as kinds
+use Rattle.hprof_values.specs.declared.entry.EntryKind.{EntryKind}
+use Rattle.hprof_values.specs.declared.entry.EntryKind.TheVariants as kinds
 use Rattle.hprof_values.specs.declared.bounded_bytes.BoundedBytes.{BoundedBytes}
 use Rattle.hprof_values.specs.declared.stop.Stop.{Stop}
 use Rattle.hprof_values.specs.FieldGroups.{Bounds, ◌>>=◌, reached, with_more}
-use Rattle.hprof_lists.specs.Entries.{entry_end, entries_end, list_end}
+use Rattle.hprof_values.specs.Entries.{entry_end, entries_end, list_end}
 use Rattle.hprof_values.specs.BoundedBytes.{bounds_of}
 use Rattle.hprof_values.proofs.FieldGroups.{then_ok, then_next, then_stop, reached_passed, reached_more}
 use Rattle.hprof_items.specs.declared.walk.Walk.{Walk}

@@ -10,14 +10,14 @@ use Rattle.byteorder.specs.Numbers.{big_from-append}
 use Rattle.hprof_values.specs.declared.ids.IdSize.{IdSize}
 use Rattle.hprof_values.specs.declared.basic.Basic.{Basic}
 use Rattle.hprof_values.specs.declared.basic.Basic.TheVariants as basics
-use Rattle.hprof_lists.specs.declared.entry.Entry.{Entry}
-use Rattle.hprof_lists.specs.declared.entry.EntryKind.{EntryKind}
+use Rattle.hprof_values.specs.declared.entry.Entry.{Entry}
+use Rattle.hprof_values.specs.declared.entry.EntryKind.{EntryKind}
 use Rattle.hprof_values.specs.declared.stop.Stop.{Stop}
 use Rattle.hprof_values.specs.declared.stop.Stop.TheVariants.{Short}
 use Rattle.hprof_values.specs.Basic.{basic_of_code}
 use Rattle.hprof_values.specs.FieldGroups.{fields_in, Bounds, ◌>>=◌, reached, IsWithin, with_more}
-use Rattle.hprof_lists.specs.Entries.{lead_width, bits_width, entry_len, type_in, typed_entry, entry_in, entries_in, judged_type}
-use Rattle.hprof_lists.specs.Entries.{entry_end, entries_end, list_in, list_end}
+use Rattle.hprof_values.specs.Entries.{lead_width, bits_width, entry_len, type_in, typed_entry, entry_in, entries_in, judged_type}
+use Rattle.hprof_values.specs.Entries.{entry_end, entries_end, list_in, list_end}
 use Rattle.hprof_values.proofs.FieldGroups.{sum_widths, then_ok, then_stop, then_more, reached_passed, reached_more}
 
 -- ---- what was read

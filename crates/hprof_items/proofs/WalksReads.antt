@@ -5,9 +5,9 @@ use Rattle.std.proofs.lemmas.Bool.{eqb-false, ne_eqb}
 use Rattle.std.specs.Prelude.{◌==◌, slice_index}
 use Rattle.hprof_values.specs.declared.ids.IdSize.{IdSize}
 use Rattle.hprof_values.specs.declared.basic.Basic.{Basic}
-use Rattle.hprof_lists.specs.declared.entry.Entry.{Entry}
-use Rattle.hprof_lists.specs.declared.entry.EntryKind.{EntryKind}
-use Rattle.hprof_lists.specs.declared.entry.EntryKind.TheVariants as kinds
+use Rattle.hprof_values.specs.declared.entry.Entry.{Entry}
+use Rattle.hprof_values.specs.declared.entry.EntryKind.{EntryKind}
+use Rattle.hprof_values.specs.declared.entry.EntryKind.TheVariants as kinds
 use Rattle.hprof_values.specs.declared.sub_tag.SubTag.{SubTag}
 use Rattle.hprof_values.specs.declared.sub_tag.SubTag.TheVariants as tags
 use Rattle.hprof_values.specs.declared.stop.Stop.{Stop}
@@ -15,8 +15,8 @@ use Rattle.hprof_values.specs.declared.stop.Stop.TheVariants.{Short}
 use Rattle.hprof_values.specs.Basic.{basic_of_code, width_of_basic}
 use Rattle.hprof_values.specs.Ids.{width_of}
 use Rattle.hprof_values.specs.FieldGroups.{fields_in, Bounds, ◌>>=◌, reached, with_more}
-use Rattle.hprof_lists.specs.Entries.{list_in, list_end}
-use Rattle.hprof_lists.specs.Lists.{ids_in}
+use Rattle.hprof_values.specs.Entries.{list_in, list_end}
+use Rattle.hprof_values.specs.Lists.{ids_in}
 use Rattle.hprof_values.specs.Root.{root_fields}
 use Rattle.hprof_values.specs.SubTag.{tag_of_code}
 use Rattle.hprof_items.specs.FactValue.{FactValue, Rooted, Instance, ObjArray, PrimArray}

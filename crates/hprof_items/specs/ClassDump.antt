@@ -1,12 +1,12 @@
 -- The sub-record of a class: heapDumper.cpp, "HPROF binary format", HPROF_GC_CLASS_DUMP.
 use Rattle.std.specs.Prelude.{ℕ, List, [], ◌∷◌, ◌++◌, drop, slice_index, Result, Ok}
 use Rattle.hprof_values.specs.declared.ids.IdSize.{IdSize}
-use Rattle.hprof_lists.specs.declared.entry.Entry.{Entry}
-use Rattle.hprof_lists.specs.declared.entry.EntryKind.TheVariants as kinds
+use Rattle.hprof_values.specs.declared.entry.Entry.{Entry}
+use Rattle.hprof_values.specs.declared.entry.EntryKind.TheVariants as kinds
 use Rattle.hprof_values.specs.declared.stop.Stop.{Stop}
 use Rattle.hprof_values.specs.Ids.{width_of}
 use Rattle.hprof_values.specs.FieldGroups.{fields_in, Bounds, ◌>>=◌, reached}
-use Rattle.hprof_lists.specs.Entries.{list_bytes, list_in, list_end}
+use Rattle.hprof_values.specs.Entries.{list_bytes, list_in, list_end}
 use Rattle.hprof_items.specs.FactValue.{FactValue, Class}
 
 -- id class, u4 trace serial, ids of superclass, loader, signers, protection domain, reserved, reserved, u4 instance size

@@ -1,13 +1,13 @@
 -- What a record or a sub-record states, as a value over numbers and lists.
 use Rattle.std.specs.Prelude.{ℕ, ℤ, List, ◌≡◌, ⊤}
 use Rattle.hprof_values.specs.declared.basic.Basic.{Basic}
-use Rattle.hprof_lists.specs.declared.entry.Entry.{Entry}
+use Rattle.hprof_values.specs.declared.entry.Entry.{Entry}
 use Rattle.hprof_values.specs.declared.root.Root.{Root}
 use Rattle.hprof_values.specs.declared.ids.IdSize.{IdSize}
 use Rattle.hprof_items.specs.declared.fact.Fact.{Fact}
 use Rattle.hprof_items.specs.declared.fact.Fact.TheVariants as facts
-use Rattle.hprof_lists.specs.Lists.{identifiers_of, identifiers_size, constants_of, constants_size, statics_of, statics_size, fields_of}
-use Rattle.hprof_lists.specs.Lists.{fields_size}
+use Rattle.hprof_values.specs.Lists.{identifiers_of, identifiers_size, constants_of, constants_size, statics_of, statics_size, fields_of}
+use Rattle.hprof_values.specs.Lists.{fields_size}
 
 pub data FactValue : Type 0 where
   -- UTF8: the identifier of a name, and its bytes

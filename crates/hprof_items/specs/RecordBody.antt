@@ -10,7 +10,7 @@ use Rattle.hprof_values.specs.declared.reason.Reason.TheVariants.{BadLength}
 use Rattle.hprof_values.specs.Ids.{width_of, IsBytes}
 use Rattle.hprof_values.specs.FieldGroups.{field_bytes, fields_in, FitFields}
 use Rattle.hprof_values.specs.RecordTag.{record_fields, has_more}
-use Rattle.hprof_lists.specs.Lists.{id_widths, ids_in}
+use Rattle.hprof_values.specs.Lists.{id_widths, ids_in}
 use Rattle.hprof_items.specs.FactValue.{FactValue, Name, Load, Unload, Frame, Trace, Start, End}
 
 -- a length that the record may have: that of its fields, or at least that

@@ -17,9 +17,9 @@ use Rattle.hprof_values.specs.Basic.{code_of_basic, basic_of_code, width_of_basi
 use Rattle.hprof_values.specs.FieldGroups.{field_bytes, fields_in, FitFields, Bounds, ◌>>=◌, reached, IsWithin}
 use Rattle.hprof_values.specs.SubTag.{code_of_tag, tag_of_code}
 use Rattle.hprof_values.specs.Root.{tag_of_root, root_fields, root_bytes, RootFits}
-use Rattle.hprof_lists.specs.Lists.{id_widths, ids_in}
-use Rattle.hprof_lists.specs.declared.entry.EntryKind.TheVariants as kinds
-use Rattle.hprof_lists.specs.Entries.{ListFits}
+use Rattle.hprof_values.specs.Lists.{id_widths, ids_in}
+use Rattle.hprof_values.specs.declared.entry.EntryKind.TheVariants as kinds
+use Rattle.hprof_values.specs.Entries.{ListFits}
 use Rattle.hprof_items.specs.ClassDump.{class_widths, class_lists, class_at}
 use Rattle.hprof_items.specs.FactValue.{FactValue, Rooted, Class, Instance, ObjArray, PrimArray}
 

@@ -4,15 +4,13 @@ ghost use Rattle.std.specs.Prelude.{◌≡◌, ◌≤◌, length, sum, Ok, Err, 
 ghost use Rattle.hprof_values.specs.FieldGroups.{fields_in};
 ghost use Rattle.hprof_values.specs.BoundedBytes.{bounds_of};
 ghost use Rattle.hprof_values.specs.declared.ids.IdSize.{IdSize};
-ghost use Rattle.hprof_lists.specs.Lists.{constants_of, constants_size, statics_of, statics_size, fields_of, fields_size};
+ghost use Rattle.hprof_values.specs.Lists.{constants_of, constants_size, statics_of, statics_size, fields_of, fields_size};
 ghost use Rattle.hprof_items.specs.ClassDump.{class_widths, class_of, class_at};
 ghost use Rattle.hprof_items.specs.Fronts.{class_front};
 ghost use Rattle.hprof_items.specs.FactValue.{value_of, ListsHave};
 
 use crate::fact::Fact;
-use hprof_lists::{ConstantList, EntryKind, FieldList, StaticList, list_at};
-use hprof_values::number::{split_id, split_u32};
-use hprof_values::{BoundedBytes, IdSize, Stop};
+use hprof_values::{BoundedBytes, ConstantList, EntryKind, FieldList, IdSize, StaticList, Stop, list_at, number::{split_id, split_u32}};
 
 /// The fields of a class in front of its lists.
 #[derive(Clone, Copy)]

@@ -1,7 +1,6 @@
 //! The facts that records and sub-records state, over their bytes.
 
-use hprof_lists::{ConstantList, FieldList, IdList, StaticList};
-use hprof_values::{Basic, Root};
+use hprof_values::{Basic, ConstantList, FieldList, IdList, Root, StaticList};
 
 /// The fact that a record or a sub-record states.
 #[derive(Clone, Copy, Debug, PartialEq, Eq)]

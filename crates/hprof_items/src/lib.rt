@@ -22,7 +22,7 @@ pub use head::{HEAD_LEN, Head, HeadKind};
 pub use head_reading::read_head;
 pub use header::{HEADER_LEN, Header, Version};
 pub use header_reading::{SIZED_LEN, TEXT_LEN, TEXT_V101, TEXT_V102, read_header};
-pub use hprof_lists::{
+pub use hprof_values::{
     Constant, ConstantList, Constants, Entry, EntryKind, Field, FieldList, IdList, Ids, OwnFields,
     Static, StaticList, Statics, Value,
 };

@@ -11,8 +11,7 @@ use crate::object_reading::{read_instance, read_obj_array, read_prim_array};
 use crate::root_reading::read_root;
 use crate::sub_reading::read_tag;
 use byteorder::{BigEndian, ByteOrder};
-use hprof_lists::{EntryKind, entry_end};
-use hprof_values::{BoundedBytes, IdSize, Stop, SubTag};
+use hprof_values::{BoundedBytes, EntryKind, IdSize, Stop, SubTag, entry_end};
 
 /// The point that a walk over a sub-record has reached.
 #[derive(Clone, Copy, Debug, PartialEq, Eq)]

@@ -2,8 +2,8 @@
 -- then its super class, and so on.
 use Rattle.std.specs.Prelude.{◌≡◌, ◌≢◌, ℕ, List, [], length, map}
 use Rattle.std.specs.List.{flat_map}
-use Rattle.hprof_lists.specs.declared.value.Field.{Field}
-use Rattle.hprof_lists.specs.Value.{field_of}
+use Rattle.hprof_values.specs.declared.value.Field.{Field}
+use Rattle.hprof_values.specs.Value.{field_of}
 use Rattle.hprof_items.specs.FactValue.{FactValue}
 use Rattle.hprof_layouts.specs.declared.slot.Slot.{Slot}
 use Rattle.hprof_layouts.specs.declared.slot.Layout.{Layout}

@@ -6,7 +6,7 @@ use Rattle.std.proofs.Common.{inl, inr}
 use Rattle.std.proofs.lemmas.Bool.{cases_eq}
 use Rattle.std.proofs.lemmas.List.Elements.{Contains-append_left, Contains-push, Contains-push_cases}
 use Rattle.hprof_values.specs.declared.ids.IdSize.{IdSize}
-use Rattle.hprof_lists.specs.declared.lists.ids.IdList.{IdList}
+use Rattle.hprof_values.specs.declared.lists.ids.IdList.{IdList}
 use Rattle.hprof_items.specs.declared.fact.Fact.{Fact}
 use Rattle.hprof_items.specs.declared.fact.Fact.TheVariants as facts
 use Rattle.hprof_items.specs.FactValue.{FactValue, Class, Instance, ObjArray, value_of}

@@ -3,7 +3,7 @@
 ghost use Rattle.std.specs.Prelude.{◌≡◌, ◌↔◌, ◌≤◌, ◌+◌, ◌++◌, ◌∷◌, ℕ, true, false, List, [], Contains, IsTrue, IfOk, OnOk, drop, vec_len};
 ghost use Rattle.hprof_values.specs.declared.ids.IdSize.{IdSize};
 ghost use Rattle.hprof_items.specs.FactValue.{FactValue, Instance, ObjArray, value_of};
-ghost use Rattle.hprof_lists.specs.Lists.{identifiers_of};
+ghost use Rattle.hprof_values.specs.Lists.{identifiers_of};
 ghost use Rattle.hprof_rows.specs.Facts.{Has};
 ghost use Rattle.hprof_lookup.specs.HeapFacts.{facts_of, size_of};
 ghost use Rattle.hprof_lookup.specs.ClassDump.{class_value};
@@ -24,9 +24,8 @@ use hprof_edges::{Edge, EdgeSet, array_edges, class_edges, edge_to_class, field_
 use hprof_heap::Heap;
 use hprof_items::Fact;
 use hprof_known_layouts::{KnownLayouts, Reference, WaitingLists, Wanted};
-use hprof_lists::IdList;
+use hprof_values::{IdList, IdSize};
 use hprof_lookup::{ClassDump, ObjectDump, find_object, holds_of_heap, id_size, to_class_dump};
-use hprof_values::IdSize;
 use std::alloc::{AllocError, Global};
 
 /// The data that is derived from facts that come one by one.

@@ -4,8 +4,7 @@ use crate::answers::edge;
 use hprof_edges::{Edge, Via};
 use hprof_items::{Fact, IdSize};
 use hprof_layouts::{Layout, Slot};
-use hprof_lists::{ConstantList, FieldList, IdList, StaticList};
-use hprof_values::Basic;
+use hprof_values::{Basic, ConstantList, FieldList, IdList, StaticList};
 use std::alloc::{AllocError, Global};
 
 // The class dump of an identifier.

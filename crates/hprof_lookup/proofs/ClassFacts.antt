@@ -2,9 +2,9 @@
 use Rattle.std.specs.List.{find}
 use Rattle.std.proofs.Common.{◌≡◌, ℕ, true, List, [], Option, Some, None, refl, sym, ap, subst, ◌∙◌}
 use Rattle.hprof_values.specs.declared.ids.IdSize.{IdSize}
-use Rattle.hprof_lists.specs.declared.lists.constants.ConstantList.{ConstantList}
-use Rattle.hprof_lists.specs.declared.lists.statics.StaticList.{StaticList}
-use Rattle.hprof_lists.specs.declared.lists.fields.FieldList.{FieldList}
+use Rattle.hprof_values.specs.declared.lists.constants.ConstantList.{ConstantList}
+use Rattle.hprof_values.specs.declared.lists.statics.StaticList.{StaticList}
+use Rattle.hprof_values.specs.declared.lists.fields.FieldList.{FieldList}
 use Rattle.hprof_items.specs.declared.fact.Fact.{Fact}
 use Rattle.hprof_items.specs.declared.fact.Fact.TheVariants as facts
 use Rattle.hprof_items.specs.FactValue.{FactValue, value_of, Name, Load, Unload, Frame, Trace, Start, End, Rooted, Class, Instance}

@@ -3,7 +3,7 @@ use Rattle.std.specs.List.{find}
 use Rattle.std.proofs.Common.{◌≡◌, ℕ, List, Option, Some, None, refl, Bor}
 use Rattle.hprof_values.specs.declared.basic.Basic.{Basic}
 use Rattle.hprof_values.specs.declared.ids.IdSize.{IdSize}
-use Rattle.hprof_lists.specs.declared.lists.ids.IdList.{IdList}
+use Rattle.hprof_values.specs.declared.lists.ids.IdList.{IdList}
 use Rattle.hprof_items.specs.declared.fact.Fact.{Fact}
 use Rattle.hprof_items.specs.declared.fact.Fact.TheVariants as facts
 use Rattle.hprof_items.specs.FactValue.{FactValue, value_of}

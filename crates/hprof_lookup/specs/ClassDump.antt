@@ -2,7 +2,7 @@
 use Rattle.std.specs.Prelude.{◌≡◌, ℕ, List, Option, IfNone, IfSome}
 use Rattle.hprof_values.specs.declared.ids.IdSize.{IdSize}
 use Rattle.hprof_items.specs.FactValue.{FactValue}
-use Rattle.hprof_lists.specs.Lists.{constants_of, constants_size, statics_of, statics_size, fields_of, fields_size}
+use Rattle.hprof_values.specs.Lists.{constants_of, constants_size, statics_of, statics_size, fields_of, fields_size}
 use Rattle.hprof_lookup.specs.declared.class_dump.ClassDump.{ClassDump}
 use Rattle.hprof_lookup.specs.Classes.{ClassValue, HasDump, HasNoDump}
 

@@ -1,6 +1,6 @@
 -- Class dumps among facts.
 use Rattle.std.specs.Prelude.{◌≢◌, ℕ, List}
-use Rattle.hprof_lists.specs.declared.entry.Entry.{Entry}
+use Rattle.hprof_values.specs.declared.entry.Entry.{Entry}
 use Rattle.hprof_items.specs.FactValue.{FactValue, Class}
 use Rattle.hprof_rows.specs.Facts.{Has}
 

@@ -1,7 +1,7 @@
 -- An object dump as it lies in a heap.
 use Rattle.std.specs.Prelude.{◌≡◌, ℕ, List, Option, IfNone, IfSome, ⊤}
 use Rattle.hprof_values.specs.declared.ids.IdSize.{IdSize}
-use Rattle.hprof_lists.specs.Lists.{identifiers_of, identifiers_size}
+use Rattle.hprof_values.specs.Lists.{identifiers_of, identifiers_size}
 use Rattle.hprof_items.specs.FactValue.{FactValue, Instance, ObjArray, PrimArray}
 use Rattle.hprof_rows.specs.Facts.{Has}
 use Rattle.hprof_lookup.specs.declared.object_dump.ObjectDump.{ObjectDump}

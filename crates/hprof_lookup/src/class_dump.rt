@@ -1,6 +1,6 @@
 //! A class dump, as it lies in a heap.
 
-use hprof_lists::{ConstantList, FieldList, StaticList};
+use hprof_values::{ConstantList, FieldList, StaticList};
 
 /// The contents of a class dump. Its lists borrow from the heap.
 #[derive(Clone, Copy, Debug, PartialEq, Eq)]

@@ -1,7 +1,6 @@
 //! An object dump, as it lies in a heap.
 
-use hprof_lists::IdList;
-use hprof_values::Basic;
+use hprof_values::{Basic, IdList};
 
 /// The contents of an object dump. Its bytes and elements borrow from the heap.
 #[derive(Clone, Copy, Debug, PartialEq, Eq)]

@@ -23,8 +23,8 @@ pub fn call_each() {
     hprof_text::laws::digits_are_taken();
     hprof_values::laws::roots_in_order();
     hprof_values::laws::fields_end_or_stop();
-    hprof_lists::laws::one_list();
-    hprof_lists::laws::entries_end_or_stop();
+    hprof_values::laws::one_list();
+    hprof_values::laws::entries_end_or_stop();
     hprof_items::laws::headers_read_back();
     hprof_items::laws::sub_records_read_back();
     hprof_items::laws::records_read_back();

@@ -1,8 +1,7 @@
 //! Lists of identifiers and of a class's entries.
 
 use crate::expecting::{equal, equal_at};
-use hprof_lists::{Constant, ConstantList, Field, FieldList, IdList, Static, StaticList, Value};
-use hprof_values::{Basic, IdSize};
+use hprof_values::{Basic, Constant, ConstantList, Field, FieldList, IdList, IdSize, Static, StaticList, Value};
 use std::process::Abort;
 use std::test::*;
 

@@ -6,10 +6,10 @@ use Rattle.hprof_text.specs.Identifier.{id_digits}
 use Rattle.hprof_values.specs.declared.ids.IdSize.{IdSize}
 use Rattle.hprof_values.specs.declared.basic.Basic.{Basic}
 use Rattle.hprof_values.specs.Basic.{width_of_basic}
-use Rattle.hprof_lists.specs.declared.value.Constant.{Constant}
-use Rattle.hprof_lists.specs.declared.value.Static.{Static}
-use Rattle.hprof_lists.specs.declared.value.Field.{Field}
-use Rattle.hprof_lists.specs.Value.{constant_of, static_of, field_of}
+use Rattle.hprof_values.specs.declared.value.Constant.{Constant}
+use Rattle.hprof_values.specs.declared.value.Static.{Static}
+use Rattle.hprof_values.specs.declared.value.Field.{Field}
+use Rattle.hprof_values.specs.Value.{constant_of, static_of, field_of}
 use Rattle.hprof_items.specs.FactValue.{FactValue, Instance, ObjArray, PrimArray}
 use Rattle.hprof_rows.specs.Conflict.{IsConsistent}
 use Rattle.hprof_lookup.specs.Classes.{ClassValue}

@@ -9,7 +9,7 @@ ghost use Rattle.hprof_reports.specs.ObjectText.{class_line, constant_line, line
 use crate::entries::Entry;
 use crate::shown::bits_text;
 use hprof_heap::Heap;
-use hprof_lists::{Constant, Field, Static};
+use hprof_values::{Constant, Field, Static};
 use hprof_lookup::{ClassDump, id_size};
 use hprof_naming::{class_label, name_text, type_word};
 use std::alloc::{AllocError, Global};

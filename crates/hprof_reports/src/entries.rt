@@ -5,7 +5,7 @@ ghost use Rattle.hprof_lookup.specs.HeapFacts.{facts_of, size_of};
 ghost use Rattle.hprof_naming.specs.Naming.{IsNaming, Naming};
 
 use hprof_heap::Heap;
-use hprof_lists::{Constant, Constants, Field, Ids, OwnFields, Static, Statics};
+use hprof_values::{Constant, Constants, Field, Ids, OwnFields, Static, Statics};
 use std::alloc::{AllocError, Global};
 
 /// An entry that a report prints in a line of its own.
@@ -37,8 +37,8 @@ pub(crate) trait Entries: Drop {
 }
 
 impl<'a> Entries for Constants<'a> {
-    ghost use Rattle.hprof_lists.specs.Lists.{constants_left};
-    ghost use Rattle.hprof_lists.specs.Value.{constant_of};
+    ghost use Rattle.hprof_values.specs.Lists.{constants_left};
+    ghost use Rattle.hprof_values.specs.Value.{constant_of};
 
     type Item = Constant;
 
@@ -50,8 +50,8 @@ impl<'a> Entries for Constants<'a> {
 }
 
 impl<'a> Entries for Statics<'a> {
-    ghost use Rattle.hprof_lists.specs.Lists.{statics_left};
-    ghost use Rattle.hprof_lists.specs.Value.{static_of};
+    ghost use Rattle.hprof_values.specs.Lists.{statics_left};
+    ghost use Rattle.hprof_values.specs.Value.{static_of};
 
     type Item = Static;
 
@@ -63,8 +63,8 @@ impl<'a> Entries for Statics<'a> {
 }
 
 impl<'a> Entries for OwnFields<'a> {
-    ghost use Rattle.hprof_lists.specs.Lists.{fields_left};
-    ghost use Rattle.hprof_lists.specs.Value.{field_of};
+    ghost use Rattle.hprof_values.specs.Lists.{fields_left};
+    ghost use Rattle.hprof_values.specs.Value.{field_of};
 
     type Item = Field;
 
@@ -76,7 +76,7 @@ impl<'a> Entries for OwnFields<'a> {
 }
 
 impl<'a> Entries for Ids<'a> {
-    ghost use Rattle.hprof_lists.specs.Lists.{identifiers_left};
+    ghost use Rattle.hprof_values.specs.Lists.{identifiers_left};
 
     type Item = u64;
 

@@ -14,8 +14,8 @@ use Rattle.hprof_values.specs.Root.{tag_of_root, root_numbers}
 use Rattle.hprof_values.specs.SubTag.{code_of_tag}
 use Rattle.hprof_values.specs.declared.record_tag.RecordTag.{RecordTag}
 use Rattle.hprof_values.specs.FieldGroups.{exactly, field_bytes}
-use Rattle.hprof_lists.specs.Lists.{id_widths, ids_in}
-use Rattle.hprof_lists.proofs.IdLists.{ids_again}
+use Rattle.hprof_values.specs.Lists.{id_widths, ids_in}
+use Rattle.hprof_values.proofs.IdLists.{ids_again}
 use Rattle.hprof_items.specs.FactValue.{FactValue, Name, Load, Unload, Frame, Trace, Start, End, Rooted, Class, Instance, ObjArray}
 use Rattle.hprof_items.specs.FactValue.{PrimArray}
 use Rattle.hprof_items.specs.RecordBody.{record_of}

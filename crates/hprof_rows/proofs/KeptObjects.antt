@@ -16,13 +16,13 @@ use Rattle.hprof_values.specs.FieldGroups.{field_bytes, fields_in, FitFields}
 use Rattle.hprof_values.specs.Ids.{width_of}
 use Rattle.hprof_values.specs.SubTag.{code_of_tag, tag_of_code}
 use Rattle.hprof_values.proofs.FieldGroups.{length-fields, fields_again, fields_rest}
-use Rattle.hprof_lists.specs.Lists.{id_widths}
-use Rattle.hprof_lists.proofs.IdLists.{ids_again}
+use Rattle.hprof_values.specs.Lists.{id_widths}
+use Rattle.hprof_values.proofs.IdLists.{ids_again}
 use Rattle.hprof_items.specs.FactValue.{FactValue, Name, Load, Unload, Frame, Trace, Start, End, Rooted, Class, Instance, ObjArray}
 use Rattle.hprof_items.specs.FactValue.{PrimArray}
 use Rattle.hprof_items.specs.Spelling.{Fits}
 use Rattle.hprof_items.specs.SubRecord.{DumpFits, dump_bytes, tagged_bytes}
-use Rattle.hprof_lists.proofs.EntryLists.{code_again}
+use Rattle.hprof_values.proofs.EntryLists.{code_again}
 use Rattle.hprof_tables.specs.Relation.{States}
 use Rattle.hprof_tables.specs.Spans.{the_bytes}
 use Rattle.hprof_tables.specs.declared.relation.Stated.{Stated}

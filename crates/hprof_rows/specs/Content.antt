@@ -5,7 +5,7 @@ use Rattle.byteorder.specs.Endian.{big_bytes, big_number}
 use Rattle.hprof_values.specs.declared.ids.IdSize.{IdSize}
 use Rattle.hprof_values.specs.declared.stop.Stop.{Stop}
 use Rattle.hprof_values.specs.FieldGroups.{exactly, field_bytes}
-use Rattle.hprof_lists.specs.Lists.{id_widths, ids_in}
+use Rattle.hprof_values.specs.Lists.{id_widths, ids_in}
 use Rattle.hprof_items.specs.FactValue.{FactValue, Name, Load, Unload, Frame, Trace, Start, End, Instance, ObjArray, PrimArray}
 use Rattle.hprof_items.specs.SubRecord.{dump_bytes, sub_at}
 use Rattle.hprof_rows.specs.Kept.{with_id, without_id}

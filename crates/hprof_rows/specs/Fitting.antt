@@ -3,13 +3,13 @@ use Rattle.std.specs.Prelude.{ℕ, List, [], ◌∷◌, length, Option, Some, No
 use Rattle.std.specs.Coded.{×_prop, Unit-prop, le_prop}
 use Rattle.std.proofs.Props.{props}
 use Rattle.hprof_values.specs.declared.ids.IdSize.{IdSize}
-use Rattle.hprof_lists.specs.declared.entry.Entry.{Entry}
-use Rattle.hprof_lists.specs.declared.entry.EntryKind.{EntryKind}
+use Rattle.hprof_values.specs.declared.entry.Entry.{Entry}
+use Rattle.hprof_values.specs.declared.entry.EntryKind.{EntryKind}
 use Rattle.hprof_values.specs.declared.record_tag.RecordTag.{RecordTag}
-use Rattle.hprof_lists.specs.Entries.{EntriesFit, ListFits, entry_widths, entry_numbers}
+use Rattle.hprof_values.specs.Entries.{EntriesFit, ListFits, entry_widths, entry_numbers}
 use Rattle.hprof_values.specs.FieldGroups.{FitFields}
 use Rattle.hprof_values.specs.Ids.{IsBytes}
-use Rattle.hprof_lists.specs.Lists.{id_widths}
+use Rattle.hprof_values.specs.Lists.{id_widths}
 use Rattle.hprof_values.specs.Root.{root_widths, root_numbers}
 use Rattle.hprof_items.specs.FactValue.{FactValue, Name, Frame, Trace, Rooted, Class, Instance, ObjArray, PrimArray}
 use Rattle.hprof_items.specs.RecordBody.{record_of, RestFits}

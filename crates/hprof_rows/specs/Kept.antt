@@ -1,7 +1,7 @@
 -- Instances and arrays, as a heap keeps them: without their identifiers, which are their keys.
 use Rattle.std.specs.Prelude.{◌≡◌, ◌≤◌, ℕ, ◌+◌, List, [], ◌∷◌, ◌++◌, length, take, drop}
 use Rattle.byteorder.specs.Endian.{big_bytes, big_number}
-use Rattle.hprof_lists.specs.Lists.{ids_in}
+use Rattle.hprof_values.specs.Lists.{ids_in}
 use Rattle.hprof_values.specs.declared.basic.Basic.{Basic}
 use Rattle.hprof_values.specs.declared.ids.IdSize.{IdSize}
 use Rattle.hprof_values.specs.Ids.{width_of}

@@ -6,15 +6,15 @@ use Rattle.std.specs.Prelude.{◌==◌, slice_index}
 use Rattle.hprof_values.specs.declared.ids.IdSize.{IdSize}
 use Rattle.hprof_values.specs.declared.basic.Basic.{Basic}
 use Rattle.hprof_values.specs.declared.basic.Basic.TheVariants as basics
-use Rattle.hprof_lists.specs.declared.entry.EntryKind.{EntryKind}
-use Rattle.hprof_lists.specs.declared.entry.EntryKind.TheVariants as kinds
+use Rattle.hprof_values.specs.declared.entry.EntryKind.{EntryKind}
+use Rattle.hprof_values.specs.declared.entry.EntryKind.TheVariants as kinds
 use Rattle.hprof_values.specs.declared.reason.Reason.TheVariants.{PastEnd}
 use Rattle.hprof_values.specs.declared.stop.Stop.{Stop}
 use Rattle.hprof_values.specs.declared.stop.Stop.TheVariants.{Short, TooLong, Fault}
 use Rattle.hprof_values.specs.declared.sub_tag.SubTag.{SubTag}
 use Rattle.hprof_values.specs.declared.sub_tag.SubTag.TheVariants as tags
 use Rattle.hprof_values.specs.Basic.{basic_of_code, width_of_basic}
-use Rattle.hprof_lists.specs.Entries.{lead_width, bits_width, judged_type, entry_end, entries_end, list_in, list_end}
+use Rattle.hprof_values.specs.Entries.{lead_width, bits_width, judged_type, entry_end, entries_end, list_in, list_end}
 use Rattle.hprof_values.specs.FieldGroups.{Bounds, ◌>>=◌, field_end, fields_in, reached}
 use Rattle.hprof_values.specs.Ids.{width_of}
 use Rattle.hprof_values.specs.Root.{root_fields}
@@ -23,7 +23,7 @@ use Rattle.hprof_items.specs.ClassDump.{class_widths, class_of, class_at}
 use Rattle.hprof_items.specs.FactValue.{FactValue, Rooted, Instance, ObjArray, PrimArray}
 use Rattle.hprof_items.specs.SubRecord.{instance_widths, obj_array_widths, prim_array_widths, root_of, root_at, cut, instance_at}
 use Rattle.hprof_items.specs.SubRecord.{obj_array_at, element_type, prim_array_at, dump_at, judged_tag, sub_at}
-use Rattle.hprof_lists.specs.Lists.{ids_in}
+use Rattle.hprof_values.specs.Lists.{ids_in}
 use Rattle.hprof_stream.specs.Fault.{is_lasting}
 
 -- a number of so many bytes, the highest first

@@ -5,18 +5,18 @@ use Rattle.std.proofs.lemmas.Bool.{le-ltb, ltb-false}
 use Rattle.std.specs.Prelude.{◌==◌, slice_index}
 use Rattle.hprof_values.specs.declared.ids.IdSize.{IdSize}
 use Rattle.hprof_values.specs.declared.basic.Basic.{Basic}
-use Rattle.hprof_lists.specs.declared.entry.EntryKind.{EntryKind}
-use Rattle.hprof_lists.specs.declared.entry.EntryKind.TheVariants as kinds
+use Rattle.hprof_values.specs.declared.entry.EntryKind.{EntryKind}
+use Rattle.hprof_values.specs.declared.entry.EntryKind.TheVariants as kinds
 use Rattle.hprof_values.specs.declared.reason.Reason.TheVariants.{PastEnd}
 use Rattle.hprof_values.specs.declared.stop.Stop.{Stop}
 use Rattle.hprof_values.specs.declared.stop.Stop.TheVariants.{Short, TooLong, Fault}
 use Rattle.hprof_values.specs.declared.sub_tag.SubTag.{SubTag}
 use Rattle.hprof_values.specs.declared.sub_tag.SubTag.TheVariants as tags
 use Rattle.hprof_values.specs.Basic.{basic_of_code, width_of_basic}
-use Rattle.hprof_lists.specs.Entries.{lead_width, bits_width, judged_type, entry_end, entries_end, list_in, list_end}
+use Rattle.hprof_values.specs.Entries.{lead_width, bits_width, judged_type, entry_end, entries_end, list_in, list_end}
 use Rattle.hprof_values.specs.FieldGroups.{Bounds, ◌>>=◌, field_end, fields_in, reached}
 use Rattle.hprof_values.specs.Ids.{width_of}
-use Rattle.hprof_lists.specs.Lists.{ids_in}
+use Rattle.hprof_values.specs.Lists.{ids_in}
 use Rattle.hprof_values.specs.Root.{root_fields}
 use Rattle.hprof_values.specs.SubTag.{tag_of_code}
 use Rattle.hprof_items.specs.ClassDump.{class_widths, class_of, class_at}

@@ -10,7 +10,7 @@ use Rattle.hprof_values.specs.declared.record_tag.RecordTag.{RecordTag}
 use Rattle.hprof_values.specs.declared.record_tag.RecordTag.TheVariants as tags
 use Rattle.hprof_values.specs.FieldGroups.{field_bytes}
 use Rattle.hprof_values.specs.RecordTag.{code_of_record, all_records, record_of_code, record_fields, has_more}
-use Rattle.hprof_lists.proofs.EntryLists.{find_passes}
+use Rattle.hprof_values.proofs.EntryLists.{find_passes}
 use Rattle.hprof_values.proofs.FieldGroups.{length-fields}
 use Rattle.hprof_items.specs.declared.head.Head.{Head}
 use Rattle.hprof_items.specs.declared.head.HeadKind.{HeadKind}

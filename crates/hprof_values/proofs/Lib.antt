@@ -3,3 +3,9 @@ pub mod Orders
 pub mod FieldGroups
 pub mod FieldStops
 pub mod NumberWriting
+pub mod EntryLists
+pub mod Counting
+pub mod IdLists
+pub mod ListEnds
+pub mod EntryPlaces
+pub mod Among

@@ -7,3 +7,7 @@ pub mod Numbers
 pub mod SubTag
 pub mod Root
 pub mod RecordTag
+pub mod Entries
+pub mod EntryPlaces
+pub mod Value
+pub mod Lists

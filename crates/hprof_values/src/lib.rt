@@ -1,12 +1,19 @@
 //! The elements of the items of an HPROF heap dump: identifiers, types of values, tags of records and sub-records, roots, and fields that
 //! are read within bounds. The format is that of the comment "HPROF binary format" in OpenJDK's heapDumper.cpp. No call of this crate takes
 //! memory.
+//! Lists as they lie in the bytes of an HPROF heap dump: lists of identifiers, and the entries of a class dump
+//! (constants, static fields and fields of the instances), read within bounds and gone over in place. No call of this
+//! crate takes memory.
 #![tactic(auto)]
 
 mod basic;
 mod bounded_bytes;
+mod entries;
+mod entry;
+mod entry_span;
 mod ids;
 pub mod laws;
+mod lists;
 pub mod number;
 mod number_writing;
 mod reason;
@@ -14,13 +21,21 @@ mod record_tag;
 mod root;
 mod stop;
 mod sub_tag;
+mod value;
 
 pub use basic::Basic;
 pub use bounded_bytes::BoundedBytes;
+pub use entry::{Entry, EntryKind, entry_end};
+pub use entry_span::{EntrySpan, list_at};
 pub use ids::IdSize;
+pub use lists::constants::{ConstantList, Constants};
+pub use lists::fields::{FieldList, OwnFields};
+pub use lists::ids::{IdList, Ids};
+pub use lists::statics::{StaticList, Statics};
 pub use number_writing::{Number, numbers_fit, numbers_len, put_numbers};
 pub use reason::Reason;
 pub use record_tag::RecordTag;
 pub use root::Root;
 pub use stop::Stop;
 pub use sub_tag::SubTag;
+pub use value::{Constant, Field, Static, Value};

@@ -5,9 +5,9 @@ use Rattle.std.specs.List.{AllByRecursion, slice_get}
 use Rattle.std.specs.Option.{option_map}
 use Rattle.std.proofs.lemmas.List.{length-map}
 use Rattle.std.proofs.lemmas.Option.{slice_get-map}
-use Rattle.hprof_lists.specs.declared.entry.Entry.{Entry}
-use Rattle.hprof_lists.specs.declared.value.Field.{Field}
-use Rattle.hprof_lists.specs.Value.{field_of}
+use Rattle.hprof_values.specs.declared.entry.Entry.{Entry}
+use Rattle.hprof_values.specs.declared.value.Field.{Field}
+use Rattle.hprof_values.specs.Value.{field_of}
 use Rattle.hprof_items.specs.FactValue.{FactValue}
 use Rattle.hprof_rows.specs.declared.table.Table.TheVariants as tables
 use Rattle.hprof_rows.specs.Conflict.{IsConsistent}

@@ -5,9 +5,9 @@ use Rattle.std.specs.List.{slice_get}
 use Rattle.std.specs.Option.{option_map}
 use Rattle.hprof_values.specs.declared.ids.IdSize.{IdSize}
 use Rattle.hprof_values.specs.Basic.{width_of_basic}
-use Rattle.hprof_lists.specs.declared.entry.Entry.{Entry}
-use Rattle.hprof_lists.specs.declared.value.Static.{Static}
-use Rattle.hprof_lists.specs.Value.{static_of}
+use Rattle.hprof_values.specs.declared.entry.Entry.{Entry}
+use Rattle.hprof_values.specs.declared.value.Static.{Static}
+use Rattle.hprof_values.specs.Value.{static_of}
 use Rattle.hprof_items.specs.FactValue.{FactValue}
 use Rattle.hprof_lookup.specs.Classes.{ClassValue, HasDump}
 use Rattle.hprof_layouts.specs.declared.field_value.FieldValue.{FieldValue}

@@ -1,7 +1,7 @@
 -- The names of static fields and of fields of instances, by the place at which an edge refers.
 use Rattle.std.specs.Prelude.{◌≡◌, ℕ, List, Option, Some, None, slice_get}
-use Rattle.hprof_lists.specs.declared.entry.Entry.{Entry}
-use Rattle.hprof_lists.specs.Value.{static_of}
+use Rattle.hprof_values.specs.declared.entry.Entry.{Entry}
+use Rattle.hprof_values.specs.Value.{static_of}
 use Rattle.hprof_items.specs.FactValue.{FactValue}
 use Rattle.hprof_lookup.specs.Classes.{ClassValue, HasDump}
 use Rattle.hprof_lookup.specs.Objects.{HasInstance}

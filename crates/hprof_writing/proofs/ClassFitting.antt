@@ -8,10 +8,10 @@ use Rattle.hprof_values.specs.declared.sub_tag.SubTag.TheVariants as tags
 use Rattle.hprof_values.specs.FieldGroups.{field_bytes, FitFields}
 use Rattle.hprof_values.specs.Numbers.{number_widths, number_values}
 use Rattle.hprof_values.specs.SubTag.{code_of_tag}
-use Rattle.hprof_lists.specs.declared.entry.Entry.{Entry}
-use Rattle.hprof_lists.specs.declared.entry.EntryKind.{EntryKind}
-use Rattle.hprof_lists.specs.declared.entry.EntryKind.TheVariants as kinds
-use Rattle.hprof_lists.specs.Entries.{IsEntryList, entries_bytes, list_bytes, ListFits}
+use Rattle.hprof_values.specs.declared.entry.Entry.{Entry}
+use Rattle.hprof_values.specs.declared.entry.EntryKind.{EntryKind}
+use Rattle.hprof_values.specs.declared.entry.EntryKind.TheVariants as kinds
+use Rattle.hprof_values.specs.Entries.{IsEntryList, entries_bytes, list_bytes, ListFits}
 use Rattle.hprof_items.specs.declared.fact.Fact.{Fact}
 use Rattle.hprof_items.specs.ClassDump.{class_widths, class_lists}
 use Rattle.hprof_items.specs.FactValue.{value_of}

@@ -4,14 +4,14 @@ use Rattle.std.proofs.lemmas.List.{length-append}
 use Rattle.std.specs.Prelude.{sum}
 use Rattle.hprof_values.specs.declared.ids.IdSize.{IdSize}
 use Rattle.hprof_values.specs.declared.ids.IdSize.TheVariants.{Four, Eight}
-use Rattle.hprof_lists.specs.declared.entry.Entry.{Entry}
-use Rattle.hprof_lists.specs.declared.entry.EntryKind.TheVariants as kinds
+use Rattle.hprof_values.specs.declared.entry.Entry.{Entry}
+use Rattle.hprof_values.specs.declared.entry.EntryKind.TheVariants as kinds
 use Rattle.hprof_values.specs.declared.sub_tag.SubTag.{SubTag}
 use Rattle.hprof_values.specs.declared.sub_tag.SubTag.TheVariants as tags
 use Rattle.hprof_values.specs.Ids.{width_of}
-use Rattle.hprof_lists.specs.Entries.{entries_bytes, list_bytes, ListFits}
+use Rattle.hprof_values.specs.Entries.{entries_bytes, list_bytes, ListFits}
 use Rattle.hprof_values.specs.FieldGroups.{field_bytes, FitFields}
-use Rattle.hprof_lists.proofs.EntryLists.{entries_most}
+use Rattle.hprof_values.proofs.EntryLists.{entries_most}
 use Rattle.hprof_values.proofs.FieldGroups.{length-fields}
 use Rattle.hprof_items.specs.ClassDump.{class_widths, class_lists}
 use Rattle.hprof_items.specs.Spelling.{longest_body}

@@ -2,17 +2,15 @@
 
 ghost use Rattle.std.specs.Prelude.{◌≡◌, ◌↔◌, IsTrue, IfSome, Some, None};
 ghost use Rattle.hprof_values.specs.declared.sub_tag.SubTag.TheVariants as tags;
-ghost use Rattle.hprof_lists.specs.declared.entry.EntryKind.TheVariants as kinds;
-ghost use Rattle.hprof_lists.specs.Entries.{ListFits};
-ghost use Rattle.hprof_lists.specs.Lists.{constants_of, constants_size, statics_of, statics_size, fields_of, fields_size};
+ghost use Rattle.hprof_values.specs.declared.entry.EntryKind.TheVariants as kinds;
+ghost use Rattle.hprof_values.specs.Entries.{ListFits};
+ghost use Rattle.hprof_values.specs.Lists.{constants_of, constants_size, statics_of, statics_size, fields_of, fields_size};
 ghost use Rattle.hprof_items.specs.ObjectTag.{object_of};
 ghost use Rattle.hprof_items.specs.FactValue.{value_of, ListsHave};
 ghost use Rattle.hprof_writing.specs.ClassFronts.{counted, IsClassFront};
 
 use hprof_items::Fact;
-use hprof_lists::{ConstantList, FieldList, StaticList};
-use hprof_values::Number::{Four, Id, One};
-use hprof_values::{IdSize, Number, SubTag};
+use hprof_values::{ConstantList, FieldList, IdSize, Number, Number::{Four, Id, One}, StaticList, SubTag};
 
 /// A list of a class: the number of its entries, and the bytes that spell them.
 #[derive(Clone, Copy)]

@@ -1,7 +1,7 @@
 //! Stating facts into tables.
 
 ghost use Rattle.std.specs.Prelude.{◌≡◌, [], ◌∷◌};
-ghost use Rattle.hprof_lists.specs.Lists.{identifiers_of, identifiers_size};
+ghost use Rattle.hprof_values.specs.Lists.{identifiers_of, identifiers_size};
 ghost use Rattle.hprof_items.specs.FactValue.{Trace, ListsHave, value_of};
 ghost use Rattle.hprof_items.specs.Spelling.{Fits};
 ghost use Rattle.hprof_items.specs.SubRecord.{dump_bytes};
@@ -15,7 +15,7 @@ ghost use Rattle.hprof_heap.specs.Tables.{rows_in_tables};
 
 use super::Tables;
 use hprof_items::Fact;
-use hprof_lists::IdList;
+use hprof_values::IdList;
 use hprof_rows::{FrameRow, KeyRow, LoadRow, StartRow, thread_bytes};
 use hprof_tables::Stated;
 use std::alloc::AllocError;

@@ -1,6 +1,6 @@
 use Rattle.std.proofs.Common.{◌⊎◌, subst}
 use Rattle.hprof_items.specs.FactValue.{Instance, ObjArray, PrimArray}
-use Rattle.hprof_lists.specs.Lists.{identifiers_of}
+use Rattle.hprof_values.specs.Lists.{identifiers_of}
 use Rattle.hprof_lookup.specs.declared.object_dump.ObjectDump.{ObjectDump}
 use Rattle.hprof_lookup.specs.HeapFacts.{facts_of, size_of}
 use Rattle.hprof_lookup.specs.ObjectDump.{fact_of_object}

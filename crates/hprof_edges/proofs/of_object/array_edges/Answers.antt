@@ -1,4 +1,4 @@
-use Rattle.hprof_lists.specs.Lists.{identifiers_of}
+use Rattle.hprof_values.specs.Lists.{identifiers_of}
 use Rattle.hprof_edges.specs.declared.edge.Via.TheVariants as vias
 use Rattle.hprof_edges.specs.DumpEdges.{IsEdgeToClass, IsElementEdge}
 use Rattle.hprof_edges.specs.EdgeLists.{numbered}

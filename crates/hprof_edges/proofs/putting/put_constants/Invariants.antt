@@ -1,7 +1,7 @@
 use Rattle.std.specs.Prelude.{map}
 use Rattle.std.proofs.Common.{◌≡◌, ◌+◌, List, length}
-use Rattle.hprof_lists.specs.Lists.{constants_left, constants_of}
-use Rattle.hprof_lists.specs.Value.{constant_of}
+use Rattle.hprof_values.specs.Lists.{constants_left, constants_of}
+use Rattle.hprof_values.specs.Value.{constant_of}
 use Rattle.hprof_edges.specs.declared.edge.Via.TheVariants as vias
 use Rattle.hprof_edges.specs.declared.edge.Edge.{Edge}
 use Rattle.hprof_edges.specs.EdgeLists.{numbered, target_of, targets_of_constants}

@@ -1,7 +1,7 @@
 use Rattle.std.specs.Prelude.{map}
 use Rattle.std.proofs.Common.{◌≡◌, ◌+◌, List, length}
-use Rattle.hprof_lists.specs.Lists.{statics_left, statics_of}
-use Rattle.hprof_lists.specs.Value.{static_of}
+use Rattle.hprof_values.specs.Lists.{statics_left, statics_of}
+use Rattle.hprof_values.specs.Value.{static_of}
 use Rattle.hprof_edges.specs.declared.edge.Via.TheVariants as vias
 use Rattle.hprof_edges.specs.declared.edge.Edge.{Edge}
 use Rattle.hprof_edges.specs.EdgeLists.{numbered, target_of, targets_of_statics}

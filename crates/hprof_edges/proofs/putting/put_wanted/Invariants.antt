@@ -1,5 +1,5 @@
 use Rattle.std.proofs.Common.{◌≡◌, ◌+◌, List, length}
-use Rattle.hprof_lists.specs.Lists.{identifiers_left, identifiers_of}
+use Rattle.hprof_values.specs.Lists.{identifiers_left, identifiers_of}
 use Rattle.hprof_edges.specs.declared.edge.Via.TheVariants as vias
 use Rattle.hprof_edges.specs.declared.edge.Edge.{Edge}
 use Rattle.hprof_edges.specs.EdgeLists.{numbered}

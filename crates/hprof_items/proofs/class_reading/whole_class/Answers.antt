@@ -1,5 +1,5 @@
 use Rattle.std.proofs.Common.{[], ◌∷◌, sym, ◌∙◌, rules}
-use Rattle.hprof_lists.specs.Entries as entries
+use Rattle.hprof_values.specs.Entries as entries
 use Rattle.hprof_items.specs.ClassDump.{class_at}
 use Rattle.hprof_values.specs.BoundedBytes.{bounds_of}
 use Rattle.hprof_values.proofs.FieldGroups.{reached_passed}

@@ -1,6 +1,6 @@
 use Rattle.std.specs.Prelude.{map}
-use Rattle.hprof_lists.specs.Lists.{fields_left}
-use Rattle.hprof_lists.specs.Value.{field_of}
+use Rattle.hprof_values.specs.Lists.{fields_left}
+use Rattle.hprof_values.specs.Value.{field_of}
 use Rattle.hprof_layouts.specs.Layout.{slot_of}
 use Rattle.hprof_lookup.specs.ClassDump.{class_value}
 use Rattle.hprof_layouts.specs.Layout.{own_slots}

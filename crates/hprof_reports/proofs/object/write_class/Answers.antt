@@ -2,7 +2,7 @@ use Rattle.std.proofs.Common.{◌++◌}
 use Rattle.std.proofs.lemmas.Result.{err_from_is_err_and}
 use Rattle.hprof_lookup.specs.ClassDump.{class_value}
 use Rattle.hprof_lookup.specs.HeapFacts.{size_of}
-use Rattle.hprof_lists.specs.Value.{constant_of, static_of, field_of}
+use Rattle.hprof_values.specs.Value.{constant_of, static_of, field_of}
 use Rattle.std.specs.Prelude.{map}
 use Rattle.std.proofs.Common.{ap}
 use Rattle.hprof_reports.specs.ObjectText.{class_line, constants_text, statics_text, own_fields_text}

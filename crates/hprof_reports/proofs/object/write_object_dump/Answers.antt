@@ -3,7 +3,7 @@ use Rattle.std.specs.Prelude.{IfOk}
 use Rattle.std.specs.String.{string_bytes}
 use Rattle.std.proofs.lemmas.Result.{err_from_is_err_and}
 use Rattle.hprof_values.specs.declared.ids.IdSize.{IdSize}
-use Rattle.hprof_lists.specs.Lists.{identifiers_of}
+use Rattle.hprof_values.specs.Lists.{identifiers_of}
 use Rattle.hprof_lookup.specs.HeapFacts.{size_of}
 use Rattle.hprof_lookup.specs.declared.object_dump.ObjectDump.{ObjectDump}
 use Rattle.hprof_lookup.specs.ObjectDump.{fact_of_object}

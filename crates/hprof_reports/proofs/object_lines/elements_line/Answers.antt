@@ -1,7 +1,7 @@
 use Rattle.std.proofs.Common.{◌≡◌, ◌∙◌, ℕ, List, length, subst}
 use Rattle.std.specs.Prelude.{IfOk}
 use Rattle.std.specs.String.{string_bytes}
-use Rattle.hprof_lists.specs.Lists.{identifiers_of}
+use Rattle.hprof_values.specs.Lists.{identifiers_of}
 use Rattle.hprof_reports.specs.ObjectText.{counted_line}
 use Rattle.hprof_reports.proofs.object_lines.elements_line.Goals as goal
 

@@ -1,5 +1,5 @@
 use Rattle.std.proofs.Common.{refl}
-use Rattle.hprof_lists.specs.Lists.{constants_of, constants_size, statics_of, statics_size, fields_of, fields_size}
+use Rattle.hprof_values.specs.Lists.{constants_of, constants_size, statics_of, statics_size, fields_of, fields_size}
 use Rattle.hprof_items.specs.SubRecord.{class_numbers}
 use Rattle.hprof_writing.proofs.ClassFitting.{class_fitting, class_spelled, front_form}
 use Rattle.hprof_writing.proofs.class_front.class_front.Goals as goal

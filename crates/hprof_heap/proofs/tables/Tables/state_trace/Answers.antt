@@ -2,7 +2,7 @@ use Rattle.std.proofs.Common.{◌≡◌, ℕ, List, ◌++◌, length, Result, re
 use Rattle.std.specs.Prelude.{IfOk}
 use Rattle.hprof_values.specs.declared.ids.IdSize.{IdSize}
 use Rattle.hprof_values.specs.FieldGroups.{field_bytes}
-use Rattle.hprof_lists.specs.Lists.{id_widths, identifiers_of}
+use Rattle.hprof_values.specs.Lists.{id_widths, identifiers_of}
 use Rattle.hprof_tables.specs.declared.relation.Stated.{Stated}
 use Rattle.hprof_tables.specs.BytesTable.{byte_rows}
 use Rattle.hprof_tables.specs.Relation.{States}

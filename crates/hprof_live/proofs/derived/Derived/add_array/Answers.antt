@@ -1,4 +1,4 @@
-use Rattle.hprof_lists.specs.Lists.{identifiers_of}
+use Rattle.hprof_values.specs.Lists.{identifiers_of}
 use Rattle.hprof_live.proofs.FactsMore.{array_added}
 use Rattle.hprof_live.proofs.derived.Derived.add_array.Goals as goal
 

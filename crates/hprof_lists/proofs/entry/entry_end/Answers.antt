@@ -1,7 +1,0 @@
-use Rattle.std.proofs.Common.{rules}
-use Rattle.hprof_lists.specs.Entries.{entry_end}
-use Rattle.hprof_lists.proofs.entry.entry_end.Goals as goal
-
-pub returns-in_default-clause-end : goal.returns-in_default-clause-end
-unfolding entry_end
-returns-in_default-clause-end c = search rules

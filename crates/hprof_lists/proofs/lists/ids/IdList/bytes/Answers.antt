@@ -1,6 +1,0 @@
-use Rattle.hprof_lists.proofs.IdLists.{ids_found}
-use Rattle.hprof_lists.proofs.lists.ids.IdList.bytes.Goals as goal
-
-pub returns : goal.returns
-returns c =
-    let list = c.args.self.now in record { spelled = ids_found list.ids list.bytes.now list.range list.whole }

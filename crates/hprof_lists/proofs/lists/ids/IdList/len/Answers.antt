@@ -1,5 +1,0 @@
-use Rattle.hprof_lists.proofs.IdLists.{length-by}
-use Rattle.hprof_lists.proofs.lists.ids.IdList.len.Goals as goal
-
-pub returns : goal.returns
-returns c = length-by c.args.self.now.ids _ c.args.self.now.bytes.now c.width.ensures

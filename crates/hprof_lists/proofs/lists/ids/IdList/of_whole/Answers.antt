@@ -1,8 +1,0 @@
-use Rattle.std.proofs.Common.{rules}
-use Rattle.hprof_lists.proofs.lists.ids.IdList.of_whole.Goals as goal
-
-pub returns-clause-identifiers : goal.returns-clause-identifiers
-returns-clause-identifiers c = search rules
-
-pub returns-clause-size : goal.returns-clause-size
-returns-clause-size c = search rules

@@ -1,4 +1,0 @@
-pub mod Entries
-pub mod EntryPlaces
-pub mod Value
-pub mod Lists
