@@ -17,11 +17,11 @@ use Rattle.hprof_engine.specs.declared.tool_fault.ToolFault.TheVariants as tool
 use Rattle.hprof_engine.specs.Joining.{Tell, Agree, IsHindered, IsOfReading, IsOkOrConflict}
 use Rattle.hprof_engine.specs.Makes.{Reads}
 use Rattle.hprof_engine.specs.Summaries.{AreSummaries}
-use Rattle.hprof_dialogue.specs.declared.question.Question.{Question}
-use Rattle.hprof_dialogue.specs.declared.stop.DialogueStop.TheVariants as stops
-use Rattle.hprof_dialogue.specs.Answering.{PassesOn}
-use Rattle.hprof_dialogue.specs.Dialogue.{AnswersLines, AnswersSome, Came}
-use Rattle.hprof_dialogue.specs.Lines.{AreEndedLines, AreLines}
+use Rattle.hprof_ask.specs.declared.question.Question.{Question}
+use Rattle.hprof_ask.specs.declared.stop.DialogueStop.TheVariants as stops
+use Rattle.hprof_ask.specs.Answering.{PassesOn}
+use Rattle.hprof_ask.specs.Dialogue.{AnswersLines, AnswersSome, Came}
+use Rattle.hprof_ask.specs.Lines.{AreEndedLines, AreLines}
 use Rattle.hprof_ask.specs.declared.ask_fault.AskFault.{AskFault}
 use Rattle.hprof_ask.specs.declared.ask_fault.AskFault.TheVariants as faults
 use Rattle.hprof_ask.specs.HeapAnswers.{IsHeapAnswer}

@@ -3,21 +3,21 @@ use Rattle.std.specs.Prelude.{◌≡◌, ℕ, List, [], ◌++◌, codes}
 use Rattle.hprof_values.specs.declared.ids.IdSize.{IdSize}
 use Rattle.hprof_items.specs.FactValue.{FactValue}
 use Rattle.hprof_stream.specs.declared.summary.PartSummary.{PartSummary}
-use Rattle.hprof_dialogue.specs.declared.question.OneWord.{OneWord}
-use Rattle.hprof_dialogue.specs.declared.question.OneWord.TheVariants as ones
-use Rattle.hprof_dialogue.specs.declared.question.Question.{Question}
-use Rattle.hprof_dialogue.specs.declared.question.Question.TheVariants as questions
-use Rattle.hprof_dialogue.specs.declared.question.Subject.{Subject}
-use Rattle.hprof_dialogue.specs.declared.question.Subject.TheVariants as subjects
+use Rattle.hprof_ask.specs.declared.question.OneWord.{OneWord}
+use Rattle.hprof_ask.specs.declared.question.OneWord.TheVariants as ones
+use Rattle.hprof_ask.specs.declared.question.Question.{Question}
+use Rattle.hprof_ask.specs.declared.question.Question.TheVariants as questions
+use Rattle.hprof_ask.specs.declared.question.Subject.{Subject}
+use Rattle.hprof_ask.specs.declared.question.Subject.TheVariants as subjects
 use Rattle.hprof_reports.specs.Check.{IsCheck}
 use Rattle.hprof_reports.specs.HistogramText.{IsHistogramText}
 use Rattle.hprof_reports.specs.ObjectText.{IsObjectText}
 use Rattle.hprof_reports.specs.PathText.{IsPathText}
 use Rattle.hprof_reports.specs.RefsText.{IsRefsText}
-use Rattle.hprof_leaks.specs.ClassesText.{IsClassesText}
-use Rattle.hprof_leaks.specs.ObjectsText.{IsObjectsText}
-use Rattle.hprof_leaks.specs.TextReport.{IsTextLine}
-use Rattle.hprof_why.specs.WhyText.{IsWhyText}
+use Rattle.hprof_reports.specs.ClassesText.{IsClassesText}
+use Rattle.hprof_reports.specs.ObjectsText.{IsObjectsText}
+use Rattle.hprof_reports.specs.TextReport.{IsTextLine}
+use Rattle.hprof_reports.specs.WhyText.{IsWhyText}
 
 -- what can be asked, one question a line
 abbrev pub help_text : List ℕ

@@ -2,11 +2,11 @@
 use Rattle.std.specs.Prelude.{List, IfSome}
 use Rattle.hprof_values.specs.declared.ids.IdSize.{IdSize}
 use Rattle.hprof_items.specs.FactValue.{FactValue}
-use Rattle.hprof_known_layouts.specs.Known.{Knows}
+use Rattle.hprof_layouts.specs.Known.{Knows}
 use Rattle.hprof_reach.specs.Reaching.{IsReach}
-use Rattle.hprof_referrers.specs.Index.{IsIndexOf}
+use Rattle.hprof_reach.specs.Index.{IsIndexOf}
 use Rattle.hprof_reports.specs.HistogramText.{IsHistogramText}
-use Rattle.hprof_leaks.specs.ClassesText.{IsClassesText}
+use Rattle.hprof_reports.specs.ClassesText.{IsClassesText}
 use Rattle.hprof_ask.specs.declared.kept.Kept.{Kept}
 
 -- if a search, layouts, an index or the text of a report are kept, they are those of these facts

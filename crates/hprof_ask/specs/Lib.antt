@@ -6,3 +6,7 @@ pub mod SomeReferrers
 pub mod SomeCheck
 pub mod SomeHeapAnswer
 pub mod PartsAnswers
+pub mod Lines
+pub mod Asked
+pub mod Answering
+pub mod Dialogue

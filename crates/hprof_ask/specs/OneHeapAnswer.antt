@@ -8,16 +8,16 @@ use Rattle.hprof_reports.specs.OneHistogramText.{one_histogram_text}
 use Rattle.hprof_reports.specs.OneObject.{one_object}
 use Rattle.hprof_reports.specs.OnePath.{one_path_text}
 use Rattle.hprof_reports.specs.OneRefs.{one_refs}
-use Rattle.hprof_leaks.specs.OneClasses.{one_classes_text}
-use Rattle.hprof_leaks.specs.OneObjects.{one_objects_text}
-use Rattle.hprof_leaks.specs.OneText.{one_text_line}
-use Rattle.hprof_why.specs.OneWhy.{one_why_text}
-use Rattle.hprof_dialogue.specs.declared.question.OneWord.{OneWord}
-use Rattle.hprof_dialogue.specs.declared.question.OneWord.TheVariants as ones
-use Rattle.hprof_dialogue.specs.declared.question.Question.{Question}
-use Rattle.hprof_dialogue.specs.declared.question.Question.TheVariants as questions
-use Rattle.hprof_dialogue.specs.declared.question.Subject.{Subject}
-use Rattle.hprof_dialogue.specs.declared.question.Subject.TheVariants as subjects
+use Rattle.hprof_reports.specs.OneClasses.{one_classes_text}
+use Rattle.hprof_reports.specs.OneObjects.{one_objects_text}
+use Rattle.hprof_reports.specs.OneText.{one_text_line}
+use Rattle.hprof_reports.specs.OneWhy.{one_why_text}
+use Rattle.hprof_ask.specs.declared.question.OneWord.{OneWord}
+use Rattle.hprof_ask.specs.declared.question.OneWord.TheVariants as ones
+use Rattle.hprof_ask.specs.declared.question.Question.{Question}
+use Rattle.hprof_ask.specs.declared.question.Question.TheVariants as questions
+use Rattle.hprof_ask.specs.declared.question.Subject.{Subject}
+use Rattle.hprof_ask.specs.declared.question.Subject.TheVariants as subjects
 use Rattle.hprof_ask.specs.HeapAnswers.{IsHeapAnswer, IsReport, IsReportOf, IsWordReport}
 
 module _ (summaries : List PartSummary) (ids : IdSize) (facts : List FactValue) where

@@ -8,7 +8,7 @@ use Rattle.hprof_rows.specs.Conflict.{IsConsistent}
 use Rattle.hprof_rows.proofs.Order.{order_agrees}
 use Rattle.hprof_heap.specs.declared.heap.Heap.{Heap}
 use Rattle.hprof_heap.specs.Heap.{heap_of}
-use Rattle.hprof_lookup.specs.HeapFacts.{facts_of, size_of}
+use Rattle.hprof_heap.specs.HeapFacts.{facts_of, size_of}
 use Rattle.hprof_layouts.proofs.FieldAnswers.{fields_exist}
 use Rattle.hprof_histogram.specs.declared.row.Kind.{Kind}
 use Rattle.hprof_histogram.proofs.ObjectOrder.{some_list}
@@ -20,19 +20,19 @@ use Rattle.hprof_reports.specs.Line.{text_of_lines}
 use Rattle.hprof_reports.specs.ObjectText.{IsObjectText, found_text}
 use Rattle.hprof_reports.specs.PathText.{IsPathText, reached_text}
 use Rattle.hprof_reports.specs.RefsText.{IsRefsText, edge_line}
-use Rattle.hprof_contents.proofs.Lookups.{class_exists, object_exists}
-use Rattle.hprof_contents.proofs.OneText.{text_exists}
-use Rattle.hprof_leaks.specs.ClassesText.{IsClassesText, classes_text}
-use Rattle.hprof_leaks.specs.ObjectsText.{IsObjectsText, objects_text}
-use Rattle.hprof_leaks.specs.TextReport.{IsTextLine, text_line}
-use Rattle.hprof_leaks.proofs.ClassLists.{some_dumps}
-use Rattle.hprof_why.proofs.SomeWhy.{why_exists}
-use Rattle.hprof_dialogue.specs.declared.question.OneWord.{OneWord}
-use Rattle.hprof_dialogue.specs.declared.question.OneWord.TheVariants as ones
-use Rattle.hprof_dialogue.specs.declared.question.Question.{Question}
-use Rattle.hprof_dialogue.specs.declared.question.Question.TheVariants as questions
-use Rattle.hprof_dialogue.specs.declared.question.Subject.{Subject}
-use Rattle.hprof_dialogue.specs.declared.question.Subject.TheVariants as subjects
+use Rattle.hprof_naming.proofs.Lookups.{class_exists, object_exists}
+use Rattle.hprof_naming.proofs.OneText.{text_exists}
+use Rattle.hprof_reports.specs.ClassesText.{IsClassesText, classes_text}
+use Rattle.hprof_reports.specs.ObjectsText.{IsObjectsText, objects_text}
+use Rattle.hprof_reports.specs.TextReport.{IsTextLine, text_line}
+use Rattle.hprof_reports.proofs.ClassLists.{some_dumps}
+use Rattle.hprof_reports.proofs.SomeWhy.{why_exists}
+use Rattle.hprof_ask.specs.declared.question.OneWord.{OneWord}
+use Rattle.hprof_ask.specs.declared.question.OneWord.TheVariants as ones
+use Rattle.hprof_ask.specs.declared.question.Question.{Question}
+use Rattle.hprof_ask.specs.declared.question.Question.TheVariants as questions
+use Rattle.hprof_ask.specs.declared.question.Subject.{Subject}
+use Rattle.hprof_ask.specs.declared.question.Subject.TheVariants as subjects
 use Rattle.hprof_ask.specs.HeapAnswers.{IsHeapAnswer, IsReport, IsReportOf, IsWordReport, help_text}
 use Rattle.hprof_ask.specs.SomeCheck.{some_check}
 use Rattle.hprof_ask.specs.SomeReferrers.{some_referrers}

@@ -7,10 +7,11 @@ ghost use Rattle.hprof_heap.specs.Heap.{heap_of};
 ghost use Rattle.hprof_ask.specs.Asks.{Asks, PassesAnswersOn, fault_of_asking};
 
 use crate::ask_fault::AskFault;
+use crate::asker::Asker;
+use crate::dialogue::converse;
 use crate::heap_answers::HeapAnswers;
 use crate::kept::Kept;
 use hprof_devices::{Flush, Source};
-use hprof_dialogue::{Asker, converse};
 use hprof_engine::{Summaries, ToolFault, read_heap};
 use hprof_heap::{Gatherer, Heap};
 use hprof_stream::{Limits, PartSummary};

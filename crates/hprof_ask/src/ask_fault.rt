@@ -1,6 +1,6 @@
 //! Why asking ended.
 
-use hprof_dialogue::DialogueStop;
+use crate::stop::DialogueStop;
 use hprof_engine::ToolFault;
 
 /// Why a call ended that reads parts and answers questions.

@@ -2,22 +2,23 @@
 
 ghost use Rattle.std.specs.Prelude.{◌≡◌, ℕ, List};
 ghost use Rattle.hprof_devices.specs.declared.health.Health.TheVariants.{Well};
-ghost use Rattle.hprof_lookup.specs.HeapFacts.{facts_of, size_of};
+ghost use Rattle.hprof_heap.specs.HeapFacts.{facts_of, size_of};
 ghost use Rattle.hprof_reports.specs.Check.{IsCheck};
 ghost use Rattle.hprof_reports.specs.Stopping.{LeavesTarget, WritesText};
 ghost use Rattle.hprof_ask.specs.HeapAnswers.{IsHeapAnswer, IsReport, IsReportOf, IsWordReport};
 ghost use Rattle.hprof_ask.specs.Kept.{IsKept};
 
+use crate::dialogue::Answers;
 use crate::kept::Kept;
+use crate::question::{OneWord, Question, Subject};
 use crate::reports::{
     write_kept_classes, write_kept_histogram, write_kept_path, write_kept_refs, write_kept_why,
 };
+use crate::stop::DialogueStop;
 use hprof_devices::Target;
-use hprof_dialogue::{Answers, DialogueStop, OneWord, Question, Subject};
 use hprof_engine::WriteStop;
 use hprof_heap::Heap;
-use hprof_leaks::{write_objects, write_text};
-use hprof_reports::{write_check, write_object, write_str};
+use hprof_reports::{write_check, write_object, write_objects, write_str, write_text};
 use hprof_stream::PartSummary;
 use std::alloc::Global;
 

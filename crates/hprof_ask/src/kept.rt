@@ -4,9 +4,8 @@ ghost use Rattle.std.specs.Prelude.{List};
 ghost use Rattle.hprof_values.specs.declared.ids.IdSize.{IdSize};
 ghost use Rattle.hprof_items.specs.FactValue.{FactValue};
 
-use hprof_known_layouts::KnownLayouts;
-use hprof_reach::Reach;
-use hprof_referrers::ReferrerIndex;
+use hprof_layouts::KnownLayouts;
+use hprof_reach::{Reach, ReferrerIndex};
 
 /// What is made at the first question that wants it, and kept. It is no part of any answer.
 #[derive(Drop)]

@@ -1,14 +1,19 @@
 //! Laws of the definitions. None of these functions does anything. That a line asks one thing, and that bytes have one list of lines, are
 //! laws of hprof_dialogue.
 
-ghost use Rattle.std.specs.Prelude.{◌≡◌, ◌↔◌, ◌++◌, ℕ, List};
+ghost use Rattle.std.specs.Prelude.{◌≡◌, ◌↔◌, ◌++◌, ℕ, List, []};
 ghost use Rattle.hprof_values.specs.declared.ids.IdSize.{IdSize};
 ghost use Rattle.hprof_items.specs.FactValue.{FactValue};
 ghost use Rattle.hprof_stream.specs.declared.summary.PartSummary.{PartSummary};
 ghost use Rattle.hprof_rows.specs.Conflict.{IsConsistent};
-ghost use Rattle.hprof_dialogue.specs.Answering.{AreAnswers};
+ghost use Rattle.hprof_ask.specs.Answering.{AreAnswers};
 ghost use Rattle.hprof_ask.specs.HeapAnswers.{IsHeapAnswer};
 ghost use Rattle.hprof_ask.specs.PartsAnswers.{AreAnswersOfParts};
+ghost use Rattle.hprof_ask.specs.declared.question.Question.{Question};
+ghost use Rattle.hprof_ask.specs.Asked.{Asks};
+ghost use Rattle.hprof_ask.specs.Lines.{AreFirstLines, AreLines};
+
+use crate::dialogue::Answers;
 
 /// The answers to lines over one heap are one text, and there is one if the facts of the heap agree. To ask two lists of lines one after
 /// the other is to ask them together: no answer depends on what was asked before.
@@ -28,4 +33,28 @@ pub fn answers_over_a_heap_are_one_text()
 pub fn answers_over_parts_are_one_text()
     ensures { (lines parts : List (List ℕ)) (one other : List ℕ) → AreAnswersOfParts lines parts one → AreAnswersOfParts lines parts other
         → one ≡ other }
+{}
+
+/// Bytes have one list of lines. Behind bytes whose last line ends with a line feed the lines of more bytes follow.
+pub fn bytes_have_one_list_of_lines()
+    ensures one { (bytes : List ℕ) (one other : List (List ℕ)) → AreLines bytes one → AreLines bytes other → one ≡ other }
+    ensures more { (bytes more : List ℕ) (lines others : List (List ℕ)) → AreFirstLines bytes lines [] → AreLines more others
+        → AreLines (bytes ++ more) (lines ++ others) }
+{}
+
+/// A line asks one thing.
+pub fn a_line_asks_one_thing()
+    ensures some { (line : List ℕ) → (question : Question) × Asks line question }
+    ensures one { (line : List ℕ) (one other : Question) → Asks line one → Asks line other → one ≡ other }
+{}
+
+/// The answers to lines are one text, and there is one. To ask two lists of lines one after the other is to ask them together: no answer
+/// depends on a question before.
+pub fn answers_are_one_text<A: Answers>(answers: &A)
+    ensures some { (lines : List (List ℕ)) → (text : List ℕ) × AreAnswers (A.is_answer answers.now) lines text }
+    ensures one { (lines : List (List ℕ)) (one other : List ℕ) → AreAnswers (A.is_answer answers.now) lines one
+        → AreAnswers (A.is_answer answers.now) lines other → one ≡ other }
+    ensures together { (lines more : List (List ℕ)) (text : List ℕ) → AreAnswers (A.is_answer answers.now) (lines ++ more) text
+        ↔ ((first : List ℕ) × (then : List ℕ) × AreAnswers (A.is_answer answers.now) lines first
+        × AreAnswers (A.is_answer answers.now) more then × (text ≡ first ++ then)) }
 {}

@@ -2,26 +2,22 @@
 
 ghost use Rattle.std.specs.Prelude.{◌≡◌, ℕ, List, IfOk, OnOk, IsSome};
 ghost use Rattle.hprof_devices.specs.declared.health.Health.TheVariants.{Well};
-ghost use Rattle.hprof_lookup.specs.HeapFacts.{facts_of, size_of};
+ghost use Rattle.hprof_heap.specs.HeapFacts.{facts_of, size_of};
 ghost use Rattle.hprof_reports.specs.HistogramText.{IsHistogramText};
 ghost use Rattle.hprof_reports.specs.PathText.{IsPathText};
 ghost use Rattle.hprof_reports.specs.RefsText.{IsRefsText};
-ghost use Rattle.hprof_leaks.specs.ClassesText.{IsClassesText};
-ghost use Rattle.hprof_why.specs.WhyText.{IsWhyText};
+ghost use Rattle.hprof_reports.specs.ClassesText.{IsClassesText};
+ghost use Rattle.hprof_reports.specs.WhyText.{IsWhyText};
 ghost use Rattle.hprof_reports.specs.Stopping.{LeavesTarget, WritesText};
 ghost use Rattle.hprof_ask.specs.Kept.{IsKept};
 
 use crate::kept::Kept;
 use hprof_devices::{Device, Target, push_all};
 use hprof_engine::WriteStop;
-use hprof_heap::Heap;
-use hprof_known_layouts::known_layouts;
-use hprof_leaks::write_classes;
-use hprof_lookup::holds_of_heap;
-use hprof_reach::reach_of;
-use hprof_referrers::index_referrers;
-use hprof_reports::{write_histogram, write_reached, write_refs};
-use hprof_why::write_reached_why;
+use hprof_heap::{Heap, holds_of_heap};
+use hprof_layouts::known_layouts;
+use hprof_reach::{index_referrers, reach_of};
+use hprof_reports::{write_classes, write_histogram, write_reached, write_reached_why, write_refs};
 use std::alloc::{AllocError, Global};
 
 /// Makes the search from the roots, if it is not kept yet. If memory runs out, nothing has changed.

@@ -1,8 +1,8 @@
 -- The line of the next change.
 use Rattle.std.proofs.Common.{◌≡◌, ◌+◌, ◌<◌, ℕ, List, [], ◌++◌, length, map, drop, get_or, ap}
 use Rattle.hprof_rows.proofs.Tables.{drop_from}
-use Rattle.hprof_growth.specs.declared.change.Change.{Change}
-use Rattle.hprof_growth.specs.Changes.{change_value}
+use Rattle.hprof_diff.specs.declared.change.Change.{Change}
+use Rattle.hprof_diff.specs.Changes.{change_value}
 use Rattle.hprof_diff.specs.DifferenceText.{change_line, changes_text}
 
 -- stands at each place that has no change

@@ -6,7 +6,7 @@ use Rattle.hprof_values.specs.declared.ids.IdSize.{IdSize}
 use Rattle.hprof_items.specs.FactValue.{FactValue}
 use Rattle.hprof_stream.specs.declared.limits.Limits.{Limits}
 use Rattle.hprof_heap.specs.State.{IsState}
-use Rattle.hprof_growth.specs.Counts.{Totals}
+use Rattle.hprof_diff.specs.Counts.{Totals}
 use Rattle.hprof_engine.specs.declared.tool_fault.ToolFault.{ToolFault}
 use Rattle.hprof_engine.specs.declared.tool_fault.ToolFault.TheVariants as tool
 use Rattle.hprof_engine.specs.Joining.{AreReadOut, IsHindered, IsOfReading, IsOkOrConflict, Tell}

@@ -6,8 +6,8 @@ use Rattle.hprof_items.specs.FactValue.{FactValue}
 use Rattle.hprof_stream.specs.declared.summary.PartSummary.{PartSummary}
 use Rattle.hprof_rows.specs.HeapValue.{HeapValue}
 use Rattle.hprof_rows.specs.Conflict.{IsConsistent}
-use Rattle.hprof_growth.specs.Counts.{AreTotals, Totals}
-use Rattle.hprof_growth.specs.Difference.{ChangeValue, IsDifference, StepValue}
+use Rattle.hprof_diff.specs.Counts.{AreTotals, Totals}
+use Rattle.hprof_diff.specs.Difference.{ChangeValue, IsDifference, StepValue}
 use Rattle.hprof_engine.specs.Joining.{Agree}
 use Rattle.hprof_engine.specs.Makes.{Making, making_of}
 use Rattle.hprof_reports.specs.Line.{line_of, text_of_lines}

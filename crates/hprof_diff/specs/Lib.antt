@@ -1,3 +1,9 @@
 pub mod DifferenceText
 pub mod OneDifference
 pub mod Comparing
+pub mod Labels
+pub mod Counts
+pub mod Difference
+pub mod Sources
+pub mod Kept
+pub mod Changes

@@ -1,11 +1,23 @@
 //! The report `diff`: which objects grew from one heap to another, in number and in bytes.
+//! Growth from one heap to another: objects counted by label, and the labels whose counts differ.
 #![tactic(auto)]
 
+mod change;
+mod comparing;
+mod counted;
+mod differences;
 mod fault;
+mod gathering;
+mod label_counts;
+mod labels;
 pub mod laws;
+mod part;
 mod parts;
 mod report;
 
+pub use change::{Change, Step};
+pub use differences::difference;
 pub use fault::DiffFault;
+pub use label_counts::LabelCounts;
 pub use parts::{GrowthReport, count_parts, diff_to};
 pub use report::write_difference;

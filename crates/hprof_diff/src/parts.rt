@@ -2,17 +2,17 @@
 
 ghost use Rattle.std.specs.Prelude.{◌≡◌, ℕ, List, All, IfOk};
 ghost use Rattle.hprof_devices.specs.declared.health.Health.TheVariants.{Well};
-ghost use Rattle.hprof_growth.specs.Kept.{totals_in};
+ghost use Rattle.hprof_diff.specs.Kept.{totals_in};
 ghost use Rattle.hprof_engine.specs.Joining.{Tell, fault_of};
 ghost use Rattle.hprof_engine.specs.Makes.{WritesAll};
 ghost use Rattle.hprof_diff.specs.Comparing.{Counts, EndsDifference};
 ghost use Rattle.hprof_diff.specs.DifferenceText.{AreTotalsOf, IsDifferenceOf};
 
 use crate::fault::DiffFault;
+use crate::label_counts::LabelCounts;
 use crate::report::write_growth;
 use hprof_devices::{Source, Target};
 use hprof_engine::{HeapProduct, ToolFault, WriteStop, read_heap};
-use hprof_growth::LabelCounts;
 use hprof_heap::{Gatherer, Heap};
 use hprof_reports::report_to;
 use hprof_stream::Limits;
@@ -27,7 +27,7 @@ pub struct GrowthReport<'a> {
 
 impl<'a> HeapProduct for GrowthReport<'a> {
     ghost use Rattle.std.specs.Prelude.{⊤};
-    ghost use Rattle.hprof_growth.specs.Kept.{totals_in};
+    ghost use Rattle.hprof_diff.specs.Kept.{totals_in};
     ghost use Rattle.hprof_diff.specs.DifferenceText.{IsGrowthText};
     ghost use Rattle.hprof_diff.specs.OneDifference.{one_growth_text};
 

@@ -2,17 +2,18 @@
 
 ghost use Rattle.std.specs.Prelude.{◌≡◌, ◌++◌, ℕ, List, map, IfOk, OnOk, string_bytes};
 ghost use Rattle.hprof_devices.specs.declared.health.Health.TheVariants.{Well};
-ghost use Rattle.hprof_lookup.specs.HeapFacts.{facts_of, size_of};
-ghost use Rattle.hprof_growth.specs.Changes.{change_value, step_value};
-ghost use Rattle.hprof_growth.specs.Kept.{totals_in};
+ghost use Rattle.hprof_heap.specs.HeapFacts.{facts_of, size_of};
+ghost use Rattle.hprof_diff.specs.Changes.{change_value, step_value};
+ghost use Rattle.hprof_diff.specs.Kept.{totals_in};
 ghost use Rattle.hprof_reports.specs.Stopping.{LeavesTarget, WritesText};
 ghost use Rattle.hprof_diff.specs.DifferenceText.{IsDifferenceText, IsGrowthText, change_line, changes_text, step_text};
 
+use crate::change::{Change, Step};
+use crate::differences::difference;
+use crate::label_counts::LabelCounts;
 use hprof_devices::Target;
 use hprof_engine::WriteStop;
-use hprof_growth::{Change, LabelCounts, Step, difference};
-use hprof_heap::Heap;
-use hprof_lookup::holds_of_heap;
+use hprof_heap::{Heap, holds_of_heap};
 use hprof_reports::write_str;
 use itoa::Buffer;
 use std::alloc::{AllocError, Global};

@@ -4,3 +4,7 @@ pub mod RecordTables
 pub mod Writing
 pub mod Counting
 pub mod Batches
+pub mod Lists
+pub mod ReadsBack
+pub mod Counting101
+pub mod Writing101

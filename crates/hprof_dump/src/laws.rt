@@ -1,12 +1,14 @@
 //! Laws of the definitions. None of these functions does anything.
 
-ghost use Rattle.std.specs.Prelude.{◌≡◌, ℕ, List};
+ghost use Rattle.std.specs.Prelude.{◌≡◌, ℕ, List, ◌≤◌};
 ghost use Rattle.hprof_values.specs.declared.ids.IdSize.{IdSize};
 ghost use Rattle.hprof_items.specs.FactValue.{FactValue};
 ghost use Rattle.hprof_stream.specs.Part.{IsPart};
 ghost use Rattle.hprof_rows.specs.HeapValue.{IsHeap};
 ghost use Rattle.hprof_dump.specs.Dump.{canonical_dump};
 ghost use Rattle.hprof_dump.specs.Segments.{IsPacked, packed};
+ghost use Rattle.hprof_items.specs.Spelling.{longest_body};
+ghost use Rattle.hprof_dump.specs.Dump101.{dump101, sub_len};
 
 /// There is one way to divide sub-records among segments that are as full as they can be, whatever their sizes and
 /// the most that a segment of more than one may have: each goes into the segment that was begun last, if it has room.
@@ -20,4 +22,20 @@ pub fn sub_records_are_packed_in_one_way()
 pub fn dump_reads_back()
     ensures { (ids : IdSize) (millis : ℕ) (rows : List FactValue) → IsHeap (record { ids = ids; millis = millis; facts = rows })
         → IsPart (canonical_dump ids millis rows) ids millis rows }
+{}
+
+/// The 1.0.1 dump of a heap is a part, and states the heap's facts, each once, if its sub-records are together no longer
+/// than a record's body may be.
+pub fn dump101_reads_back()
+    ensures { (ids : IdSize) (millis : ℕ) (rows : List FactValue) → IsHeap (record { ids = ids; millis = millis; facts = rows })
+        → sub_len ids rows ≤ longest_body → IsPart (dump101 ids millis rows) ids millis rows }
+{}
+
+/// Equal 1.0.1 dumps of such heaps are of equal sizes, times and facts.
+pub fn equal_dumps101_equal_facts()
+    ensures { (ids other_ids : IdSize) (millis other_millis : ℕ) (rows others : List FactValue)
+        → IsHeap (record { ids = ids; millis = millis; facts = rows }) → sub_len ids rows ≤ longest_body
+        → IsHeap (record { ids = other_ids; millis = other_millis; facts = others }) → sub_len other_ids others ≤ longest_body
+        → dump101 ids millis rows ≡ dump101 other_ids other_millis others
+        → (ids ≡ other_ids) × (millis ≡ other_millis) × (rows ≡ others) }
 {}

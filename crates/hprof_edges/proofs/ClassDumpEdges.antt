@@ -3,7 +3,7 @@ use Rattle.std.specs.Prelude.{◌≢◌, ◌↔◌, map, slice_get}
 use Rattle.std.proofs.Common.{◌≡◌, ℕ, List, ◌++◌, Contains, Some, refl, sym, subst, inl, inr}
 use Rattle.std.proofs.lemmas.List.Elements.{Contains-append_cases, Contains-append_left, Contains-append_right}
 use Rattle.hprof_values.specs.declared.entry.Entry.{Entry}
-use Rattle.hprof_lookup.specs.Classes.{ClassValue}
+use Rattle.hprof_heap.specs.Classes.{ClassValue}
 use Rattle.hprof_edges.specs.declared.edge.Via.{Via}
 use Rattle.hprof_edges.specs.declared.edge.Via.TheVariants as vias
 use Rattle.hprof_edges.specs.declared.edge.Edge.{Edge}

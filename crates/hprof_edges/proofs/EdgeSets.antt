@@ -3,7 +3,7 @@ use Rattle.std.specs.Prelude.{◌↔◌}
 use Rattle.std.proofs.Common.{◌≡◌, true, false, List, [], ◌∷◌, ◌++◌, Contains, sym, ap, subst, ◌∙◌, inl, inr}
 use Rattle.std.proofs.lemmas.List.Elements.{Contains-append_left, Contains-push, Contains-push_cases}
 use Rattle.hprof_edges.specs.declared.edge.Edge.{Edge}
-use Rattle.hprof_known_layouts.specs.declared.reference.Wanted.{Wanted}
+use Rattle.hprof_layouts.specs.declared.reference.Wanted.{Wanted}
 use Rattle.hprof_edges.specs.Collecting.{is_edge_wanted}
 use Rattle.hprof_edges.specs.declared.edge_set.EdgeSet.{EdgeSet}
 use Rattle.hprof_edges.specs.EdgeSet.{SetOf, edges_in, wanted_in}

@@ -7,8 +7,8 @@ use Rattle.hprof_values.specs.declared.ids.IdSize.{IdSize}
 use Rattle.hprof_items.specs.FactValue.{FactValue}
 use Rattle.hprof_edges.specs.declared.edge.Edge.{Edge}
 use Rattle.hprof_edges.specs.declared.edge_set.EdgeSet.{EdgeSet}
-use Rattle.hprof_known_layouts.specs.declared.reference.Wanted.{Wanted}
-use Rattle.hprof_known_layouts.specs.declared.reference.Wanted.TheVariants as wanted
+use Rattle.hprof_layouts.specs.declared.reference.Wanted.{Wanted}
+use Rattle.hprof_layouts.specs.declared.reference.Wanted.TheVariants as wanted
 use Rattle.hprof_edges.specs.contracts.edge.EdgeOrd.TheImpl as edge_ord
 use Rattle.hprof_edges.specs.Collecting.{PutBehind, is_edge_wanted}
 use Rattle.hprof_edges.specs.EdgeSet.{SetOf, edges_in, wanted_in}

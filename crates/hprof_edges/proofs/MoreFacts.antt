@@ -3,13 +3,13 @@ use Rattle.std.proofs.Common.{ℕ, List, inl, inr}
 use Rattle.hprof_values.specs.declared.ids.IdSize.{IdSize}
 use Rattle.hprof_items.specs.FactValue.{FactValue, Instance, ObjArray}
 use Rattle.hprof_rows.specs.Facts.{Has}
-use Rattle.hprof_lookup.specs.Classes.{ClassValue, fact_of_class}
-use Rattle.hprof_lookup.specs.Objects.{HasInstance, HasElements}
+use Rattle.hprof_heap.specs.Classes.{ClassValue, fact_of_class}
+use Rattle.hprof_heap.specs.Objects.{HasInstance, HasElements}
 use Rattle.hprof_layouts.specs.declared.field_value.FieldValue.{FieldValue}
 use Rattle.hprof_layouts.specs.Fields.{HasValues}
 use Rattle.hprof_layouts.proofs.MoreFacts.{known_stays}
-use Rattle.hprof_known_layouts.specs.declared.reference.Reference.{Reference}
-use Rattle.hprof_known_layouts.specs.References.{HasReference}
+use Rattle.hprof_layouts.specs.declared.reference.Reference.{Reference}
+use Rattle.hprof_layouts.specs.References.{HasReference}
 use Rattle.hprof_edges.specs.declared.edge.Via.{Via}
 use Rattle.hprof_edges.specs.declared.edge.Via.TheVariants as vias
 use Rattle.hprof_edges.specs.declared.edge.Edge.{Edge}

@@ -7,8 +7,8 @@ use Rattle.hprof_rows.specs.Conflict.{IsConsistent}
 use Rattle.hprof_layouts.specs.declared.field_value.FieldValue.{FieldValue}
 use Rattle.hprof_layouts.specs.Fields.{AreFields, FieldsValue, Values}
 use Rattle.hprof_layouts.proofs.FieldAnswers.{fields_once}
-use Rattle.hprof_known_layouts.specs.declared.reference.Reference.{Reference}
-use Rattle.hprof_known_layouts.specs.References.{AreReferences}
+use Rattle.hprof_layouts.specs.declared.reference.Reference.{Reference}
+use Rattle.hprof_layouts.specs.References.{AreReferences}
 use Rattle.hprof_edges.specs.declared.edge.Via.TheVariants as vias
 use Rattle.hprof_edges.specs.declared.edge.Edge.{Edge}
 use Rattle.hprof_edges.specs.DumpEdges.{GivenByInstance, IsEdgeToClass, IsElementEdge, IsFieldEdge}

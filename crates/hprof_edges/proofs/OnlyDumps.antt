@@ -5,9 +5,9 @@ use Rattle.hprof_values.specs.declared.ids.IdSize.{IdSize}
 use Rattle.hprof_values.specs.declared.basic.Basic.{Basic}
 use Rattle.hprof_items.specs.FactValue.{FactValue, Instance, ObjArray, PrimArray}
 use Rattle.hprof_rows.specs.declared.key.Key.TheVariants as keys
-use Rattle.hprof_lookup.specs.Classes.{ClassValue, HasDump, HasNoDump}
-use Rattle.hprof_lookup.specs.Objects.{HasNoObject, IsObject}
-use Rattle.hprof_lookup.proofs.ObjectFacts.{IsOnlyObject}
+use Rattle.hprof_heap.specs.Classes.{ClassValue, HasDump, HasNoDump}
+use Rattle.hprof_heap.specs.Objects.{HasNoObject, IsObject}
+use Rattle.hprof_heap.proofs.ObjectFacts.{IsOnlyObject}
 use Rattle.hprof_layouts.proofs.FieldAnswers.{dump_of_instance}
 use Rattle.hprof_edges.specs.declared.edge.Edge.{Edge}
 use Rattle.hprof_edges.specs.DumpEdges.{GivenByClass, GivenByInstance, GivenByObject, IsClassEdge, IsEdgeToClass, IsElementEdge}

@@ -11,8 +11,8 @@ use Rattle.hprof_rows.specs.Facts.{Has}
 use Rattle.hprof_rows.specs.Tables.{facts_of_table, number_of_table, stands_in}
 use Rattle.hprof_rows.proofs.FactSets.{Has-back, Has-front, Has-parts}
 use Rattle.hprof_rows.proofs.Picking.{picked, picked_is}
-use Rattle.hprof_lookup.specs.Classes.{ClassValue, fact_of_class}
-use Rattle.hprof_lookup.proofs.ClassFacts.{dump_in}
+use Rattle.hprof_heap.specs.Classes.{ClassValue, fact_of_class}
+use Rattle.hprof_heap.proofs.ClassFacts.{dump_in}
 use Rattle.hprof_layouts.proofs.Walks.{dump_in_table}
 use Rattle.hprof_edges.specs.declared.edge.Edge.{Edge}
 use Rattle.hprof_edges.specs.Collecting.{PutBehind}

@@ -5,7 +5,7 @@ use Rattle.std.proofs.lemmas.Simd.{map-map}
 use Rattle.hprof_values.specs.declared.basic.Basic.{Basic}
 use Rattle.hprof_values.specs.declared.entry.Entry.{Entry}
 use Rattle.hprof_values.specs.Value.{constant_of, static_of}
-use Rattle.hprof_known_layouts.specs.Refers.{refers}
+use Rattle.hprof_layouts.specs.Refers.{refers}
 use Rattle.hprof_edges.specs.EdgeLists.{target_of, targets_of_constants, targets_of_statics}
 use Rattle.hprof_edges.specs.Edges.{EntryRefers}
 

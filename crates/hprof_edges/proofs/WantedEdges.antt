@@ -3,9 +3,9 @@ use Rattle.std.specs.Prelude.{filter}
 use Rattle.std.proofs.Common.{◌≡◌, ℕ, ◌+◌, ◌==◌, Contains, Bool, true, false, cond, List, [], ◌∷◌, ◌++◌, refl, sym, ap, ◌∙◌}
 use Rattle.std.proofs.lemmas.List.{append-nil}
 use Rattle.std.proofs.lemmas.List.Elements.{filter-append, Contains-append_left, Contains-append_right, Contains-push}
-use Rattle.hprof_known_layouts.specs.declared.reference.Reference.{Reference}
-use Rattle.hprof_known_layouts.specs.declared.reference.Wanted.{Wanted}
-use Rattle.hprof_known_layouts.specs.References.{is_wanted, wanted_of}
+use Rattle.hprof_layouts.specs.declared.reference.Reference.{Reference}
+use Rattle.hprof_layouts.specs.declared.reference.Wanted.{Wanted}
+use Rattle.hprof_layouts.specs.References.{is_wanted, wanted_of}
 use Rattle.hprof_edges.specs.declared.edge.Edge.{Edge}
 use Rattle.hprof_edges.specs.declared.edge.Via.{Via}
 use Rattle.hprof_edges.specs.declared.edge.Via.TheVariants as vias

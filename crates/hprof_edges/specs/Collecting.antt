@@ -1,8 +1,8 @@
 -- What collects edges was given.
 use Rattle.std.specs.Prelude.{◌↔◌, Bool, List, ◌++◌, Contains}
 use Rattle.hprof_edges.specs.declared.edge.Edge.{Edge}
-use Rattle.hprof_known_layouts.specs.declared.reference.Wanted.{Wanted}
-use Rattle.hprof_known_layouts.specs.References.{is_wanted}
+use Rattle.hprof_layouts.specs.declared.reference.Wanted.{Wanted}
+use Rattle.hprof_layouts.specs.References.{is_wanted}
 
 -- behind these edges it was given exactly those of which that holds
 pub record PutBehind (holds : List Edge → Type 0) (edges : List Edge) (P : Edge → Type 0) : Type 0 where

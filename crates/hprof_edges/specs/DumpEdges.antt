@@ -3,9 +3,9 @@ use Rattle.std.specs.Prelude.{◌≡◌, ◌≢◌, ◌⊎◌, ℕ, List, Some, 
 use Rattle.hprof_values.specs.declared.ids.IdSize.{IdSize}
 use Rattle.hprof_items.specs.FactValue.{FactValue, Instance, ObjArray}
 use Rattle.hprof_rows.specs.Facts.{Has}
-use Rattle.hprof_lookup.specs.Classes.{ClassValue, HasDump}
-use Rattle.hprof_lookup.specs.Objects.{HasInstance}
-use Rattle.hprof_known_layouts.specs.References.{HasReference}
+use Rattle.hprof_heap.specs.Classes.{ClassValue, HasDump}
+use Rattle.hprof_heap.specs.Objects.{HasInstance}
+use Rattle.hprof_layouts.specs.References.{HasReference}
 use Rattle.hprof_edges.specs.declared.edge.Via.{Via}
 use Rattle.hprof_edges.specs.declared.edge.Via.TheVariants as vias
 use Rattle.hprof_edges.specs.declared.edge.Edge.{Edge}

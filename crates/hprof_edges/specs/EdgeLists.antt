@@ -4,9 +4,9 @@ use Rattle.hprof_values.specs.declared.basic.Basic.{Basic}
 use Rattle.hprof_values.specs.declared.entry.Entry.{Entry}
 use Rattle.hprof_values.specs.Value.{constant_of, static_of}
 use Rattle.hprof_layouts.specs.declared.field_value.FieldValue.{FieldValue}
-use Rattle.hprof_lookup.specs.Classes.{ClassValue}
-use Rattle.hprof_known_layouts.specs.declared.reference.Reference.{Reference}
-use Rattle.hprof_known_layouts.specs.Refers.{refers}
+use Rattle.hprof_heap.specs.Classes.{ClassValue}
+use Rattle.hprof_layouts.specs.declared.reference.Reference.{Reference}
+use Rattle.hprof_layouts.specs.Refers.{refers}
 use Rattle.hprof_edges.specs.declared.edge.Via.{Via}
 use Rattle.hprof_edges.specs.declared.edge.Via.TheVariants as vias
 use Rattle.hprof_edges.specs.declared.edge.Edge.{Edge}

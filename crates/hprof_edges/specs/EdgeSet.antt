@@ -2,7 +2,7 @@
 use Rattle.std.specs.Prelude.{◌≡◌, ◌↔◌, true, List, filter, Contains}
 use Rattle.std.proofs.Common.{sym, subst}
 use Rattle.hprof_edges.specs.declared.edge.Edge.{Edge}
-use Rattle.hprof_known_layouts.specs.declared.reference.Wanted.{Wanted}
+use Rattle.hprof_layouts.specs.declared.reference.Wanted.{Wanted}
 use Rattle.hprof_edges.specs.Collecting.{is_edge_wanted}
 use Rattle.hprof_edges.specs.KeptMembers.{kept_are}
 use Rattle.hprof_edges.specs.declared.edge_set.EdgeSet.{EdgeSet}

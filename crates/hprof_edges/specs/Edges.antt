@@ -5,10 +5,10 @@ use Rattle.std.specs.List.Sorted.{IsStrictlySortedBy}
 use Rattle.hprof_values.specs.declared.ids.IdSize.{IdSize}
 use Rattle.hprof_values.specs.declared.entry.Entry.{Entry}
 use Rattle.hprof_items.specs.FactValue.{FactValue}
-use Rattle.hprof_lookup.specs.Classes.{ClassValue, HasDump}
-use Rattle.hprof_lookup.specs.Objects.{HasInstance, HasElements}
-use Rattle.hprof_known_layouts.specs.References.{HasReference}
-use Rattle.hprof_known_layouts.specs.Refers.{refers}
+use Rattle.hprof_heap.specs.Classes.{ClassValue, HasDump}
+use Rattle.hprof_heap.specs.Objects.{HasInstance, HasElements}
+use Rattle.hprof_layouts.specs.References.{HasReference}
+use Rattle.hprof_layouts.specs.Refers.{refers}
 use Rattle.hprof_edges.specs.declared.edge.Via.{Via}
 use Rattle.hprof_edges.specs.declared.edge.Via.TheVariants as vias
 use Rattle.hprof_edges.specs.declared.edge.Edge.{Edge}

@@ -1,10 +1,10 @@
 //! Types that edges are put into.
 
 ghost use Rattle.std.specs.Prelude.{◌≡◌, ◌++◌, ◌∷◌, [], List, Bool, true, false, filter, OnOk};
-ghost use Rattle.hprof_known_layouts.specs.References.{is_wanted};
+ghost use Rattle.hprof_layouts.specs.References.{is_wanted};
 
 use crate::edge::Edge;
-use hprof_known_layouts::Wanted;
+use hprof_layouts::Wanted;
 use std::alloc::AllocError;
 
 /// A type that edges are put into.

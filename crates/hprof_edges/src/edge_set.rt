@@ -4,7 +4,7 @@ ghost use Rattle.std.specs.Prelude.{◌≡◌, []};
 
 use crate::collect::Collect;
 use crate::edge::Edge;
-use hprof_known_layouts::Wanted;
+use hprof_layouts::Wanted;
 use std::alloc::{AllocError, Global};
 
 /// The edges to the wanted identifiers, of those that were put.

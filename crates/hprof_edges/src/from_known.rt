@@ -1,9 +1,9 @@
 //! The edges from an identifier, if layouts are known.
 
 ghost use Rattle.std.specs.Prelude.{◌≡◌, List, OnOk};
-ghost use Rattle.hprof_lookup.specs.Classes.{HasNoDump};
-ghost use Rattle.hprof_lookup.specs.HeapFacts.{facts_of, size_of};
-ghost use Rattle.hprof_known_layouts.specs.Known.{Knows};
+ghost use Rattle.hprof_heap.specs.Classes.{HasNoDump};
+ghost use Rattle.hprof_heap.specs.HeapFacts.{facts_of, size_of};
+ghost use Rattle.hprof_layouts.specs.Known.{Knows};
 ghost use Rattle.hprof_edges.specs.declared.edge.Edge.{Edge};
 ghost use Rattle.hprof_edges.specs.Collecting.{PutBehind};
 ghost use Rattle.hprof_edges.specs.DumpEdges.{GivenByObject};
@@ -12,9 +12,8 @@ ghost use Rattle.hprof_edges.specs.Edges.{IsEdge};
 use crate::collect::Collect;
 use crate::of_identifier::put_of_class;
 use crate::of_object::object_edges;
-use hprof_heap::{Finger, Heap};
-use hprof_known_layouts::{KnownLayouts, Reference};
-use hprof_lookup::{find_object_near, id_size};
+use hprof_heap::{Finger, Heap, find_object_near, id_size};
+use hprof_layouts::{KnownLayouts, Reference};
 use std::alloc::AllocError;
 
 /// The places where a class dump and an object dump were found last. The next ones are looked for near them; the answers are the same

@@ -2,15 +2,15 @@
 
 ghost use Rattle.std.specs.Prelude.{◌≡◌, ◌≢◌, ◌⊎◌, IfOk, IfSome, Some};
 ghost use Rattle.std.specs.declared.cmp.Ordering.TheVariants.{Greater};
-ghost use Rattle.hprof_lookup.specs.HeapFacts.{facts_of, size_of};
-ghost use Rattle.hprof_known_layouts.specs.Known.{Knows};
+ghost use Rattle.hprof_heap.specs.HeapFacts.{facts_of, size_of};
+ghost use Rattle.hprof_layouts.specs.Known.{Knows};
 ghost use Rattle.hprof_edges.specs.LeastEdge.{IsLeastEdge};
 
 use crate::collect::Collect;
 use crate::edge::Edge;
 use crate::from_known::{Near, known_edges};
 use hprof_heap::Heap;
-use hprof_known_layouts::{KnownLayouts, Reference, Wanted};
+use hprof_layouts::{KnownLayouts, Reference, Wanted};
 use std::alloc::AllocError;
 
 /// The least of the edges to an identifier, of those that were put.

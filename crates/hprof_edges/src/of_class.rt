@@ -1,7 +1,7 @@
 //! The edges of a class.
 
 ghost use Rattle.std.specs.Prelude.{◌≡◌, ◌++◌, List, OnOk};
-ghost use Rattle.hprof_lookup.specs.ClassDump.{class_value};
+ghost use Rattle.hprof_heap.specs.ClassDump.{class_value};
 ghost use Rattle.hprof_edges.specs.declared.edge.Edge.{Edge};
 ghost use Rattle.hprof_edges.specs.Collecting.{PutBehind};
 ghost use Rattle.hprof_edges.specs.DumpEdges.{IsClassEdge};
@@ -10,7 +10,7 @@ ghost use Rattle.hprof_edges.specs.EdgeLists.{named_edges};
 use crate::collect::Collect;
 use crate::edge::{Edge, Via};
 use crate::putting::{put_constants, put_edge, put_statics};
-use hprof_lookup::ClassDump;
+use hprof_heap::ClassDump;
 use std::alloc::AllocError;
 
 /// Returns the edge from a class to one of the identifiers that its dump names.

@@ -1,7 +1,7 @@
 //! The edges from an identifier.
 
 ghost use Rattle.std.specs.Prelude.{◌≡◌, List, IfOk, OnOk};
-ghost use Rattle.hprof_lookup.specs.HeapFacts.{facts_of, size_of};
+ghost use Rattle.hprof_heap.specs.HeapFacts.{facts_of, size_of};
 ghost use Rattle.hprof_edges.specs.declared.edge.Edge.{Edge};
 ghost use Rattle.hprof_edges.specs.Collecting.{PutBehind};
 ghost use Rattle.hprof_edges.specs.DumpEdges.{GivenByClass, GivenByInstance, GivenByObject};
@@ -14,10 +14,8 @@ use crate::of_class::class_edges;
 use crate::of_object::{array_edges, edge_to_class};
 use crate::putting::put_values;
 use crate::sorting::sort_edges;
-use hprof_heap::{Finger, Heap};
-use hprof_known_layouts::Wanted;
-use hprof_layouts::{Fields, fields};
-use hprof_lookup::{ObjectDump, find_class_near, find_object, holds_of_heap};
+use hprof_heap::{Finger, Heap, ObjectDump, find_class_near, find_object, holds_of_heap};
+use hprof_layouts::{Fields, Wanted, fields};
 use std::alloc::{AllocError, Global};
 
 /// Puts the edges that the class dump of an identifier gives, if there is one.

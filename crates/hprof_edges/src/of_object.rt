@@ -4,8 +4,8 @@ ghost use Rattle.std.specs.Prelude.{◌≡◌, ◌↔◌, ◌⊎◌, false, List
 ghost use Rattle.hprof_values.specs.declared.ids.IdSize.{IdSize};
 ghost use Rattle.hprof_items.specs.FactValue.{FactValue};
 ghost use Rattle.hprof_values.specs.Lists.{identifiers_of};
-ghost use Rattle.hprof_lookup.specs.ObjectDump.{fact_of_object};
-ghost use Rattle.hprof_known_layouts.specs.Known.{HasLayout, Knows};
+ghost use Rattle.hprof_heap.specs.ObjectDump.{fact_of_object};
+ghost use Rattle.hprof_layouts.specs.Known.{HasLayout, Knows};
 ghost use Rattle.hprof_edges.specs.declared.edge.Edge.{Edge};
 ghost use Rattle.hprof_edges.specs.Collecting.{PutBehind};
 ghost use Rattle.hprof_edges.specs.DumpEdges.{IsEdgeToClass, IsElementEdge, IsFieldEdge, IsObjectEdge};
@@ -13,9 +13,9 @@ ghost use Rattle.hprof_edges.specs.DumpEdges.{IsEdgeToClass, IsElementEdge, IsFi
 use crate::collect::Collect;
 use crate::edge::{Edge, Via};
 use crate::putting::{put_edge, put_elements, put_references};
-use hprof_known_layouts::{KnownLayouts, Reference};
+use hprof_heap::ObjectDump;
+use hprof_layouts::{KnownLayouts, Reference};
 use hprof_values::{IdList, IdSize};
-use hprof_lookup::ObjectDump;
 use std::alloc::AllocError;
 
 /// Puts the edge of an instance or of an array of objects to its class into `into`, if `into` wants it. There is none to class 0.

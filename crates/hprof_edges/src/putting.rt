@@ -1,7 +1,7 @@
 //! Edges, put one by one.
 
 ghost use Rattle.std.specs.Prelude.{◌≡◌, ◌++◌, ℕ, List, Contains, false, OnOk};
-ghost use Rattle.hprof_known_layouts.specs.References.{is_wanted};
+ghost use Rattle.hprof_layouts.specs.References.{is_wanted};
 ghost use Rattle.hprof_values.specs.Lists.{constants_of, identifiers_of, statics_of};
 ghost use Rattle.hprof_edges.specs.declared.edge.Edge.{Edge};
 ghost use Rattle.hprof_edges.specs.declared.edge.Via.TheVariants as vias;
@@ -10,8 +10,7 @@ ghost use Rattle.hprof_edges.specs.EdgeLists.{targets_of_values, unless_zero};
 
 use crate::collect::Collect;
 use crate::edge::{Edge, Via};
-use hprof_known_layouts::{Reference, Wanted, refers};
-use hprof_layouts::FieldValue;
+use hprof_layouts::{FieldValue, Reference, Wanted, refers};
 use hprof_values::{Basic, ConstantList, IdList, StaticList};
 use std::alloc::AllocError;
 

@@ -1,8 +1,8 @@
 //! The edges to an identifier.
 
 ghost use Rattle.std.specs.Prelude.{◌≡◌, List, IfOk, OnOk};
-ghost use Rattle.hprof_lookup.specs.HeapFacts.{facts_of, size_of};
-ghost use Rattle.hprof_known_layouts.specs.Known.{Knows};
+ghost use Rattle.hprof_heap.specs.HeapFacts.{facts_of, size_of};
+ghost use Rattle.hprof_layouts.specs.Known.{Knows};
 ghost use Rattle.hprof_edges.specs.declared.edge.Edge.{Edge};
 ghost use Rattle.hprof_edges.specs.Collecting.{PutBehind};
 ghost use Rattle.hprof_edges.specs.DumpEdges.{GivenByClass, GivenByObject};
@@ -14,9 +14,8 @@ use crate::edge_set::EdgeSet;
 use crate::of_class::class_edges;
 use crate::of_object::object_edges;
 use crate::sorting::sort_edges;
-use hprof_heap::{Heap, Table};
-use hprof_known_layouts::{KnownLayouts, Wanted, known_layouts};
-use hprof_lookup::{id_size, table_facts, to_class_dump, to_object_dump};
+use hprof_heap::{Heap, Table, id_size, table_facts, to_class_dump, to_object_dump};
+use hprof_layouts::{KnownLayouts, Wanted, known_layouts};
 use std::alloc::{AllocError, Global};
 
 /// Puts the edges that the class dumps of a heap give.

@@ -12,3 +12,11 @@ pub mod Reading
 pub mod Stated
 pub mod Answers
 pub mod FaultTexts
+pub mod SavedParts
+pub mod PartReads
+pub mod PartByFault
+pub mod Going
+pub mod WholeParts
+pub mod AsJoined
+pub mod NoFault
+pub mod OneAnswer

@@ -4,3 +4,8 @@ pub mod Outcome
 pub mod Summaries
 pub mod Dividing
 pub mod FaultText
+pub mod Saved
+pub mod Sound
+pub mod Salvaging
+pub mod Through
+pub mod Joining101

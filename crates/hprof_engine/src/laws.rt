@@ -1,6 +1,6 @@
 //! Laws of the definitions. None of these functions does anything.
 
-ghost use Rattle.std.specs.Prelude.{◌≡◌, ◌↔◌, ℕ, List, []};
+ghost use Rattle.std.specs.Prelude.{◌≡◌, ◌↔◌, ℕ, List, [], Option, Result};
 ghost use Rattle.std.specs.List.{AllByRecursion, Contains};
 ghost use Rattle.hprof_values.specs.declared.ids.IdSize.{IdSize};
 ghost use Rattle.hprof_items.specs.FactValue.{FactValue};
@@ -12,9 +12,16 @@ ghost use Rattle.hprof_rows.specs.Facts.{SameFacts};
 ghost use Rattle.hprof_rows.specs.HeapValue.{HeapValue, IsHeap};
 ghost use Rattle.hprof_heap.specs.State.{IsState, HaveTwoSizes};
 ghost use Rattle.hprof_engine.specs.Dividing.{SameParts, AreDivided, AreDumps};
-ghost use Rattle.hprof_engine.specs.Joining.{Agree, Disagree};
+ghost use Rattle.hprof_engine.specs.Joining.{Agree, Disagree, IsAccepted};
 ghost use Rattle.hprof_engine.specs.Makes.{IsMadeOf};
 ghost use Rattle.hprof_engine.specs.Outcome.{Outcome, TwoSizes, ComesTo, IsSomePart};
+ghost use Rattle.hprof_items.specs.declared.header.Header.{Header};
+ghost use Rattle.hprof_stream.specs.declared.limits.Limits.{Limits};
+ghost use Rattle.hprof_stream.specs.declared.part_fault.PartFault.{PartFault};
+ghost use Rattle.hprof_stream.specs.Fault.{HasNoFault, IsFirstFault, StatesSoFar};
+ghost use Rattle.hprof_heap.specs.declared.standing.Refusal.{Refusal};
+ghost use Rattle.hprof_engine.specs.Saved.{SavesTo};
+ghost use Rattle.hprof_engine.specs.Sound.{JoinsTo, StandsBefore, IsAllOf};
 
 use crate::product::Product;
 
@@ -81,4 +88,25 @@ pub fn what_comes_to_the_same_is_made_into_the_same<P: Product>(product: &P)
     ensures { (parts others : List (List ℕ)) (text : List ℕ)
         → ((outcome : Outcome) → ComesTo parts outcome → ComesTo others outcome)
         → IsMadeOf (P.is_text product.now) parts text → IsMadeOf (P.is_text product.now) others text }
+{}
+
+/// If no part has a fault, salvage of the parts comes to the same as joining them: the same heap, whose canonical dump is written, or the
+/// same refusal.
+pub fn salvage_of_sound_parts_is_joining()
+    ensures { (limits : Limits) (parts : List (List ℕ)) (answer : Result HeapValue Refusal) → AllByRecursion (IsAccepted limits) parts
+        → SavesTo limits.max_item parts answer → JoinsTo parts answer }
+{}
+
+/// The salvage of parts comes to one thing, by the bytes that were handled: one heap, one least conflict, two sizes, or no part.
+pub fn what_is_saved_comes_to_one_thing()
+    ensures { (longest : ℕ) (parts : List (List ℕ)) (one other : Result HeapValue Refusal) → SavesTo longest parts one
+        → SavesTo longest parts other → one ≡ other }
+{}
+
+/// The saved facts of a part stand in it before its first fault; if it has none they are all that the part states.
+pub fn what_is_saved_stands_before_the_fault()
+    ensures faulty { (longest : ℕ) (bytes : List ℕ) (header : Option Header) (facts : List FactValue) (fault : PartFault)
+        → IsFirstFault longest bytes fault → StatesSoFar longest bytes header facts → StandsBefore longest bytes fault header facts }
+    ensures sound { (longest : ℕ) (bytes : List ℕ) (header : Option Header) (facts : List FactValue)
+        → HasNoFault longest bytes → StatesSoFar longest bytes header facts → IsAllOf bytes header facts }
 {}

@@ -4,8 +4,8 @@ ghost use Rattle.std.specs.Prelude.{◌≡◌};
 
 use hprof_devices::Device;
 use hprof_items::{Fact, Header, IdSize, Step, Version, read_sub};
-use hprof_values::{Basic, ConstantList, FieldList, IdList, StaticList};
 use hprof_stream::{Sink, SinkFault};
+use hprof_values::{Basic, ConstantList, FieldList, IdList, StaticList};
 use hprof_writing::{fits, write_fact};
 use std::alloc::{AllocError, Global};
 use std::test::Fail;

@@ -5,9 +5,8 @@ use crate::samples::{CLASS_100, heap_of};
 use hprof_edges::{
     Collect, Edge, EdgeSet, Via, class_edges, edge_to_class, field_edges, object_edges, sort_edges,
 };
-use hprof_heap::Heap;
-use hprof_known_layouts::{KnownLayouts, Reference, Wanted, known_layouts};
-use hprof_lookup::{find_class, find_object};
+use hprof_heap::{Heap, find_class, find_object};
+use hprof_layouts::{KnownLayouts, Reference, Wanted, known_layouts};
 use hprof_values::IdSize;
 use std::alloc::Global;
 use std::process::Abort;

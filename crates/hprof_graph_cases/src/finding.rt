@@ -2,13 +2,13 @@
 
 use crate::expecting::{equal, equal_at};
 use crate::samples::heap_of;
-use hprof_heap::{Heap, Table};
+use hprof_heap::{
+    ClassDump, Heap, ObjectDump, Table, class_name, find_class, find_object, id_size, table_facts,
+    table_len,
+};
 use hprof_items::{Fact, IdSize};
 use hprof_layouts::{Fields, fields};
 use hprof_values::{Basic, ConstantList, FieldList, IdList, StaticList};
-use hprof_lookup::{
-    ClassDump, ObjectDump, class_name, find_class, find_object, id_size, table_facts, table_len,
-};
 use std::alloc::Global;
 use std::process::Abort;
 use std::test::*;

@@ -2,9 +2,8 @@
 
 use crate::expecting::{equal, equal_at};
 use crate::samples::{CLASS_99, CLASS_99_BELOW, CLASS_100, INSTANCE_200, heap_of};
-use hprof_heap::Heap;
-use hprof_known_layouts::{KnownLayouts, Reference, Wanted, known_layouts, refers};
-use hprof_lookup::find_class;
+use hprof_heap::{Heap, find_class};
+use hprof_layouts::{KnownLayouts, Reference, Wanted, known_layouts, refers};
 use hprof_values::{Basic, IdSize};
 use std::alloc::Global;
 use std::process::Abort;

@@ -9,3 +9,6 @@ pub mod TableOrder
 pub mod TableRows
 pub mod JoinTables
 pub mod JoinHeaps
+pub mod ClassFacts
+pub mod ObjectFacts
+pub mod NameFacts

@@ -5,3 +5,10 @@ pub mod ClassName
 pub mod Steady
 pub mod Gathering
 pub mod Join
+pub mod HeapFacts
+pub mod Classes
+pub mod ClassDump
+pub mod Objects
+pub mod ObjectDump
+pub mod Names
+pub mod Found

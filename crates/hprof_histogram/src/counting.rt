@@ -3,15 +3,14 @@
 ghost use Rattle.std.specs.Prelude.{◌≡◌, length, IfOk, IfSome};
 ghost use Rattle.std.specs.Option.{option_map};
 ghost use Rattle.hprof_items.specs.FactValue.{value_of};
-ghost use Rattle.hprof_lookup.specs.HeapFacts.{facts_of, size_of};
+ghost use Rattle.hprof_heap.specs.HeapFacts.{facts_of, size_of};
 ghost use Rattle.hprof_histogram.specs.Histogram.{object_kind, size_of_object};
 ghost use Rattle.hprof_histogram.specs.CountedKinds.{IsTally};
 
 use crate::counted_kinds::CountedKinds;
 use crate::row::Kind;
-use hprof_heap::{Heap, Table};
+use hprof_heap::{Heap, Table, holds_of_heap, id_size, table_facts};
 use hprof_items::Fact;
-use hprof_lookup::{holds_of_heap, id_size, table_facts};
 use hprof_values::IdSize;
 use std::alloc::{AllocError, Global};
 

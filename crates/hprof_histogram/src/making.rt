@@ -1,15 +1,14 @@
 //! The histogram of a heap.
 
 ghost use Rattle.std.specs.Prelude.{IfOk};
-ghost use Rattle.hprof_lookup.specs.HeapFacts.{facts_of, size_of};
+ghost use Rattle.hprof_heap.specs.HeapFacts.{facts_of, size_of};
 ghost use Rattle.hprof_histogram.specs.Histogram.{IsHistogram};
 
 use crate::counting::count_objects;
 use crate::gathering::rows_of;
 use crate::row::Row;
 use crate::sorting::sort_rows;
-use hprof_heap::Heap;
-use hprof_lookup::holds_of_heap;
+use hprof_heap::{Heap, holds_of_heap};
 use std::alloc::{AllocError, Global};
 
 /// Returns the class histogram of a heap: the number of objects of each kind, and the number of their bytes.

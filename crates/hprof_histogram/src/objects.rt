@@ -3,14 +3,13 @@
 ghost use Rattle.std.specs.Prelude.{◌≡◌, ◌<◌, ◌^◌, false, true, IfOk, MatchOption, map};
 ghost use Rattle.std.specs.List.Sorted.{IsPermutation, IsSorted};
 ghost use Rattle.hprof_items.specs.FactValue.{value_of};
-ghost use Rattle.hprof_lookup.specs.HeapFacts.{facts_of, size_of};
+ghost use Rattle.hprof_heap.specs.HeapFacts.{facts_of, size_of};
 ghost use Rattle.hprof_histogram.specs.Histogram.{is_kind, object_kind, of_kind, size_of_object};
 ghost use Rattle.hprof_histogram.specs.Objects.{AreObjects, object_cmp, sized_of};
 
 use crate::row::Kind;
-use hprof_heap::{Heap, Table};
+use hprof_heap::{Heap, Table, holds_of_heap, id_size, table_facts};
 use hprof_items::Fact;
-use hprof_lookup::{holds_of_heap, id_size, table_facts};
 use hprof_values::IdSize;
 use std::alloc::{AllocError, Global};
 use std::cmp::Ordering;

@@ -10,7 +10,10 @@ ghost use Rattle.hprof_items.specs.Fronts.{class_front};
 ghost use Rattle.hprof_items.specs.FactValue.{value_of, ListsHave};
 
 use crate::fact::Fact;
-use hprof_values::{BoundedBytes, ConstantList, EntryKind, FieldList, IdSize, StaticList, Stop, list_at, number::{split_id, split_u32}};
+use hprof_values::number::{split_id, split_u32};
+use hprof_values::{
+    BoundedBytes, ConstantList, EntryKind, FieldList, IdSize, StaticList, Stop, list_at,
+};
 
 /// The fields of a class in front of its lists.
 #[derive(Clone, Copy)]

@@ -23,10 +23,9 @@ pub use head_reading::read_head;
 pub use header::{HEADER_LEN, Header, Version};
 pub use header_reading::{SIZED_LEN, TEXT_LEN, TEXT_V101, TEXT_V102, read_header};
 pub use hprof_values::{
-    Constant, ConstantList, Constants, Entry, EntryKind, Field, FieldList, IdList, Ids, OwnFields,
-    Static, StaticList, Statics, Value,
+    Basic, Constant, ConstantList, Constants, Entry, EntryKind, Field, FieldList, IdList, IdSize,
+    Ids, OwnFields, Reason, RecordTag, Root, Static, StaticList, Statics, Stop, SubTag, Value,
 };
-pub use hprof_values::{Basic, IdSize, Reason, RecordTag, Root, Stop, SubTag};
 pub use record_reading::{read_body, read_body_into};
 pub use step::Step;
 pub use sub_reading::{read_sub, read_sub_into};

@@ -10,7 +10,8 @@ ghost use Rattle.hprof_items.specs.Fronts.{instance_front, obj_array_front, prim
 ghost use Rattle.hprof_items.specs.FactValue.{value_of, ListsHave};
 
 use crate::fact::Fact;
-use hprof_values::{Basic, BoundedBytes, IdList, IdSize, Reason, Stop, number::{byte_at, id_at, ids_len, split_id, split_u32, values_len}};
+use hprof_values::number::{byte_at, id_at, ids_len, split_id, split_u32, values_len};
+use hprof_values::{Basic, BoundedBytes, IdList, IdSize, Reason, Stop};
 
 /// The fields of an instance in front of its bytes.
 #[derive(Clone, Copy)]

@@ -11,7 +11,8 @@ ghost use Rattle.hprof_items.specs.RecordBody.{is_legal_body, record_body, recor
 
 use crate::fact::Fact;
 use crate::head::{Head, HeadKind};
-use hprof_values::{IdList, IdSize, Reason, RecordTag, number::{ids_len, split_id, split_u32}};
+use hprof_values::number::{ids_len, split_id, split_u32};
+use hprof_values::{IdList, IdSize, Reason, RecordTag};
 
 /// Reads a class that was loaded.
 #[tactic(auto, unfolding(crate::specs::RecordBody::record_at))]

@@ -2,8 +2,8 @@
 use Rattle.std.specs.Prelude.{◌≢◌}
 use Rattle.std.proofs.Common.{◌≡◌, ℕ, List, [], ◌∷◌, ◌++◌, refl, sym, ap, subst, ◌∙◌}
 use Rattle.hprof_items.specs.FactValue.{FactValue}
-use Rattle.hprof_lookup.specs.Classes.{ClassValue, HasDump}
-use Rattle.hprof_lookup.proofs.ClassFacts.{OneDumpEach}
+use Rattle.hprof_heap.specs.Classes.{ClassValue, HasDump}
+use Rattle.hprof_heap.proofs.ClassFacts.{OneDumpEach}
 use Rattle.hprof_layouts.specs.Chain.{IsChain}
 
 module _ (facts : List FactValue) where

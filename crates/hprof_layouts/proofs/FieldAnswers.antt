@@ -10,9 +10,9 @@ use Rattle.hprof_items.specs.FactValue.{PrimArray}
 use Rattle.hprof_rows.specs.declared.key.Key.TheVariants as keys
 use Rattle.hprof_rows.specs.Conflict.{IsConsistent}
 use Rattle.hprof_rows.specs.Facts.{Has}
-use Rattle.hprof_lookup.specs.Objects.{IsObject, HasInstance, HasNoObject}
-use Rattle.hprof_lookup.proofs.ClassFacts.{OneDumpEach, one_dump_each}
-use Rattle.hprof_lookup.proofs.ObjectFacts.{Found, NotFound, look_up}
+use Rattle.hprof_heap.specs.Objects.{IsObject, HasInstance, HasNoObject}
+use Rattle.hprof_heap.proofs.ClassFacts.{OneDumpEach, one_dump_each}
+use Rattle.hprof_heap.proofs.ObjectFacts.{Found, NotFound, look_up}
 use Rattle.hprof_layouts.specs.declared.slot.Slot.{Slot}
 use Rattle.hprof_layouts.specs.declared.field_value.Fields.{Fields}
 use Rattle.hprof_layouts.specs.Layout.{LayoutValue, Known, IsLayout}

@@ -5,8 +5,8 @@ use Rattle.std.proofs.Common.{inl, inr, arith, length-append}
 use Rattle.std.proofs.lemmas.List.{append-nil}
 use Rattle.std.proofs.lemmas.Bool.{cases_order}
 use Rattle.hprof_items.specs.FactValue.{FactValue}
-use Rattle.hprof_lookup.specs.Classes.{ClassValue}
-use Rattle.hprof_lookup.proofs.ClassFacts.{OneDumpEach, Found, NotFound, look_up}
+use Rattle.hprof_heap.specs.Classes.{ClassValue}
+use Rattle.hprof_heap.proofs.ClassFacts.{OneDumpEach, Found, NotFound, look_up}
 use Rattle.hprof_layouts.specs.Chain.{IsChain}
 use Rattle.hprof_layouts.specs.Layout.{LayoutValue, Known, Missing, Cyclic, IsLayout, IsCyclic, slots_of}
 use Rattle.hprof_layouts.proofs.Chains.{Stops, First, Second, beside, chain_more, stops_zero, stops_missing, stopped_list, stopped_end}

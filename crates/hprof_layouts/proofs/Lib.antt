@@ -5,3 +5,17 @@ pub mod Layouts
 pub mod MoreFacts
 pub mod SlotValues
 pub mod FieldAnswers
+pub mod MoreDumps
+pub mod Places
+pub mod ReferenceSets
+pub mod Outlines
+pub mod Joined
+pub mod KnownPlans
+pub mod Wakings
+pub mod Maps
+pub mod Gathered
+pub mod Hands
+pub mod Comings
+pub mod Pushes
+pub mod Laid
+pub mod TableDumps

@@ -2,7 +2,7 @@
 use Rattle.std.proofs.Common.{ℕ, List, [], ◌∷◌}
 use Rattle.hprof_items.specs.FactValue.{FactValue}
 use Rattle.hprof_rows.specs.Facts.{Has}
-use Rattle.hprof_lookup.specs.Classes.{ClassValue, fact_of_class}
+use Rattle.hprof_heap.specs.Classes.{ClassValue, fact_of_class}
 use Rattle.hprof_layouts.specs.declared.slot.Slot.{Slot}
 use Rattle.hprof_layouts.specs.Chain.{IsChain}
 use Rattle.hprof_layouts.specs.Layout.{IsKnown, IsCyclic}

@@ -10,7 +10,7 @@ use Rattle.std.proofs.lemmas.Map.Made.{length-le_from_is_member}
 use Rattle.std.proofs.lemmas.List.{length-map}
 use Rattle.hprof_items.specs.FactValue.{FactValue, Class}
 use Rattle.hprof_rows.specs.Facts.{Has}
-use Rattle.hprof_lookup.specs.Classes.{ClassValue, HasDump, fact_of_class}
+use Rattle.hprof_heap.specs.Classes.{ClassValue, HasDump, fact_of_class}
 use Rattle.hprof_layouts.specs.Chain.{IsChain}
 use Rattle.hprof_layouts.specs.Layout.{IsCyclic}
 

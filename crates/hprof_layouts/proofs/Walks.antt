@@ -8,7 +8,7 @@ use Rattle.hprof_rows.specs.declared.table.Table.TheVariants as tables
 use Rattle.hprof_rows.specs.Facts.{Has}
 use Rattle.hprof_rows.specs.Tables.{stands_in, number_of_table, facts_of_table}
 use Rattle.hprof_rows.proofs.Picking.{picked}
-use Rattle.hprof_lookup.specs.Classes.{ClassValue, HasDump, HasNoDump, fact_of_class}
+use Rattle.hprof_heap.specs.Classes.{ClassValue, HasDump, HasNoDump, fact_of_class}
 use Rattle.hprof_layouts.specs.declared.slot.Slot.{Slot}
 use Rattle.hprof_layouts.specs.Chain.{IsChain}
 use Rattle.hprof_layouts.specs.Layout.{HasChain, IsKnown, IsMissing, IsCyclic, own_slots, slots_of}

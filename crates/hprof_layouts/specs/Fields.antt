@@ -5,7 +5,7 @@ use Rattle.hprof_values.specs.declared.ids.IdSize.{IdSize}
 use Rattle.hprof_values.specs.declared.basic.Basic.{Basic}
 use Rattle.hprof_values.specs.Basic.{width_of_basic}
 use Rattle.hprof_items.specs.FactValue.{FactValue}
-use Rattle.hprof_lookup.specs.Objects.{HasInstance, HasElements, HasNumbers, HasNoObject}
+use Rattle.hprof_heap.specs.Objects.{HasInstance, HasElements, HasNumbers, HasNoObject}
 use Rattle.hprof_layouts.specs.declared.slot.Slot.{Slot}
 use Rattle.hprof_layouts.specs.declared.field_value.FieldValue.{FieldValue}
 use Rattle.hprof_layouts.specs.declared.field_value.Fields.{Fields}

@@ -10,7 +10,7 @@ use Rattle.hprof_layouts.specs.declared.slot.Layout.{Layout}
 use Rattle.hprof_layouts.specs.declared.slot.Layout.TheVariants as layouts
 use Rattle.hprof_layouts.specs.declared.chain.ChainEnd.{ChainEnd}
 use Rattle.hprof_layouts.specs.declared.chain.ChainEnd.TheVariants as ends
-use Rattle.hprof_lookup.specs.Classes.{ClassValue, HasNoDump}
+use Rattle.hprof_heap.specs.Classes.{ClassValue, HasNoDump}
 use Rattle.hprof_layouts.specs.Chain.{IsChain}
 
 -- the slot of an own field of a class

@@ -1,3 +1,10 @@
 pub mod Chain
 pub mod Layout
 pub mod Fields
+pub mod Refers
+pub mod WaitingLists
+pub mod OwnFields
+pub mod Plan
+pub mod Known
+pub mod References
+pub mod Waking

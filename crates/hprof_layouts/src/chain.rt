@@ -1,11 +1,10 @@
 //! The chain of superclasses: a class, its superclass, and so on.
 
 ghost use Rattle.std.specs.Prelude.{◌≡◌, ◌⊎◌};
-ghost use Rattle.hprof_lookup.specs.HeapFacts.{facts_of};
+ghost use Rattle.hprof_heap.specs.HeapFacts.{facts_of};
 ghost use Rattle.hprof_layouts.specs.Layout.{EndsAs};
 
-use hprof_heap::{Heap, Table};
-use hprof_lookup::{find_class, table_len};
+use hprof_heap::{Heap, Table, find_class, table_len};
 
 /// The end of the chain of a class.
 #[derive(Clone, Copy, Debug, PartialEq, Eq)]

@@ -1,14 +1,13 @@
 //! The layout of a class.
 
 ghost use Rattle.std.specs.Prelude.{◌≡◌, ◌++◌, IfOk, OnOk};
-ghost use Rattle.hprof_lookup.specs.HeapFacts.{facts_of};
-ghost use Rattle.hprof_lookup.specs.ClassDump.{class_value};
+ghost use Rattle.hprof_heap.specs.HeapFacts.{facts_of};
+ghost use Rattle.hprof_heap.specs.ClassDump.{class_value};
 ghost use Rattle.hprof_layouts.specs.Layout.{HasChain, IsKnown, IsLayout, layout_value, own_slots};
 
 use crate::chain::{ChainEnd, chain_end};
 use crate::slot::{Layout, Slot};
-use hprof_heap::Heap;
-use hprof_lookup::{ClassDump, find_class};
+use hprof_heap::{ClassDump, Heap, find_class};
 use std::alloc::{AllocError, Global};
 
 /// Puts the slots of a class's own fields behind others.

@@ -1,6 +1,6 @@
 //! Laws of the definitions. None of these functions does anything.
 
-ghost use Rattle.std.specs.Prelude.{◌≡◌, List, ℕ};
+ghost use Rattle.std.specs.Prelude.{◌≡◌, List, ℕ, ◌↔◌};
 ghost use Rattle.hprof_values.specs.declared.ids.IdSize.{IdSize};
 ghost use Rattle.hprof_items.specs.FactValue.{FactValue};
 ghost use Rattle.hprof_rows.specs.Conflict.{IsConsistent};
@@ -8,6 +8,9 @@ ghost use Rattle.hprof_rows.specs.Facts.{Has};
 ghost use Rattle.hprof_layouts.specs.declared.slot.Slot.{Slot};
 ghost use Rattle.hprof_layouts.specs.Fields.{AreFields, FieldsValue};
 ghost use Rattle.hprof_layouts.specs.Layout.{LayoutValue, IsCyclic, IsKnown, IsLayout};
+ghost use Rattle.hprof_heap.specs.Classes.{ClassValue, HasDump};
+ghost use Rattle.hprof_layouts.specs.declared.known.KnownLayouts.{KnownLayouts};
+ghost use Rattle.hprof_layouts.specs.Known.{Knows};
 
 /// A class has exactly one layout.
 pub fn one_layout()
@@ -29,4 +32,10 @@ pub fn one_answer_of_fields()
     ensures exists { (ids : IdSize) (facts : List FactValue) (object : ℕ) → (fields : FieldsValue) × AreFields ids facts object fields }
     ensures once { (ids : IdSize) (facts : List FactValue) (object : ℕ) (one other : FieldsValue) → IsConsistent facts
         → AreFields ids facts object one → AreFields ids facts object other → one ≡ other }
+{}
+
+/// The known layouts depend on class dumps alone.
+pub fn dumps_decide_what_is_known()
+    ensures { (ids : IdSize) (facts more : List FactValue) (known : KnownLayouts)
+        → ((dump : ClassValue) → HasDump more dump ↔ HasDump facts dump) → Knows ids facts known → Knows ids more known }
 {}

@@ -1,15 +1,14 @@
 //! The fields of an object.
 
 ghost use Rattle.std.specs.Prelude.{IfOk};
-ghost use Rattle.hprof_lookup.specs.HeapFacts.{facts_of, size_of};
+ghost use Rattle.hprof_heap.specs.HeapFacts.{facts_of, size_of};
 ghost use Rattle.hprof_layouts.specs.Fields.{AreFields, AreInstanceFields, fields_value};
 
 use crate::class_layout::layout;
 use crate::cutting::{cut, width_of_slots};
 use crate::field_value::Fields;
 use crate::slot::Layout;
-use hprof_heap::Heap;
-use hprof_lookup::{ObjectDump, find_object, id_size};
+use hprof_heap::{Heap, ObjectDump, find_object, id_size};
 use std::alloc::{AllocError, Global};
 
 /// Returns the fields of an instance of a class that has these bytes.

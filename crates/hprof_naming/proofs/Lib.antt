@@ -1,2 +1,6 @@
 pub mod FirstLoads
 pub mod Namings
+mod FirstNamed
+pub mod Lookups
+pub mod OneText
+mod Found

@@ -7,7 +7,7 @@ use Rattle.hprof_text.proofs.Prints.{one_printed}
 use Rattle.hprof_text.proofs.Decided.{printed_exists}
 use Rattle.hprof_items.specs.FactValue.{FactValue}
 use Rattle.hprof_rows.specs.Conflict.{IsConsistent}
-use Rattle.hprof_lookup.proofs.NameFacts.{Lookup, Found, NotFound, look_up, one_name}
+use Rattle.hprof_heap.proofs.NameFacts.{Lookup, Found, NotFound, look_up, one_name}
 use Rattle.hprof_naming.specs.Naming.{IsNameText, IsLabelOf, IsLabel, Naming, IsNaming}
 use Rattle.hprof_naming.proofs.FirstLoads.{class_name_exists, one_class_name}
 

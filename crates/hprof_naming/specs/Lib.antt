@@ -1,3 +1,5 @@
 pub mod Naming
 pub mod ClassNames
 pub mod TypeWord
+pub mod Units
+pub mod Texts

@@ -4,7 +4,7 @@ use Rattle.hprof_text.specs.Identifier.{id_digits}
 use Rattle.hprof_text.specs.Printed.{IsPrinted}
 use Rattle.hprof_items.specs.FactValue.{FactValue}
 use Rattle.hprof_heap.specs.ClassName.{NamesClass}
-use Rattle.hprof_lookup.specs.Names.{HasName, HasNoName}
+use Rattle.hprof_heap.specs.Names.{HasName, HasNoName}
 
 -- the bytes of the name in print; of a name that none of the facts gives, `\?` and its identifier
 abbrev pub IsNameText : List FactValue → ℕ → List ℕ → Type 0

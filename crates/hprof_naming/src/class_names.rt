@@ -5,12 +5,11 @@ ghost use Rattle.std.specs.Ordering.{nat_cmp};
 ghost use Rattle.std.specs.BTreeMap.{get};
 ghost use Rattle.hprof_items.specs.FactValue.{FactValue, value_of};
 ghost use Rattle.hprof_heap.specs.ClassName.{NamesClass};
-ghost use Rattle.hprof_lookup.specs.HeapFacts.{facts_of};
+ghost use Rattle.hprof_heap.specs.HeapFacts.{facts_of};
 ghost use Rattle.hprof_naming.specs.ClassNames.{AreClassNames, IsBelow, NotesFact};
 
-use hprof_heap::{Heap, Table};
+use hprof_heap::{Heap, Table, table_facts};
 use hprof_items::Fact;
-use hprof_lookup::table_facts;
 use std::alloc::{AllocError, Global};
 use std::collections::BTreeMap;
 

@@ -1,11 +1,16 @@
 //! Names, classes and types as reports print them.
+//! The contents of objects as a person reads them: the text of strings and of arrays.
 #![tactic(auto)]
 
 mod class_names;
 pub mod laws;
 mod naming;
+mod object_text;
+mod text;
 mod types;
 
 pub use class_names::ClassNames;
 pub use naming::{class_label, label_of, name_text};
+pub use object_text::text_of;
+pub use text::{Coding, Text, Units};
 pub use types::type_word;

@@ -2,11 +2,10 @@
 
 ghost use Rattle.std.specs.Prelude.{◌≡◌, ◌++◌, IfOk, codes, string_bytes};
 ghost use Rattle.hprof_text.specs.Identifier.{id_digits};
-ghost use Rattle.hprof_lookup.specs.HeapFacts.{facts_of};
+ghost use Rattle.hprof_heap.specs.HeapFacts.{facts_of};
 ghost use Rattle.hprof_naming.specs.Naming.{IsLabel, IsLabelOf, IsNameText, IsNaming, Naming};
 
-use hprof_heap::Heap;
-use hprof_lookup::{class_name, find_name, holds_of_heap};
+use hprof_heap::{Heap, class_name, find_name, holds_of_heap};
 use hprof_text::printed;
 use std::alloc::{AllocError, Global};
 

@@ -2,10 +2,9 @@
 
 use crate::expecting::{equal, equal_at};
 use hprof_devices::WriteFault;
-use hprof_engine::{Joined, ToolFault};
+use hprof_engine::{FaultedPart, Joined, ToolFault};
 use hprof_heap::Key;
 use hprof_items::Reason;
-use hprof_salvage::FaultedPart;
 use hprof_stream::{PartFault, SinkFault};
 use std::test::Fail;
 

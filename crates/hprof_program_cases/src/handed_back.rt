@@ -3,12 +3,10 @@
 use crate::expecting::{equal, equal_bytes};
 use crate::samples::readers_of;
 use hprof_devices::Device;
-use hprof_dump101::join101_kept;
-use hprof_engine::{Joined, join_kept, read_heap};
+use hprof_engine::{Joined, join_kept, join101_kept, read_heap, salvage_kept};
 use hprof_fixtures::{HEADER, PLAIN, PLAIN_101, PLAIN_DUMP, bytes_of};
 use hprof_heap::{Gatherer, Heap};
 use hprof_naming::{ClassNames, class_label, label_of, name_text};
-use hprof_salvage::salvage_kept;
 use hprof_stream::Limits;
 use std::process::Abort;
 use std::test::Fail;

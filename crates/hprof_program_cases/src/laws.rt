@@ -1,7 +1,7 @@
 //! The laws of what is made of parts.
 
-use hprof_dump101::{Dump101, laws as dump101_laws};
-use hprof_engine::Dump;
+use hprof_dump::laws as dump101_laws;
+use hprof_engine::{Dump, Dump101};
 use hprof_naming::laws as naming_laws;
 use hprof_reports::Check;
 use hprof_tool::laws;

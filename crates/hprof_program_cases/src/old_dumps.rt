@@ -3,7 +3,7 @@
 use crate::expecting::equal_at;
 use crate::samples::readers_of;
 use hprof_devices::Device;
-use hprof_dump101::{DumpFault, write_v101};
+use hprof_dump::{DumpFault, write_v101};
 use hprof_engine::read_heap;
 use hprof_fixtures::{HEADER, NAME_1_A, PLAIN, PLAIN_101, bytes_of, record};
 use hprof_heap::{Gatherer, Heap};

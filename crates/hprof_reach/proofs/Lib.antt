@@ -6,3 +6,5 @@ pub mod SomeWalk
 pub mod SomeEdges
 pub mod SomeReach
 pub mod RootLists
+pub mod Putting
+pub mod Froms

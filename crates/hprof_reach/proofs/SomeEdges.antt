@@ -6,10 +6,10 @@ use Rattle.hprof_values.specs.declared.ids.IdSize.{IdSize}
 use Rattle.hprof_items.specs.FactValue.{FactValue, Name, Load, Unload, Frame, Trace, Start, End, Rooted, Class, Instance, ObjArray, PrimArray}
 use Rattle.hprof_rows.specs.declared.key.Key.TheVariants as keys
 use Rattle.hprof_rows.specs.Conflict.{IsConsistent}
-use Rattle.hprof_lookup.proofs.ClassFacts.{one_dump_each}
-use Rattle.hprof_lookup.proofs.ClassFacts as classes
-use Rattle.hprof_lookup.proofs.ObjectFacts.{IsOnlyObject}
-use Rattle.hprof_lookup.proofs.ObjectFacts as objects
+use Rattle.hprof_heap.proofs.ClassFacts.{one_dump_each}
+use Rattle.hprof_heap.proofs.ClassFacts as classes
+use Rattle.hprof_heap.proofs.ObjectFacts.{IsOnlyObject}
+use Rattle.hprof_heap.proofs.ObjectFacts as objects
 use Rattle.hprof_layouts.specs.Fields.{AreFields, FieldsValue, Values, Missing, Cyclic, WidthDiffers, NotAnInstance, NoObject}
 use Rattle.hprof_layouts.proofs.FieldAnswers.{fields_exist}
 use Rattle.hprof_edges.specs.declared.edge.Edge.{Edge}

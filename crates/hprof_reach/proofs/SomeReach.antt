@@ -8,9 +8,9 @@ use Rattle.hprof_values.specs.declared.ids.IdSize.{IdSize}
 use Rattle.hprof_items.specs.FactValue.{FactValue, Name, Load, Unload, Frame, Trace, Start, End, Rooted, Class, Instance, ObjArray, PrimArray}
 use Rattle.hprof_rows.specs.Conflict.{IsConsistent}
 use Rattle.hprof_rows.specs.Facts.{Has}
-use Rattle.hprof_lookup.specs.Objects.{IsObject}
-use Rattle.hprof_lookup.proofs.ClassFacts as classes
-use Rattle.hprof_lookup.proofs.ObjectFacts as objects
+use Rattle.hprof_heap.specs.Objects.{IsObject}
+use Rattle.hprof_heap.proofs.ClassFacts as classes
+use Rattle.hprof_heap.proofs.ObjectFacts as objects
 use Rattle.hprof_edges.specs.declared.edge.Edge.{Edge}
 use Rattle.hprof_edges.specs.Edges.{IsEdge}
 use Rattle.hprof_edges.proofs.EdgeMembers.{one_there}

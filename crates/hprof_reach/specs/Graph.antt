@@ -1,7 +1,7 @@
 -- What holds of a heap that is gone over as a graph.
 use Rattle.std.specs.Prelude.{◌↔◌, ℕ, List, Contains}
-use Rattle.hprof_lookup.specs.HeapFacts.{facts_of, size_of}
-use Rattle.hprof_known_layouts.specs.Known.{Knows}
+use Rattle.hprof_heap.specs.HeapFacts.{facts_of, size_of}
+use Rattle.hprof_layouts.specs.Known.{Knows}
 use Rattle.hprof_search.specs.Numbered.{nodes_in}
 use Rattle.hprof_reach.specs.declared.heap_graph.HeapGraph.{HeapGraph}
 use Rattle.hprof_reach.specs.Nodes.{IsClassNode}

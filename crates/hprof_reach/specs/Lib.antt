@@ -3,3 +3,5 @@ pub mod Nodes
 pub mod Graph
 pub mod KeptTargets
 pub mod Roots
+pub mod Index
+pub mod Referring

@@ -2,8 +2,8 @@
 use Rattle.std.specs.Prelude.{◌≡◌, ◌≢◌, ℕ, List}
 use Rattle.hprof_items.specs.FactValue.{FactValue}
 use Rattle.hprof_rows.specs.Facts.{Has}
-use Rattle.hprof_lookup.specs.Classes.{ClassValue, HasDump}
-use Rattle.hprof_lookup.specs.Objects.{IsObject}
+use Rattle.hprof_heap.specs.Classes.{ClassValue, HasDump}
+use Rattle.hprof_heap.specs.Objects.{IsObject}
 
 -- it has a class dump
 abbrev pub IsClassNode : List FactValue → ℕ → Type 0

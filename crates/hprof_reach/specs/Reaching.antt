@@ -6,8 +6,8 @@ use Rattle.hprof_values.specs.declared.root.Root.{Root}
 use Rattle.hprof_values.specs.declared.root.Root.TheVariants as roots
 use Rattle.hprof_items.specs.FactValue.{FactValue, Rooted}
 use Rattle.hprof_rows.specs.Facts.{Has}
-use Rattle.hprof_lookup.specs.Classes.{ClassValue, HasDump}
-use Rattle.hprof_lookup.specs.Objects.{IsObject}
+use Rattle.hprof_heap.specs.Classes.{ClassValue, HasDump}
+use Rattle.hprof_heap.specs.Objects.{IsObject}
 use Rattle.hprof_edges.specs.declared.edge.Via.{Via}
 use Rattle.hprof_edges.specs.Edges.{IsEdge}
 use Rattle.hprof_search.specs.Search.{IsSearch}

@@ -7,7 +7,7 @@ use crate::nodes::class_nodes;
 use crate::targets::Targets;
 use hprof_edges::{Near, known_edges, known_object_edges};
 use hprof_heap::Heap;
-use hprof_known_layouts::{KnownLayouts, Reference, known_layouts};
+use hprof_layouts::{KnownLayouts, Reference, known_layouts};
 use hprof_search::{Graph, Numbered};
 use std::alloc::{AllocError, Global};
 use std::mem::swap;
@@ -47,7 +47,7 @@ pub fn graph_of(alloc: Global, heap: &Heap) -> Result<HeapGraph<'_>, AllocError>
 
 impl<'h> HeapGraph<'h> {
     ghost use Rattle.std.specs.Prelude.{◌≡◌, ◌↔◌, ◌++◌, List, [], map, OnOk};
-    ghost use Rattle.hprof_lookup.specs.HeapFacts.{facts_of, size_of};
+    ghost use Rattle.hprof_heap.specs.HeapFacts.{facts_of, size_of};
     ghost use Rattle.hprof_edges.specs.declared.edge.Edge.{Edge};
     ghost use Rattle.hprof_edges.specs.Collecting.{PutBehind};
     ghost use Rattle.hprof_edges.specs.Edges.{IsEdge};
@@ -86,7 +86,7 @@ impl<'h> HeapGraph<'h> {
 }
 
 impl<'h> Graph for HeapGraph<'h> {
-    ghost use Rattle.hprof_lookup.specs.HeapFacts.{facts_of, size_of};
+    ghost use Rattle.hprof_heap.specs.HeapFacts.{facts_of, size_of};
     ghost use Rattle.hprof_reach.specs.Graph.{TellsEdges};
     ghost use Rattle.hprof_reach.specs.Reaching.{Leads};
 

@@ -2,15 +2,14 @@
 
 ghost use Rattle.std.specs.Prelude.{◌≡◌, ◌≢◌, ◌↔◌, ◌⊎◌, ℕ, IfOk, OnOk, Contains};
 ghost use Rattle.std.specs.List.Sorted.{IsStrictlyIncreasing};
-ghost use Rattle.hprof_lookup.specs.HeapFacts.{facts_of};
-ghost use Rattle.hprof_lookup.specs.ObjectDump.{fact_of_object};
-ghost use Rattle.hprof_lookup.specs.Objects.{IsObject};
+ghost use Rattle.hprof_heap.specs.HeapFacts.{facts_of};
+ghost use Rattle.hprof_heap.specs.ObjectDump.{fact_of_object};
+ghost use Rattle.hprof_heap.specs.Objects.{IsObject};
 ghost use Rattle.hprof_reach.specs.Nodes.{IsClassNode, IsObjectNode};
 ghost use Rattle.hprof_reach.specs.Reaching.{IsNode};
 
-use hprof_heap::{Heap, Table};
+use hprof_heap::{Heap, ObjectDump, Table, table_facts, table_len, to_class_dump, to_object_dump};
 use hprof_items::Fact;
-use hprof_lookup::{ObjectDump, table_facts, table_len, to_class_dump, to_object_dump};
 use std::alloc::{AllocError, Global};
 
 /// Puts an identifier behind others, except 0.

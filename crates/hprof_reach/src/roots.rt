@@ -2,13 +2,12 @@
 
 ghost use Rattle.std.specs.Prelude.{◌≡◌, ◌++◌, IfOk, OnOk};
 ghost use Rattle.hprof_items.specs.FactValue.{value_of};
-ghost use Rattle.hprof_lookup.specs.HeapFacts.{facts_of};
+ghost use Rattle.hprof_heap.specs.HeapFacts.{facts_of};
 ghost use Rattle.hprof_reach.specs.Roots.{AreRootsOf, root_in, roots_here};
 
 use crate::starts::root_id;
-use hprof_heap::{Heap, Table};
+use hprof_heap::{Heap, Table, table_facts};
 use hprof_items::Fact;
-use hprof_lookup::table_facts;
 use hprof_values::Root;
 use std::alloc::{AllocError, Global};
 

@@ -1,12 +1,11 @@
 //! The objects that roots keep alive.
 
 ghost use Rattle.std.specs.Prelude.{◌≡◌, ◌↔◌, ℕ, IfOk, Contains};
-ghost use Rattle.hprof_lookup.specs.HeapFacts.{facts_of};
+ghost use Rattle.hprof_heap.specs.HeapFacts.{facts_of};
 ghost use Rattle.hprof_reach.specs.Reaching.{IsRooted, root_id};
 
-use hprof_heap::{Heap, Table};
+use hprof_heap::{Heap, Table, table_facts, table_len};
 use hprof_items::Fact;
-use hprof_lookup::{table_facts, table_len};
 use hprof_values::Root;
 use std::alloc::{AllocError, Global};
 

@@ -1,7 +1,7 @@
 //! The targets of edges.
 
 use hprof_edges::{Collect, Edge};
-use hprof_known_layouts::Wanted;
+use hprof_layouts::Wanted;
 use std::alloc::AllocError;
 
 /// The targets of edges that were put, in that order.

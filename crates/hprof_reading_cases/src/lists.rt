@@ -1,7 +1,9 @@
 //! Lists of identifiers and of a class's entries.
 
 use crate::expecting::{equal, equal_at};
-use hprof_values::{Basic, Constant, ConstantList, Field, FieldList, IdList, IdSize, Static, StaticList, Value};
+use hprof_values::{
+    Basic, Constant, ConstantList, Field, FieldList, IdList, IdSize, Static, StaticList, Value,
+};
 use std::process::Abort;
 use std::test::*;
 

@@ -4,3 +4,13 @@ pub mod CheckLines
 pub mod TextWriting
 pub mod ObjectParts
 pub mod PathTold
+pub mod ClassLists
+pub mod UnitCounts
+pub mod PrintedPieces
+pub mod KnownChains
+pub mod Places
+pub mod Finding
+pub mod LeastOf
+pub mod SomeRoots
+pub mod SomeWhy
+pub mod WhyTexts

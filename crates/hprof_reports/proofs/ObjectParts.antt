@@ -4,13 +4,13 @@ use Rattle.std.specs.Prelude.{IfNone, IfSome}
 use Rattle.std.specs.Option.{option_map}
 use Rattle.hprof_items.specs.FactValue.{FactValue}
 use Rattle.hprof_rows.specs.Facts.{Has}
-use Rattle.hprof_lookup.specs.declared.class_dump.ClassDump.{ClassDump}
-use Rattle.hprof_lookup.specs.declared.object_dump.ObjectDump.{ObjectDump}
-use Rattle.hprof_lookup.specs.ClassDump.{class_value}
-use Rattle.hprof_lookup.specs.Classes.{HasDump, HasNoDump}
-use Rattle.hprof_lookup.specs.ObjectDump.{fact_of_object}
-use Rattle.hprof_lookup.specs.Objects.{IsObject, HasNoObject}
-use Rattle.hprof_lookup.specs.Found.{IsClassFound, IsObjectFound}
+use Rattle.hprof_heap.specs.declared.class_dump.ClassDump.{ClassDump}
+use Rattle.hprof_heap.specs.declared.object_dump.ObjectDump.{ObjectDump}
+use Rattle.hprof_heap.specs.ClassDump.{class_value}
+use Rattle.hprof_heap.specs.Classes.{HasDump, HasNoDump}
+use Rattle.hprof_heap.specs.ObjectDump.{fact_of_object}
+use Rattle.hprof_heap.specs.Objects.{IsObject, HasNoObject}
+use Rattle.hprof_heap.specs.Found.{IsClassFound, IsObjectFound}
 
 -- the class dump that a look-up found, if there is one
 pub class_is_found : (facts : List FactValue) (id : ℕ) (row : Option ClassDump) → IfSome row (λ r. HasDump facts (class_value r))

@@ -10,7 +10,7 @@ use Rattle.hprof_values.specs.declared.ids.IdSize.{IdSize}
 use Rattle.hprof_items.specs.FactValue.{FactValue}
 use Rattle.hprof_heap.specs.declared.heap.Heap.{Heap}
 use Rattle.hprof_heap.specs.Heap.{heap_of}
-use Rattle.hprof_lookup.specs.HeapFacts.{facts_of, size_of}
+use Rattle.hprof_heap.specs.HeapFacts.{facts_of, size_of}
 use Rattle.hprof_engine.specs.declared.product.WriteStop.{WriteStop}
 use Rattle.hprof_reports.specs.Line.{each_line}
 use Rattle.hprof_reports.specs.ObjectText.{contents_text}

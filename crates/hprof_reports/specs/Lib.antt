@@ -17,3 +17,17 @@ pub mod OnePath
 pub mod RefsText
 pub mod RefsReporting
 pub mod OneRefs
+pub mod ClassDumps
+pub mod ClassesText
+pub mod OneClasses
+pub mod ObjectsText
+pub mod OneObjects
+pub mod TextReport
+pub mod OneText
+pub mod Skipped
+pub mod PlaceNames
+pub mod RootLines
+pub mod NodeLines
+pub mod StepLines
+pub mod WhyText
+pub mod OneWhy

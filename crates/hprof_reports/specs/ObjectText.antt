@@ -12,8 +12,8 @@ use Rattle.hprof_values.specs.declared.value.Field.{Field}
 use Rattle.hprof_values.specs.Value.{constant_of, static_of, field_of}
 use Rattle.hprof_items.specs.FactValue.{FactValue, Instance, ObjArray, PrimArray}
 use Rattle.hprof_rows.specs.Conflict.{IsConsistent}
-use Rattle.hprof_lookup.specs.Classes.{ClassValue}
-use Rattle.hprof_lookup.specs.Found.{IsClassFound, IsObjectFound}
+use Rattle.hprof_heap.specs.Classes.{ClassValue}
+use Rattle.hprof_heap.specs.Found.{IsClassFound, IsObjectFound}
 use Rattle.hprof_layouts.specs.declared.field_value.FieldValue.{FieldValue}
 use Rattle.hprof_layouts.specs.Fields.{FieldsValue, Values, Missing, Cyclic, WidthDiffers, AreFields}
 use Rattle.hprof_naming.specs.Naming.{Naming, IsNaming}

@@ -4,9 +4,9 @@ use Rattle.hprof_values.specs.declared.ids.IdSize.{IdSize}
 use Rattle.hprof_items.specs.FactValue.{FactValue}
 use Rattle.hprof_rows.specs.declared.key.Key.TheVariants as keys
 use Rattle.hprof_rows.specs.Conflict.{IsConsistent}
-use Rattle.hprof_lookup.specs.Classes.{ClassValue}
-use Rattle.hprof_lookup.proofs.ClassFacts.{one_dump_each}
-use Rattle.hprof_lookup.specs.Found.{IsClassFound, IsObjectFound}
+use Rattle.hprof_heap.specs.Classes.{ClassValue}
+use Rattle.hprof_heap.proofs.ClassFacts.{one_dump_each}
+use Rattle.hprof_heap.specs.Found.{IsClassFound, IsObjectFound}
 use Rattle.hprof_layouts.specs.Fields.{FieldsValue}
 use Rattle.hprof_layouts.proofs.FieldAnswers.{fields_once}
 use Rattle.hprof_naming.specs.Naming.{Naming}

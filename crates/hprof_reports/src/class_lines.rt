@@ -1,17 +1,16 @@
 //! The lines of a class dump.
 
 ghost use Rattle.std.specs.Prelude.{◌≡◌, IfOk, string_bytes};
-ghost use Rattle.hprof_lookup.specs.HeapFacts.{facts_of};
-ghost use Rattle.hprof_lookup.specs.ClassDump.{class_value};
+ghost use Rattle.hprof_heap.specs.HeapFacts.{facts_of};
+ghost use Rattle.hprof_heap.specs.ClassDump.{class_value};
 ghost use Rattle.hprof_naming.specs.Naming.{IsNaming, Naming};
 ghost use Rattle.hprof_reports.specs.ObjectText.{class_line, constant_line, line_from_signers, line_to_loader, own_line, static_line};
 
 use crate::entries::Entry;
 use crate::shown::bits_text;
-use hprof_heap::Heap;
-use hprof_values::{Constant, Field, Static};
-use hprof_lookup::{ClassDump, id_size};
+use hprof_heap::{ClassDump, Heap, id_size};
 use hprof_naming::{class_label, name_text, type_word};
+use hprof_values::{Constant, Field, Static};
 use std::alloc::{AllocError, Global};
 
 /// Returns the line of a class that has this label, from its signers on.

@@ -2,7 +2,7 @@
 
 ghost use Rattle.std.specs.Prelude.{◌≡◌, ℕ, List, IfOk, string_bytes};
 ghost use Rattle.hprof_devices.specs.declared.health.Health.TheVariants.{Well};
-ghost use Rattle.hprof_lookup.specs.HeapFacts.{facts_of, size_of};
+ghost use Rattle.hprof_heap.specs.HeapFacts.{facts_of, size_of};
 ghost use Rattle.hprof_naming.specs.ClassNames.{AreClassNames};
 ghost use Rattle.hprof_naming.specs.Naming.{IsNaming, Naming};
 ghost use Rattle.hprof_reports.specs.HistogramText.{IsHistogramText, array_row_line, class_row_line, row_line, rows_text};
@@ -11,9 +11,8 @@ ghost use Rattle.hprof_reports.specs.Stopping.{LeavesTarget, WritesText};
 use crate::lines::write_line;
 use hprof_devices::Target;
 use hprof_engine::WriteStop;
-use hprof_heap::Heap;
+use hprof_heap::{Heap, holds_of_heap};
 use hprof_histogram::{Kind, Row, histogram};
-use hprof_lookup::holds_of_heap;
 use hprof_naming::{ClassNames, label_of, type_word};
 use hprof_values::Basic;
 use std::alloc::{AllocError, Global};

@@ -2,7 +2,7 @@
 
 ghost use Rattle.std.specs.Prelude.{◌≡◌, IfOk, List, ℕ, length, string_bytes};
 ghost use Rattle.hprof_devices.specs.declared.health.Health.TheVariants.{Well};
-ghost use Rattle.hprof_lookup.specs.HeapFacts.{facts_of, size_of};
+ghost use Rattle.hprof_heap.specs.HeapFacts.{facts_of, size_of};
 ghost use Rattle.hprof_naming.specs.Naming.{IsNaming, Naming};
 ghost use Rattle.hprof_reports.specs.Line.{each_line, text_of_lines};
 ghost use Rattle.hprof_reports.specs.Stopping.{LeavesTarget, WritesText};

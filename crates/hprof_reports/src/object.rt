@@ -3,9 +3,9 @@
 ghost use Rattle.std.specs.Prelude.{◌≡◌, ℕ, List, IfOk, string_bytes};
 ghost use Rattle.std.specs.Option.{option_map};
 ghost use Rattle.hprof_devices.specs.declared.health.Health.TheVariants.{Well};
-ghost use Rattle.hprof_lookup.specs.HeapFacts.{facts_of, size_of};
-ghost use Rattle.hprof_lookup.specs.ClassDump.{class_value};
-ghost use Rattle.hprof_lookup.specs.ObjectDump.{fact_of_object};
+ghost use Rattle.hprof_heap.specs.HeapFacts.{facts_of, size_of};
+ghost use Rattle.hprof_heap.specs.ClassDump.{class_value};
+ghost use Rattle.hprof_heap.specs.ObjectDump.{fact_of_object};
 ghost use Rattle.hprof_layouts.specs.Fields.{AreFields, FieldsValue, fields_value};
 ghost use Rattle.hprof_naming.specs.Naming.{IsNaming, Naming};
 ghost use Rattle.hprof_reports.specs.ObjectText.{IsObjectText, class_text, fields_text, found_text};
@@ -18,9 +18,8 @@ use crate::lines::{write_entries, write_line};
 use crate::object_lines::{elements_line, instance_line, values_line};
 use hprof_devices::Target;
 use hprof_engine::WriteStop;
-use hprof_heap::Heap;
+use hprof_heap::{ClassDump, Heap, ObjectDump, find_class, find_object, holds_of_heap, id_size};
 use hprof_layouts::{Fields, fields};
-use hprof_lookup::{ClassDump, ObjectDump, find_class, find_object, holds_of_heap, id_size};
 use std::alloc::{AllocError, Global};
 
 /// Writes the contents of a class dump.

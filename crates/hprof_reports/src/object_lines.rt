@@ -2,17 +2,16 @@
 
 ghost use Rattle.std.specs.Prelude.{◌≡◌, IfOk, string_bytes};
 ghost use Rattle.hprof_values.specs.Lists.{identifiers_of};
-ghost use Rattle.hprof_lookup.specs.HeapFacts.{facts_of};
+ghost use Rattle.hprof_heap.specs.HeapFacts.{facts_of};
 ghost use Rattle.hprof_naming.specs.Naming.{IsNaming, Naming};
 ghost use Rattle.hprof_reports.specs.ObjectText.{counted_line, element_line, elements_line, field_line, instance_line, values_line};
 
 use crate::entries::Entry;
 use crate::shown::bits_text;
-use hprof_heap::Heap;
+use hprof_heap::{Heap, id_size};
 use hprof_layouts::FieldValue;
-use hprof_values::{Basic, IdList, IdSize};
-use hprof_lookup::id_size;
 use hprof_naming::{class_label, name_text, type_word};
+use hprof_values::{Basic, IdList, IdSize};
 use std::alloc::{AllocError, Global};
 
 /// Returns the line of an instance. If memory runs out, the answer is `AllocError`.

@@ -4,7 +4,7 @@ ghost use Rattle.std.specs.Prelude.{◌≡◌, ℕ, List, IfOk, string_bytes};
 ghost use Rattle.hprof_devices.specs.declared.health.Health.TheVariants.{Well};
 ghost use Rattle.hprof_values.specs.declared.ids.IdSize.{IdSize};
 ghost use Rattle.hprof_items.specs.FactValue.{FactValue};
-ghost use Rattle.hprof_lookup.specs.HeapFacts.{facts_of, size_of};
+ghost use Rattle.hprof_heap.specs.HeapFacts.{facts_of, size_of};
 ghost use Rattle.hprof_reach.specs.Reaching.{IsReach};
 ghost use Rattle.hprof_reports.specs.PathText.{IsPathText, distance_line, node_line, nodes_text};
 ghost use Rattle.hprof_reports.specs.Stopping.{LeavesTarget, WritesText};
@@ -12,8 +12,7 @@ ghost use Rattle.hprof_reports.specs.Stopping.{LeavesTarget, WritesText};
 use crate::lines::{write_line, write_str};
 use hprof_devices::Target;
 use hprof_engine::WriteStop;
-use hprof_heap::Heap;
-use hprof_lookup::holds_of_heap;
+use hprof_heap::{Heap, holds_of_heap};
 use hprof_reach::{Reach, reach_of};
 use std::alloc::{AllocError, Global};
 

@@ -10,8 +10,8 @@ use crate::refs::write_refs;
 use crate::report::report_to;
 use hprof_devices::{Source, Target};
 use hprof_engine::{Product, ToolFault, WriteStop};
+use hprof_graph::{Index, LiveHeap};
 use hprof_heap::Heap;
-use hprof_live::{Index, LiveHeap};
 use hprof_stream::Limits;
 use std::alloc::Global;
 

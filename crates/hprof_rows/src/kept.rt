@@ -9,7 +9,8 @@ ghost use Rattle.hprof_items.specs.FactValue.{FactValue, ListsHave, value_of};
 ghost use Rattle.hprof_rows.specs.Kept.{KeepsObject, instance_kept, obj_array_kept, prim_array_kept};
 
 use hprof_items::Fact;
-use hprof_values::{Basic, IdList, IdSize, SubTag, number::{byte_at, id_at, split_u32}};
+use hprof_values::number::{byte_at, id_at, split_u32};
+use hprof_values::{Basic, IdList, IdSize, SubTag};
 
 /// Puts the instance with that identifier in the place of a fact. The bytes are those behind the identifier.
 #[inline(always)]

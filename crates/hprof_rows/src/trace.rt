@@ -8,7 +8,8 @@ ghost use Rattle.hprof_rows.specs.Trace.{IsTrace};
 
 use byteorder::{BigEndian, ByteOrder};
 use hprof_items::Fact;
-use hprof_values::{IdList, IdSize, number::split_u32};
+use hprof_values::number::split_u32;
+use hprof_values::{IdList, IdSize};
 
 /// Returns the first four of the bytes that are kept of a stack: the serial of its thread.
 pub fn thread_bytes(thread: u32) -> [u8; 4]

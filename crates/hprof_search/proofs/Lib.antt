@@ -12,3 +12,8 @@ pub mod Told
 pub mod Searched
 pub mod Targets
 pub mod Counts
+pub mod Counting
+pub mod Filling
+pub mod Starting
+pub mod Ending
+pub mod Pairing

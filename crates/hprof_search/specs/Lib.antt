@@ -6,3 +6,7 @@ pub mod Finds
 pub mod Search
 pub mod WayBack
 pub mod Numbered
+pub mod Counts
+pub mod Lists
+pub mod Pairs
+pub mod Sources

@@ -7,7 +7,7 @@ use Rattle.hprof_engine.specs.declared.tool_fault.ToolFault.{ToolFault}
 use Rattle.hprof_engine.specs.declared.tool_fault.ToolFault.TheVariants as tool
 use Rattle.hprof_engine.specs.Joining.{Tell}
 use Rattle.hprof_engine.specs.Makes.{IsMadeOf, WritesFront}
-use Rattle.hprof_growth.specs.Counts.{Totals}
+use Rattle.hprof_diff.specs.Counts.{Totals}
 use Rattle.hprof_diff.specs.Comparing.{Counts}
 use Rattle.hprof_diff.specs.DifferenceText.{AreTotalsOf, IsDifferenceOf, IsGrowthReport, growth_making}
 use Rattle.hprof_tool.specs.declared.program.refused.Refused.{Refused}

@@ -9,10 +9,10 @@ use Rattle.hprof_engine.specs.declared.tool_fault.ToolFault.{ToolFault}
 use Rattle.hprof_engine.specs.declared.tool_fault.ToolFault.TheVariants as tool
 use Rattle.hprof_engine.specs.Joining.{IsOfReading}
 use Rattle.hprof_engine.specs.Makes.{dump_making}
-use Rattle.hprof_dialogue.specs.declared.question.Question.{Question}
-use Rattle.hprof_dialogue.specs.declared.stop.DialogueStop.TheVariants as stops
-use Rattle.hprof_dialogue.specs.Dialogue.{AnswersLines, AnswersSome, Came}
-use Rattle.hprof_dialogue.specs.Lines.{AreEndedLines, AreLines}
+use Rattle.hprof_ask.specs.declared.question.Question.{Question}
+use Rattle.hprof_ask.specs.declared.stop.DialogueStop.TheVariants as stops
+use Rattle.hprof_ask.specs.Dialogue.{AnswersLines, AnswersSome, Came}
+use Rattle.hprof_ask.specs.Lines.{AreEndedLines, AreLines}
 use Rattle.hprof_ask.specs.declared.ask_fault.AskFault.{AskFault}
 use Rattle.hprof_ask.specs.declared.ask_fault.AskFault.TheVariants as faults
 use Rattle.hprof_ask.specs.HeapAnswers.{IsHeapAnswer}

@@ -14,8 +14,8 @@ use Rattle.hprof_dump.specs.Dump.{canonical_dump}
 use Rattle.hprof_heap.specs.declared.standing.Refusal.{Refusal}
 use Rattle.hprof_engine.specs.declared.tool_fault.ToolFault.{ToolFault}
 use Rattle.hprof_engine.specs.declared.tool_fault.ToolFault.TheVariants as tool
-use Rattle.hprof_salvage.specs.declared.salvaged.Salvaged.{Salvaged}
-use Rattle.hprof_salvage.specs.Salvaging.{RefusesAll, Salvages}
+use Rattle.hprof_engine.specs.declared.salvaged.Salvaged.{Salvaged}
+use Rattle.hprof_engine.specs.Salvaging.{RefusesAll, Salvages}
 use Rattle.hprof_tool.specs.Folder.{Answered, AreOpened}
 use Rattle.hprof_tool.specs.declared.program.refused.Refused.{Refused}
 use Rattle.hprof_tool.specs.declared.program.refused.Refused.TheVariants as refusals

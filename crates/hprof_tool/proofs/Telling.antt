@@ -4,7 +4,7 @@ use Rattle.std.specs.Prelude.{slice_get}
 use Rattle.std.proofs.lemmas.Option.{slice_get-get_or}
 use Rattle.hprof_engine.specs.declared.tool_fault.ToolFault.TheVariants as tool
 use Rattle.hprof_engine.specs.FaultText.{IsFaultText}
-use Rattle.hprof_salvage.specs.declared.salvaged.FaultedPart.{FaultedPart}
+use Rattle.hprof_engine.specs.declared.salvaged.FaultedPart.{FaultedPart}
 use Rattle.hprof_tool.specs.Telling.{TellsFaults, line_end}
 
 -- one fault more is told

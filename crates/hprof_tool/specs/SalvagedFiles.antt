@@ -7,8 +7,8 @@ use Rattle.hprof_devices.specs.declared.health.Health.{Health}
 use Rattle.hprof_devices.specs.declared.health.Health.TheVariants as healths
 use Rattle.hprof_engine.specs.declared.tool_fault.ToolFault.{ToolFault}
 use Rattle.hprof_engine.specs.declared.tool_fault.ToolFault.TheVariants as tool
-use Rattle.hprof_salvage.specs.declared.salvaged.Salvaged.{Salvaged}
-use Rattle.hprof_salvage.specs.Salvaging.{Salvages}
+use Rattle.hprof_engine.specs.declared.salvaged.Salvaged.{Salvaged}
+use Rattle.hprof_engine.specs.Salvaging.{Salvages}
 use Rattle.hprof_tool.specs.declared.program.refused.Refused.{Refused}
 use Rattle.hprof_tool.specs.declared.program.refused.Refused.TheVariants as refusals
 use Rattle.hprof_tool.specs.declared.program.salvaging.Written.{Written}

@@ -6,10 +6,10 @@ use Rattle.hprof_engine.specs.Makes.{IsDump, IsMadeOf}
 use Rattle.hprof_reports.specs.Checking.{IsCheckText, check_making}
 use Rattle.hprof_reports.specs.HistogramReporting.{IsHistogramReport, histogram_making}
 use Rattle.hprof_histogram.specs.declared.row.Kind.{Kind}
-use Rattle.hprof_dialogue.specs.Asked.{NamesKind}
-use Rattle.hprof_leaks.specs.ClassesText.{IsClassesReport, classes_making}
-use Rattle.hprof_leaks.specs.ObjectsText.{IsObjectsReport, objects_making}
-use Rattle.hprof_salvage.specs.declared.salvaged.Salvaged.{Salvaged}
+use Rattle.hprof_ask.specs.Asked.{NamesKind}
+use Rattle.hprof_reports.specs.ClassesText.{IsClassesReport, classes_making}
+use Rattle.hprof_reports.specs.ObjectsText.{IsObjectsReport, objects_making}
+use Rattle.hprof_engine.specs.declared.salvaged.Salvaged.{Salvaged}
 use Rattle.hprof_tool.specs.declared.command.NewFile.TheVariants as files
 use Rattle.hprof_tool.specs.declared.command.Question.TheVariants as questions
 use Rattle.hprof_tool.specs.declared.command.Task.{Task}

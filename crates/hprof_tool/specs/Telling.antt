@@ -4,8 +4,8 @@ use Rattle.std.specs.Borrow.{Bor}
 use Rattle.hprof_devices.specs.declared.health.WriteFault.TheVariants as write_faults
 use Rattle.hprof_engine.specs.declared.tool_fault.ToolFault.TheVariants as tool
 use Rattle.hprof_engine.specs.FaultText.{IsFaultText}
-use Rattle.hprof_salvage.specs.declared.salvaged.FaultedPart.{FaultedPart}
-use Rattle.hprof_salvage.specs.declared.salvaged.Salvaged.{Salvaged}
+use Rattle.hprof_engine.specs.declared.salvaged.FaultedPart.{FaultedPart}
+use Rattle.hprof_engine.specs.declared.salvaged.Salvaged.{Salvaged}
 use Rattle.hprof_tool.specs.declared.program.refused.Refused.{Refused}
 use Rattle.hprof_tool.specs.declared.program.refused.Refused.TheVariants as refusals
 use Rattle.hprof_tool.specs.Folder.{Answered}

@@ -3,12 +3,12 @@ use Rattle.std.specs.Prelude.{ℕ, List, ⊤}
 use Rattle.hprof_stream.specs.declared.summary.PartSummary.{PartSummary}
 use Rattle.hprof_rows.specs.HeapValue.{HeapValue}
 use Rattle.hprof_engine.specs.Makes.{Making, IsDumpText, making_of}
-use Rattle.hprof_dump101.specs.Joining101.{IsDump101Text}
+use Rattle.hprof_engine.specs.Joining101.{IsDump101Text}
 use Rattle.hprof_reports.specs.ObjectReporting.{IsObjectReport}
 use Rattle.hprof_reports.specs.PathReporting.{IsPathReport}
 use Rattle.hprof_reports.specs.RefsReporting.{IsRefsReport}
-use Rattle.hprof_leaks.specs.TextReport.{IsTextReport}
-use Rattle.hprof_why.specs.WhyText.{IsWhyReport}
+use Rattle.hprof_reports.specs.TextReport.{IsTextReport}
+use Rattle.hprof_reports.specs.WhyText.{IsWhyReport}
 use Rattle.hprof_tool.specs.declared.command.NewFile.{NewFile}
 use Rattle.hprof_tool.specs.declared.command.NewFile.TheVariants as files
 use Rattle.hprof_tool.specs.declared.command.Question.{Question}

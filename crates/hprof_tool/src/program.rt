@@ -5,8 +5,8 @@ ghost use Rattle.std.specs.Io.KnownBytes.{Appends};
 ghost use Rattle.hprof_engine.specs.Makes.{IsDump, IsMadeOf, making_of};
 ghost use Rattle.hprof_text.specs.Identifier.{IsIdText, id_value};
 ghost use Rattle.hprof_histogram.specs.declared.row.Kind.{Kind};
-ghost use Rattle.hprof_dialogue.specs.Asked.{NamesKind};
-ghost use Rattle.hprof_leaks.specs.ObjectsText.{IsObjectsReport, objects_making};
+ghost use Rattle.hprof_ask.specs.Asked.{NamesKind};
+ghost use Rattle.hprof_reports.specs.ObjectsText.{IsObjectsReport, objects_making};
 ghost use Rattle.hprof_tool.specs.Comparing.{ComparesFiles, RefusesDiff};
 ghost use Rattle.hprof_tool.specs.Conversing.{AnswersQuestions, RefusesQuestions};
 ghost use Rattle.hprof_tool.specs.Program.{IsMadeOfStream, IsMadeInFile, IsMadeOfFiles};
@@ -26,13 +26,13 @@ use answers::{
 use comparing::compare_files;
 use conversing::ask_files;
 use folder::Folder;
-use hprof_dialogue::kind_of;
-use hprof_dump101::Dump101;
-use hprof_engine::{Dump, Product};
-use hprof_leaks::{ClassesReport, ObjectsReport, TextReport};
-use hprof_reports::{Check, HistogramReport, ObjectReport, PathReport, RefsReport};
+use hprof_ask::kind_of;
+use hprof_engine::{Dump, Dump101, Product};
+use hprof_reports::{
+    Check, ClassesReport, HistogramReport, ObjectReport, ObjectsReport, PathReport, RefsReport,
+    TextReport, WhyReport,
+};
 use hprof_text::parse_id;
-use hprof_why::WhyReport;
 use joining::{join_stream, report_files, write_file};
 use meter::Meter;
 use metered::{Clearing, Metered};

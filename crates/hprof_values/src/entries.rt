@@ -6,8 +6,8 @@ ghost use Rattle.hprof_values.specs.declared.entry.Entry.{Entry};
 ghost use Rattle.hprof_values.specs.FieldGroups.{exactly};
 ghost use Rattle.hprof_values.specs.Entries.{EntryFits, entries_bytes, entries_in, entry_end, IsEntryList, most_entries};
 
-use crate::entry::{Entry, EntryKind, entry_at, entry_end};
 use crate::bounded_bytes::BoundedBytes;
+use crate::entry::{Entry, EntryKind, entry_at, entry_end};
 use crate::ids::IdSize;
 
 /// The greatest number of entries that its field can hold.

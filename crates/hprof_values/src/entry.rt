@@ -4,13 +4,13 @@ ghost use Rattle.std.specs.Prelude.{◌≡◌, ◌+◌, ◌<◌, ◌≤◌, List
 ghost use Rattle.hprof_values.specs.Entries.{lead_width, bits_width, entry_len, entry_in, EntryFits, entry_end};
 ghost use Rattle.hprof_values.specs.BoundedBytes.{bounds_of};
 
-use byteorder::{BigEndian, ByteOrder};
-use crate::number::{bits_at, id_at};
 use crate::basic::Basic;
 use crate::bounded_bytes::BoundedBytes;
 use crate::ids::IdSize;
+use crate::number::{bits_at, id_at};
 use crate::reason::Reason;
 use crate::stop::Stop;
+use byteorder::{BigEndian, ByteOrder};
 
 /// The list of a class dump that an entry stands in, one of three.
 #[derive(Clone, Copy, Debug, PartialEq, Eq)]

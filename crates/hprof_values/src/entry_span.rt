@@ -6,11 +6,11 @@ ghost use Rattle.std.specs.Prelude.{◌≡◌, ◌+◌, ◌≤◌, ◌<◌, ◌^
 ghost use Rattle.hprof_values.specs.Entries.{entries_bytes, entries_in, entries_end, list_in, list_end};
 ghost use Rattle.hprof_values.specs.BoundedBytes.{bounds_of};
 
-use crate::entry::{EntryKind, entry_end};
-use byteorder::{BigEndian, ByteOrder};
 use crate::bounded_bytes::BoundedBytes;
+use crate::entry::{EntryKind, entry_end};
 use crate::ids::IdSize;
 use crate::stop::Stop;
+use byteorder::{BigEndian, ByteOrder};
 
 /// A number of entries, over the bytes that spell them.
 #[derive(Clone, Copy, Debug)]

@@ -3,8 +3,8 @@
 ghost use Rattle.std.specs.Prelude.{◌≡◌, ◌<◌, ◌^◌};
 ghost use Rattle.hprof_values.specs.Value.{constant_of, static_of, field_of};
 
-use crate::entry::Entry;
 use crate::basic::Basic;
+use crate::entry::Entry;
 
 /// A value of a type.
 #[derive(Clone, Copy, Debug, PartialEq, Eq)]

@@ -10,7 +10,8 @@ ghost use Rattle.hprof_items.specs.FactValue.{value_of, ListsHave};
 ghost use Rattle.hprof_writing.specs.ClassFronts.{counted, IsClassFront};
 
 use hprof_items::Fact;
-use hprof_values::{ConstantList, FieldList, IdSize, Number, Number::{Four, Id, One}, StaticList, SubTag};
+use hprof_values::Number::{Four, Id, One};
+use hprof_values::{ConstantList, FieldList, IdSize, Number, StaticList, SubTag};
 
 /// A list of a class: the number of its entries, and the bytes that spell them.
 #[derive(Clone, Copy)]

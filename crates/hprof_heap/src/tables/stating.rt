@@ -15,9 +15,9 @@ ghost use Rattle.hprof_heap.specs.Tables.{rows_in_tables};
 
 use super::Tables;
 use hprof_items::Fact;
-use hprof_values::IdList;
 use hprof_rows::{FrameRow, KeyRow, LoadRow, StartRow, thread_bytes};
 use hprof_tables::Stated;
+use hprof_values::IdList;
 use std::alloc::AllocError;
 
 impl Tables {

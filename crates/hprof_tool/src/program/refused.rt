@@ -3,9 +3,8 @@
 ghost use Rattle.std.specs.Prelude.{◌≡◌, IfOk, string_bytes};
 ghost use Rattle.hprof_tool.specs.Program.{IsDumpRefusalText, IsRefusalText, of_dump};
 
-use hprof_ask::AskFault;
+use hprof_ask::{AskFault, DialogueStop};
 use hprof_devices::WriteFault;
-use hprof_dialogue::DialogueStop;
 use hprof_engine::ToolFault;
 use std::alloc::{AllocError, AllocFailed, Global};
 

@@ -8,8 +8,8 @@ ghost use Rattle.hprof_values.specs.Entries.{entries_bytes, entries_in};
 use crate::entries::{count_entries, next_entry, nth_entry};
 use crate::entry::EntryKind;
 use crate::entry_span::EntrySpan;
-use crate::value::Field;
 use crate::ids::IdSize;
+use crate::value::Field;
 
 /// The fields that the instances have of a class, over the bytes that spell them, without their count.
 #[derive(Clone, Copy, Debug, PartialEq, Eq)]

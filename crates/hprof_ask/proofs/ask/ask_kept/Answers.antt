@@ -1,7 +1,7 @@
 use Rattle.std.proofs.Common.{Ok, Err}
 use Rattle.hprof_heap.specs.Heap.{heap_of}
 use Rattle.hprof_engine.proofs.Answers.{summaries_held}
-use Rattle.hprof_lookup.specs.HeapFacts.{facts_of, size_of}
+use Rattle.hprof_heap.specs.HeapFacts.{facts_of, size_of}
 use Rattle.hprof_ask.proofs.Asking.{asks, held_are, refuses}
 use Rattle.hprof_ask.proofs.ask.ask_kept.Goals as goal
 

@@ -1,5 +1,5 @@
-use Rattle.hprof_dialogue.specs.Answering.{AreAnswers}
-use Rattle.hprof_dialogue.proofs.OneText.{answers_once}
+use Rattle.hprof_ask.specs.Answering.{AreAnswers}
+use Rattle.hprof_ask.proofs.OneText.{answers_once}
 use Rattle.hprof_engine.proofs.MadeOnce.{made_once}
 use Rattle.hprof_ask.specs.HeapAnswers.{IsHeapAnswer}
 use Rattle.hprof_ask.specs.OneHeapAnswer.{one_heap_answer}

@@ -1,5 +1,5 @@
 use Rattle.std.proofs.lemmas.Result.{err_from_is_err_and}
-use Rattle.hprof_lookup.specs.HeapFacts.{facts_of, size_of}
+use Rattle.hprof_heap.specs.HeapFacts.{facts_of, size_of}
 use Rattle.hprof_reports.proofs.TextWriting.{text_unwritten}
 use Rattle.hprof_ask.specs.SomeHeapAnswer.{some_path_text}
 use Rattle.hprof_ask.proofs.reports.write_kept_path.Goals as goal

@@ -1,7 +1,7 @@
 use Rattle.std.proofs.lemmas.Result.{err_from_is_err_and}
-use Rattle.hprof_lookup.specs.HeapFacts.{facts_of, size_of}
+use Rattle.hprof_heap.specs.HeapFacts.{facts_of, size_of}
 use Rattle.hprof_reports.proofs.TextWriting.{text_unwritten}
-use Rattle.hprof_why.proofs.SomeWhy.{why_exists}
+use Rattle.hprof_reports.proofs.SomeWhy.{why_exists}
 use Rattle.hprof_ask.proofs.reports.write_kept_why.Goals as goal
 
 -- memory was wanted before the first line

@@ -1,5 +1,5 @@
 use Rattle.hprof_heap.specs.Heap.{heap_of}
-use Rattle.hprof_lookup.specs.HeapFacts.{facts_of, size_of}
+use Rattle.hprof_heap.specs.HeapFacts.{facts_of, size_of}
 use Rattle.hprof_diff.proofs.parts.count_parts.Goals as goal
 
 pub returns-in-Ok-of-clause-totals : goal.returns-in-Ok-of-clause-totals

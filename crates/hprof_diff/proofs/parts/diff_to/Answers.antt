@@ -1,5 +1,5 @@
 use Rattle.std.proofs.Common.{refl}
-use Rattle.hprof_growth.specs.Kept.{totals_in}
+use Rattle.hprof_diff.specs.Kept.{totals_in}
 use Rattle.hprof_diff.proofs.parts.diff_to.Goals as goal
 
 pub returns-in-Ok-report_to-clause-ends : goal.returns-in-Ok-report_to-clause-ends

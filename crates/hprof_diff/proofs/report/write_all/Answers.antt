@@ -3,7 +3,7 @@ use Rattle.std.specs.Io.KnownBytes.{Appends}
 use Rattle.std.proofs.lemmas.Result.{err_from_is_err_and}
 use Rattle.hprof_devices.proofs.Writes.{Pushed-more, WritesFront}
 use Rattle.hprof_reports.proofs.TextWriting.{pushed_stops, pushed_stops_within}
-use Rattle.hprof_growth.specs.Changes.{change_value}
+use Rattle.hprof_diff.specs.Changes.{change_value}
 use Rattle.hprof_diff.specs.DifferenceText.{change_line, changes_text}
 use Rattle.hprof_diff.proofs.NextChange.{next_change, no_change}
 use Rattle.hprof_diff.proofs.report.write_all.Goals as goal

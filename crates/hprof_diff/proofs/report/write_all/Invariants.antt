@@ -1,7 +1,7 @@
 use Rattle.std.proofs.Common.{◌≡◌, drop, map}
 use Rattle.hprof_devices.specs.declared.health.Health.TheVariants.{Well}
 use Rattle.hprof_devices.proofs.Writes.{Pushed}
-use Rattle.hprof_growth.specs.Changes.{change_value}
+use Rattle.hprof_diff.specs.Changes.{change_value}
 use Rattle.hprof_diff.specs.DifferenceText.{changes_text}
 use Rattle.hprof_diff.proofs.report.write_all.Given as goal
 

@@ -1,9 +1,9 @@
 use Rattle.std.proofs.Common.{refl, sym, subst}
 use Rattle.hprof_values.specs.declared.ids.IdSize.{IdSize}
-use Rattle.hprof_lookup.specs.HeapFacts.{facts_of, size_of}
-use Rattle.hprof_lookup.specs.ObjectDump.{fact_of_object}
-use Rattle.hprof_lookup.proofs.ObjectFacts.{IsOnlyObject}
-use Rattle.hprof_known_layouts.specs.Known.{Knows}
+use Rattle.hprof_heap.specs.HeapFacts.{facts_of, size_of}
+use Rattle.hprof_heap.specs.ObjectDump.{fact_of_object}
+use Rattle.hprof_heap.proofs.ObjectFacts.{IsOnlyObject}
+use Rattle.hprof_layouts.specs.Known.{Knows}
 use Rattle.hprof_edges.specs.Collecting.{PutBehind}
 use Rattle.hprof_edges.specs.DumpEdges.{IsObjectEdge}
 use Rattle.hprof_edges.proofs.OnlyDumps.{by_no_object, of_only}

@@ -1,5 +1,5 @@
 use Rattle.std.proofs.Common.{[]}
-use Rattle.hprof_lookup.specs.HeapFacts.{facts_of, size_of}
+use Rattle.hprof_heap.specs.HeapFacts.{facts_of, size_of}
 use Rattle.hprof_edges.proofs.LeastEdges.{keeps_none, least_between}
 use Rattle.hprof_edges.proofs.least.least_edge.Goals as goal
 

@@ -1,5 +1,5 @@
 use Rattle.std.proofs.Common.{◌++◌, subst, ◌∙◌, append_assoc}
-use Rattle.hprof_lookup.specs.ClassDump.{class_value}
+use Rattle.hprof_heap.specs.ClassDump.{class_value}
 use Rattle.hprof_edges.specs.declared.edge.Via.TheVariants as vias
 use Rattle.hprof_edges.specs.EdgeLists.{named_edges, numbered, targets_of_constants, targets_of_statics}
 use Rattle.hprof_edges.proofs.ClassDumpEdges.{class_dump_edges}

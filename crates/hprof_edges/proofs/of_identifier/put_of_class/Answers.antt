@@ -1,5 +1,5 @@
-use Rattle.hprof_lookup.specs.ClassDump.{class_value}
-use Rattle.hprof_lookup.specs.HeapFacts.{facts_of}
+use Rattle.hprof_heap.specs.ClassDump.{class_value}
+use Rattle.hprof_heap.specs.HeapFacts.{facts_of}
 use Rattle.hprof_edges.specs.DumpEdges.{IsClassEdge}
 use Rattle.hprof_edges.proofs.OnlyDumps.{by_class}
 use Rattle.hprof_edges.proofs.PutTogether.{put_same}

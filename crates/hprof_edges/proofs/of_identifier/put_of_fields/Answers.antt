@@ -3,7 +3,7 @@ use Rattle.hprof_layouts.specs.declared.field_value.FieldValue.{FieldValue}
 use Rattle.hprof_layouts.specs.declared.field_value.Fields.{Fields}
 use Rattle.hprof_layouts.specs.declared.field_value.Fields.TheVariants as variants
 use Rattle.hprof_layouts.specs.Fields.{AreFields, Values, fields_value}
-use Rattle.hprof_lookup.specs.HeapFacts.{facts_of, size_of}
+use Rattle.hprof_heap.specs.HeapFacts.{facts_of, size_of}
 use Rattle.hprof_edges.specs.declared.edge.Via.TheVariants as vias
 use Rattle.hprof_edges.specs.DumpEdges.{GivenByInstance}
 use Rattle.hprof_edges.specs.EdgeLists.{numbered, targets_of_values}

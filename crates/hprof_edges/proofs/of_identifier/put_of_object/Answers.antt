@@ -1,10 +1,10 @@
 use Rattle.std.proofs.Common.{◌⊎◌, subst}
 use Rattle.hprof_items.specs.FactValue.{Instance, ObjArray, PrimArray}
 use Rattle.hprof_values.specs.Lists.{identifiers_of}
-use Rattle.hprof_lookup.specs.declared.object_dump.ObjectDump.{ObjectDump}
-use Rattle.hprof_lookup.specs.HeapFacts.{facts_of, size_of}
-use Rattle.hprof_lookup.specs.ObjectDump.{fact_of_object}
-use Rattle.hprof_lookup.proofs.ObjectFacts.{IsOnlyObject}
+use Rattle.hprof_heap.specs.declared.object_dump.ObjectDump.{ObjectDump}
+use Rattle.hprof_heap.specs.HeapFacts.{facts_of, size_of}
+use Rattle.hprof_heap.specs.ObjectDump.{fact_of_object}
+use Rattle.hprof_heap.proofs.ObjectFacts.{IsOnlyObject}
 use Rattle.hprof_edges.specs.declared.edge.Edge.{Edge}
 use Rattle.hprof_edges.specs.DumpEdges.{GivenByInstance, IsEdgeToClass, IsElementEdge}
 use Rattle.hprof_edges.proofs.OnlyDumps.{by_array, by_instance, by_no_object, by_numbers}

@@ -1,5 +1,5 @@
 use Rattle.std.proofs.Common.{◌≡◌, ◌++◌, Bool, false, ap, ◌∙◌}
-use Rattle.hprof_known_layouts.specs.References.{is_wanted}
+use Rattle.hprof_layouts.specs.References.{is_wanted}
 use Rattle.hprof_edges.specs.declared.edge.Edge.{Edge}
 use Rattle.hprof_edges.specs.DumpEdges.{IsFieldEdge}
 use Rattle.hprof_edges.specs.EdgeLists.{reference_edges}

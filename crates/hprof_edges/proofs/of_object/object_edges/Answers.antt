@@ -1,7 +1,7 @@
 use Rattle.std.proofs.Common.{sym, subst}
 use Rattle.hprof_items.specs.FactValue.{Instance}
-use Rattle.hprof_lookup.specs.declared.object_dump.ObjectDump.{ObjectDump}
-use Rattle.hprof_lookup.specs.ObjectDump.{fact_of_object}
+use Rattle.hprof_heap.specs.declared.object_dump.ObjectDump.{ObjectDump}
+use Rattle.hprof_heap.specs.ObjectDump.{fact_of_object}
 use Rattle.hprof_edges.specs.Collecting.{PutBehind}
 use Rattle.hprof_edges.specs.DumpEdges.{IsEdgeToClass, IsFieldEdge, IsObjectEdge}
 use Rattle.hprof_edges.proofs.PutTogether.{put_both}

@@ -1,5 +1,5 @@
 use Rattle.std.proofs.Common.{◌≡◌, ◌+◌, ◌++◌, ℕ, Bool, false, List, length, sym, ap, subst, ◌∙◌, arith}
-use Rattle.hprof_known_layouts.specs.References.{is_wanted}
+use Rattle.hprof_layouts.specs.References.{is_wanted}
 use Rattle.hprof_values.specs.Lists.{identifiers_left, identifiers_of}
 use Rattle.hprof_edges.specs.declared.edge.Edge.{Edge}
 use Rattle.hprof_edges.specs.declared.edge.Via.TheVariants as vias

@@ -1,4 +1,4 @@
-use Rattle.hprof_lookup.specs.HeapFacts.{facts_of, size_of}
+use Rattle.hprof_heap.specs.HeapFacts.{facts_of, size_of}
 use Rattle.hprof_edges.specs.DumpEdges.{GivenByClass, GivenByObject}
 use Rattle.hprof_edges.proofs.PutTogether.{put_both}
 use Rattle.hprof_edges.proofs.TableEdges.{all_edges}

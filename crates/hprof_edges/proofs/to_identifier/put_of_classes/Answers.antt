@@ -3,8 +3,8 @@ use Rattle.hprof_items.specs.FactValue.{value_of}
 use Rattle.hprof_rows.specs.declared.table.Table.TheVariants as tables
 use Rattle.hprof_rows.specs.FactsLeft.{facts_left}
 use Rattle.hprof_rows.specs.Tables.{facts_of_table}
-use Rattle.hprof_lookup.specs.ClassDump.{class_value}
-use Rattle.hprof_lookup.specs.HeapFacts.{facts_of}
+use Rattle.hprof_heap.specs.ClassDump.{class_value}
+use Rattle.hprof_heap.specs.HeapFacts.{facts_of}
 use Rattle.hprof_edges.specs.DumpEdges.{IsClassEdge}
 use Rattle.hprof_edges.proofs.TableEdges.{GivesByClass, GoneOver, class_table, gives_dump, gone_over_all, gone_over_none, gone_over_one}
 use Rattle.hprof_edges.proofs.TableEdges.{gone_over_other, no_dump_no_edge}

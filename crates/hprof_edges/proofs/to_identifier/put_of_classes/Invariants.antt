@@ -2,7 +2,7 @@ use Rattle.std.proofs.Common.{◌≡◌, List}
 use Rattle.hprof_rows.specs.declared.table.Table.TheVariants as tables
 use Rattle.hprof_rows.specs.FactsLeft.{facts_left}
 use Rattle.hprof_rows.specs.Tables.{facts_of_table}
-use Rattle.hprof_lookup.specs.HeapFacts.{facts_of}
+use Rattle.hprof_heap.specs.HeapFacts.{facts_of}
 use Rattle.hprof_edges.specs.declared.edge.Edge.{Edge}
 use Rattle.hprof_edges.proofs.TableEdges.{GivesByClass, GoneOver}
 use Rattle.hprof_edges.proofs.to_identifier.put_of_classes.Given as goal

@@ -4,9 +4,9 @@ use Rattle.hprof_items.specs.FactValue.{FactValue, value_of}
 use Rattle.hprof_rows.specs.declared.table.Table.TheVariants as tables
 use Rattle.hprof_rows.specs.FactsLeft.{facts_left}
 use Rattle.hprof_rows.specs.Tables.{facts_of_table}
-use Rattle.hprof_lookup.specs.HeapFacts.{facts_of, size_of}
-use Rattle.hprof_lookup.specs.ObjectDump.{fact_of_object}
-use Rattle.hprof_known_layouts.specs.Known.{Knows}
+use Rattle.hprof_heap.specs.HeapFacts.{facts_of, size_of}
+use Rattle.hprof_heap.specs.ObjectDump.{fact_of_object}
+use Rattle.hprof_layouts.specs.Known.{Knows}
 use Rattle.hprof_edges.specs.Collecting.{PutBehind}
 use Rattle.hprof_edges.specs.DumpEdges.{IsObjectEdge}
 use Rattle.hprof_edges.proofs.TableEdges.{GoneOver, gone_over_all, gone_over_none, gone_over_one, gone_over_other, no_object_no_edge}

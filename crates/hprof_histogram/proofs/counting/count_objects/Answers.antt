@@ -3,7 +3,7 @@ use Rattle.hprof_items.specs.FactValue.{value_of}
 use Rattle.hprof_rows.specs.declared.table.Table.TheVariants as tables
 use Rattle.hprof_rows.specs.FactsLeft.{facts_left}
 use Rattle.hprof_rows.specs.Tables.{facts_of_table}
-use Rattle.hprof_lookup.specs.HeapFacts.{facts_of, size_of}
+use Rattle.hprof_heap.specs.HeapFacts.{facts_of, size_of}
 use Rattle.hprof_histogram.specs.Histogram.{size_of_object}
 use Rattle.hprof_histogram.proofs.FactCounts.{IsTallyTo, tally_counts, tally_ends, tally_of_all}
 use Rattle.hprof_histogram.proofs.FactCounts.{room_for_one, room_of_all}

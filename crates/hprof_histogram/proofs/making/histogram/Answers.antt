@@ -3,7 +3,7 @@ use Rattle.std.specs.List.{IsDistinct, filter}
 use Rattle.std.specs.List.Sorted.{IsPermutation}
 use Rattle.std.proofs.lemmas.List.Elements.{filter-append}
 use Rattle.hprof_tables.specs.HintedMap.{rows_in}
-use Rattle.hprof_lookup.specs.HeapFacts.{facts_of, size_of}
+use Rattle.hprof_heap.specs.HeapFacts.{facts_of, size_of}
 use Rattle.hprof_histogram.specs.CountedKinds.{class_rows, element_types, has_objects, type_rows}
 use Rattle.hprof_histogram.proofs.CandidateRows.{candidates, rows_apart}
 use Rattle.hprof_histogram.proofs.HistogramRows.{rows_are_histogram}

@@ -1,6 +1,6 @@
 use Rattle.std.proofs.Common.{◌<◌, arith}
-use Rattle.hprof_lookup.specs.HeapFacts.{facts_of}
-use Rattle.hprof_lookup.specs.ClassDump.{class_value}
+use Rattle.hprof_heap.specs.HeapFacts.{facts_of}
+use Rattle.hprof_heap.specs.ClassDump.{class_value}
 use Rattle.hprof_layouts.proofs.Walks.{walked_round, watching_none, watched_more, watched_round}
 use Rattle.hprof_layouts.proofs.chain.chain_end.Goals as goal
 

@@ -1,5 +1,5 @@
 use Rattle.std.proofs.Common.{◌-◌}
-use Rattle.hprof_lookup.specs.HeapFacts.{facts_of}
+use Rattle.hprof_heap.specs.HeapFacts.{facts_of}
 use Rattle.hprof_layouts.proofs.Walks.{Watching}
 use Rattle.hprof_layouts.proofs.chain.chain_end.Given as goal
 

@@ -2,7 +2,7 @@ use Rattle.std.specs.Prelude.{map}
 use Rattle.std.proofs.Common.{◌≡◌, ◌++◌}
 use Rattle.hprof_values.specs.Lists.{fields_left}
 use Rattle.hprof_values.specs.Value.{field_of}
-use Rattle.hprof_lookup.specs.ClassDump.{class_value}
+use Rattle.hprof_heap.specs.ClassDump.{class_value}
 use Rattle.hprof_layouts.specs.Layout.{own_slots, slot_of}
 use Rattle.hprof_layouts.proofs.class_layout.push_own_slots.Given as goal
 

@@ -1,8 +1,8 @@
 use Rattle.std.specs.Prelude.{IfNone}
 use Rattle.std.proofs.Common.{◌≡◌, ℕ, ◌++◌, Option, Some, None, refl, subst, arith}
-use Rattle.hprof_lookup.specs.declared.class_dump.ClassDump.{ClassDump}
-use Rattle.hprof_lookup.specs.HeapFacts.{facts_of}
-use Rattle.hprof_lookup.specs.ClassDump.{class_value}
+use Rattle.hprof_heap.specs.declared.class_dump.ClassDump.{ClassDump}
+use Rattle.hprof_heap.specs.HeapFacts.{facts_of}
+use Rattle.hprof_heap.specs.ClassDump.{class_value}
 use Rattle.hprof_layouts.specs.Layout.{own_slots}
 use Rattle.hprof_layouts.proofs.Walks.{Gathering, gathering_some, gathered_more}
 use Rattle.hprof_layouts.proofs.class_layout.slots_along.Goals as goal

@@ -1,5 +1,5 @@
 use Rattle.std.proofs.Common.{◌-◌}
-use Rattle.hprof_lookup.specs.HeapFacts.{facts_of}
+use Rattle.hprof_heap.specs.HeapFacts.{facts_of}
 use Rattle.hprof_layouts.proofs.Walks.{Gathering}
 use Rattle.hprof_layouts.proofs.class_layout.slots_along.Given as goal
 

@@ -1,4 +1,4 @@
-use Rattle.hprof_lookup.proofs.ClassFacts.{one_dump_each}
+use Rattle.hprof_heap.proofs.ClassFacts.{one_dump_each}
 use Rattle.hprof_layouts.proofs.Layouts.{at_most_one, at_least_one}
 use Rattle.hprof_layouts.proofs.laws.one_layout.Goals as goal
 

@@ -1,5 +1,5 @@
 use Rattle.hprof_values.specs.Lists.{identifiers_of}
-use Rattle.hprof_lookup.specs.HeapFacts.{facts_of, size_of}
+use Rattle.hprof_heap.specs.HeapFacts.{facts_of, size_of}
 use Rattle.hprof_layouts.proofs.FieldAnswers.{dump_of_instance, dump_of_objects, dump_of_numbers, fields_of_instance}
 use Rattle.hprof_layouts.proofs.object_fields.fields.Goals as goal
 

@@ -1,6 +1,6 @@
 use Rattle.std.proofs.Common.{◌≡◌}
 use Rattle.std.specs.String.{string_bytes}
-use Rattle.hprof_lookup.specs.HeapFacts.{facts_of}
+use Rattle.hprof_heap.specs.HeapFacts.{facts_of}
 use Rattle.hprof_naming.specs.Naming.{IsLabelOf}
 use Rattle.hprof_naming.proofs.Namings.{of_text, one_label}
 use Rattle.hprof_naming.proofs.naming.class_label.Goals as goal

@@ -1,7 +1,7 @@
 use Rattle.std.proofs.Common.{◌≡◌, inl}
 use Rattle.std.specs.String.{string_bytes}
 use Rattle.hprof_text.specs.Printed.{IsPrinted}
-use Rattle.hprof_lookup.specs.HeapFacts.{facts_of}
+use Rattle.hprof_heap.specs.HeapFacts.{facts_of}
 use Rattle.hprof_naming.proofs.Namings.{of_text, one_name_text}
 use Rattle.hprof_naming.proofs.naming.name_text.Goals as goal
 

@@ -1,6 +1,6 @@
 use Rattle.std.proofs.Common.{ℕ, List, subst, sym}
 use Rattle.std.specs.Prelude.{◌↔◌, Contains}
-use Rattle.hprof_lookup.specs.HeapFacts.{facts_of}
+use Rattle.hprof_heap.specs.HeapFacts.{facts_of}
 use Rattle.hprof_reach.specs.Nodes.{IsClassNode}
 use Rattle.hprof_reach.proofs.heap_graph.graph_of.Goals as goal
 

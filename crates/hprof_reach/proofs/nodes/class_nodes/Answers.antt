@@ -1,4 +1,4 @@
-use Rattle.hprof_lookup.specs.HeapFacts.{facts_of}
+use Rattle.hprof_heap.specs.HeapFacts.{facts_of}
 use Rattle.hprof_reach.proofs.Reached.{all_class_nodes}
 use Rattle.hprof_reach.proofs.nodes.class_nodes.Goals as goal
 

@@ -1,7 +1,7 @@
 use Rattle.hprof_rows.specs.declared.table.Table.TheVariants as tables
 use Rattle.hprof_rows.specs.FactsLeft.{facts_left}
 use Rattle.hprof_rows.specs.Tables.{facts_of_table}
-use Rattle.hprof_lookup.specs.HeapFacts.{facts_of}
+use Rattle.hprof_heap.specs.HeapFacts.{facts_of}
 use Rattle.hprof_reach.proofs.TableNodes.{GivesClass, GoneOver}
 use Rattle.hprof_reach.proofs.nodes.push_classes.Given as goal
 

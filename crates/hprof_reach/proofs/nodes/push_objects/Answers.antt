@@ -3,8 +3,8 @@ use Rattle.hprof_items.specs.FactValue.{value_of}
 use Rattle.hprof_rows.specs.declared.table.Table.TheVariants as tables
 use Rattle.hprof_rows.specs.FactsLeft.{facts_left}
 use Rattle.hprof_rows.specs.Tables.{facts_of_table}
-use Rattle.hprof_lookup.specs.HeapFacts.{facts_of}
-use Rattle.hprof_lookup.specs.Objects.{IsObject}
+use Rattle.hprof_heap.specs.HeapFacts.{facts_of}
+use Rattle.hprof_heap.specs.Objects.{IsObject}
 use Rattle.hprof_reach.specs.Nodes.{IsObjectNode}
 use Rattle.hprof_reach.proofs.TableNodes.{GivesObject, GoneOver, IsGiven, gives_object, gone_over_all, gone_over_none, gone_over_one}
 use Rattle.hprof_reach.proofs.TableNodes.{gone_over_other, no_object_no_node, object_nodes, same_given}

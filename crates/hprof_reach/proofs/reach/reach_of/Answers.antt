@@ -1,7 +1,7 @@
 use Rattle.std.proofs.Common.{ℕ, List, subst, sym}
 use Rattle.std.specs.Prelude.{◌↔◌, Contains}
 use Rattle.hprof_heap.specs.declared.heap.Heap.{Heap}
-use Rattle.hprof_lookup.specs.HeapFacts.{facts_of, size_of}
+use Rattle.hprof_heap.specs.HeapFacts.{facts_of, size_of}
 use Rattle.hprof_search.specs.Search.{IsSearch}
 use Rattle.hprof_reach.specs.Reaching.{IsRooted, Leads}
 use Rattle.hprof_reach.proofs.Reached.{reached}

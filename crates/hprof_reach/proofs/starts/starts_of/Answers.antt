@@ -4,7 +4,7 @@ use Rattle.hprof_items.specs.FactValue.{value_of}
 use Rattle.hprof_rows.specs.declared.table.Table.TheVariants as tables
 use Rattle.hprof_rows.specs.FactsLeft.{facts_left}
 use Rattle.hprof_rows.specs.Tables.{facts_of_table}
-use Rattle.hprof_lookup.specs.HeapFacts.{facts_of}
+use Rattle.hprof_heap.specs.HeapFacts.{facts_of}
 use Rattle.hprof_reach.specs.Reaching.{IsRooted}
 use Rattle.hprof_reach.proofs.Reached.{all_starts}
 use Rattle.hprof_reach.proofs.TableNodes.{GivesRoot, IsGiven, gives_no_root, gives_root, gone_over_all, gone_over_one, gone_over_other}

@@ -1,7 +1,7 @@
 use Rattle.std.proofs.Common.{◌≡◌, ◌∙◌, ℕ, List, ap, subst}
 use Rattle.std.specs.Prelude.{IfOk}
 use Rattle.std.specs.String.{string_bytes}
-use Rattle.hprof_lookup.specs.ClassDump.{class_value}
+use Rattle.hprof_heap.specs.ClassDump.{class_value}
 use Rattle.hprof_reports.specs.ObjectText.{line_from_signers, line_to_loader}
 use Rattle.hprof_reports.proofs.class_lines.class_line.Goals as goal
 

@@ -1,7 +1,7 @@
 use Rattle.std.proofs.Common.{◌≡◌, ◌∙◌, ℕ, List, subst, sym}
 use Rattle.std.specs.Prelude.{IfOk}
 use Rattle.std.specs.String.{string_bytes}
-use Rattle.hprof_lookup.specs.HeapFacts.{facts_of}
+use Rattle.hprof_heap.specs.HeapFacts.{facts_of}
 use Rattle.hprof_histogram.specs.declared.row.Kind.{Kind}
 use Rattle.hprof_naming.proofs.Namings.{one_label}
 use Rattle.hprof_reports.specs.HistogramText.{class_row_line, kind_line}

@@ -1,7 +1,7 @@
 use Rattle.std.proofs.Common.{◌+◌, length, ap, subst, arith}
 use Rattle.std.proofs.lemmas.Result.{err_from_is_err_and}
 use Rattle.hprof_devices.proofs.Writes.{Pushed-more}
-use Rattle.hprof_lookup.specs.HeapFacts.{size_of}
+use Rattle.hprof_heap.specs.HeapFacts.{size_of}
 use Rattle.hprof_reports.specs.Line.{each_line, text_of_lines}
 use Rattle.hprof_reports.specs.Stopping.{WritesText}
 use Rattle.hprof_reports.proofs.TextWriting.{pushed_stops_within}

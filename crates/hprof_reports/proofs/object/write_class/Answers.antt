@@ -1,7 +1,7 @@
 use Rattle.std.proofs.Common.{◌++◌}
 use Rattle.std.proofs.lemmas.Result.{err_from_is_err_and}
-use Rattle.hprof_lookup.specs.ClassDump.{class_value}
-use Rattle.hprof_lookup.specs.HeapFacts.{size_of}
+use Rattle.hprof_heap.specs.ClassDump.{class_value}
+use Rattle.hprof_heap.specs.HeapFacts.{size_of}
 use Rattle.hprof_values.specs.Value.{constant_of, static_of, field_of}
 use Rattle.std.specs.Prelude.{map}
 use Rattle.std.proofs.Common.{ap}

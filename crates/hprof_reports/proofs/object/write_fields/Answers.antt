@@ -3,7 +3,7 @@ use Rattle.hprof_layouts.specs.declared.field_value.Fields.{Fields}
 use Rattle.hprof_layouts.specs.declared.field_value.Fields.TheVariants as variants
 use Rattle.hprof_layouts.specs.Fields.{AreFields, FieldsValue, Values, fields_value}
 use Rattle.hprof_layouts.proofs.FieldAnswers.{fields_once}
-use Rattle.hprof_lookup.specs.HeapFacts.{facts_of, size_of}
+use Rattle.hprof_heap.specs.HeapFacts.{facts_of, size_of}
 use Rattle.hprof_naming.specs.Naming.{Naming}
 use Rattle.hprof_values.specs.declared.ids.IdSize.{IdSize}
 use Rattle.hprof_reports.specs.ObjectText.{fields_text, why_no_fields}

@@ -1,11 +1,11 @@
 use Rattle.std.proofs.Common.{Option, Some, sym, subst}
 use Rattle.std.specs.Option.{option_map}
 use Rattle.std.proofs.lemmas.Result.{err_from_is_err_and}
-use Rattle.hprof_lookup.specs.HeapFacts.{size_of}
-use Rattle.hprof_lookup.specs.declared.class_dump.ClassDump.{ClassDump}
-use Rattle.hprof_lookup.specs.declared.object_dump.ObjectDump.{ObjectDump}
-use Rattle.hprof_lookup.specs.ClassDump.{class_value}
-use Rattle.hprof_lookup.specs.ObjectDump.{fact_of_object}
+use Rattle.hprof_heap.specs.HeapFacts.{size_of}
+use Rattle.hprof_heap.specs.declared.class_dump.ClassDump.{ClassDump}
+use Rattle.hprof_heap.specs.declared.object_dump.ObjectDump.{ObjectDump}
+use Rattle.hprof_heap.specs.ClassDump.{class_value}
+use Rattle.hprof_heap.specs.ObjectDump.{fact_of_object}
 use Rattle.hprof_reports.specs.ObjectText.{class_text, found_text, object_text}
 use Rattle.hprof_reports.specs.Stopping.{WritesText}
 use Rattle.hprof_reports.proofs.TextWriting.{text_stops, text_then}

@@ -1,8 +1,8 @@
 use Rattle.std.proofs.Common.{refl}
 use Rattle.std.specs.Option.{option_map}
-use Rattle.hprof_lookup.specs.HeapFacts.{facts_of, size_of}
-use Rattle.hprof_lookup.specs.ClassDump.{class_value}
-use Rattle.hprof_lookup.specs.ObjectDump.{fact_of_object}
+use Rattle.hprof_heap.specs.HeapFacts.{facts_of, size_of}
+use Rattle.hprof_heap.specs.ClassDump.{class_value}
+use Rattle.hprof_heap.specs.ObjectDump.{fact_of_object}
 use Rattle.hprof_layouts.proofs.FieldAnswers.{fields_exist}
 use Rattle.hprof_naming.proofs.Namings.{naming_exists}
 use Rattle.hprof_reports.specs.ObjectText.{found_text}

@@ -1,6 +1,6 @@
 use Rattle.std.proofs.Common.{refl}
 use Rattle.std.proofs.lemmas.Result.{err_from_is_err_and}
-use Rattle.hprof_lookup.specs.HeapFacts.{facts_of, size_of}
+use Rattle.hprof_heap.specs.HeapFacts.{facts_of, size_of}
 use Rattle.hprof_reach.proofs.SomeReach.{some_distance, some_path}
 use Rattle.hprof_reports.specs.PathText.{reached_text}
 use Rattle.hprof_reports.proofs.TextWriting.{text_unwritten}

@@ -1,5 +1,5 @@
 use Rattle.std.proofs.Common.{List, ℕ, refl, subst}
-use Rattle.hprof_lookup.specs.HeapFacts.{facts_of}
+use Rattle.hprof_heap.specs.HeapFacts.{facts_of}
 use Rattle.hprof_naming.proofs.Namings.{naming_exists}
 use Rattle.hprof_reports.specs.Line.{text_of_lines}
 use Rattle.hprof_reports.specs.RefsText.{edge_line}

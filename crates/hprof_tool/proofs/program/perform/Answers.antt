@@ -1,6 +1,6 @@
 use Rattle.std.proofs.Common.{refl, List, subst}
 use Rattle.std.specs.Borrow.{Bor}
-use Rattle.hprof_leaks.specs.ObjectsText.{objects_making}
+use Rattle.hprof_reports.specs.ObjectsText.{objects_making}
 use Rattle.hprof_tool.specs.SalvagedFiles.{IsSalvagedFile}
 use Rattle.hprof_tool.specs.Streams.{RefusesReport}
 use Rattle.hprof_tool.proofs.program.perform.Goals as goal

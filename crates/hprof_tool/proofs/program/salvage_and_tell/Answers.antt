@@ -1,5 +1,5 @@
 use Rattle.std.proofs.Common.{inl, inr, refl, List, subst}
-use Rattle.hprof_salvage.specs.declared.salvaged.FaultedPart.{FaultedPart}
+use Rattle.hprof_engine.specs.declared.salvaged.FaultedPart.{FaultedPart}
 use Rattle.hprof_tool.specs.Telling.{TellsFaults}
 use Rattle.hprof_tool.proofs.Files.{if_the_error}
 use Rattle.hprof_tool.proofs.program.salvage_and_tell.Goals as goal

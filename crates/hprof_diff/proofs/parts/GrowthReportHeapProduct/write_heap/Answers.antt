@@ -1,4 +1,4 @@
-use Rattle.hprof_growth.specs.Kept.{totals_in}
+use Rattle.hprof_diff.specs.Kept.{totals_in}
 use Rattle.hprof_reports.proofs.TextWriting.{report_ends}
 use Rattle.hprof_diff.specs.DifferenceText.{IsGrowthText}
 use Rattle.hprof_diff.proofs.parts.GrowthReportHeapProduct.write_heap.Goals as goal

@@ -1,5 +1,5 @@
 use Rattle.std.proofs.Common.{[], ap, ◌∙◌}
-use Rattle.hprof_lookup.specs.HeapFacts.{facts_of, size_of}
+use Rattle.hprof_heap.specs.HeapFacts.{facts_of, size_of}
 use Rattle.hprof_reach.proofs.TargetLists.{led_to}
 use Rattle.hprof_reach.proofs.heap_graph.HeapGraphGraph.targets_of.Goals as goal
 

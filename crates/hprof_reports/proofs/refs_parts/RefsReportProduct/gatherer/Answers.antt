@@ -1,5 +1,5 @@
 use Rattle.std.proofs.Common.{ℕ, sym, subst}
-use Rattle.hprof_live.specs.LiveHeap.{Watches}
+use Rattle.hprof_graph.specs.LiveHeap.{Watches}
 use Rattle.hprof_reports.proofs.refs_parts.RefsReportProduct.gatherer.Goals as goal
 
 pub returns-clause-watches : goal.returns-clause-watches

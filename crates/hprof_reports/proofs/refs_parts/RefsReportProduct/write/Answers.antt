@@ -1,7 +1,7 @@
 use Rattle.std.specs.Prelude.{map}
 use Rattle.std.proofs.Common.{refl}
 use Rattle.hprof_heap.specs.Heap.{heap_of}
-use Rattle.hprof_lookup.specs.HeapFacts.{facts_of, size_of}
+use Rattle.hprof_heap.specs.HeapFacts.{facts_of, size_of}
 use Rattle.hprof_reports.specs.Line.{text_of_lines}
 use Rattle.hprof_reports.specs.RefsReporting.{IsRefsReport}
 use Rattle.hprof_reports.specs.RefsText.{edge_line}

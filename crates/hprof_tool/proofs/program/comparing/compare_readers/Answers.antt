@@ -1,7 +1,7 @@
 use Rattle.std.specs.Prelude.{⊤}
 use Rattle.std.proofs.Common.{Some, ap, sym, subst, refl, ◌∙◌}
 use Rattle.hprof_stream.specs.declared.limits.Limits.{Limits}
-use Rattle.hprof_growth.specs.Kept.{totals_in}
+use Rattle.hprof_diff.specs.Kept.{totals_in}
 use Rattle.hprof_diff.specs.Comparing.{Counts}
 use Rattle.hprof_diff.specs.DifferenceText.{IsGrowthReport}
 use Rattle.hprof_tool.specs.declared.program.refused.Refused.{Refused}

@@ -2,7 +2,7 @@ use Rattle.std.proofs.Common.{Ok, Err, subst}
 use Rattle.std.specs.Io.Buffered.{writer_contents}
 use Rattle.hprof_devices.specs.Device.{inner_of, health_of}
 use Rattle.hprof_stream.specs.declared.limits.Limits.{Limits}
-use Rattle.hprof_salvage.specs.Salvaging.{Salvages}
+use Rattle.hprof_engine.specs.Salvaging.{Salvages}
 use Rattle.hprof_tool.proofs.Making.{are_usual}
 use Rattle.hprof_tool.proofs.program.salvaging.salvage.Goals as goal
 

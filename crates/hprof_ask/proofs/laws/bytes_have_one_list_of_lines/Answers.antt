@@ -1,0 +1,8 @@
+use Rattle.hprof_ask.proofs.OneLine.{lines_once, lines_then}
+use Rattle.hprof_ask.proofs.laws.bytes_have_one_list_of_lines.Goals as goal
+
+pub returns-clause-one : goal.returns-clause-one
+returns-clause-one c = lines_once
+
+pub returns-clause-more : goal.returns-clause-more
+returns-clause-more c = lines_then

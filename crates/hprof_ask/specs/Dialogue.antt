@@ -1,0 +1,83 @@
+-- What taking lines and answering them comes to.
+--   IsAnswer: this text is the answer to that question;  bytes: what came of the questions
+--   start, now: what the writer held before, and holds
+use Rattle.std.specs.Prelude.{◌≡◌, ◌⊎◌, ℕ, ◌≤◌, ◌-◌, ◌^◌, List, [], ◌∷◌, ◌++◌, length, take, Option, Result, Ok, Err}
+use Rattle.std.specs.Io.KnownBytes.{Appends, Consumes, IsAtEnd}
+use Rattle.hprof_devices.specs.declared.health.Health.{Health}
+use Rattle.hprof_devices.specs.declared.health.Health.TheVariants as healths
+use Rattle.hprof_devices.specs.Device.{health_after}
+use Rattle.hprof_ask.specs.declared.question.Question.{Question}
+use Rattle.hprof_ask.specs.declared.stop.DialogueStop.{DialogueStop}
+use Rattle.hprof_ask.specs.declared.stop.DialogueStop.TheVariants as stops
+use Rattle.hprof_ask.specs.Answering.{AreAnswers, IsLineAnswer}
+use Rattle.hprof_ask.specs.Lines.{AreEndedLines, AreFirstLines, AreLines, AreTaken, HasNoFeed}
+
+module _ (IsAnswer : Question → List ℕ → Type 0) where
+  -- lines were taken of the bytes, and the answers to them were written
+  pub record AnswersLines (IsTaken : List ℕ → List (List ℕ) → Type 0) (bytes : List ℕ) (start now : Option (List ℕ)) : Type 0 where
+    pub lines : List (List ℕ)
+    pub taken : IsTaken bytes lines
+    pub text : List ℕ
+    pub are_answers : AreAnswers IsAnswer lines text
+    pub appended : Appends start now text
+
+  -- lines were taken of the bytes, and the answers to them were written, to the last of them some, from the front
+  pub record AnswersFront (bytes : List ℕ) (start now : Option (List ℕ)) : Type 0 where
+    pub lines : List (List ℕ)
+    pub last : List ℕ
+    pub taken : AreTaken bytes (lines ++ last ∷ [])
+    pub text : List ℕ
+    pub are_answers : AreAnswers IsAnswer lines text
+    pub answer : List ℕ
+    pub is_answer : IsLineAnswer IsAnswer last answer
+    pub count : ℕ
+    pub within : count ≤ length answer
+    pub appended : Appends start now (text ++ take count answer)
+
+  -- the answers to all lines that were taken were written, or to the last of them some
+  abbrev pub AnswersSome : (bytes : List ℕ) (start now : Option (List ℕ)) → Type 0
+  AnswersSome bytes start now = AnswersLines AreTaken bytes start now ⊎ AnswersFront bytes start now
+
+  -- the lines that ended are answered, and this is kept of the bytes behind them: the first 4,098 bytes
+  pub record Heard (bytes : List ℕ) (start now : Option (List ℕ)) (kept : List ℕ) : Type 0 where
+    pub lines : List (List ℕ)
+    pub rest : List ℕ
+    pub first : AreFirstLines bytes lines rest
+    pub no_feed : HasNoFeed rest
+    pub kept_is : kept ≡ take 4098 rest
+    pub text : List ℕ
+    pub are_answers : AreAnswers IsAnswer lines text
+    pub appended : Appends start now text
+
+  -- a piece of the bytes was gone over
+  abbrev pub GoesOver : {A : Type 0} → (bytes : List ℕ) (start now : Option (List ℕ)) (kept : List ℕ) → Result A DialogueStop → Type 0
+  GoesOver bytes start now kept (Ok done) = Heard bytes start now kept
+  GoesOver bytes start now kept (Err stop) = AnswersSome bytes start now
+
+  -- there are no more bytes
+  abbrev pub Finishes : {A : Type 0} → (bytes : List ℕ) (start now : Option (List ℕ)) → Result A DialogueStop → Type 0
+  Finishes bytes start now (Ok done) = AnswersLines AreLines bytes start now
+  Finishes bytes start now (Err stop) = AnswersSome bytes start now
+
+  -- what came of the questions, and what was written of the answers
+  --   left, asking, pulls: what the source of questions has left to tell, how it is doing, how often it was pulled
+  --   written, well: what the writer holds, where it tells, and how it is doing
+  module _ {Q W : Type 0} (left : Q → Option (List ℕ)) (asking : Q → Health) (pulls : Q → ℕ) (written : W → Option (List ℕ))
+      (well : W → Health) (was is : Q) (before after : W) where
+    -- so far these bytes came, and that holds of them
+    pub record Came (Holds : (bytes : List ℕ) (start now : Option (List ℕ)) → Type 0) : Type 0 where
+      pub bytes : List ℕ
+      pub consumed : Consumes (left was) (left is) bytes
+      pub holds : Holds bytes (written before) (written after)
+
+    -- how a dialogue ended
+    abbrev pub EndsDialogue : {A : Type 0} → Result A DialogueStop → Type 0
+    -- all lines of the questions are answered
+    EndsDialogue (Ok done) = Came (AnswersLines AreLines) × IsAtEnd (left is) × (asking is ≡ healths.Well) × (well after ≡ healths.Well)
+    -- the questions could not be read on, or were read more often than can be counted: the lines that had ended are answered
+    EndsDialogue (Err (stops.Questions fault)) = Came (AnswersLines AreEndedLines)
+        × ((asking is ≡ healths.Failed) ⊎ (2 ^ 64 - 1 ≤ pulls is)) × (well after ≡ healths.Well)
+    -- the writer failed or stuck
+    EndsDialogue (Err (stops.Write fault)) = Came AnswersSome × (asking is ≡ healths.Well) × (well after ≡ health_after fault)
+    -- memory was wanted
+    EndsDialogue (Err stops.OutOfMemory) = Came AnswersSome × (asking is ≡ healths.Well) × (well after ≡ healths.Well)

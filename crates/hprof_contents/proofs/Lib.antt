@@ -1,4 +1,0 @@
-mod FirstNamed
-pub mod Lookups
-pub mod OneText
-mod Found

@@ -1,6 +1,0 @@
-use Rattle.hprof_lookup.specs.HeapFacts.{facts_of}
-use Rattle.hprof_contents.proofs.FirstNamed.{GoesOn}
-use Rattle.hprof_contents.proofs.object_text.first_named.Given as goal
-
-abbrev pub invariant-loop-value : goal.invariant-loop-value
-invariant-loop-value l = GoesOn (facts_of l.heap) l.word l.values l.value-index

@@ -1,2 +1,0 @@
-pub mod Units
-pub mod Texts

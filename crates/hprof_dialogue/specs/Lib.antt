@@ -1,4 +1,0 @@
-pub mod Lines
-pub mod Asked
-pub mod Answering
-pub mod Dialogue

@@ -1,0 +1,78 @@
+-- Rows by the source of their labels, and what objects are counted together.
+use Rattle.std.specs.Prelude.{◌≡◌, ◌+◌, ◌<◌, ◌^◌, ℕ, List, ◌++◌, Option, None, cond, codes, sum_by, bytes_eq}
+use Rattle.hprof_items.specs.FactValue.{FactValue}
+use Rattle.hprof_heap.specs.ClassName.{NamesClass}
+use Rattle.hprof_histogram.specs.declared.row.Kind.{Kind}
+use Rattle.hprof_histogram.specs.declared.row.Kind.TheVariants as kinds
+use Rattle.hprof_histogram.specs.declared.row.Row.{Row}
+use Rattle.hprof_naming.specs.TypeWord.{type_word}
+use Rattle.hprof_diff.specs.declared.counted.Counted.{Counted}
+use Rattle.hprof_diff.specs.declared.part.Part.{Part}
+use Rattle.hprof_diff.specs.declared.part.Source.{Source}
+use Rattle.hprof_diff.specs.declared.part.Source.TheVariants.{Class, Prim}
+use Rattle.hprof_diff.specs.Labels.{IsBareLabelOf, kind_label}
+
+-- no objects
+abbrev pub nothing : Counted
+nothing = record { count = 0; bytes = 0 }
+
+-- these objects and those
+abbrev pub both : Counted → Counted → Counted
+both these those = record { count = these.count + those.count; bytes = these.bytes + those.bytes }
+
+-- numbers that have room where they are kept
+pub record FitsCounted (counted : Counted) : Type 0 where
+  pub count : counted.count < 2 ^ 128
+  pub bytes : counted.bytes < 2 ^ 128
+
+-- the objects of a row
+abbrev pub counted_of_row : Row → Counted
+counted_of_row row = record { count = row.count; bytes = row.bytes }
+
+-- the class has that name, or the type is that
+abbrev pub IsSource : List FactValue → Kind → Source → Type 0
+IsSource facts (kinds.Class class) (Class name) = NamesClass facts class name
+IsSource facts (kinds.Prim elem) (Prim other) = elem ≡ other
+IsSource facts kind source = ⊥
+
+-- the part has the objects of the row, and the source of its label
+pub record IsPart (facts : List FactValue) (row : Row) (part : Part) : Type 0 where
+  pub source : IsSource facts row.kind part.source
+  pub counted : part.counted ≡ counted_of_row row
+
+-- the identifier of a class's name, if it is the source
+abbrev pub name_of : Source → Option ℕ
+name_of (Class name) = name
+name_of (Prim elem) = None
+
+-- the label from a source
+abbrev pub IsSourceLabel : List FactValue → Source → List ℕ → Type 0
+IsSourceLabel facts (Class name) text = IsBareLabelOf facts name text
+IsSourceLabel facts (Prim elem) text = text ≡ type_word elem ++ codes "[]"
+
+-- these are the labels from all sources
+abbrev pub AreSourceLabels : List FactValue → (Source → List ℕ) → Type 0
+AreSourceLabels facts label = (source : Source) → IsSourceLabel facts source (label source)
+
+-- the objects of all that has the label
+abbrev pub sum_under : {X : Type 0} → (X → List ℕ) → (X → Counted) → List ℕ → List X → Counted
+sum_under label counted text xs = record {
+  count = sum_by (λ x. cond (bytes_eq (label x) text) (counted x).count 0) xs;
+  bytes = sum_by (λ x. cond (bytes_eq (label x) text) (counted x).bytes 0) xs;
+}
+
+-- the objects of all
+abbrev pub sum_of : {X : Type 0} → (X → Counted) → List X → Counted
+sum_of counted xs = record { count = sum_by (λ x. (counted x).count) xs; bytes = sum_by (λ x. (counted x).bytes) xs }
+
+-- the objects of the rows with that label
+abbrev pub rows_under : (ℕ → List ℕ) → List ℕ → List Row → Counted
+rows_under label text rows = sum_under (λ row. kind_label label row.kind) counted_of_row text rows
+
+-- the objects of the parts with that label
+abbrev pub parts_under : (Source → List ℕ) → List ℕ → List Part → Counted
+parts_under label text parts = sum_under (λ part. label part.source) (λ part. part.counted) text parts
+
+-- the objects of all parts
+abbrev pub sum_of_parts : List Part → Counted
+sum_of_parts parts = sum_of (λ part. part.counted) parts

@@ -1,0 +1,95 @@
+//! Objects counted by label.
+
+use crate::counted::Counted;
+use crate::gathering::parts_of;
+use crate::labels::source_label;
+use crate::part::{Part, first_run, sort_parts};
+use hprof_heap::{Heap, holds_of_heap};
+use hprof_histogram::histogram;
+use hprof_naming::ClassNames;
+use std::alloc::{AllocError, Global};
+use std::collections::BTreeMap;
+
+/// The objects of a heap, counted by label.
+#[derive(Drop)]
+pub struct LabelCounts {
+    /// The counts of each label.
+    pub(crate) labels: BTreeMap<String, Counted>,
+}
+
+impl LabelCounts {
+    ghost use Rattle.std.specs.Prelude.{◌≡◌, ℕ, List, IfOk, OnOk, cond, bytes_eq, string_bytes};
+    ghost use Rattle.hprof_heap.specs.HeapFacts.{facts_of, size_of};
+    ghost use Rattle.hprof_diff.specs.Counts.{AreTotals};
+    ghost use Rattle.hprof_diff.specs.Sources.{FitsCounted, both, nothing, sum_of_parts};
+    ghost use Rattle.hprof_diff.specs.Kept.{AreKept, has_label, kept_in, totals_in};
+
+    /// Returns the counts before anything was counted.
+    fn new(alloc: Global) -> LabelCounts
+        ensures { (text : List ℕ) → kept_in result text ≡ nothing }
+    {
+        LabelCounts {
+            labels: BTreeMap::new(alloc),
+        }
+    }
+
+    /// Returns the counts of a label, which are 0 if it has none.
+    pub(crate) fn counted(&self, label: &str) -> Counted
+        ensures { result ≡ kept_in self.now label.now }
+    {
+        match self.labels.get(label) {
+            Some(counted) => *counted,
+            None => Counted::nothing(),
+        }
+    }
+
+    /// Returns whether objects are counted under a label.
+    pub(crate) fn has_label(&self, label: &str) -> bool
+        ensures { result ≡ has_label self.now label.now }
+    {
+        self.labels.contains_key(label)
+    }
+
+    /// Counts objects under a label.
+    fn add(&mut self, label: String, counted: Counted) -> Result<(), AllocError>
+        requires { FitsCounted (both (kept_in self.old (string_bytes label)) counted) }
+        ensures { OnOk result ((text : List ℕ) → kept_in self.new text
+            ≡ cond (bytes_eq (string_bytes label) text) (both (kept_in self.old text) counted) (kept_in self.old text)) }
+    {
+        let sum = self.counted(label.as_str()).with(counted);
+        self.labels.insert(label, sum)?;
+        Ok(())
+    }
+
+    /// Returns the counts of parts by their labels. Parts behind one another that have one source are labelled once.
+    fn of_parts(alloc: Global, heap: &Heap, parts: &[Part]) -> Result<LabelCounts, AllocError>
+        requires { FitsCounted (sum_of_parts parts.now) }
+        ensures { IfOk result (AreKept (facts_of heap.now) parts.now) }
+    {
+        holds_of_heap(heap);
+        let mut counts = LabelCounts::new(alloc);
+        let mut rest = parts;
+        while let Some((first, after)) = rest.split_first() {
+            let (part, behind) = first_run(*first, after);
+            let label = source_label(alloc, heap, part.source)?;
+            counts.add(label, part.counted)?;
+            rest = behind;
+        }
+        Ok(counts)
+    }
+
+    /// Returns the counts of the objects of a heap by the labels of their kinds. If memory runs out, the answer is `AllocError`.
+    ///
+    /// A class counts under its name in print, and under `\?` if it has no load or the heap does not have its name. Classes of one label are
+    /// counted together, and so are arrays of a type and classes whose label reads like it.
+    pub fn of(alloc: Global, heap: &Heap) -> Result<LabelCounts, AllocError>
+        ensures { IfOk result (λ counts. AreTotals (size_of heap.now) (facts_of heap.now) (totals_in counts)) }
+    {
+        holds_of_heap(heap);
+        let rows = histogram(alloc, heap)?;
+        let names = ClassNames::of(alloc, heap)?;
+        let mut parts = parts_of(alloc, heap, &names, &rows)?;
+        sort_parts(&mut parts);
+        LabelCounts::of_parts(alloc, heap, &parts)
+    }
+}

@@ -1,0 +1,52 @@
+//! Labels in print.
+
+ghost use Rattle.std.specs.Prelude.{◌≡◌, ◌++◌, IfOk, codes, string_bytes};
+ghost use Rattle.hprof_naming.specs.TypeWord.{type_word};
+ghost use Rattle.hprof_heap.specs.HeapFacts.{facts_of};
+ghost use Rattle.hprof_diff.specs.Labels.{IsBareLabelOf};
+ghost use Rattle.hprof_diff.specs.Sources.{IsSourceLabel};
+
+use crate::part::Source;
+use hprof_heap::{Heap, find_name};
+use hprof_naming::type_word;
+use hprof_text::printed;
+use hprof_values::Basic;
+use std::alloc::{AllocError, Global};
+
+/// Returns the label of a class that has no name.
+fn missing_label(alloc: Global) -> Result<String, AllocError>
+    ensures { IfOk result (λ text. string_bytes text ≡ codes "\\?") }
+{
+    String::from_str(alloc, "\\?")
+}
+
+/// Returns the label of classes of that name: the name in print, or `\?` if there is none or the heap does not have it.
+fn bare_label(alloc: Global, heap: &Heap, name: Option<u64>) -> Result<String, AllocError>
+    ensures { IfOk result (λ text. IsBareLabelOf (facts_of heap.now) name (string_bytes text)) }
+{
+    let Some(name) = name else {
+        return missing_label(alloc);
+    };
+    match find_name(heap, name) {
+        Some(bytes) => printed(alloc, bytes),
+        None => missing_label(alloc),
+    }
+}
+
+/// Returns the label of arrays of that type.
+fn array_label(alloc: Global, elem: Basic) -> Result<String, AllocError>
+    ensures { IfOk result (λ text. string_bytes text ≡ type_word elem ++ codes "[]") }
+{
+    let word = type_word(elem);
+    format!(in alloc; "{word}[]")
+}
+
+/// Returns the label from a source. If memory runs out, the answer is `AllocError`.
+pub(crate) fn source_label(alloc: Global, heap: &Heap, source: Source) -> Result<String, AllocError>
+    ensures { IfOk result (λ text. IsSourceLabel (facts_of heap.now) source (string_bytes text)) }
+{
+    match source {
+        Source::Class(name) => bare_label(alloc, heap, name),
+        Source::Prim(elem) => array_label(alloc, elem),
+    }
+}

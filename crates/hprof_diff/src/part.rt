@@ -1,0 +1,76 @@
+//! Parts of the histogram, by the source of their labels.
+
+use crate::counted::Counted;
+use hprof_values::Basic;
+
+/// The source of a label.
+#[derive(Clone, Copy, Debug, PartialEq, Eq)]
+pub(crate) enum Source {
+    /// The identifier of the class's name, or `None` if the class has no load.
+    Class(Option<u64>),
+    /// The type of an array's elements.
+    Prim(Basic),
+}
+
+impl Source {
+    ghost use Rattle.std.specs.Prelude.{◌≡◌};
+    ghost use Rattle.std.specs.Bool.{OnTrue};
+    ghost use Rattle.hprof_diff.specs.Sources.{name_of};
+
+    /// Returns the identifier of a class's name.
+    fn name(self) -> Option<u64>
+        ensures { result ≡ name_of self }
+    {
+        match self {
+            Source::Class(name) => name,
+            Source::Prim(_) => None,
+        }
+    }
+
+    /// Returns whether two sources are the same.
+    fn is_same(self, other: Source) -> bool
+        ensures { OnTrue result (self ≡ other) }
+    {
+        self == other
+    }
+}
+
+/// Objects whose labels have one source.
+#[derive(Clone, Copy, Debug, PartialEq, Eq)]
+pub(crate) struct Part {
+    /// The source of their label.
+    pub(crate) source: Source,
+    /// Their number, and the number of their bytes.
+    pub(crate) counted: Counted,
+}
+
+ghost use Rattle.std.specs.Prelude.{◌≡◌, ◌≤◌, ℕ, List, ◌∷◌, length};
+ghost use Rattle.std.specs.List.Sorted.{IsPermutation};
+ghost use Rattle.hprof_diff.specs.declared.part.Source.{Source};
+ghost use Rattle.hprof_diff.specs.Sources.{FitsCounted, parts_under, sum_of_parts};
+
+/// Puts parts with one name behind one another. It takes no memory.
+pub(crate) fn sort_parts(parts: &mut Vec<Part>)
+    ensures { IsPermutation parts.old.items parts.new.items }
+{
+    parts.sort_unstable_by_key(|part| part.source.name());
+}
+
+/// Returns the sum of a part and of those behind it that have the same source, up to the first that does not, and the parts that are left.
+pub(crate) fn first_run<'a>(first: Part, parts: &'a [Part]) -> (Part, &'a [Part])
+    requires { FitsCounted (sum_of_parts (first ∷ parts.now)) }
+    ensures same { (label : Source → List ℕ) (text : List ℕ)
+        → parts_under label text (result.0 ∷ result.1.now) ≡ parts_under label text (first ∷ parts.now) }
+    ensures shorter { length result.1.now ≤ length parts.now }
+{
+    let mut sum = first;
+    let mut rest = parts;
+    while let Some((part, after)) = rest.split_first() {
+        if !part.source.is_same(sum.source) {
+            return (sum, rest);
+        }
+        sum.counted = sum.counted.with(part.counted);
+        rest = after;
+    }
+    (sum, rest)
+}

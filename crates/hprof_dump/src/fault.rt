@@ -1,0 +1,23 @@
+//! Reasons why a dump was not written.
+
+use hprof_devices::WriteFault;
+
+/// The reason why the 1.0.1 dump of a heap was not written to its end.
+#[derive(Clone, Copy, Debug, PartialEq, Eq)]
+pub enum DumpFault {
+    /// The sub-records have more bytes than they may. Nothing was written.
+    TooLong,
+    /// The writer failed or stuck.
+    Write(WriteFault),
+}
+
+impl From<WriteFault> for DumpFault {
+    ghost use Rattle.std.specs.Prelude.{◌≡◌};
+    ghost use Rattle.hprof_dump.specs.declared.fault.DumpFault.TheVariants.{Write};
+
+    ghost from_gives = { λ fault dump. dump ≡ Write fault };
+
+    fn from(fault: WriteFault) -> DumpFault {
+        DumpFault::Write(fault)
+    }
+}

@@ -1,4 +1,0 @@
-pub mod Lists
-pub mod ReadsBack
-pub mod Counting
-pub mod Writing

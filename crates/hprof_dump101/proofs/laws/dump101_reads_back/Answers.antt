@@ -1,5 +1,0 @@
-use Rattle.hprof_dump101.proofs.ReadsBack.{dump_is_part}
-use Rattle.hprof_dump101.proofs.laws.dump101_reads_back.Goals as goal
-
-pub returns : goal.returns
-returns c = dump_is_part

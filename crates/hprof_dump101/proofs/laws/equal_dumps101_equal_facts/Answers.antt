@@ -1,5 +1,0 @@
-use Rattle.hprof_dump101.proofs.ReadsBack.{same_dumps}
-use Rattle.hprof_dump101.proofs.laws.equal_dumps101_equal_facts.Goals as goal
-
-pub returns : goal.returns
-returns c = same_dumps

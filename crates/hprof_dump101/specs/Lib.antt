@@ -1,2 +1,0 @@
-pub mod Dump101
-pub mod Joining101

@@ -1,0 +1,31 @@
+//! The references in a heap, by the identifier that they refer to.
+
+ghost use Rattle.std.specs.Prelude.{◌≡◌, Bool, true, List};
+ghost use Rattle.hprof_values.specs.declared.ids.IdSize.{IdSize};
+ghost use Rattle.hprof_items.specs.FactValue.{FactValue};
+ghost use Rattle.hprof_edges.specs.declared.edge.Edge.{Edge};
+ghost use Rattle.hprof_edges.specs.Edges.{AreEdges, AreReferrers};
+ghost use Rattle.hprof_graph.specs.Indexed.{IsIndexOf, IsIndexTo};
+
+use crate::by_target::edges_to;
+use hprof_edges::Edge;
+
+/// The edges of a heap that were watched, by the identifier that they refer to.
+#[derive(Drop)]
+pub struct Index {
+    pub(crate) edges: Vec<Edge>,
+}
+
+impl Index {
+    /// Returns the edges to an identifier, in order, each once. There are none to 0.
+    ///
+    /// An index that keeps some of the edges alone answers those of them. They are found by binary search, and nothing is allocated.
+    pub fn referrers(&self, id: u64) -> &[Edge]
+        ensures value { (ids : IdSize) (facts : List FactValue) → IsIndexTo ids facts id self.now → AreReferrers ids facts id result.now }
+        // Of an index that keeps some of the edges: those of them to the identifier.
+        ensures kept { (ids : IdSize) (facts : List FactValue) (keeps : Edge → Bool) → IsIndexOf ids facts keeps self.now
+            → AreEdges ids facts (λ edge. (edge.to ≡ id) × (keeps edge ≡ true)) result.now }
+    {
+        edges_to(&self.edges, id)
+    }
+}

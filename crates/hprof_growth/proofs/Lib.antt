@@ -1,9 +1,0 @@
-pub mod Sums
-pub mod LabelTexts
-pub mod RowSums
-pub mod Keeping
-pub mod ChangeOrder
-pub mod OneTotal
-pub mod KeptLabels
-pub mod OneDifference
-pub mod OfHeap

@@ -1,9 +1,0 @@
-use Rattle.std.proofs.Common.{◌≡◌, ◌++◌, map, string_bytes}
-use Rattle.hprof_growth.specs.Changes.{change_value, changes_among}
-use Rattle.hprof_growth.specs.Kept.{labels_in, totals_in}
-use Rattle.hprof_growth.proofs.differences.push_old.Given as goal
-
-abbrev pub invariant-loop-label : goal.invariant-loop-label
-invariant-loop-label l =
-    map change_value l.changes.items ++ changes_among (totals_in l.old) (totals_in l.new) (map string_bytes l.label-iterator)
-    ≡ map change_value l.fn.changes.items ++ changes_among (totals_in l.old) (totals_in l.new) (labels_in l.old)

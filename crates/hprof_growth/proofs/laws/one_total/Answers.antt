@@ -1,8 +1,0 @@
-use Rattle.hprof_growth.proofs.OneTotal.{one_total, totals_exist}
-use Rattle.hprof_growth.proofs.laws.one_total.Goals as goal
-
-pub returns-clause-exists : goal.returns-clause-exists
-returns-clause-exists c = totals_exist
-
-pub returns-clause-once : goal.returns-clause-once
-returns-clause-once c = one_total

@@ -1,0 +1,20 @@
+use Rattle.std.proofs.Common.{◌<◌, ◌^◌, ℕ, subst, arith}
+use Rattle.hprof_rows.proofs.Order.{order_agrees}
+use Rattle.hprof_heap.specs.HeapFacts.{facts_of, size_of}
+use Rattle.hprof_heap.proofs.heap_facts.holds_of_heap.Goals as goal
+
+pub returns-clause-fit : goal.returns-clause-fit
+unfolding facts_of size_of
+returns-clause-fit c = c.ids.ensures.sound.fit
+
+pub returns-clause-ordered : goal.returns-clause-ordered
+unfolding facts_of
+returns-clause-ordered c = c.ids.ensures.sound.ordered
+
+pub returns-clause-agree : goal.returns-clause-agree
+unfolding facts_of
+returns-clause-agree c = order_agrees (facts_of c.args.heap.now) c.ids.ensures.sound.ordered
+
+pub returns-clause-few : goal.returns-clause-few
+unfolding facts_of
+returns-clause-few c = let few : c.len.result < 2 ^ 64 = omega arith in subst (λ (count : ℕ). count < 2 ^ 64) c.len.ensures few

@@ -1,0 +1,10 @@
+use Rattle.hprof_heap.specs.HeapFacts.{facts_of, size_of}
+use Rattle.hprof_heap.proofs.objects.object_fact.Goals as goal
+
+pub returns-clause-value : goal.returns-clause-value
+unfolding facts_of
+returns-clause-value c = c.object_near.ensures.value
+
+pub returns-clause-lists : goal.returns-clause-lists
+unfolding size_of
+returns-clause-lists c = c.object_near.ensures.lists

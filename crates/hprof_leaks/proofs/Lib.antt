@@ -1,3 +1,0 @@
-pub mod ClassLists
-pub mod UnitCounts
-pub mod PrintedPieces

@@ -1,3 +1,0 @@
-pub mod ClassFacts
-pub mod ObjectFacts
-pub mod NameFacts

@@ -1,6 +1,0 @@
-use Rattle.hprof_lookup.specs.HeapFacts.{facts_of}
-use Rattle.hprof_lookup.proofs.heap_facts.class_name.Goals as goal
-
-pub returns : goal.returns
-unfolding facts_of
-returns c = c.class_name.ensures

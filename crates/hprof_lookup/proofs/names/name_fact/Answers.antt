@@ -1,6 +1,0 @@
-use Rattle.hprof_lookup.specs.HeapFacts.{facts_of}
-use Rattle.hprof_lookup.proofs.names.name_fact.Goals as goal
-
-pub returns : goal.returns
-unfolding facts_of
-returns c = c.name.ensures

@@ -1,2 +1,0 @@
-pub mod Index
-pub mod Referring

@@ -1,0 +1,50 @@
+-- The report `text`: the text of an identifier.
+use Rattle.std.specs.Prelude.{◌≡◌, ℕ, List, [], ◌∷◌, ◌++◌, length, codes, ⊤}
+use Rattle.std.specs.Fmt.{decimal}
+use Rattle.std.specs.List.{flat_map}
+use Rattle.hprof_text.specs.Identifier.{id_digits}
+use Rattle.hprof_text.specs.Printed.{printed_unit}
+use Rattle.hprof_values.specs.declared.ids.IdSize.{IdSize}
+use Rattle.hprof_items.specs.FactValue.{FactValue}
+use Rattle.hprof_stream.specs.declared.summary.PartSummary.{PartSummary}
+use Rattle.hprof_rows.specs.Conflict.{IsConsistent}
+use Rattle.hprof_rows.specs.HeapValue.{HeapValue}
+use Rattle.hprof_naming.specs.Texts.{TextValue, Units, NoText, Nothing, IsText}
+use Rattle.hprof_engine.specs.Makes.{Making, making_of}
+use Rattle.hprof_reports.specs.Line.{line_of}
+use Rattle.hprof_reports.specs.ObjectText.{nothing_line}
+
+-- the units in print
+abbrev pub printed_units : List ℕ → List ℕ
+printed_units units = flat_map printed_unit units
+
+-- the number of units, and the units
+abbrev pub text_start : ℕ → List ℕ
+text_start count = codes "text " ++ (decimal count ++ codes " ")
+
+abbrev pub units_line : List ℕ → List ℕ
+units_line units = text_start (length units) ++ (printed_units units ++ codes "\n")
+
+abbrev pub no_text_line : ℕ → List ℕ
+no_text_line id = line_of (codes "no text at" ∷ id_digits id ∷ [])
+
+-- the text, or that there is none
+abbrev pub text_line : ℕ → TextValue → List ℕ
+text_line id (Units units) = units_line units
+text_line id NoText = no_text_line id
+text_line id Nothing = nothing_line id
+
+-- the line is the report of these facts, which agree, on the identifier
+pub record IsTextLine (ids : IdSize) (facts : List FactValue) (id : ℕ) (line : List ℕ) : Type 0 where
+  pub agree : IsConsistent facts
+  pub text : TextValue
+  pub is_text : IsText ids facts id text
+  pub is : line ≡ text_line id text
+
+-- the text is the report on the heap that the parts state
+abbrev pub IsTextReport : ℕ → List PartSummary → HeapValue → List ℕ → Type 0
+IsTextReport id summaries heap text = IsTextLine heap.ids heap.facts id text
+
+-- the report `text`, which takes memory while it is made
+abbrev pub text_making : ℕ → Making
+text_making id = making_of (IsTextReport id) (λ heap. ⊥) (λ parts. ⊥) ⊤

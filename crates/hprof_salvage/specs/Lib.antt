@@ -1,4 +1,0 @@
-pub mod Saved
-pub mod Sound
-pub mod Salvaging
-pub mod Through

@@ -1,5 +1,0 @@
-pub mod Counting
-pub mod Filling
-pub mod Starting
-pub mod Ending
-pub mod Pairing

@@ -1,4 +1,0 @@
-pub mod Counts
-pub mod Lists
-pub mod Pairs
-pub mod Sources
