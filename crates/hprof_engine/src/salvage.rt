@@ -12,7 +12,7 @@ ghost use Rattle.hprof_engine.specs.Through.{TellsHeap, salvaged_in};
 
 use crate::counter::PartCounter;
 use crate::joined::Joined;
-use crate::reading::read_through;
+use crate::salvage_reading::read_through;
 use crate::salvaged::{Salvaged, SalvagedHeap};
 use crate::tool_fault::ToolFault;
 use hprof_devices::{Source, Target};

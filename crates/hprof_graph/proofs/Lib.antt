@@ -7,6 +7,6 @@ pub mod Deriving
 pub mod WakingInstances
 pub mod FactsMore
 pub mod Counted
-pub mod Referrers
+pub mod KeptReferrers
 pub mod Outcomes
 pub mod OfParts

@@ -1,7 +1,7 @@
 use Rattle.std.proofs.Common.{drop, refl}
 use Rattle.hprof_edges.proofs.EdgeSets.{set_sorted}
 use Rattle.hprof_graph.proofs.Deriving.{same_set}
-use Rattle.hprof_graph.proofs.Referrers.{kept_referrers, referrers_are}
+use Rattle.hprof_graph.proofs.KeptReferrers.{kept_referrers, referrers_are}
 use Rattle.hprof_graph.proofs.derived.Derived.bring_behind.Goals as goal
 
 pub returns-clause-behind : goal.returns-clause-behind

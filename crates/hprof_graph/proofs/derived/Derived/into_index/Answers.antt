@@ -1,4 +1,4 @@
-use Rattle.hprof_graph.proofs.Referrers.{index_of}
+use Rattle.hprof_graph.proofs.KeptReferrers.{index_of}
 use Rattle.hprof_graph.proofs.derived.Derived.into_index.Goals as goal
 
 pub returns : goal.returns

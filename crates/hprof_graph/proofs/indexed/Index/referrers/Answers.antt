@@ -2,7 +2,7 @@ use Rattle.std.specs.Prelude.{◌↔◌}
 use Rattle.std.proofs.Common.{◌≡◌, List, Contains, subst, sym}
 use Rattle.hprof_edges.specs.declared.edge.Edge.{Edge}
 use Rattle.hprof_graph.specs.ByTarget.{IsByTarget}
-use Rattle.hprof_graph.proofs.Referrers.{indexed_are, indexed_kept}
+use Rattle.hprof_graph.proofs.KeptReferrers.{indexed_are, indexed_kept}
 use Rattle.hprof_graph.proofs.indexed.Index.referrers.Goals as goal
 
 pub returns-clause-kept : goal.returns-clause-kept

@@ -5,7 +5,7 @@ use Rattle.hprof_heap.specs.HeapFacts.{facts_of, size_of}
 use Rattle.hprof_graph.specs.Derived.{keeps_of}
 use Rattle.hprof_graph.specs.LiveHeap.{seen_by}
 use Rattle.hprof_graph.proofs.Outcomes.{derived_of_heap, failed_outcome, sound_outcome, sound_seen}
-use Rattle.hprof_graph.proofs.Referrers.{index_to}
+use Rattle.hprof_graph.proofs.KeptReferrers.{index_to}
 use Rattle.hprof_graph.proofs.live_heap.LiveHeap.finish.Goals as goal
 
 pub returns-then-failed-clause-answer : goal.returns-then-failed-clause-answer

@@ -4,8 +4,8 @@ use Rattle.hprof_engine.proofs.Reading.{element_at}
 use Rattle.hprof_engine.specs.Through.{ReadsParts}
 use Rattle.hprof_engine.proofs.PartByFault.{read_whole, read_faulty}
 use Rattle.hprof_engine.proofs.Going.{of_fault, gathers_none, gathers_more, ends_at}
-use Rattle.hprof_engine.proofs.reading.read_through.Goals as goal
-use Rattle.hprof_engine.proofs.reading.read_through.Goals.{in-Err+in_ok-list_fault, in_default}
+use Rattle.hprof_engine.proofs.salvage_reading.read_through.Goals as goal
+use Rattle.hprof_engine.proofs.salvage_reading.read_through.Goals.{in-Err+in_ok-list_fault, in_default}
 
 pub loop-index-init : goal.loop-index-init
 loop-index-init g c = record {

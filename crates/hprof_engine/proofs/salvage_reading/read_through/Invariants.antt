@@ -1,7 +1,7 @@
 use Rattle.std.proofs.Common.{◌≡◌, ℕ, ◌<◌, ◌≤◌, length, get_or}
 use Rattle.hprof_heap.specs.Gathering.{gathered}
 use Rattle.hprof_engine.specs.Through.{GathersSaved}
-use Rattle.hprof_engine.proofs.reading.read_through.Given as goal
+use Rattle.hprof_engine.proofs.salvage_reading.read_through.Given as goal
 
 -- the readers so far were read, what is saved of their parts was given, and the others stand as they stood
 abbrev pub invariant-loop-index : goal.invariant-loop-index
