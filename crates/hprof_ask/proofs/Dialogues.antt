@@ -1,5 +1,6 @@
 -- How a dialogue ends.
 use Rattle.std.proofs.Common.{◌≡◌, ℕ, List, [], ◌++◌, Option, Result, Ok, Err, sym, subst, inl, append-nil}
+use Rattle.std.specs.Prelude.{⊤}
 use Rattle.std.specs.Io.KnownBytes.{Consumes, IsAtEnd, Keeps}
 use Rattle.std.proofs.KnownBytes.{Consumes-nil, Consumes-trans}
 use Rattle.hprof_devices.specs.declared.health.Health.{Health}
@@ -8,8 +9,8 @@ use Rattle.hprof_ask.specs.declared.question.Question.{Question}
 use Rattle.hprof_ask.specs.declared.stop.DialogueStop.{DialogueStop}
 use Rattle.hprof_ask.specs.declared.stop.DialogueStop.TheVariants as stops
 use Rattle.hprof_ask.specs.Answering.{LeavesWriter}
-use Rattle.hprof_ask.specs.Dialogue.{AnswersSome, Came, EndsDialogue, Finishes, Heard}
-use Rattle.hprof_ask.proofs.Hearing.{heard_none, heard_still, heard_taken}
+use Rattle.hprof_ask.specs.Dialogue.{AnswersSome, Came, EndsDialogue, Finishes, Heard, LetsReadOn}
+use Rattle.hprof_ask.proofs.Hearing.{heard_ended, heard_none, heard_still, heard_taken, some_for}
 
 module _ (IsAnswer : Question → List ℕ → Type 0) {Q W : Type 0} (left : Q → Option (List ℕ)) (asking : Q → Health) (pulls : Q → ℕ)
     (written : W → Option (List ℕ)) (well : W → Health) (was : Q) (before : W) where
@@ -27,7 +28,7 @@ module _ (IsAnswer : Question → List ℕ → Type 0) {Q W : Type 0} (left : Q 
 
   -- it stopped, and some of the answers were written
   pub ends_some : (is : Q) (after : W) (stop : DialogueStop)
-      → Came IsAnswer left asking pulls written well was is before after (AnswersSome IsAnswer)
+      → Came IsAnswer left asking pulls written well was is before after (AnswersSome IsAnswer (IsAtEnd (left is)))
       → asking is ≡ healths.Well → LeavesWriter {A = Unit {0}} (Err stop) (well after)
       → EndsDialogue IsAnswer left asking pulls written well was is before after {A = Unit {0}} (Err stop)
   ends_some is after (stops.Questions fault) came asks health = absurd health
@@ -41,7 +42,7 @@ module _ (IsAnswer : Question → List ℕ → Type 0) {Q W : Type 0} (left : Q 
     ends_flushing after stop keeps asks health = ends_some is after stop (record {
       bytes = so_far.bytes;
       consumed = so_far.consumed;
-      holds = inl (heard_taken IsAnswer so_far.bytes (written before) (written mid) kept so_far.holds (written after) keeps);
+      holds = inl (heard_taken IsAnswer so_far.bytes (written before) (written mid) kept so_far.holds (IsAtEnd (left is)) (written after) keeps);
     }) asks health
 
     -- the writer flushed all
@@ -51,6 +52,12 @@ module _ (IsAnswer : Question → List ℕ → Type 0) {Q W : Type 0} (left : Q 
       consumed = so_far.consumed;
       holds = heard_still IsAnswer so_far.bytes (written before) (written mid) kept so_far.holds (written after) keeps;
     }
+
+    -- so more may be read
+    pub may_read_on : (flushed : W → Type 0) (may_read : Q → W → Type 0)
+        → LetsReadOn IsAnswer left written flushed may_read was before → flushed mid → may_read is mid
+    may_read_on flushed may_read leave all = leave so_far.bytes is mid so_far.consumed
+        (heard_ended IsAnswer so_far.bytes (written before) (written mid) kept so_far.holds) all
 
     -- a piece more came
     module _ (next : Q) (piece : List ℕ) (consumes : Consumes (left is) (left next) piece) where
@@ -63,11 +70,15 @@ module _ (IsAnswer : Question → List ℕ → Type 0) {Q W : Type 0} (left : Q 
       so_far_more after kept_then heard = record { bytes = so_far.bytes ++ piece; consumed = came_more; holds = heard }
 
       pub ends_piece : (after : W) (stop : DialogueStop)
-          → AnswersSome IsAnswer (so_far.bytes ++ piece) (written before) (written after) → asking next ≡ healths.Well
+          → AnswersSome IsAnswer ⊥ (so_far.bytes ++ piece) (written before) (written after) → asking next ≡ healths.Well
           → LeavesWriter {A = Unit {0}} (Err stop) (well after)
           → EndsDialogue IsAnswer left asking pulls written well was next before after {A = Unit {0}} (Err stop)
       ends_piece after stop some asks health =
-          ends_some next after stop (record { bytes = so_far.bytes ++ piece; consumed = came_more; holds = some }) asks health
+          ends_some next after stop (record {
+            bytes = so_far.bytes ++ piece;
+            consumed = came_more;
+            holds = some_for IsAnswer ⊥ (IsAtEnd (left next)) (λ none. absurd none) (so_far.bytes ++ piece) (written before) (written after) some;
+          }) asks health
 
     -- nothing more comes
     pub ends_all : (next : Q) (after : W) (r : Result (Unit {0}) DialogueStop) → Consumes (left is) (left next) [] → IsAtEnd (left next)
@@ -86,5 +97,5 @@ module _ (IsAnswer : Question → List ℕ → Type 0) {Q W : Type 0} (left : Q 
     ends_all next after (Err stop) consumes end some asks health = ends_some next after stop (record {
       bytes = so_far.bytes;
       consumed = subst (Consumes (left was) (left next)) (append-nil so_far.bytes) (came_more next [] consumes);
-      holds = some;
+      holds = some_for IsAnswer ⊤ (IsAtEnd (left next)) (λ none. end) so_far.bytes (written before) (written after) some;
     }) asks health

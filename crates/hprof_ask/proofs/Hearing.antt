@@ -89,7 +89,7 @@ module _ (IsAnswer : Question → List ℕ → Type 0) where
 
       -- a line ended, and its answer stopped
       pub heard_stop : (more : List ℕ) (new : Option (List ℕ)) → ((n : ℕ) × (n ≤ length answer) × Appends now new (take n answer))
-          → AnswersFront IsAnswer (bytes ++ 10 ∷ more) start new
+          → AnswersFront IsAnswer ⊥ (bytes ++ 10 ∷ more) start new
       heard_stop more new front = record {
         lines = heard.lines;
         last = (line_before heard.rest).0;
@@ -117,8 +117,8 @@ module _ (IsAnswer : Question → List ℕ → Type 0) where
     }
 
     -- the lines so far are answered
-    pub heard_taken : (new : Option (List ℕ)) → Keeps now new → AnswersLines IsAnswer AreTaken bytes start new
-    heard_taken new keeps = record {
+    pub heard_taken : (IsEnd : Type 0) (new : Option (List ℕ)) → Keeps now new → AnswersLines IsAnswer (AreTaken IsEnd) bytes start new
+    heard_taken IsEnd new keeps = record {
       lines = heard.lines;
       taken = inl (heard.rest, heard.first);
       text = heard.text;
@@ -175,7 +175,7 @@ module _ (IsAnswer : Question → List ℕ → Type 0) where
       heard_last (Err stop) new front = inr (record {
         lines = heard.lines;
         last = heard.rest;
-        taken = inr all_lines;
+        taken = inr (tt, all_lines);
         text = heard.text;
         are_answers = heard.are_answers;
         answer = answer;
@@ -186,16 +186,16 @@ module _ (IsAnswer : Question → List ℕ → Type 0) where
       })
 
   -- nothing more was written
-  pub some_still : (bytes : List ℕ) (start now new : Option (List ℕ)) → Keeps now new → AnswersSome IsAnswer bytes start now
-      → AnswersSome IsAnswer bytes start new
-  some_still bytes start now new keeps (inl all) = inl (record {
+  pub some_still : (IsEnd : Type 0) (bytes : List ℕ) (start now new : Option (List ℕ)) → Keeps now new
+      → AnswersSome IsAnswer IsEnd bytes start now → AnswersSome IsAnswer IsEnd bytes start new
+  some_still IsEnd bytes start now new keeps (inl all) = inl (record {
     lines = all.lines;
     taken = all.taken;
     text = all.text;
     are_answers = all.are_answers;
     appended = Appends-kept start now new all.text all.appended keeps;
   })
-  some_still bytes start now new keeps (inr front) = inr (record {
+  some_still IsEnd bytes start now new keeps (inr front) = inr (record {
     lines = front.lines;
     last = front.last;
     taken = front.taken;
@@ -206,6 +206,29 @@ module _ (IsAnswer : Question → List ℕ → Type 0) where
     count = front.count;
     within = front.within;
     appended = Appends-kept start now new (front.text ++ take front.count front.answer) front.appended keeps;
+  })
+
+  -- the same, where more is known of the end
+  pub some_for : (IsEnd Ends : Type 0) → (IsEnd → Ends) → (bytes : List ℕ) (start now : Option (List ℕ))
+      → AnswersSome IsAnswer IsEnd bytes start now → AnswersSome IsAnswer Ends bytes start now
+  some_for IsEnd Ends ends bytes start now (inl all) = inl (record {
+    lines = all.lines;
+    taken = elim all.taken [ inl first ↦ inl first | inr whole ↦ inr (ends whole.0, whole.1) ];
+    text = all.text;
+    are_answers = all.are_answers;
+    appended = all.appended;
+  })
+  some_for IsEnd Ends ends bytes start now (inr front) = inr (record {
+    lines = front.lines;
+    last = front.last;
+    taken = elim front.taken [ inl first ↦ inl first | inr whole ↦ inr (ends whole.0, whole.1) ];
+    text = front.text;
+    are_answers = front.are_answers;
+    answer = front.answer;
+    is_answer = front.is_answer;
+    count = front.count;
+    within = front.within;
+    appended = front.appended;
   })
 
   -- all lines are answered, and it is tried to pass all on
@@ -220,7 +243,7 @@ module _ (IsAnswer : Question → List ℕ → Type 0) where
   }
   flushes_all (Err stop) bytes start now new all keeps = inl (record {
     lines = all.lines;
-    taken = inr all.taken;
+    taken = inr (tt, all.taken);
     text = all.text;
     are_answers = all.are_answers;
     appended = Appends-kept start now new all.text all.appended keeps;

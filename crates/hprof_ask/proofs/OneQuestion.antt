@@ -1,5 +1,6 @@
 -- A line asks one thing.
-use Rattle.std.proofs.Common.{◌≡◌, ℕ, ◌<◌, ◌==◌, ◌||◌, Bool, true, false, List, [], ◌∷◌, ◌++◌, refl, sym, ap, subst, ◌∙◌, inl, inr, get_or, arith}
+use Rattle.std.proofs.Common.{◌≡◌, ◌⊎◌, ℕ, ◌<◌, ◌==◌, ◌||◌, Bool, true, false, List, [], ◌∷◌, ◌++◌, refl, sym, ap, subst, ◌∙◌, inl, inr, get_or, arith, codes}
+use Rattle.std.specs.Prelude.{if◌then◌else◌}
 use Rattle.std.specs.Char.{digit_value}
 use Rattle.std.specs.Str.Parse.{AllDigits}
 use Rattle.std.proofs.lemmas.Bool.Decides.{nat_tests}
@@ -9,120 +10,84 @@ use Rattle.hprof_values.specs.declared.basic.Basic.{Basic}
 use Rattle.hprof_values.specs.declared.basic.Basic.TheVariants as basics
 use Rattle.hprof_histogram.specs.declared.row.Kind.{Kind}
 use Rattle.hprof_histogram.specs.declared.row.Kind.TheVariants as kinds
-use Rattle.hprof_ask.specs.declared.question.OneWord.{OneWord}
-use Rattle.hprof_ask.specs.declared.question.OneWord.TheVariants as ones
+use Rattle.hprof_ask.specs.declared.report.Report.{Report}
+use Rattle.hprof_ask.specs.declared.report.Report.TheVariants as reports
+use Rattle.hprof_ask.specs.declared.report_word.Follows.TheVariants as follow
+use Rattle.hprof_ask.specs.declared.report_word.ReportWord.{ReportWord}
+use Rattle.hprof_ask.specs.declared.report_word.ReportWord.TheVariants as words
+use Rattle.hprof_ask.specs.declared.subject.Misnamed.{Misnamed}
+use Rattle.hprof_ask.specs.declared.subject.Misnamed.TheVariants as misnamed
 use Rattle.hprof_ask.specs.declared.question.Question.{Question}
 use Rattle.hprof_ask.specs.declared.question.Question.TheVariants as questions
-use Rattle.hprof_ask.specs.declared.question.Subject.{Subject}
-use Rattle.hprof_ask.specs.declared.question.Subject.TheVariants as subjects
-use Rattle.hprof_ask.specs.Asked.{Asks, IsQuestion, NamesKind, front_of, kind_front, word_of}
+use Rattle.hprof_ask.specs.Asked.{Asks, AsksReport, IsFollowed, IsLineOf, IsMisnamed, IsNamed, IsQuestion, NamesId, NamesKind}
+use Rattle.hprof_ask.specs.Words.{follows_of, word_of}
 
--- ---- which word it is, by one of its bytes
+-- ---- which word it is, by some of its bytes
 
-abbrev one_by : Bool → Bool → Bool → OneWord
-one_by true second third = ones.Help
-one_by false true third = ones.Check
-one_by false false true = ones.Histogram
-one_by false false false = ones.Classes
+abbrev word_by : List ℕ → ReportWord
+word_by line =
+    if get_or line 0 0 == 99 then (if get_or line 1 0 == 104 then words.Check else words.Classes)
+    else (if get_or line 0 0 == 104 then words.Histogram
+    else (if get_or line 0 0 == 114 then words.Refs
+    else (if get_or line 0 0 == 112 then words.Path
+    else (if get_or line 0 0 == 116 then words.Text
+    else (if get_or line 0 0 == 119 then words.Why
+    else (if get_or line 6 0 == 115 then words.Objects else words.Object))))))
 
-abbrev one_at : ℕ → OneWord
-one_at byte = one_by (byte == 101) (byte == 104) (byte == 105)
+-- the line of a word tells it
+tells_word : (word : ReportWord) (line text : List ℕ) → IsLineOf line word text → word_by line ≡ word
+tells_word words.Check line text is = ap word_by is.0
+tells_word words.Histogram line text is = ap word_by is.0
+tells_word words.Classes line text is = ap word_by is.0
+tells_word words.Object line text is = ap word_by is.1
+tells_word words.Refs line text is = ap word_by is.1
+tells_word words.Path line text is = ap word_by is.1
+tells_word words.Text line text is = ap word_by is.1
+tells_word words.Why line text is = ap word_by is.1
+tells_word words.Objects line text is = ap word_by is.1
 
-one_back : (one : OneWord) → one_at (get_or (word_of one) 1 0) ≡ one
-one_back ones.Help = refl
-one_back ones.Check = refl
-one_back ones.Histogram = refl
-one_back ones.Classes = refl
+one_text : (word : ReportWord) (line one other : List ℕ) → IsLineOf line word one → IsLineOf line word other → one ≡ other
+one_text words.Check line one other is is_too = is.1 ∙ sym is_too.1
+one_text words.Histogram line one other is is_too = is.1 ∙ sym is_too.1
+one_text words.Classes line one other is is_too = is.1 ∙ sym is_too.1
+one_text words.Object line one other is is_too = append_cancel_left (codes "object ") one other (sym is.1 ∙ is_too.1)
+one_text words.Refs line one other is is_too = append_cancel_left (codes "refs ") one other (sym is.1 ∙ is_too.1)
+one_text words.Path line one other is is_too = append_cancel_left (codes "path ") one other (sym is.1 ∙ is_too.1)
+one_text words.Text line one other is is_too = append_cancel_left (codes "text ") one other (sym is.1 ∙ is_too.1)
+one_text words.Why line one other is is_too = append_cancel_left (codes "why ") one other (sym is.1 ∙ is_too.1)
+one_text words.Objects line one other is is_too = append_cancel_left (codes "objects ") one other (sym is.1 ∙ is_too.1)
 
-same_word : (one other : OneWord) → word_of one ≡ word_of other → one ≡ other
-same_word one other e = sym (one_back one) ∙ ap (λ (l : List ℕ). one_at (get_or l 1 0)) e ∙ one_back other
+-- a line is that of one word, with one text behind it
+one_line : (line : List ℕ) (word word_too : ReportWord) (text text_too : List ℕ) → IsLineOf line word text → IsLineOf line word_too text_too
+    → (word ≡ word_too) × (text ≡ text_too)
+one_line line word word_too text text_too is is_too =
+    let same = sym (tells_word word line text is) ∙ tells_word word_too line text_too is_too in
+    (same, one_text word_too line text text_too (subst (λ (w : ReportWord). IsLineOf line w text) same is) is_too)
 
-abbrev subject_by : Bool → Bool → Bool → Bool → Subject
-subject_by true second third fourth = subjects.Object
-subject_by false true third fourth = subjects.Refs
-subject_by false false true fourth = subjects.Path
-subject_by false false false true = subjects.Text
-subject_by false false false false = subjects.Why
+-- the line of a word has some bytes, and is not `help`
+some_bytes : (word : ReportWord) (line text : List ℕ) → IsLineOf line word text → get_or line 0 0 ≡ 0 → ⊥
+some_bytes words.Check line text is none = let no : 99 ≡ 0 = sym (ap (λ (l : List ℕ). get_or l 0 0) is.0) ∙ none in absurd (omega (arith, no))
+some_bytes words.Histogram line text is none = let no : 104 ≡ 0 = sym (ap (λ (l : List ℕ). get_or l 0 0) is.0) ∙ none in absurd (omega (arith, no))
+some_bytes words.Classes line text is none = let no : 99 ≡ 0 = sym (ap (λ (l : List ℕ). get_or l 0 0) is.0) ∙ none in absurd (omega (arith, no))
+some_bytes words.Object line text is none = let no : 111 ≡ 0 = sym (ap (λ (l : List ℕ). get_or l 0 0) is.1) ∙ none in absurd (omega (arith, no))
+some_bytes words.Refs line text is none = let no : 114 ≡ 0 = sym (ap (λ (l : List ℕ). get_or l 0 0) is.1) ∙ none in absurd (omega (arith, no))
+some_bytes words.Path line text is none = let no : 112 ≡ 0 = sym (ap (λ (l : List ℕ). get_or l 0 0) is.1) ∙ none in absurd (omega (arith, no))
+some_bytes words.Text line text is none = let no : 116 ≡ 0 = sym (ap (λ (l : List ℕ). get_or l 0 0) is.1) ∙ none in absurd (omega (arith, no))
+some_bytes words.Why line text is none = let no : 119 ≡ 0 = sym (ap (λ (l : List ℕ). get_or l 0 0) is.1) ∙ none in absurd (omega (arith, no))
+some_bytes words.Objects line text is none = let no : 111 ≡ 0 = sym (ap (λ (l : List ℕ). get_or l 0 0) is.1) ∙ none in absurd (omega (arith, no))
 
-abbrev subject_at : ℕ → Subject
-subject_at byte = subject_by (byte == 111) (byte == 114) (byte == 112) (byte == 116)
+second_byte : (word : ReportWord) (line text : List ℕ) → IsLineOf line word text → get_or line 0 0 ≡ 104 → get_or line 1 0 ≡ 101 → ⊥
+second_byte words.Check line text is h e = let no : 99 ≡ 104 = sym (ap (λ (l : List ℕ). get_or l 0 0) is.0) ∙ h in absurd (omega (arith, no))
+second_byte words.Histogram line text is h e = let no : 105 ≡ 101 = sym (ap (λ (l : List ℕ). get_or l 1 0) is.0) ∙ e in absurd (omega (arith, no))
+second_byte words.Classes line text is h e = let no : 99 ≡ 104 = sym (ap (λ (l : List ℕ). get_or l 0 0) is.0) ∙ h in absurd (omega (arith, no))
+second_byte words.Object line text is h e = let no : 111 ≡ 104 = sym (ap (λ (l : List ℕ). get_or l 0 0) is.1) ∙ h in absurd (omega (arith, no))
+second_byte words.Refs line text is h e = let no : 114 ≡ 104 = sym (ap (λ (l : List ℕ). get_or l 0 0) is.1) ∙ h in absurd (omega (arith, no))
+second_byte words.Path line text is h e = let no : 112 ≡ 104 = sym (ap (λ (l : List ℕ). get_or l 0 0) is.1) ∙ h in absurd (omega (arith, no))
+second_byte words.Text line text is h e = let no : 116 ≡ 104 = sym (ap (λ (l : List ℕ). get_or l 0 0) is.1) ∙ h in absurd (omega (arith, no))
+second_byte words.Why line text is h e = let no : 119 ≡ 104 = sym (ap (λ (l : List ℕ). get_or l 0 0) is.1) ∙ h in absurd (omega (arith, no))
+second_byte words.Objects line text is h e = let no : 111 ≡ 104 = sym (ap (λ (l : List ℕ). get_or l 0 0) is.1) ∙ h in absurd (omega (arith, no))
 
-subject_back : (subject : Subject) (word : List ℕ) → subject_at (get_or (front_of subject ++ word) 0 0) ≡ subject
-subject_back subjects.Object word = refl
-subject_back subjects.Refs word = refl
-subject_back subjects.Path word = refl
-subject_back subjects.Text word = refl
-subject_back subjects.Why word = refl
-
-same_subject : (one other : Subject) (word word_too : List ℕ) → front_of one ++ word ≡ front_of other ++ word_too → one ≡ other
-same_subject one other word word_too e =
-    sym (subject_back one word) ∙ ap (λ (l : List ℕ). subject_at (get_or l 0 0)) e ∙ subject_back other word_too
-
--- one thing is asked, of one word
-one_subject : (line : List ℕ) (one other : Subject) (word word_too : List ℕ) → line ≡ front_of one ++ word
-    → line ≡ front_of other ++ word_too → (one ≡ other) × (word ≡ word_too)
-one_subject line one other word word_too e f =
-    let same = same_subject one other word word_too (sym e ∙ f) in (
-      same,
-      append_cancel_left (front_of one) word word_too
-          (sym e ∙ f ∙ ap (λ (s : Subject). front_of s ++ word_too) (sym same)),
-    )
-
--- ---- a space is in the questions on an identifier alone
-
-abbrev has_space : List ℕ → Bool
-has_space [] = false
-has_space (byte ∷ rest) = (byte == 32) || has_space rest
-
-no_space : (one : OneWord) → has_space (word_of one) ≡ false
-no_space ones.Help = refl
-no_space ones.Check = refl
-no_space ones.Histogram = refl
-no_space ones.Classes = refl
-
-some_space : (subject : Subject) (word : List ℕ) → has_space (front_of subject ++ word) ≡ true
-some_space subjects.Object word = refl
-some_space subjects.Refs word = refl
-some_space subjects.Path word = refl
-some_space subjects.Text word = refl
-some_space subjects.Why word = refl
-
-no_subject : (line : List ℕ) (subject : Subject) (word : List ℕ) → has_space line ≡ false → line ≡ front_of subject ++ word → ⊥
-no_subject line subject word none e =
-    let both : false ≡ true = sym none ∙ ap has_space e ∙ some_space subject word in absurd cc
-
-word_no_subject : (line : List ℕ) (one : OneWord) (subject : Subject) (word : List ℕ) → line ≡ word_of one
-    → line ≡ front_of subject ++ word → ⊥
-word_no_subject line one subject word is e = no_subject line subject word (ap has_space is ∙ no_space one) e
-
-some_byte : (one : OneWord) → get_or (word_of one) 0 0 ≡ 0 → ⊥
-some_byte ones.Help e = absurd (omega (arith, e))
-some_byte ones.Check e = absurd (omega (arith, e))
-some_byte ones.Histogram e = absurd (omega (arith, e))
-some_byte ones.Classes e = absurd (omega (arith, e))
-
-word_something : (line : List ℕ) (one : OneWord) → line ≡ [] → line ≡ word_of one → ⊥
-word_something line one none is = some_byte one (ap (λ (l : List ℕ). get_or l 0 0) (sym is ∙ none))
-
--- ---- classes and types
-
--- the second byte of a subject's front, or the seventh, is another than that of the other front
-kind_byte : (subject : Subject) (word word_too : List ℕ) → front_of subject ++ word ≡ kind_front ++ word_too → ⊥
-kind_byte subjects.Object word word_too e = let byte : 32 ≡ 115 = ap (λ (l : List ℕ). get_or l 6 0) e in absurd (omega (arith, byte))
-kind_byte subjects.Refs word word_too e = let byte : 114 ≡ 111 = ap (λ (l : List ℕ). get_or l 0 0) e in absurd (omega (arith, byte))
-kind_byte subjects.Path word word_too e = let byte : 112 ≡ 111 = ap (λ (l : List ℕ). get_or l 0 0) e in absurd (omega (arith, byte))
-kind_byte subjects.Text word word_too e = let byte : 116 ≡ 111 = ap (λ (l : List ℕ). get_or l 0 0) e in absurd (omega (arith, byte))
-kind_byte subjects.Why word word_too e = let byte : 119 ≡ 111 = ap (λ (l : List ℕ). get_or l 0 0) e in absurd (omega (arith, byte))
-
-subject_no_kind : (line : List ℕ) (subject : Subject) (word word_too : List ℕ) → line ≡ front_of subject ++ word
-    → line ≡ kind_front ++ word_too → ⊥
-subject_no_kind line subject word word_too e f = kind_byte subject word word_too (sym e ∙ f)
-
-no_kind_word : (line word : List ℕ) → has_space line ≡ false → line ≡ kind_front ++ word → ⊥
-no_kind_word line word none e = let both : false ≡ true = sym none ∙ ap has_space e in absurd cc
-
-one_kind_word : (line word word_too : List ℕ) → line ≡ kind_front ++ word → line ≡ kind_front ++ word_too → word ≡ word_too
-one_kind_word line word word_too e f = append_cancel_left kind_front word word_too (sym e ∙ f)
+-- ---- what follows a word
 
 -- the word of a type has a bracket, which is no digit
 abbrev has_bracket : List ℕ → Bool
@@ -184,88 +149,190 @@ one_kind word (kinds.Prim elem) (kinds.Class other) e f =
     let both : true ≡ false = sym (type_bracket elem word e) ∙ digits_no_bracket word f.0.digits.1 in absurd cc
 one_kind word (kinds.Prim one) (kinds.Prim other) e f = ap kinds.Prim (sym (type_back one word e) ∙ type_back other word f)
 
+-- ---- what a word asks with a text behind it
+
+-- the report on the identifier that the text is
+abbrev Identified : (ℕ → Report) → List ℕ → Report → Type 0
+Identified on text report = (id : ℕ) × (report ≡ on id) × NamesId text id
+
+one_identified : (on : ℕ → Report) (text : List ℕ) (one other : Report) → Identified on text one → Identified on text other → one ≡ other
+one_identified on text one other is is_too = is.1 ∙ ap on (sym is.2.1 ∙ is_too.2.1) ∙ sym is_too.1
+
+asks_check : (text : List ℕ) (report : Report) → AsksReport words.Check text report → report ≡ reports.Check
+asks_check text reports.Check is = refl
+asks_check text other is = absurd is
+
+asks_histogram : (text : List ℕ) (report : Report) → AsksReport words.Histogram text report → report ≡ reports.Histogram
+asks_histogram text reports.Histogram is = refl
+asks_histogram text other is = absurd is
+
+asks_classes : (text : List ℕ) (report : Report) → AsksReport words.Classes text report → report ≡ reports.Classes
+asks_classes text reports.Classes is = refl
+asks_classes text other is = absurd is
+
+asks_object : (text : List ℕ) (report : Report) → AsksReport words.Object text report → Identified reports.Object text report
+asks_object text (reports.Object id) is = (id, refl, is)
+asks_object text other is = absurd is
+
+asks_refs : (text : List ℕ) (report : Report) → AsksReport words.Refs text report → Identified reports.Refs text report
+asks_refs text (reports.Refs id) is = (id, refl, is)
+asks_refs text other is = absurd is
+
+asks_path : (text : List ℕ) (report : Report) → AsksReport words.Path text report → Identified reports.Path text report
+asks_path text (reports.Path id) is = (id, refl, is)
+asks_path text other is = absurd is
+
+asks_text : (text : List ℕ) (report : Report) → AsksReport words.Text text report → Identified reports.Text text report
+asks_text text (reports.Text id) is = (id, refl, is)
+asks_text text other is = absurd is
+
+asks_why : (text : List ℕ) (report : Report) → AsksReport words.Why text report → Identified reports.Why text report
+asks_why text (reports.Why id) is = (id, refl, is)
+asks_why text other is = absurd is
+
+asks_objects : (text : List ℕ) (report : Report) → AsksReport words.Objects text report
+    → (kind : Kind) × (report ≡ reports.Objects kind) × NamesKind text kind
+asks_objects text (reports.Objects kind) is = (kind, refl, is)
+asks_objects text other is = absurd is
+
+one_asked : (word : ReportWord) (text : List ℕ) (one other : Report) → AsksReport word text one → AsksReport word text other → one ≡ other
+one_asked words.Check text one other is is_too = asks_check text one is ∙ sym (asks_check text other is_too)
+one_asked words.Histogram text one other is is_too = asks_histogram text one is ∙ sym (asks_histogram text other is_too)
+one_asked words.Classes text one other is is_too = asks_classes text one is ∙ sym (asks_classes text other is_too)
+one_asked words.Object text one other is is_too =
+    one_identified reports.Object text one other (asks_object text one is) (asks_object text other is_too)
+one_asked words.Refs text one other is is_too =
+    one_identified reports.Refs text one other (asks_refs text one is) (asks_refs text other is_too)
+one_asked words.Path text one other is is_too =
+    one_identified reports.Path text one other (asks_path text one is) (asks_path text other is_too)
+one_asked words.Text text one other is is_too =
+    one_identified reports.Text text one other (asks_text text one is) (asks_text text other is_too)
+one_asked words.Why text one other is is_too =
+    one_identified reports.Why text one other (asks_why text one is) (asks_why text other is_too)
+one_asked words.Objects text one other is is_too =
+    let first = asks_objects text one is in
+    let second = asks_objects text other is_too in
+    first.1 ∙ ap reports.Objects (one_kind text first.0 second.0 first.2 second.2) ∙ sym second.1
+
+-- if an identifier follows the word, the text is one
+names_id : (word : ReportWord) (text : List ℕ) (report : Report) → AsksReport word text report → follows_of word ≡ follow.Identifier
+    → IsIdText text
+names_id words.Check text report is same = absurd cc
+names_id words.Histogram text report is same = absurd cc
+names_id words.Classes text report is same = absurd cc
+names_id words.Object text report is same = (asks_object text report is).2.0
+names_id words.Refs text report is same = (asks_refs text report is).2.0
+names_id words.Path text report is same = (asks_path text report is).2.0
+names_id words.Text text report is same = (asks_text text report is).2.0
+names_id words.Why text report is same = (asks_why text report is).2.0
+names_id words.Objects text report is same = absurd cc
+
+names_kind : (word : ReportWord) (text : List ℕ) (report : Report) → AsksReport word text report → follows_of word ≡ follow.ClassOrType
+    → (kind : Kind) × NamesKind text kind
+names_kind words.Check text report is same = absurd cc
+names_kind words.Histogram text report is same = absurd cc
+names_kind words.Classes text report is same = absurd cc
+names_kind words.Object text report is same = absurd cc
+names_kind words.Refs text report is same = absurd cc
+names_kind words.Path text report is same = absurd cc
+names_kind words.Text text report is same = absurd cc
+names_kind words.Why text report is same = absurd cc
+names_kind words.Objects text report is same = let it = asks_objects text report is in (it.0, it.2)
+
+misnames : (word : ReportWord) (text : List ℕ) (report : Report) (fault : Misnamed) → AsksReport word text report → IsMisnamed word text fault → ⊥
+misnames word text report misnamed.NoIdentifier is no = no.1 (names_id word text report is no.0)
+misnames word text report misnamed.NoKind is no = let it = names_kind word text report is no.0 in no.1 it.0 it.1
+
+both_follow : (word : ReportWord) → follows_of word ≡ follow.Identifier → follows_of word ≡ follow.ClassOrType → ⊥
+both_follow word one other = let no : follow.Identifier ≡ follow.ClassOrType = sym one ∙ other in cc
+
+one_misnamed : (word : ReportWord) (text : List ℕ) (one other : Misnamed) → IsMisnamed word text one → IsMisnamed word text other → one ≡ other
+one_misnamed word text misnamed.NoIdentifier misnamed.NoIdentifier is is_too = refl
+one_misnamed word text misnamed.NoIdentifier misnamed.NoKind is is_too = absurd (both_follow word is.0 is_too.0)
+one_misnamed word text misnamed.NoKind misnamed.NoIdentifier is is_too = absurd (both_follow word is_too.0 is.0)
+one_misnamed word text misnamed.NoKind misnamed.NoKind is is_too = refl
+
+one_named : (word : ReportWord) (text : List ℕ) (one other : Question) → IsNamed word text one → IsNamed word text other → one ≡ other
+one_named word text (questions.Report one) (questions.Report other) is is_too = ap questions.Report (one_asked word text one other is is_too)
+one_named word text (questions.Report one) (questions.Misnamed other) is is_too = absurd (misnames word text one other is is_too)
+one_named word text (questions.Misnamed one) (questions.Report other) is is_too = absurd (misnames word text other one is_too is)
+one_named word text (questions.Misnamed one) (questions.Misnamed other) is is_too =
+    ap questions.Misnamed (one_misnamed word text one other is is_too)
+one_named word text (questions.Report one) questions.Nothing is is_too = absurd is_too
+one_named word text (questions.Report one) questions.Help is is_too = absurd is_too
+one_named word text (questions.Report one) questions.NotUnderstood is is_too = absurd is_too
+one_named word text (questions.Misnamed one) questions.Nothing is is_too = absurd is_too
+one_named word text (questions.Misnamed one) questions.Help is is_too = absurd is_too
+one_named word text (questions.Misnamed one) questions.NotUnderstood is is_too = absurd is_too
+one_named word text questions.Nothing other is is_too = absurd is
+one_named word text questions.Help other is is_too = absurd is
+one_named word text questions.NotUnderstood other is is_too = absurd is
+
 -- ---- what the words of a line ask is one thing
 
+-- no report
+abbrev Plain : List ℕ → Question → Type 0
+Plain line questions.Nothing = line ≡ []
+Plain line questions.Help = line ≡ codes "help"
+Plain line questions.NotUnderstood =
+    (line ≡ [] → ⊥) × (line ≡ codes "help" → ⊥) × ((word : ReportWord) (text : List ℕ) → IsLineOf line word text → ⊥)
+Plain line other = ⊥
+
+-- a word and what follows it
+abbrev OfWord : List ℕ → Question → Type 0
+OfWord line question = (word : ReportWord) × (text : List ℕ) × IsLineOf line word text × IsNamed word text question
+
+either : (line : List ℕ) (question : Question) → IsQuestion line question → Plain line question ⊎ OfWord line question
+either line questions.Nothing is = inl is
+either line questions.Help is = inl is
+either line questions.NotUnderstood is = inl is
+either line (questions.Report report) is = inr is
+either line (questions.Misnamed fault) is = inr is
+
+no_help : (line : List ℕ) → line ≡ [] → line ≡ codes "help" → ⊥
+no_help line none is = let no : 0 ≡ 104 = ap (λ (l : List ℕ). get_or l 0 0) (sym none ∙ is) in absurd (omega (arith, no))
+
+one_plain : (line : List ℕ) (one other : Question) → Plain line one → Plain line other → one ≡ other
+one_plain line questions.Nothing questions.Nothing is is_too = refl
+one_plain line questions.Nothing questions.Help is is_too = absurd (no_help line is is_too)
+one_plain line questions.Nothing questions.NotUnderstood is is_too = absurd (is_too.0 is)
+one_plain line questions.Help questions.Nothing is is_too = absurd (no_help line is_too is)
+one_plain line questions.Help questions.Help is is_too = refl
+one_plain line questions.Help questions.NotUnderstood is is_too = absurd (is_too.1 is)
+one_plain line questions.NotUnderstood questions.Nothing is is_too = absurd (is.0 is_too)
+one_plain line questions.NotUnderstood questions.Help is is_too = absurd (is.1 is_too)
+one_plain line questions.NotUnderstood questions.NotUnderstood is is_too = refl
+one_plain line questions.Nothing (questions.Report report) is is_too = absurd is_too
+one_plain line questions.Nothing (questions.Misnamed fault) is is_too = absurd is_too
+one_plain line questions.Help (questions.Report report) is is_too = absurd is_too
+one_plain line questions.Help (questions.Misnamed fault) is is_too = absurd is_too
+one_plain line questions.NotUnderstood (questions.Report report) is is_too = absurd is_too
+one_plain line questions.NotUnderstood (questions.Misnamed fault) is is_too = absurd is_too
+one_plain line (questions.Report report) other is is_too = absurd is
+one_plain line (questions.Misnamed fault) other is is_too = absurd is
+
+plain_no_word : (line : List ℕ) (one other : Question) → Plain line one → OfWord line other → ⊥
+plain_no_word line questions.Nothing other is (word, text, is_line, named) =
+    some_bytes word line text is_line (ap (λ (l : List ℕ). get_or l 0 0) is)
+plain_no_word line questions.Help other is (word, text, is_line, named) =
+    second_byte word line text is_line (ap (λ (l : List ℕ). get_or l 0 0) is) (ap (λ (l : List ℕ). get_or l 1 0) is)
+plain_no_word line questions.NotUnderstood other is (word, text, is_line, named) = is.2 word text is_line
+plain_no_word line (questions.Report report) other is it = is
+plain_no_word line (questions.Misnamed fault) other is it = is
+
+one_of_word : (line : List ℕ) (one other : Question) → OfWord line one → OfWord line other → one ≡ other
+one_of_word line one other (word, text, is_line, named) (word_too, text_too, is_line_too, named_too) =
+    let same = one_line line word word_too text text_too is_line is_line_too in
+    one_named word_too text_too one other
+    (subst (λ (t : List ℕ). IsNamed word_too t one) same.1 (subst (λ (w : ReportWord). IsNamed w text one) same.0 named)) named_too
+
 pub one_question : (line : List ℕ) (one other : Question) → IsQuestion line one → IsQuestion line other → one ≡ other
-one_question line questions.Nothing questions.Nothing e f = refl
-one_question line questions.Nothing (questions.Word one2) e f = absurd (word_something line one2 e f)
-one_question line questions.Nothing (questions.Of subject2 id2) e (word2, asks2, is_id2, value2) =
-    absurd (no_subject line subject2 word2 (ap has_space e) asks2.is)
-one_question line questions.Nothing questions.NoIdentifier e (subject2, word2, asks2, no_id2) =
-    absurd (no_subject line subject2 word2 (ap has_space e) asks2.is)
-one_question line questions.Nothing (questions.Objects kind2) e (word2, asks2, names2) =
-    absurd (no_kind_word line word2 (ap has_space e) asks2.is)
-one_question line questions.Nothing questions.NoKind e (word2, asks2, no_kind2) = absurd (no_kind_word line word2 (ap has_space e) asks2.is)
-one_question line questions.Nothing questions.NotUnderstood e m = absurd (m.0 e)
-one_question line (questions.Word one) questions.Nothing e f = absurd (word_something line one f e)
-one_question line (questions.Word one) (questions.Word one2) e f = ap questions.Word (same_word one one2 (sym e ∙ f))
-one_question line (questions.Word one) (questions.Of subject2 id2) e (word2, asks2, is_id2, value2) =
-    absurd (word_no_subject line one subject2 word2 e asks2.is)
-one_question line (questions.Word one) questions.NoIdentifier e (subject2, word2, asks2, no_id2) =
-    absurd (word_no_subject line one subject2 word2 e asks2.is)
-one_question line (questions.Word one) (questions.Objects kind2) e (word2, asks2, names2) =
-    absurd (no_kind_word line word2 (ap has_space e ∙ no_space one) asks2.is)
-one_question line (questions.Word one) questions.NoKind e (word2, asks2, no_kind2) =
-    absurd (no_kind_word line word2 (ap has_space e ∙ no_space one) asks2.is)
-one_question line (questions.Word one) questions.NotUnderstood e m = absurd (m.1 one e)
-one_question line (questions.Of subject id) questions.Nothing (word, asks, is_id, value) f =
-    absurd (no_subject line subject word (ap has_space f) asks.is)
-one_question line (questions.Of subject id) (questions.Word one2) (word, asks, is_id, value) f =
-    absurd (word_no_subject line one2 subject word f asks.is)
-one_question line (questions.Of subject id) (questions.Of subject2 id2) (word, asks, is_id, value) (word2, asks2, is_id2, value2) =
-    let it = one_subject line subject subject2 word word2 asks.is asks2.is in
-    let same : id ≡ id2 = sym value ∙ ap id_value it.1 ∙ value2 in
-    λ i. questions.Of (it.0 i) (same i)
-one_question line (questions.Of subject id) questions.NoIdentifier (word, asks, is_id, value) (subject2, word2, asks2, no_id2) =
-    absurd (no_id2 (subst IsIdText (one_subject line subject subject2 word word2 asks.is asks2.is).1 is_id))
-one_question line (questions.Of subject id) (questions.Objects kind2) (word, asks, is_id, value) (word2, asks2, names2) =
-    absurd (subject_no_kind line subject word word2 asks.is asks2.is)
-one_question line (questions.Of subject id) questions.NoKind (word, asks, is_id, value) (word2, asks2, no_kind2) =
-    absurd (subject_no_kind line subject word word2 asks.is asks2.is)
-one_question line (questions.Of subject id) questions.NotUnderstood (word, asks, is_id, value) m = absurd (m.2 subject word asks)
-one_question line questions.NoIdentifier questions.Nothing (subject, word, asks, no_id) f =
-    absurd (no_subject line subject word (ap has_space f) asks.is)
-one_question line questions.NoIdentifier (questions.Word one2) (subject, word, asks, no_id) f =
-    absurd (word_no_subject line one2 subject word f asks.is)
-one_question line questions.NoIdentifier (questions.Of subject2 id2) (subject, word, asks, no_id) (word2, asks2, is_id2, value2) =
-    absurd (no_id (subst IsIdText (one_subject line subject2 subject word2 word asks2.is asks.is).1 is_id2))
-one_question line questions.NoIdentifier questions.NoIdentifier (subject, word, asks, no_id) (subject2, word2, asks2, no_id2) = refl
-one_question line questions.NoIdentifier (questions.Objects kind2) (subject, word, asks, no_id) (word2, asks2, names2) =
-    absurd (subject_no_kind line subject word word2 asks.is asks2.is)
-one_question line questions.NoIdentifier questions.NoKind (subject, word, asks, no_id) (word2, asks2, no_kind2) =
-    absurd (subject_no_kind line subject word word2 asks.is asks2.is)
-one_question line questions.NoIdentifier questions.NotUnderstood (subject, word, asks, no_id) m = absurd (m.2 subject word asks)
-one_question line (questions.Objects kind) questions.Nothing (word, asks, names) f =
-    absurd (no_kind_word line word (ap has_space f) asks.is)
-one_question line (questions.Objects kind) (questions.Word one2) (word, asks, names) f =
-    absurd (no_kind_word line word (ap has_space f ∙ no_space one2) asks.is)
-one_question line (questions.Objects kind) (questions.Of subject2 id2) (word, asks, names) (word2, asks2, is_id2, value2) =
-    absurd (subject_no_kind line subject2 word2 word asks2.is asks.is)
-one_question line (questions.Objects kind) questions.NoIdentifier (word, asks, names) (subject2, word2, asks2, no_id2) =
-    absurd (subject_no_kind line subject2 word2 word asks2.is asks.is)
-one_question line (questions.Objects kind) (questions.Objects kind2) (word, asks, names) (word2, asks2, names2) =
-    ap questions.Objects (one_kind word kind kind2 names (subst (λ (w : List ℕ). NamesKind w kind2) (sym (one_kind_word line word word2 asks.is asks2.is)) names2))
-one_question line (questions.Objects kind) questions.NoKind (word, asks, names) (word2, asks2, no_kind2) =
-    absurd (no_kind2 kind (subst (λ (w : List ℕ). NamesKind w kind) (one_kind_word line word word2 asks.is asks2.is) names))
-one_question line (questions.Objects kind) questions.NotUnderstood (word, asks, names) m = absurd (m.3 word asks)
-one_question line questions.NoKind questions.Nothing (word, asks, no_kind) f = absurd (no_kind_word line word (ap has_space f) asks.is)
-one_question line questions.NoKind (questions.Word one2) (word, asks, no_kind) f =
-    absurd (no_kind_word line word (ap has_space f ∙ no_space one2) asks.is)
-one_question line questions.NoKind (questions.Of subject2 id2) (word, asks, no_kind) (word2, asks2, is_id2, value2) =
-    absurd (subject_no_kind line subject2 word2 word asks2.is asks.is)
-one_question line questions.NoKind questions.NoIdentifier (word, asks, no_kind) (subject2, word2, asks2, no_id2) =
-    absurd (subject_no_kind line subject2 word2 word asks2.is asks.is)
-one_question line questions.NoKind (questions.Objects kind2) (word, asks, no_kind) (word2, asks2, names2) =
-    absurd (no_kind kind2 (subst (λ (w : List ℕ). NamesKind w kind2) (one_kind_word line word2 word asks2.is asks.is) names2))
-one_question line questions.NoKind questions.NoKind (word, asks, no_kind) (word2, asks2, no_kind2) = refl
-one_question line questions.NoKind questions.NotUnderstood (word, asks, no_kind) m = absurd (m.3 word asks)
-one_question line questions.NotUnderstood questions.Nothing n f = absurd (n.0 f)
-one_question line questions.NotUnderstood (questions.Word one2) n f = absurd (n.1 one2 f)
-one_question line questions.NotUnderstood (questions.Of subject2 id2) n (word2, asks2, is_id2, value2) = absurd (n.2 subject2 word2 asks2)
-one_question line questions.NotUnderstood questions.NoIdentifier n (subject2, word2, asks2, no_id2) = absurd (n.2 subject2 word2 asks2)
-one_question line questions.NotUnderstood (questions.Objects kind2) n (word2, asks2, names2) = absurd (n.3 word2 asks2)
-one_question line questions.NotUnderstood questions.NoKind n (word2, asks2, no_kind2) = absurd (n.3 word2 asks2)
-one_question line questions.NotUnderstood questions.NotUnderstood n m = refl
+one_question line one other is is_too = by (either line one is) (either line other is_too) where
+  by : Plain line one ⊎ OfWord line one → Plain line other ⊎ OfWord line other → one ≡ other
+  by (inl plain) (inl plain_too) = one_plain line one other plain plain_too
+  by (inl plain) (inr word) = absurd (plain_no_word line one other plain word)
+  by (inr word) (inl plain) = absurd (plain_no_word line other one plain word)
+  by (inr word) (inr word_too) = one_of_word line one other word word_too
 
 -- a line asks one thing
 pub asks_once : (line : List ℕ) (one other : Question) → Asks line one → Asks line other → one ≡ other

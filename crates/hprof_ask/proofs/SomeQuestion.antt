@@ -1,5 +1,5 @@
 -- Each line asks something.
-use Rattle.std.proofs.Common.{◌≡◌, ◌≢◌, ◌⊎◌, ℕ, ◌<◌, ltb, Bool, true, false, List, [], ◌∷◌, ◌++◌, length, refl, sym, ap, ◌∙◌, inl, inr, arith, get_or, drop, codes}
+use Rattle.std.proofs.Common.{◌≡◌, ◌≢◌, ◌⊎◌, ℕ, ◌<◌, ltb, Bool, true, false, List, [], ◌∷◌, ◌++◌, length, refl, sym, ap, ◌∙◌, inl, inr, arith, get_or, drop, codes, subst, append_assoc}
 use Rattle.std.specs.Char.{digit_value}
 use Rattle.std.specs.List.{AllByRecursion}
 use Rattle.std.specs.Str.Parse.{AllDigits}
@@ -12,13 +12,16 @@ use Rattle.hprof_values.specs.declared.basic.Basic.TheVariants as basics
 use Rattle.hprof_histogram.specs.declared.row.Kind.{Kind}
 use Rattle.hprof_histogram.specs.declared.row.Kind.TheVariants as kinds
 use Rattle.hprof_naming.specs.TypeWord.{type_word}
-use Rattle.hprof_ask.specs.declared.question.OneWord.{OneWord}
-use Rattle.hprof_ask.specs.declared.question.OneWord.TheVariants as ones
+use Rattle.hprof_ask.specs.declared.report.Report.TheVariants as reports
+use Rattle.hprof_ask.specs.declared.report_word.Follows.{Follows}
+use Rattle.hprof_ask.specs.declared.report_word.Follows.TheVariants as follow
+use Rattle.hprof_ask.specs.declared.report_word.ReportWord.{ReportWord}
+use Rattle.hprof_ask.specs.declared.report_word.ReportWord.TheVariants as words
+use Rattle.hprof_ask.specs.declared.subject.Misnamed.TheVariants as misnamed
 use Rattle.hprof_ask.specs.declared.question.Question.{Question}
 use Rattle.hprof_ask.specs.declared.question.Question.TheVariants as questions
-use Rattle.hprof_ask.specs.declared.question.Subject.{Subject}
-use Rattle.hprof_ask.specs.declared.question.Subject.TheVariants as subjects
-use Rattle.hprof_ask.specs.Asked.{Asks, AsksOf, HasWord, IsQuestion, IsWord, NamesKind, front_of, kind_front, word_of}
+use Rattle.hprof_ask.specs.Asked.{Asks, IsFollowed, IsLineOf, IsNamed, IsQuestion, IsWord, NamesKind}
+use Rattle.hprof_ask.specs.Words.{all_words, follows_of, word_of}
 
 -- ---- what holds, or does not
 
@@ -147,89 +150,105 @@ kind_named word = elim (identifier word) [
   none no_id no_type (kinds.Class class) = λ e. no_id e.0
   none no_id no_type (kinds.Prim elem) = no_type elem
 
+-- ---- what a word asks
+
+module _ (text : List ℕ) where
+  of_identifier : (word : ReportWord) → follows_of word ≡ follow.Identifier
+      → ((is : IsIdText text) → (question : Question) × IsNamed word text question) → (question : Question) × IsNamed word text question
+  of_identifier word follows on = elim (identifier text) [
+    | inl is ↦ on is
+    | inr fails ↦ (questions.Misnamed misnamed.NoIdentifier, (follows, fails))
+  ]
+
+  named : (word : ReportWord) → (question : Question) × IsNamed word text question
+  named words.Check = (questions.Report reports.Check, tt)
+  named words.Histogram = (questions.Report reports.Histogram, tt)
+  named words.Classes = (questions.Report reports.Classes, tt)
+  named words.Object = of_identifier words.Object refl (λ is. (questions.Report (reports.Object (id_value text)), (is, refl)))
+  named words.Refs = of_identifier words.Refs refl (λ is. (questions.Report (reports.Refs (id_value text)), (is, refl)))
+  named words.Path = of_identifier words.Path refl (λ is. (questions.Report (reports.Path (id_value text)), (is, refl)))
+  named words.Text = of_identifier words.Text refl (λ is. (questions.Report (reports.Text (id_value text)), (is, refl)))
+  named words.Why = of_identifier words.Why refl (λ is. (questions.Report (reports.Why (id_value text)), (is, refl)))
+  named words.Objects = elim (kind_named text) [
+    | inl it ↦ (questions.Report (reports.Objects it.0), it.1)
+    | inr fails ↦ (questions.Misnamed misnamed.NoKind, (refl, fails))
+  ]
+
 -- ---- what a line asks
 
-has_word : (line front : List ℕ) → ((word : List ℕ) × HasWord line front word) ⊎ ((word : List ℕ) → HasWord line front word → ⊥)
-has_word line front = elim (begins front line) [
+spaced : (line name : List ℕ) → ((text : List ℕ) × (IsWord text × (line ≡ name ++ 32 ∷ text)))
+    ⊎ ((text : List ℕ) → IsWord text → line ≢ name ++ 32 ∷ text)
+spaced line name = elim (begins (name ++ 32 ∷ []) line) [
   | inl it ↦ elim (word it.0) [
-    | inl is ↦ inl (it.0, record { is = it.1; is_word = is })
-    | inr fails ↦ inr (λ other asks. fails (same_word other asks.is_word (it_is it.0 other it.1 asks.is)))
+    | inl is ↦ inl (it.0, (is, it.1 ∙ append_assoc name (32 ∷ []) it.0))
+    | inr fails ↦ inr (λ text is same. fails (subst IsWord (one_behind text it.0 same it.1) is))
   ]
-  | inr fails ↦ inr (λ other asks. fails other asks.is)
+  | inr fails ↦ inr (λ text is same. fails text (same ∙ sym (append_assoc name (32 ∷ []) text)))
 ] where
-  same_word : {one : List ℕ} (other : List ℕ) → IsWord other → one ≡ other → IsWord one
-  same_word other is e = rw e is
+  one_behind : (text other : List ℕ) → line ≡ name ++ 32 ∷ text → line ≡ (name ++ 32 ∷ []) ++ other → text ≡ other
+  one_behind text other e f = append_cancel_left (name ++ 32 ∷ []) text other (append_assoc name (32 ∷ []) text ∙ sym e ∙ f)
 
-  it_is : (one other : List ℕ) → line ≡ front ++ one → line ≡ front ++ other → one ≡ other
-  it_is one other e f = append_cancel_left front one other (sym e ∙ f)
-
-of_word : (line word : List ℕ) (subject : Subject) → AsksOf line subject word → (question : Question) × IsQuestion line question
-of_word line word subject asks = elim (identifier word) [
-  | inl is ↦ (questions.Of subject (id_value word), (word, asks, is, refl))
-  | inr fails ↦ (questions.NoIdentifier, (subject, word, asks, fails))
+followed : (follows : Follows) (line name : List ℕ) → ((text : List ℕ) × IsFollowed follows line name text)
+    ⊎ ((text : List ℕ) → IsFollowed follows line name text → ⊥)
+followed follow.Nothing line name = elim (same line name) [
+  | inl is ↦ inl ([], (is, refl))
+  | inr fails ↦ inr (λ text is. fails is.0)
 ]
+followed follow.Identifier line name = elim (spaced line name) [ inl it ↦ inl it | inr fails ↦ inr (λ text is. fails text is.0 is.1) ]
+followed follow.ClassOrType line name = elim (spaced line name) [ inl it ↦ inl it | inr fails ↦ inr (λ text is. fails text is.0 is.1) ]
 
-of_kind_word : (line word : List ℕ) → HasWord line kind_front word → (question : Question) × IsQuestion line question
-of_kind_word line word asks = elim (kind_named word) [
-  | inl it ↦ (questions.Objects it.0, (word, asks, it.1))
-  | inr fails ↦ (questions.NoKind, (word, asks, fails))
-]
-
--- a line that is not empty and no one word
-of_subjects : (line : List ℕ) → line ≢ [] → ((one : OneWord) → line ≢ word_of one) → (question : Question) × IsQuestion line question
-of_subjects line some no_word = elim (has_word line (front_of subjects.Object)) [
-  | inl it ↦ of_word line it.0 subjects.Object it.1
-  | inr no_object ↦ elim (has_word line (front_of subjects.Refs)) [
-    | inl it ↦ of_word line it.0 subjects.Refs it.1
-    | inr no_refs ↦ elim (has_word line (front_of subjects.Path)) [
-      | inl it ↦ of_word line it.0 subjects.Path it.1
-      | inr no_path ↦ elim (has_word line (front_of subjects.Text)) [
-        | inl it ↦ of_word line it.0 subjects.Text it.1
-        | inr no_text ↦ elim (has_word line (front_of subjects.Why)) [
-          | inl it ↦ of_word line it.0 subjects.Why it.1
-          | inr no_why ↦ elim (has_word line kind_front) [
-            | inl it ↦ of_kind_word line it.0 it.1
-            | inr no_kind ↦ (questions.NotUnderstood, (some, no_word, none no_object no_refs no_path no_text no_why, no_kind))
-          ]
-        ]
-      ]
-    ]
+-- of each word it is asked
+module _ (P : ReportWord → Type 0) (either : (word : ReportWord) → P word ⊎ (P word → ⊥)) where
+  among : (some : List ReportWord) → ((word : ReportWord) × P word) ⊎ AllByRecursion (λ word. P word → ⊥) some
+  among [] = inr tt
+  among (word ∷ rest) = elim (either word) [
+    | inl is ↦ inl (word, is)
+    | inr fails ↦ elim (among rest) [ inl it ↦ inl it | inr none ↦ inr (fails, none) ]
   ]
-] where
-  None : Subject → Type 0
-  None subject = (word : List ℕ) → AsksOf line subject word → ⊥
 
-  none : None subjects.Object → None subjects.Refs → None subjects.Path → None subjects.Text → None subjects.Why → (subject : Subject)
-      → None subject
-  none no_object no_refs no_path no_text no_why subjects.Object = no_object
-  none no_object no_refs no_path no_text no_why subjects.Refs = no_refs
-  none no_object no_refs no_path no_text no_why subjects.Path = no_path
-  none no_object no_refs no_path no_text no_why subjects.Text = no_text
-  none no_object no_refs no_path no_text no_why subjects.Why = no_why
+  each : AllByRecursion (λ word. P word → ⊥) all_words → (word : ReportWord) → P word → ⊥
+  each none words.Check = none.0
+  each none words.Histogram = none.1.0
+  each none words.Classes = none.1.1.0
+  each none words.Object = none.1.1.1.0
+  each none words.Refs = none.1.1.1.1.0
+  each none words.Path = none.1.1.1.1.1.0
+  each none words.Text = none.1.1.1.1.1.1.0
+  each none words.Why = none.1.1.1.1.1.1.1.0
+  each none words.Objects = none.1.1.1.1.1.1.1.1.0
 
-of_words : (line : List ℕ) → line ≢ [] → (question : Question) × IsQuestion line question
-of_words line some = elim (same line (word_of ones.Help)) [
-  | inl is ↦ (questions.Word ones.Help, is)
-  | inr no_help ↦ elim (same line (word_of ones.Check)) [
-    | inl is ↦ (questions.Word ones.Check, is)
-    | inr no_check ↦ elim (same line (word_of ones.Histogram)) [
-      | inl is ↦ (questions.Word ones.Histogram, is)
-      | inr no_histogram ↦ elim (same line (word_of ones.Classes)) [
-        | inl is ↦ (questions.Word ones.Classes, is)
-        | inr no_classes ↦ of_subjects line some (none no_help no_check no_histogram no_classes)
-      ]
-    ]
-  ]
-] where
-  none : line ≢ word_of ones.Help → line ≢ word_of ones.Check → line ≢ word_of ones.Histogram → line ≢ word_of ones.Classes
-      → (one : OneWord) → line ≢ word_of one
-  none no_help no_check no_histogram no_classes ones.Help = no_help
-  none no_help no_check no_histogram no_classes ones.Check = no_check
-  none no_help no_check no_histogram no_classes ones.Histogram = no_histogram
-  none no_help no_check no_histogram no_classes ones.Classes = no_classes
+of_word : (line : List ℕ) (word : ReportWord) (text : List ℕ) → IsLineOf line word text
+    → (question : Question) → IsNamed word text question → (question : Question) × IsQuestion line question
+of_word line word text is (questions.Report report) asks = (questions.Report report, (word, text, is, asks))
+of_word line word text is (questions.Misnamed fault) asks = (questions.Misnamed fault, (word, text, is, asks))
+of_word line word text is questions.Nothing asks = absurd asks
+of_word line word text is questions.Help asks = absurd asks
+of_word line word text is questions.NotUnderstood asks = absurd asks
+
+of_words : (line : List ℕ) → line ≢ [] → line ≢ codes "help" → (question : Question) × IsQuestion line question
+of_words line some no_help =
+    let P = λ (word : ReportWord). (text : List ℕ) × IsLineOf line word text in
+    elim (among P (λ word. listed word (followed (follows_of word) line (word_of word))) all_words) [
+      | inl it ↦ let asks = named it.1.0 it.0 in of_word line it.0 it.1.0 it.1.1 asks.0 asks.1
+      | inr none ↦ (
+        questions.NotUnderstood,
+        (
+          some,
+          no_help,
+          λ word text is. each P (λ other. listed other (followed (follows_of other) line (word_of other))) none word (text, is),
+        ),
+      )
+    ] where
+      listed : (word : ReportWord) → ((text : List ℕ) × IsLineOf line word text) ⊎ ((text : List ℕ) → IsLineOf line word text → ⊥)
+          → ((text : List ℕ) × IsLineOf line word text) ⊎ (((text : List ℕ) × IsLineOf line word text) → ⊥)
+      listed word (inl it) = inl it
+      listed word (inr fails) = inr (λ it. fails it.0 it.1)
 
 some_words : (line : List ℕ) → (question : Question) × IsQuestion line question
-some_words line = elim (same line []) [ inl is ↦ (questions.Nothing, is) | inr some ↦ of_words line some ]
+some_words line = elim (same line []) [
+  | inl is ↦ (questions.Nothing, is)
+  | inr some ↦ elim (same line (codes "help")) [ inl is ↦ (questions.Help, is) | inr no_help ↦ of_words line some no_help ]
+]
 
 pub some_question : (line : List ℕ) → (question : Question) × Asks line question
 some_question line = by (ltb 4096 (length line)) refl where

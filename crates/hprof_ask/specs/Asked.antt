@@ -1,68 +1,82 @@
 -- What a line asks.
-use Rattle.std.specs.Prelude.{◌≡◌, ◌≢◌, ◌⊎◌, ℕ, ◌<◌, ◌≤◌, List, [], ◌++◌, length, codes}
+use Rattle.std.specs.Prelude.{◌≡◌, ◌≢◌, ◌⊎◌, ℕ, ◌<◌, ◌≤◌, List, [], ◌∷◌, ◌++◌, length, codes, ⊤}
 use Rattle.std.specs.List.{AllByRecursion}
 use Rattle.hprof_text.specs.Identifier.{IsIdText, id_value}
 use Rattle.hprof_values.specs.declared.basic.Basic.TheVariants as basics
 use Rattle.hprof_histogram.specs.declared.row.Kind.{Kind}
 use Rattle.hprof_histogram.specs.declared.row.Kind.TheVariants as kinds
 use Rattle.hprof_naming.specs.TypeWord.{type_word}
-use Rattle.hprof_ask.specs.declared.question.OneWord.{OneWord}
-use Rattle.hprof_ask.specs.declared.question.OneWord.TheVariants as ones
+use Rattle.hprof_ask.specs.declared.report.Report.{Report}
+use Rattle.hprof_ask.specs.declared.report.Report.TheVariants as reports
+use Rattle.hprof_ask.specs.declared.report_word.Follows.{Follows}
+use Rattle.hprof_ask.specs.declared.report_word.Follows.TheVariants as follow
+use Rattle.hprof_ask.specs.declared.report_word.ReportWord.{ReportWord}
+use Rattle.hprof_ask.specs.declared.report_word.ReportWord.TheVariants as words
+use Rattle.hprof_ask.specs.declared.subject.Misnamed.{Misnamed}
+use Rattle.hprof_ask.specs.declared.subject.Misnamed.TheVariants as misnamed
 use Rattle.hprof_ask.specs.declared.question.Question.{Question}
 use Rattle.hprof_ask.specs.declared.question.Question.TheVariants as questions
-use Rattle.hprof_ask.specs.declared.question.Subject.{Subject}
-use Rattle.hprof_ask.specs.declared.question.Subject.TheVariants as subjects
+use Rattle.hprof_ask.specs.Words.{follows_of, word_of}
 
--- the questions that are one word
-abbrev pub word_of : OneWord → List ℕ
-word_of ones.Help = codes "help"
-word_of ones.Check = codes "check"
-word_of ones.Histogram = codes "histo"
-word_of ones.Classes = codes "classes"
+-- ---- what follows a word
+
+-- the text is an identifier
+abbrev pub NamesId : List ℕ → ℕ → Type 0
+NamesId text id = IsIdText text × (id_value text ≡ id)
+
+-- the text names a class by its identifier, or the arrays of a type
+abbrev pub NamesKind : List ℕ → Kind → Type 0
+NamesKind text (kinds.Class class) = NamesId text class
+NamesKind text (kinds.Prim basics.Array) = ⊥
+NamesKind text (kinds.Prim basics.Object) = ⊥
+NamesKind text (kinds.Prim elem) = text ≡ type_word elem ++ codes "[]"
+
+-- the word asks for the report, with this text behind it
+abbrev pub AsksReport : ReportWord → List ℕ → Report → Type 0
+AsksReport words.Check text reports.Check = ⊤
+AsksReport words.Histogram text reports.Histogram = ⊤
+AsksReport words.Classes text reports.Classes = ⊤
+AsksReport words.Object text (reports.Object id) = NamesId text id
+AsksReport words.Refs text (reports.Refs id) = NamesId text id
+AsksReport words.Path text (reports.Path id) = NamesId text id
+AsksReport words.Text text (reports.Text id) = NamesId text id
+AsksReport words.Why text (reports.Why id) = NamesId text id
+AsksReport words.Objects text (reports.Objects kind) = NamesKind text kind
+AsksReport word text report = ⊥
+
+-- the text is none of those that follow the word
+abbrev pub IsMisnamed : ReportWord → List ℕ → Misnamed → Type 0
+IsMisnamed word text misnamed.NoIdentifier = (follows_of word ≡ follow.Identifier) × ¬ (IsIdText text)
+IsMisnamed word text misnamed.NoKind = (follows_of word ≡ follow.ClassOrType) × ((kind : Kind) → NamesKind text kind → ⊥)
+
+-- what the word asks with that text behind it
+abbrev pub IsNamed : ReportWord → List ℕ → Question → Type 0
+IsNamed word text (questions.Report report) = AsksReport word text report
+IsNamed word text (questions.Misnamed fault) = IsMisnamed word text fault
+IsNamed word text other = ⊥
+
+-- ---- lines
 
 -- some bytes, and no space among them
 pub record IsWord (text : List ℕ) : Type 0 where
   pub some : 0 < length text
   pub no_space : AllByRecursion (λ byte. byte ≢ 32) text
 
--- the word and the space before an identifier
-abbrev pub front_of : Subject → List ℕ
-front_of subjects.Object = codes "object "
-front_of subjects.Refs = codes "refs "
-front_of subjects.Path = codes "path "
-front_of subjects.Text = codes "text "
-front_of subjects.Why = codes "why "
+-- the line is a word and what follows it: nothing, or one space and another word
+abbrev pub IsFollowed : Follows → (line word text : List ℕ) → Type 0
+IsFollowed follow.Nothing line word text = (line ≡ word) × (text ≡ [])
+IsFollowed other line word text = IsWord text × (line ≡ word ++ 32 ∷ text)
 
--- the word and the space before a class or a type
-abbrev pub kind_front : List ℕ
-kind_front = codes "objects "
-
--- the line is that front and the word
-pub record HasWord (line front word : List ℕ) : Type 0 where
-  pub is : line ≡ front ++ word
-  pub is_word : IsWord word
-
--- the line asks that of the identifier that the word names
-abbrev pub AsksOf : List ℕ → Subject → List ℕ → Type 0
-AsksOf line subject word = HasWord line (front_of subject) word
-
--- the word names a class by its identifier, or the arrays of a type
-abbrev pub NamesKind : List ℕ → Kind → Type 0
-NamesKind word (kinds.Class class) = IsIdText word × (id_value word ≡ class)
-NamesKind word (kinds.Prim basics.Array) = ⊥
-NamesKind word (kinds.Prim basics.Object) = ⊥
-NamesKind word (kinds.Prim elem) = word ≡ type_word elem ++ codes "[]"
+abbrev pub IsLineOf : (line : List ℕ) → ReportWord → (text : List ℕ) → Type 0
+IsLineOf line word text = IsFollowed (follows_of word) line (word_of word) text
 
 -- what the words of a line ask
 abbrev pub IsQuestion : List ℕ → Question → Type 0
 IsQuestion line questions.Nothing = line ≡ []
-IsQuestion line (questions.Word one) = line ≡ word_of one
-IsQuestion line (questions.Of subject id) = (word : List ℕ) × AsksOf line subject word × IsIdText word × (id_value word ≡ id)
-IsQuestion line questions.NoIdentifier = (subject : Subject) × (word : List ℕ) × AsksOf line subject word × ¬ (IsIdText word)
-IsQuestion line (questions.Objects kind) = (word : List ℕ) × HasWord line kind_front word × NamesKind word kind
-IsQuestion line questions.NoKind = (word : List ℕ) × HasWord line kind_front word × ((kind : Kind) → NamesKind word kind → ⊥)
-IsQuestion line questions.NotUnderstood = (line ≢ []) × ((one : OneWord) → line ≢ word_of one)
-    × ((subject : Subject) (word : List ℕ) → AsksOf line subject word → ⊥) × ((word : List ℕ) → HasWord line kind_front word → ⊥)
+IsQuestion line questions.Help = line ≡ codes "help"
+IsQuestion line questions.NotUnderstood =
+    (line ≢ []) × (line ≢ codes "help") × ((word : ReportWord) (text : List ℕ) → IsLineOf line word text → ⊥)
+IsQuestion line question = (word : ReportWord) × (text : List ℕ) × IsLineOf line word text × IsNamed word text question
 
 -- what a line asks: one of more than 4,096 bytes is not understood
 abbrev pub Asks : List ℕ → Question → Type 0

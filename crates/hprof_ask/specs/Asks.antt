@@ -20,7 +20,7 @@ use Rattle.hprof_engine.specs.Summaries.{AreSummaries}
 use Rattle.hprof_ask.specs.declared.question.Question.{Question}
 use Rattle.hprof_ask.specs.declared.stop.DialogueStop.TheVariants as stops
 use Rattle.hprof_ask.specs.Answering.{PassesOn}
-use Rattle.hprof_ask.specs.Dialogue.{AnswersLines, AnswersSome, Came}
+use Rattle.hprof_ask.specs.Dialogue.{AnswersLines, AnswersSome, Came, LetsReadOn}
 use Rattle.hprof_ask.specs.Lines.{AreEndedLines, AreLines}
 use Rattle.hprof_ask.specs.declared.ask_fault.AskFault.{AskFault}
 use Rattle.hprof_ask.specs.declared.ask_fault.AskFault.TheVariants as faults
@@ -87,14 +87,24 @@ pub record Asks {R Q W : Type 0} (left : R → Option (List ℕ)) (health : R �
       (AnswersLines IsAnswer AreEndedLines)) × ((asking is ≡ healths.Failed) ⊎ (2 ^ 64 - 1 ≤ turns is)) × (well after ≡ healths.Well)
   -- the writer failed or stuck: the lines that were taken are answered, of the last answer a front
   pub write : (fault : WriteFault) → ended ≡ Some (faults.Dialogue (stops.Write fault))
-      → OverParts left old (λ IsAnswer. Came IsAnswer asked asking turns written well was is before after (AnswersSome IsAnswer))
+      → OverParts left old (λ IsAnswer. Came IsAnswer asked asking turns written well was is before after
+      (AnswersSome IsAnswer (IsAtEnd (asked is))))
       × (asking is ≡ healths.Well) × (well after ≡ health_after fault)
   -- memory was wanted, when all parts were read: so are they
   pub memory : ended ≡ Some (faults.Dialogue stops.OutOfMemory)
-      → OverParts left old (λ IsAnswer. Came IsAnswer asked asking turns written well was is before after (AnswersSome IsAnswer))
+      → OverParts left old (λ IsAnswer. Came IsAnswer asked asking turns written well was is before after
+      (AnswersSome IsAnswer (IsAtEnd (asked is))))
       × (asking is ≡ healths.Well) × (well after ≡ healths.Well)
   -- no other answer where the parts state something together, all stay well, nothing hindered reading and no memory was wanted
   pub no_other : (parts : List (List ℕ)) (ids : IdSize) (millis : ℕ) (facts : List FactValue) → Tell left old parts
       → IsState parts ids millis facts → All (λ reader. health reader ≡ healths.Well) new → asking is ≡ healths.Well
       → well after ≡ healths.Well → (2 ^ 64 - 1 ≤ turns is → ⊥) → (IsHindered (fault_of_parts ended) → ⊥) → (WantsMemory ended → ⊥)
       → IsAnsweredOrConflict ended
+
+-- the leave to read questions on, over the heap that the parts state and over their summaries
+abbrev pub LetsAsk : {R Q W : Type 0} → (left : R → Option (List ℕ)) → (asked : Q → Option (List ℕ)) → (written : W → Option (List ℕ))
+    → (flushed : W → Type 0) → (may_read : Q → W → Type 0) → List R → Q → W → Type 0
+LetsAsk left asked written flushed may_read readers was before = (heap : HeapValue) (summaries : List PartSummary)
+    → ((parts : List (List ℕ)) → Tell left readers parts → Agree parts heap.ids heap.millis heap.facts)
+    → ((parts : List (List ℕ)) → Tell left readers parts → AreSummaries parts summaries)
+    → LetsReadOn (IsHeapAnswer summaries heap.ids heap.facts) asked written flushed may_read was before

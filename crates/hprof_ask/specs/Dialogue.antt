@@ -1,7 +1,7 @@
 -- What taking lines and answering them comes to.
 --   IsAnswer: this text is the answer to that question;  bytes: what came of the questions
 --   start, now: what the writer held before, and holds
-use Rattle.std.specs.Prelude.{◌≡◌, ◌⊎◌, ℕ, ◌≤◌, ◌-◌, ◌^◌, List, [], ◌∷◌, ◌++◌, length, take, Option, Result, Ok, Err}
+use Rattle.std.specs.Prelude.{◌≡◌, ◌⊎◌, ℕ, ◌≤◌, ◌-◌, ◌^◌, List, [], ◌∷◌, ◌++◌, length, take, Option, Result, Ok, Err, ⊤}
 use Rattle.std.specs.Io.KnownBytes.{Appends, Consumes, IsAtEnd}
 use Rattle.hprof_devices.specs.declared.health.Health.{Health}
 use Rattle.hprof_devices.specs.declared.health.Health.TheVariants as healths
@@ -22,10 +22,11 @@ module _ (IsAnswer : Question → List ℕ → Type 0) where
     pub appended : Appends start now text
 
   -- lines were taken of the bytes, and the answers to them were written, to the last of them some, from the front
-  pub record AnswersFront (bytes : List ℕ) (start now : Option (List ℕ)) : Type 0 where
+  --   IsEnd: no more bytes come
+  pub record AnswersFront (IsEnd : Type 0) (bytes : List ℕ) (start now : Option (List ℕ)) : Type 0 where
     pub lines : List (List ℕ)
     pub last : List ℕ
-    pub taken : AreTaken bytes (lines ++ last ∷ [])
+    pub taken : AreTaken IsEnd bytes (lines ++ last ∷ [])
     pub text : List ℕ
     pub are_answers : AreAnswers IsAnswer lines text
     pub answer : List ℕ
@@ -35,8 +36,8 @@ module _ (IsAnswer : Question → List ℕ → Type 0) where
     pub appended : Appends start now (text ++ take count answer)
 
   -- the answers to all lines that were taken were written, or to the last of them some
-  abbrev pub AnswersSome : (bytes : List ℕ) (start now : Option (List ℕ)) → Type 0
-  AnswersSome bytes start now = AnswersLines AreTaken bytes start now ⊎ AnswersFront bytes start now
+  abbrev pub AnswersSome : (IsEnd : Type 0) (bytes : List ℕ) (start now : Option (List ℕ)) → Type 0
+  AnswersSome IsEnd bytes start now = AnswersLines (AreTaken IsEnd) bytes start now ⊎ AnswersFront IsEnd bytes start now
 
   -- the lines that ended are answered, and this is kept of the bytes behind them: the first 4,098 bytes
   pub record Heard (bytes : List ℕ) (start now : Option (List ℕ)) (kept : List ℕ) : Type 0 where
@@ -49,15 +50,15 @@ module _ (IsAnswer : Question → List ℕ → Type 0) where
     pub are_answers : AreAnswers IsAnswer lines text
     pub appended : Appends start now text
 
-  -- a piece of the bytes was gone over
+  -- a piece of the bytes was gone over, behind which more may come
   abbrev pub GoesOver : {A : Type 0} → (bytes : List ℕ) (start now : Option (List ℕ)) (kept : List ℕ) → Result A DialogueStop → Type 0
   GoesOver bytes start now kept (Ok done) = Heard bytes start now kept
-  GoesOver bytes start now kept (Err stop) = AnswersSome bytes start now
+  GoesOver bytes start now kept (Err stop) = AnswersSome ⊥ bytes start now
 
   -- there are no more bytes
   abbrev pub Finishes : {A : Type 0} → (bytes : List ℕ) (start now : Option (List ℕ)) → Result A DialogueStop → Type 0
   Finishes bytes start now (Ok done) = AnswersLines AreLines bytes start now
-  Finishes bytes start now (Err stop) = AnswersSome bytes start now
+  Finishes bytes start now (Err stop) = AnswersSome ⊤ bytes start now
 
   -- what came of the questions, and what was written of the answers
   --   left, asking, pulls: what the source of questions has left to tell, how it is doing, how often it was pulled
@@ -78,6 +79,14 @@ module _ (IsAnswer : Question → List ℕ → Type 0) where
     EndsDialogue (Err (stops.Questions fault)) = Came (AnswersLines AreEndedLines)
         × ((asking is ≡ healths.Failed) ⊎ (2 ^ 64 - 1 ≤ pulls is)) × (well after ≡ healths.Well)
     -- the writer failed or stuck
-    EndsDialogue (Err (stops.Write fault)) = Came AnswersSome × (asking is ≡ healths.Well) × (well after ≡ health_after fault)
+    EndsDialogue (Err (stops.Write fault)) = Came (AnswersSome (IsAtEnd (left is))) × (asking is ≡ healths.Well) × (well after ≡ health_after fault)
     -- memory was wanted
-    EndsDialogue (Err stops.OutOfMemory) = Came AnswersSome × (asking is ≡ healths.Well) × (well after ≡ healths.Well)
+    EndsDialogue (Err stops.OutOfMemory) = Came (AnswersSome (IsAtEnd (left is))) × (asking is ≡ healths.Well) × (well after ≡ healths.Well)
+
+  -- the leave to read on: all lines that ended in what came are answered, and all answers were flushed
+  --   flushed: nothing of what was written is held back;  may_read: the source may be read while the writer is that
+  module _ {Q W : Type 0} (left : Q → Option (List ℕ)) (written : W → Option (List ℕ)) (flushed : W → Type 0)
+      (may_read : Q → W → Type 0) (was : Q) (before : W) where
+    abbrev pub LetsReadOn : Type 0
+    LetsReadOn = (bytes : List ℕ) (is : Q) (after : W) → Consumes (left was) (left is) bytes
+        → AnswersLines AreEndedLines bytes (written before) (written after) → flushed after → may_read is after

@@ -1,4 +1,4 @@
--- What is kept between questions.
+-- What is kept between reports.
 use Rattle.std.specs.Prelude.{List, IfSome}
 use Rattle.hprof_values.specs.declared.ids.IdSize.{IdSize}
 use Rattle.hprof_items.specs.FactValue.{FactValue}
@@ -14,5 +14,5 @@ pub record IsKept (ids : IdSize) (facts : List FactValue) (kept : Kept) : Type 0
   pub reach : IfSome kept.reach (IsReach ids facts)
   pub layouts : IfSome kept.layouts (Knows ids facts)
   pub referrers : IfSome kept.referrers (IsIndexOf ids facts)
-  pub histogram : IfSome kept.histogram (λ text. IsHistogramText ids facts text.items)
-  pub classes : IfSome kept.classes (λ text. IsClassesText ids facts text.items)
+  pub histogram : IfSome kept.histogram (λ text. IsHistogramText ids facts text.bytes.items)
+  pub classes : IfSome kept.classes (λ text. IsClassesText ids facts text.bytes.items)

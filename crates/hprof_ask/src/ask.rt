@@ -1,30 +1,21 @@
 //! Questions about the heap of parts.
 
-ghost use Rattle.std.specs.Prelude.{◌≡◌, ◌+◌, ◌<◌, ℕ, List, [], All, IfOk, OnErr, vec_len, vec_capacity};
+ghost use Rattle.std.specs.Prelude.{◌≡◌, ℕ, List, All, IfOk};
 ghost use Rattle.hprof_devices.specs.declared.health.Health.TheVariants.{Well};
 ghost use Rattle.hprof_engine.specs.Joining.{Tell, Agree};
 ghost use Rattle.hprof_heap.specs.Heap.{heap_of};
-ghost use Rattle.hprof_ask.specs.Asks.{Asks, PassesAnswersOn, fault_of_asking};
+ghost use Rattle.hprof_ask.specs.Asks.{Asks, LetsAsk, PassesAnswersOn, fault_of_asking};
 
+use crate::answerer::Answerer;
 use crate::ask_fault::AskFault;
 use crate::asker::Asker;
 use crate::dialogue::converse;
-use crate::heap_answers::HeapAnswers;
 use crate::kept::Kept;
 use hprof_devices::{Flush, Source};
-use hprof_engine::{Summaries, ToolFault, read_heap};
+use hprof_engine::{AllSummaries, Summaries, ToolFault, read_heap};
 use hprof_heap::{Gatherer, Heap};
-use hprof_stream::{Limits, PartSummary};
-use std::alloc::{AllocError, Global};
-
-/// Returns a list with room for the summaries of so many parts. The error is that memory ran out.
-fn room_for_summaries(alloc: Global, parts: usize) -> Result<Vec<PartSummary>, AllocError>
-    ensures empty { IfOk result (λ list. list.items ≡ []) }
-    ensures room { IfOk result (λ list. vec_len list + parts ≡ vec_capacity list) }
-    ensures full { OnErr result (0 < parts) }
-{
-    Vec::with_room(alloc, parts)
-}
+use hprof_stream::Limits;
+use std::alloc::Global;
 
 /// Does what [`ask_to`] does, and returns the heap: a program that ends need not free it row by row.
 pub fn ask_kept<R: Source, Q: Asker<W>, W: Flush>(
@@ -37,6 +28,8 @@ pub fn ask_kept<R: Source, Q: Asker<W>, W: Flush>(
     requires readers { All (λ reader. R.health reader ≡ Well) readers.old }
     requires asking { Q.health questions.old ≡ Well }
     requires writer { W.health target.old ≡ Well }
+    // No more is read before all lines that ended are answered, and the answers were flushed.
+    requires leave { LetsAsk R.left Q.left W.written W.flushed Q.may_read readers.old questions.old target.old }
     ensures asks { Asks R.left R.health R.pulls Q.left Q.health Q.pulls W.written W.health limits readers.old readers.new
         questions.old questions.new target.old target.new (fault_of_asking result) }
     ensures flushed { PassesAnswersOn (fault_of_asking result) (W.flushed target.new) }
@@ -45,20 +38,27 @@ pub fn ask_kept<R: Source, Q: Asker<W>, W: Flush>(
     ensures heap { IfOk result (λ found. (parts : List (List ℕ)) → Tell R.left readers.old parts
         → let heap = heap_of found in Agree parts heap.ids heap.millis heap.facts) }
 {
-    let Ok(mut summaries) = room_for_summaries(alloc, readers.len()) else {
+    let Ok(mut summaries) = AllSummaries.with_room(alloc, readers.len()) else {
         return Err(AskFault::Parts(ToolFault::OutOfMemory));
     };
     let gatherer = Gatherer::new(alloc);
-    let heap = match read_heap(alloc, readers, limits, gatherer, &mut summaries) {
+    let heap = match read_heap(
+        alloc,
+        readers,
+        limits,
+        gatherer,
+        &AllSummaries,
+        &mut summaries,
+    ) {
         Ok(heap) => heap,
         Err(fault) => return Err(AskFault::Parts(fault)),
     };
-    let answers = HeapAnswers {
+    let answerer = Answerer {
         heap: &heap,
         summaries: &summaries,
     };
-    let mut kept = Kept::nothing();
-    match converse(alloc, &answers, &mut kept, questions, target) {
+    let mut kept = Kept::for_many();
+    match converse(alloc, &answerer, &mut kept, questions, target) {
         Ok(()) => Ok(heap),
         Err(stop) => Err(AskFault::Dialogue(stop)),
     }
@@ -79,6 +79,8 @@ pub fn ask_to<R: Source, Q: Asker<W>, W: Flush>(
     requires readers { All (λ reader. R.health reader ≡ Well) readers.old }
     requires asking { Q.health questions.old ≡ Well }
     requires writer { W.health target.old ≡ Well }
+    // No more is read before all lines that ended are answered, and the answers were flushed.
+    requires leave { LetsAsk R.left Q.left W.written W.flushed Q.may_read readers.old questions.old target.old }
     ensures asks { Asks R.left R.health R.pulls Q.left Q.health Q.pulls W.written W.health limits readers.old readers.new
         questions.old questions.new target.old target.new (fault_of_asking result) }
     ensures flushed { PassesAnswersOn (fault_of_asking result) (W.flushed target.new) }

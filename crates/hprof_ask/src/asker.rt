@@ -1,6 +1,6 @@
 //! Sources of questions.
 
-ghost use Rattle.std.specs.Prelude.{◌≡◌, ℕ, ◌+◌, ◌-◌, ◌^◌, ◌<◌, ◌≤◌, min, List, length, take, Option, IfOk, MatchResult};
+ghost use Rattle.std.specs.Prelude.{◌≡◌, ℕ, ◌+◌, ◌-◌, ◌^◌, ◌<◌, ◌≤◌, min, List, length, take, Option, IfOk, MatchResult, ⊤};
 ghost use Rattle.std.specs.Io.KnownBytes.{Keeps, Consumes, IsAtEnd};
 
 use hprof_devices::{Flush, ReadFault, Source};
@@ -19,10 +19,13 @@ pub trait Asker<W: Flush> {
     // How many pulls were made; it stays at the greatest number.
     ghost pulls: { Self → ℕ };
 
+    // It may be read on while that is the writer of the answers.
+    ghost may_read: { Self → W → Type 0 };
+
     /// Does what `pull` of a source does.
     fn read_on(&mut self, piece: &mut [u8], answers: &W) -> Result<usize, ReadFault>
         requires well { health self.old ≡ Well }
-        requires flushed { W.flushed answers.now }
+        requires leave { may_read self.old answers.now }
         ensures count { IfOk result (λ n. n ≤ length piece.new) }
         ensures bytes { MatchResult result
             (λ n. Consumes (left self.old) (left self.new) (take n piece.new))
@@ -39,6 +42,8 @@ impl<S: Source, W: Flush> Asker<W> for S {
     ghost health = { S.health };
 
     ghost pulls = { S.pulls };
+
+    ghost may_read = { λ source answers. ⊤ };
 
     fn read_on(&mut self, piece: &mut [u8], _answers: &W) -> Result<usize, ReadFault> {
         self.pull(piece)

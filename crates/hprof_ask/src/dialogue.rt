@@ -5,7 +5,7 @@ ghost use Rattle.std.specs.Io.KnownBytes.{Consumes, IsAtEnd, Keeps};
 ghost use Rattle.hprof_devices.specs.declared.health.Health.TheVariants.{Well, Failed};
 ghost use Rattle.hprof_devices.specs.Device.{LeavesHealth};
 ghost use Rattle.hprof_ask.specs.Answering.{LeavesWriter, PassesOn, WritesAnswer};
-ghost use Rattle.hprof_ask.specs.Dialogue.{EndsDialogue, Finishes, GoesOver, Heard};
+ghost use Rattle.hprof_ask.specs.Dialogue.{EndsDialogue, Finishes, GoesOver, Heard, LetsReadOn};
 
 use crate::asker::Asker;
 use crate::question::{Question, ended_question, last_question};
@@ -182,6 +182,7 @@ fn take_lines<A: Answers, Q: Asker<W>, W: Flush>(
     requires asking { Q.health questions.old ≡ Well }
     requires well { W.health target.old ≡ Well }
     requires kept { A.keeps answers.now kept.old }
+    requires leave { LetsReadOn (A.is_answer answers.now) Q.left W.written W.flushed Q.may_read questions.old target.old }
     requires some { 0 < length piece.old }
     requires empty { line.old.items ≡ [] }
     requires room { KEPT ≤ vec_capacity line.old }
@@ -224,6 +225,8 @@ pub fn converse<A: Answers, Q: Asker<W>, W: Flush>(
     requires asking { Q.health questions.old ≡ Well }
     requires well { W.health target.old ≡ Well }
     requires kept { A.keeps answers.now kept.old }
+    // No more is read before all lines that ended are answered, and the answers were flushed.
+    requires leave { LetsReadOn (A.is_answer answers.now) Q.left W.written W.flushed Q.may_read questions.old target.old }
     ensures dialogue { EndsDialogue (A.is_answer answers.now) Q.left Q.health Q.pulls W.written W.health
         questions.old questions.new target.old target.new result }
     ensures flushed { PassesOn result (W.flushed target.new) }

@@ -1,15 +1,127 @@
-//! What is kept between questions.
+//! What is kept between reports.
 
-ghost use Rattle.std.specs.Prelude.{List};
+ghost use Rattle.std.specs.Prelude.{List, IfOk, IfSome};
 ghost use Rattle.hprof_values.specs.declared.ids.IdSize.{IdSize};
 ghost use Rattle.hprof_items.specs.FactValue.{FactValue};
+ghost use Rattle.hprof_heap.specs.HeapFacts.{facts_of, size_of};
 
-use hprof_layouts::KnownLayouts;
-use hprof_reach::{Reach, ReferrerIndex};
+use hprof_devices::Device;
+use hprof_heap::Heap;
+use hprof_layouts::{KnownLayouts, known_layouts};
+use hprof_reach::{Reach, ReferrerIndex, index_referrers, reach_of};
+use hprof_reports::{write_classes, write_histogram};
+use std::alloc::{AllocError, Global};
 
-/// What is made at the first question that wants it, and kept. It is no part of any answer.
+/// A value that is made of a heap, at the first report that wants it, and may be kept for others.
+pub(crate) trait OfHeap: Drop {
+    ghost use Rattle.hprof_values.specs.declared.ids.IdSize.{IdSize};
+    ghost use Rattle.hprof_items.specs.FactValue.{FactValue};
+    ghost use Rattle.hprof_heap.specs.HeapFacts.{facts_of, size_of};
+
+    // It is of a heap of these facts.
+    ghost is_of: { IdSize → List FactValue → Self → Type 0 };
+
+    /// Makes the value of a heap. The error is that memory ran out.
+    fn make(alloc: Global, heap: &Heap) -> Result<Self, AllocError>
+        ensures { IfOk result (is_of (size_of heap.now) (facts_of heap.now)) };
+}
+
+/// Returns the value that is kept, or makes it. The error is that memory ran out.
+pub(crate) fn kept_or_made<T: OfHeap>(
+    alloc: Global,
+    heap: &Heap,
+    kept: Option<T>,
+) -> Result<T, AllocError>
+    requires { IfSome kept (T.is_of (size_of heap.now) (facts_of heap.now)) }
+    ensures { IfOk result (T.is_of (size_of heap.now) (facts_of heap.now)) }
+{
+    match kept {
+        Some(value) => Ok(value),
+        None => T::make(alloc, heap),
+    }
+}
+
+impl OfHeap for Reach {
+    ghost use Rattle.hprof_reach.specs.Reaching.{IsReach};
+
+    ghost is_of = { IsReach };
+
+    fn make(alloc: Global, heap: &Heap) -> Result<Reach, AllocError> {
+        reach_of(alloc, heap)
+    }
+}
+
+impl OfHeap for KnownLayouts {
+    ghost use Rattle.hprof_layouts.specs.Known.{Knows};
+
+    ghost is_of = { Knows };
+
+    fn make(alloc: Global, heap: &Heap) -> Result<KnownLayouts, AllocError> {
+        known_layouts(alloc, heap)
+    }
+}
+
+impl OfHeap for ReferrerIndex {
+    ghost use Rattle.hprof_reach.specs.Index.{IsIndexOf};
+
+    ghost is_of = { IsIndexOf };
+
+    fn make(alloc: Global, heap: &Heap) -> Result<ReferrerIndex, AllocError> {
+        index_referrers(alloc, heap)
+    }
+}
+
+/// The text of the class histogram.
+#[derive(Drop)]
+pub(crate) struct HistogramText {
+    pub(crate) bytes: Vec<u8>,
+}
+
+impl OfHeap for HistogramText {
+    ghost use Rattle.hprof_reports.specs.HistogramText.{IsHistogramText};
+
+    ghost is_of = { λ ids facts text. IsHistogramText ids facts text.bytes.items };
+
+    fn make(alloc: Global, heap: &Heap) -> Result<HistogramText, AllocError> {
+        let mut target = Device::new(Vec::new(alloc));
+        match write_histogram(alloc, heap, &mut target) {
+            Ok(()) => Ok(HistogramText {
+                bytes: target.into_inner(),
+            }),
+            // A list fails to take a byte only if memory runs out.
+            Err(_) => Err(AllocError),
+        }
+    }
+}
+
+/// The text of the report `classes`.
+#[derive(Drop)]
+pub(crate) struct ClassesText {
+    pub(crate) bytes: Vec<u8>,
+}
+
+impl OfHeap for ClassesText {
+    ghost use Rattle.hprof_reports.specs.ClassesText.{IsClassesText};
+
+    ghost is_of = { λ ids facts text. IsClassesText ids facts text.bytes.items };
+
+    fn make(alloc: Global, heap: &Heap) -> Result<ClassesText, AllocError> {
+        let mut target = Device::new(Vec::new(alloc));
+        match write_classes(alloc, heap, &mut target) {
+            Ok(()) => Ok(ClassesText {
+                bytes: target.into_inner(),
+            }),
+            // A list fails to take a byte only if memory runs out.
+            Err(_) => Err(AllocError),
+        }
+    }
+}
+
+/// What is kept between reports. It is no part of any answer.
 #[derive(Drop)]
 pub struct Kept {
+    /// Whether more than one report is asked for. For one alone neither an index nor a text is made.
+    pub(crate) is_for_many: bool,
     /// The search from the GC roots.
     pub(crate) reach: Option<Reach>,
     /// The layouts of the classes.
@@ -17,24 +129,39 @@ pub struct Kept {
     /// The index of referrers.
     pub(crate) referrers: Option<ReferrerIndex>,
     /// The text of the class histogram.
-    pub(crate) histogram: Option<Vec<u8>>,
+    pub(crate) histogram: Option<HistogramText>,
     /// The text of the report `classes`.
-    pub(crate) classes: Option<Vec<u8>>,
+    pub(crate) classes: Option<ClassesText>,
 }
 
 impl Kept {
     ghost use Rattle.hprof_ask.specs.Kept.{IsKept};
 
-    /// Returns what is kept before the first question: nothing.
-    pub fn nothing() -> Self
+    /// Returns what is kept before the first report: nothing.
+    fn nothing(is_for_many: bool) -> Kept
         ensures { (ids : IdSize) (facts : List FactValue) → IsKept ids facts result }
     {
         Kept {
+            is_for_many,
             reach: None,
             layouts: None,
             referrers: None,
             histogram: None,
             classes: None,
         }
+    }
+
+    /// Returns what is kept before the first of many reports.
+    pub fn for_many() -> Kept
+        ensures { (ids : IdSize) (facts : List FactValue) → IsKept ids facts result }
+    {
+        Kept::nothing(true)
+    }
+
+    /// Returns what is kept before the only report.
+    pub fn for_one() -> Kept
+        ensures { (ids : IdSize) (facts : List FactValue) → IsKept ids facts result }
+    {
+        Kept::nothing(false)
     }
 }

@@ -1,19 +1,29 @@
-//! Laws of the definitions. None of these functions does anything. That a line asks one thing, and that bytes have one list of lines, are
-//! laws of hprof_dialogue.
+//! Laws of the definitions. None of these functions does anything.
 
 ghost use Rattle.std.specs.Prelude.{◌≡◌, ◌↔◌, ◌++◌, ℕ, List, []};
 ghost use Rattle.hprof_values.specs.declared.ids.IdSize.{IdSize};
 ghost use Rattle.hprof_items.specs.FactValue.{FactValue};
 ghost use Rattle.hprof_stream.specs.declared.summary.PartSummary.{PartSummary};
 ghost use Rattle.hprof_rows.specs.Conflict.{IsConsistent};
+ghost use Rattle.hprof_engine.specs.Joining.{Agree};
 ghost use Rattle.hprof_ask.specs.Answering.{AreAnswers};
 ghost use Rattle.hprof_ask.specs.HeapAnswers.{IsHeapAnswer};
 ghost use Rattle.hprof_ask.specs.PartsAnswers.{AreAnswersOfParts};
+ghost use Rattle.hprof_ask.specs.Report.{IsReport};
+ghost use Rattle.hprof_ask.specs.declared.report.Report.{Report};
 ghost use Rattle.hprof_ask.specs.declared.question.Question.{Question};
 ghost use Rattle.hprof_ask.specs.Asked.{Asks};
 ghost use Rattle.hprof_ask.specs.Lines.{AreFirstLines, AreLines};
 
 use crate::dialogue::Answers;
+
+/// A report on parts and a heap is one text, and there is one if the facts of the heap agree.
+pub fn a_report_is_one_text()
+    ensures some { (summaries : List PartSummary) (ids : IdSize) (facts : List FactValue) (report : Report) → IsConsistent facts
+        → (text : List ℕ) × IsReport summaries ids facts report text }
+    ensures one { (summaries : List PartSummary) (ids : IdSize) (facts : List FactValue) (report : Report) (one other : List ℕ)
+        → IsReport summaries ids facts report one → IsReport summaries ids facts report other → one ≡ other }
+{}
 
 /// The answers to lines over one heap are one text, and there is one if the facts of the heap agree. To ask two lists of lines one after
 /// the other is to ask them together: no answer depends on what was asked before.
@@ -29,10 +39,13 @@ pub fn answers_over_a_heap_are_one_text()
         × AreAnswers (IsHeapAnswer summaries ids facts) more then × (text ≡ first ++ then)) }
 {}
 
-/// The answers to lines over the heap of parts are one text: they depend on the lines and the parts alone.
+/// The answers to lines over the heap of parts are one text, and there is one if the parts agree: they depend on the lines and the parts
+/// alone.
 pub fn answers_over_parts_are_one_text()
-    ensures { (lines parts : List (List ℕ)) (one other : List ℕ) → AreAnswersOfParts lines parts one → AreAnswersOfParts lines parts other
-        → one ≡ other }
+    ensures some { (lines parts : List (List ℕ)) (ids : IdSize) (millis : ℕ) (facts : List FactValue) → Agree parts ids millis facts
+        → (text : List ℕ) × AreAnswersOfParts lines parts text }
+    ensures one { (lines parts : List (List ℕ)) (one other : List ℕ) → AreAnswersOfParts lines parts one
+        → AreAnswersOfParts lines parts other → one ≡ other }
 {}
 
 /// Bytes have one list of lines. Behind bytes whose last line ends with a line feed the lines of more bytes follow.

@@ -1,23 +1,34 @@
-//! Questions about the heap of parts: the parts are read once, and each line of the questions is answered over the heap that they state.
-//! Questions that come as lines, and the answers to them, whatever they are asked of.
+//! Reports on parts and their heap: one of them, or many, which come as lines of questions.
 #![tactic(auto)]
 
+mod answerer;
+mod answers;
 mod ask;
 mod ask_fault;
 mod asker;
+mod calls;
 mod dialogue;
-mod heap_answers;
+mod help;
 mod kept;
 pub mod laws;
+mod product;
 mod question;
-mod reports;
+mod report;
+mod report_word;
 mod stop;
+mod subject;
 
+pub use answerer::Answerer;
 pub use ask::{ask_kept, ask_to};
 pub use ask_fault::AskFault;
 pub use asker::Asker;
+pub use calls::{
+    check_to, classes_to, histo_to, object_to, objects_to, path_to, refs_to, text_to, why_to,
+};
 pub use dialogue::{Answers, converse};
-pub use heap_answers::HeapAnswers;
 pub use kept::Kept;
-pub use question::{OneWord, Question, Subject, kind_of, question_of};
+pub use question::{Question, question_of};
+pub use report::Report;
+pub use report_word::{Follows, ReportRow, ReportWord};
 pub use stop::DialogueStop;
+pub use subject::Misnamed;

@@ -5,12 +5,16 @@ ghost use Rattle.hprof_diff.specs.DifferenceText.{IsDifferenceOf};
 ghost use Rattle.hprof_values.specs.declared.ids.IdSize.{IdSize};
 ghost use Rattle.hprof_items.specs.FactValue.{FactValue};
 ghost use Rattle.hprof_rows.specs.Conflict.{IsConsistent};
+ghost use Rattle.hprof_rows.specs.HeapValue.{HeapValue};
+ghost use Rattle.hprof_engine.specs.Joining.{Agree};
 ghost use Rattle.hprof_diff.specs.Counts.{AreTotals, Totals};
 ghost use Rattle.hprof_diff.specs.Difference.{ChangeValue, IsDifference};
 
-/// Two lists of parts have one report `diff`.
+/// Two lists of parts have one report `diff`, and there is one if the parts of each list agree.
 pub fn one_report()
-    ensures { (olds news : List (List ℕ)) (one other : List ℕ) → IsDifferenceOf olds news one → IsDifferenceOf olds news other
+    ensures some { (olds news : List (List ℕ)) (old new : HeapValue) → Agree olds old.ids old.millis old.facts
+        → Agree news new.ids new.millis new.facts → (text : List ℕ) × IsDifferenceOf olds news text }
+    ensures one { (olds news : List (List ℕ)) (one other : List ℕ) → IsDifferenceOf olds news one → IsDifferenceOf olds news other
         → one ≡ other }
 {}
 

@@ -12,9 +12,8 @@ use crate::fault::DiffFault;
 use crate::label_counts::LabelCounts;
 use crate::report::write_growth;
 use hprof_devices::{Source, Target};
-use hprof_engine::{HeapProduct, ToolFault, WriteStop, read_heap};
+use hprof_engine::{HeapProduct, NoSummaries, ToolFault, WriteStop, read_heap, write_to};
 use hprof_heap::{Gatherer, Heap};
-use hprof_reports::report_to;
 use hprof_stream::Limits;
 use std::alloc::Global;
 
@@ -61,7 +60,8 @@ pub fn count_parts<R: Source>(
     ensures totals { IfOk result (λ counts. (parts : List (List ℕ)) → Tell R.left readers.old parts
         → AreTotalsOf parts (totals_in counts)) }
 {
-    let heap = match read_heap(alloc, readers, limits, Gatherer::new(alloc), &mut ()) {
+    let gatherer = Gatherer::new(alloc);
+    let heap = match read_heap(alloc, readers, limits, gatherer, &NoSummaries, &mut ()) {
         Ok(heap) => heap,
         Err(fault) => return Err(fault),
     };
@@ -95,7 +95,7 @@ pub fn diff_to<R: Source, W: Target>(
         Ok(old) => old,
         Err(fault) => return Err(DiffFault::Old(fault)),
     };
-    match report_to(alloc, &GrowthReport { old: &old }, news, target, limits) {
+    match write_to(alloc, &GrowthReport { old: &old }, news, target, limits) {
         Ok(()) => Ok(()),
         Err(fault) => Err(DiffFault::New(fault)),
     }

@@ -4,6 +4,7 @@ use Rattle.hprof_values.specs.declared.ids.IdSize.{IdSize}
 use Rattle.hprof_items.specs.FactValue.{FactValue}
 use Rattle.hprof_stream.specs.declared.summary.PartSummary.{PartSummary}
 use Rattle.hprof_rows.specs.HeapValue.{HeapValue}
+use Rattle.hprof_rows.specs.Conflict.{IsConsistent}
 use Rattle.hprof_rows.proofs.Order.{one_order}
 use Rattle.hprof_engine.specs.Joining.{Agree}
 use Rattle.hprof_engine.specs.Makes.{IsMadeOf}
@@ -48,3 +49,19 @@ module _ (IsText : List PartSummary → HeapValue → List ℕ → Type 0) where
         of_parts = subst (λ (l : List (List ℕ)). AreSummaries l summaries.0) agree.state.of_parts summaries.1;
         is = alone is.summaries summaries.0 is.heap text is.is;
       }
+
+  -- and there is one where parts agree, if each heap whose facts agree has one
+  pub made_some : ((summaries : List PartSummary) (heap : HeapValue) → IsConsistent heap.facts → (text : List ℕ) × IsText summaries heap text)
+      → (parts : List (List ℕ)) (heap : HeapValue) → Agree parts heap.ids heap.millis heap.facts → (text : List ℕ) × IsMadeOf IsText parts text
+  made_some some_text parts heap agree =
+      let summaries = some_summary_each agree.state.states agree.state.each in
+      let text = some_text summaries.0 heap agree.consistent in (
+        text.0,
+        record {
+          heap = heap;
+          agree = agree;
+          summaries = summaries.0;
+          of_parts = subst (λ (l : List (List ℕ)). AreSummaries l summaries.0) agree.state.of_parts summaries.1;
+          is = text.1;
+        },
+      )

@@ -1,14 +1,15 @@
 //! Products of the heap alone.
 
-ghost use Rattle.std.specs.Prelude.{◌≡◌, ℕ, List};
+ghost use Rattle.std.specs.Prelude.{◌≡◌, ℕ, List, ⊤};
 
 use crate::product::{Product, WriteStop};
+use crate::summaries::Summaries;
 use hprof_devices::Target;
-use hprof_heap::{Gatherer, Heap};
-use std::alloc::Global;
+use hprof_heap::Heap;
+use hprof_stream::PartSummary;
+use std::alloc::{AllocError, Global};
 
-/// A product that is made of the heap alone, as a dump and most reports are. Each is a [`Product`] that keeps no summaries
-/// of parts.
+/// A product that is made of the heap alone, as a dump is. Each is a [`Product`] that keeps no summaries of parts.
 pub trait HeapProduct {
     ghost use Rattle.hprof_devices.specs.declared.health.Health.TheVariants.{Well};
     ghost use Rattle.hprof_rows.specs.HeapValue.{HeapValue};
@@ -40,22 +41,30 @@ pub trait HeapProduct {
         → is_text product heap other → one ≡ other };
 }
 
+impl<P: HeapProduct> Summaries for P {
+    ghost has_room = { λ product kept more. ⊤ };
+
+    ghost holds = { λ product kept summaries. ⊤ };
+
+    ghost takes_room = { λ product parts. ⊥ };
+
+    type Kept = ();
+
+    fn with_room(&self, _alloc: Global, _parts: usize) -> Result<(), AllocError> {
+        Ok(())
+    }
+
+    fn keep(&self, _kept: &mut (), _summary: PartSummary) {}
+
+    ghost no_room = { λ product takes. takes };
+}
+
 impl<P: HeapProduct> Product for P {
     ghost is_text = { λ product summaries. P.is_text product };
 
     ghost is_too_long = { P.is_too_long };
 
     ghost takes_memory = { P.takes_memory };
-
-    ghost asks = { λ product id. ⊥ };
-
-    type Kept = ();
-
-    type Gatherer = Gatherer;
-
-    fn gatherer(&self, alloc: Global) -> Gatherer {
-        Gatherer::new(alloc)
-    }
 
     fn write<W: Target>(
         &self,

@@ -9,8 +9,7 @@ ghost use Rattle.hprof_engine.specs.Joining.{Tell, Agree, AreJoined, fault_of};
 ghost use Rattle.hprof_engine.specs.Makes.{Makes, dump_making};
 
 use crate::heap_product::HeapProduct;
-use crate::joined::{Joined, JoinedHeap};
-use crate::joining::join_with;
+use crate::joined::{Joined, JoinedHeap, join_with};
 use crate::product::WriteStop;
 use crate::tool_fault::ToolFault;
 use hprof_devices::{Source, Target};

@@ -11,8 +11,7 @@ ghost use Rattle.hprof_dump.specs.Dump101.{dump101, sub_len};
 ghost use Rattle.hprof_engine.specs.Joining101.{IsTooLong101, dump101_making};
 
 use crate::heap_product::HeapProduct;
-use crate::joined::{Joined, JoinedHeap};
-use crate::joining::join_with;
+use crate::joined::{Joined, JoinedHeap, join_with};
 use crate::product::WriteStop;
 use crate::tool_fault::ToolFault;
 use hprof_devices::{Source, Target};

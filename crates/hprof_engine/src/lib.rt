@@ -1,5 +1,4 @@
-//! Reads parts into one heap, and writes a dump or a report of it.
-//! Salvage of damaged parts: the facts before each part's first fault, joined into one canonical dump.
+//! Reads parts into one heap, and writes a dump or a report of it. Of damaged parts it joins the facts before each part's first fault.
 #![tactic(auto)]
 
 mod counter;
@@ -7,7 +6,6 @@ mod heap_product;
 mod join;
 mod join101;
 mod joined;
-mod joining;
 pub mod laws;
 mod make;
 mod parts;
@@ -22,12 +20,11 @@ mod tool_fault;
 pub use heap_product::HeapProduct;
 pub use join::{Dump, join_kept, join_to};
 pub use join101::{Dump101, join101_kept, join101_to};
-pub use joined::{Joined, JoinedHeap};
-pub use joining::join_with;
-pub use make::make_to;
+pub use joined::{Joined, JoinedHeap, join_with};
+pub use make::{make_to, write_to};
 pub use product::{Product, WriteStop};
 pub use read::read_heap;
 pub use salvage::{salvage_kept, salvage_to};
 pub use salvaged::{FaultedPart, Salvaged, SalvagedHeap};
-pub use summaries::Summaries;
+pub use summaries::{AllSummaries, NoSummaries, Summaries};
 pub use tool_fault::ToolFault;

@@ -4,61 +4,83 @@ ghost use Rattle.std.specs.Prelude.{◌≡◌, ℕ, List, All, IfOk};
 ghost use Rattle.std.specs.Io.KnownBytes.{Appends};
 ghost use Rattle.hprof_devices.specs.declared.health.Health.TheVariants.{Well};
 ghost use Rattle.hprof_stream.specs.declared.summary.PartSummary.{PartSummary};
+ghost use Rattle.hprof_heap.specs.Heap.{heap_of};
 ghost use Rattle.hprof_engine.specs.Joining.{Tell, Agree, fault_of};
-ghost use Rattle.hprof_engine.specs.Makes.{Makes, making_of, fault_of_stop};
+ghost use Rattle.hprof_engine.specs.Makes.{Makes, making_of};
 
 use crate::product::{Product, WriteStop};
 use crate::read::read_heap;
-use crate::summaries::Summaries;
 use crate::tool_fault::ToolFault;
 use hprof_devices::{Source, Target};
-use hprof_heap::Gather;
+use hprof_heap::{Gatherer, Heap};
 use hprof_stream::Limits;
 use std::alloc::Global;
 
-/// Returns the fault that a stop is.
-fn fault_of_stop(stop: WriteStop) -> ToolFault
-    ensures { result ≡ fault_of_stop stop }
-{
-    match stop {
-        WriteStop::Write(fault) => ToolFault::Write(fault),
-        WriteStop::TooLong => ToolFault::DumpTooLong,
-        WriteStop::OutOfMemory => ToolFault::OutOfMemory,
+impl From<WriteStop> for ToolFault {
+    ghost use Rattle.hprof_engine.specs.Makes.{fault_of_stop};
+
+    ghost from_gives = { λ stop fault. fault ≡ fault_of_stop stop };
+
+    fn from(stop: WriteStop) -> ToolFault {
+        match stop {
+            WriteStop::Write(fault) => ToolFault::Write(fault),
+            WriteStop::TooLong => ToolFault::DumpTooLong,
+            WriteStop::OutOfMemory => ToolFault::OutOfMemory,
+        }
     }
 }
 
-/// Reads all parts, writes the product of them, and returns their heap with all that was kept beside it: a program that ends
-/// need not free it row by row.
+/// Reads all parts, writes the product of them, and returns their heap. A program that ends need not free it row by row.
 pub fn make_to<P: Product, R: Source, W: Target>(
     alloc: Global,
     product: &P,
     readers: &mut [R],
     target: &mut W,
     limits: Limits,
-) -> Result<<P::Gatherer as Gather>::Found, ToolFault>
+) -> Result<Heap, ToolFault>
     requires readers { All (λ reader. R.health reader ≡ Well) readers.old }
     requires writer { W.health target.old ≡ Well }
     ensures makes { Makes R.left R.health R.pulls W.written W.health limits
-        (making_of (P.is_text product.now) (P.is_too_long product.now) P.Kept.takes_room (P.takes_memory product.now))
+        (making_of (P.is_text product.now) (P.is_too_long product.now) (P.takes_room product.now) (P.takes_memory product.now))
         readers.old readers.new target.old target.new (fault_of result) }
 
     // What is handed back is of the parts, and its text was written.
     ensures heap { IfOk result (λ found. (parts : List (List ℕ)) → Tell R.left readers.old parts
-        → let heap = P.Gatherer.heap_in found in Agree parts heap.ids heap.millis heap.facts) }
+        → let heap = heap_of found in Agree parts heap.ids heap.millis heap.facts) }
     ensures text { IfOk result (λ found. (summaries : List PartSummary) × (text : List ℕ)
-        × P.is_text product.now summaries (P.Gatherer.heap_in found) text
+        × P.is_text product.now summaries (heap_of found) text
         × Appends (W.written target.old) (W.written target.new) text) }
 {
-    let Ok(mut kept) = P::Kept::with_room(alloc, readers.len()) else {
+    let Ok(mut kept) = product.with_room(alloc, readers.len()) else {
         return Err(ToolFault::OutOfMemory);
     };
-    let gatherer = product.gatherer(alloc);
-    let found = match read_heap(alloc, readers, limits, gatherer, &mut kept) {
-        Ok(found) => found,
+    let gatherer = Gatherer::new(alloc);
+    let heap = match read_heap(alloc, readers, limits, gatherer, product, &mut kept) {
+        Ok(heap) => heap,
         Err(fault) => return Err(fault),
     };
-    match product.write(alloc, &kept, &found, target) {
-        Ok(()) => Ok(found),
-        Err(stop) => Err(fault_of_stop(stop)),
+    match product.write(alloc, &kept, &heap, target) {
+        Ok(()) => Ok(heap),
+        Err(stop) => Err(ToolFault::from(stop)),
+    }
+}
+
+/// Reads all parts, and writes the product of them.
+pub fn write_to<P: Product, R: Source, W: Target>(
+    alloc: Global,
+    product: &P,
+    readers: &mut [R],
+    target: &mut W,
+    limits: Limits,
+) -> Result<(), ToolFault>
+    requires readers { All (λ reader. R.health reader ≡ Well) readers.old }
+    requires writer { W.health target.old ≡ Well }
+    ensures { Makes R.left R.health R.pulls W.written W.health limits
+        (making_of (P.is_text product.now) (P.is_too_long product.now) (P.takes_room product.now) (P.takes_memory product.now))
+        readers.old readers.new target.old target.new (fault_of result) }
+{
+    match make_to(alloc, product, readers, target, limits) {
+        Ok(_heap) => Ok(()),
+        Err(fault) => Err(fault),
     }
 }

@@ -13,25 +13,26 @@ use hprof_heap::Gather;
 use hprof_stream::{Limits, read_part};
 use std::alloc::Global;
 
-/// Reads each part in order, gives its header and facts to the gatherer, and tells its summary. The first part that is refused ends it.
+/// Reads each part in order, gives its header and facts to the gatherer, and keeps its summary. The first part that is refused ends it.
 pub(crate) fn read_parts<R: Source, G: Gather, S: Summaries>(
     alloc: Global,
     readers: &mut [R],
     limits: Limits,
     gatherer: &mut G,
-    summaries: &mut S,
+    summaries: &S,
+    kept: &mut S::Kept,
 ) -> Result<(), ToolFault>
     requires well { All (λ reader. R.health reader ≡ Well) readers.old }
     requires nothing { G.gathered gatherer.old ≡ nothing_gathered }
-    requires none { S.holds summaries.old [] }
-    requires room { S.has_room summaries.old (length readers.old) }
+    requires none { S.holds summaries.now kept.old [] }
+    requires room { S.has_room summaries.now kept.old (length readers.old) }
     ensures read { ReadsAll R.left R.health R.pulls limits readers.old (G.gathered gatherer.old) result readers.new (G.gathered gatherer.new) }
     ensures watches { (id : ℕ) → G.watches gatherer.old id → OnOk result (G.watches gatherer.new id) }
-    ensures summaries { HoldsFirst R.left S.holds readers.old (read_count (fault_of result) (length readers.old)) summaries.new }
+    ensures summaries { HoldsFirst R.left (S.holds summaries.now) readers.old (read_count (fault_of result) (length readers.old)) kept.new }
 {
     for (index, reader) in readers.iter_mut().enumerate() {
         match read_part(alloc, reader, limits, gatherer) {
-            Ok(summary) => summaries.keep(summary),
+            Ok(summary) => summaries.keep(kept, summary),
             Err(fault) => return Err(ToolFault::Part { index, fault }),
         }
     }

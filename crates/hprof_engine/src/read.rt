@@ -18,19 +18,20 @@ use hprof_heap::{Gather, Refusal};
 use hprof_stream::Limits;
 use std::alloc::Global;
 
-/// Reads all parts in order into a gatherer, and returns the heap of their facts with all that was kept beside it. The summary
-/// of each part that was read to its end goes to `summaries`.
+/// Reads all parts in order into a gatherer, and returns the heap of their facts with the data that the gatherer kept beside it.
+/// `summaries` takes the summary of each part that was read to its end, and keeps it in `kept`.
 pub fn read_heap<R: Source, G: Gather + Drop, S: Summaries>(
     alloc: Global,
     readers: &mut [R],
     limits: Limits,
     mut gatherer: G,
-    summaries: &mut S,
+    summaries: &S,
+    kept: &mut S::Kept,
 ) -> Result<G::Found, ToolFault>
     requires readers { All (λ reader. R.health reader ≡ Well) readers.old }
     requires nothing { G.gathered gatherer ≡ nothing_gathered }
-    requires none { S.holds summaries.old [] }
-    requires room { S.has_room summaries.old (length readers.old) }
+    requires none { S.holds summaries.now kept.old [] }
+    requires room { S.has_room summaries.now kept.old (length readers.old) }
 
     // What Ok means: the parts agree, the heap is of what they state, and what was watched is listed.
     ensures ok { IfOk result (λ found. (parts : List (List ℕ)) → Tell R.left readers.old parts
@@ -42,7 +43,7 @@ pub fn read_heap<R: Source, G: Gather + Drop, S: Summaries>(
     ensures kind { IsOfReading (fault_of result) }
 
     // At a refusal too, the summary was told of each that was read to its end, and of no other.
-    ensures told { HoldsFirst R.left S.holds readers.old (read_count (fault_of result) (length readers.old)) summaries.new }
+    ensures told { HoldsFirst R.left (S.holds summaries.now) readers.old (read_count (fault_of result) (length readers.old)) kept.new }
 
     // No other answer where the parts state something together, readers stay well, no want of memory was answered and no
     // limit was met.
@@ -51,7 +52,7 @@ pub fn read_heap<R: Source, G: Gather + Drop, S: Summaries>(
         → All (λ reader. R.health reader ≡ Well) readers.new
         → (IsHindered (fault_of result) → ⊥) → IsOkOrConflict (fault_of result) }
 {
-    if let Err(fault) = read_parts(alloc, readers, limits, &mut gatherer, summaries) {
+    if let Err(fault) = read_parts(alloc, readers, limits, &mut gatherer, summaries, kept) {
         return Err(fault);
     }
     match gatherer.finish() {

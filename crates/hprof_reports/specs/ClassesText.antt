@@ -1,18 +1,15 @@
 -- The report `classes`: each class dump, with the objects of the class.
-use Rattle.std.specs.Prelude.{◌≡◌, ℕ, List, [], ◌∷◌, ◌++◌, map, codes, ⊤}
+use Rattle.std.specs.Prelude.{◌≡◌, ℕ, List, [], ◌∷◌, ◌++◌, map, codes}
 use Rattle.std.specs.Fmt.{decimal}
 use Rattle.hprof_text.specs.Identifier.{id_digits}
 use Rattle.hprof_values.specs.declared.ids.IdSize.{IdSize}
 use Rattle.hprof_items.specs.FactValue.{FactValue}
-use Rattle.hprof_stream.specs.declared.summary.PartSummary.{PartSummary}
 use Rattle.hprof_rows.specs.Conflict.{IsConsistent}
-use Rattle.hprof_rows.specs.HeapValue.{HeapValue}
 use Rattle.hprof_heap.specs.Classes.{ClassValue}
 use Rattle.hprof_histogram.specs.declared.counted.Counted.{Counted}
 use Rattle.hprof_histogram.specs.declared.row.Kind.TheVariants as kinds
 use Rattle.hprof_histogram.specs.CountedKinds.{counted_of}
 use Rattle.hprof_naming.specs.Naming.{Naming, IsNaming}
-use Rattle.hprof_engine.specs.Makes.{Making, making_of}
 use Rattle.hprof_reports.specs.Line.{line_of, text_of_lines}
 use Rattle.hprof_reports.specs.ClassDumps.{AreClassDumps}
 
@@ -44,11 +41,3 @@ pub record IsClassesText (ids : IdSize) (facts : List FactValue) (text : List �
   pub dumps : List ClassValue
   pub are_dumps : AreClassDumps facts dumps
   pub is : text ≡ classes_text naming ids facts dumps
-
--- the text is the report on the heap that the parts state
-abbrev pub IsClassesReport : List PartSummary → HeapValue → List ℕ → Type 0
-IsClassesReport summaries heap text = IsClassesText heap.ids heap.facts text
-
--- the report `classes`, which takes memory while it is made
-abbrev pub classes_making : Making
-classes_making = making_of IsClassesReport (λ heap. ⊥) (λ parts. ⊥) ⊤

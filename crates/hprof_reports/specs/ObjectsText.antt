@@ -1,15 +1,12 @@
 -- The report `objects`: the objects of a class or a type, the largest first.
-use Rattle.std.specs.Prelude.{◌≡◌, ℕ, List, [], ◌∷◌, map, ⊤}
+use Rattle.std.specs.Prelude.{◌≡◌, ℕ, List, [], ◌∷◌, map}
 use Rattle.std.specs.Fmt.{decimal}
 use Rattle.hprof_text.specs.Identifier.{id_digits}
 use Rattle.hprof_values.specs.declared.ids.IdSize.{IdSize}
 use Rattle.hprof_items.specs.FactValue.{FactValue}
-use Rattle.hprof_stream.specs.declared.summary.PartSummary.{PartSummary}
-use Rattle.hprof_rows.specs.HeapValue.{HeapValue}
 use Rattle.hprof_histogram.specs.declared.objects.SizedObject.{SizedObject}
 use Rattle.hprof_histogram.specs.declared.row.Kind.{Kind}
 use Rattle.hprof_histogram.specs.Objects.{AreObjects}
-use Rattle.hprof_engine.specs.Makes.{Making, making_of}
 use Rattle.hprof_reports.specs.Line.{line_of, text_of_lines}
 
 -- an object and its bytes
@@ -24,11 +21,3 @@ pub record IsObjectsText (ids : IdSize) (facts : List FactValue) (kind : Kind) (
   pub objects : List SizedObject
   pub are_objects : AreObjects ids facts kind objects
   pub is : text ≡ objects_text objects
-
--- the text is the report on the heap that the parts state
-abbrev pub IsObjectsReport : Kind → List PartSummary → HeapValue → List ℕ → Type 0
-IsObjectsReport kind summaries heap text = IsObjectsText heap.ids heap.facts kind text
-
--- the report `objects`, which takes memory while it is made
-abbrev pub objects_making : Kind → Making
-objects_making kind = making_of (IsObjectsReport kind) (λ heap. ⊥) (λ parts. ⊥) ⊤

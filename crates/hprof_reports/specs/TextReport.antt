@@ -1,16 +1,13 @@
 -- The report `text`: the text of an identifier.
-use Rattle.std.specs.Prelude.{◌≡◌, ℕ, List, [], ◌∷◌, ◌++◌, length, codes, ⊤}
+use Rattle.std.specs.Prelude.{◌≡◌, ℕ, List, [], ◌∷◌, ◌++◌, length, codes}
 use Rattle.std.specs.Fmt.{decimal}
 use Rattle.std.specs.List.{flat_map}
 use Rattle.hprof_text.specs.Identifier.{id_digits}
 use Rattle.hprof_text.specs.Printed.{printed_unit}
 use Rattle.hprof_values.specs.declared.ids.IdSize.{IdSize}
 use Rattle.hprof_items.specs.FactValue.{FactValue}
-use Rattle.hprof_stream.specs.declared.summary.PartSummary.{PartSummary}
 use Rattle.hprof_rows.specs.Conflict.{IsConsistent}
-use Rattle.hprof_rows.specs.HeapValue.{HeapValue}
 use Rattle.hprof_naming.specs.Texts.{TextValue, Units, NoText, Nothing, IsText}
-use Rattle.hprof_engine.specs.Makes.{Making, making_of}
 use Rattle.hprof_reports.specs.Line.{line_of}
 use Rattle.hprof_reports.specs.ObjectText.{nothing_line}
 
@@ -40,11 +37,3 @@ pub record IsTextLine (ids : IdSize) (facts : List FactValue) (id : ℕ) (line :
   pub text : TextValue
   pub is_text : IsText ids facts id text
   pub is : line ≡ text_line id text
-
--- the text is the report on the heap that the parts state
-abbrev pub IsTextReport : ℕ → List PartSummary → HeapValue → List ℕ → Type 0
-IsTextReport id summaries heap text = IsTextLine heap.ids heap.facts id text
-
--- the report `text`, which takes memory while it is made
-abbrev pub text_making : ℕ → Making
-text_making id = making_of (IsTextReport id) (λ heap. ⊥) (λ parts. ⊥) ⊤

@@ -1,15 +1,12 @@
 -- The report `why`: the path to an identifier, told so that a person understands it.
-use Rattle.std.specs.Prelude.{◌≡◌, ℕ, List, [], ◌∷◌, ◌++◌, Option, Some, None, codes, ⊤}
+use Rattle.std.specs.Prelude.{◌≡◌, ℕ, List, [], ◌∷◌, ◌++◌, Option, Some, None, codes}
 use Rattle.hprof_values.specs.declared.ids.IdSize.{IdSize}
 use Rattle.hprof_items.specs.FactValue.{FactValue}
-use Rattle.hprof_stream.specs.declared.summary.PartSummary.{PartSummary}
 use Rattle.hprof_rows.specs.Conflict.{IsConsistent}
-use Rattle.hprof_rows.specs.HeapValue.{HeapValue}
 use Rattle.hprof_heap.specs.Classes.{ClassValue}
 use Rattle.hprof_heap.specs.Found.{IsClassFound, IsObjectFound}
 use Rattle.hprof_naming.specs.Naming.{Naming, IsNaming}
 use Rattle.hprof_reach.specs.Reaching.{IsDistanceFromRoots, IsPathFromRoots}
-use Rattle.hprof_engine.specs.Makes.{Making, making_of}
 use Rattle.hprof_reports.specs.ObjectText.{nothing_line}
 use Rattle.hprof_reports.specs.PathText.{distance_line}
 use Rattle.hprof_reports.specs.RootLines.{IsRootsText}
@@ -70,11 +67,3 @@ pub record IsWhyText (ids : IdSize) (facts : List FactValue) (id : ℕ) (text : 
   pub path : Option (List ℕ)
   pub is_path : IsPathFromRoots ids facts id path
   pub is : text ≡ found_text id class object (reached_text told distance path)
-
--- the text is the report on the heap that the parts state
-abbrev pub IsWhyReport : ℕ → List PartSummary → HeapValue → List ℕ → Type 0
-IsWhyReport id summaries heap text = IsWhyText heap.ids heap.facts id text
-
--- the report `why`, which takes memory while it is made
-abbrev pub why_making : ℕ → Making
-why_making id = making_of (IsWhyReport id) (λ heap. ⊥) (λ parts. ⊥) ⊤

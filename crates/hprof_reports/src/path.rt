@@ -4,7 +4,6 @@ ghost use Rattle.std.specs.Prelude.{◌≡◌, ℕ, List, IfOk, string_bytes};
 ghost use Rattle.hprof_devices.specs.declared.health.Health.TheVariants.{Well};
 ghost use Rattle.hprof_values.specs.declared.ids.IdSize.{IdSize};
 ghost use Rattle.hprof_items.specs.FactValue.{FactValue};
-ghost use Rattle.hprof_heap.specs.HeapFacts.{facts_of, size_of};
 ghost use Rattle.hprof_reach.specs.Reaching.{IsReach};
 ghost use Rattle.hprof_reports.specs.PathText.{IsPathText, distance_line, node_line, nodes_text};
 ghost use Rattle.hprof_reports.specs.Stopping.{LeavesTarget, WritesText};
@@ -12,8 +11,7 @@ ghost use Rattle.hprof_reports.specs.Stopping.{LeavesTarget, WritesText};
 use crate::lines::{write_line, write_str};
 use hprof_devices::Target;
 use hprof_engine::WriteStop;
-use hprof_heap::{Heap, holds_of_heap};
-use hprof_reach::{Reach, reach_of};
+use hprof_reach::Reach;
 use std::alloc::{AllocError, Global};
 
 /// Returns the line of a distance. If memory runs out, the answer is `AllocError`.
@@ -47,7 +45,7 @@ fn write_nodes<W: Target>(alloc: Global, nodes: &[u64], target: &mut W) -> Resul
 /// Writes the report `path` on an identifier from a search that was made before: its distance from the GC roots, then a line for
 /// each node of the shortest path, or that no root reaches it. If the writer fails or memory runs out, the bytes written are the
 /// beginning of the report.
-pub fn write_reached<W: Target>(
+pub fn write_path<W: Target>(
     alloc: Global,
     reach: &Reach,
     id: u64,
@@ -67,22 +65,4 @@ pub fn write_reached<W: Target>(
         }
         _ => write_str("not reached\n", target),
     }
-}
-
-/// Writes the report `path` on an identifier: its distance from the GC roots, then a line for each node of the shortest path,
-/// or that no root reaches it. If the writer fails or memory runs out, the bytes written are the beginning of the report.
-pub fn write_path<W: Target>(
-    alloc: Global,
-    heap: &Heap,
-    id: u64,
-    target: &mut W,
-) -> Result<(), WriteStop>
-    requires { W.health target.old ≡ Well }
-    ensures bytes { (text : List ℕ) × IsPathText (size_of heap.now) (facts_of heap.now) id text
-        × WritesText (W.written target.old) (W.written target.new) result text }
-    ensures health { LeavesTarget result (W.health target.new) }
-{
-    holds_of_heap(heap);
-    let reach = reach_of(alloc, heap)?;
-    write_reached(alloc, &reach, id, target)
 }

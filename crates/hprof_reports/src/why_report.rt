@@ -18,8 +18,8 @@ use crate::step_line::{Steps, step_line};
 use hprof_devices::Target;
 use hprof_engine::WriteStop;
 use hprof_heap::{Heap, find_class, find_object, holds_of_heap};
-use hprof_layouts::{KnownLayouts, known_layouts};
-use hprof_reach::{Reach, reach_of, roots_of};
+use hprof_layouts::KnownLayouts;
+use hprof_reach::{Reach, roots_of};
 use std::alloc::Global;
 
 /// Writes the line of a step, and that of the node that it leads to. If it stops, the bytes written are the beginning of the lines.
@@ -126,7 +126,7 @@ fn write_told_path<W: Target>(
 /// The report has the distance, the roots of the first node of the path, and each node, with the reference that leads to the next; or that no
 /// root leads to the identifier, or that it has no dump. If the writer fails or memory runs out, the bytes written are the beginning of the
 /// report.
-pub fn write_reached_why<W: Target>(
+pub fn write_why<W: Target>(
     alloc: Global,
     heap: &Heap,
     known: &KnownLayouts,
@@ -145,24 +145,4 @@ pub fn write_reached_why<W: Target>(
         (None, None) => write_line(nothing_line(alloc, id), target),
         _ => write_told_path(alloc, heap, known, reach, id, target),
     }
-}
-
-/// Writes the report `why` on an identifier: its distance from the GC roots, the roots of the first node of the path, and each node, with
-/// the reference that leads to the next; or that no root leads to it, or that it has no dump. If the writer fails or memory runs out, the
-/// bytes written are the beginning of the report.
-pub fn write_why<W: Target>(
-    alloc: Global,
-    heap: &Heap,
-    id: u64,
-    target: &mut W,
-) -> Result<(), WriteStop>
-    requires { W.health target.old ≡ Well }
-    ensures bytes { (text : List ℕ) × IsWhyText (size_of heap.now) (facts_of heap.now) id text
-        × WritesText (W.written target.old) (W.written target.new) result text }
-    ensures health { LeavesTarget result (W.health target.new) }
-{
-    holds_of_heap(heap);
-    let reach = reach_of(alloc, heap)?;
-    let known = known_layouts(alloc, heap)?;
-    write_reached_why(alloc, heap, &known, &reach, id, target)
 }

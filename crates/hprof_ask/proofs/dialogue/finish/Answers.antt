@@ -1,3 +1,4 @@
+use Rattle.std.specs.Prelude.{⊤}
 use Rattle.hprof_ask.proofs.Hearing.{flushes_all, some_still}
 use Rattle.hprof_ask.proofs.dialogue.finish.Goals as goal
 
@@ -8,5 +9,5 @@ returns-clause-bytes g c = λ bytes start heard.
 
 pub returns-in-Err-clause-bytes : goal.returns-in-Err-clause-bytes
 returns-in-Err-clause-bytes g c = λ bytes start heard.
-    some_still (g.A.Answers.is_answer c.args.answers.now) bytes start (g.W.Target.written c.answer_last.new.target)
+    some_still (g.A.Answers.is_answer c.args.answers.now) ⊤ bytes start (g.W.Target.written c.answer_last.new.target)
     (g.W.Target.written c.pass_on.new.target) c.pass_on.ensures.bytes (c.in-Err.ensures.bytes bytes start heard)

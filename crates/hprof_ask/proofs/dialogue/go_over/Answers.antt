@@ -37,7 +37,7 @@ returns-in_err-answer-clause-bytes g c = λ bytes start heard.
     (c.loop-byte.invariant.heard bytes start heard) c.ended_question.result
     (λ before line is is_line. c.ended_question.ensures before line (c.deref.ensures.value ∙ is) is_line) answer.0 answer.1
     (drop (place + 1) piece) new answer.2 in
-    rw p.1 (inr (subst (λ (l : List ℕ). AnswersFront IA l start new)
+    rw p.1 (inr (subst (λ (l : List ℕ). AnswersFront IA ⊥ l start new)
     (split_at bytes piece place 10 c.loop-byte-test.true c.if-byte-eq10.true) stops))
 
 pub loop-byte-preserved : goal.loop-byte-preserved

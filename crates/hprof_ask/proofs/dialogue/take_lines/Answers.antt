@@ -49,7 +49,7 @@ returns-in-Err-go_over-clause-dialogue g c =
     c.turns.questions c.turns.target c.turns.line.items c.turns.invariant.came c.flush_all.new.target c.flush_all.ensures.bytes in
     ends_piece IA left g.Q.Asker.health g.Q.Asker.pulls written g.W.Target.health was before c.turns.questions c.flush_all.new.target
     c.turns.line.items flushed c.read_on.new.self (take c.in-Ok.count c.read_on.new.piece) c.in-Ok.ensures.bytes c.pass_on.new.target
-    c.pass_on.result (some_still IA (flushed.bytes ++ take c.in-Ok.count c.read_on.new.piece) (written before)
+    c.pass_on.result (some_still IA ⊥ (flushed.bytes ++ take c.in-Ok.count c.read_on.new.piece) (written before)
     (written c.go_over.new.target) (written c.pass_on.new.target) c.pass_on.ensures.bytes
     (c.in-Err-go_over.ensures.bytes flushed.bytes (written before) flushed.holds)) c.in-Ok.ensures.health c.pass_on.ensures.health
 

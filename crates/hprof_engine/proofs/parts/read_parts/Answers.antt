@@ -89,12 +89,12 @@ loop-index-preserved g c =
             well = read.2.2;
             spared = c.in-Ok.ensures.pulls;
           });
-      kept = HoldsFirst-more g.R.Source.left g.S.Summaries.holds c.args.readers.now index was
-          c.loop-index.summaries c.keep.new.self c.in-Ok.summary there c.loop-index.invariant.kept c.keep.ensures.holds
+      kept = HoldsFirst-more g.R.Source.left (g.S.Summaries.holds c.args.summaries.now) c.args.readers.now index was
+          c.loop-index.kept c.keep.new.kept c.in-Ok.summary there c.loop-index.invariant.kept c.keep.ensures.holds
           (summarised_if_told (g.R.Source.left was) (g.R.Source.left c.read_part.new.source) read.0 c.in-Ok.summary read.1 read.2.1
           read.2.5);
       room = c.keep.ensures.room (length c.args.readers.now - (index + 1))
-          (room_behind g.S.Summaries.has_room (length c.args.readers.now) index c.loop-index.summaries within c.loop-index.invariant.room);
+          (room_behind (g.S.Summaries.has_room c.args.summaries.now) (length c.args.readers.now) index c.loop-index.kept within c.loop-index.invariant.room);
       watches = λ id watched. Run-kept g.G.Sink.begins g.G.Sink.steps (λ it. g.G.Gather.watches it id)
           (λ old header new begins. g.met.G.Gather.watches_on old header new begins id)
           (λ old fact new steps. g.met.G.Gather.watches_still old fact new steps id)
@@ -108,13 +108,13 @@ keep-requires g c =
     let index = c.loop-index.index in
     let within : index < length c.args.readers.now = omega arith in (
       length c.args.readers.now - (index + 1),
-      room_behind g.S.Summaries.has_room (length c.args.readers.now) index c.loop-index.summaries within c.loop-index.invariant.room,
+      room_behind (g.S.Summaries.has_room c.args.summaries.now) (length c.args.readers.now) index c.loop-index.kept within c.loop-index.invariant.room,
     )
 
 pub returns-clause-summaries : goal.returns-clause-summaries
 returns-clause-summaries g c =
     let all : c.loop-index.index ≡ length c.args.readers.now = omega arith in
-    subst (λ (count : ℕ). HoldsFirst g.R.Source.left g.S.Summaries.holds c.args.readers.now count c.loop-index.summaries) all c.loop-index.invariant.kept
+    subst (λ (count : ℕ). HoldsFirst g.R.Source.left (g.S.Summaries.holds c.args.summaries.now) c.args.readers.now count c.loop-index.kept) all c.loop-index.invariant.kept
 
 pub returns-clause-read : goal.returns-clause-read
 returns-clause-read g c = search rules

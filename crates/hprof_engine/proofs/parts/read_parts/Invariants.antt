@@ -10,8 +10,8 @@ invariant-loop-index g l = record {
   unread : (k : ℕ) (d : _) → l.index ≤ k → k < length l.fn.readers → get_or l.readers k d ≡ get_or l.fn.readers k d;
   first : GathersFirst g.R.Source.left l.fn.limits l.fn.readers l.index (g.G.Gather.gathered l.fn.gatherer) (g.G.Gather.gathered l.gatherer);
   out : AreReadOut g.R.Source.left g.R.Source.health g.R.Source.pulls l.fn.limits l.fn.readers l.readers l.index;
-  kept : HoldsFirst g.R.Source.left g.S.Summaries.holds l.fn.readers l.index l.summaries;
-  room : g.S.Summaries.has_room l.summaries (length l.fn.readers - l.index);
+  kept : HoldsFirst g.R.Source.left (g.S.Summaries.holds l.summaries) l.fn.readers l.index l.kept;
+  room : g.S.Summaries.has_room l.summaries l.kept (length l.fn.readers - l.index);
   sound : (g.G.Gather.gathered l.gatherer).failed ≡ false;
   watches : (id : ℕ) → g.G.Gather.watches l.fn.gatherer id → g.G.Gather.watches l.gatherer id;
 }

@@ -1,19 +1,31 @@
-use Rattle.std.proofs.lemmas.Result.{err_from_is_err_and}
 use Rattle.hprof_heap.specs.HeapFacts.{facts_of, size_of}
-use Rattle.hprof_reports.proofs.TextWriting.{text_unwritten}
-use Rattle.hprof_reports.proofs.SomeWhy.{why_exists}
+use Rattle.hprof_reports.specs.ObjectText.{nothing_line}
+use Rattle.hprof_reports.specs.WhyText.{reached_text}
+use Rattle.hprof_reports.proofs.SomeWhy.{telling_exists}
+use Rattle.hprof_reports.proofs.WhyTexts.{why_nothing, why_reached}
 use Rattle.hprof_reports.proofs.why_report.write_why.Goals as goal
+use Rattle.hprof_reports.proofs.why_report.write_why.Goals.{in_default-via-in-None+in_default, in_default-via-in_default}
 
--- memory was wanted before the first line
-pub returns-in_err-reach-clause-bytes : goal.returns-in_err-reach-clause-bytes
-returns-in_err-reach-clause-bytes g c =
-    let text = why_exists (size_of c.args.heap.now) (facts_of c.args.heap.now) c.holds_of_heap.ensures.agree c.args.id in
-    let p = err_from_is_err_and c.from_residual.result c.from_residual.ensures.1 in
-    (text.0, text.1, text_unwritten c.from_residual.result (g.W.Target.written c.args.target.now) p.0 text.0 p.1)
+pub returns-in-None-None-clause-bytes : goal.returns-in-None-None-clause-bytes
+returns-in-None-None-clause-bytes g c = λ knows reach. (
+  nothing_line c.args.id,
+  why_nothing (size_of c.args.heap.now) (facts_of c.args.heap.now) c.holds_of_heap.ensures.agree c.args.id c.find_class.result
+      c.find_object.result c.find_class.ensures c.find_object.ensures c.in-None-None.is-0 c.in-None-None.is-1,
+  c.write_line.ensures.bytes (nothing_line c.args.id) c.nothing_line.ensures,
+)
 
-pub returns-in_err-known-clause-bytes : goal.returns-in_err-known-clause-bytes
-returns-in_err-known-clause-bytes g c =
-    let text = why_exists (size_of c.args.heap.now) (facts_of c.args.heap.now) c.holds_of_heap.ensures.agree c.args.id in
-    let r = c.from_residual-in_err-known in
-    let p = err_from_is_err_and r.result r.ensures.1 in
-    (text.0, text.1, text_unwritten r.result (g.W.Target.written c.args.target.now) p.0 text.0 p.1)
+pub returns-in_default-clause-bytes : goal.returns-in_default-clause-bytes
+returns-in_default-clause-bytes g c = λ knows reach.
+    let ids = size_of c.args.heap.now in
+    let facts = facts_of c.args.heap.now in
+    let agree = c.holds_of_heap.ensures.agree in
+    let told = telling_exists ids facts agree in
+    let it = c.write_told_path.ensures.bytes told.0 told.1 knows reach in (
+      reached_text told.0 it.0 it.2.0,
+      why_reached ids facts agree c.args.id c.find_class.result c.find_object.result c.find_class.ensures c.find_object.ensures
+          told.0 told.1 (λ no_class no_object. elim c.in_default.branch [
+            | in_default-via-in-None+in_default w ↦ let some = w.in_default.is-1 in cc
+            | in_default-via-in_default w ↦ let some = w.in_default.is-0 in cc
+          ]) it.0 it.1 it.2.0 it.2.1,
+      it.2.2,
+    )

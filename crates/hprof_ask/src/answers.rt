@@ -1,0 +1,145 @@
+//! The answers to questions, by reports.
+
+ghost use Rattle.std.specs.Prelude.{◌≡◌, ◌++◌, ℕ, List};
+ghost use Rattle.std.specs.List.{flat_map};
+ghost use Rattle.hprof_devices.specs.declared.health.Health.TheVariants.{Well};
+ghost use Rattle.hprof_heap.specs.HeapFacts.{facts_of, size_of};
+ghost use Rattle.hprof_reports.specs.Stopping.{LeavesTarget, WritesText};
+ghost use Rattle.hprof_ask.specs.HeapAnswers.{IsHeapAnswer, IsReply};
+ghost use Rattle.hprof_ask.specs.Kept.{IsKept};
+ghost use Rattle.hprof_ask.specs.Words.{all_words, follows_text, help_text, usage_line};
+
+use crate::answerer::Answerer;
+use crate::dialogue::Answers;
+use crate::kept::Kept;
+use crate::question::Question;
+use crate::report_word::{ALL, Follows, ReportWord};
+use crate::stop::DialogueStop;
+use crate::subject::Misnamed;
+use hprof_devices::Target;
+use hprof_engine::WriteStop;
+use hprof_reports::write_str;
+use std::alloc::Global;
+
+/// Returns what stands in help for that which follows a word.
+fn follows_text(follows: Follows) -> &'static str
+    ensures { result.now ≡ follows_text follows }
+{
+    match follows {
+        Follows::Nothing => "\n",
+        Follows::Identifier => " ID\n",
+        Follows::ClassOrType => " KIND\n",
+    }
+}
+
+/// Writes the line of a report in help.
+fn write_usage<W: Target>(word: ReportWord, target: &mut W) -> Result<(), WriteStop>
+    requires { W.health target.old ≡ Well }
+    ensures bytes { WritesText (W.written target.old) (W.written target.new) result (usage_line word) }
+    ensures health { LeavesTarget result (W.health target.new) }
+{
+    let row = word.row();
+    write_str(row.word, target)?;
+    write_str(follows_text(row.follows), target)
+}
+
+/// Writes the line of each report in help.
+fn write_usages<W: Target>(target: &mut W) -> Result<(), WriteStop>
+    requires { W.health target.old ≡ Well }
+    ensures bytes { WritesText (W.written target.old) (W.written target.new) result (flat_map usage_line all_words) }
+    ensures health { LeavesTarget result (W.health target.new) }
+{
+    for word in &ALL {
+        write_usage(*word, target)?;
+    }
+    Ok(())
+}
+
+/// Writes the questions that can be asked, one a line.
+fn write_help<W: Target>(target: &mut W) -> Result<(), WriteStop>
+    requires { W.health target.old ≡ Well }
+    ensures bytes { WritesText (W.written target.old) (W.written target.new) result help_text }
+    ensures health { LeavesTarget result (W.health target.new) }
+{
+    write_str("help\n", target)?;
+    write_usages(target)
+}
+
+/// Writes the reply to a question, without the empty line behind it. If it stops, the bytes written are the beginning of the reply.
+fn write_reply<W: Target>(
+    alloc: Global,
+    answerer: &Answerer<'_>,
+    kept: &mut Kept,
+    question: Question,
+    target: &mut W,
+) -> Result<(), WriteStop>
+    requires well { W.health target.old ≡ Well }
+    requires kept { IsKept (size_of answerer.now.heap.now) (facts_of answerer.now.heap.now) kept.old }
+    ensures bytes { (text : List ℕ)
+        × IsReply answerer.now.summaries.now (size_of answerer.now.heap.now) (facts_of answerer.now.heap.now) question text
+        × WritesText (W.written target.old) (W.written target.new) result text }
+    ensures health { LeavesTarget result (W.health target.new) }
+    ensures kept { IsKept (size_of answerer.now.heap.now) (facts_of answerer.now.heap.now) kept.new }
+{
+    match question {
+        Question::Nothing => write_str("", target),
+        Question::Help => write_help(target),
+        Question::Report(report) => answerer.write(alloc, kept, report, target),
+        Question::Misnamed(Misnamed::NoIdentifier) => write_str("not an identifier\n", target),
+        Question::Misnamed(Misnamed::NoKind) => write_str("not a class or a type\n", target),
+        Question::NotUnderstood => write_str("not understood\n", target),
+    }
+}
+
+/// Writes the answer to a question: the reply, and an empty line. If it stops, the bytes written are the beginning of it.
+fn write_answer<W: Target>(
+    alloc: Global,
+    answerer: &Answerer<'_>,
+    kept: &mut Kept,
+    question: Question,
+    target: &mut W,
+) -> Result<(), WriteStop>
+    requires well { W.health target.old ≡ Well }
+    requires kept { IsKept (size_of answerer.now.heap.now) (facts_of answerer.now.heap.now) kept.old }
+    ensures bytes { (text : List ℕ)
+        × IsHeapAnswer answerer.now.summaries.now (size_of answerer.now.heap.now) (facts_of answerer.now.heap.now) question text
+        × WritesText (W.written target.old) (W.written target.new) result text }
+    ensures health { LeavesTarget result (W.health target.new) }
+    ensures kept { IsKept (size_of answerer.now.heap.now) (facts_of answerer.now.heap.now) kept.new }
+{
+    match write_reply(alloc, answerer, kept, question, target) {
+        Ok(()) => write_str("\n", target),
+        Err(stop) => Err(stop),
+    }
+}
+
+impl<'a> Answers for Answerer<'a> {
+    ghost use Rattle.hprof_ask.specs.OneHeapAnswer.{one_heap_answer};
+    ghost use Rattle.hprof_ask.specs.SomeHeapAnswer.{some_heap_answer};
+
+    ghost is_answer = { λ answers. IsHeapAnswer answers.summaries.now (size_of answers.heap.now) (facts_of answers.heap.now) };
+
+    ghost keeps = { λ answers kept. IsKept (size_of answers.heap.now) (facts_of answers.heap.now) kept };
+
+    type Kept = Kept;
+
+    fn answer<W: Target>(
+        &self,
+        alloc: Global,
+        kept: &mut Kept,
+        question: Question,
+        target: &mut W,
+    ) -> Result<(), DialogueStop> {
+        match write_answer(alloc, self, kept, question, target) {
+            Ok(()) => Ok(()),
+            Err(WriteStop::Write(fault)) => Err(DialogueStop::Write(fault)),
+            Err(WriteStop::OutOfMemory) => Err(DialogueStop::OutOfMemory),
+            // No answer is too long.
+            Err(WriteStop::TooLong) => unreachable!(),
+        }
+    }
+
+    ghost some_answer = { λ answers. some_heap_answer answers.summaries.now answers.heap.now };
+
+    ghost one_answer = { λ answers. one_heap_answer answers.summaries.now (size_of answers.heap.now) (facts_of answers.heap.now) };
+}

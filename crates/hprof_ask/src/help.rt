@@ -1,0 +1,185 @@
+//! The texts that explain the reports: what the lines and columns of each are, and an example.
+
+/// The report `check`.
+pub(crate) const CHECK: &str = "\
+First comes a line for each part, in order, counted from 0: its version, the
+bytes of an identifier, its time in milliseconds since 1970, its number of
+records, its number of facts (names, classes, objects and so on), and whether
+it has an end record. Then each kind of fact has a line with the number of them
+in all parts together, each counted once. Bad names are not modified UTF-8.
+
+    $ hprof check friday.hprof | sed -n 1,3p
+    part 0: version 1.0.2 ids 8 time 1795766400000 records 49 facts 145 end yes
+    names 31
+    loads 10
+
+Parts are pieces of one heap. Two dumps of one process are two heaps: check each
+alone. A compressed dump goes through zcat:
+    $ hprof check <(zcat heap.hprof.gz)
+
+Exit status: 0 done, 1 refused (one line on standard error), 2 not understood.";
+
+/// The report `histo`.
+pub(crate) const HISTO: &str = "\
+Columns: bytes, number of objects, identifier of the class, name. The most bytes
+come first, then the most objects, then classes by identifier.
+
+    $ hprof histo friday.hprof | sed -n 1,3p
+    466 29 - byte[]
+    288 9 7400003a0 shop/Session
+    280 20 740000070 java/lang/String
+
+Bytes are the field and element data in the dump, without object headers and
+padding, so totals are smaller than the JVM's. Arrays of numbers are under no
+class: their line has a type, and - in place of an identifier.
+
+Two dumps of one process are two heaps: `diff` compares them. A compressed dump
+goes through zcat: hprof histo <(zcat heap.hprof.gz). A reader that closes
+early, as head does, is a failed write.
+
+Exit status: 0 done, 1 refused (one line on standard error), 2 not understood.";
+
+/// The report `classes`.
+pub(crate) const CLASSES: &str = "\
+Columns: identifier of the class; behind `super` its superclass, 0 for none;
+behind `bytes` and `objects` those of its objects; name. Lines come in order of
+identifier. A class without objects has a line too.
+
+    $ hprof classes friday.hprof | grep shop/
+    7400003a0 super 740000000 bytes 288 objects 9 shop/Session
+    740000410 super 740000000 bytes 0 objects 0 shop/Server
+
+Objects of subclasses are not counted. Bytes are the field and element data in
+the dump, without object headers and padding. Arrays of numbers are under no
+class: `histo` counts them.
+
+Two dumps of one process are two heaps: ask each alone. A reader that closes
+early, as head does, is a failed write.
+
+Exit status: 0 done, 1 refused (one line on standard error), 2 not understood.";
+
+/// The report `objects`.
+pub(crate) const OBJECTS: &str = "\
+Columns: bytes of the object, its identifier. The largest come first, then by
+identifier. Objects of subclasses are not listed. If there are none, nothing is
+printed.
+
+    $ hprof objects 7400003a0 friday.hprof | sed -n 1,2p
+    32 7400005e0
+    32 740000738
+    $ hprof objects 'byte[]' friday.hprof | sed -n 1p
+    45 7400005a0
+
+KIND is a class, as its hexadecimal identifier without 0x or @, or boolean[],
+char[], float[], double[], byte[], short[], int[] or long[]: arrays of numbers
+are under no class. Bytes are the field and element data in the dump, without
+object headers and padding. Two dumps of one process are two heaps: ask each
+alone. A reader that closes early, as head does, is a failed write.
+
+Exit status: 0 done, 1 refused (one line on standard error), 2 not understood.";
+
+/// The report `object`.
+pub(crate) const OBJECT: &str = "\
+The first line is the class, the instance or the array. The other lines come in
+the order of the dump, and are counted from 0:
+    of a class       constant N INDEX TYPE BITS
+                     static N TYPE BITS NAME
+                     own N TYPE NAME                its own instance fields
+    of an instance   field N CLASS TYPE BITS NAME   superclasses' fields last
+    of an array      element N ID, or bytes HEXADECIMAL
+
+    $ hprof object 740000850 friday.hprof | sed -n 1,2p
+    instance 740000850 class 7400003a0 bytes 32 shop/Session
+    field 0 7400003a0 object 00000007400007f0 user
+
+BITS are raw and hexadecimal. If the dump has no such class or object, the line
+is `nothing at ID`. ID is hexadecimal, without 0x or @. `text` reads strings.
+Two dumps of one process are two heaps: ask each alone.
+
+Exit status: 0 done, 1 refused (one line on standard error), 2 not understood.";
+
+/// The report `refs`.
+pub(crate) const REFS: &str = "\
+Columns: the class or object that holds the reference, the kind of reference,
+and its index there, counted from 0. Kinds, in order: class, super, loader,
+signers, domain, constant, static, field, element. Lines come in order of the
+first column, then of kind, then of index. If there are none, nothing is
+printed.
+
+    $ hprof refs 740000e58 friday.hprof
+    740000410 static 0
+
+`object` prints the static field, the field or the element at that index.
+
+Weak, soft and phantom references count as any other. ID is hexadecimal, without
+0x or @. Two dumps of one process are two heaps: ask each alone. A reader that
+closes early, as head does, is a failed write.
+
+Exit status: 0 done, 1 refused (one line on standard error), 2 not understood.";
+
+/// The report `path`.
+pub(crate) const PATH: &str = "\
+The first line is the number of references on the path. Then each class or
+object on it has a line with its identifier, from the GC root to ID.
+
+    $ hprof path 740000410 friday.hprof
+    distance 3
+    740000380
+    7400004d8
+    7400004b8
+    740000410
+
+If no GC root leads to ID, or the dump has no such class or object, the line is
+`not reached`. A dump that was cut short mostly has no roots.
+
+Weak, soft and phantom references count as any other, so a path may lead through
+one that keeps nothing alive. ID is hexadecimal, without 0x or @. Two dumps of
+one process are two heaps: ask each alone.
+
+Exit status: 0 done, 1 refused (one line on standard error), 2 not understood.";
+
+/// The report `text`.
+pub(crate) const TEXT: &str = "\
+Prints one line: `text`, the number of UTF-16 units, and the text. Units other
+than printable ASCII are escaped as in Java, and so is the backslash: \\u005c.
+
+    $ hprof text 7400007f0 friday.hprof
+    text 3 cyd
+
+ID is a string, a StringBuilder, or an array of chars or bytes. A StringBuilder
+shows all of its room, also behind the end of its text. A byte array is read as
+Latin-1. If another object is at ID, the line is `no text at ID`; if the dump
+has no such class or object, it is `nothing at ID`.
+
+ID is hexadecimal, without 0x or @. Two dumps of one process are two heaps: ask
+each alone.
+
+Exit status: 0 done, 1 refused (one line on standard error), 2 not understood.";
+
+/// The report `why`.
+pub(crate) const WHY: &str = "\
+The first line is the number of references on the path. Then each GC root of its
+first object has a line, and each class or object on it, from the root to ID.
+Between two of them, indented, stands the reference: its kind and index, as
+`refs` prints them, and the name of a static field or a field.
+
+    $ hprof why 740000410 friday.hprof
+    distance 3
+    root JNI global 7f0070000008
+    740000380 jdk/internal/loader/ClassLoaders$AppClassLoader
+      field 1 classes
+    7400004d8 java/util/ArrayList
+      field 0 elementData
+    7400004b8 [Ljava/lang/Object;
+      element 1
+    740000410 class shop/Server
+
+If no GC root leads to ID, the line is `not reached`; if the dump has no such
+class or object, it is `nothing at ID`. Of several references from the one to
+the other the first by kind and index is printed.
+
+Weak, soft and phantom references count as any other: the field is `referent`.
+ID is hexadecimal, without 0x or @. Two dumps of one process are two heaps: ask
+each alone.
+
+Exit status: 0 done, 1 refused (one line on standard error), 2 not understood.";
