@@ -1,11 +1,14 @@
 //! The words of the command line.
 
-ghost use Rattle.std.specs.Prelude.{IfOk};
-ghost use Rattle.hprof_tool.specs.Tasks.{AsksFor};
+ghost use Rattle.std.specs.Prelude.{MatchOption, MatchResult, IfOk, Some};
+ghost use Rattle.clap.specs.declared.parser.matches.ArgMatches.{ArgMatches};
+ghost use Rattle.clap.specs.Matches.{subcommand_name_of};
+ghost use Rattle.hprof_tool.specs.Commands.{AsksFor, IsNoCommand, IsTaskOf, command_word};
 
 use clap::{Arg, ArgAction, ArgMatches, Command, Error};
+use hprof_ask::{Follows, ReportWord};
 use std::alloc::{AllocError, Global};
-use subcommands::{ASKING, Argument, REPORTING, Subcommand, WRITING};
+use subcommands::{Argument, COMMANDS, CommandRow, CommandWord};
 
 mod help;
 mod subcommands;
@@ -31,25 +34,12 @@ pub(crate) enum Task<'a> {
         /// The names of the parts, in order.
         parts: Vec<&'a str>,
     },
-    /// To write the report `check` on the parts in files.
-    Check {
-        /// The names of the parts, in order.
-        parts: Vec<&'a str>,
-    },
-    /// To report the number of objects of each kind in the parts in files.
-    Histogram {
-        /// The names of the parts, in order.
-        parts: Vec<&'a str>,
-    },
-    /// To report the class dumps in the parts in files.
-    Classes {
-        /// The names of the parts, in order.
-        parts: Vec<&'a str>,
-    },
-    /// To report the objects of a class or a type.
-    Objects {
-        /// The class or the type, as text.
-        kind: &'a str,
+    /// To write a report on the parts in files.
+    Report {
+        /// The report.
+        word: ReportWord,
+        /// The text that says what it is about; empty if nothing follows the word.
+        text: &'a str,
         /// The names of the parts, in order.
         parts: Vec<&'a str>,
     },
@@ -61,16 +51,7 @@ pub(crate) enum Task<'a> {
         newer: &'a str,
     },
     /// To answer questions on standard input about the heap of the parts in files.
-    Converse {
-        /// The names of the parts, in order.
-        parts: Vec<&'a str>,
-    },
-    /// To report something on an identifier.
     Ask {
-        /// The report to write.
-        question: Question,
-        /// The identifier, as text.
-        id: &'a str,
         /// The names of the parts, in order.
         parts: Vec<&'a str>,
     },
@@ -85,19 +66,25 @@ pub(crate) enum NewFile {
     Dump101,
 }
 
-/// A question about an identifier.
-#[derive(Clone, Copy, Debug, PartialEq, Eq)]
-pub(crate) enum Question {
-    /// The contents of its class and its object.
-    Object,
-    /// Its distance from the roots, and the path.
-    Path,
-    /// The references to it.
-    Refs,
-    /// Its text.
-    Text,
-    /// The path to it, with names.
-    Why,
+/// The reason why words ask for no task.
+#[derive(Drop)]
+pub(crate) enum Misunderstood {
+    /// They are not understood, or ask for help.
+    Words(Error),
+    /// The first of them is none of the commands.
+    NoCommand,
+}
+
+impl From<Error> for Misunderstood {
+    fn from(error: Error) -> Misunderstood {
+        Misunderstood::Words(error)
+    }
+}
+
+impl From<AllocError> for Misunderstood {
+    fn from(error: AllocError) -> Misunderstood {
+        Misunderstood::Words(Error::from(error))
+    }
 }
 
 /// Returns the argument for the names of the parts, any number of them.
@@ -132,12 +119,12 @@ fn with_required<'a>(
 }
 
 /// Returns a command of the program.
-fn subcommand_of<'a>(alloc: Global, subcommand: &Subcommand) -> Result<Command<'a>, AllocError> {
-    let command = Command::new(alloc, subcommand.name)
-        .about(subcommand.about)
-        .after_help(subcommand.help);
-    let command = with_required(alloc, command, subcommand.arguments)?;
-    if subcommand.takes_parts {
+fn subcommand_of<'a>(alloc: Global, row: &CommandRow) -> Result<Command<'a>, AllocError> {
+    let command = Command::new(alloc, row.word)
+        .about(row.about)
+        .after_help(row.help);
+    let command = with_required(alloc, command, row.arguments)?;
+    if row.takes_parts {
         return command.arg(parts_arg(alloc));
     }
     Ok(command)
@@ -147,106 +134,94 @@ fn subcommand_of<'a>(alloc: Global, subcommand: &Subcommand) -> Result<Command<'
 fn with_subcommand<'a>(
     alloc: Global,
     program: Command<'a>,
-    subcommand: &Subcommand,
+    row: &CommandRow,
 ) -> Result<Command<'a>, AllocError> {
-    program.subcommand(subcommand_of(alloc, subcommand)?)
-}
-
-/// Adds commands to the program.
-fn with_subcommands<'a>(
-    alloc: Global,
-    program: Command<'a>,
-    all: &[Subcommand],
-) -> Result<Command<'a>, AllocError> {
-    let mut program = program;
-    for subcommand in all {
-        program = with_subcommand(alloc, program, subcommand)?;
-    }
-    Ok(program)
+    program.subcommand(subcommand_of(alloc, row)?)
 }
 
 /// Returns the program's command line.
 fn command<'a>(alloc: Global) -> Result<Command<'a>, AllocError> {
-    let program = Command::new(alloc, "hprof")
+    let mut program = Command::new(alloc, "hprof")
         .version(help::VERSION)
         .about("Reads Java heap dumps, answers questions about them, and joins them")
         .after_help(help::PROGRAM)
         .disable_help_subcommand(true);
-    let program = with_subcommands(alloc, program, &WRITING)?;
-    let program = with_subcommands(alloc, program, &REPORTING)?;
-    with_subcommands(alloc, program, &ASKING)
+    for command in &COMMANDS {
+        program = with_subcommand(alloc, program, &command.row())?;
+    }
+    Ok(program)
 }
 
 /// Returns the names of the parts that were given to a command.
-fn parts_of<'a>(alloc: Global, matches: &ArgMatches<'a>) -> Result<Vec<&'a str>, AllocError> {
+fn parts_of<'a>(alloc: Global, words: &ArgMatches<'a>) -> Result<Vec<&'a str>, AllocError> {
     let mut parts = Vec::new(alloc);
-    parts.extend_from_slice(matches.get_strs("part").unwrap_or(&[]))?;
+    parts.extend_from_slice(words.get_strs("part").unwrap_or(&[]))?;
     Ok(parts)
 }
 
-/// Returns the task that a command of that name, which is one of the program's, asks for with these words. The words were understood, so a
-/// word that is required is there.
-fn task_named<'a>(alloc: Global, name: &str, words: &ArgMatches<'a>) -> Result<Task<'a>, AllocError>
-    ensures { IfOk result (AsksFor name.now) }
+/// Returns the value of an argument. If a command must be given it, clap refuses words without it.
+fn value_of<'a>(words: &ArgMatches<'a>, argument: &str) -> &'a str {
+    words.get_str(argument).unwrap_or("")
+}
+
+/// Returns the text that says what a report is about.
+fn subject_of<'a>(words: &ArgMatches<'a>, report: ReportWord) -> &'a str {
+    match report.row().follows {
+        Follows::Nothing => "",
+        Follows::Identifier => value_of(words, "id"),
+        Follows::ClassOrType => value_of(words, "kind"),
+    }
+}
+
+/// Returns the task of a command that was given these words.
+fn task_of_command<'a>(
+    alloc: Global,
+    command: CommandWord,
+    words: &ArgMatches<'a>,
+) -> Result<Task<'a>, AllocError>
+    ensures { IfOk result (AsksFor (command_word command)) }
 {
     let parts = parts_of(alloc, words)?;
-    let id = words.get_str("id").unwrap_or("");
-    let out = words.get_str("out").unwrap_or("");
-    let kind = words.get_str("kind").unwrap_or("");
-    Ok(match name {
-        "salvage" => Task::Salvage { out, parts },
-        "check" => Task::Check { parts },
-        "histo" => Task::Histogram { parts },
-        "classes" => Task::Classes { parts },
-        "objects" => Task::Objects { kind, parts },
-        "ask" => Task::Converse { parts },
-        "diff" => Task::Compare {
-            older: words.get_str("older").unwrap_or(""),
-            newer: words.get_str("newer").unwrap_or(""),
-        },
-        "object" => Task::Ask {
-            question: Question::Object,
-            id,
+    Ok(match command {
+        CommandWord::Write(product) => Task::Write {
+            product,
+            out: value_of(words, "out"),
             parts,
         },
-        "path" => Task::Ask {
-            question: Question::Path,
-            id,
+        CommandWord::Salvage => Task::Salvage {
+            out: value_of(words, "out"),
             parts,
         },
-        "refs" => Task::Ask {
-            question: Question::Refs,
-            id,
+        CommandWord::Report(word) => Task::Report {
+            word,
+            text: subject_of(words, word),
             parts,
         },
-        "text" => Task::Ask {
-            question: Question::Text,
-            id,
-            parts,
+        CommandWord::Compare => Task::Compare {
+            older: value_of(words, "older"),
+            newer: value_of(words, "newer"),
         },
-        "why" => Task::Ask {
-            question: Question::Why,
-            id,
-            parts,
-        },
-        "join101" => Task::Write {
-            product: NewFile::Dump101,
-            out,
-            parts,
-        },
-        _ => Task::Write {
-            product: NewFile::Dump,
-            out,
-            parts,
-        },
+        CommandWord::Ask => Task::Ask { parts },
     })
 }
 
-/// Returns the task that the words ask for. The first word is the program's name.
-pub(crate) fn task_of<'a>(alloc: Global, words: &'a [String]) -> Result<Task<'a>, Error> {
-    let matches = command(alloc)?.try_get_matches_from(words)?;
+/// Returns the task of words that clap has understood.
+fn task_matched<'a>(alloc: Global, matches: &ArgMatches<'a>) -> Result<Task<'a>, Misunderstood>
+    ensures { MatchResult result (IsTaskOf (subcommand_name_of matches.now)) (IsNoCommand (subcommand_name_of matches.now)) }
+{
     let Some((name, words)) = matches.subcommand() else {
         return Ok(Task::JoinInput);
     };
-    Ok(task_named(alloc, name, words)?)
+    match CommandWord::of(name) {
+        Some(command) => Ok(task_of_command(alloc, command, words)?),
+        None => Err(Misunderstood::NoCommand),
+    }
+}
+
+/// Returns the task that the words ask for. The first word is the program's name.
+pub(crate) fn task_of<'a>(alloc: Global, words: &'a [String]) -> Result<Task<'a>, Misunderstood>
+    ensures { IfOk result (λ task. (matches : ArgMatches) × IsTaskOf (subcommand_name_of matches) task) }
+{
+    let matches = command(alloc)?.try_get_matches_from(words)?;
+    task_matched(alloc, &matches)
 }

@@ -1,6 +1,11 @@
 //! The commands of the program, in the order in which its help lists them.
 
-use super::help;
+ghost use Rattle.std.specs.Prelude.{◌≡◌, ◌≢◌, MatchOption};
+ghost use Rattle.hprof_tool.specs.declared.command.subcommands.CommandWord.{CommandWord};
+ghost use Rattle.hprof_tool.specs.Commands.{command_word};
+
+use super::{NewFile, help};
+use hprof_ask::{Follows, ReportWord};
 
 /// An argument that a command must be given.
 #[derive(Clone, Copy)]
@@ -11,21 +16,6 @@ pub(crate) struct Argument {
     pub(crate) value_name: &'static str,
     /// What it is.
     pub(crate) help: &'static str,
-}
-
-/// A command of the program.
-#[derive(Clone, Copy)]
-pub(crate) struct Subcommand {
-    /// Its name.
-    pub(crate) name: &'static str,
-    /// What it does, in a line.
-    pub(crate) about: &'static str,
-    /// The text behind its arguments.
-    pub(crate) help: &'static str,
-    /// The arguments that it must be given, in order.
-    pub(crate) arguments: &'static [Argument],
-    /// Whether names of parts follow.
-    pub(crate) takes_parts: bool,
 }
 
 const OUT: Argument = Argument {
@@ -58,112 +48,131 @@ const NEWER: Argument = Argument {
     help: "The newer dump",
 };
 
-/// The commands that write a new file.
-pub(crate) static WRITING: [Subcommand; 3] = [
-    Subcommand {
-        name: "join",
-        about: "Joins parts of one heap into one canonical dump",
-        help: help::JOIN,
-        arguments: &[OUT],
-        takes_parts: true,
-    },
-    Subcommand {
-        name: "join101",
-        about: "Joins parts of one heap into one JAVA PROFILE 1.0.1 dump",
-        help: help::JOIN101,
-        arguments: &[OUT],
-        takes_parts: true,
-    },
-    Subcommand {
-        name: "salvage",
-        about: "Saves each damaged part up to its fault, and prints the faults",
-        help: help::SALVAGE,
-        arguments: &[OUT],
-        takes_parts: true,
-    },
+/// A command of the program.
+#[derive(Clone, Copy, Debug, PartialEq, Eq)]
+pub(crate) enum CommandWord {
+    /// Writes a dump to a new file.
+    Write(NewFile),
+    /// Salvages damaged parts.
+    Salvage,
+    /// Writes a report.
+    Report(ReportWord),
+    /// Writes what grew from one dump to another.
+    Compare,
+    /// Answers questions.
+    Ask,
+}
+
+/// The row of a command in the table.
+#[derive(Clone, Copy)]
+pub(crate) struct CommandRow {
+    /// The word of the command.
+    pub(crate) word: &'static str,
+    /// What it does, in a line.
+    pub(crate) about: &'static str,
+    /// The text that explains it, behind its arguments.
+    pub(crate) help: &'static str,
+    /// The arguments that it must be given, in order.
+    pub(crate) arguments: &'static [Argument],
+    /// Whether names of parts follow.
+    pub(crate) takes_parts: bool,
+}
+
+/// All commands, in the order in which the program's help lists them.
+pub(crate) const COMMANDS: [CommandWord; 14] = [
+    CommandWord::Write(NewFile::Dump),
+    CommandWord::Write(NewFile::Dump101),
+    CommandWord::Salvage,
+    CommandWord::Report(ReportWord::Check),
+    CommandWord::Report(ReportWord::Histogram),
+    CommandWord::Report(ReportWord::Classes),
+    CommandWord::Report(ReportWord::Objects),
+    CommandWord::Compare,
+    CommandWord::Report(ReportWord::Object),
+    CommandWord::Report(ReportWord::Path),
+    CommandWord::Report(ReportWord::Refs),
+    CommandWord::Report(ReportWord::Text),
+    CommandWord::Report(ReportWord::Why),
+    CommandWord::Ask,
 ];
 
-/// The commands that report on all parts, or on a class or a type.
-pub(crate) static REPORTING: [Subcommand; 5] = [
-    Subcommand {
-        name: "check",
-        about: "Prints the version and time of each part, and numbers of facts",
-        help: help::CHECK,
-        arguments: &[],
-        takes_parts: true,
-    },
-    Subcommand {
-        name: "histo",
-        about: "Prints the class histogram: the bytes and objects of each class",
-        help: help::HISTO,
-        arguments: &[],
-        takes_parts: true,
-    },
-    Subcommand {
-        name: "classes",
-        about: "Prints each class, its superclass, and its bytes and objects",
-        help: help::CLASSES,
-        arguments: &[],
-        takes_parts: true,
-    },
-    Subcommand {
-        name: "objects",
-        about: "Prints the objects of a class or a type, the largest first",
-        help: help::OBJECTS,
-        arguments: &[KIND],
-        takes_parts: true,
-    },
-    Subcommand {
-        name: "diff",
-        about: "Prints what grew from one dump to another, in bytes and objects",
-        help: help::DIFF,
-        arguments: &[OLDER, NEWER],
-        takes_parts: false,
-    },
-];
+/// Returns the arguments that stand for what follows the word of a report.
+fn arguments_of(follows: Follows) -> &'static [Argument] {
+    match follows {
+        Follows::Nothing => &[],
+        Follows::Identifier => &[ID],
+        Follows::ClassOrType => &[KIND],
+    }
+}
 
-/// The commands that report on an identifier, and the one that answers questions.
-pub(crate) static ASKING: [Subcommand; 6] = [
-    Subcommand {
-        name: "object",
-        about: "Prints the contents of a class, an instance or an array",
-        help: help::OBJECT,
-        arguments: &[ID],
+/// Returns the row of a report.
+fn report_row(report: ReportWord) -> CommandRow
+    ensures { result.word.now ≡ command_word (CommandWord.Report report) }
+{
+    let row = report.row();
+    CommandRow {
+        word: row.word,
+        about: row.about,
+        help: row.help,
+        arguments: arguments_of(row.follows),
         takes_parts: true,
-    },
-    Subcommand {
-        name: "path",
-        about: "Prints the shortest path from a GC root to a class or an object",
-        help: help::PATH,
-        arguments: &[ID],
-        takes_parts: true,
-    },
-    Subcommand {
-        name: "refs",
-        about: "Prints each reference to a class or an object",
-        help: help::REFS,
-        arguments: &[ID],
-        takes_parts: true,
-    },
-    Subcommand {
-        name: "text",
-        about: "Prints the text of a string, or of an array of chars or bytes",
-        help: help::TEXT,
-        arguments: &[ID],
-        takes_parts: true,
-    },
-    Subcommand {
-        name: "why",
-        about: "Prints the shortest path from a GC root, with names",
-        help: help::WHY,
-        arguments: &[ID],
-        takes_parts: true,
-    },
-    Subcommand {
-        name: "ask",
-        about: "Reads the parts once, and answers questions on standard input",
-        help: help::ASK,
-        arguments: &[],
-        takes_parts: true,
-    },
-];
+    }
+}
+
+impl CommandWord {
+    /// Returns the row of the command.
+    pub(crate) fn row(self) -> CommandRow
+        ensures { result.word.now ≡ command_word self }
+    {
+        match self {
+            CommandWord::Write(NewFile::Dump) => CommandRow {
+                word: "join",
+                about: "Joins parts of one heap into one canonical dump",
+                help: help::JOIN,
+                arguments: &[OUT],
+                takes_parts: true,
+            },
+            CommandWord::Write(NewFile::Dump101) => CommandRow {
+                word: "join101",
+                about: "Joins parts of one heap into one JAVA PROFILE 1.0.1 dump",
+                help: help::JOIN101,
+                arguments: &[OUT],
+                takes_parts: true,
+            },
+            CommandWord::Salvage => CommandRow {
+                word: "salvage",
+                about: "Saves each damaged part up to its fault, and prints the faults",
+                help: help::SALVAGE,
+                arguments: &[OUT],
+                takes_parts: true,
+            },
+            CommandWord::Report(report) => report_row(report),
+            CommandWord::Compare => CommandRow {
+                word: "diff",
+                about: "Prints what grew from one dump to another, in bytes and objects",
+                help: help::DIFF,
+                arguments: &[OLDER, NEWER],
+                takes_parts: false,
+            },
+            CommandWord::Ask => CommandRow {
+                word: "ask",
+                about: "Reads the parts once, and answers questions on standard input",
+                help: help::ASK,
+                arguments: &[],
+                takes_parts: true,
+            },
+        }
+    }
+
+    /// Returns the command of a word, or `None` if the word is none of the table.
+    pub(crate) fn of(word: &str) -> Option<CommandWord>
+        ensures { MatchOption result ((command : CommandWord) → word.now ≢ command_word command) (λ command. word.now ≡ command_word command) }
+    {
+        for command in &COMMANDS {
+            if command.row().word == word {
+                return Some(*command);
+            }
+        }
+        None
+    }
+}
