@@ -7,10 +7,10 @@ use std::io::{IsTerminal, Write};
 use std::process::ExitCode;
 use std::{env, io};
 
-/// Tells a person who typed no command what is read, and where the commands are listed.
+/// The line for a person at a terminal who types no command: what is read, and where the commands are listed.
 const HINT: &str = "hprof: reading a dump from standard input; hprof --help lists the commands";
 
-/// Returns whether no word is behind the program's name.
+/// Returns whether the command line has no word after the program's name.
 fn is_bare(words: &io::Result<Args>) -> bool {
     match words {
         Ok(words) => words.len() < 2,

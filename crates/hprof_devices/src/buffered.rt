@@ -1,4 +1,4 @@
-//! A writer of std behind a buffer.
+//! A buffered writer of std as a target.
 
 ghost use Rattle.std.specs.Prelude.{◌≡◌, []};
 ghost use Rattle.std.specs.Io.Buffered.{writer_buffer, writer_contents};
@@ -10,7 +10,7 @@ use crate::health::{Health, WriteFault};
 use crate::target::Target;
 use std::io::{BufWriter, Write};
 
-/// A std writer behind a buffer, which keeps its health. Once it is flushed, its buffer is empty.
+/// A buffered writer of std, with its health. After a flush, its buffer is empty.
 #[derive(Drop)]
 pub struct BufferedDevice<W: Write + Drop> {
     buffered: BufWriter<W>,
@@ -20,7 +20,7 @@ pub struct BufferedDevice<W: Write + Drop> {
 impl<W: Write + Drop> BufferedDevice<W> {
     ghost use Rattle.hprof_devices.specs.Buffered.{buffered_health, buffered_of};
 
-    /// Returns a device that is well.
+    /// Returns a device whose health is `Well`.
     pub fn new(buffered: BufWriter<W>) -> Self
         ensures buffered { buffered_of result ≡ buffered }
         ensures health { buffered_health result ≡ Well }

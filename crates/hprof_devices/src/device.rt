@@ -11,7 +11,7 @@ use crate::target::Target;
 use std::io;
 use std::io::{Read, Write};
 
-/// A std reader or writer that keeps its health. An error of any kind is a failure, and nothing is tried again.
+/// A reader or a writer of std, with its health. An error of any kind is a failure, and no call is repeated.
 #[derive(Drop)]
 pub struct Device<T> {
     inner: T,
@@ -22,7 +22,7 @@ pub struct Device<T> {
 impl<T> Device<T> {
     ghost use Rattle.hprof_devices.specs.Device.{inner_of, health_of, pulls_of};
 
-    /// Returns a device that is well, with no pull made.
+    /// Returns a device whose health is `Well`, and which was not pulled yet.
     pub fn new(inner: T) -> Self
         ensures inner { inner_of result ≡ inner }
         ensures health { health_of result ≡ Well }
@@ -42,14 +42,14 @@ impl<T> Device<T> {
         self.health
     }
 
-    /// Returns the number of pulls that were made. It stays at the greatest number.
+    /// Returns the number of pulls so far. It saturates.
     pub fn pulls(&self) -> u64
         ensures { result ≡ pulls_of self.now }
     {
         self.pulls
     }
 
-    /// Returns the reader or writer itself.
+    /// Returns the reader or the writer.
     pub fn into_inner(self) -> T
         ensures { result ≡ inner_of self }
     {
@@ -57,7 +57,7 @@ impl<T> Device<T> {
     }
 }
 
-/// Turns std's answer to a read into the device's own answer, and the health in which it leaves a device.
+/// Returns the device's answer to a read, and its health, from std's answer.
 fn end_of_read(answer: io::Result<usize>) -> (Result<usize, ReadFault>, Health)
     ensures { EndsRead answer result.0 result.1 }
 {
@@ -67,7 +67,7 @@ fn end_of_read(answer: io::Result<usize>) -> (Result<usize, ReadFault>, Health)
     }
 }
 
-/// Turns std's answer to a write of a piece of that length into the device's own answer, and the health in which it leaves a device.
+/// Returns the device's answer to a write of a piece of this length, and its health, from std's answer.
 pub(crate) fn end_of_write(
     answer: io::Result<usize>,
     length: usize,

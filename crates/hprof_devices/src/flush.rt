@@ -1,4 +1,4 @@
-//! Targets that may hold bytes back.
+//! Targets with a buffer.
 
 ghost use Rattle.std.specs.Prelude.{IfErr, OnOk};
 ghost use Rattle.std.specs.Io.KnownBytes.{Keeps};
@@ -16,7 +16,7 @@ pub trait Flush: Target {
     // It holds no byte back.
     ghost flushed: { Self → Type 0 };
 
-    /// Passes on all bytes that it holds back. The bytes that were written stay the same.
+    /// Passes on all bytes that it holds back. Does not change which bytes were written.
     fn flush(&mut self) -> Result<(), WriteFault>
         requires { Self.health self.old ≡ Well }
         ensures bytes { Keeps (Self.written self.old) (Self.written self.new) }

@@ -1,27 +1,27 @@
 //! The health of a reader or a writer.
 
-/// The health of a reader or a writer. From `Well` a fault comes exactly if a call ends in the health of the fault's name.
+/// The health of a reader or a writer. A call on a healthy one returns a fault exactly if it leaves the health of the same name.
 #[derive(Clone, Copy, Debug, PartialEq, Eq)]
 pub enum Health {
-    /// It has answered no fault.
+    /// No call returned a fault.
     Well,
-    /// It answered an error.
+    /// A call returned an error.
     Failed,
-    /// It took no byte of a piece that was not empty.
+    /// A call took no byte of a piece that was not empty.
     Stuck,
 }
 
-/// The reason why a read came to nothing.
+/// The reason why a read failed.
 #[derive(Clone, Copy, Debug, PartialEq, Eq)]
 pub enum ReadFault {
-    /// The reader answered an error.
+    /// The reader returned an error.
     Failed,
 }
 
-/// The reason why bytes could not be written.
+/// The reason why bytes were not written.
 #[derive(Clone, Copy, Debug, PartialEq, Eq)]
 pub enum WriteFault {
-    /// The writer answered an error.
+    /// The writer returned an error.
     Failed,
     /// The writer took no byte of a piece that was not empty.
     Stuck,

@@ -1,5 +1,6 @@
-//! Sources and targets of the bytes of heap dumps: a source that is pulled, a target that is pushed to, and the devices that make them of
-//! readers and writers. No call of this crate takes memory.
+//! Sources and targets of bytes, and the devices that make them of readers and writers of std.
+//!
+//! No call of this crate allocates.
 #![tactic(auto)]
 
 mod buffered;

@@ -19,8 +19,7 @@ pub trait Source {
     // How many pulls were made; it stays at the greatest number.
     ghost pulls: { Self → ℕ };
 
-    /// Moves the bytes that come next into the front of the piece, and returns their number. It is 0 only if nothing is left, or if the
-    /// piece is empty.
+    /// Stores the next bytes at the front of `piece`, and returns their number. It is 0 only if no bytes are left, or if `piece` is empty.
     fn pull(&mut self, piece: &mut [u8]) -> Result<usize, ReadFault>
         requires { health self.old ≡ Well }
         ensures count { IfOk result (λ n. n ≤ length piece.new) }

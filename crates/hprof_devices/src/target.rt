@@ -1,11 +1,11 @@
-//! Targets for bytes.
+//! Targets of bytes.
 
 ghost use Rattle.std.specs.Prelude.{◌≡◌, ℕ, ◌<◌, ◌≤◌, List, length, take, Option, IfOk, MatchResult};
 ghost use Rattle.std.specs.Io.KnownBytes.{Keeps, Appends};
 
 use crate::health::{Health, WriteFault};
 
-/// A target for bytes.
+/// A target of bytes.
 pub trait Target {
     ghost use Rattle.hprof_devices.specs.declared.health.Health.{Health};
     ghost use Rattle.hprof_devices.specs.declared.health.Health.TheVariants.{Well};
@@ -17,7 +17,7 @@ pub trait Target {
     // How the target is doing.
     ghost health: { Self → Health };
 
-    /// Takes bytes from the front of the piece, and returns their number: at least one if there is one.
+    /// Takes bytes from the front of `piece`, and returns their number: at least one, unless `piece` is empty.
     fn push(&mut self, piece: &[u8]) -> Result<usize, WriteFault>
         requires { health self.old ≡ Well }
         ensures count { IfOk result (λ n. (n ≤ length piece.now) × (0 < length piece.now → 0 < n)) }

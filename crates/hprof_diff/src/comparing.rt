@@ -1,4 +1,4 @@
-//! Changes in order.
+//! Sorting changes.
 
 ghost use Rattle.std.specs.Prelude.{◌≡◌, ℕ, List, bytes_eq, map};
 ghost use Rattle.std.specs.List.{IsDistinct};
@@ -9,7 +9,7 @@ ghost use Rattle.hprof_diff.specs.Difference.{change_cmp, step_cmp};
 use crate::change::{Change, Step};
 use std::cmp::Ordering;
 
-/// Compares steps by the number that they add, a negative one if they fall.
+/// Compares steps by the number that they add, which is negative if they fall.
 fn compare_steps(step: Step, other: Step) -> Ordering
     ensures { result ≡ step_cmp (step_value step) (step_value other) }
 {
@@ -36,7 +36,7 @@ fn compare_changes(change: &Change<'_>, other: &Change<'_>) -> Ordering
     by_bytes.then(by_count).then(by_label)
 }
 
-/// Puts changes of different labels in order. It takes no memory.
+/// Sorts changes of different labels. Allocates nothing.
 pub(crate) fn sort_changes(changes: &mut Vec<Change<'_>>)
     requires { IsDistinct (λ change other. bytes_eq change.label other.label) (map change_value changes.old.items) }
     ensures ascend { IsStrictlySortedBy change_cmp (map change_value changes.new.items) }

@@ -1,6 +1,6 @@
 //! Numbers of objects.
 
-/// A number of objects, and the number of their bytes together.
+/// A number of objects, and the number of their bytes.
 #[derive(Clone, Copy, Debug, PartialEq, Eq)]
 pub(crate) struct Counted {
     pub(crate) count: u128,
@@ -18,7 +18,7 @@ impl Counted {
         Counted { count: 0, bytes: 0 }
     }
 
-    /// Returns the count of these objects and of others.
+    /// Returns the count of these objects and others.
     pub(crate) fn with(self, others: Counted) -> Counted
         requires { FitsCounted (both self others) }
         ensures { result ≡ both self others }

@@ -1,4 +1,4 @@
-//! The difference of two heaps.
+//! The difference between two heaps.
 
 ghost use Rattle.std.specs.Prelude.{◌≡◌, ◌++◌, ◌∷◌, [], IfOk, OnOk, IsTrue, ◌↔◌, bytes_eq, map, not};
 ghost use Rattle.std.specs.List.{IsDistinct, filter};
@@ -30,7 +30,7 @@ fn change_of<'a>(old: &LabelCounts, new: &LabelCounts, label: &'a str) -> Change
     }
 }
 
-/// Puts a change behind others, if the bytes or the number of objects differ.
+/// Appends a change, if the bytes or the number of objects differ.
 fn push_change<'a>(changes: &mut Vec<Change<'a>>, change: Change<'a>) -> Result<(), AllocError>
     ensures { OnOk result (map change_value changes.new.items
         ≡ map change_value changes.old.items ++ filter differs (change_value change.entry ∷ [])) }
@@ -41,7 +41,7 @@ fn push_change<'a>(changes: &mut Vec<Change<'a>>, change: Change<'a>) -> Result<
     Ok(())
 }
 
-/// Puts the changes of the older heap's labels behind others.
+/// Appends the changes of the older heap's labels.
 fn push_old<'a>(
     changes: &mut Vec<Change<'a>>,
     old: &'a LabelCounts,
@@ -57,7 +57,7 @@ fn push_old<'a>(
     Ok(())
 }
 
-/// Puts the changes of the labels behind others that the newer heap alone has.
+/// Appends the changes of the labels that only the newer heap has.
 fn push_new<'a>(
     changes: &mut Vec<Change<'a>>,
     old: &'a LabelCounts,
@@ -77,8 +77,8 @@ fn push_new<'a>(
 
 /// Returns the changes of the labels whose bytes or number of objects differ between two heaps.
 ///
-/// The label that grew by the most bytes comes first; of those with equal changes in bytes the one that grew by the most objects, then by
-/// label, byte by byte. If memory runs out, the answer is `AllocError`.
+/// The label that grew by the most bytes comes first, then the one that grew by the most objects, then labels byte by byte. If memory runs
+/// out, the answer is `AllocError`.
 pub fn difference<'a>(
     alloc: Global,
     old: &'a LabelCounts,

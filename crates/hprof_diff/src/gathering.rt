@@ -1,4 +1,4 @@
-//! The rows of the histogram as parts.
+//! The rows of a histogram, with the sources of their labels.
 
 ghost use Rattle.std.specs.Prelude.{◌≡◌, ℕ, List, IfOk};
 ghost use Rattle.hprof_heap.specs.HeapFacts.{facts_of};

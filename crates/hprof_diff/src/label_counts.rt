@@ -24,7 +24,7 @@ impl LabelCounts {
     ghost use Rattle.hprof_diff.specs.Sources.{FitsCounted, both, nothing, sum_of_parts};
     ghost use Rattle.hprof_diff.specs.Kept.{AreKept, has_label, kept_in, totals_in};
 
-    /// Returns the counts before anything was counted.
+    /// Returns the counts of no objects.
     fn new(alloc: Global) -> LabelCounts
         ensures { (text : List ℕ) → kept_in result text ≡ nothing }
     {
@@ -33,7 +33,7 @@ impl LabelCounts {
         }
     }
 
-    /// Returns the counts of a label, which are 0 if it has none.
+    /// Returns the count of a label, which is zero if no object has it.
     pub(crate) fn counted(&self, label: &str) -> Counted
         ensures { result ≡ kept_in self.now label.now }
     {
@@ -43,14 +43,14 @@ impl LabelCounts {
         }
     }
 
-    /// Returns whether objects are counted under a label.
+    /// Returns whether an object has the label.
     pub(crate) fn has_label(&self, label: &str) -> bool
         ensures { result ≡ has_label self.now label.now }
     {
         self.labels.contains_key(label)
     }
 
-    /// Counts objects under a label.
+    /// Adds objects to the count of a label.
     fn add(&mut self, label: String, counted: Counted) -> Result<(), AllocError>
         requires { FitsCounted (both (kept_in self.old (string_bytes label)) counted) }
         ensures { OnOk result ((text : List ℕ) → kept_in self.new text
@@ -61,7 +61,7 @@ impl LabelCounts {
         Ok(())
     }
 
-    /// Returns the counts of parts by their labels. Parts behind one another that have one source are labelled once.
+    /// Returns the counts of parts, by label. Consecutive parts with the same source are labelled once.
     fn of_parts(alloc: Global, heap: &Heap, parts: &[Part]) -> Result<LabelCounts, AllocError>
         requires { FitsCounted (sum_of_parts parts.now) }
         ensures { IfOk result (AreKept (facts_of heap.now) parts.now) }
@@ -78,10 +78,10 @@ impl LabelCounts {
         Ok(counts)
     }
 
-    /// Returns the counts of the objects of a heap by the labels of their kinds. If memory runs out, the answer is `AllocError`.
+    /// Returns the counts of a heap's objects, by the labels of their kinds. If memory runs out, the answer is `AllocError`.
     ///
-    /// A class counts under its name in print, and under `\?` if it has no load or the heap does not have its name. Classes of one label are
-    /// counted together, and so are arrays of a type and classes whose label reads like it.
+    /// The label of a class is the printed form of its name, or `\?` if it has no load or the heap does not have its name. Classes with the
+    /// same label are counted together, and so are arrays of a type and a class whose label reads the same.
     pub fn of(alloc: Global, heap: &Heap) -> Result<LabelCounts, AllocError>
         ensures { IfOk result (λ counts. AreTotals (size_of heap.now) (facts_of heap.now) (totals_in counts)) }
     {

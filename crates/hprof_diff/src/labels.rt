@@ -1,4 +1,4 @@
-//! Labels in print.
+//! The labels of classes and types.
 
 ghost use Rattle.std.specs.Prelude.{◌≡◌, ◌++◌, IfOk, codes, string_bytes};
 ghost use Rattle.hprof_naming.specs.TypeWord.{type_word};
@@ -20,7 +20,7 @@ fn missing_label(alloc: Global) -> Result<String, AllocError>
     String::from_str(alloc, "\\?")
 }
 
-/// Returns the label of classes of that name: the name in print, or `\?` if there is none or the heap does not have it.
+/// Returns the label of classes with this name: its printed form, or `\?` if there is no name or the heap does not have it.
 fn bare_label(alloc: Global, heap: &Heap, name: Option<u64>) -> Result<String, AllocError>
     ensures { IfOk result (λ text. IsBareLabelOf (facts_of heap.now) name (string_bytes text)) }
 {
@@ -33,7 +33,7 @@ fn bare_label(alloc: Global, heap: &Heap, name: Option<u64>) -> Result<String, A
     }
 }
 
-/// Returns the label of arrays of that type.
+/// Returns the label of arrays of this type.
 fn array_label(alloc: Global, elem: Basic) -> Result<String, AllocError>
     ensures { IfOk result (λ text. string_bytes text ≡ type_word elem ++ codes "[]") }
 {

@@ -1,4 +1,4 @@
-//! Laws of the definitions. None of these functions does anything.
+//! Laws of the definitions. The contract of each function is a theorem; its body is empty.
 
 ghost use Rattle.std.specs.Prelude.{◌≡◌, ℕ, List};
 ghost use Rattle.hprof_diff.specs.DifferenceText.{IsDifferenceOf};
@@ -18,14 +18,14 @@ pub fn one_report()
         → one ≡ other }
 {}
 
-/// Facts that agree have one total for each label.
+/// If facts agree, each label has exactly one total.
 pub fn one_total()
     ensures exists { (ids : IdSize) (facts : List FactValue) → (totals : Totals) × AreTotals ids facts totals }
     ensures once { (ids : IdSize) (facts : List FactValue) (one other : Totals) → IsConsistent facts → AreTotals ids facts one
         → AreTotals ids facts other → one ≡ other }
 {}
 
-/// Two heaps have one difference.
+/// Two heaps have exactly one difference.
 pub fn one_difference()
     ensures exists { (ids other_ids : IdSize) (facts other_facts : List FactValue) (old new : Totals) → AreTotals ids facts old
         → AreTotals other_ids other_facts new → (changes : List ChangeValue) × IsDifference old new changes }

@@ -1,5 +1,5 @@
-//! The report `diff`: which objects grew from one heap to another, in number and in bytes.
-//! Growth from one heap to another: objects counted by label, and the labels whose counts differ.
+//! The report `diff`: the classes and types whose objects grew from one heap to another, in number and in bytes. Objects are counted by
+//! label.
 #![tactic(auto)]
 
 mod change;

@@ -1,4 +1,4 @@
-//! Parts of the histogram, by the source of their labels.
+//! Parts of a histogram, with the sources of their labels.
 
 use crate::counted::Counted;
 use hprof_values::Basic;
@@ -6,7 +6,7 @@ use hprof_values::Basic;
 /// The source of a label.
 #[derive(Clone, Copy, Debug, PartialEq, Eq)]
 pub(crate) enum Source {
-    /// The identifier of the class's name, or `None` if the class has no load.
+    /// A class: the identifier of its name, or `None` if it has no load.
     Class(Option<u64>),
     /// The type of an array's elements.
     Prim(Basic),
@@ -35,7 +35,7 @@ impl Source {
     }
 }
 
-/// Objects whose labels have one source.
+/// Objects whose labels have the same source.
 #[derive(Clone, Copy, Debug, PartialEq, Eq)]
 pub(crate) struct Part {
     /// The source of their label.
@@ -49,14 +49,14 @@ ghost use Rattle.std.specs.List.Sorted.{IsPermutation};
 ghost use Rattle.hprof_diff.specs.declared.part.Source.{Source};
 ghost use Rattle.hprof_diff.specs.Sources.{FitsCounted, parts_under, sum_of_parts};
 
-/// Puts parts with one name behind one another. It takes no memory.
+/// Sorts parts so that those with the same name are consecutive. Allocates nothing.
 pub(crate) fn sort_parts(parts: &mut Vec<Part>)
     ensures { IsPermutation parts.old.items parts.new.items }
 {
     parts.sort_unstable_by_key(|part| part.source.name());
 }
 
-/// Returns the sum of a part and of those behind it that have the same source, up to the first that does not, and the parts that are left.
+/// Returns the sum of a part and the parts after it with the same source, and the parts that are left.
 pub(crate) fn first_run<'a>(first: Part, parts: &'a [Part]) -> (Part, &'a [Part])
     requires { FitsCounted (sum_of_parts (first ∷ parts.now)) }
     ensures same { (label : Source → List ℕ) (text : List ℕ)

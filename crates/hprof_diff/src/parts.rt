@@ -1,4 +1,4 @@
-//! The report `diff` of the parts of two heaps.
+//! The report `diff` on the parts of two heaps.
 
 ghost use Rattle.std.specs.Prelude.{◌≡◌, ℕ, List, All, IfOk};
 ghost use Rattle.hprof_devices.specs.declared.health.Health.TheVariants.{Well};
@@ -17,10 +17,10 @@ use hprof_heap::{Gatherer, Heap};
 use hprof_stream::Limits;
 use std::alloc::Global;
 
-/// The report `diff` of a heap, beside an older one.
+/// The report `diff` on a heap, compared with an older one.
 #[derive(Clone, Copy)]
 pub struct GrowthReport<'a> {
-    /// The objects of the older heap, counted by label.
+    /// The counts of the older heap's objects, by label.
     pub old: &'a LabelCounts,
 }
 
@@ -48,8 +48,9 @@ impl<'a> HeapProduct for GrowthReport<'a> {
     ghost one_text = { λ report heap. one_growth_text (totals_in report.old.now) heap.ids heap.facts };
 }
 
-/// Reads all parts, and counts the objects of their heap by label. If memory runs out when all are read, the answer is
-/// [`ToolFault::OutOfMemory`].
+/// Reads all parts, and counts the objects of their heap by label.
+///
+/// If memory runs out after all are read, the answer is [`ToolFault::OutOfMemory`].
 pub fn count_parts<R: Source>(
     alloc: Global,
     readers: &mut [R],
@@ -71,11 +72,10 @@ pub fn count_parts<R: Source>(
     }
 }
 
-/// Reads the parts of two heaps, and writes the report `diff` of them: a line for each label whose objects differ in number or in bytes.
+/// Reads the parts of two heaps, and writes the report `diff`: a line for each label whose objects differ in number or in bytes.
 ///
-/// The parts of the older heap are read first, and judged whole: nothing is read of the newer one, and nothing written, where they are
-/// refused. Nothing is written before all are read. If the writer fails or memory runs out then, the bytes written are the beginning of the
-/// report.
+/// The parts of the older heap are read first. If they are refused, nothing is read of the newer heap, and nothing is written. Nothing is
+/// written before all parts are read. If the writer fails or memory runs out after that, a prefix of the report was written.
 pub fn diff_to<R: Source, W: Target>(
     alloc: Global,
     olds: &mut [R],

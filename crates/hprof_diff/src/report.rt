@@ -1,4 +1,4 @@
-//! The report `diff` of two heaps whose objects are counted by label.
+//! The report `diff` on two heaps whose objects are counted by label.
 
 ghost use Rattle.std.specs.Prelude.{◌≡◌, ◌++◌, ℕ, List, map, IfOk, OnOk, string_bytes};
 ghost use Rattle.hprof_devices.specs.declared.health.Health.TheVariants.{Well};
@@ -47,7 +47,7 @@ fn set_line(line: &mut String, change: Change<'_>) -> Result<(), AllocError>
     line.push('\n')
 }
 
-/// Writes a line for each change. If it stops, some of them were written, from the front.
+/// Writes a line for each change. If this fails, a prefix of the lines was written.
 fn write_all<W: Target>(
     alloc: Global,
     changes: &[Change<'_>],
@@ -65,9 +65,9 @@ fn write_all<W: Target>(
     Ok(())
 }
 
-/// Writes the report `diff` of two heaps: a line for each label whose objects differ in number or in bytes, with how many bytes and how
-/// many objects the newer heap has more. What grew by the most bytes comes first. If the writer fails or memory runs out, the bytes
-/// written are the beginning of the report.
+/// Writes the report `diff`: a line for each label whose objects differ in number or in bytes, with the numbers of bytes and objects that
+/// the newer heap has more. The label that grew by the most bytes comes first. If the writer fails or memory runs out, a prefix of the
+/// report was written.
 pub fn write_difference<W: Target>(
     alloc: Global,
     old: &LabelCounts,
@@ -83,8 +83,8 @@ pub fn write_difference<W: Target>(
     write_all(alloc, &changes, target)
 }
 
-/// Writes the report `diff` of a heap, beside an older one whose objects are counted. If the writer fails or memory runs out, the bytes
-/// written are the beginning of the report.
+/// Writes the report `diff` on a heap, compared with an older one whose objects are counted. If the writer fails or memory runs out, a
+/// prefix of the report was written.
 pub(crate) fn write_growth<W: Target>(
     alloc: Global,
     old: &LabelCounts,

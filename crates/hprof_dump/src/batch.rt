@@ -1,4 +1,4 @@
-//! Objects that are written together, in one piece.
+//! A buffer of sub-records, which are written in one piece.
 
 ghost use Rattle.std.specs.Prelude.{◌≡◌, ◌+◌, ◌++◌, ◌<◌, ◌≤◌, ◌⊎◌, List, [], length, true, false, OnOk};
 ghost use Rattle.hprof_devices.specs.declared.health.Health.TheVariants.{Well};
@@ -10,10 +10,10 @@ use hprof_devices::{Target, WriteFault, push_all};
 use hprof_rows::SubRow;
 use hprof_values::IdSize;
 
-/// The most bytes that wait.
+/// The number of bytes of the buffer.
 const ROOM: usize = 4096;
 
-/// Bytes that wait to be written: those of its room before an end.
+/// A buffer: the bytes of `room` before `end` wait to be written.
 #[derive(Drop)]
 pub struct Batch {
     room: [u8; ROOM],
@@ -24,7 +24,7 @@ pub struct Batch {
 impl Batch {
     ghost use Rattle.hprof_dump.specs.Batch.{batch_bytes, WritesSome};
 
-    /// Returns a batch in which no bytes wait.
+    /// Returns an empty batch.
     pub fn empty() -> Self
         ensures { batch_bytes result ≡ [] }
     {
@@ -34,8 +34,7 @@ impl Batch {
         }
     }
 
-    /// Writes those that wait. At a fault some of them were written, from the front, and nothing is told of the bytes that wait: the batch
-    /// is let go then.
+    /// Writes the waiting bytes. If this fails, a prefix of them was written, and the batch must not be used again.
     pub fn write<W: Target>(&mut self, target: &mut W) -> Result<(), WriteFault>
         requires { W.health target.old ≡ Well }
         ensures bytes { Writes (W.written target.old) (W.written target.new) result (batch_bytes self.old) }
@@ -47,7 +46,7 @@ impl Batch {
         Ok(())
     }
 
-    /// Puts an object behind those that wait, if there is room for it.
+    /// Appends a sub-record to the waiting bytes, if there is room for it.
     #[inline(always)]
     fn puts(&mut self, row: SubRow<'_>, ids: IdSize) -> bool
         requires { IsWritable ids row }
@@ -65,8 +64,8 @@ impl Batch {
         }
     }
 
-    /// Takes a sub-record for which there is no room behind those that wait: these are written. It waits if it can, and is written
-    /// otherwise. At a fault some was written, from the front.
+    /// Writes the waiting bytes, and takes a sub-record for which they left no room: it waits if the buffer has room for it, and is written
+    /// otherwise. If this fails, a prefix was written.
     #[inline(never)]
     fn take_next<W: Target>(
         &mut self,
@@ -87,8 +86,8 @@ impl Batch {
         row.write(ids, target)
     }
 
-    /// Takes a sub-record behind those that wait. At a fault some of all was written, from the front, and the batch is let go, as
-    /// after [`Batch::write`].
+    /// Takes a sub-record. If this fails, a prefix of the waiting bytes and the sub-record was written, and the batch must not be used
+    /// again.
     #[inline(always)]
     pub fn take<W: Target>(
         &mut self,

@@ -15,7 +15,7 @@ use hprof_items::{Header, Version, tag};
 use hprof_rows::Table;
 use hprof_writing::{write_fact, write_head, write_header};
 
-/// The tables of the facts that records state.
+/// The tables of the facts that have records of their own.
 const RECORD_TABLES: [Table; 7] = [
     Table::Names,
     Table::Loads,
@@ -26,8 +26,7 @@ const RECORD_TABLES: [Table; 7] = [
     Table::Ends,
 ];
 
-/// Writes the heap's facts of a table, each as a spelling of its own. At a fault some of them were written, from the
-/// front.
+/// Writes the facts of a table, one record each. If this fails, a prefix was written.
 fn write_table<W: Target>(heap: &Heap, table: Table, target: &mut W) -> Result<(), WriteFault>
     requires { W.health target.old ≡ Well }
     ensures bytes { Writes (W.written target.old) (W.written target.new) result
@@ -41,8 +40,8 @@ fn write_table<W: Target>(heap: &Heap, table: Table, target: &mut W) -> Result<(
     Ok(())
 }
 
-/// Writes the heap's facts that records state, each as a spelling of its own, in canonical order: names, loads, unloads,
-/// frames, stacks, starts and ends of threads. It takes no memory. At a fault some of them were written, from the front.
+/// Writes the facts that have records of their own, one record each, in canonical order: names, loaded classes, unloaded classes, stack
+/// frames, stack traces, thread starts, thread ends. Allocates nothing. If this fails, a prefix was written.
 pub fn write_records<W: Target>(heap: &Heap, target: &mut W) -> Result<(), WriteFault>
     requires { W.health target.old ≡ Well }
     ensures bytes { Writes (W.written target.old) (W.written target.new) result
@@ -55,9 +54,10 @@ pub fn write_records<W: Target>(heap: &Heap, target: &mut W) -> Result<(), Write
     Ok(())
 }
 
-/// Writes the canonical dump: the header of version 1.0.2 with the heap's size and time, the heap's facts in order,
-/// those of sub-records in segments that are as full as they can be, the end of the dump. It takes no memory and flushes
-/// nothing. At a fault some of the dump was written, from the front.
+/// Writes the canonical dump: the header of version 1.0.2 with the heap's identifier size and time, then the heap's facts in order, and the
+/// end of the dump. The facts of sub-records are in segments that are as full as they can be.
+///
+/// Allocates nothing, and does not flush. If this fails, a prefix of the dump was written.
 pub fn write_canonical<W: Target>(heap: &Heap, target: &mut W) -> Result<(), WriteFault>
     requires { W.health target.old ≡ Well }
     ensures bytes { Writes (W.written target.old) (W.written target.new) result

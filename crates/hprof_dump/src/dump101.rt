@@ -15,7 +15,7 @@ use hprof_heap::Heap;
 use hprof_items::{Header, Version};
 use hprof_writing::write_header;
 
-/// Writes the 1.0.1 dump, whose sub-records have that many bytes. At a fault some of it was written, from the front.
+/// Writes the 1.0.1 dump of a heap whose sub-records have `len` bytes. If this fails, a prefix was written.
 fn write_dump<W: Target>(heap: &Heap, len: u32, target: &mut W) -> Result<(), WriteFault>
     requires well { W.health target.old ≡ Well }
     requires len { len ≡ sub_len (heap_of heap.now).ids (heap_of heap.now).facts }
@@ -33,11 +33,13 @@ fn write_dump<W: Target>(heap: &Heap, len: u32, target: &mut W) -> Result<(), Wr
     write_heap_dump(heap, len, target)
 }
 
-/// Writes the 1.0.1 dump of a heap: the header of version 1.0.1 with the heap's identifier size and time, the facts that
-/// records state, in order, and one HEAP_DUMP record with all sub-records, if there are any. It allocates and flushes nothing.
+/// Writes the 1.0.1 dump: the header of version 1.0.1 with the heap's identifier size and time, then the facts that have records of their
+/// own, in order, and one HEAP_DUMP record with all sub-records, if there are any.
 ///
-/// - `TooLong`: the sub-records have more than `max_body` bytes together. Nothing was written.
-/// - `Write`: the writer failed or stuck. The bytes written are the beginning of the dump.
+/// Allocates nothing, and does not flush.
+///
+/// - `TooLong`: the sub-records have more than `max_body` bytes in all. Nothing was written.
+/// - `Write`: the target failed or took no more bytes. A prefix of the dump was written.
 pub fn write_v101<W: Target>(heap: &Heap, max_body: u32, target: &mut W) -> Result<(), DumpFault>
     requires { W.health target.old ≡ Well }
     ensures too_long { (result ≡ Err TooLong) ↔ IsTooLong max_body (heap_of heap.now).ids (heap_of heap.now).facts }

@@ -1,13 +1,13 @@
-//! Reasons why a dump was not written.
+//! Reasons why a 1.0.1 dump is not written.
 
 use hprof_devices::WriteFault;
 
 /// The reason why the 1.0.1 dump of a heap was not written to its end.
 #[derive(Clone, Copy, Debug, PartialEq, Eq)]
 pub enum DumpFault {
-    /// The sub-records have more bytes than they may. Nothing was written.
+    /// The sub-records have more bytes than the limit. Nothing was written.
     TooLong,
-    /// The writer failed or stuck.
+    /// The target failed or took no more bytes.
     Write(WriteFault),
 }
 

@@ -1,7 +1,7 @@
-//! The canonical dump of a heap, written to a target: the facts that records state, then the others in segments that are
-//! as full as they can be. No call of this crate takes memory.
-//! The 1.0.1 dump of a heap, for tools that read no other: the facts that records state, then the others in one heap dump.
-//! Writing it takes no memory.
+//! Writes the dump of a heap to a target: the canonical dump, with sub-records in segments that are as full as they can be, or the 1.0.1
+//! dump, with all sub-records in one HEAP_DUMP record, for tools that read no other.
+//!
+//! No call of this crate allocates.
 #![tactic(auto)]
 
 mod batch;

@@ -19,10 +19,10 @@ use hprof_items::tag;
 use hprof_rows::{SubRow, SubRows};
 use hprof_writing::write_head;
 
-/// The most bytes of a segment that has more than one sub-record.
+/// The largest number of bytes of a segment with more than one sub-record.
 const MOST_IN_SEGMENT: u64 = 1_048_576;
 
-/// A segment that was counted: the number of its sub-records, the number of their bytes, and the sub-record behind it.
+/// A segment that was counted: the number of its sub-records, the number of their bytes, and the sub-record after them.
 #[derive(Clone, Copy)]
 struct Segment<'a> {
     count: u64,
@@ -30,7 +30,7 @@ struct Segment<'a> {
     next: Option<SubRow<'a>>,
 }
 
-/// Walks from the first sub-record of a segment to the first of the next.
+/// Counts a segment, from its first sub-record to the first of the next segment.
 fn count_segment<'a>(first: SubRow<'a>, ahead: &mut SubRows<'a>) -> Segment<'a>
     requires { IsWritable (subs_ids ahead.old) first }
     ensures counted { IsFirstSegment (subs_ids ahead.old) (sub_fact (subs_ids ahead.old) first.entry ∷ subs_left ahead.old) result.count
@@ -58,7 +58,7 @@ fn count_segment<'a>(first: SubRow<'a>, ahead: &mut SubRows<'a>) -> Segment<'a>
     }
 }
 
-/// Takes the next sub-records into a batch, that many. At a fault some of the waiting bytes and of them were written, from the front.
+/// Takes the next `count` sub-records into a batch. If this fails, a prefix of the waiting bytes and the sub-records was written.
 fn take_rows<W: Target>(
     rows: &mut SubRows<'_>,
     count: u64,
@@ -84,7 +84,7 @@ fn take_rows<W: Target>(
     Ok(())
 }
 
-/// Writes the next sub-records, that many. At a fault some of them were written, from the front.
+/// Writes the next `count` sub-records. If this fails, a prefix of them was written.
 fn write_rows<W: Target>(
     rows: &mut SubRows<'_>,
     count: u64,
@@ -102,8 +102,7 @@ fn write_rows<W: Target>(
     batch.write(target)
 }
 
-/// Writes a segment of the next sub-records, of which there are that many, with that many bytes. At a fault some of it
-/// was written, from the front.
+/// Writes a segment of the next `count` sub-records, which have `len` bytes. If this fails, a prefix of it was written.
 fn write_segment<W: Target>(
     rows: &mut SubRows<'_>,
     count: u64,
@@ -123,8 +122,7 @@ fn write_segment<W: Target>(
     write_rows(rows, count, target)
 }
 
-/// Writes the heap's sub-records in segments. Each segment is counted by a walk ahead, and then written. At a fault
-/// some of them were written, from the front.
+/// Writes the sub-records of a heap in segments. Each segment is counted first, and then written. If this fails, a prefix was written.
 pub(crate) fn write_segments<W: Target>(heap: &Heap, target: &mut W) -> Result<(), WriteFault>
     requires { W.health target.old ≡ Well }
     ensures bytes { Writes (W.written target.old) (W.written target.new) result

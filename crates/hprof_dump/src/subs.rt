@@ -1,4 +1,4 @@
-//! The sub-records of a heap in one heap dump: counted by a walk ahead, and then written.
+//! Writing the sub-records of a heap in one HEAP_DUMP record: they are counted first, and then written.
 
 ghost use Rattle.std.specs.Prelude.{◌≡◌, ◌≤◌, ◌++◌, flat_map, IfSome, MatchOption};
 ghost use Rattle.hprof_devices.specs.declared.health.Health.TheVariants.{Well};
@@ -15,7 +15,7 @@ use hprof_heap::Heap;
 use hprof_items::tag;
 use hprof_writing::write_head;
 
-/// Returns the number of bytes that the heap's sub-records have together, or `None` if they have more than the most.
+/// Returns the number of bytes of the heap's sub-records, or `None` if it is more than `most`.
 pub(crate) fn count_subs(heap: &Heap, most: u32) -> Option<u32>
     ensures len { MatchOption result (IsTooLong most (heap_of heap.now).ids (heap_of heap.now).facts)
         (λ len. len ≡ sub_len (heap_of heap.now).ids (heap_of heap.now).facts) }
@@ -33,7 +33,7 @@ pub(crate) fn count_subs(heap: &Heap, most: u32) -> Option<u32>
     Some(len as u32)
 }
 
-/// Takes the heap's sub-records into a batch. At a fault some of the waiting bytes and of them were written, from the front.
+/// Takes the heap's sub-records into a batch. If this fails, a prefix of the waiting bytes and the sub-records was written.
 fn take_rows<W: Target>(heap: &Heap, batch: &mut Batch, target: &mut W) -> Result<(), WriteFault>
     requires { W.health target.old ≡ Well }
     ensures bytes { WritesSome (W.written target.old) (W.written target.new) result
@@ -48,7 +48,7 @@ fn take_rows<W: Target>(heap: &Heap, batch: &mut Batch, target: &mut W) -> Resul
     Ok(())
 }
 
-/// Writes the heap's sub-records. At a fault some of them were written, from the front.
+/// Writes the heap's sub-records. If this fails, a prefix of them was written.
 fn write_rows<W: Target>(heap: &Heap, target: &mut W) -> Result<(), WriteFault>
     requires { W.health target.old ≡ Well }
     ensures bytes { Writes (W.written target.old) (W.written target.new) result
@@ -60,8 +60,8 @@ fn write_rows<W: Target>(heap: &Heap, target: &mut W) -> Result<(), WriteFault>
     batch.write(target)
 }
 
-/// Writes the heap's sub-records, which have that many bytes, in one heap dump, if there are some. At a fault some of it was written, from
-/// the front.
+/// Writes the heap's sub-records, which have `len` bytes, in one HEAP_DUMP record. Writes nothing if there are none. If this fails, a
+/// prefix of it was written.
 pub(crate) fn write_heap_dump<W: Target>(
     heap: &Heap,
     len: u32,

@@ -1,4 +1,4 @@
-//! Types that edges are put into.
+//! Collectors of edges.
 
 ghost use Rattle.std.specs.Prelude.{◌≡◌, ◌++◌, ◌∷◌, [], List, Bool, true, false, filter, OnOk};
 ghost use Rattle.hprof_layouts.specs.References.{is_wanted};
@@ -7,7 +7,7 @@ use crate::edge::Edge;
 use hprof_layouts::Wanted;
 use std::alloc::AllocError;
 
-/// A type that edges are put into.
+/// A type that collects edges.
 pub trait Collect {
     ghost use Rattle.hprof_edges.specs.declared.edge.Edge.{Edge};
 
@@ -21,11 +21,11 @@ pub trait Collect {
     ghost same_kept: { (collects : Self) (one other : List Edge) → filter (keeps collects) one ≡ filter (keeps collects) other
         → holds collects one → holds collects other };
 
-    /// Returns the edges that it wants, by the identifier that they refer to. Of others it keeps none.
+    /// Returns the identifiers whose referrers it collects. It ignores other edges.
     fn wanted(&self) -> Wanted
         ensures { (edge : Edge) → is_wanted result edge.to ≡ false → keeps self.now edge ≡ false };
 
-    /// Takes an edge. If memory runs out, nothing holds of it.
+    /// Takes an edge. If memory runs out, the answer is `AllocError` and the collector is unspecified.
     fn put(&mut self, edge: Edge) -> Result<(), AllocError>
         ensures holds { OnOk result ((edges : List Edge) → holds self.old edges → holds self.new (edges ++ edge ∷ [])) }
         ensures keeps { OnOk result (keeps self.new ≡ keeps self.old) };

@@ -1,13 +1,13 @@
 //! A reference from one class or object to another.
 
-/// The kind of a reference: the part of the class or object that refers. Ordered as they stand here.
+/// The kind of a reference: the part of the class or object that refers. Ordered as below.
 #[derive(Clone, Copy, Debug, PartialEq, Eq, PartialOrd, Ord)]
 pub enum Via {
-    /// The class of an instance or of an array of objects.
+    /// The class of an instance or an object array.
     Class,
     /// The superclass of a class.
     Parent,
-    /// The loader of a class.
+    /// The class loader of a class.
     Loader,
     /// The signers of a class.
     Signers,
@@ -19,20 +19,20 @@ pub enum Via {
     Fixed,
     /// A field of an instance.
     Field,
-    /// An element of an array of objects.
+    /// An element of an object array.
     Element,
 }
 
-/// A reference from one identifier to another. Ordered by its fields, in their order.
+/// A reference from one identifier to another. Ordered by its fields, from first to last.
 #[derive(Clone, Copy, Debug, PartialEq, Eq, PartialOrd, Ord)]
 pub struct Edge {
-    /// The class or object that refers.
+    /// The class or object that refers: the referrer.
     pub from: u64,
-    /// The part of it that refers.
+    /// The kind of the reference.
     pub via: Via,
-    /// The place of the constant, the static field or the element in its list, counted from 0 over all entries; of a
-    /// field of an instance the place in the layout of its class. 0 of all others.
+    /// The index of a constant, a static field or an element in its list, counted from 0 over all entries; the place of an instance field
+    /// in the layout of its class; 0 for other kinds.
     pub position: u64,
-    /// The identifier that it refers to. It is not 0.
+    /// The identifier that is referred to. It is not 0.
     pub to: u64,
 }

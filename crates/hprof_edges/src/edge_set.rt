@@ -1,4 +1,4 @@
-//! Edges in any order.
+//! A collector of all wanted edges.
 
 ghost use Rattle.std.specs.Prelude.{◌≡◌, []};
 
@@ -7,10 +7,10 @@ use crate::edge::Edge;
 use hprof_layouts::Wanted;
 use std::alloc::{AllocError, Global};
 
-/// The edges to the wanted identifiers, of those that were put.
+/// The edges to the wanted identifiers, among those that were put.
 #[derive(Drop)]
 pub struct EdgeSet {
-    /// The edges, in any order. One that was put twice may stand there twice.
+    /// The edges, in any order. An edge that was put twice may be there twice.
     pub edges: Vec<Edge>,
     wanted: Wanted,
 }
@@ -18,7 +18,7 @@ pub struct EdgeSet {
 impl EdgeSet {
     ghost use Rattle.hprof_edges.specs.EdgeSet.{SetOf, wanted_in};
 
-    /// Creates a set without edges, which keeps those to the wanted identifiers. Allocates nothing.
+    /// Returns an empty set that collects the edges to the wanted identifiers. Allocates nothing.
     pub fn new(alloc: Global, wanted: Wanted) -> EdgeSet
         ensures none { SetOf result [] }
         ensures wanted { wanted_in result ≡ wanted }
@@ -30,7 +30,7 @@ impl EdgeSet {
     }
 }
 
-/// It keeps the edges to the wanted identifiers.
+/// Collects the edges to the wanted identifiers.
 impl Collect for EdgeSet {
     ghost use Rattle.hprof_edges.specs.Collecting.{is_edge_wanted};
     ghost use Rattle.hprof_edges.specs.EdgeSet.{SetOf, set_alike, wanted_in};

@@ -1,4 +1,4 @@
-//! The edges from an identifier, if layouts are known.
+//! The edges from an identifier, with known layouts.
 
 ghost use Rattle.std.specs.Prelude.{◌≡◌, List, OnOk};
 ghost use Rattle.hprof_heap.specs.Classes.{HasNoDump};
@@ -16,8 +16,8 @@ use hprof_heap::{Finger, Heap, find_object_near, id_size};
 use hprof_layouts::{KnownLayouts, Reference};
 use std::alloc::AllocError;
 
-/// The places where a class dump and an object dump were found last. The next ones are looked for near them; the answers are the same
-/// for all places.
+/// The places of the class dump and the object dump that were looked up last. The next ones are looked for near them. The answers are the
+/// same for all places.
 #[derive(Clone, Copy, Debug, PartialEq, Eq)]
 pub struct Near {
     /// The place of the class dump.
@@ -27,7 +27,7 @@ pub struct Near {
 }
 
 impl Near {
-    /// Returns the first places.
+    /// Returns the places to start with.
     pub fn start() -> Near
         ensures class { (result.class.page ≡ 0) × (result.class.place ≡ 0) }
         ensures object { (result.object.page ≡ 0) × (result.object.place ≡ 0) }
@@ -39,7 +39,7 @@ impl Near {
     }
 }
 
-/// Puts the edges that the object dump of an identifier gives, if there is one.
+/// Puts the edges from an identifier's object dump, if it has one.
 fn put_of_known_object<C: Collect>(
     heap: &Heap,
     known: &KnownLayouts,
@@ -61,8 +61,8 @@ fn put_of_known_object<C: Collect>(
 
 /// Puts all edges from an identifier into `into`. `known` has the layouts of the heap's classes.
 ///
-/// Its class dump and its object dump are looked up, near the places of the last ones. `references` is room that is used again. If memory
-/// runs out, nothing holds of `into`.
+/// The class dump and the object dump of the identifier are looked up, near the places of the last ones. `references` is scratch space. If
+/// memory runs out, the answer is `AllocError` and `into` is unspecified.
 pub fn known_edges<C: Collect>(
     heap: &Heap,
     known: &KnownLayouts,
@@ -80,7 +80,7 @@ pub fn known_edges<C: Collect>(
     Ok(())
 }
 
-/// Puts all edges from an identifier that has no class dump, as [`known_edges`] does. Its object dump alone is looked up, near a place.
+/// Puts all edges from an identifier that has no class dump, as [`known_edges`] does. Only its object dump is looked up.
 pub fn known_object_edges<C: Collect>(
     heap: &Heap,
     known: &KnownLayouts,

@@ -1,4 +1,4 @@
-//! Laws of the definitions. None of these functions does anything.
+//! Laws of the definitions. The contract of each function is a theorem; its body is empty.
 
 ghost use Rattle.std.specs.Prelude.{◌≡◌, ◌↔◌, ◌⊎◌, ℕ, List};
 ghost use Rattle.std.specs.Cmp.Lexicographic.{slice_cmp};
@@ -13,14 +13,13 @@ ghost use Rattle.hprof_edges.specs.Edges.{AreEdgesFrom, AreReferrers, IsEdge};
 
 use crate::edge::Edge;
 
-/// The edges of facts are those that a class dump gives, and those that an object dump gives.
+/// The edges of facts are those from class dumps and those from object dumps.
 pub fn dumps_give_edges()
     ensures { (ids : IdSize) (facts : List FactValue) (edge : Edge)
         → IsEdge ids facts edge ↔ (GivenByClass facts edge ⊎ GivenByObject ids facts edge) }
 {}
 
-/// Edges are in the order of their numbers: of the identifier that refers, of the kind of reference, of its place, and of the identifier
-/// that it refers to.
+/// Edges are ordered by the referrer, then by the kind of the reference, then by its position, then by the identifier that is referred to.
 pub fn edges_in_order()
     ensures { (edge other : Edge)
         → ⟦<Edge as Ord>⟧.cmp edge other ≡ slice_cmp nat_cmp (numbers_of_edge edge) (numbers_of_edge other) }
@@ -34,7 +33,7 @@ pub fn one_list_of_edges()
         → AreReferrers ids facts id one → AreReferrers ids facts id other → one ≡ other }
 {}
 
-/// With more facts each edge stays.
+/// More facts do not remove edges.
 pub fn more_facts_keep_edges()
     ensures { (ids : IdSize) (facts more : List FactValue) (edge : Edge)
         → ((fact : FactValue) → Has facts fact → Has more fact) → IsEdge ids facts edge → IsEdge ids more edge }

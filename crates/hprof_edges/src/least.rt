@@ -13,7 +13,7 @@ use hprof_heap::Heap;
 use hprof_layouts::{KnownLayouts, Reference, Wanted};
 use std::alloc::AllocError;
 
-/// The least of the edges to an identifier, of those that were put.
+/// A collector of the least edge to an identifier.
 #[derive(Clone, Copy, Debug, PartialEq, Eq)]
 pub(crate) struct LeastEdge {
     /// The identifier.
@@ -22,7 +22,7 @@ pub(crate) struct LeastEdge {
     pub(crate) edge: Option<Edge>,
 }
 
-/// Returns the first of an edge and the one that was kept, in the order of edges.
+/// Returns the lesser of an edge and the one so far.
 fn first_of(kept: Option<Edge>, edge: Edge) -> Edge
     ensures one { (result ≡ edge) ⊎ (kept ≡ Some result) }
     ensures edge { ⟦<Edge as Ord>⟧.cmp result edge ≢ Greater }
@@ -34,7 +34,7 @@ fn first_of(kept: Option<Edge>, edge: Edge) -> Edge
     }
 }
 
-/// It keeps one edge.
+/// Collects one edge.
 impl Collect for LeastEdge {
     ghost use Rattle.hprof_edges.specs.KeptLeast.{least_alike};
     ghost use Rattle.hprof_edges.specs.LeastEdge.{KeepsLeast, leads_to};
@@ -59,11 +59,11 @@ impl Collect for LeastEdge {
     }
 }
 
-/// Returns the least edge from one identifier to another, by the kind of reference and then by its place, or `None` if there is none.
-/// `known` has the layouts of the heap's classes.
+/// Returns the least edge from one identifier to another, ordered by the kind of the reference and then by its position, or `None` if there
+/// is none. `known` has the layouts of the heap's classes.
 ///
-/// The class dump and the object dump of the first identifier are looked up, near the places of the last ones. `references` is room that is
-/// used again. If memory runs out, the answer is `AllocError`.
+/// The class dump and the object dump of the first identifier are looked up, near the places of the last ones. `references` is scratch
+/// space. If memory runs out, the answer is `AllocError`.
 pub fn least_edge(
     heap: &Heap,
     known: &KnownLayouts,

@@ -1,4 +1,4 @@
-//! References between classes and objects: edges, those that a dump gives, those from an identifier and those to one.
+//! References between classes and objects, as edges: those in a class dump or an object dump, those from an identifier, and those to it.
 #![tactic(auto)]
 
 mod collect;

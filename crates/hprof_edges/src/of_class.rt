@@ -13,7 +13,7 @@ use crate::putting::{put_constants, put_edge, put_statics};
 use hprof_heap::ClassDump;
 use std::alloc::AllocError;
 
-/// Returns the edge from a class to one of the identifiers that its dump names.
+/// Returns the edge from a class to an identifier that its dump names.
 fn named_edge(class: u64, via: Via, to: u64) -> Edge
     ensures { result ≡ record { from = class; via = via; position = 0; to = to } }
 {
@@ -25,7 +25,7 @@ fn named_edge(class: u64, via: Via, to: u64) -> Edge
     }
 }
 
-/// Puts the edges of a class to its superclass, its loader, its signers and its domain.
+/// Puts the edges of a class to its superclass, its class loader, its signers and its protection domain.
 fn put_named<C: Collect>(dump: &ClassDump<'_>, into: &mut C) -> Result<(), AllocError>
     ensures holds { OnOk result ((edges : List Edge) → C.holds into.old edges
         → C.holds into.new (edges ++ named_edges (class_value dump.now))) }
@@ -38,8 +38,8 @@ fn put_named<C: Collect>(dump: &ClassDump<'_>, into: &mut C) -> Result<(), Alloc
     Ok(())
 }
 
-/// Puts the edges of a class dump into `into`: to its superclass, its loader, its signers and its domain, and by its constants and
-/// static fields. If memory runs out, nothing holds of `into`.
+/// Puts the edges of a class dump into `into`: to its superclass, its class loader, its signers and its protection domain, and from its
+/// constants and static fields. If memory runs out, the answer is `AllocError` and `into` is unspecified.
 pub fn class_edges<C: Collect>(dump: &ClassDump<'_>, into: &mut C) -> Result<(), AllocError>
     ensures holds { OnOk result ((edges : List Edge) → C.holds into.old edges
         → PutBehind (C.holds into.new) edges (IsClassEdge (class_value dump.now))) }

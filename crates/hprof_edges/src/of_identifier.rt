@@ -18,7 +18,7 @@ use hprof_heap::{Finger, Heap, ObjectDump, find_class_near, find_object, holds_o
 use hprof_layouts::{Fields, Wanted, fields};
 use std::alloc::{AllocError, Global};
 
-/// Puts the edges that the class dump of an identifier gives, if there is one.
+/// Puts the edges from an identifier's class dump, if it has one.
 pub(crate) fn put_of_class<C: Collect>(
     heap: &Heap,
     id: u64,
@@ -36,7 +36,7 @@ pub(crate) fn put_of_class<C: Collect>(
     Ok(())
 }
 
-/// Puts the edges of an identifier by the fields of the instance, if it is one. The layout of its class alone is found.
+/// Puts the edges from the fields of an instance. Only the layout of its class is found.
 fn put_of_fields<C: Collect>(
     alloc: Global,
     heap: &Heap,
@@ -55,7 +55,7 @@ fn put_of_fields<C: Collect>(
     Ok(())
 }
 
-/// Puts the edges that the object dump of an identifier gives, if there is one.
+/// Puts the edges from an identifier's object dump, if it has one.
 fn put_of_object<C: Collect>(
     alloc: Global,
     heap: &Heap,
@@ -90,7 +90,7 @@ fn put_of_object<C: Collect>(
 
 /// Returns all edges from an identifier, in order, each once.
 ///
-/// Its class dump and its object dump are looked up, and the layout of its class alone is found. If memory runs out, the answer is
+/// Its class dump and its object dump are looked up, and only the layout of its class is found. If memory runs out, the answer is
 /// `AllocError`.
 pub fn edges_of(alloc: Global, heap: &Heap, id: u64) -> Result<Vec<Edge>, AllocError>
     ensures { IfOk result (λ edges. AreEdgesFrom (size_of heap.now) (facts_of heap.now) id edges.items) }

@@ -18,7 +18,7 @@ use hprof_layouts::{KnownLayouts, Reference};
 use hprof_values::{IdList, IdSize};
 use std::alloc::AllocError;
 
-/// Puts the edge of an instance or of an array of objects to its class into `into`, if `into` wants it. There is none to class 0.
+/// Puts the edge of an instance or an object array to its class, if it is wanted. An object of class 0 has none.
 #[inline(always)]
 pub fn edge_to_class<C: Collect>(object: u64, class: u64, into: &mut C) -> Result<(), AllocError>
     ensures holds { OnOk result ((edges : List Edge) → C.holds into.old edges
@@ -38,9 +38,9 @@ pub fn edge_to_class<C: Collect>(object: u64, class: u64, into: &mut C) -> Resul
     Ok(())
 }
 
-/// Puts the edges of an instance by its fields into `into`, as far as it wants them, and returns whether the layout of its class is known.
+/// Puts the wanted edges from the fields of an instance, and returns whether the layout of its class is known.
 ///
-/// Nothing is put if the layout is not known, or has another number of bytes than the instance. `references` is room that is used again.
+/// Nothing is put if the layout is not known, or has another number of bytes than the instance. `references` is scratch space.
 #[inline(always)]
 pub fn field_edges<C: Collect>(
     known: &KnownLayouts,
@@ -65,7 +65,8 @@ pub fn field_edges<C: Collect>(
     Ok(true)
 }
 
-/// Puts the edges of an array of objects into `into`: to its class, and by its elements. If memory runs out, nothing holds of `into`.
+/// Puts the edges of an object array into `into`: to its class, and from its elements. If memory runs out, the answer is `AllocError` and
+/// `into` is unspecified.
 pub fn array_edges<C: Collect>(
     array: u64,
     class: u64,
@@ -81,10 +82,10 @@ pub fn array_edges<C: Collect>(
     Ok(())
 }
 
-/// Puts the edges of an object dump into `into`: to its class, by the fields of an instance whose class has a known layout, by the
-/// elements of an array of objects.
+/// Puts the edges of an object dump into `into`: to its class, from the fields of an instance if the layout of its class is known, and from
+/// the elements of an object array.
 ///
-/// `references` is room that is used again. If memory runs out, nothing holds of `into`.
+/// `references` is scratch space. If memory runs out, the answer is `AllocError` and `into` is unspecified.
 pub fn object_edges<C: Collect>(
     known: &KnownLayouts,
     dump: &ObjectDump<'_>,

@@ -1,4 +1,4 @@
-//! Edges, put one by one.
+//! Putting edges into a collector.
 
 ghost use Rattle.std.specs.Prelude.{◌≡◌, ◌++◌, ℕ, List, Contains, false, OnOk};
 ghost use Rattle.hprof_layouts.specs.References.{is_wanted};
@@ -14,7 +14,7 @@ use hprof_layouts::{FieldValue, Reference, Wanted, refers};
 use hprof_values::{Basic, ConstantList, IdList, StaticList};
 use std::alloc::AllocError;
 
-/// Puts an edge, unless it refers to nothing.
+/// Puts an edge, unless it refers to 0.
 #[inline(always)]
 pub(crate) fn put_edge<C: Collect>(edge: Edge, into: &mut C) -> Result<(), AllocError>
     ensures holds { OnOk result ((edges : List Edge) → C.holds into.old edges → C.holds into.new (edges ++ unless_zero edge)) }
@@ -27,14 +27,14 @@ pub(crate) fn put_edge<C: Collect>(edge: Edge, into: &mut C) -> Result<(), Alloc
     Ok(())
 }
 
-/// Returns the identifier that a value of the type with these bits refers to; 0 if it refers to nothing.
+/// Returns the identifier that a value of the type with these bits refers to, or 0 if it is no reference.
 fn target_of(basic: Basic, bits: u64) -> u64
     ensures { result ≡ target_of basic bits }
 {
     if refers(basic) { bits } else { 0 }
 }
 
-/// Puts the edges of a class by its constants.
+/// Puts the edges from a class's constants.
 pub(crate) fn put_constants<C: Collect>(
     class: u64,
     constants: ConstantList<'_>,
@@ -58,7 +58,7 @@ pub(crate) fn put_constants<C: Collect>(
     Ok(())
 }
 
-/// Puts the edges of a class by its static fields.
+/// Puts the edges from a class's static fields.
 pub(crate) fn put_statics<C: Collect>(
     class: u64,
     statics: StaticList<'_>,
@@ -82,7 +82,7 @@ pub(crate) fn put_statics<C: Collect>(
     Ok(())
 }
 
-/// Returns whether an identifier of the list is wanted. All are looked at at once.
+/// Returns whether an identifier of the list is wanted. All are compared, without an early exit.
 #[inline(always)]
 fn wants_one(wanted: Wanted, elements: IdList<'_>) -> bool
     ensures { result ≡ false → (to : ℕ) → Contains (identifiers_of elements.entry) to → is_wanted wanted to ≡ false }
@@ -93,7 +93,7 @@ fn wants_one(wanted: Wanted, elements: IdList<'_>) -> bool
     }
 }
 
-/// Puts the edges of an array of objects by its elements, which are looked at one by one. The collector is given those that it wants.
+/// Puts the wanted edges from the elements of an object array, one by one.
 fn put_wanted<C: Collect>(array: u64, elements: IdList<'_>, into: &mut C) -> Result<(), AllocError>
     ensures holds { OnOk result ((edges : List Edge) → C.holds into.old edges
         → C.holds into.new (edges ++ numbered array vias.Element 0 (identifiers_of elements.entry))) }
@@ -116,8 +116,7 @@ fn put_wanted<C: Collect>(array: u64, elements: IdList<'_>, into: &mut C) -> Res
     Ok(())
 }
 
-/// Puts the edges of an array of objects by its elements. The collector is given those that it wants: of most arrays none, which is found
-/// at once.
+/// Puts the wanted edges from the elements of an object array. Most arrays have none, which one fast pass finds.
 #[inline(always)]
 pub(crate) fn put_elements<C: Collect>(
     array: u64,
@@ -135,7 +134,7 @@ pub(crate) fn put_elements<C: Collect>(
     Ok(())
 }
 
-/// Puts the edges of an instance by the values of its fields.
+/// Puts the edges from the values of an instance's fields.
 pub(crate) fn put_values<C: Collect>(
     instance: u64,
     values: &[FieldValue],
@@ -159,7 +158,7 @@ pub(crate) fn put_values<C: Collect>(
     Ok(())
 }
 
-/// Puts the edges of an instance by the references of its fields.
+/// Puts the edges from the references of an instance's fields.
 #[inline(always)]
 pub(crate) fn put_references<C: Collect>(
     instance: u64,

@@ -18,7 +18,7 @@ use hprof_heap::{Heap, Table, id_size, table_facts, to_class_dump, to_object_dum
 use hprof_layouts::{KnownLayouts, Wanted, known_layouts};
 use std::alloc::{AllocError, Global};
 
-/// Puts the edges that the class dumps of a heap give.
+/// Puts the edges from all class dumps of a heap.
 fn put_of_classes<C: Collect>(heap: &Heap, into: &mut C) -> Result<(), AllocError>
     ensures holds { OnOk result ((edges : List Edge) → C.holds into.old edges
         → PutBehind (C.holds into.new) edges (GivenByClass (facts_of heap.now))) }
@@ -32,7 +32,7 @@ fn put_of_classes<C: Collect>(heap: &Heap, into: &mut C) -> Result<(), AllocErro
     Ok(())
 }
 
-/// Puts the edges that the object dumps of a heap give, whose layouts are known.
+/// Puts the edges from all object dumps of a heap, with known layouts.
 fn put_of_objects<C: Collect>(
     alloc: Global,
     heap: &Heap,
@@ -53,7 +53,7 @@ fn put_of_objects<C: Collect>(
     Ok(())
 }
 
-/// Puts all edges of a heap, in one pass over its class dumps and its object dumps. The layout of a class is found once.
+/// Puts all edges of a heap, in one pass over its class dumps and its object dumps. The layout of each class is found once.
 fn put_all<C: Collect>(alloc: Global, heap: &Heap, into: &mut C) -> Result<(), AllocError>
     ensures holds { OnOk result ((edges : List Edge) → C.holds into.old edges
         → PutBehind (C.holds into.new) edges (IsEdge (size_of heap.now) (facts_of heap.now))) }
@@ -67,8 +67,8 @@ fn put_all<C: Collect>(alloc: Global, heap: &Heap, into: &mut C) -> Result<(), A
 
 /// Returns all edges to an identifier, in order, each once. There are none to 0.
 ///
-/// All class dumps and object dumps are gone over once. Memory is taken for the edges and for the plan of each class; if it runs out,
-/// the answer is `AllocError`.
+/// Walks over all class dumps and object dumps once. Allocates for the edges and for the plan of each class. If memory runs out, the answer
+/// is `AllocError`.
 pub fn referrers(alloc: Global, heap: &Heap, id: u64) -> Result<Vec<Edge>, AllocError>
     ensures { IfOk result (λ edges. AreReferrers (size_of heap.now) (facts_of heap.now) id edges.items) }
 {

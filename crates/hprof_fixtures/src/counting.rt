@@ -4,7 +4,7 @@ use std::alloc::Global;
 use std::io;
 use std::io::Write;
 
-/// A writer that takes all, and counts its calls. A write of no bytes fails.
+/// A writer that takes all bytes, and counts its calls. A write of no bytes fails.
 #[derive(Drop)]
 pub struct Counting {
     /// The bytes that were written.
@@ -16,7 +16,7 @@ pub struct Counting {
 }
 
 impl Counting {
-    /// Returns a writer that was not called yet. It takes no memory.
+    /// Returns a writer that was not called yet. Allocates nothing.
     pub fn new(alloc: Global) -> Self {
         Counting {
             bytes: Vec::new(alloc),

@@ -15,17 +15,17 @@ use std::test::Fail;
 pub enum Dump<'a> {
     /// A class, its superclass and its own fields.
     Class(u64, u64, &'a [u8]),
-    /// A class with all that is told of it.
+    /// A class with every part of its dump.
     Whole(Whole<'a>),
     /// An instance, its class and its bytes.
     Instance(u64, u64, &'a [u8]),
-    /// An array of objects, its class and its elements.
+    /// An object array, its class and its elements.
     Objects(u64, u64, &'a [u8]),
-    /// An array of numbers, their type and its bytes.
+    /// A primitive array, the type of its elements and its bytes.
     Numbers(u64, Basic, &'a [u8]),
 }
 
-/// A class with all that is told of it.
+/// A class with every part of its dump.
 #[derive(Clone, Copy)]
 pub struct Whole<'a> {
     /// The class.
@@ -48,7 +48,7 @@ pub struct Whole<'a> {
     pub fields: &'a [u8],
 }
 
-/// A class of which nothing is told. A test adds its own.
+/// A class dump without contents. A test sets the parts that it needs.
 pub const NO_CLASS: Whole<'_> = Whole {
     id: 0,
     parent: 0,
@@ -89,7 +89,7 @@ fn objects_fact(id: u64, class: u64, elements: &[u8]) -> Option<Fact<'_>> {
 }
 
 impl<'a> Dump<'a> {
-    /// Returns the fact of the sub-record, with the trace serial 1, or `None` if its bytes are no list.
+    /// Returns the fact of the sub-record, with the stack trace serial number 1, or `None` if its bytes are no list.
     pub fn fact(self) -> Option<Fact<'a>> {
         match self {
             Dump::Class(id, parent, fields) => class_fact(Whole {
@@ -116,7 +116,7 @@ impl<'a> Dump<'a> {
     }
 }
 
-/// Returns a header of a part with identifiers of that size.
+/// Returns the header of a part with this identifier size.
 pub fn header_of(ids: IdSize) -> Header
     ensures { result.ids ≡ ids }
 {
@@ -127,8 +127,8 @@ pub fn header_of(ids: IdSize) -> Header
     }
 }
 
-/// Gives the fact of a sub-record to a sink, in a part of its own. A sink that refuses it has failed, and answers so when it is given the
-/// fact once more.
+/// Gives the fact of a sub-record to a sink, in a part of its own. If the sink refuses it, gives it once more, and expects the answer
+/// `Failed`.
 fn give_fact<S: Sink>(alloc: Global, sink: &mut S, fact: &Fact<'_>) -> Result<(), Fail> {
     let ids = IdSize::Four;
     if !fits(fact, ids) {
@@ -158,7 +158,7 @@ pub fn give<S: Sink>(alloc: Global, sink: &mut S, dump: Dump<'_>) -> Result<(), 
     give_fact(alloc, sink, &fact)
 }
 
-/// Gives dumps to a sink, in their order.
+/// Gives dumps to a sink, in order.
 pub fn give_all<S: Sink>(alloc: Global, sink: &mut S, dumps: &[Dump<'_>]) -> Result<(), Fail> {
     for dump in dumps {
         give(alloc, sink, *dump)?;

@@ -1,4 +1,4 @@
-//! What the tests of several crates use: parts, dumps in hand, and a writer that counts.
+//! Fixtures for the tests of several crates: parts, class dumps, object dumps, and a writer that counts.
 #![tactic(auto)]
 
 mod counting;

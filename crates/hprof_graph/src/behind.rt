@@ -1,4 +1,4 @@
-//! The edges to an identifier, moved behind the others.
+//! Moving the edges to an identifier to the end.
 
 ghost use Rattle.std.specs.Prelude.{◌≡◌, ◌≢◌, ◌↔◌, ◌≤◌, ◌<◌, ℕ, Contains, drop, slice_index_or, take, vec_len};
 ghost use Rattle.std.specs.List.Sorted.{IsPermutation, IsSorted, IsStrictlySortedBy};
@@ -7,7 +7,7 @@ ghost use Rattle.hprof_edges.specs.contracts.edge.EdgeOrd.TheImpl as edge_ord;
 
 use hprof_edges::Edge;
 
-/// Moves the edges to an identifier behind the others, in one pass, and returns the number of the others.
+/// Moves the edges to an identifier to the end, in one pass, and returns the number of the others.
 fn move_behind(edges: &mut Vec<Edge>, id: u64) -> usize
     ensures within { result ≤ vec_len edges.new }
     ensures moved { IsPermutation edges.old.items edges.new.items }
@@ -28,7 +28,7 @@ fn move_behind(edges: &mut Vec<Edge>, id: u64) -> usize
     others
 }
 
-/// Puts the edges from a place on in order.
+/// Sorts the edges from a place on.
 fn sort_from(edges: &mut Vec<Edge>, start: usize)
     requires { start ≤ vec_len edges.old }
     ensures len { vec_len edges.new ≡ vec_len edges.old }
@@ -39,8 +39,7 @@ fn sort_from(edges: &mut Vec<Edge>, start: usize)
     edges[start..].sort_unstable();
 }
 
-/// Moves the edges to an identifier behind the others, in order, and returns the place where they begin. Each is kept once. It takes no
-/// memory.
+/// Moves the edges to an identifier to the end, sorts them, and removes repetitions. Returns the place where they begin. Allocates nothing.
 pub(crate) fn bring_behind(edges: &mut Vec<Edge>, id: u64) -> usize
     ensures within { result ≤ vec_len edges.new }
     ensures ascend { IsStrictlySortedBy (edge_ord.ghosts).cmp (drop result edges.new.items) }

@@ -1,4 +1,4 @@
-//! Edges by the identifier that they refer to.
+//! Edges ordered by the identifier that they refer to.
 
 ghost use Rattle.std.specs.Prelude.{◌≡◌, ◌↔◌, Contains};
 ghost use Rattle.std.specs.List.Sorted.{IsStrictlySortedBy};
@@ -15,7 +15,7 @@ struct TargetFirst {
     edge: Edge,
 }
 
-/// Puts edges in order by the identifier that they refer to, and then as edges are, each once. It takes no memory.
+/// Sorts edges by the identifier that they refer to, and then as edges are, and removes repetitions. Allocates nothing.
 pub(crate) fn sort_by_target(edges: &mut Vec<Edge>)
     ensures sorted { IsByTarget edges.new.items }
     ensures same { (edge : Edge) → Contains edges.new.items edge ↔ Contains edges.old.items edge }
@@ -27,8 +27,7 @@ pub(crate) fn sort_by_target(edges: &mut Vec<Edge>)
     edges.dedup();
 }
 
-/// Returns the edges to an identifier, if edges are in order by the identifier that they refer to. They stand one behind the other, and are
-/// found by halves.
+/// Returns the edges to an identifier, by binary search. `edges` is sorted by the identifier that they refer to.
 pub(crate) fn edges_to(edges: &[Edge], id: u64) -> &[Edge]
     ensures ascend { IsByTarget edges.now → IsStrictlySortedBy (edge_ord.ghosts).cmp result.now }
     ensures exact { IsByTarget edges.now → (edge : Edge) → Contains result.now edge

@@ -1,4 +1,4 @@
-//! The data that is derived from facts: known layouts, edges, and the number of instances.
+//! The data that is derived from facts: known layouts, edges, and counts of instances.
 
 ghost use Rattle.std.specs.Prelude.{◌≡◌, ◌↔◌, ◌≤◌, ◌+◌, ◌++◌, ◌∷◌, ℕ, true, false, List, [], Contains, IsTrue, IfOk, OnOk, drop, vec_len};
 ghost use Rattle.hprof_values.specs.declared.ids.IdSize.{IdSize};
@@ -27,7 +27,7 @@ use hprof_layouts::{KnownLayouts, Reference, WaitingLists, Wanted};
 use hprof_values::{IdList, IdSize};
 use std::alloc::{AllocError, Global};
 
-/// The data that is derived from facts that come one by one.
+/// The data that is derived from facts as they come.
 #[derive(Drop)]
 pub(crate) struct Derived {
     known: KnownLayouts,
@@ -39,7 +39,7 @@ pub(crate) struct Derived {
 }
 
 impl Derived {
-    /// Returns the data that is derived from no facts. It takes no memory yet.
+    /// Returns the data of no facts. Allocates nothing.
     pub(crate) fn new(alloc: Global, wanted: Wanted) -> Derived
         ensures derived { (ids : IdSize) → IsDerived ids [] result }
         ensures keeps { keeps_of result ≡ is_edge_wanted wanted }
@@ -54,7 +54,7 @@ impl Derived {
         }
     }
 
-    /// Returns the number of instances that were laid. The heap is of the facts so far.
+    /// Returns the number of instances that were laid. `heap` has the facts so far.
     pub(crate) fn cuts(&self, heap: &Heap) -> u64
         ensures { IsDerived (size_of heap.now) (facts_of heap.now) self.now → IsNumberOf (CanBeLaid (facts_of heap.now)) result }
     {
@@ -63,7 +63,7 @@ impl Derived {
         self.cuts
     }
 
-    /// Returns the number of instances that wait. The heap is of the facts so far.
+    /// Returns the number of instances that wait for a layout. `heap` has the facts so far.
     pub(crate) fn unresolved(&self, heap: &Heap) -> u64
         ensures { IsDerived (size_of heap.now) (facts_of heap.now) self.now → IsNumberOf (CannotBeLaid (facts_of heap.now)) result }
     {
@@ -72,7 +72,7 @@ impl Derived {
         self.instances.saturating_sub(self.cuts)
     }
 
-    /// Moves the edges to an identifier behind the others, in order, and returns the place where they begin.
+    /// Moves the edges to an identifier to the end, in order, and returns the place where they begin.
     pub(crate) fn bring_behind(&mut self, id: u64) -> usize
         ensures within { result ≤ vec_len self.new.set.edges }
         ensures behind { (ids : IdSize) (facts : List FactValue) → IsDerived ids facts self.old
@@ -86,7 +86,7 @@ impl Derived {
         bring_behind(&mut self.set.edges, id)
     }
 
-    /// Returns the edges that are kept, from a place on.
+    /// Returns the collected edges from a place on.
     pub(crate) fn edges_from(&self, start: usize) -> &[Edge]
         requires { start ≤ vec_len self.now.set.edges }
         ensures { result.now ≡ drop start (edges_in self.now.set) }
@@ -95,7 +95,7 @@ impl Derived {
         edges
     }
 
-    /// Returns the edges, by the identifier that they refer to.
+    /// Returns the index of the edges.
     pub(crate) fn into_index(self) -> Index
         ensures { (ids : IdSize) (facts : List FactValue) → IsDerived ids facts self → IsIndexOf ids facts (keeps_of self) result }
     {
@@ -104,8 +104,7 @@ impl Derived {
         Index { edges }
     }
 
-    /// Lays the layout of its class over the bytes of an instance, if it is known, and counts the instance then: nothing else does. It
-    /// returns whether the instance was laid.
+    /// Lays an instance if the layout of its class is known, and counts it. Returns whether it was laid. Instances are counted only here.
     #[inline(always)]
     fn lay(
         &mut self,
@@ -139,7 +138,7 @@ impl Derived {
         Ok(true)
     }
 
-    /// Lays an instance that waited, which is looked up.
+    /// Looks up an instance that waited, and lays it.
     fn lay_waiting(&mut self, heap: &Heap, instance: u64) -> Result<(), AllocError>
         ensures lays { OnOk result ((laid gone : List ℕ) (class : ℕ)
             → IsInstanceOf (facts_of heap.now) instance class → HasLayout (facts_of heap.now) class
@@ -157,7 +156,7 @@ impl Derived {
         }
     }
 
-    /// Lays the instances that wait for a class, whose layout became known.
+    /// Lays the instances that wait for a class, whose layout is now known.
     fn wake(&mut self, heap: &Heap, class: u64) -> Result<(), AllocError>
         ensures lays { OnOk result ((laid : List ℕ) → HasLayout (facts_of heap.now) class
             → IsDeriving (size_of heap.now) (facts_of heap.now) self.old laid laid
@@ -173,7 +172,7 @@ impl Derived {
         Ok(())
     }
 
-    /// Lays the instances that wait for classes whose layouts became known.
+    /// Lays the instances that wait for classes whose layouts are now known.
     fn wake_all(&mut self, heap: &Heap, woken: &[u64]) -> Result<(), AllocError>
         ensures lays { OnOk result ((laid : List ℕ)
             → ((class : ℕ) → Contains woken.now class → HasLayout (facts_of heap.now) class)
@@ -200,8 +199,8 @@ impl Derived {
         Ok(())
     }
 
-    /// Takes a fact that is new to the heap, and is neither an instance nor an array of objects. Few facts are class dumps, from
-    /// which alone something is derived, so this stands apart from [`Derived::add`].
+    /// Takes a fact that is new to the heap, and is neither an instance nor an object array. Only class dumps have derived data. It is not
+    /// inlined into [`Derived::add`], since few facts are class dumps.
     #[inline(never)]
     fn add_other(&mut self, heap: &Heap, fact: &Fact<'_>) -> Result<(), AllocError>
         requires { IsOther fact.now }
@@ -239,7 +238,7 @@ impl Derived {
         Ok(())
     }
 
-    /// Takes an array of objects that is new to the heap. It stands apart from [`Derived::add`], in which few registers are left.
+    /// Takes an object array that is new to the heap. It is not inlined into [`Derived::add`], which has few registers left.
     #[inline(never)]
     fn add_array(&mut self, array: u64, class: u64, elements: &IdList<'_>) -> Result<(), AllocError>
         ensures adds { OnOk result ((ids : IdSize) (before facts : List FactValue) (trace : ℕ)
@@ -251,7 +250,7 @@ impl Derived {
         Ok(())
     }
 
-    /// Takes a fact that is new to the heap, which has it. If memory runs out, nothing holds of the derived data.
+    /// Takes a fact that is new. `heap` already has it. If memory runs out, the answer is `AllocError` and the derived data is unspecified.
     #[inline(always)]
     pub(crate) fn add(&mut self, heap: &Heap, fact: &Fact<'_>) -> Result<(), AllocError>
         ensures adds { OnOk result ((before : List FactValue)

@@ -1,4 +1,4 @@
-//! The references in a heap, by the identifier that they refer to.
+//! An index of the references in a heap.
 
 ghost use Rattle.std.specs.Prelude.{◌≡◌, Bool, true, List};
 ghost use Rattle.hprof_values.specs.declared.ids.IdSize.{IdSize};
@@ -10,7 +10,7 @@ ghost use Rattle.hprof_graph.specs.Indexed.{IsIndexOf, IsIndexTo};
 use crate::by_target::edges_to;
 use hprof_edges::Edge;
 
-/// The edges of a heap that were watched, by the identifier that they refer to.
+/// The collected edges of a heap, by the identifier that they refer to.
 #[derive(Drop)]
 pub struct Index {
     pub(crate) edges: Vec<Edge>,
@@ -19,7 +19,7 @@ pub struct Index {
 impl Index {
     /// Returns the edges to an identifier, in order, each once. There are none to 0.
     ///
-    /// An index that keeps some of the edges alone answers those of them. They are found by binary search, and nothing is allocated.
+    /// If the index has only some edges, those of them are returned. Uses binary search, and allocates nothing.
     pub fn referrers(&self, id: u64) -> &[Edge]
         ensures value { (ids : IdSize) (facts : List FactValue) → IsIndexTo ids facts id self.now → AreReferrers ids facts id result.now }
         // Of an index that keeps some of the edges: those of them to the identifier.

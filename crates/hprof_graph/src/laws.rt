@@ -1,4 +1,4 @@
-//! The laws of the answers, each of the crate that proves it.
+//! The laws of all answers, from the crates that prove them.
 
 ghost use Rattle.std.specs.Borrow.{Bor};
 ghost use Rattle.std.specs.Prelude.{◌≡◌, ℕ, Bool, true, List, Contains};
@@ -25,16 +25,16 @@ pub use hprof_reach::laws::{
     no_distance_no_walk, one_distance_and_path, path_is_shortest, some_distance_and_path,
 };
 
-/// The list of referrers of an identifier only grows with more facts.
+/// More facts do not remove referrers of an identifier.
 pub fn referrers_only_grow()
     ensures { (ids : IdSize) (facts more : List FactValue) (id : ℕ) (edges others : List Edge) (edge : Edge)
         → ((fact : FactValue) → Has facts fact → Has more fact) → AreReferrers ids facts id edges → AreReferrers ids more id others
         → Contains edges edge → Contains others edge }
 {}
 
-/// Each answer of a live heap holds of all facts of the parts that it was given, under their one size of identifiers. It is `InConflict`
-/// exactly if two of these facts have one key and different contents, or the parts have two sizes. It is never `Failed`: a live heap that
-/// took whole parts had no fault.
+/// Each answer of a live heap is about all facts of the parts that it was given, with their common identifier size. It is `InConflict`
+/// exactly if two of these facts have the same key and different contents, or the parts have two identifier sizes. It is never `Failed`,
+/// since a live heap that took whole parts had no fault.
 pub fn answers_are_of_parts()
     ensures told { (live : LiveHeap) (parts : List Given) → Gathers nothing_gathered parts (seen_by live)
         → Tells parts (outcome_of live) }

@@ -1,8 +1,5 @@
-//! Questions over a heap: layouts of classes, fields of objects, references, the class histogram, paths from the GC roots, and a heap that
-//! answers while its facts still come.
-//!
-//! This crate has no code. It gives the calls of the crates that answer, under one name, with their laws.
-//! Layouts and references, kept while facts come: after every fact they are those of the facts so far.
+//! The library interface: layouts of classes, fields of objects, references, the class histogram and paths from GC roots, for a heap that
+//! is complete, and [`LiveHeap`], which answers after every fact while a dump is still being read.
 #![tactic(auto)]
 
 mod behind;

@@ -5,14 +5,14 @@ ghost use Rattle.hprof_graph.specs.Mapped.{MapsTo};
 
 use std::alloc::AllocError;
 
-/// The answer to a query of the facts so far.
+/// The answer of a live heap about the facts so far.
 #[derive(Clone, Copy, Debug, PartialEq, Eq, Drop)]
 pub enum Live<T> {
-    /// This.
+    /// The answer.
     Is(T),
-    /// None: two sizes of identifiers were begun, or a key came with two contents.
+    /// There is no answer: parts have two identifier sizes, or a key came with two contents.
     InConflict,
-    /// None: a fault was answered before.
+    /// There is no answer: an earlier call returned a fault.
     Failed,
 }
 

@@ -1,4 +1,4 @@
-//! A heap with layouts and references, kept after each fact.
+//! A heap that answers after each fact.
 
 ghost use Rattle.std.specs.Prelude.{◌≡◌, ◌≤◌, ℕ, List, [], true, false, Ok, IfOk, OnOk, drop, vec_len};
 ghost use Rattle.std.specs.Borrow.{sem};
@@ -24,12 +24,13 @@ use hprof_layouts::{Layout, Wanted, layout};
 use hprof_stream::{Sink, SinkFault};
 use std::alloc::{AllocError, Global};
 
-/// A heap that answers while its facts come. It takes the headers and facts of any number of parts, and keeps the layouts of classes and
-/// the edges of the facts so far.
+/// A heap that answers while its facts come. It takes the headers and the facts of any number of parts, and updates the layouts of classes
+/// and the edges after each fact.
 ///
-/// Classes, superclasses and instances may come in any order, and each instance is laid once. A query is answered of the facts so far,
-/// before any part of no facts. It is `InConflict` if the facts do not agree or two sizes of identifiers were begun, and `Failed` after a
-/// fault, which comes first.
+/// Class dumps and instances may come in any order, and each instance is laid once. A query is about the facts so far. Before the first
+/// part there are none.
+///
+/// The answer is `Failed` after a fault, and otherwise `InConflict` if the facts do not agree or parts have two identifier sizes.
 #[derive(Drop)]
 pub struct LiveHeap {
     gatherer: Gatherer,
@@ -37,7 +38,7 @@ pub struct LiveHeap {
     failed: bool,
 }
 
-/// Returns the layout of a class if there are no facts.
+/// Returns the layout of a class when there are no facts.
 fn layout_of_none(alloc: Global, class: u64) -> Layout
     ensures { IsLayout [] class (layout_value result) }
 {
@@ -51,7 +52,7 @@ impl LiveHeap {
     ghost use Rattle.hprof_graph.specs.LiveHeap.{IsAnswer, IsCurrent, IsKindOf, KeepsOnly, LendsHeap, RestsAsItIs};
     ghost use Rattle.hprof_graph.specs.LiveHeap.{Watches, outcome_of, seen_by};
 
-    /// Creates a live heap that was given nothing, and keeps the edges to the wanted identifiers. Allocates nothing.
+    /// Returns a live heap of no parts that collects the edges to the wanted identifiers. Allocates nothing.
     fn wanting(alloc: Global, wanted: Wanted) -> LiveHeap
         ensures nothing { seen_by result ≡ nothing_gathered }
         ensures current { IsCurrent result }
@@ -64,7 +65,7 @@ impl LiveHeap {
         }
     }
 
-    /// Creates a live heap that was given nothing. Allocates nothing.
+    /// Returns a live heap of no parts. Allocates nothing.
     pub fn new(alloc: Global) -> LiveHeap
         ensures nothing { seen_by result ≡ nothing_gathered }
         ensures watches { (id : ℕ) → Watches result id }
@@ -72,7 +73,7 @@ impl LiveHeap {
         LiveHeap::wanting(alloc, Wanted::All)
     }
 
-    /// Creates a live heap, as [`LiveHeap::new`] does, that keeps the edges to one identifier alone.
+    /// Returns a live heap of no parts, as [`LiveHeap::new`] does, that collects only the edges to one identifier.
     pub fn watching(alloc: Global, id: u64) -> LiveHeap
         ensures nothing { seen_by result ≡ nothing_gathered }
         ensures watches { Watches result id }
@@ -96,8 +97,7 @@ impl LiveHeap {
         }
     }
 
-    /// Returns the layout of a class, of the facts so far. If memory runs out, the answer is `AllocError`, and a later call answers as
-    /// if this one had not been made.
+    /// Returns the layout of a class. If memory runs out, the answer is `AllocError`, and later calls are not affected.
     pub fn layout_now(&self, alloc: Global, class: u64) -> Result<Live<Layout>, AllocError>
         ensures { IfOk result (IsAnswer (λ ids facts layout. IsLayout facts class (layout_value layout)) (outcome_of self.now)) }
     {
@@ -131,7 +131,7 @@ impl LiveHeap {
         })
     }
 
-    /// Lends the edges that are kept, from a place on.
+    /// Returns the collected edges from a place on.
     fn lend_edges(&self, start: usize) -> Live<&[Edge]>
         requires { start ≤ vec_len self.now.derived.set.edges }
         ensures { IsAnswer (λ ids facts edges. edges.now ≡ drop start (edges_in self.now.derived.set)) (outcome_of self.now) result }
@@ -139,10 +139,9 @@ impl LiveHeap {
         self.so_far().map(|_| self.derived.edges_from(start))
     }
 
-    /// Lends the edges to an identifier that is watched, in order, each once. There are none to 0.
+    /// Returns the edges to an identifier, in order, each once. There are none to 0.
     ///
-    /// Of another identifier it lends those of the edges to it that are kept. Nothing is allocated, and nothing that is told of the live
-    /// heap changes.
+    /// If only some edges are collected, those of them are returned. Allocates nothing, and changes no answer of the live heap.
     pub fn referrers_now(&mut self, id: u64) -> Live<&[Edge]>
         ensures* rests { sem 𝓛 (RestsAsItIs self.entry) }
         ensures kind { IsKindOf (outcome_of self.old) result }
@@ -156,8 +155,8 @@ impl LiveHeap {
         self.lend_edges(start)
     }
 
-    /// Derives the data of a fact, as [`LiveHeap::derive`] does. It stands apart from the loop over the facts of a part, so that the
-    /// gatherer's part of `take` stands in it.
+    /// Derives the data of a fact, as [`LiveHeap::derive`] does. It is not inlined into the loop over the facts of a part, so that the
+    /// gatherer's part of `take` is.
     #[inline(never)]
     fn derive_any(&mut self, fact: &Fact<'_>) -> Result<(), AllocError>
         ensures derives { OnOk result ((before : List FactValue) (heap : HeapValue)
@@ -193,9 +192,9 @@ impl LiveHeap {
         self.derive_any(fact)
     }
 
-    /// Returns the heap of all facts that were given, and an index of its edges that were watched.
+    /// Returns the heap of all facts, and the index of the collected edges. Allocates nothing.
     ///
-    /// A fault is told first, then that there were no parts, then two sizes of identifiers, then a conflict. Nothing is allocated.
+    /// The first of these that applies is the refusal: a fault, no parts, two identifier sizes, a conflict.
     pub fn finish(self) -> Result<(Heap, Index), Refusal>
         ensures answer { seen_in indexed_heap result ≡ outcome_of self }
         ensures told { (parts : List Given) → Gathers nothing_gathered parts (seen_by self) → Tells parts (seen_in indexed_heap result) }
@@ -261,7 +260,7 @@ impl Sink for LiveHeap {
     }
 }
 
-/// It gives the heap, and an index of its edges that were watched.
+/// Returns the heap, and the index of the collected edges.
 impl Gather for LiveHeap {
     ghost use Rattle.hprof_graph.specs.LiveHeap.{Watches, seen_by, watches_on};
     ghost use Rattle.hprof_graph.specs.Indexed.{ListsTo, indexed_heap};

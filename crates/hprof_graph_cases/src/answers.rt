@@ -1,4 +1,4 @@
-//! Layouts, fields and the answers of live heaps, beside the expected ones.
+//! Layouts, fields and the answers of live heaps, compared with the expected ones.
 
 use crate::expecting::equal_at;
 use hprof_edges::{Edge, Via};
@@ -19,7 +19,7 @@ pub(crate) fn edge(from: u64, via: Via, position: u64, to: u64) -> Edge {
     }
 }
 
-/// A layout, lent.
+/// A borrowed layout.
 #[derive(Clone, Copy, Debug, PartialEq, Eq)]
 pub(crate) enum Shape<'a> {
     Known(&'a [Slot]),
@@ -35,7 +35,7 @@ pub(crate) fn shape_of(layout: &Layout) -> Shape<'_> {
     }
 }
 
-/// The fields of an object, lent.
+/// The borrowed fields of an object.
 #[derive(Clone, Copy, Debug, PartialEq, Eq)]
 pub(crate) enum Read<'a> {
     Values(&'a [FieldValue]),
@@ -57,7 +57,7 @@ fn read_of(fields: &Fields) -> Read<'_> {
     }
 }
 
-/// Checks that this is the layout of a class.
+/// Asserts that a class has this layout.
 pub(crate) fn expect_layout(
     rt: &impl Abort,
     alloc: Global,
@@ -70,7 +70,7 @@ pub(crate) fn expect_layout(
     Ok(())
 }
 
-/// Checks that these are the fields of an object.
+/// Asserts that an object has these fields.
 pub(crate) fn expect_fields(
     rt: &impl Abort,
     alloc: Global,
@@ -91,7 +91,7 @@ pub(crate) fn live_shape(layout: &Live<Layout>) -> Live<Shape<'_>> {
     }
 }
 
-/// Returns the layout of a class so far. If memory runs out, it is asked for again.
+/// Returns the layout of a class so far. If memory runs out, asks once more.
 fn layout_now(alloc: Global, live: &LiveHeap, class: u64) -> Result<Live<Layout>, AllocError> {
     if let Ok(layout) = live.layout_now(alloc, class) {
         return Ok(layout);
@@ -99,7 +99,7 @@ fn layout_now(alloc: Global, live: &LiveHeap, class: u64) -> Result<Live<Layout>
     live.layout_now(alloc, class)
 }
 
-/// Checks that this is the layout of a class so far.
+/// Asserts that a class has this layout so far.
 pub(crate) fn expect_layout_now(
     rt: &impl Abort,
     alloc: Global,
@@ -112,7 +112,7 @@ pub(crate) fn expect_layout_now(
     Ok(())
 }
 
-/// Checks the number of instances that wait for a layout, and of those that were laid.
+/// Asserts the number of instances that wait for a layout, and of those that were laid.
 pub(crate) fn expect_counts(
     rt: &impl Abort,
     live: &LiveHeap,
@@ -123,14 +123,14 @@ pub(crate) fn expect_counts(
     equal_at(rt, "cuts", live.cuts(), cuts);
 }
 
-/// Checks that these are the edges to each identifier so far.
+/// Asserts the edges to each identifier so far.
 pub(crate) fn expect_referrers(rt: &impl Abort, live: &mut LiveHeap, expected: &[(u64, &[Edge])]) {
     for (id, edges) in expected {
         equal_at(rt, *id, live.referrers_now(*id), Live::Is(*edges));
     }
 }
 
-/// Checks that these are the edges to each identifier in an index.
+/// Asserts the edges to each identifier in an index.
 pub(crate) fn expect_indexed(rt: &impl Abort, index: &Index, expected: &[(u64, &[Edge])]) {
     for (id, edges) in expected {
         equal_at(rt, *id, index.referrers(*id), *edges);

@@ -17,7 +17,7 @@ const LAST: u64 = 1_000;
 /// The own field of each class: name 1 of type byte.
 const BYTE: &[u8] = b"\0\0\0\x01\x08";
 
-/// Gives a class; the superclass of the last one is given.
+/// Gives a class to a sink, with its superclass.
 fn give_class<S: Sink>(alloc: Global, sink: &mut S, id: u64, above: u64) -> Result<(), Fail> {
     let parent = if id == LAST {
         above
@@ -27,7 +27,7 @@ fn give_class<S: Sink>(alloc: Global, sink: &mut S, id: u64, above: u64) -> Resu
     give(alloc, sink, Dump::Class(id, parent, BYTE))
 }
 
-/// Gives the instance 2,000 of class 1, with `count` bytes, all of them 3.
+/// Gives the instance 2,000 of class 1 to a sink, with `count` bytes, all of them 3.
 fn give_instance<S: Sink>(alloc: Global, sink: &mut S, count: usize) -> Result<(), Fail> {
     let bytes = vec![in alloc; 3; count]?;
     give(alloc, sink, Dump::Instance(2_000, 1, &bytes))
@@ -60,7 +60,7 @@ fn all_values(alloc: Global) -> Result<Vec<FieldValue>, AllocError> {
     Ok(values)
 }
 
-/// Returns the heap of the instance with `count` bytes, and of the classes below that one.
+/// Returns the heap of the instance with `count` bytes, and of all classes. `above` is the superclass of the last one.
 fn heap_below(alloc: Global, above: u64, count: usize) -> Result<Heap, Fail> {
     let mut gatherer = Gatherer::new(alloc);
     give_instance(alloc, &mut gatherer, count)?;
@@ -70,8 +70,8 @@ fn heap_below(alloc: Global, above: u64, count: usize) -> Result<Heap, Fail> {
     Ok(gatherer.finish()?)
 }
 
-/// Checks the heap of the instance with `count` bytes, and of the classes below that one: the layouts of the first class and of the last,
-/// and the fields of the instance.
+/// Asserts the layouts of the first class and the last, and the fields of the instance, which has `count` bytes. `above` is the superclass
+/// of the last class.
 fn expect_chain(
     rt: &impl Abort,
     alloc: Global,
@@ -113,7 +113,7 @@ fn live_heap(alloc: Global) -> Result<LiveHeap, Fail> {
     Ok(live)
 }
 
-/// Checks that the instance waits, and that this is the layout of class 1.
+/// Asserts that the instance waits, and that class 1 has this layout.
 fn expect_waiting(
     rt: &impl Abort,
     alloc: Global,
@@ -125,7 +125,7 @@ fn expect_waiting(
     Ok(())
 }
 
-/// Gives a class that is not the last to come; after it the layout of class 1 misses that class.
+/// Gives a class that is not the last to come. After it, the layout of class 1 misses that class.
 fn give_early(
     rt: &impl Abort,
     alloc: Global,
@@ -137,7 +137,7 @@ fn give_early(
     expect_waiting(rt, alloc, live, Shape::Missing(missing))
 }
 
-/// Gives the class that comes last; after it the instance is laid, and class 1 has a slot of each class.
+/// Gives the class that comes last. After it, the instance is laid, and class 1 has a slot of each class.
 fn give_last(rt: &impl Abort, alloc: Global, live: &mut LiveHeap, id: u64) -> Result<(), Fail> {
     let slots = all_slots(alloc)?;
     give_class(alloc, live, id, 0)?;
@@ -165,7 +165,7 @@ fn classes_descend(rt: HostRuntime) -> Result<(), Fail> {
     give_last(&rt, rt.alloc(), &mut live, 1)
 }
 
-/// Checks a live heap of the instance and of the classes below that one.
+/// Asserts the answers of a live heap of the instance and all classes. `above` is the superclass of the last one.
 fn expect_unlaid(
     rt: &impl Abort,
     alloc: Global,

@@ -53,7 +53,7 @@ const NARROW_99: &[u8] = b"\x20\0\0\0\x63\0\0\0\x01\0\0\0\0\
 /// Instance 200 of class 100: 7, and a reference to 201.
 const NARROW_200: &[u8] = b"\x21\0\0\0\xc8\0\0\0\x01\0\0\0\x64\0\0\0\x08\0\0\0\x07\0\0\0\xc9";
 
-/// Puts the edges of class 100 and of instance 200, as they stand in the heap.
+/// Puts the edges of class 100 and of instance 200.
 fn put_rows(
     heap: &Heap,
     known: &KnownLayouts,
@@ -78,7 +78,7 @@ fn put_instance(
     Ok(field_edges(known, 300, 100, bytes, IdSize::Four, references, list)?)
 }
 
-/// Returns the edges that both put.
+/// Returns the edges that the two functions above put.
 fn edges_put() -> [Edge; 5] {
     [
         edge(100, Via::Parent, 0, 99),
@@ -89,7 +89,7 @@ fn edges_put() -> [Edge; 5] {
     ]
 }
 
-/// Checks the edges that both put, and that a class without a layout puts none.
+/// Asserts the edges that they put, and that a class without a layout has none.
 fn expect_edges(
     rt: &impl Abort,
     alloc: Global,

@@ -1,4 +1,4 @@
-//! Dumps that are found in a heap, and fields of objects that have none.
+//! Looking up dumps in a heap, and the fields of objects that have none.
 
 use crate::expecting::{equal, equal_at};
 use crate::samples::heap_of;
@@ -16,8 +16,7 @@ use std::test::*;
 /// Own field 7 of type byte.
 const BYTE: &[u8] = b"\0\0\0\x07\x08";
 
-/// Class 95 below class 100, which is not there, and objects in no order: an array of chars, an instance of class 95, an array of one
-/// object.
+/// Class 95, whose superclass 100 is missing, and objects in no order: an array of chars, an instance of class 95, an array of one object.
 const SUBS: [&[u8]; 4] = [
     b"\x23\0\0\0\x63\0\0\0\x01\0\0\0\x01\x05cd",
     b"\x20\0\0\0\x5f\0\0\0\x01\0\0\0\x64\0\0\0\0\0\0\0\0\0\0\0\0\0\0\0\0\0\0\0\0\0\0\0\0\
@@ -26,7 +25,7 @@ const SUBS: [&[u8]; 4] = [
     b"\x22\0\0\0\x62\0\0\0\x01\0\0\0\x01\0\0\0\x64\0\0\0\x63",
 ];
 
-/// Returns what is told of class 95.
+/// Returns the dump of class 95.
 fn class_95() -> Result<ClassDump<'static>, Fail> {
     let ids = IdSize::Four;
     Ok(ClassDump {
@@ -45,7 +44,7 @@ fn class_95() -> Result<ClassDump<'static>, Fail> {
     })
 }
 
-/// Checks the classes of a heap.
+/// Asserts the classes of a heap.
 fn expect_classes(rt: &impl Abort, heap: &Heap) -> Result<(), Fail> {
     equal(rt, find_class(heap, 95), Some(class_95()?));
     for id in [98, 100] {
@@ -71,7 +70,7 @@ fn reason_in(fields: &Fields) -> &'static str {
     }
 }
 
-/// Returns what is told of object 97, 98 or 99.
+/// Returns the dump of object 97, 98 or 99.
 fn object_of(id: u64) -> Option<ObjectDump<'static>> {
     Some(match id {
         97 => ObjectDump::Instance {
@@ -106,7 +105,7 @@ fn objects(rt: HostRuntime) -> Result<(), Fail> {
     Ok(())
 }
 
-/// Checks the reasons why objects of a heap have no fields.
+/// Asserts the reasons why objects of a heap have no fields.
 fn expect_reasons(rt: &impl Abort, alloc: Global, heap: &Heap) -> Result<(), Fail> {
     for (id, reason) in [
         (97, "class 100 is missing"),
@@ -125,7 +124,7 @@ fn objects_without_fields(rt: HostRuntime) -> Result<(), Fail> {
     expect_reasons(&rt, rt.alloc(), &heap_of(rt.alloc(), &SUBS)?)
 }
 
-/// Checks the table of objects of a heap.
+/// Asserts the table of objects of a heap.
 fn expect_objects(rt: &impl Abort, heap: &Heap) {
     equal(rt, table_len(heap, Table::Objects), 3);
     let mut facts = table_facts(heap, Table::Objects);

@@ -17,7 +17,7 @@ const DUMPS: [Dump<'_>; 4] = [
     Dump::Class(100, 0, b"\0\0\0\x05\x02"),
 ];
 
-/// Checks that these are the edges to identifiers, while the live heap is there and in its index.
+/// Asserts the edges to identifiers, in the live heap and in its index.
 fn expect_edges(
     rt: &impl Abort,
     alloc: Global,

@@ -11,7 +11,7 @@ pub(crate) const BYTES: &[u8] = b"\0\0\0\x07\0\0\0\xc9\xff";
 /// The own fields of class 100: name 5 of type int, and name 6 of type object.
 pub(crate) const INT_AND_OBJECT: &[u8] = b"\0\0\0\x05\x0a\0\0\0\x06\x02";
 
-/// Those of class 99: name 7 of type byte.
+/// The own field of class 99: name 7 of type byte.
 pub(crate) const BYTE: &[u8] = b"\0\0\0\x07\x08";
 
 pub(crate) const INSTANCE: Dump<'_> = Dump::Instance(200, 100, BYTES);
@@ -70,10 +70,10 @@ pub(crate) const TO_PARENT: Edge = Edge {
     to: 99,
 };
 
-/// The edges to identifiers if the instance has no layout.
+/// The edges to identifiers before the instance is laid.
 pub(crate) const ALONE: &[(u64, &[Edge])] = &[(201, &[]), (100, &[TO_CLASS])];
 
-/// The edges to identifiers if it was laid.
+/// The edges to identifiers after it is laid.
 pub(crate) const LAID: &[(u64, &[Edge])] = &[
     (201, &[BY_FIELD]),
     (100, &[TO_CLASS]),

@@ -1,4 +1,4 @@
-//! The answers of a live heap after each fact, if classes come late, and its answers at the end.
+//! The answers of a live heap after each fact when classes come late, and its answers at the end.
 
 use crate::answers::{Shape, expect_counts, expect_indexed, expect_layout_now, expect_referrers};
 use crate::expecting::equal;
@@ -17,7 +17,7 @@ use std::test::*;
 /// The edges to identifiers.
 type Referrers<'a> = &'a [(u64, &'a [Edge])];
 
-/// A dump, and the answers of a live heap after it: the layout of a class, the number of instances that wait and of those that were laid,
+/// A dump, and the answers of a live heap after it: the layout of a class, the number of instances that wait, the number that were laid,
 /// and the edges to identifiers.
 type Step<'a> = (Dump<'a>, (u64, Shape<'a>), [u64; 2], Referrers<'a>);
 
@@ -55,10 +55,10 @@ const INSTANCE_BETWEEN: &[Step<'_>] = &[
     (LOWER, SLOTS_OF_100, [0, 1], LAID),
 ];
 
-/// Class 99 below class 100.
+/// Class 99, whose superclass is class 100.
 const UPPER_BELOW: Dump<'_> = Dump::Class(99, 100, BYTE);
 
-/// Both classes run in a circle.
+/// The superclasses of both classes form a cycle.
 const CIRCLE: &[Step<'_>] = &[
     (LOWER, NO_SUPERCLASS, [0, 0], &[(201, &[])]),
     (INSTANCE, NO_SUPERCLASS, [1, 0], ALONE),
@@ -66,7 +66,7 @@ const CIRCLE: &[Step<'_>] = &[
     (UPPER_BELOW, (99, Shape::Cyclic), [1, 0], &[(201, &[])]),
 ];
 
-/// Class 98 below class 99.
+/// Class 98, whose superclass is class 99.
 const THIRD: Dump<'_> = Dump::Class(98, 99, BYTE);
 
 const SLOTS_OF_98: &[Slot] = &[
@@ -130,7 +130,7 @@ const CLASS_0: &[Step<'_>] = &[
     ),
 ];
 
-/// Takes a step.
+/// Gives a dump, and asserts the answers after it.
 fn go(rt: &impl Abort, alloc: Global, live: &mut LiveHeap, step: &Step<'_>) -> Result<(), Fail> {
     let (dump, (class, layout), [unresolved, cuts], referrers) = *step;
     give(alloc, live, dump)?;
@@ -140,7 +140,7 @@ fn go(rt: &impl Abort, alloc: Global, live: &mut LiveHeap, step: &Step<'_>) -> R
     Ok(())
 }
 
-/// Takes all steps, and checks that the heap at the end has so many facts, and an index of the same edges as the live heap.
+/// Takes all steps, and asserts that the heap at the end has `count` facts, and an index with the edges of the live heap.
 fn go_all(rt: &impl Abort, alloc: Global, steps: &[Step<'_>], count: u128) -> Result<(), Fail> {
     let mut live = LiveHeap::new(alloc);
     for step in steps {

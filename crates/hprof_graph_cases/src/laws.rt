@@ -1,6 +1,6 @@
-//! The laws of the definitions above the heap.
+//! The laws of the crates above hprof_heap.
 
-/// Calls each of them. They do nothing.
+/// Calls each law.
 pub fn call_laws() {
     hprof_layouts::laws::one_layout();
     hprof_layouts::laws::one_answer_of_fields();

@@ -1,4 +1,4 @@
-//! Known layouts, kept as classes come, and an instance laid by them.
+//! Known layouts, updated as classes come, and an instance that is laid with them.
 
 use crate::expecting::{equal, equal_at};
 use crate::samples::{CLASS_99, CLASS_99_BELOW, CLASS_100, INSTANCE_200, heap_of};
@@ -12,7 +12,7 @@ use std::test::*;
 /// The bytes of instance 200.
 const BYTES: &[u8] = b"\0\0\0\x07\0\0\0\xc9\xff";
 
-/// Checks what is laid by the layouts of classes 100, 101 and 0.
+/// Asserts the references that the layouts of classes 100, 101 and 0 give.
 fn expect_laid(rt: &impl Abort, alloc: Global, known: &KnownLayouts) -> Result<(), Fail> {
     let mut references = Vec::new(alloc);
     references.push(Reference { place: 5, to: 9 })?;
@@ -53,7 +53,7 @@ fn types_that_refer(rt: HostRuntime) {
     equal(&rt, found, (true, false));
 }
 
-/// Checks that class 100 is known once class 99 has come, and not before.
+/// Asserts that the layout of class 100 is known once class 99 has come, and not before.
 fn expect_woken(rt: &impl Abort, alloc: Global, heap: &Heap) -> Result<(), Fail> {
     let (Some(lower), Some(upper)) = (find_class(heap, 100), find_class(heap, 99)) else {
         return Err("the classes are there".into());

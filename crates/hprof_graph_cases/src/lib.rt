@@ -1,7 +1,6 @@
-//! Tests of what stands above the heap, through public calls: what is found in it, known layouts, edges, distances and paths. What it has
-//! of its own calls each law of their definitions, and of live heaps.
-//! Tests of live heaps, through public calls: after each fact, in any order, in long chains and in conflict, beside a plain list that is
-//! searched anew; and of layouts in long chains. [`one_fact`] is a caller that meets each premise of their promises.
+//! Tests of the crates of the graph, through public calls: look-ups, layouts, edges, distances and paths; and of live heaps, after each
+//! fact, in any order, in long chains and in conflict. [`one_fact`] is a caller that meets the premises of a live heap's contracts, and
+//! [`call_laws`] calls each law.
 #![tactic(auto)]
 
 #[cfg(test)]

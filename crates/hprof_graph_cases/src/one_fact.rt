@@ -1,4 +1,4 @@
-//! A caller of a live heap, which meets each premise of its promises.
+//! A caller of a live heap, which meets the premises of its contracts.
 
 ghost use Rattle.std.specs.Prelude.{◌≡◌, ℕ, length, IfOk, IfSome};
 ghost use Rattle.hprof_items.specs.FactValue.{ListsHave, value_of};
@@ -17,7 +17,7 @@ use hprof_layouts::Layout;
 use hprof_stream::{Sink, SinkFault};
 use std::alloc::Global;
 
-/// The answers of a live heap of one fact about an identifier, and its heap.
+/// The answers of a live heap of one fact about an identifier.
 #[derive(Drop)]
 pub struct Answers<'a> {
     /// The fact.
@@ -34,7 +34,7 @@ pub struct Answers<'a> {
     pub found: Result<(Heap, Index), Refusal>,
 }
 
-/// Gives a new live heap a part of one fact.
+/// Gives a part of one fact to a live heap.
 fn give_one(
     alloc: Global,
     header: Header,
@@ -64,8 +64,8 @@ fn count(edges: Live<&[Edge]>) -> Live<usize>
     }
 }
 
-/// Gives a new live heap the sub-record at the front of the bytes, and asks all that it answers. None if no sub-record is there, or
-/// memory is refused.
+/// Gives the sub-record at the front of the bytes to a new live heap, and returns all its answers. Returns `None` if there is no
+/// sub-record, or memory runs out.
 pub fn answers_of_one_fact(
     alloc: Global,
     header: Header,

@@ -1,4 +1,4 @@
-//! Random orders of small heaps: after each fact all that is asked is compared with a plain list, which is searched anew.
+//! Small heaps in random order. After each fact, all answers are compared with those of a plain list.
 
 use crate::answers::{expect_counts, expect_layout_now, expect_referrers, shape_of};
 use crate::expecting::{equal, equal_at};
@@ -15,8 +15,8 @@ use std::test::*;
 
 const OBJECT: &[u8] = b"\0\0\0\x05\x02";
 
-/// The classes 4 to 6 run in a circle, and 8 misses its superclass. A class has a field of type object or none. The instance 10 has
-/// fewer bytes than its layout.
+/// The superclasses of the classes 4 to 6 form a cycle, and the superclass of 8 is missing. A class has a field of type object or none. The
+/// instance 10 has fewer bytes than its layout.
 const CIRCLE_AND_GAP: [Dump<'_>; 13] = [
     Dump::Class(1, 0, OBJECT),
     // Index 3 of type object, and name 6 of type array.
@@ -42,8 +42,8 @@ const CIRCLE_AND_GAP: [Dump<'_>; 13] = [
     Dump::Objects(15, 2, b"\0\0\0\x0c\0\0\0\x0b\0\0\0\x0c"),
 ];
 
-/// The classes 5, 1, 2 and 3 are one above the other, 4 is above itself, and 14 never comes. There is an array of the identifier of a
-/// class, and an instance of class 0. The instance 10 has more bytes than its layout.
+/// The classes 5, 1, 2 and 3 form a chain of superclasses, 4 is its own superclass, and 14 is missing. An array has the identifier of a
+/// class, and an instance has class 0. The instance 10 has more bytes than its layout.
 const CHAIN_OF_MANY_TYPES: [Dump<'_>; 13] = [
     // Name 5 of type byte, and name 6 of type object.
     Dump::Class(1, 2, b"\0\0\0\x05\x08\0\0\0\x06\x02"),
@@ -73,14 +73,14 @@ const CHAIN_OF_MANY_TYPES: [Dump<'_>; 13] = [
     Dump::Numbers(8, Basic::Int, b"\0\0\0\x09"),
 ];
 
-/// Returns the next of numbers that look random.
+/// Returns the next pseudo-random number.
 fn next_random(random: u64) -> u64 {
     random
         .wrapping_mul(6_364_136_223_846_793_005)
         .wrapping_add(1_442_695_040_888_963_407)
 }
 
-/// Puts dumps into an order that a number stands for.
+/// Shuffles dumps, with this seed.
 fn shuffle(dumps: &mut [Dump<'_>], seed: u64) {
     let mut random = seed;
     for place in 0..dumps.len() {
@@ -90,7 +90,7 @@ fn shuffle(dumps: &mut [Dump<'_>], seed: u64) {
     }
 }
 
-/// Returns dumps, and one of them again. A number stands for their order, and for the one that comes again.
+/// Returns dumps in an order that depends on the seed, with one of them twice.
 fn order_of<'a>(alloc: Global, dumps: &[Dump<'a>], seed: u64) -> Result<Vec<Dump<'a>>, Fail> {
     let again = (seed as usize).checked_rem(dumps.len()).ok_or("no dumps")?;
     let mut order = Vec::from_slice(alloc, dumps)?;
@@ -108,7 +108,7 @@ fn facts_of<'a>(alloc: Global, dumps: &[Dump<'a>]) -> Result<Vec<Fact<'a>>, Fail
     Ok(facts)
 }
 
-/// Checks that the answers of a live heap are those of a search of the facts that came.
+/// Asserts that the answers of a live heap are those of the plain list.
 fn expect_anew(
     rt: &impl Abort,
     alloc: Global,
@@ -127,7 +127,7 @@ fn expect_anew(
     Ok(())
 }
 
-/// Returns the live heap of dumps in that order. After each of them its answers are those of the list.
+/// Returns the live heap of dumps in this order. Asserts its answers after each of them.
 fn give_in_order(rt: &impl Abort, alloc: Global, order: &[Dump<'_>]) -> Result<LiveHeap, Fail> {
     let mut live = LiveHeap::new(alloc);
     let mut came = Vec::new(alloc);
@@ -142,7 +142,7 @@ fn give_in_order(rt: &impl Abort, alloc: Global, order: &[Dump<'_>]) -> Result<L
     Ok(live)
 }
 
-/// Checks the edges of an identifier in a heap, and those to it in its index.
+/// Asserts the edges from an identifier in a heap, and the edges to it in its index.
 fn expect_edges(
     rt: &impl Abort,
     alloc: Global,
@@ -158,7 +158,7 @@ fn expect_edges(
     Ok(())
 }
 
-/// Checks that the heap at the end, and its index, have the edges of the dumps.
+/// Asserts that the heap at the end, and its index, have the edges of the dumps.
 fn expect_found(
     rt: &impl Abort,
     alloc: Global,
@@ -172,7 +172,7 @@ fn expect_found(
     Ok(())
 }
 
-/// Checks that with this dump, which has the key of another, nothing is answered.
+/// Asserts that a live heap is in conflict after this dump, which has the key of another.
 fn expect_conflict(
     rt: &impl Abort,
     alloc: Global,
@@ -191,7 +191,7 @@ fn expect_conflict(
     Ok(())
 }
 
-/// Checks a hundred orders of dumps. Each fourth ends with another dump, which has the key of one of them.
+/// Tests a hundred orders of dumps. Every fourth ends with another dump, which has the key of one of them.
 fn check_orders(
     rt: &impl Abort,
     alloc: Global,

@@ -1,4 +1,4 @@
-//! What is to be answered of facts: they stand in a plain list, which is searched anew for each answer.
+//! The expected answers, from a plain list of facts that is searched anew for each.
 
 use crate::answers::edge;
 use hprof_edges::{Edge, Via};
@@ -234,14 +234,14 @@ pub(crate) fn edges_in(alloc: Global, facts: &[Fact<'_>]) -> Result<Vec<Edge>, A
     Ok(edges)
 }
 
-/// Returns those to an identifier.
+/// Returns the edges to an identifier.
 pub(crate) fn edges_to(alloc: Global, edges: &[Edge], id: u64) -> Result<Vec<Edge>, AllocError> {
     let mut found = Vec::from_slice(alloc, edges)?;
     found.retain(|edge| edge.to == id);
     Ok(found)
 }
 
-/// Returns those from an identifier.
+/// Returns the edges from an identifier.
 pub(crate) fn edges_from(alloc: Global, edges: &[Edge], id: u64) -> Result<Vec<Edge>, AllocError> {
     let mut found = Vec::from_slice(alloc, edges)?;
     found.retain(|edge| edge.from == id);

@@ -1,4 +1,4 @@
-//! Distances and paths, as `Reach` answers them.
+//! Distances and paths from GC roots.
 
 use crate::expecting::equal_at;
 use crate::samples::{CLASS_99, CLASS_100, INSTANCE_200, heap_of};
@@ -7,7 +7,7 @@ use std::alloc::Global;
 use std::process::Abort;
 use std::test::*;
 
-/// Arrays that lead from 16 on, and to which nothing leads from 20; then roots of 16 and of 119, which has no dump.
+/// Arrays 16 to 19 that 16 leads to, an array 20 that nothing refers to, and roots of 16 and of 119, which has no dump.
 const SUBS: [&[u8]; 7] = [
     b"\x22\0\0\0\x10\0\0\0\x01\0\0\0\x03\0\0\0\x64\0\0\0\x11\0\0\0\x12\0\0\0\x99",
     b"\x22\0\0\0\x11\0\0\0\x01\0\0\0\x01\0\0\0\x64\0\0\0\x13",
@@ -18,7 +18,7 @@ const SUBS: [&[u8]; 7] = [
     b"\x05\0\0\0\x77",
 ];
 
-/// An instance below classes 100 and 99, and a Java frame that keeps it alive.
+/// An instance of class 100, whose superclass is 99, and a Java frame that keeps it alive.
 const INSTANCE_IN_FRAME: [&[u8]; 4] = [
     INSTANCE_200,
     CLASS_100,
@@ -26,12 +26,12 @@ const INSTANCE_IN_FRAME: [&[u8]; 4] = [
     b"\x03\0\0\0\xc8\0\0\0\x01\0\0\0\0",
 ];
 
-/// Returns what is reached in a heap of these sub-records.
+/// Returns the distances and paths in a heap of these sub-records.
 fn reach_in(alloc: Global, subs: &[&[u8]]) -> Result<Reach, Fail> {
     Ok(reach_of(alloc, &heap_of(alloc, subs)?)?)
 }
 
-/// Checks the distance of an identifier, and its path.
+/// Asserts the distance of an identifier, and its path.
 fn expect_reach(
     rt: &impl Abort,
     alloc: Global,
@@ -46,7 +46,7 @@ fn expect_reach(
     Ok(())
 }
 
-/// Checks that these identifiers are reached, at which distance, and by which path.
+/// Asserts that these identifiers are reached, with these distances and paths.
 fn expect_reached(
     rt: &impl Abort,
     alloc: Global,
@@ -59,7 +59,7 @@ fn expect_reached(
     Ok(())
 }
 
-/// Checks that these identifiers are not reached.
+/// Asserts that these identifiers are not reached.
 fn expect_unreached(
     rt: &impl Abort,
     alloc: Global,

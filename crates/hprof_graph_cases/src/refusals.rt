@@ -1,4 +1,4 @@
-//! The answers of a live heap before any part, if two sizes were begun or a key has two contents, and after a fault.
+//! The answers of a live heap before any part, with two identifier sizes, with a conflict, and after a fault.
 
 use crate::answers::{Shape, expect_counts, expect_layout_now, expect_referrers, live_shape};
 use crate::expecting::{equal, equal_at};
@@ -13,7 +13,7 @@ use std::alloc::Global;
 use std::process::Abort;
 use std::test::*;
 
-/// Checks that a live heap answers this, whatever it is asked. It takes no memory.
+/// Asserts that a live heap has this answer to every query. Allocates nothing.
 fn expect_always(
     rt: &impl Abort,
     alloc: Global,
@@ -30,7 +30,7 @@ fn expect_always(
     equal(rt, live.referrers_now(201), edges);
 }
 
-/// Checks that a live heap answers to everything that it is in conflict, and why its heap is refused.
+/// Asserts that a live heap answers every query with `InConflict`, and that its heap is refused for this reason.
 fn expect_conflict(rt: &impl Abort, alloc: Global, live: LiveHeap, refusal: Refusal) {
     let mut live = live;
     expect_always(
@@ -66,7 +66,7 @@ fn no_part_two_sizes_and_two_contents(rt: HostRuntime) -> Result<(), Fail> {
     Ok(())
 }
 
-/// Checks that a live heap answers to everything that it failed.
+/// Asserts that a live heap answers every query with `Failed`.
 fn expect_failed(rt: &impl Abort, alloc: Global, live: LiveHeap) {
     let mut live = live;
     expect_always(
@@ -82,7 +82,7 @@ fn expect_failed(rt: &impl Abort, alloc: Global, live: LiveHeap) {
     equal(rt, live.finish().err(), Some(Refusal::Failed));
 }
 
-/// Checks that the instance was laid.
+/// Asserts that the instance was laid.
 fn expect_laid(rt: &impl Abort, alloc: Global, live: &mut LiveHeap) -> Result<(), Fail> {
     let layout = Live::Is(Shape::Known(SLOTS));
     expect_layout_now(rt, alloc, live, 100, layout)?;
@@ -91,7 +91,7 @@ fn expect_laid(rt: &impl Abort, alloc: Global, live: &mut LiveHeap) -> Result<()
     Ok(())
 }
 
-/// If memory runs out in the live heap, it has failed from then on, and the test ends with that fault.
+/// If memory runs out in the live heap, it answers `Failed` from then on, and the test ends.
 #[test]
 fn refused_memory(rt: HostRuntime) -> Result<(), Fail> {
     let alloc = rt.alloc();

@@ -11,7 +11,7 @@ use std::test::Fail;
 pub(crate) const INSTANCE_200: &[u8] =
     b"\x21\0\0\0\xc8\0\0\0\x01\0\0\0\x64\0\0\0\x09\0\0\0\x07\0\0\0\xc9\xff";
 
-/// Class 100 below class 99, with own fields 5 of type int and 6 of type object.
+/// Class 100, whose superclass is class 99, with own fields 5 of type int and 6 of type object.
 pub(crate) const CLASS_100: &[u8] = b"\x20\0\0\0\x64\0\0\0\x01\0\0\0\x63\
     \0\0\0\0\0\0\0\0\0\0\0\0\0\0\0\0\0\0\0\0\0\0\0\x09\0\0\0\0\0\x02\0\0\0\x05\x0a\0\0\0\x06\x02";
 
@@ -19,7 +19,7 @@ pub(crate) const CLASS_100: &[u8] = b"\x20\0\0\0\x64\0\0\0\x01\0\0\0\x63\
 pub(crate) const CLASS_99: &[u8] = b"\x20\0\0\0\x63\0\0\0\x01\0\0\0\0\
     \0\0\0\0\0\0\0\0\0\0\0\0\0\0\0\0\0\0\0\0\0\0\0\x01\0\0\0\0\0\x01\0\0\0\x07\x08";
 
-/// The same below class 100.
+/// Class 99, whose superclass is class 100.
 pub(crate) const CLASS_99_BELOW: &[u8] = b"\x20\0\0\0\x63\0\0\0\x01\0\0\0\x64\
     \0\0\0\0\0\0\0\0\0\0\0\0\0\0\0\0\0\0\0\0\0\0\0\x01\0\0\0\0\0\x01\0\0\0\x07\x08";
 

@@ -1,4 +1,4 @@
-//! Class dumps, found in a heap.
+//! Looking up class dumps in a heap.
 
 ghost use Rattle.std.specs.Prelude.{◌≡◌, ◌≢◌, IfNone, IfSome, find};
 ghost use Rattle.std.specs.Option.{option_map};
@@ -16,7 +16,7 @@ use crate::heap_facts::holds_of_heap;
 use hprof_items::Fact;
 use hprof_tables::Finger;
 
-/// Returns the fact with the key of a class.
+/// Returns the fact with the key of a class dump.
 #[inline(always)]
 fn class_fact<'a>(heap: &'a Heap, class: u64, near: &mut Finger) -> Option<Fact<'a>>
     ensures value { option_map value_of result ≡ find (has_key (keys.Class class)) (facts_of heap.now) }
@@ -25,7 +25,7 @@ fn class_fact<'a>(heap: &'a Heap, class: u64, near: &mut Finger) -> Option<Fact<
     heap.class_near(class, near)
 }
 
-/// Returns the dump of a fact that is a class dump, or `None` for another fact.
+/// Returns the dump of a fact, or `None` if the fact is no class dump.
 #[inline(always)]
 pub fn to_class_dump<'a>(fact: &Fact<'a>) -> Option<ClassDump<'a>>
     ensures found { IfSome result (λ dump. fact_of_class (class_value dump) ≡ value_of fact.now) }
@@ -72,10 +72,10 @@ pub fn find_class(heap: &Heap, class: u64) -> Option<ClassDump<'_>>
     find_class_near(heap, class, &mut Finger::start())
 }
 
-/// Returns the dump of a class, as [`find_class`] does, and looks for it near a place first.
+/// Returns the dump of a class, as [`find_class`] does, looking near a place first.
 ///
-/// `near` is set to the place of the dump, so that classes that are asked for in order of their identifiers are found one behind the other.
-/// The answer is the same for every `near`.
+/// `near` is set to the place of the dump, so classes that are asked for in order of their identifiers are found faster. The answer is the
+/// same for every `near`.
 #[inline(always)]
 pub fn find_class_near<'a>(heap: &'a Heap, class: u64, near: &mut Finger) -> Option<ClassDump<'a>>
     ensures { IsFoundClass (size_of heap.now) (facts_of heap.now) class result }

@@ -1,12 +1,11 @@
-//! The comparison of two heaps.
+//! Comparing two heaps.
 
 ghost use Rattle.std.specs.Prelude.{◌≡◌, ◌↔◌, IsTrue};
 ghost use Rattle.hprof_heap.specs.Heap.{heap_of};
 
 use crate::heap::Heap;
 
-/// Returns whether two heaps have one size of identifiers, one time and the same facts. Each is gone over once, side by side with the
-/// other, and no memory is taken.
+/// Returns whether two heaps have the same identifier size, the same time and the same facts. Walks over both once, and allocates nothing.
 pub fn same(one: &Heap, other: &Heap) -> bool
     ensures { IsTrue result ↔ (heap_of one.now ≡ heap_of other.now) }
 {

@@ -1,4 +1,4 @@
-//! Sinks that gather parts.
+//! Sinks that make a heap of parts.
 
 ghost use Rattle.std.specs.Prelude.{◌≡◌, ℕ, List, false, IfOk};
 ghost use Rattle.hprof_items.specs.FactValue.{FactValue};
@@ -9,8 +9,8 @@ use crate::heap::Heap;
 use crate::standing::Refusal;
 use hprof_stream::Sink;
 
-/// A sink that unites the facts of parts as a [`Gatherer`] does, and gives their heap at the end: by itself, or with the data that it kept
-/// beside it while they came.
+/// A sink that unites the facts of parts, as a [`Gatherer`] does, and returns their heap at the end, alone or with data that it derived
+/// from the facts.
 pub trait Gather: Sink {
     ghost use Rattle.hprof_items.specs.declared.header.Header.{Header};
     ghost use Rattle.hprof_stream.specs.declared.sink.SinkFault.{SinkFault};
@@ -29,11 +29,12 @@ pub trait Gather: Sink {
     // What it gave lists what refers to that identifier in the heap.
     ghost lists: { Self.Found → ℕ → Type 0 };
 
-    /// The heap, by itself or with the data that was kept beside it.
+    /// The result: the heap, alone or with the derived data.
     type Found: Drop;
 
-    /// Returns the heap of all facts that were given, with the data that was kept beside it. A fault comes first, then no parts, then two
-    /// sizes, then a conflict.
+    /// Returns the heap of all facts, with the derived data.
+    ///
+    /// The first of these that applies is the refusal: a fault, no parts, two identifier sizes, a conflict.
     fn finish(self) -> Result<Self::Found, Refusal>
         ensures answer { seen_in heap_in result ≡ answer_of (gathered self) }
         ensures told { (parts : List Given) → Gathers nothing_gathered parts (gathered self) → Tells parts (seen_in heap_in result) }
@@ -56,7 +57,7 @@ pub trait Gather: Sink {
         → (id : ℕ) → watches old id → watches new id };
 }
 
-/// The heap by itself.
+/// The heap alone.
 impl Gather for Gatherer {
     ghost use Rattle.std.specs.Prelude.{⊤};
     ghost use Rattle.hprof_heap.specs.Gathering.{gathered};

@@ -15,8 +15,8 @@ use hprof_stream::{Sink, SinkFault};
 use hprof_tables::Stated;
 use std::alloc::Global;
 
-/// Takes the headers and facts of any number of parts, and keeps their union. If a key comes with two contents, it keeps the least such
-/// key.
+/// Takes the headers and the facts of any number of parts, and unites them. If some keys come with two contents, it remembers the least
+/// such key.
 #[derive(Drop)]
 pub struct Gatherer {
     alloc: Global,
@@ -36,7 +36,7 @@ impl Gatherer {
     ghost use Rattle.hprof_stream.specs.declared.sink.SinkFault.TheVariants.{OutOfMemory};
     ghost use Rattle.hprof_heap.specs.Heap.{heap_of};
 
-    /// Returns a gatherer that was given nothing. It takes no memory yet.
+    /// Returns a gatherer of no parts. Allocates nothing.
     pub fn new(alloc: Global) -> Self
         ensures { gathered result ≡ nothing_gathered }
     {
@@ -50,7 +50,7 @@ impl Gatherer {
         }
     }
 
-    /// Returns its standing.
+    /// Returns the standing.
     #[inline(always)]
     pub fn standing(&self) -> Standing
         ensures { result ≡ standing_of_answer (answer_of (gathered self.now)) }
@@ -67,7 +67,7 @@ impl Gatherer {
         Standing::Clean
     }
 
-    /// Returns the heap of the facts so far, if it is clean.
+    /// Returns the heap of the facts so far, or `None` unless the standing is `Clean`.
     #[inline(always)]
     pub fn heap(&self) -> Option<&Heap>
         ensures { option_map (λ heap. heap_of heap.now) result ≡ result_ok (answer_of (gathered self.now)) }
@@ -78,7 +78,9 @@ impl Gatherer {
         }
     }
 
-    /// Returns the heap of all facts that were given. A fault comes first, then no parts, then two sizes, then a conflict.
+    /// Returns the heap of all facts.
+    ///
+    /// The first of these that applies is the refusal: a fault, no parts, two identifier sizes, a conflict.
     pub fn finish(self) -> Result<Heap, Refusal>
         ensures answer { seen_heap result ≡ answer_of (gathered self) }
         // What it says of the parts that were given.
@@ -102,8 +104,8 @@ impl Gatherer {
         }
     }
 
-    /// Takes a fact as `take` does, with the same faults, and returns the result of stating it into the heap. That is `None` if two sizes
-    /// were begun: then no fact is looked at.
+    /// Takes a fact as `take` does, with the same faults, and returns how it compares with the heap: new, the same, or different. Returns
+    /// `None` and ignores the fact if parts of two identifier sizes were begun.
     #[inline(always)]
     pub fn state(&mut self, fact: &Fact<'_>, spelled: &[u8]) -> Result<Option<Stated>, SinkFault>
         requires fits { FitsBegun (gathered self.old).begun (value_of fact.now) }
@@ -138,7 +140,7 @@ impl Gatherer {
         Ok(Some(stated))
     }
 
-    /// Marks the key of a fact that differs from the one that is there.
+    /// Marks the key of a fact that differs from the one in the heap.
     fn mark(&mut self, fact: &Fact<'_>)
         ensures { gathered self.new ≡ record (gathered self.old) {
           conflict =
@@ -155,7 +157,7 @@ impl Gatherer {
     }
 }
 
-/// Returns the key of a fact, if it has one.
+/// Returns the key of a fact, or `None` if it has none.
 fn key_of_fact(fact: &Fact<'_>) -> Option<Key>
     ensures { result ≡ key_of (value_of fact.now) }
 {

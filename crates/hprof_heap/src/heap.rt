@@ -1,4 +1,4 @@
-//! A heap: one size of identifiers, one time, and facts that agree.
+//! A heap: an identifier size, a time, and facts that agree.
 
 ghost use Rattle.std.specs.Prelude.{◌≡◌, [], length, find, min, ◌↔◌, IfSome, IsTrue};
 ghost use Rattle.std.specs.Option.{option_map};
@@ -21,7 +21,7 @@ mod differing;
 mod joining;
 mod stating;
 
-/// A size of identifiers, a time, and a set of facts in which no key has two contents.
+/// An identifier size, a time, and a set of facts in which each key has one content.
 #[derive(Drop)]
 pub struct Heap {
     tables: Tables,
@@ -36,7 +36,7 @@ impl Heap {
     ghost use Rattle.hprof_rows.specs.SubFacts.{sub_facts};
     ghost use Rattle.hprof_rows.specs.SubRows.{subs_left, subs_ids};
 
-    /// Returns a heap without facts. It takes no memory yet.
+    /// Returns a heap without facts. Allocates nothing.
     pub(crate) fn new(alloc: Global, ids: IdSize, millis: u64) -> Self
         ensures { heap_of result ≡ record { ids = ids; millis = millis; facts = [] } }
     {
@@ -58,14 +58,14 @@ impl Heap {
         }
     }
 
-    /// Keeps the lesser of its time and another.
+    /// Sets the time to the lesser of its time and another.
     pub(crate) fn keep_earlier(&mut self, millis: u64)
         ensures { heap_of self.new ≡ record (heap_of self.old) { millis = min (heap_of self.old).millis millis } }
     {
         self.tables.millis = self.tables.millis.min(millis);
     }
 
-    /// Returns the size of its identifiers.
+    /// Returns the identifier size.
     pub fn ids(&self) -> IdSize
         ensures value { result ≡ (heap_of self.now).ids }
         // What every heap keeps: its facts have spellings, and stand in order, each key once.
@@ -74,14 +74,14 @@ impl Heap {
         self.tables.ids
     }
 
-    /// Returns its time: milliseconds since 1 January 1970, 0:00 GMT.
+    /// Returns the time: milliseconds since 1 January 1970, 0:00 GMT.
     pub fn millis(&self) -> u64
         ensures { result ≡ (heap_of self.now).millis }
     {
         self.tables.millis
     }
 
-    /// Returns the name with that identifier.
+    /// Returns the name with this identifier.
     pub fn name(&self, id: u64) -> Option<Fact<'_>>
         ensures { option_map value_of result ≡ find (has_key (keys.Name id)) (heap_of self.now).facts }
     {
@@ -89,7 +89,7 @@ impl Heap {
         Some(Fact::Name { id, text })
     }
 
-    /// Returns the class that was loaded under that serial.
+    /// Returns the class that was loaded with this serial number.
     pub fn load(&self, serial: u32) -> Option<Fact<'_>>
         ensures { option_map value_of result ≡ find (has_key (keys.Load serial)) (heap_of self.now).facts }
     {
@@ -97,7 +97,7 @@ impl Heap {
         Some(row.fact(serial))
     }
 
-    /// Returns the name of a class: that which it has in the fact of least serial that loads it.
+    /// Returns the identifier of a class's name, from the load with the least serial number.
     pub fn class_name(&self, class: u64) -> Option<u64>
         ensures { NamesClass (heap_of self.now).facts class result }
     {
@@ -109,7 +109,7 @@ impl Heap {
         None
     }
 
-    /// Returns the frame with that identifier.
+    /// Returns the stack frame with this identifier.
     pub fn frame(&self, id: u64) -> Option<Fact<'_>>
         ensures { option_map value_of result ≡ find (has_key (keys.Frame id)) (heap_of self.now).facts }
     {
@@ -117,7 +117,7 @@ impl Heap {
         Some(row.fact(id))
     }
 
-    /// Returns the thread that was started under that serial.
+    /// Returns the thread that was started with this serial number.
     pub fn thread(&self, serial: u32) -> Option<Fact<'_>>
         ensures { option_map value_of result ≡ find (has_key (keys.Thread serial)) (heap_of self.now).facts }
     {
@@ -125,7 +125,7 @@ impl Heap {
         Some(row.fact(serial))
     }
 
-    /// Returns the stack with that serial.
+    /// Returns the stack trace with this serial number.
     pub fn trace(&self, serial: u32) -> Option<Fact<'_>>
         ensures value { option_map value_of result ≡ find (has_key (keys.Trace serial)) (heap_of self.now).facts }
         ensures lists { IfSome result (ListsHave (heap_of self.now).ids) }
@@ -134,7 +134,7 @@ impl Heap {
         Some(kept_trace(serial, kept, self.tables.ids))
     }
 
-    /// Returns the class with that identifier.
+    /// Returns the class dump with this identifier.
     #[inline(always)]
     pub fn class(&self, id: u64) -> Option<Fact<'_>>
         ensures value { option_map value_of result ≡ find (has_key (keys.Class id)) (heap_of self.now).facts }
@@ -143,8 +143,8 @@ impl Heap {
         self.class_near(id, &mut Finger::start())
     }
 
-    /// Returns the class with that identifier, which is looked for near a finger. Its place is noted there, so that classes that are asked for
-    /// in order of their identifiers are found one behind the other.
+    /// Returns the class dump with this identifier, looking near the finger first, and moves the finger there. Class dumps that are asked
+    /// for in order of their identifiers are found faster.
     #[inline(always)]
     pub fn class_near(&self, id: u64, near: &mut Finger) -> Option<Fact<'_>>
         ensures value { option_map value_of result ≡ find (has_key (keys.Class id)) (heap_of self.now).facts }
@@ -154,7 +154,7 @@ impl Heap {
         Some(spelled_fact(bytes, self.tables.ids))
     }
 
-    /// Returns the instance or the array with that identifier.
+    /// Returns the instance or the array with this identifier.
     #[inline(always)]
     pub fn object(&self, id: u64) -> Option<Fact<'_>>
         ensures value { option_map value_of result ≡ find (has_key (keys.Object id)) (heap_of self.now).facts }
@@ -163,7 +163,7 @@ impl Heap {
         self.object_near(id, &mut Finger::start())
     }
 
-    /// Returns the instance or the array with that identifier, which is looked for near a finger, as a class is by `class_near`.
+    /// Returns the instance or the array with this identifier, looking near the finger first, as `class_near` does.
     #[inline(always)]
     pub fn object_near(&self, id: u64, near: &mut Finger) -> Option<Fact<'_>>
         ensures value { option_map value_of result ≡ find (has_key (keys.Object id)) (heap_of self.now).facts }
@@ -173,7 +173,7 @@ impl Heap {
         Some(kept_fact(id, kept, self.tables.ids))
     }
 
-    /// Returns the facts of a table, in canonical order, each borrowed from the heap.
+    /// Returns an iterator over the facts of a table, in canonical order. The facts borrow from the heap.
     pub fn rows(&self, table: Table) -> Facts<'_>
         ensures all { facts_left result ≡ facts_of_table table (heap_of self.now).facts }
         ensures ordered { IsCanonicalOrder (facts_left result) }
@@ -182,7 +182,7 @@ impl Heap {
         Facts::new(self.tables.ids, self.tables.rows(table))
     }
 
-    /// Returns the sub-records, in canonical order, as they are kept.
+    /// Returns an iterator over the sub-records, in canonical order, as the heap stores them.
     pub fn sub_rows(&self) -> SubRows<'_>
         ensures all { subs_left result ≡ sub_facts (heap_of self.now).facts }
         ensures ids { subs_ids result ≡ (heap_of self.now).ids }
@@ -195,7 +195,7 @@ impl Heap {
         )
     }
 
-    /// Returns whether both have the same rows of records.
+    /// Returns whether both have the same facts of records.
     pub(crate) fn same_records(&self, other: &Heap) -> bool
         ensures { IsTrue result ↔ HaveSameRecords (rows_in self.now) (rows_in other.now) }
     {
@@ -208,7 +208,7 @@ impl Heap {
             && self.tables.ends.same(&other.tables.ends)
     }
 
-    /// Returns whether both have the same rows of sub-records.
+    /// Returns whether both have the same facts of sub-records.
     pub(crate) fn same_subs(&self, other: &Heap) -> bool
         ensures { IsTrue result ↔ HaveSameSubs (rows_in self.now) (rows_in other.now) }
     {
@@ -224,7 +224,7 @@ impl Heap {
         self.tables.len(table)
     }
 
-    /// Returns the number of its facts.
+    /// Returns the number of facts.
     pub fn count(&self) -> u128
         ensures { result ≡ length (heap_of self.now).facts }
     {

@@ -1,4 +1,4 @@
-//! The answers of a heap, told by its facts.
+//! Answers about a heap, with contracts in terms of its facts.
 
 ghost use Rattle.std.specs.Prelude.{◌≡◌, ◌<◌, ◌^◌, length};
 ghost use Rattle.hprof_rows.specs.declared.table.Table.TheVariants as tables;
@@ -14,7 +14,7 @@ use crate::heap::Heap;
 use hprof_rows::{Facts, Table};
 use hprof_values::IdSize;
 
-/// Does nothing. Its clauses hold of the facts of every heap, for a caller whose proof needs them.
+/// Does nothing. Its contract states what is true of the facts of every heap.
 #[inline(always)]
 pub fn holds_of_heap(heap: &Heap)
     ensures fit { AllFit (size_of heap.now) (facts_of heap.now) }
@@ -27,7 +27,7 @@ pub fn holds_of_heap(heap: &Heap)
     heap.len(Table::Objects);
 }
 
-/// Returns the size of a heap's identifiers.
+/// Returns the identifier size of a heap.
 #[inline(always)]
 pub fn id_size(heap: &Heap) -> IdSize
     ensures value { result ≡ size_of heap.now }
@@ -39,7 +39,7 @@ pub fn id_size(heap: &Heap) -> IdSize
     heap.ids()
 }
 
-/// Returns the facts of a table, in canonical order, each borrowed from the heap.
+/// Returns an iterator over the facts of a table, in canonical order. The facts borrow from the heap.
 pub fn table_facts(heap: &Heap, table: Table) -> Facts<'_>
     ensures all { facts_left result ≡ facts_of_table table (facts_of heap.now) }
     ensures ordered { IsCanonicalOrder (facts_left result) }
@@ -55,7 +55,7 @@ pub fn table_len(heap: &Heap, table: Table) -> usize
     heap.len(table)
 }
 
-/// Returns the name of a class, from the fact of least serial that loads it, or `None` if no fact loads it.
+/// Returns the identifier of a class's name, from the load with the least serial number, or `None` if no load has the class.
 pub fn class_name(heap: &Heap, class: u64) -> Option<u64>
     ensures { NamesClass (facts_of heap.now) class result }
 {

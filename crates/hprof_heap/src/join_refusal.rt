@@ -1,14 +1,14 @@
-//! Reasons why a heap is not joined with another.
+//! Reasons why two heaps are not joined.
 
 use hprof_rows::Key;
 
 /// The reason why a heap is not joined with another.
 #[derive(Clone, Copy, Debug, PartialEq, Eq)]
 pub enum JoinRefusal {
-    /// They have two sizes of identifiers. Nothing has changed.
+    /// They have two identifier sizes. The heap is unchanged.
     IdSizes,
-    /// A key has two contents. It is the least such key, and nothing has changed.
+    /// The least key whose facts differ. The heap is unchanged.
     Conflict(Key),
-    /// Memory was refused. The heap has its facts and some of the other's, and its time. The same join can be made again.
+    /// Memory ran out. The heap has its own facts, some of the other's, and its own time. The same join can be made again.
     OutOfMemory,
 }

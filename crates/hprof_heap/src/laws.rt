@@ -1,4 +1,4 @@
-//! Laws of the definitions. None of these functions does anything.
+//! Laws of the definitions. The contract of each function is a theorem; its body is empty.
 
 ghost use Rattle.std.specs.Prelude.{◌≡◌, List, Result, Ok};
 ghost use Rattle.hprof_items.specs.FactValue.{FactValue};
@@ -12,21 +12,21 @@ ghost use Rattle.hprof_rows.specs.HeapValue.{HeapValue, IsHeap};
 ghost use Rattle.hprof_heap.specs.Join.{IsBetween, IsJoin, IsUnion};
 ghost use Rattle.hprof_rows.specs.Order.{IsCanonicalOrder};
 
-/// A set of facts that agree has a list in canonical order.
+/// Facts that agree have a list in canonical order.
 pub fn agreeing_facts_have_an_order()
     ensures { (facts : List FactValue) → IsConsistent facts
         → (rows : List FactValue) × IsCanonicalOrder rows × SameFacts rows facts }
 {}
 
-/// It has no other such list, and only facts that agree have one.
+/// Facts have at most one list in canonical order, and only facts that agree have one.
 pub fn one_order()
     ensures one { (rows others : List FactValue) → IsCanonicalOrder rows → IsCanonicalOrder others
         → SameFacts rows others → rows ≡ others }
     ensures agree { (rows : List FactValue) → IsCanonicalOrder rows → IsConsistent rows }
 {}
 
-/// The agreement of facts depends on their set, and so does their least conflict. There is one least conflict, and none among facts that
-/// agree.
+/// Whether facts agree depends on their set alone, and so does their least conflict. Facts have at most one least conflict, and none if
+/// they agree.
 pub fn conflicts_are_of_the_set()
     ensures consistent { (facts others : List FactValue) → SameFacts facts others → IsConsistent facts → IsConsistent others }
     ensures least { (facts others : List FactValue) (key : Key) → SameFacts facts others
@@ -36,15 +36,15 @@ pub fn conflicts_are_of_the_set()
     ensures none { (facts : List FactValue) (key : Key) → IsConsistent facts → IsLeastConflict facts key → ⊥ }
 {}
 
-/// The answer of a gatherer that was given nothing but these parts tells of them: the heap of exactly their facts, or the first refusal
-/// that they call for. Its standing and the heap that it lends are those of this answer.
+/// The answer of a gatherer that was given only these parts is determined by them: it is the heap of exactly their facts, or the first
+/// refusal that applies. Its standing, and the heap that it lends, are those of this answer.
 pub fn answers_tell_of_the_parts()
     ensures { (parts : List Given) (gatherer : Gatherer) → Gathers nothing_gathered parts (gathered gatherer)
         → Tells parts (answer_of (gathered gatherer)) }
 {}
 
-/// Two heaps come to one thing, the heap of both or a refusal, and in either order to the same. A heap that is joined with an
-/// equal one is unchanged.
+/// Joining two heaps has one result, a heap or a refusal, and the same in either order. Joining a heap with an equal one leaves it
+/// unchanged.
 pub fn two_heaps_have_one_join()
     ensures exists { (one other : HeapValue) → IsHeap one → IsHeap other → (outcome : Result HeapValue JoinRefusal)
         × IsJoin one other outcome }
@@ -54,7 +54,7 @@ pub fn two_heaps_have_one_join()
         → outcome ≡ Ok heap }
 {}
 
-/// Three heaps that can be joined in one grouping can be joined in the other, and come to the same heap.
+/// If three heaps can be joined in one grouping, they can be joined in the other, with the same result.
 pub fn groups_of_heaps_do_not_matter()
     ensures left { (one other third both all : HeapValue) → IsHeap one → IsHeap other → IsHeap third
         → IsUnion one other both → IsUnion both third all
@@ -65,7 +65,7 @@ pub fn groups_of_heaps_do_not_matter()
     ensures once { (one other all more : HeapValue) → IsUnion one other all → IsUnion one other more → all ≡ more }
 {}
 
-/// A join for which memory ran out can be made again, and then comes to what it would have come to.
+/// A join that ran out of memory can be made again, and then has the result that it would have had.
 pub fn a_join_can_be_made_again()
     ensures { (one other between : HeapValue) (outcome : Result HeapValue JoinRefusal) → IsHeap other
         → IsBetween one other between → IsJoin between other outcome → IsJoin one other outcome }

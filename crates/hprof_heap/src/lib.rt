@@ -1,5 +1,7 @@
-//! The heap that parts state together, and the gatherer that unites the facts of any number of parts.
-//! Class dumps, object dumps, names and the facts of a table, found in a heap. The heap's facts tell the answer of each call.
+//! The heap that one or more parts state together, the gatherer that unites their facts, and look-ups in a heap: class dumps, object dumps,
+//! names, and the facts of a table.
+//!
+//! The contracts of look-ups are stated in terms of the heap's facts.
 #![tactic(auto)]
 
 mod class_dump;

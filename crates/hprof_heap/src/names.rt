@@ -1,4 +1,4 @@
-//! Names, found in a heap.
+//! Looking up names in a heap.
 
 ghost use Rattle.std.specs.Prelude.{◌≡◌, List, ℕ, IfNone, IfSome, find};
 ghost use Rattle.std.specs.Option.{option_map};
@@ -19,7 +19,7 @@ fn name_fact(heap: &Heap, name: u64) -> Option<Fact<'_>>
     heap.name(name)
 }
 
-/// Returns the bytes of a name, or `None` if the heap does not have it.
+/// Returns the bytes of a name, or `None` if the heap does not have the name.
 pub fn find_name(heap: &Heap, name: u64) -> Option<&[u8]>
     ensures found { IfSome result (λ bytes. HasName (facts_of heap.now) name bytes.now) }
     // They are the only ones.

@@ -1,37 +1,37 @@
-//! An object dump, as it lies in a heap.
+//! The contents of an instance or an array.
 
 use hprof_values::{Basic, IdList};
 
-/// The contents of an object dump. Its bytes and elements borrow from the heap.
+/// The contents of an instance or an array. The bytes and the elements borrow from the heap.
 #[derive(Clone, Copy, Debug, PartialEq, Eq)]
 pub enum ObjectDump<'a> {
-    /// An instance of a class.
+    /// An instance.
     Instance {
-        /// The instance.
+        /// The object.
         id: u64,
-        /// The serial of the stack trace.
+        /// The serial number of the stack trace.
         trace: u32,
         /// Its class.
         class: u64,
-        /// The bytes of its fields.
+        /// The values of its fields: those of its class, then of its superclass, and so on.
         bytes: &'a [u8],
     },
-    /// An array of objects.
+    /// An object array.
     ObjArray {
         /// The array.
         id: u64,
-        /// The serial of the stack trace.
+        /// The serial number of the stack trace.
         trace: u32,
         /// The class of the array.
         class: u64,
         /// Its elements.
         elements: IdList<'a>,
     },
-    /// An array of numbers or truth values.
+    /// A primitive array.
     PrimArray {
         /// The array.
         id: u64,
-        /// The serial of the stack trace.
+        /// The serial number of the stack trace.
         trace: u32,
         /// The type of its elements.
         elem: Basic,

@@ -1,4 +1,4 @@
-//! Object dumps, found in a heap.
+//! Looking up instances and arrays in a heap.
 
 ghost use Rattle.std.specs.Prelude.{◌≡◌, ℕ, IfNone, IfSome, find};
 ghost use Rattle.std.specs.Option.{option_map};
@@ -25,7 +25,7 @@ fn object_fact<'a>(heap: &'a Heap, object: u64, near: &mut Finger) -> Option<Fac
     heap.object_near(object, near)
 }
 
-/// Returns the dump of a fact that is an object dump, or `None` for another fact.
+/// Returns the dump of a fact, or `None` if the fact is neither an instance nor an array.
 #[inline(always)]
 pub fn to_object_dump<'a>(fact: &Fact<'a>) -> Option<ObjectDump<'a>>
     ensures found { IfSome result (λ dump. fact_of_object dump ≡ value_of fact.now) }
@@ -78,10 +78,10 @@ pub fn find_object(heap: &Heap, object: u64) -> Option<ObjectDump<'_>>
     find_object_near(heap, object, &mut Finger::start())
 }
 
-/// Returns the dump of an object, as [`find_object`] does, and looks for it near a place first.
+/// Returns the dump of an object, as [`find_object`] does, looking near a place first.
 ///
-/// `near` is set to the place of the dump, so that objects that are asked for in order of their identifiers are found one behind the other.
-/// The answer is the same for every `near`.
+/// `near` is set to the place of the dump, so objects that are asked for in order of their identifiers are found faster. The answer is the
+/// same for every `near`.
 #[inline(always)]
 pub fn find_object_near<'a>(
     heap: &'a Heap,

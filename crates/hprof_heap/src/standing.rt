@@ -1,29 +1,29 @@
-//! The standing of a gatherer.
+//! The standing of a gatherer, and the reasons why it has no heap.
 
 use hprof_rows::Key;
 
-/// The standing of a gatherer.
+/// Whether the parts so far make a heap.
 #[derive(Clone, Copy, Debug, PartialEq, Eq)]
 pub enum Standing {
     /// No part was begun.
     Empty,
-    /// The facts so far agree, and all parts have one size of identifiers.
+    /// The facts so far agree, and all parts have one identifier size.
     Clean,
-    /// Two sizes were begun, or a key came with two contents.
+    /// Parts have two identifier sizes, or a key came with two contents.
     InConflict,
-    /// A fault was answered.
+    /// A call returned a fault.
     Failed,
 }
 
-/// The reason why a gatherer gives no heap.
+/// The reason why a gatherer has no heap.
 #[derive(Clone, Copy, Debug, PartialEq, Eq)]
 pub enum Refusal {
     /// No part was begun.
     NoParts,
-    /// Parts with two sizes of identifiers were begun.
+    /// Parts have two identifier sizes.
     IdSizes,
-    /// A key came with two contents. It is the least such key.
+    /// The least key that came with two contents.
     Conflict(Key),
-    /// A fault was answered.
+    /// A call returned a fault.
     Failed,
 }

@@ -12,7 +12,7 @@ mod comparing;
 mod joining;
 mod stating;
 
-/// The size of a heap's identifiers, its time and its tables. [`Heap`](crate::Heap) keeps that they go together.
+/// The identifier size, the time and the tables of a heap. [`Heap`](crate::Heap) adds the invariant that they belong together.
 #[derive(Drop)]
 pub(crate) struct Tables {
     pub(crate) ids: IdSize,

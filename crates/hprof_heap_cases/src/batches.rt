@@ -1,4 +1,4 @@
-//! Sub-records that wait in a batch.
+//! Batches of sub-records.
 
 use crate::expecting::{equal, holds};
 use crate::samples::{array, heap_of};

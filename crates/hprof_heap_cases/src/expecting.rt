@@ -1,5 +1,4 @@
-//! What tests expect. Each comparison stands in a function of its own: written out in a test, it costs the prover as much as
-//! several calls.
+//! Assertions. Each comparison is a function of its own: written out in a test, it costs the prover as much as several calls.
 
 ghost use Rattle.std.specs.Prelude.{IsTrue};
 

@@ -1,4 +1,4 @@
-//! What parts and facts come to in a gatherer.
+//! The results of gathering parts and facts.
 
 ghost use Rattle.std.specs.Prelude.{◌≡◌, Some, OnOk};
 ghost use Rattle.hprof_heap.specs.Gathering.{gathered};

@@ -1,4 +1,4 @@
-//! Heaps compared, and joined with one another.
+//! Comparing and joining heaps.
 
 use crate::expecting::{equal, holds};
 use crate::samples::{array, begun, class_of, frame_of, heap_of, loaded, start_of, trace_of};

@@ -1,4 +1,4 @@
-//! Facts of all tables, as a heap looks them up and lends them.
+//! The facts of all tables: look-ups and iterators.
 
 ghost use Rattle.std.specs.Prelude.{◌≡◌, Some, OnOk};
 ghost use Rattle.hprof_heap.specs.Gathering.{gathered};

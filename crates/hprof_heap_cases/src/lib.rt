@@ -1,4 +1,4 @@
-//! Tests of hprof_rows, hprof_heap and hprof_dump, through public calls, and a call of the laws that two of them state.
+//! Tests of hprof_rows, hprof_heap and hprof_dump, through public calls.
 #![tactic(auto)]
 
 #[cfg(test)]
@@ -16,7 +16,7 @@ mod rooms;
 #[cfg(test)]
 mod samples;
 
-/// Calls the laws of hprof_heap and of hprof_dump, which hold.
+/// Calls the laws of hprof_heap and of hprof_dump.
 pub fn laws_hold() {
     hprof_heap::laws::agreeing_facts_have_an_order();
     hprof_heap::laws::one_order();

@@ -1,4 +1,4 @@
-//! The room that rows take.
+//! The memory that rows take.
 
 use crate::expecting::equal;
 use crate::samples::{begun, state_all};

@@ -1,9 +1,9 @@
 //! A number of objects.
 
-/// A number of objects, and the number of their bytes together.
+/// A number of objects, and the number of their bytes.
 #[derive(Clone, Copy, Debug, PartialEq, Eq)]
 pub struct Counted {
-    /// Their number.
+    /// The number of objects.
     pub count: u64,
     /// The number of bytes of their fields and elements.
     pub bytes: u128,
@@ -20,7 +20,7 @@ impl Counted {
         Counted { count: 0, bytes: 0 }
     }
 
-    /// Returns the count of these and of one more of that size.
+    /// Returns the count with one more object of this size.
     #[inline(always)]
     pub(crate) fn with(self, size: u128) -> Counted
         requires { FitsCounts (both self (one_of size)) }

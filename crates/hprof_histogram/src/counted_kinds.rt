@@ -1,4 +1,4 @@
-//! The counts of the objects so far.
+//! The counts of the objects so far, by kind.
 
 use crate::counted::Counted;
 use crate::row::Kind;
@@ -6,10 +6,10 @@ use hprof_tables::HintedMap;
 use hprof_values::Basic;
 use std::alloc::{AllocError, Global};
 
-/// The number of types, with those that no code stands for.
+/// The number of type codes, including those without a type.
 pub(crate) const TYPES: usize = 12;
 
-/// The number of objects of each kind that were counted.
+/// The counts of the objects so far, by kind.
 #[derive(Drop)]
 pub struct CountedKinds {
     /// The counts of each class.
@@ -25,7 +25,7 @@ impl CountedKinds {
     ghost use Rattle.hprof_histogram.specs.Histogram.{same_kind};
     ghost use Rattle.hprof_histogram.specs.CountedKinds.{FitsCounts, both, counted_in, nothing, one_of};
 
-    /// Returns the counts before anything was counted.
+    /// Returns the counts of no objects.
     pub(crate) fn new(alloc: Global) -> CountedKinds
         ensures { (kind : Kind) → counted_in result kind ≡ nothing }
     {
@@ -35,7 +35,7 @@ impl CountedKinds {
         }
     }
 
-    /// Returns the count of the instances of a class and of the arrays of objects of that class. It is that of the histogram's row, and nothing
+    /// Returns the count of the instances of a class and the object arrays of that class. It is that of the row in the histogram, or zero
     /// if there is no row.
     #[inline(always)]
     pub fn of_class(&self, class: u64) -> Counted
@@ -59,7 +59,7 @@ impl CountedKinds {
         Ok(())
     }
 
-    /// Counts an array of a type.
+    /// Counts a primitive array of a type.
     #[inline(always)]
     fn count_type(&mut self, elem: Basic, size: u128)
         requires { FitsCounts (both (counted_in self.old (kinds.Prim elem)) (one_of size)) }

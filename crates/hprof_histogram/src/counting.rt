@@ -1,4 +1,4 @@
-//! Objects are counted by their kind.
+//! Counting the objects of a heap by kind.
 
 ghost use Rattle.std.specs.Prelude.{◌≡◌, length, IfOk, IfSome};
 ghost use Rattle.std.specs.Option.{option_map};
@@ -22,7 +22,7 @@ fn size_of_bytes(bytes: &[u8]) -> u128
     bytes.len() as u128
 }
 
-/// Returns the kind of an object and the number of its bytes, or `None` for a fact that is no object dump.
+/// Returns the kind of an object and the number of its bytes, or `None` if the fact is no object dump.
 #[inline(always)]
 fn object_of(fact: &Fact<'_>, ids: IdSize) -> Option<(Kind, u128)>
     ensures kind { option_map (λ object. object.0) result ≡ object_kind (value_of fact.now) }
@@ -43,7 +43,7 @@ fn object_of(fact: &Fact<'_>, ids: IdSize) -> Option<(Kind, u128)>
     }
 }
 
-/// Counts the objects of a heap by their kinds. If memory runs out, the answer is `AllocError`.
+/// Counts the objects of a heap by kind. If memory runs out, the answer is `AllocError`.
 pub fn count_objects(alloc: Global, heap: &Heap) -> Result<CountedKinds, AllocError>
     ensures { IfOk result (IsTally (size_of heap.now) (facts_of heap.now)) }
 {

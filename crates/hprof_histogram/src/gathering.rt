@@ -1,4 +1,4 @@
-//! The rows of the counts.
+//! Making the rows of a histogram from counts.
 
 ghost use Rattle.std.specs.Prelude.{◌≡◌, ◌++◌, ◌∷◌, [], OnOk, IfOk, nat_eq};
 ghost use Rattle.std.specs.List.{IsDistinct, filter};
@@ -12,7 +12,7 @@ use hprof_tables::HintedMap;
 use hprof_values::Basic;
 use std::alloc::{AllocError, Global};
 
-/// The types that elements of arrays may have, by their codes.
+/// The types that elements of primitive arrays may have, by code.
 const ELEMENT_TYPES: [Basic; 8] = [
     Basic::Boolean,
     Basic::Char,
@@ -24,7 +24,7 @@ const ELEMENT_TYPES: [Basic; 8] = [
     Basic::Long,
 ];
 
-/// Puts the row of a kind behind others, if there are objects of it.
+/// Appends the row of a kind, if there are objects of it.
 fn push_row(rows: &mut Vec<Row>, kind: Kind, counted: Counted) -> Result<(), AllocError>
     ensures { OnOk result (rows.new.items ≡ rows.old.items ++ filter has_objects (row_of kind counted ∷ [])) }
 {
@@ -35,7 +35,7 @@ fn push_row(rows: &mut Vec<Row>, kind: Kind, counted: Counted) -> Result<(), All
     Ok(())
 }
 
-/// Puts the rows of classes behind others.
+/// Appends the rows of classes.
 fn push_classes(rows: &mut Vec<Row>, classes: &HintedMap<Counted>) -> Result<(), AllocError>
     ensures rows { OnOk result (rows.new.items ≡ rows.old.items ++ filter has_objects (class_rows (rows_in classes.now))) }
     ensures apart { OnOk result (IsDistinct nat_eq (keys_in classes.now)) }
@@ -46,7 +46,7 @@ fn push_classes(rows: &mut Vec<Row>, classes: &HintedMap<Counted>) -> Result<(),
     Ok(())
 }
 
-/// Puts the rows of types behind others.
+/// Appends the rows of types.
 fn push_types(rows: &mut Vec<Row>, types: &[Counted; TYPES]) -> Result<(), AllocError>
     ensures { OnOk result (rows.new.items ≡ rows.old.items ++ filter has_objects (type_rows types.now element_types)) }
 {
@@ -56,7 +56,7 @@ fn push_types(rows: &mut Vec<Row>, types: &[Counted; TYPES]) -> Result<(), Alloc
     Ok(())
 }
 
-/// Returns the rows of the counts: those of classes, and then those of types.
+/// Returns the rows of the counts: first those of classes, then those of types.
 pub(crate) fn rows_of(alloc: Global, tally: &CountedKinds) -> Result<Vec<Row>, AllocError>
     ensures rows { IfOk result (λ rows. rows.items ≡ filter has_objects (class_rows (rows_in tally.now.classes))
         ++ filter has_objects (type_rows tally.now.types element_types)) }

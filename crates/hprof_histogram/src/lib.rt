@@ -1,4 +1,4 @@
-//! The class histogram of a heap: the number of objects of each kind, and the number of their bytes; and the objects of a kind.
+//! The class histogram of a heap: the number of objects of each kind, and the number of their bytes; and the list of a kind's objects.
 #![tactic(auto)]
 
 mod counted;

@@ -1,4 +1,4 @@
-//! The histogram of a heap.
+//! Making the class histogram of a heap.
 
 ghost use Rattle.std.specs.Prelude.{IfOk};
 ghost use Rattle.hprof_heap.specs.HeapFacts.{facts_of, size_of};
@@ -13,9 +13,10 @@ use std::alloc::{AllocError, Global};
 
 /// Returns the class histogram of a heap: the number of objects of each kind, and the number of their bytes.
 ///
-/// Instances and arrays of objects are counted under their class, arrays of numbers or truth values under their type. Class dumps are
-/// no objects. An instance has the bytes of its fields, and an array those of its elements. The row with the most bytes comes first; of
-/// those with equal bytes the one with the most objects, then classes by their identifiers, and then types by their codes. If memory
+/// Instances and object arrays are counted by class, primitive arrays by type. Class dumps are not counted. The bytes are those of the
+/// fields of an instance, and of the elements of an array.
+///
+/// Rows are ordered by bytes, then by number of objects, both from the most down; then classes by identifier; then types by code. If memory
 /// runs out, the answer is `AllocError`.
 pub fn histogram(alloc: Global, heap: &Heap) -> Result<Vec<Row>, AllocError>
     ensures { IfOk result (λ rows. IsHistogram (size_of heap.now) (facts_of heap.now) rows.items) }

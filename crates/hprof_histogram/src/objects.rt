@@ -23,7 +23,7 @@ pub struct SizedObject {
     pub id: u64,
 }
 
-/// Returns the object of a fact, if it is of that kind.
+/// Returns the object of a fact, if it is of this kind.
 #[inline(always)]
 fn object_of_kind(fact: &Fact<'_>, ids: IdSize, kind: Kind) -> Option<SizedObject>
     requires { size_of_object ids (value_of fact.now) < 2 ^ 64 }
@@ -86,7 +86,7 @@ fn compare_objects(object: &SizedObject, other: &SizedObject) -> Ordering
     by_bytes.then(object.id.cmp(&other.id))
 }
 
-/// Puts objects in order. It takes no memory.
+/// Sorts objects. Allocates nothing.
 fn sort_objects(objects: &mut Vec<SizedObject>)
     ensures sorted { IsSorted object_cmp objects.new.items }
     ensures same { IsPermutation objects.old.items objects.new.items }
@@ -94,10 +94,9 @@ fn sort_objects(objects: &mut Vec<SizedObject>)
     objects.sort_unstable_by(|object, other| compare_objects(object, other));
 }
 
-/// Returns the objects of a kind, those that the histogram counts in its row, each with the number of its bytes.
+/// Returns the objects of a kind, which the histogram counts in one row, each with the number of its bytes.
 ///
-/// The object with the most bytes comes first; of those with equal bytes the one with the least identifier. If memory runs out, the answer
-/// is `AllocError`.
+/// They are ordered by bytes, from the most down, and then by identifier. If memory runs out, the answer is `AllocError`.
 pub fn objects_of(alloc: Global, heap: &Heap, kind: Kind) -> Result<Vec<SizedObject>, AllocError>
     ensures { IfOk result (λ objects. AreObjects (size_of heap.now) (facts_of heap.now) kind objects.items) }
 {

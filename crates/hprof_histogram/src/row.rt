@@ -5,9 +5,9 @@ use hprof_values::Basic;
 /// A kind of objects.
 #[derive(Clone, Copy, Debug, PartialEq, Eq)]
 pub enum Kind {
-    /// The instances of a class, and the arrays of objects of that class.
+    /// The instances of a class, and the object arrays of that class.
     Class(u64),
-    /// The arrays of numbers or truth values of that type.
+    /// The primitive arrays of this type.
     Prim(Basic),
 }
 

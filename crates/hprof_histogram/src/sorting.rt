@@ -1,4 +1,4 @@
-//! Rows in order.
+//! Sorting the rows of a histogram.
 
 ghost use Rattle.std.specs.Prelude.{◌≡◌, ℕ};
 ghost use Rattle.std.specs.List.{IsDistinct};
@@ -8,7 +8,7 @@ ghost use Rattle.hprof_histogram.specs.Histogram.{kind_cmp, row_cmp, same_kind};
 use crate::row::{Kind, Row};
 use std::cmp::Ordering;
 
-/// Compares kinds: classes by their identifiers, and then types by their codes.
+/// Compares kinds: classes by identifier, then types by code.
 fn compare_kinds(kind: Kind, other: Kind) -> Ordering
     ensures { result ≡ kind_cmp kind other }
 {
@@ -31,7 +31,7 @@ fn compare_rows(row: &Row, other: &Row) -> Ordering
         .then(compare_kinds(row.kind, other.kind))
 }
 
-/// Puts rows of different kinds in order. It takes no memory.
+/// Sorts rows of different kinds. Allocates nothing.
 pub(crate) fn sort_rows(rows: &mut Vec<Row>)
     requires { IsDistinct (λ row other. same_kind row.kind other.kind) rows.old.items }
     ensures ascend { IsStrictlySortedBy row_cmp rows.new.items }

@@ -1,4 +1,4 @@
-//! Reading a class behind its tag.
+//! Reading a class dump after its tag.
 
 ghost use Rattle.std.specs.Prelude.{◌≡◌, ◌≤◌, length, sum, Ok, Err, IfOk, OnOk, MatchResult};
 ghost use Rattle.hprof_values.specs.FieldGroups.{fields_in};
@@ -15,7 +15,7 @@ use hprof_values::{
     BoundedBytes, ConstantList, EntryKind, FieldList, IdSize, StaticList, Stop, list_at,
 };
 
-/// The fields of a class in front of its lists.
+/// The fields of a class dump before its lists.
 #[derive(Clone, Copy)]
 struct ClassFront {
     id: u64,
@@ -56,7 +56,7 @@ fn split_front(bytes: &[u8], ids: IdSize) -> ClassFront
     }
 }
 
-/// Returns the class with those fields and lists.
+/// Returns the class dump with these fields and lists.
 fn class_of<'a>(
     front: ClassFront,
     constants: ConstantList<'a>,
@@ -84,8 +84,8 @@ fn class_of<'a>(
     }
 }
 
-/// Returns the class at the front, and the place where it ends. Few items are classes, so it stands apart from the reading of the others,
-/// and takes the item by value: the others keep it out of memory.
+/// Returns the class dump at the front, and the place where it ends. It is not inlined, since few items are class dumps. It takes the item
+/// by value, so that its callers can keep theirs in registers.
 #[tactic(auto, unfolding(crate::specs::ClassDump::class_at))]
 #[inline(never)]
 fn whole_class<'a>(item: BoundedBytes<'a>, ids: IdSize) -> Result<(Fact<'a>, usize), Stop>
@@ -110,7 +110,7 @@ fn whole_class<'a>(item: BoundedBytes<'a>, ids: IdSize) -> Result<(Fact<'a>, usi
     Ok((class, fields.end))
 }
 
-/// Reads a class, and puts it in the place of the fact.
+/// Reads a class dump, and stores it in `fact`.
 #[inline(always)]
 pub(crate) fn read_class<'a>(
     item: &BoundedBytes<'a>,

@@ -1,4 +1,4 @@
-//! The nine bytes in front of each record's body.
+//! The nine bytes before the body of each record.
 
 ghost use Rattle.std.specs.Prelude.{◌≡◌};
 
@@ -10,24 +10,24 @@ pub const HEAD_LEN: usize = 9;
 /// The head of a record.
 #[derive(Clone, Copy, Debug, PartialEq, Eq)]
 pub struct Head {
-    /// The tag, which tells the kind of the record.
+    /// The tag: the kind of the record.
     pub tag: u8,
-    /// The time at which the record was made, in microseconds since the time in the header. It is read past.
+    /// The time of the record, in microseconds since the time in the header. It is not used.
     pub time: u32,
     /// The number of bytes in the body.
     pub length: u32,
 }
 
-/// The purpose of a record, by its tag.
+/// The purpose of a record, which its tag decides.
 #[derive(Clone, Copy, Debug, PartialEq, Eq)]
 pub enum HeadKind {
     /// A record that states one fact.
     FactRecord,
-    /// A record whose body is sub-records.
+    /// A record with sub-records in its body.
     HeapDump,
-    /// The record that ends a heap dump, with no body.
+    /// The record that ends a heap dump. It has no body.
     DumpEnd,
-    /// Any other record. It states nothing here.
+    /// Any other record. It states no fact.
     Skipped,
 }
 

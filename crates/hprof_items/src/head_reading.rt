@@ -1,4 +1,4 @@
-//! Reading the head of any record at the front of some bytes.
+//! Reading the head of a record.
 
 ghost use Rattle.std.specs.Prelude.{◌≡◌, ℕ, ◌++◌, List, drop};
 ghost use Rattle.hprof_items.specs.declared.head.Head.{Head};
@@ -12,7 +12,7 @@ use crate::tag;
 use byteorder::{BigEndian, ByteOrder};
 use hprof_values::{IdSize, Reason, RecordTag};
 
-/// Returns whether a record that states a fact may have that length.
+/// Returns whether a record that states one fact may have this length.
 fn may_have_body(known: RecordTag, len: usize, ids: IdSize) -> bool
     ensures { result ≡ is_legal_body ids known len }
 {
@@ -26,7 +26,7 @@ fn may_have_body(known: RecordTag, len: usize, ids: IdSize) -> bool
     }
 }
 
-/// Returns whether the record may have that length.
+/// Returns whether a record with this tag may have this length.
 fn may_have_len(tag: u8, len: u32, ids: IdSize) -> bool
     ensures { result ≡ is_legal ids tag len }
 {
@@ -48,7 +48,7 @@ fn judge_head(head: Head, ids: IdSize, longest: u32) -> Step<Head>
     Step::Whole(head, HEAD_LEN)
 }
 
-/// Returns the step of `read_head`.
+/// Returns the result of `read_head`.
 #[tactic(auto, unfolding(crate::specs::Reading::head_at))]
 fn head_step(bytes: &[u8], ids: IdSize, longest: u32) -> Step<Head>
     ensures { result ≡ head_at ids longest bytes.now }
@@ -64,8 +64,10 @@ fn head_step(bytes: &[u8], ids: IdSize, longest: u32) -> Step<Head>
     judge_head(head, ids, longest)
 }
 
-/// Reads the head of any record at the front. Its nine bytes are there, then its length is one that it may have, then a record with a fact
-/// is no longer than `longest`, a number of bytes without the head.
+/// Reads the head of any record at the front.
+///
+/// The tests, in order: its nine bytes are there, the record may have its length, and a record that states one fact has at most `longest`
+/// bytes after its head.
 pub fn read_head(bytes: &[u8], ids: IdSize, longest: u32) -> Step<Head>
     // Which step it is.
     ensures exact { result ≡ head_at ids longest bytes.now }

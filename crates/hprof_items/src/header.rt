@@ -2,7 +2,7 @@
 
 use hprof_values::IdSize;
 
-/// The text that the header begins with, one of two. Both versions are read with the same layouts.
+/// The version of the format: the text that a dump begins with. Both versions are read in the same way.
 #[derive(Clone, Copy, Debug, PartialEq, Eq)]
 pub enum Version {
     /// `JAVA PROFILE 1.0.1`
@@ -14,10 +14,10 @@ pub enum Version {
 /// The number of bytes in a header.
 pub const HEADER_LEN: usize = 31;
 
-/// The fields at the front of a dump.
+/// The header of a dump.
 #[derive(Clone, Copy, Debug, PartialEq, Eq)]
 pub struct Header {
-    /// The text.
+    /// The version.
     pub version: Version,
     /// The width of the identifiers in the dump.
     pub ids: IdSize,

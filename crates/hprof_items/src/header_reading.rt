@@ -1,4 +1,4 @@
-//! Reading the header of a part at the front of some bytes.
+//! Reading the header of a dump.
 
 ghost use Rattle.std.specs.Prelude.{◌≡◌, ℕ, ◌++◌, List, drop};
 ghost use Rattle.hprof_items.specs.declared.header.Header.{Header};
@@ -10,16 +10,16 @@ use crate::step::Step;
 use byteorder::{BigEndian, ByteOrder};
 use hprof_values::{IdSize, Reason};
 
-/// The text that a header of version 1.0.1 begins with, and the zero byte behind it.
+/// The text at the start of a 1.0.1 dump, with its zero byte.
 pub const TEXT_V101: &[u8; 19] = b"JAVA PROFILE 1.0.1\0";
 
-/// The text that a header of version 1.0.2 begins with, and the zero byte behind it.
+/// The text at the start of a 1.0.2 dump, with its zero byte.
 pub const TEXT_V102: &[u8; 19] = b"JAVA PROFILE 1.0.2\0";
 
-/// The number of bytes in a header's text.
+/// The number of bytes of that text.
 pub const TEXT_LEN: usize = 19;
 
-/// The number of bytes in a header's text and the size of identifiers.
+/// The number of bytes of that text and the identifier size.
 pub const SIZED_LEN: usize = 23;
 
 fn version_in(text: &[u8]) -> Option<Version>
@@ -44,7 +44,7 @@ fn ids_in(size: u32) -> Option<IdSize>
     }
 }
 
-/// Returns the step of `read_header`.
+/// Returns the result of `read_header`.
 #[tactic(auto, unfolding(crate::specs::Reading::header_at))]
 fn header_step(bytes: &[u8]) -> Step<Header>
     ensures { result ≡ header_at bytes.now }
@@ -75,7 +75,7 @@ fn header_step(bytes: &[u8]) -> Step<Header>
     )
 }
 
-/// Reads the header at the front: the text, then the size of identifiers, then the time. A field that is not wholly there is not judged.
+/// Reads the header at the front: the text, then the identifier size, then the time. A field is tested once all its bytes are there.
 pub fn read_header(bytes: &[u8]) -> Step<Header>
     // Which step it is.
     ensures exact { result ≡ header_at bytes.now }

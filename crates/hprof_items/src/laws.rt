@@ -1,4 +1,4 @@
-//! Laws of the definitions. None of these functions does anything.
+//! Laws of the definitions. The contract of each function is a theorem; its body is empty.
 
 ghost use Rattle.std.specs.Prelude.{is_some, ◌≡◌, ◌≤◌, List, ℕ, ◌++◌, length, drop, true, Some, Ok, Err, ◌⊎◌};
 ghost use Rattle.hprof_values.specs.declared.ids.IdSize.{IdSize};
@@ -19,15 +19,15 @@ ghost use Rattle.hprof_items.specs.RecordBody.{is_legal_body, record_body, recor
 ghost use Rattle.hprof_items.specs.SubRecord.{sub_at, dump_bytes, DumpFits, IsSubOf};
 ghost use Rattle.hprof_items.specs.Reading.{header_at, head_at, IsRightHead};
 
-/// A header that is spelled is read, whatever follows, and one that is read is spelled so.
+/// A header that is written reads back, whatever follows, and a header that is read writes the same bytes.
 pub fn headers_read_back()
     ensures { ((header : Header) (rest : List ℕ) → IsMillis header.millis → header_at (header_bytes header ++ rest) ≡ Whole header 31)
         × ((bytes : List ℕ) (header : Header) (n : ℕ) → IsBytes bytes → header_at bytes ≡ Whole header n
         → (bytes ≡ header_bytes header ++ drop n bytes) × (n ≡ 31) × IsMillis header.millis) }
 {}
 
-/// A sub-record that is spelled within all bounds is read, whatever follows, one that is read is spelled so, and no
-/// spelling of a sub-record begins another.
+/// A sub-record that is written within all bounds reads back, whatever follows, and one that is read writes the same bytes. No encoding of
+/// a sub-record is the beginning of another.
 pub fn sub_records_read_back()
     ensures again { (ids : IdSize) (bounds : Bounds) (fact : FactValue) (rest bytes : List ℕ) → DumpFits ids fact
         → bytes ≡ dump_bytes ids fact ++ rest
@@ -39,7 +39,7 @@ pub fn sub_records_read_back()
         → dump_bytes ids fact ++ rest ≡ dump_bytes ids other ++ more → (fact ≡ other) × (rest ≡ more) }
 {}
 
-/// The body of a fact of any record is read as that fact, and what is read is spelled so.
+/// The body of any record that states one fact reads as that fact, and a fact that is read writes the same bytes.
 pub fn records_read_back()
     ensures again { (ids : IdSize) (tag : RecordTag) (fact : FactValue) → BodyFits ids tag fact
         → record_at ids tag (record_body ids tag fact) ≡ Ok fact }
@@ -48,7 +48,7 @@ pub fn records_read_back()
         → BodyFits ids tag fact × (body ≡ record_body ids tag fact) }
 {}
 
-/// No spelling of a record's fact begins another.
+/// No encoding of a fact in a record is the beginning of another.
 pub fn one_record_spelling()
     ensures { (ids : IdSize) (fact other : FactValue) (tag tag_too : RecordTag) (rest more : List ℕ)
         → BodyFits ids tag fact → BodyFits ids tag_too other
@@ -58,16 +58,15 @@ pub fn one_record_spelling()
         → (fact ≡ other) × (rest ≡ more) }
 {}
 
-/// No spelling of a fact begins another of its family: records, or sub-records. Between the two families their tags
-/// overlap.
+/// No encoding of a fact is the beginning of another in its family: records, or sub-records. The tags of the two families overlap.
 pub fn one_spelling_in_each_family()
     ensures { (ids : IdSize) (fact other : FactValue) (rest more : List ℕ) → Fits ids fact → Fits ids other
         → is_some (record_of fact) ≡ is_some (record_of other)
         → spelling ids fact ++ rest ≡ spelling ids other ++ more → (fact ≡ other) × (rest ≡ more) }
 {}
 
-/// A right head of any record that is spelled is read, whatever follows, and one that is read is right and spelled so. If the record states
-/// one fact, its length is one that its body may have.
+/// A valid record head that is written reads back, whatever follows, and one that is read is valid and writes the same bytes. If the record
+/// states one fact, its body may have the length in the head.
 pub fn heads_read_back()
     ensures again { (ids : IdSize) (longest : ℕ) (head : Head) (rest : List ℕ) → IsRightHead ids longest head
         → head_at ids longest (head_bytes head.tag head.time head.length ++ rest) ≡ Whole head 9 }
@@ -78,7 +77,7 @@ pub fn heads_read_back()
         → (known : RecordTag) × (record_of_code head.tag ≡ Some known) × (is_legal_body ids known head.length ≡ true) }
 {}
 
-/// With more bytes no answer about a sub-record changes but the one that more are needed.
+/// More bytes change no answer about a sub-record, except that more bytes are needed.
 pub fn fronts_of_sub_records_are_short()
     ensures more { (ids : IdSize) (bounds : Bounds) (bytes more : List ℕ) → bounds.there ≡ length bytes
         → (sub_at ids bounds bytes ≡ Err stops.Short)

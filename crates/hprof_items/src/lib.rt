@@ -1,5 +1,6 @@
-//! One header, record or fact of an HPROF heap dump: its contents, its spelling in bytes, and its reading from bytes. The format is that of
-//! the comment "HPROF binary format" in OpenJDK's heapDumper.cpp. No call of this crate takes memory.
+//! The header, the record heads and the facts of an HPROF heap dump: reading each from bytes, and what its bytes are.
+//!
+//! The format is that of the comment "HPROF binary format" in OpenJDK's heapDumper.cpp. No call of this crate allocates.
 #![tactic(auto)]
 
 mod class_reading;

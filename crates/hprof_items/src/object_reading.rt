@@ -1,4 +1,4 @@
-//! Reading an instance or an array behind its tag. Its bytes, or its elements, are not looked at.
+//! Reading an instance or an array after its tag. The bytes of an instance and the elements of an array are not read.
 
 ghost use Rattle.std.specs.Prelude.{◌≡◌, ◌≤◌, length, sum, Ok, Err, OnOk, MatchResult};
 ghost use Rattle.hprof_values.specs.Basic.{basic_of_code};
@@ -13,17 +13,17 @@ use crate::fact::Fact;
 use hprof_values::number::{byte_at, id_at, ids_len, split_id, split_u32, values_len};
 use hprof_values::{Basic, BoundedBytes, IdList, IdSize, Reason, Stop};
 
-/// The fields of an instance in front of its bytes.
+/// The fields of an instance dump before its bytes.
 #[derive(Clone, Copy)]
 struct InstanceFront {
     id: u64,
     trace: u32,
     class: u64,
-    /// The number of its bytes.
+    /// The number of bytes.
     len: u32,
 }
 
-/// Returns the fields of an instance at the front.
+/// Returns the fields at the front of an instance dump.
 #[inline(always)]
 fn instance_fields(bytes: &[u8], ids: IdSize) -> InstanceFront
     requires { sum (instance_widths ids) ≤ length bytes.now }
@@ -41,7 +41,7 @@ fn instance_fields(bytes: &[u8], ids: IdSize) -> InstanceFront
     }
 }
 
-/// Reads an instance, and puts it in the place of the fact.
+/// Reads an instance, and stores it in `fact`.
 #[tactic(auto, unfolding(crate::specs::SubRecord::instance_at))]
 #[inline(always)]
 pub(crate) fn read_instance<'a>(
@@ -69,17 +69,17 @@ pub(crate) fn read_instance<'a>(
     Ok(end)
 }
 
-/// The fields of an array of objects in front of its elements.
+/// The fields of an object array before its elements.
 #[derive(Clone, Copy)]
 struct ObjArrayFront {
     id: u64,
     trace: u32,
-    /// The number of its elements.
+    /// The number of elements.
     count: u32,
     class: u64,
 }
 
-/// Returns the fields of an array of objects at the front.
+/// Returns the fields at the front of an object array.
 #[inline(always)]
 fn obj_array_fields(bytes: &[u8], ids: IdSize) -> ObjArrayFront
     requires { sum (obj_array_widths ids) ≤ length bytes.now }
@@ -96,7 +96,7 @@ fn obj_array_fields(bytes: &[u8], ids: IdSize) -> ObjArrayFront
     }
 }
 
-/// Reads an array of objects, and puts it in the place of the fact.
+/// Reads an object array, and stores it in `fact`.
 #[tactic(auto, unfolding(crate::specs::SubRecord::obj_array_at))]
 #[inline(always)]
 pub(crate) fn read_obj_array<'a>(
@@ -125,18 +125,18 @@ pub(crate) fn read_obj_array<'a>(
     Ok(end)
 }
 
-/// The fields of an array of numbers or truth values in front of its elements.
+/// The fields of a primitive array before its elements.
 #[derive(Clone, Copy)]
 struct PrimArrayFront {
     id: u64,
     trace: u32,
-    /// The number of its elements.
+    /// The number of elements.
     count: u32,
     /// The code of their type.
     code: u8,
 }
 
-/// Returns the fields of an array of numbers or truth values at the front.
+/// Returns the fields at the front of a primitive array.
 #[inline(always)]
 fn prim_array_fields(bytes: &[u8], ids: IdSize) -> PrimArrayFront
     requires { sum (prim_array_widths ids) ≤ length bytes.now }
@@ -153,7 +153,7 @@ fn prim_array_fields(bytes: &[u8], ids: IdSize) -> PrimArrayFront
     }
 }
 
-/// Returns the type of an array's elements, by its code.
+/// Returns the type of the elements of an array, from its code.
 #[inline(always)]
 fn element_type(code: u8) -> Result<Basic, Stop>
     ensures { result ≡ element_type (basic_of_code code) }
@@ -164,7 +164,7 @@ fn element_type(code: u8) -> Result<Basic, Stop>
     }
 }
 
-/// Reads an array of numbers or truth values, and puts it in the place of the fact.
+/// Reads a primitive array, and stores it in `fact`.
 #[tactic(auto, unfolding(crate::specs::SubRecord::prim_array_at))]
 #[inline(always)]
 pub(crate) fn read_prim_array<'a>(

@@ -33,7 +33,7 @@ fn read_load<'a>(body: &'a [u8], ids: IdSize) -> Fact<'a>
     }
 }
 
-/// Reads a frame of a stack.
+/// Reads a stack frame.
 #[tactic(auto, unfolding(crate::specs::RecordBody::record_at))]
 fn read_frame<'a>(body: &'a [u8], ids: IdSize) -> Fact<'a>
     requires { sum (record_fields ids RecordTag.Frame) ≤ length body.now }
@@ -56,7 +56,7 @@ fn read_frame<'a>(body: &'a [u8], ids: IdSize) -> Fact<'a>
     }
 }
 
-/// Reads a stack. The number of its frames is the one that it says.
+/// Reads a stack trace. Its body must have as many frames as it states.
 #[tactic(auto, unfolding(crate::specs::RecordBody::record_at))]
 fn read_trace<'a>(body: &'a [u8], ids: IdSize) -> Result<Fact<'a>, Reason>
     requires { sum (record_fields ids RecordTag.Trace) ≤ length body.now }
@@ -101,7 +101,7 @@ fn read_start<'a>(body: &'a [u8], ids: IdSize) -> Fact<'a>
     }
 }
 
-/// Returns the fact of `read_record`.
+/// Returns the fact that `read_record` reads.
 #[tactic(auto, unfolding(crate::specs::RecordBody::record_at))]
 fn fact_in<'a>(
     tag: RecordTag,
@@ -136,7 +136,7 @@ fn fact_in<'a>(
     Ok(())
 }
 
-/// Reads the body of a record that states one fact, of a length that it may have.
+/// Reads the body of a record that states one fact. The body has a length that the record may have.
 pub(crate) fn read_record<'a>(
     tag: RecordTag,
     body: &'a [u8],
@@ -160,8 +160,7 @@ pub(crate) fn read_record<'a>(
     fact_in(tag, body, ids, fact)
 }
 
-/// Reads the body of a record with a fact, as [`read_body`] does, and puts the stated fact in the place of `fact`. At a fault, the value in
-/// that place has no meaning.
+/// Reads the body of a record, as [`read_body`] does, and stores the fact in `fact`. After a fault, the value of `fact` is unspecified.
 pub fn read_body_into<'a>(
     head: &Head,
     body: &'a [u8],
@@ -190,8 +189,9 @@ pub fn read_body_into<'a>(
     read_record(known, body, ids, fact)
 }
 
-/// Reads the body of a record with a fact, behind a head that was read. The only fault is that a trace has another number of frames than it
-/// says.
+/// Reads the body of a record that states one fact, whose head was read.
+///
+/// - `BadLength`: a stack trace has another number of frames than it states. No other fault occurs.
 pub fn read_body<'a>(head: &Head, body: &'a [u8], ids: IdSize) -> Result<Fact<'a>, Reason>
     requires whole { IsRightHead ids longest_body head.now }
     requires kind { kind_of head.now.tag ≡ HeadKind.FactRecord }

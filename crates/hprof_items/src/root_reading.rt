@@ -1,4 +1,4 @@
-//! Reading a root behind its tag.
+//! Reading a GC root after its tag.
 
 ghost use Rattle.std.specs.Prelude.{◌≡◌, ◌≤◌, length, sum, Ok, Err, OnOk, MatchResult};
 ghost use Rattle.hprof_values.specs.FieldGroups.{fields_in, reached};
@@ -11,7 +11,7 @@ use crate::fact::Fact;
 use hprof_values::number::{split_id, split_u32};
 use hprof_values::{BoundedBytes, IdSize, Root, Stop, SubTag};
 
-/// Returns the end of the fields of a root, or the first of their tests that fails.
+/// Returns the end of the fields of a root, or the failure of the first test that fails.
 fn root_end(item: &BoundedBytes<'_>, tag: SubTag, ids: IdSize) -> Result<usize, Stop>
     ensures { result ≡ reached (bounds_of item.now) 1 (root_fields ids tag) }
 {
@@ -26,7 +26,7 @@ fn root_end(item: &BoundedBytes<'_>, tag: SubTag, ids: IdSize) -> Result<usize, 
     }
 }
 
-/// Returns the root of that tag whose fields stand at the front.
+/// Returns the root with this tag whose fields are at the front.
 fn root_in(bytes: &[u8], tag: SubTag, ids: IdSize) -> Root
     requires { sum (root_fields ids tag) ≤ length bytes.now }
     ensures { result ≡ root_of tag (fields_in (root_fields ids tag) bytes.now) }
@@ -66,8 +66,8 @@ fn root_in(bytes: &[u8], tag: SubTag, ids: IdSize) -> Root
     }
 }
 
-/// Returns the root of that tag at the front, and the place where it ends. Few items are roots, so it stands apart from the reading of the
-/// others, and takes the item by value: the others keep it out of memory.
+/// Returns the root with this tag at the front, and the place where it ends. It is not inlined, since few items are roots. It takes the
+/// item by value, so that its callers can keep theirs in registers.
 #[tactic(auto, unfolding(crate::specs::SubRecord::root_at))]
 #[inline(never)]
 fn whole_root(item: BoundedBytes<'_>, tag: SubTag, ids: IdSize) -> Result<(Root, usize), Stop>
@@ -80,7 +80,7 @@ fn whole_root(item: BoundedBytes<'_>, tag: SubTag, ids: IdSize) -> Result<(Root,
     Ok((root_in(fields, tag, ids), end))
 }
 
-/// Reads a root behind its tag, and puts it in the place of the fact.
+/// Reads a root after its tag, and stores it in `fact`.
 #[inline(always)]
 pub(crate) fn read_root<'a>(
     item: &BoundedBytes<'a>,

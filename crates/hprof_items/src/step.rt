@@ -1,16 +1,16 @@
-//! The results of reading at the front of some bytes.
+//! The result of reading an item at the front of some bytes.
 
 use hprof_values::Reason;
 
-/// The result of reading at the front of the bytes that a reader is given.
+/// The result of reading an item at the front of some bytes.
 #[derive(Clone, Copy, Debug, PartialEq, Eq)]
 pub enum Step<T> {
-    /// The value, and the number of bytes that spell it.
+    /// The item, and the number of its bytes.
     Whole(T, usize),
-    /// Nothing is wrong so far, and more bytes are needed.
+    /// The item is right so far; more bytes are needed.
     Short,
-    /// It is longer than the longest that is taken.
+    /// The item is longer than the longest accepted item.
     TooLong,
-    /// It is wrong, whatever follows.
+    /// The item is wrong, whatever follows.
     Fault(Reason),
 }

@@ -1,4 +1,4 @@
-//! Reading a sub-record at the front of some bytes.
+//! Reading a sub-record.
 
 ghost use Rattle.std.specs.Prelude.{◌≡◌, ℕ, ◌≤◌, ◌++◌, List, length, Ok, Err, IfOk, OnOk, IsOkAnd, MatchResult};
 ghost use Rattle.hprof_values.specs.BoundedBytes.{bounds_of};
@@ -13,7 +13,7 @@ use crate::root_reading::read_root;
 use crate::step::Step;
 use hprof_values::{BoundedBytes, IdSize, Reason, Stop, SubTag};
 
-/// Reads a sub-record behind its tag, and puts the stated fact in the place of the fact.
+/// Reads a sub-record after its tag, and stores its fact in `fact`.
 #[inline(always)]
 fn read_behind<'a>(
     item: &BoundedBytes<'a>,
@@ -50,7 +50,7 @@ pub(crate) fn read_tag(item: &BoundedBytes<'_>) -> Result<SubTag, Stop>
     }
 }
 
-/// Reads the sub-record at the front, and puts the stated fact in the place of the fact.
+/// Reads the sub-record at the front, and stores its fact in `fact`.
 #[tactic(auto, using(crate::proofs::Dumps::sub_tagged, crate::proofs::Dumps::sub_stops))]
 #[inline(always)]
 fn read_item<'a>(item: &BoundedBytes<'a>, ids: IdSize, fact: &mut Fact<'a>) -> Result<usize, Stop>
@@ -63,10 +63,9 @@ fn read_item<'a>(item: &BoundedBytes<'a>, ids: IdSize, fact: &mut Fact<'a>) -> R
     read_behind(item, tag, ids, fact)
 }
 
-/// Reads the sub-record at the front of the `room` bytes that a record has left, no longer than `longest`, as [`read_sub`] does, and puts
-/// the stated fact in the place of `fact`.
+/// Reads the sub-record at the front of the `room` bytes that its record has left, as [`read_sub`] does, and stores its fact in `fact`.
 ///
-/// It returns the place where the sub-record ends. If it stops, the value in the place of `fact` has no meaning.
+/// Returns the place where the sub-record ends. If it stops earlier, the value of `fact` is unspecified.
 #[inline(always)]
 pub fn read_sub_into<'a>(
     bytes: &'a [u8],
@@ -95,10 +94,10 @@ pub fn read_sub_into<'a>(
     read_item(&item, ids, fact)
 }
 
-/// Reads the sub-record at the front of the `room` bytes that a record has left, no longer than `longest`.
+/// Reads the sub-record at the front of the `room` bytes that its record has left. It may have at most `longest` bytes.
 ///
-/// Field by field from the left, each ends within the record, then within the longest, then it is there, then it is right. If there are no
-/// bytes, more are needed. The bytes of an instance and the elements of an array are not looked at.
+/// Fields are tested from left to right: each must end within the record, then within `longest`, then its bytes must be there, then it must
+/// be valid. If there are no bytes, more are needed. The bytes of an instance and the elements of an array are not read.
 #[inline(always)]
 pub fn read_sub(bytes: &[u8], room: u32, longest: u32, ids: IdSize) -> Step<Fact<'_>>
     requires { 1 ≤ room }

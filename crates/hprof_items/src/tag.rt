@@ -1,4 +1,4 @@
-//! The tags of records, by the comment "HPROF binary format" in heapDumper.cpp.
+//! The tags of records, from the comment "HPROF binary format" in heapDumper.cpp.
 
 /// A name.
 pub const UTF8: u8 = 0x01;
@@ -9,10 +9,10 @@ pub const LOAD_CLASS: u8 = 0x02;
 /// A class was unloaded.
 pub const UNLOAD_CLASS: u8 = 0x03;
 
-/// A frame of a stack.
+/// A stack frame.
 pub const FRAME: u8 = 0x04;
 
-/// A stack's frames.
+/// A stack trace.
 pub const TRACE: u8 = 0x05;
 
 /// A thread started.
@@ -21,13 +21,13 @@ pub const START_THREAD: u8 = 0x0a;
 /// A thread ended.
 pub const END_THREAD: u8 = 0x0b;
 
-/// A heap dump: sub-records.
+/// A heap dump: a body of sub-records.
 pub const HEAP_DUMP: u8 = 0x0c;
 
-/// A piece of a heap dump: sub-records.
+/// A heap dump segment: a body of sub-records.
 pub const HEAP_DUMP_SEGMENT: u8 = 0x1c;
 
-/// The end of a heap dump that comes in segments.
+/// The end of a heap dump that has segments.
 pub const HEAP_DUMP_END: u8 = 0x2c;
 
 // Each is the byte of the format.

@@ -1,4 +1,4 @@
-//! The search for the end of a sub-record, by a walk that can stop when the bytes end and go on when more have come.
+//! Finding the end of a sub-record by a walk that stops where the bytes end and resumes when more have come.
 
 ghost use Rattle.std.specs.Prelude.{◌≡◌, ◌≢◌, ◌≤◌, ◌++◌, ℕ, List, length, IfErr, MatchResult, Ok, Err};
 ghost use Rattle.hprof_values.specs.FieldGroups.{with_more};
@@ -13,23 +13,23 @@ use crate::sub_reading::read_tag;
 use byteorder::{BigEndian, ByteOrder};
 use hprof_values::{BoundedBytes, EntryKind, IdSize, Stop, SubTag, entry_end};
 
-/// The point that a walk over a sub-record has reached.
+/// The point that the walk over a sub-record has reached.
 #[derive(Clone, Copy, Debug, PartialEq, Eq)]
 pub enum Walk {
-    /// Nothing is known yet.
+    /// Its first byte.
     Front,
-    /// The fields of a class were tested, and some entries are left of one of its lists.
+    /// An entry in a list of a class dump. The fields before the lists are tested.
     Entries {
         /// The list.
         kind: EntryKind,
-        /// The number of entries that are left.
+        /// The number of entries left in the list.
         left: usize,
-        /// The place at which the next of them begins.
+        /// The place where the next entry begins.
         at: usize,
     },
 }
 
-/// Passes the entries that are there, and tells the place where the last of the list ends.
+/// Walks over the available entries of a list, and returns the place where the last entry of the list ends.
 fn pass_entries(
     item: &BoundedBytes<'_>,
     ids: IdSize,
@@ -56,7 +56,7 @@ fn pass_entries(
     (Walk::Entries { kind, left, at }, Ok(at))
 }
 
-/// Returns the list behind one of that kind.
+/// Returns the list that follows a list of this kind.
 fn next_kind(kind: EntryKind) -> Option<EntryKind>
     ensures { result ≡ next_kind kind }
 {
@@ -67,7 +67,7 @@ fn next_kind(kind: EntryKind) -> Option<EntryKind>
     }
 }
 
-/// Returns the number of entries of the list whose count stands there, and the place where the first of them begins.
+/// Returns the count of entries that is stored at a place, and the place where the first entry begins.
 fn count_at(item: &BoundedBytes<'_>, at: usize) -> Result<(usize, usize), Stop>
     requires { at ≤ length item.now.bytes.now }
     ensures { result ≡ count_at (bounds_of item.now) item.now.bytes.now at }
@@ -77,7 +77,7 @@ fn count_at(item: &BoundedBytes<'_>, at: usize) -> Result<(usize, usize), Stop>
     Ok((usize::from(BigEndian::read_u16(rest)), begin))
 }
 
-/// Goes on with a list and those behind it.
+/// Walks over the rest of a list and over the lists after it.
 fn pass_lists(
     item: &BoundedBytes<'_>,
     ids: IdSize,
@@ -111,7 +111,7 @@ fn pass_lists(
     }
 }
 
-/// Returns the number of constants of a class, and the place where the first of them begins.
+/// Returns the number of constants of a class dump, and the place where the first begins.
 fn class_count(item: &BoundedBytes<'_>, ids: IdSize) -> Result<(usize, usize), Stop>
     ensures { result ≡ class_count ids (bounds_of item.now) item.now.bytes.now }
 {
@@ -120,7 +120,7 @@ fn class_count(item: &BoundedBytes<'_>, ids: IdSize) -> Result<(usize, usize), S
     count_at(item, front)
 }
 
-/// Returns the end of a sub-record that is no class.
+/// Returns the end of a sub-record that is no class dump.
 fn plain_end(item: &BoundedBytes<'_>, tag: SubTag, ids: IdSize) -> Result<usize, Stop>
     requires { tag ≢ SubTag.ClassDump }
     ensures { result ≡ end_of_read (dump_at ids tag (bounds_of item.now) item.now.bytes.now) }
@@ -134,7 +134,7 @@ fn plain_end(item: &BoundedBytes<'_>, tag: SubTag, ids: IdSize) -> Result<usize,
     }
 }
 
-/// Walks from the front of a sub-record.
+/// Walks from the first byte of a sub-record.
 fn pass_front(item: &BoundedBytes<'_>, ids: IdSize) -> (Walk, Result<usize, Stop>)
     ensures placed { IsPlaced item.now result.0 }
     ensures kept { FindsSame ids item.now result.0 Walk.Front }
@@ -154,10 +154,10 @@ fn pass_front(item: &BoundedBytes<'_>, ids: IdSize) -> (Walk, Result<usize, Stop
     }
 }
 
-/// Goes on with a walk as far as there are bytes. Returns the point that the walk has reached, with the end of the sub-record or the reason
-/// why it stopped.
+/// Resumes a walk as far as there are bytes.
 ///
-/// An entry that was passed is not tested again.
+/// Returns the point that the walk has reached, with the end of the sub-record or the reason why the walk stopped. An entry that was passed
+/// is not tested again.
 pub fn go_on(item: &BoundedBytes<'_>, ids: IdSize, walk: Walk) -> (Walk, Result<usize, Stop>)
     requires { IsPlaced item.now walk }
     ensures end { result.1 ≡ walked ids (bounds_of item.now) item.now.bytes.now walk }

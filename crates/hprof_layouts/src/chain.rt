@@ -1,4 +1,4 @@
-//! The chain of superclasses: a class, its superclass, and so on.
+//! The chain of superclasses of a class: the class, its superclass, and so on.
 
 ghost use Rattle.std.specs.Prelude.{◌≡◌, ◌⊎◌};
 ghost use Rattle.hprof_heap.specs.HeapFacts.{facts_of};
@@ -6,29 +6,29 @@ ghost use Rattle.hprof_layouts.specs.Layout.{EndsAs};
 
 use hprof_heap::{Heap, Table, find_class, table_len};
 
-/// The end of the chain of a class.
+/// The way in which the chain of a class ends.
 #[derive(Clone, Copy, Debug, PartialEq, Eq)]
 pub(crate) enum ChainEnd {
-    /// At 0, after this number of classes.
+    /// It ends at 0, after this number of classes.
     Zero(usize),
-    /// At a class that has no dump.
+    /// It ends at a class that has no dump.
     Missing(u64),
-    /// Nowhere: a class comes twice.
+    /// It does not end: it comes to a class again.
     Cyclic,
 }
 
-/// A class that the chain passed, for which it is watched: to come to it again is to go round.
+/// A class on the chain. If the chain comes to it again, it is cyclic.
 #[derive(Clone, Copy)]
 struct Mark {
     /// The class.
     class: u64,
-    /// The number of classes that were passed before it.
+    /// The number of classes before it on the chain.
     before: usize,
 }
 
 impl Mark {
-    /// Returns the mark behind `passed` classes: each time twice as many were passed, the class that was come to. So a circle is found
-    /// within a few rounds of it, and none of its classes is looked up more often.
+    /// Returns the mark after `passed` classes. The mark moves to the current class each time twice as many classes were passed, so a cycle
+    /// is found after a few rounds of it, and each of its classes is looked up only a few times.
     fn behind(self, passed: usize, at: u64) -> Mark
         ensures { (result.class ≡ self.class) ⊎ (result.class ≡ at) }
     {
@@ -42,8 +42,8 @@ impl Mark {
     }
 }
 
-/// Returns the end of the chain of a class. A chain that comes to a mark again is a circle, and so is one that is longer than the number of
-/// class dumps. Nothing is allocated.
+/// Returns the way in which the chain of a class ends. The chain is cyclic if it comes to a mark again, or is longer than the number of
+/// class dumps. Allocates nothing.
 pub(crate) fn chain_end(heap: &Heap, class: u64) -> ChainEnd
     ensures { EndsAs (facts_of heap.now) class result }
 {

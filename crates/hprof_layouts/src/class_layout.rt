@@ -10,7 +10,7 @@ use crate::slot::{Layout, Slot};
 use hprof_heap::{ClassDump, Heap, find_class};
 use std::alloc::{AllocError, Global};
 
-/// Puts the slots of a class's own fields behind others.
+/// Appends the slots of a class's own fields.
 fn push_own_slots(slots: &mut Vec<Slot>, dump: &ClassDump<'_>) -> Result<(), AllocError>
     ensures { OnOk result (slots.new.items ≡ slots.old.items ++ own_slots (class_value dump.now)) }
 {
@@ -24,7 +24,7 @@ fn push_own_slots(slots: &mut Vec<Slot>, dump: &ClassDump<'_>) -> Result<(), All
     Ok(())
 }
 
-/// Returns the slots of a class whose chain of superclasses comes to 0 after `count` classes.
+/// Returns the slots of a class whose chain of superclasses ends at 0 after `count` classes.
 fn slots_along(
     alloc: Global,
     heap: &Heap,
@@ -46,8 +46,7 @@ fn slots_along(
     Ok(slots)
 }
 
-/// Returns the layout of a class, or why it has none. Memory is taken for a known layout alone; if it runs out, the answer is
-/// `AllocError`.
+/// Returns the layout of a class, or why it has none. Allocates only for a known layout. If memory runs out, the answer is `AllocError`.
 pub fn layout(alloc: Global, heap: &Heap, class: u64) -> Result<Layout, AllocError>
     ensures { IfOk result (λ layout. IsLayout (facts_of heap.now) class (layout_value layout)) }
 {

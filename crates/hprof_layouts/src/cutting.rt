@@ -1,4 +1,4 @@
-//! Values, cut from the bytes of an instance.
+//! Reading the values of fields from the bytes of an instance.
 
 ghost use Rattle.std.specs.Prelude.{◌≡◌, length, IfOk};
 ghost use Rattle.hprof_layouts.specs.Fields.{width_of_slots, values_in};
@@ -9,7 +9,7 @@ use hprof_values::IdSize;
 use hprof_values::number::bits_at;
 use std::alloc::{AllocError, Global};
 
-/// Returns the number of bytes of the values of slots.
+/// Returns the number of bytes of the values of these slots.
 pub(crate) fn width_of_slots(slots: &[Slot], ids: IdSize) -> u128
     ensures { result ≡ width_of_slots ids slots.now }
 {
@@ -20,7 +20,7 @@ pub(crate) fn width_of_slots(slots: &[Slot], ids: IdSize) -> u128
     width
 }
 
-/// Returns the values of slots that fill the bytes.
+/// Returns the values of the slots that fill the bytes.
 pub(crate) fn cut(
     alloc: Global,
     slots: &[Slot],

@@ -1,17 +1,17 @@
-//! The fields of an object.
+//! The fields of an object, with their values.
 
 use hprof_values::Basic;
 
 /// A field of an instance, with its value.
 #[derive(Clone, Copy, Debug, PartialEq, Eq)]
 pub struct FieldValue {
-    /// The class that has it as an own field: that of the instance, or one above it.
+    /// The class that declares the field: that of the instance, or a superclass.
     pub class: u64,
     /// The identifier of its name.
     pub name: u64,
     /// The type of its value.
     pub basic: Basic,
-    /// The bits of its value: its bytes as one number, the highest byte first.
+    /// The raw bits of the value: its bytes as one big-endian number.
     pub bits: u64,
 }
 
@@ -22,11 +22,11 @@ pub enum Fields {
     Values(Vec<FieldValue>),
     /// The layout of its class misses this class.
     Missing(u64),
-    /// The superclasses of its class run in a circle.
+    /// The class, or this superclass of it, has no dump.
     Cyclic,
-    /// The slots of its class have this number of bytes, and the instance another one.
+    /// The superclasses of the class form a cycle.
     WidthDiffers(u128),
-    /// The object is an array.
+    /// The slots of the class have this number of bytes, and the instance has another.
     NotAnInstance,
     /// The object has no dump.
     NoObject,

@@ -1,4 +1,4 @@
-//! Known layouts, kept as classes come.
+//! Known layouts, updated as class dumps come.
 
 ghost use Rattle.std.specs.Prelude.{◌≡◌, ◌≢◌, ◌↔◌, ◌+◌, ◌^◌, ◌≤◌, ◌<◌, ◌∷◌, ◌++◌, ℕ, List, [], length, IsTrue, IfNone, IfSome, OnOk, IfOk};
 ghost use Rattle.std.specs.Prelude.{Option, Some, vec_len};
@@ -25,7 +25,7 @@ use hprof_tables::HintedMap;
 use hprof_values::IdSize;
 use std::alloc::{AllocError, Global};
 
-/// A class that came, and whose layout is not known.
+/// A class whose dump came, but whose layout is not known yet.
 #[derive(Drop)]
 struct Waiting {
     /// The class.
@@ -34,8 +34,7 @@ struct Waiting {
     own: OwnLayout,
 }
 
-/// The plan of each class whose layout is known, with which its instances are laid. A class that came waits until the layout of
-/// its superclass is known.
+/// The plan of each class whose layout is known. Instances are laid with it. A class waits until the layout of its superclass is known.
 #[derive(Drop)]
 pub struct KnownLayouts {
     alloc: Global,
@@ -44,7 +43,7 @@ pub struct KnownLayouts {
 }
 
 impl KnownLayouts {
-    /// Creates the known layouts of no classes. Allocates nothing.
+    /// Returns the known layouts of no classes. Allocates nothing.
     pub fn new(alloc: Global) -> KnownLayouts
         ensures { (ids : IdSize) → Knows ids [] result }
     {
@@ -63,7 +62,7 @@ impl KnownLayouts {
         self.is_ready(class)
     }
 
-    /// Returns whether the class is 0, or has a plan.
+    /// Returns whether the class is 0 or has a plan.
     #[inline(always)]
     fn is_ready(&self, class: u64) -> bool
         ensures { IsTrue result ↔ CanWake (plan_of self.now) class }
@@ -71,7 +70,7 @@ impl KnownLayouts {
         class == 0 || self.plans.contains_key(class)
     }
 
-    /// Returns the outline of the layout of a class, if it is known: the plans of the classes below it are made with it.
+    /// Returns the outline of a class's layout, if it is known. The plans of its subclasses are made with it.
     fn outline(&self, class: u64) -> Option<Outline>
         ensures some { IfSome result (λ outline. IsOutlineOf self.now class outline) }
         ensures ready { IfNone result (CanWake (plan_of self.now) class → ⊥) }
@@ -83,7 +82,7 @@ impl KnownLayouts {
         }
     }
 
-    /// Returns the plan of a class, and looks for it at that place first. The answer is the same for every place.
+    /// Returns the plan of a class, looking at a place first. The answer is the same for every place.
     #[inline(always)]
     fn plan_at(&self, class: u64, at: usize) -> Option<&Plan>
         ensures { option_copied result ≡ plan_of self.now class }
@@ -94,9 +93,9 @@ impl KnownLayouts {
         }
     }
 
-    /// Takes a class dump, the first of its class, and returns the classes whose layouts become known by it, each once.
+    /// Takes the first class dump of a class, and returns the classes whose layouts become known by it, each once.
     ///
-    /// Identifiers have the size `ids`. If memory runs out, nothing holds of the known layouts.
+    /// Identifiers have the size `ids`. If memory runs out, the answer is `AllocError` and the known layouts are unspecified.
     pub fn come(&mut self, dump: &ClassDump<'_>, ids: IdSize) -> Result<Vec<u64>, AllocError>
         ensures ok { OnOk result ((facts more : List FactValue) → Knows ids facts self.old → HasNoDump facts dump.now.id
             → HasDumpMore facts (class_value dump.now) more → Knows ids more self.new) }
@@ -123,7 +122,7 @@ impl KnownLayouts {
         Ok(woken)
     }
 
-    /// Returns the plan of a class with these own fields, below a class of that outline. It is put in at that place.
+    /// Returns the plan of a class with these own fields, whose superclass has this outline. The plan is meant for the place `at`.
     fn make_plan(&self, outline: Outline, at: usize, own: OwnLayout) -> Result<Plan, AllocError>
         ensures { IfOk result (λ plan. (ids : IdSize) (facts : List FactValue) (slots : List Slot) → ArePlans ids facts (plan_of self.now)
             → IsOutline ids facts slots outline → IsPlanBelow ids facts slots own plan) }
@@ -139,7 +138,7 @@ impl KnownLayouts {
         Ok(plan)
     }
 
-    /// Makes plans of the classes that wait for a class that has one, and puts these classes behind `woken`.
+    /// Makes the plans of the classes that wait for a class, which has a plan, and appends these classes to `woken`.
     fn wake_below(&mut self, class: u64, woken: &mut Vec<u64>) -> Result<(), AllocError>
         ensures ok { OnOk result ((ids : IdSize) (facts : List FactValue) (before : ℕ → Option Plan) (pending : List ℕ)
             → CanWake (plan_of self.old) class → IsWaking ids facts before self.old woken.old.items (class ∷ pending)
@@ -161,7 +160,7 @@ impl KnownLayouts {
         Ok(())
     }
 
-    /// Makes plans of the classes that wait for those that got one, and so on, until none waits for one of them.
+    /// Makes the plans of the classes that wait for a class in `woken`, and appends these classes, until none waits for one of them.
     fn wake_all(&mut self, woken: &mut Vec<u64>) -> Result<(), AllocError>
         ensures { OnOk result ((ids : IdSize) (facts : List FactValue) (before : ℕ → Option Plan)
             → IsWaking ids facts before self.old woken.old.items woken.old.items
@@ -175,7 +174,7 @@ impl KnownLayouts {
         Ok(())
     }
 
-    /// Returns the plan of the class that a jump goes to, if the fields that the plan keeps together lie within `room` bytes.
+    /// Returns the plan that a jump leads to, if the fields that the plan covers lie within `room` bytes.
     #[inline(always)]
     fn landing(&self, jump: Jump, room: usize) -> Option<&Plan>
         ensures plan { IfSome result (λ plan. plan_of self.now jump.class ≡ Some plan.now) }
@@ -192,8 +191,8 @@ impl KnownLayouts {
         Some(plan)
     }
 
-    /// Puts the references of slots behind other references, as far as they are wanted. The bytes are the values of the slots, and `place`
-    /// fields stand before them. None of the slots refers to anything before the class that the jump goes to.
+    /// Appends the wanted references of slots. The bytes are the values of the slots, and `place` fields come before them. No slot before
+    /// the class that the jump leads to is a reference.
     fn lay_above(
         &self,
         first: Jump,
@@ -227,8 +226,7 @@ impl KnownLayouts {
         }
     }
 
-    /// Puts the references of an instance behind other references, as far as they are wanted. Its class has the plan, and its slots have
-    /// these bytes.
+    /// Appends the wanted references of an instance. Its class has this plan, and its slots have these bytes.
     #[inline(always)]
     fn lay_plan(
         &self,
@@ -254,11 +252,11 @@ impl KnownLayouts {
         Ok(())
     }
 
-    /// Sets `references` to the references of an instance of the class, as far as they are wanted, and returns whether the layout of the
-    /// class is known.
+    /// Sets `references` to the wanted references of an instance of the class, in the order of its fields. Returns whether the layout of
+    /// the class is known.
     ///
-    /// `bytes` are the instance's, and the references come in the order of its fields. There are none if the layout is not known, or has
-    /// another number of bytes. The class is looked up once. If memory runs out, nothing holds of the references.
+    /// `bytes` are those of the instance. There are no references if the layout is not known, or has another number of bytes. The class is
+    /// looked up once. If memory runs out, the answer is `AllocError` and the contents of `references` are unspecified.
     #[inline(always)]
     pub fn lay(
         &self,

@@ -1,4 +1,4 @@
-//! Laws of the definitions. None of these functions does anything.
+//! Laws of the definitions. The contract of each function is a theorem; its body is empty.
 
 ghost use Rattle.std.specs.Prelude.{◌≡◌, List, ℕ, ◌↔◌};
 ghost use Rattle.hprof_values.specs.declared.ids.IdSize.{IdSize};
@@ -19,7 +19,7 @@ pub fn one_layout()
         → IsLayout facts class one → IsLayout facts class other → one ≡ other }
 {}
 
-/// With more facts a layout that is known stays, and so does one that is cyclic.
+/// With more facts, a known layout stays known and the same, and a cyclic one stays cyclic.
 pub fn more_facts_keep_layouts()
     ensures known { (facts more : List FactValue) (class : ℕ) (slots : List Slot)
         → ((fact : FactValue) → Has facts fact → Has more fact) → IsKnown facts class slots → IsKnown more class slots }
@@ -27,14 +27,14 @@ pub fn more_facts_keep_layouts()
         → ((fact : FactValue) → Has facts fact → Has more fact) → IsCyclic facts class → IsCyclic more class }
 {}
 
-/// An object has exactly one answer of `fields`.
+/// An object has exactly one result of `fields`.
 pub fn one_answer_of_fields()
     ensures exists { (ids : IdSize) (facts : List FactValue) (object : ℕ) → (fields : FieldsValue) × AreFields ids facts object fields }
     ensures once { (ids : IdSize) (facts : List FactValue) (object : ℕ) (one other : FieldsValue) → IsConsistent facts
         → AreFields ids facts object one → AreFields ids facts object other → one ≡ other }
 {}
 
-/// The known layouts depend on class dumps alone.
+/// The known layouts depend on the class dumps alone.
 pub fn dumps_decide_what_is_known()
     ensures { (ids : IdSize) (facts more : List FactValue) (known : KnownLayouts)
         → ((dump : ClassValue) → HasDump more dump ↔ HasDump facts dump) → Knows ids facts known → Knows ids more known }

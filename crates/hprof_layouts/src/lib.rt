@@ -1,5 +1,5 @@
-//! Layouts of classes, and the fields of objects.
-//! Layouts of classes that come one by one, kept so that an instance is laid at the cost of the references that it has.
+//! Layouts of classes, and the fields of objects: for one class or object of a heap, or for many instances, with layouts that are updated
+//! as class dumps come. With these, finding the references of an instance costs time for its references, not for its fields.
 #![tactic(auto)]
 
 mod chain;

@@ -11,7 +11,7 @@ use crate::slot::Layout;
 use hprof_heap::{Heap, ObjectDump, find_object, id_size};
 use std::alloc::{AllocError, Global};
 
-/// Returns the fields of an instance of a class that has these bytes.
+/// Returns the fields of an instance with these bytes.
 fn instance_fields(
     alloc: Global,
     heap: &Heap,

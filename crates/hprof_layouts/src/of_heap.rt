@@ -8,8 +8,7 @@ use crate::known::KnownLayouts;
 use hprof_heap::{Heap, Table, id_size, table_facts, to_class_dump};
 use std::alloc::{AllocError, Global};
 
-/// Returns the layouts of a heap's classes that are known, in one pass over its class dumps. If memory runs out, the answer is
-/// `AllocError`.
+/// Returns the known layouts of a heap's classes, in one pass over its class dumps. If memory runs out, the answer is `AllocError`.
 pub fn known_layouts(alloc: Global, heap: &Heap) -> Result<KnownLayouts, AllocError>
     ensures { IfOk result (Knows (size_of heap.now) (facts_of heap.now)) }
 {

@@ -1,4 +1,4 @@
-//! The own fields of classes, as far as laying their instances needs them.
+//! The own fields of classes, as plans store them.
 
 ghost use Rattle.std.specs.Prelude.{◌≡◌, ◌++◌, ◌+◌, ◌≤◌, ◌<◌, ◌^◌, List, length, drop, vec_len, IsTrue, IfOk, OnOk};
 ghost use Rattle.std.specs.Option.{SomeIff};
@@ -19,10 +19,10 @@ use hprof_values::IdSize;
 use hprof_values::number::id_at;
 use std::alloc::{AllocError, Global};
 
-/// The own fields of several classes are kept together if at most this many of them refer to something.
+/// The most references in the own fields of several classes that one plan covers.
 const MOST_TOGETHER: usize = 32;
 
-/// An own field of a class that refers to something.
+/// An own field of a class that is a reference.
 #[derive(Clone, Copy, Debug, PartialEq, Eq)]
 pub(crate) struct OwnReference {
     /// The number of bytes of the own fields before it.
@@ -31,18 +31,18 @@ pub(crate) struct OwnReference {
     pub(crate) place: u64,
 }
 
-/// The own fields of a class, or of several classes, those of one behind those of the other.
+/// The own fields of a class, or of several classes, one after the other.
 #[derive(Drop)]
 pub(crate) struct OwnLayout {
-    /// The number of their bytes.
+    /// The number of bytes of the own fields.
     pub(crate) width: usize,
     /// The number of own fields.
     pub(crate) count: u64,
-    /// Those that refer to something, in their order.
+    /// The own fields that are references, in order.
     pub(crate) references: Vec<OwnReference>,
 }
 
-/// Returns the own fields of a class, if identifiers have that size.
+/// Returns the own fields of a class, with this identifier size.
 pub(crate) fn own_fields(
     alloc: Global,
     dump: &ClassDump<'_>,
@@ -70,7 +70,7 @@ pub(crate) fn own_fields(
     })
 }
 
-/// Returns the identifier behind `offset` bytes, or `None` if the bytes do not reach so far.
+/// Returns the identifier at `offset`, or `None` if the bytes end before its end.
 #[inline(always)]
 fn id_behind(bytes: &[u8], offset: usize, ids: IdSize) -> Option<u64>
     ensures { SomeIff result (offset + width_of ids ≤ length bytes.now) (big_number (width_of ids) (drop offset bytes.now)) }
@@ -83,7 +83,7 @@ fn id_behind(bytes: &[u8], offset: usize, ids: IdSize) -> Option<u64>
 }
 
 impl OwnReference {
-    /// Returns the same field, behind `offset` more bytes and `place` more fields.
+    /// Returns the same field, with `offset` more bytes and `place` more fields before it.
     #[inline(always)]
     fn behind(self, offset: usize, place: u64) -> OwnReference
         ensures { result ≡ reference_behind offset place self }
@@ -96,8 +96,8 @@ impl OwnReference {
 }
 
 impl OwnLayout {
-    /// Returns whether these fields and others, `offset` bytes behind them, are to be kept together: some of these refer to something, few
-    /// of all do, and the bytes of all can be counted.
+    /// Returns whether one plan should cover both these fields and others, which begin at `offset`: some of these are references, few in
+    /// all are, and the number of bytes of all fits `usize`.
     pub(crate) fn goes_with(&self, offset: usize, others: &OwnLayout) -> bool
         ensures some { IsTrue result → 0 < vec_len self.now.references }
         ensures few { IsTrue result → vec_len self.now.references + vec_len others.now.references ≤ 32 }
@@ -112,8 +112,8 @@ impl OwnLayout {
         count != 0 && together <= MOST_TOGETHER && end < usize::MAX
     }
 
-    /// Puts other fields behind these, with some bytes and fields between them, none of which refers to anything. If memory runs out,
-    /// nothing holds of these.
+    /// Appends other fields, after a gap of some bytes and fields, none of which is a reference. If memory runs out, the answer is
+    /// `AllocError` and these fields are unspecified.
     pub(crate) fn append(
         &mut self,
         offset: usize,
@@ -135,8 +135,8 @@ impl OwnLayout {
         Ok(())
     }
 
-    /// Puts the references of the own fields behind other references, as far as they are wanted. The bytes begin with the values of the own
-    /// fields, and some fields stand before them.
+    /// Appends the wanted references of the own fields. The bytes begin with the values of the own fields, and `place` fields come before
+    /// them.
     #[inline(always)]
     pub(crate) fn push_references(
         &self,

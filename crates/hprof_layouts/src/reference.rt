@@ -6,16 +6,16 @@ ghost use Rattle.hprof_layouts.specs.Refers.{refers};
 
 use hprof_values::Basic;
 
-/// A field of an instance that refers to something.
+/// A field of an instance that is a reference.
 #[derive(Clone, Copy, Debug, PartialEq, Eq)]
 pub struct Reference {
     /// The place of the field in the layout of its class, counted from 0.
     pub place: u64,
-    /// The identifier that is its value; 0 if it refers to nothing.
+    /// The identifier that the field holds; 0 for a null reference.
     pub to: u64,
 }
 
-/// The references that are wanted.
+/// The references that a caller wants.
 #[derive(Clone, Copy, Debug, PartialEq, Eq)]
 pub enum Wanted {
     /// All of them.
@@ -37,7 +37,7 @@ impl Wanted {
     }
 }
 
-/// Returns whether the values of the type are identifiers, so that a field of it refers to something.
+/// Returns whether values of the type are identifiers, so that a field of the type is a reference.
 pub fn refers(basic: Basic) -> bool
     ensures { result ≡ refers basic }
 {

@@ -1,11 +1,11 @@
-//! Waiting items, by the class that they wait for.
+//! Lists of items that wait for a class.
 
 ghost use Rattle.std.specs.Prelude.{◌≡◌, ◌+◌, ◌∷◌, ◌++◌, ℕ, [], length, IfNone, IfSome, OnOk};
 
 use std::alloc::{AllocError, Global};
 use std::collections::BTreeMap;
 
-/// For each class the items that wait for it, in the order in which they came.
+/// For each class the items that wait for it, in the order in which they were added.
 #[derive(Drop)]
 pub struct WaitingLists<T> {
     alloc: Global,
@@ -15,7 +15,7 @@ pub struct WaitingLists<T> {
 impl<T> WaitingLists<T> {
     ghost use Rattle.hprof_layouts.specs.WaitingLists.{number_in, put, waiting_for};
 
-    /// Creates lists in which nothing waits. Allocates nothing.
+    /// Returns empty lists. Allocates nothing.
     pub fn new(alloc: Global) -> WaitingLists<T>
         ensures { (class : ℕ) → waiting_for result class ≡ [] }
     {
@@ -25,7 +25,7 @@ impl<T> WaitingLists<T> {
         }
     }
 
-    /// Puts an item behind those that wait for the class. If memory runs out, nothing holds of the items that wait.
+    /// Appends an item to the list of a class. If memory runs out, the answer is `AllocError` and the lists are unspecified.
     pub fn add(&mut self, class: u64, item: T) -> Result<(), AllocError>
     where
         T: Drop,
@@ -40,7 +40,7 @@ impl<T> WaitingLists<T> {
         Ok(())
     }
 
-    /// Takes out the items that wait for the class, or returns `None` if there are none.
+    /// Removes the list of a class, and returns it, or `None` if nothing waits for the class.
     pub fn take(&mut self, class: u64) -> Option<Vec<T>>
         ensures some { IfSome result (λ list. list.items ≡ waiting_for self.old class) }
         ensures none { IfNone result (waiting_for self.old class ≡ []) }

@@ -1,4 +1,4 @@
-//! The names of all classes of a heap, gathered in one pass.
+//! The names of all classes of a heap, collected in one pass.
 
 ghost use Rattle.std.specs.Prelude.{◌↔◌, IfOk, IsTrue, List, OnOk};
 ghost use Rattle.std.specs.Ordering.{nat_cmp};
@@ -13,10 +13,10 @@ use hprof_items::Fact;
 use std::alloc::{AllocError, Global};
 use std::collections::BTreeMap;
 
-/// The name of a class, as one of the facts has it that load the class.
+/// The name of a class, from one load.
 #[derive(Clone, Copy, Debug, PartialEq, Eq)]
 struct Named {
-    /// The serial under which the class was loaded.
+    /// The serial number of the load.
     serial: u32,
     /// The identifier of its name.
     name: u64,
@@ -29,7 +29,7 @@ pub struct ClassNames {
 }
 
 impl ClassNames {
-    /// Returns the names of a heap, found in one pass over its loads. If memory runs out, the answer is `AllocError`.
+    /// Returns the names of a heap's classes, in one pass over its loads. If memory runs out, the answer is `AllocError`.
     pub fn of(alloc: Global, heap: &Heap) -> Result<ClassNames, AllocError>
         ensures { IfOk result (AreClassNames (facts_of heap.now)) }
     {
@@ -42,7 +42,7 @@ impl ClassNames {
         Ok(names)
     }
 
-    /// Returns whether no load of the class came so far, or only loads with greater serials.
+    /// Returns whether the loads of the class so far have greater serial numbers, or there are none.
     fn comes_first(&self, class: u64, serial: u32) -> bool
         ensures { IsTrue result ↔ IsBelow serial (get nat_cmp self.now.names class) }
     {
@@ -52,7 +52,7 @@ impl ClassNames {
         }
     }
 
-    /// Keeps the name in a fact that loads a class, if its serial is the least so far.
+    /// Stores the name from a load, if its serial number is the least so far.
     fn note(&mut self, fact: &Fact<'_>) -> Result<(), AllocError>
         ensures { OnOk result (NotesFact (value_of fact.now) self.old self.new) }
     {
@@ -72,7 +72,7 @@ impl ClassNames {
         }
     }
 
-    /// Returns the name of a class, from the load with the least serial; None if no load has the class.
+    /// Returns the identifier of a class's name, from the load with the least serial number, or `None` if no load has the class.
     pub fn name_of(&self, class: u64) -> Option<u64>
         ensures { (facts : List FactValue) → AreClassNames facts self.now → NamesClass facts class result }
     {

@@ -1,5 +1,4 @@
-//! Names, classes and types as reports print them.
-//! The contents of objects as a person reads them: the text of strings and of arrays.
+//! Names, classes and types as reports print them, and the text of strings and arrays.
 #![tactic(auto)]
 
 mod class_names;

@@ -1,4 +1,4 @@
-//! The text of an object, found.
+//! Finding the text of an object.
 
 ghost use Rattle.std.specs.Prelude.{◌≡◌, true, false, IfOk};
 ghost use Rattle.hprof_heap.specs.HeapFacts.{facts_of, size_of};
@@ -25,7 +25,7 @@ fn is_named(heap: &Heap, name: u64, word: &[u8]) -> bool
     }
 }
 
-/// Returns the first of the values whose name has exactly these bytes, or `None` if none has.
+/// Returns the first of the values whose name has exactly these bytes, or `None` if there is none.
 fn first_named(heap: &Heap, word: &[u8], values: &[FieldValue]) -> Option<FieldValue>
     ensures { IsFirstNamed (facts_of heap.now) word.now values.now result }
 {
@@ -57,7 +57,7 @@ fn target_of_field(field: Option<FieldValue>) -> u64
     }
 }
 
-/// Returns the text of an array. Its bytes are borrowed from the heap.
+/// Returns the text of an array. The bytes borrow from the heap.
 fn array_text<'a>(is_wide: bool, dump: ObjectDump<'a>) -> Text<'a>
     ensures { text_value result ≡ array_text is_wide (fact_of_object dump.entry) }
 {
@@ -73,7 +73,7 @@ fn array_text<'a>(is_wide: bool, dump: ObjectDump<'a>) -> Text<'a>
     Text::Units(Units { bytes, coding })
 }
 
-/// Returns the text of an instance that has these values.
+/// Returns the text of an instance with these values.
 fn string_text<'a>(heap: &'a Heap, values: &[FieldValue]) -> Text<'a>
     ensures { IsStringText (facts_of heap.now) values.now (text_value result) }
 {
@@ -97,15 +97,16 @@ fn instance_text<'a>(alloc: Global, heap: &'a Heap, id: u64) -> Result<Text<'a>,
     }
 }
 
-/// Returns the text of an identifier. Its bytes are borrowed from the heap.
+/// Returns the text of an identifier. Its bytes borrow from the heap.
 ///
 /// - A char array: its elements.
 /// - A byte array: its bytes, as Latin-1.
 /// - An instance: the text of the char or byte array that its first field `value` refers to. If its first field `coder` is of type byte and
-///   has the bits 1, the bytes are UTF-16, the lower byte first, and an odd number of them is no text; otherwise they are Latin-1.
-/// - Any other class or object: [`Text::NoText`]. An identifier without a class dump and an object dump: [`Text::Nothing`].
+///   has the bits 1, the bytes are UTF-16, little-endian, and an odd number of them is no text; otherwise they are Latin-1.
+/// - Any other class or object: [`Text::NoText`].
+/// - An identifier without a class dump and an object dump: [`Text::Nothing`].
 ///
-/// If the identifier has both dumps, the object dump is read. A field that is 0 refers to nothing. If memory runs out, the answer is
+/// If the identifier has both dumps, the object dump is used. A field that is 0 refers to nothing. If memory runs out, the answer is
 /// `AllocError`.
 pub fn text_of<'a>(alloc: Global, heap: &'a Heap, id: u64) -> Result<Text<'a>, AllocError>
     ensures { IfOk result (λ text. IsText (size_of heap.now) (facts_of heap.now) id (text_value text)) }

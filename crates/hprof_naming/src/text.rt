@@ -3,20 +3,20 @@
 /// The coding of the bytes of a text.
 #[derive(Clone, Copy, Debug, PartialEq, Eq)]
 pub enum Coding {
-    /// Two bytes a unit, the higher one first: the elements of a char array.
+    /// Big-endian UTF-16: the elements of a char array.
     Chars,
     /// One byte a unit.
     Latin1,
-    /// Two bytes a unit, the lower one first.
+    /// Little-endian UTF-16.
     Utf16,
 }
 
-/// The units of a text, as they lie in the heap.
+/// The UTF-16 or Latin-1 units of a text, as the heap stores them.
 #[derive(Clone, Copy, Debug, PartialEq, Eq)]
 pub struct Units<'a> {
     /// Their bytes.
     pub bytes: &'a [u8],
-    /// How the bytes are read as units.
+    /// The coding of the bytes.
     pub coding: Coding,
 }
 
@@ -27,6 +27,6 @@ pub enum Text<'a> {
     Units(Units<'a>),
     /// Another class or object.
     NoText,
-    /// The heap has no class dump and no object dump of it.
+    /// The heap has neither a class dump nor an object dump of the identifier.
     Nothing,
 }

@@ -1,11 +1,11 @@
-//! Types in print.
+//! The printed names of types.
 
 ghost use Rattle.std.specs.Prelude.{◌≡◌};
 ghost use Rattle.hprof_naming.specs.TypeWord.{type_word};
 
 use hprof_values::Basic;
 
-/// Returns the word for a type: heapDumper.cpp, "HPROF binary format", the basic types.
+/// Returns the name of a type, from the basic types of heapDumper.cpp, "HPROF binary format".
 pub fn type_word(basic: Basic) -> &'static str
     ensures { result.now ≡ type_word basic }
 {

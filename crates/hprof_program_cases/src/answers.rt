@@ -1,4 +1,4 @@
-//! Answers, of which each is equal to itself alone, and the texts of faults that no small part has.
+//! Faults, each of which equals only itself, and the texts of faults that no small part has.
 
 use crate::expecting::{equal, equal_at};
 use hprof_devices::WriteFault;
@@ -8,7 +8,7 @@ use hprof_items::Reason;
 use hprof_stream::{PartFault, SinkFault};
 use std::test::Fail;
 
-/// Faults of parts of that number, with their texts.
+/// Faults of parts, with the number of the part and the text.
 const OF_PARTS: [(usize, PartFault, &str); 10] = [
     (10, PartFault::Read, "part 10: read failed"),
     (10, PartFault::BytesExceeded, "part 10: too many bytes"),
@@ -58,7 +58,7 @@ fn texts_of_faults_of_parts(rt: HostRuntime) -> Result<(), Fail> {
     Ok(())
 }
 
-/// Faults, no two of them alike, and the texts of those that are no faults of parts.
+/// Faults, no two of them equal, with the texts of those that are not faults of parts.
 const FAULTS: [(ToolFault, &str); 12] = [
     (
         ToolFault::Part {

@@ -9,7 +9,7 @@ use std::process::Abort;
 use std::test::Fail;
 use std::{env, fs};
 
-/// Returns the path of a file of that name in the folder for such files. No file is there.
+/// Returns the path of a new file with this name, in the folder of the tests.
 fn path_of(rt: &HostRuntime, name: &str) -> Result<String, Fail> {
     let folder = env::temp_dir(rt)?;
     let folder = folder.to_str().ok_or("the folder's name is text")?;
@@ -18,7 +18,7 @@ fn path_of(rt: &HostRuntime, name: &str) -> Result<String, Fail> {
     Ok(path)
 }
 
-/// Writes a file of that name with the texts, and gives its path.
+/// Writes a file with this name and these contents, and returns its path.
 fn written(rt: &HostRuntime, name: &str, texts: &[&[u8]]) -> Result<String, Fail> {
     let path = path_of(rt, name)?;
     let bytes = bytes_of(rt.alloc(), texts)?;
@@ -26,7 +26,7 @@ fn written(rt: &HostRuntime, name: &str, texts: &[&[u8]]) -> Result<String, Fail
     Ok(path)
 }
 
-/// Checks the status of the program, and its text on the errors. It prints nothing.
+/// Asserts the status of the program and its text on standard error. It prints nothing on standard output.
 fn expect_ran(
     rt: &impl Abort,
     files: &HostRuntime,
@@ -60,12 +60,12 @@ fn remove(rt: &HostRuntime, paths: &[&str]) -> Result<(), Fail> {
     Ok(())
 }
 
-/// Returns the record of the name `n` of this identifier.
+/// Returns the record of the name `n` with this identifier.
 fn name_of(id: u8) -> [u8; 14] {
     [1, 0, 0, 0, 0, 0, 0, 0, 5, 0, 0, 0, id, b'n']
 }
 
-/// Returns the dump of the names from 1 on.
+/// Returns the dump of the names from 1 to `count`.
 fn dump_of_names(alloc: Global, count: u8) -> Result<Vec<u8>, AllocError> {
     let mut dump = bytes_of(alloc, &[HEADER])?;
     for id in 1..=count {

@@ -1,4 +1,4 @@
-//! Parts of thousands of facts, and thousands of parts.
+//! Parts with thousands of facts, and thousands of parts.
 
 use crate::expecting::{equal, equal_bytes, equal_text};
 use crate::pieces::dump_of;
@@ -67,7 +67,7 @@ fn thousands_of_facts_in_pieces_of_seven(rt: HostRuntime) -> Result<(), Fail> {
     Ok(())
 }
 
-/// Returns the report on `count` parts, each of which states name 1.
+/// Returns the report on `count` parts, all of which state name 1.
 fn report_on(alloc: Global, count: u32) -> Result<String, AllocError> {
     let mut report = String::new(alloc);
     for number in 0..count {

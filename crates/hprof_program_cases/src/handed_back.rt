@@ -1,4 +1,4 @@
-//! Heaps that are handed back beside the written bytes, and the names of their classes.
+//! The heaps that calls return with the bytes that they write, and the names of their classes.
 
 use crate::expecting::{equal, equal_bytes};
 use crate::samples::readers_of;
@@ -11,7 +11,7 @@ use hprof_stream::Limits;
 use std::process::Abort;
 use std::test::Fail;
 
-/// Checks that this was counted and written of the plain part, and that its heap is handed back.
+/// Asserts the numbers and the bytes of a join of the plain part, and the heap that it returns.
 fn expect_kept(rt: &impl Abort, (joined, heap): (Joined, Heap), found: &[u8], expected: &[u8]) {
     equal(rt, joined, Joined { parts: 1, facts: 4 });
     let names = (heap.name(1).is_some(), heap.name(3).is_some());
@@ -68,7 +68,7 @@ fn salvaged(rt: HostRuntime) -> Result<(), Fail> {
     Ok(())
 }
 
-/// Class 100 is loaded under serial 3 as name 1, and under serial 1 as name 2, which is `p/A`; class 99 is not loaded.
+/// Class 100 is loaded with serial number 3 as name 1, and with serial number 1 as name 2, which is `p/A`. Class 99 is not loaded.
 const LOADED: &[u8] = b"\x02\0\0\0\0\0\0\0\x10\0\0\0\x03\0\0\0\x64\0\0\0\x01\0\0\0\x01\
     \x02\0\0\0\0\0\0\0\x10\0\0\0\x01\0\0\0\x64\0\0\0\x01\0\0\0\x02\
     \x01\0\0\0\0\0\0\0\x06\0\0\0\x01[I\x01\0\0\0\0\0\0\0\x07\0\0\0\x02p/A";

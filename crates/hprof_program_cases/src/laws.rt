@@ -1,4 +1,4 @@
-//! The laws of what is made of parts.
+//! The laws of the engine and the reports.
 
 use hprof_dump::laws as dump101_laws;
 use hprof_engine::{Dump, Dump101};

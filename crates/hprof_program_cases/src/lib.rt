@@ -1,6 +1,6 @@
-//! Tests of the engine, of reports, and of the program, of what no line of the table of worked cases can say: what is handed back, parts
-//! that are fed in pieces, counts of pushes, room that is given back, generated parts, texts of faults that no small part has, and the
-//! real disk. It has no code of its own but the laws that it calls.
+//! Tests of the engine, the reports and the program that do not fit a line in the table of worked cases: the heaps that calls return, parts
+//! that are fed in pieces, counts of pushes, memory that is given back, generated parts, texts of faults that no small part has, and the
+//! real disk.
 #![tactic(auto)]
 
 #[cfg(test)]

@@ -25,7 +25,7 @@ const OLD_WIDE_HEADER: &[u8] = b"JAVA PROFILE 1.0.1\0\0\0\0\x08\0\0\0\0\0\0\0\x0
 /// A JNI local root with an identifier of eight bytes: 17 bytes.
 const WIDE_LOCAL: &[u8] = b"\x02\0\0\0\0\0\0\0\x07\0\0\0\x01\xff\xff\xff\xff";
 
-/// Returns the heap that the part states.
+/// Returns the heap that a part states.
 fn heap_of(alloc: Global, part: &[u8]) -> Result<Heap, Fail> {
     let mut readers = readers_of(alloc, &[part])?;
     let gatherer = Gatherer::new(alloc);
@@ -35,7 +35,8 @@ fn heap_of(alloc: Global, part: &[u8]) -> Result<Heap, Fail> {
     }
 }
 
-/// Checks that this is the part's dump, if its sub-records may have that many bytes; of no bytes, that it is too long.
+/// Asserts that this is the 1.0.1 dump of a part if its sub-records may have this many bytes, or, if it is empty, that the dump is too
+/// long.
 fn expect_dump(
     rt: &impl Abort,
     alloc: Global,

@@ -20,7 +20,7 @@ pub(crate) fn dump_of(alloc: Global, gatherer: Gatherer) -> Result<Vec<u8>, Fail
     Ok(target.into_inner())
 }
 
-/// Returns the most bytes that a reader holds behind a piece of that length.
+/// Returns the largest number of bytes that a reader holds when it is fed pieces of this length.
 fn most_buffered(alloc: Global, bytes: &[u8], piece_len: usize) -> Result<usize, Fail> {
     let mut gatherer = Gatherer::new(alloc);
     let mut reader = PartReader::new(alloc, Limits::usual());

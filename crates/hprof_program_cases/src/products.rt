@@ -1,4 +1,4 @@
-//! What an engine answers of products that are refused, or want memory, while they are written.
+//! Products that are refused, or run out of memory, while they are written.
 
 ghost use Rattle.std.specs.Prelude.{⊤};
 

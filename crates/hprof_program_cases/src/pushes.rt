@@ -1,4 +1,4 @@
-//! The number of writes in which a dump and a report go out.
+//! The number of writes of a dump and of a report.
 
 use crate::expecting::{equal, equal_at};
 use hprof_devices::{Device, WriteFault};
@@ -11,7 +11,7 @@ use std::io;
 use std::io::{ErrorKind, Write};
 use std::test::Fail;
 
-/// A writer that takes all, and counts its writes, those of no bytes too, and its flushes. One write may fail.
+/// A writer that takes all bytes, and counts its writes, including empty ones, and its flushes. One write may fail.
 #[derive(Clone, Copy, Debug, Drop)]
 pub(crate) struct Tally {
     pub(crate) writes: u32,
@@ -22,7 +22,7 @@ pub(crate) struct Tally {
     pub(crate) failing_write: u32,
 }
 
-/// A writer of which nothing fails.
+/// A writer that does not fail.
 pub(crate) const TALLY: Tally = Tally {
     writes: 0,
     flushes: 0,
@@ -53,7 +53,7 @@ enum Made {
     Report,
 }
 
-/// Makes this of the part with the writer, and gives the answer and the writer afterwards.
+/// Makes a product of a part with the writer, and returns the answer and the writer.
 fn tallied(alloc: Global, made: Made, part: &[u8], tally: Tally) -> (Result<(), ToolFault>, Tally) {
     let mut target = Device::new(tally);
     let mut readers = [Device::new(part)];

@@ -1,4 +1,4 @@
-//! The room that joins and reports take.
+//! The memory that joins and reports take.
 
 use crate::expecting::{equal, equal_at};
 use crate::pushes::TALLY;
@@ -13,7 +13,7 @@ use std::alloc::{AllocError, Global};
 use std::fs;
 use std::test::Fail;
 
-/// Returns the number of bytes of addresses that the process has.
+/// Returns the number of bytes of the process's address space.
 fn size(rt: &HostRuntime) -> Result<u64, Fail> {
     let text = fs::read_to_string(rt, "/proc/self/statm")?;
     let pages = text.split_whitespace().next().ok_or("no size")?;
@@ -21,7 +21,7 @@ fn size(rt: &HostRuntime) -> Result<u64, Fail> {
     Ok(pages.saturating_mul(4_096))
 }
 
-/// Returns the most thousands of bytes of addresses that the process had.
+/// Returns the largest size of the process's address space so far, in kilobytes.
 fn peak(rt: &HostRuntime) -> Result<u64, Fail> {
     let text = fs::read_to_string(rt, "/proc/self/status")?;
     let mut words = text.split_whitespace();
@@ -46,21 +46,21 @@ fn large_part(alloc: Global) -> Result<Vec<u8>, AllocError> {
     bytes_of(alloc, &[HEADER, &segment])
 }
 
-/// Returns the result of joining the parts, into a writer that keeps nothing.
+/// Returns the result of joining the parts into a writer that discards everything.
 fn join(alloc: Global, parts: &[&[u8]]) -> Result<Result<Joined, ToolFault>, AllocError> {
     let mut readers = readers_of(alloc, parts)?;
     let mut target = Device::new(TALLY);
     Ok(join_to(alloc, &mut readers, &mut target, Limits::usual()))
 }
 
-/// Returns the result of reporting on the parts, into such a writer.
+/// Returns the result of reporting on the parts into such a writer.
 fn check(alloc: Global, parts: &[&[u8]]) -> Result<Result<(), ToolFault>, AllocError> {
     let mut readers = readers_of(alloc, parts)?;
     let mut target = Device::new(TALLY);
     Ok(check_to(alloc, &mut readers, &mut target, Limits::usual()))
 }
 
-/// The most bytes that the process may grow by: less than one heap of the large part has.
+/// The number of bytes by which the process may grow: fewer than a heap of the large part has.
 const MOST: u64 = 500_000;
 
 #[test]
@@ -83,7 +83,7 @@ fn joins_and_reports_give_their_room_back(rt: HostRuntime) -> Result<(), Fail> {
     Ok(())
 }
 
-/// Returns whether the part is refused with one behind it that is cut.
+/// Returns whether the part is refused together with a second one that is cut.
 fn is_refused(alloc: Global, part: &[u8]) -> Result<bool, AllocError> {
     Ok(join(alloc, &[part, &HEADER[..20]])?.is_err())
 }

@@ -1,4 +1,4 @@
-//! What reads parts.
+//! Readers of parts.
 
 ghost use Rattle.std.specs.Prelude.{◌≡◌, All, IfOk};
 ghost use Rattle.hprof_devices.specs.declared.health.Health.TheVariants.{Well};
@@ -23,7 +23,7 @@ pub(crate) fn readers_of<'a>(
     Ok(readers)
 }
 
-/// Feeds the bytes in pieces of that length to a new reader and a gatherer, and gives the result at the end.
+/// Feeds the bytes in pieces of this length to a new reader and a gatherer, and returns the result.
 pub(crate) fn fed(
     alloc: Global,
     bytes: &[u8],

@@ -1,4 +1,4 @@
-//! The program, if its words cannot be had, and if its errors cannot be told.
+//! The program when its words cannot be read, and when standard error cannot be written.
 
 use crate::expecting::equal_at;
 use crate::pushes::{TALLY, Tally};
@@ -8,7 +8,7 @@ use std::alloc::Global;
 use std::io;
 use std::test::Fail;
 
-/// Returns the words of the program, behind its name.
+/// Returns the words of the command line after the program's name.
 pub(crate) fn words_of(alloc: Global, words: &[&str]) -> Result<Vec<String>, Fail> {
     let mut list = Vec::new(alloc);
     list.push(String::from_str(alloc, "hprof")?)?;

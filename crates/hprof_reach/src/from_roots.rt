@@ -1,4 +1,4 @@
-//! Walks from roots.
+//! Walks from GC roots.
 
 ghost use Rattle.std.specs.Prelude.{List};
 ghost use Rattle.hprof_values.specs.declared.ids.IdSize.{IdSize};
@@ -7,7 +7,7 @@ ghost use Rattle.hprof_reach.specs.Reaching.{IsStart, IsStep};
 
 use hprof_search::WalksOf;
 
-/// Walks from the nodes that roots keep alive, along edges to nodes, as facts tell them.
+/// Walks that start at the nodes that GC roots keep alive, along edges to nodes. Facts describe both.
 pub(crate) struct FromRoots;
 
 impl WalksOf for FromRoots {

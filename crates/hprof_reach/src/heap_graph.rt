@@ -12,21 +12,21 @@ use hprof_search::{Graph, Numbered};
 use std::alloc::{AllocError, Global};
 use std::mem::swap;
 
-/// The edges of a heap, node by node, with what is used again for each node.
+/// The edges of a heap, node by node, with scratch space for each node.
 #[derive(Drop)]
 pub struct HeapGraph<'h> {
     pub(crate) heap: &'h Heap,
-    /// The known layouts of its classes.
+    /// The layouts of the heap's classes.
     pub(crate) known: KnownLayouts,
-    /// The nodes that have a class dump, so that none is looked up for the others.
+    /// The nodes that have a class dump. For other nodes none is looked up.
     pub(crate) classes: Numbered,
-    /// The places where the last dumps were found.
+    /// The places of the last dumps.
     pub(crate) near: Near,
     pub(crate) references: Vec<Reference>,
     pub(crate) targets: Targets,
 }
 
-/// Returns the graph of a heap. The error is that memory ran out.
+/// Returns the graph of a heap. If memory runs out, the answer is `AllocError`.
 pub fn graph_of(alloc: Global, heap: &Heap) -> Result<HeapGraph<'_>, AllocError>
     ensures heap { IfOk result (λ graph. graph.heap.now ≡ heap.now) }
     ensures tells { IfOk result TellsEdges }
@@ -53,7 +53,7 @@ impl<'h> HeapGraph<'h> {
     ghost use Rattle.hprof_edges.specs.Edges.{IsEdge};
     ghost use Rattle.hprof_reach.specs.Graph.{TellsEdges, targets_in};
 
-    /// Puts the targets of the edges from an identifier behind the others.
+    /// Appends the targets of the edges from an identifier.
     fn put_targets(&mut self, from: u64) -> Result<(), AllocError>
         requires { TellsEdges self.old }
         ensures put { OnOk result ((edges : List Edge) → targets_in self.old ≡ map (λ edge. edge.to) edges

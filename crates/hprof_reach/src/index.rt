@@ -1,4 +1,4 @@
-//! An index of what refers to what in a heap.
+//! An index of the referrers in a heap.
 
 ghost use Rattle.std.specs.Prelude.{◌≡◌, [], IfOk, OnOk};
 ghost use Rattle.hprof_heap.specs.HeapFacts.{facts_of, size_of};
@@ -13,7 +13,7 @@ use hprof_layouts::{KnownLayouts, Wanted, known_layouts};
 use hprof_search::{Numbered, Sources, sources_of};
 use std::alloc::{AllocError, Global};
 
-/// For each class and object of a heap those that refer to it, with the layouts of the classes.
+/// For each class and object of a heap its possible referrers, with the layouts of the classes.
 #[derive(Drop)]
 pub struct ReferrerIndex {
     pub(crate) sources: Sources,
@@ -25,8 +25,8 @@ impl ReferrerIndex {
     ghost use Rattle.hprof_edges.specs.EdgeSet.{SetOf, wanted_in};
     ghost use Rattle.hprof_reach.specs.Referring.{PutsReferrers};
 
-    /// Puts the edges from 0, and from each node that may refer to an identifier, into a set. If memory runs out, nothing holds of the
-    /// set.
+    /// Puts the edges from 0, and from each possible referrer of an identifier, into a set. If memory runs out, the answer is `AllocError`
+    /// and the set is unspecified.
     fn put_of_sources(
         &self,
         alloc: Global,
@@ -57,7 +57,7 @@ impl ReferrerIndex {
 
     /// Returns all edges to an identifier, in order, each once. There are none to 0.
     ///
-    /// Of the heap that was indexed, those nodes alone are looked at that may refer to the identifier. If memory runs out, the answer is
+    /// `heap` is the heap that was indexed. Only the possible referrers of the identifier are looked at. If memory runs out, the answer is
     /// `AllocError`.
     pub fn referrers(&self, alloc: Global, heap: &Heap, id: u64) -> Result<Vec<Edge>, AllocError>
         ensures { IfOk result (λ edges. IsIndexOf (size_of heap.now) (facts_of heap.now) self.now
@@ -74,7 +74,7 @@ impl ReferrerIndex {
     }
 }
 
-/// Returns the index of a heap. All edges are gone over once. The error is that memory ran out.
+/// Returns the index of a heap, in one pass over all edges. If memory runs out, the answer is `AllocError`.
 pub fn index_referrers(alloc: Global, heap: &Heap) -> Result<ReferrerIndex, AllocError>
     ensures { IfOk result (IsIndexOf (size_of heap.now) (facts_of heap.now)) }
 {

@@ -1,4 +1,4 @@
-//! Laws of the definitions. None of these functions does anything.
+//! Laws of the definitions. The contract of each function is a theorem; its body is empty.
 
 ghost use Rattle.std.specs.Prelude.{◌≡◌, ◌+◌, ◌<◌, ◌≤◌, ℕ, List, Option, Some, None, length, slice_index};
 ghost use Rattle.hprof_values.specs.declared.ids.IdSize.{IdSize};
@@ -10,7 +10,7 @@ ghost use Rattle.hprof_rows.specs.Order.{IsCanonicalOrder};
 ghost use Rattle.hprof_reach.specs.Reaching.{IsDistanceFromRoots, IsPathFromRoots, IsStart, IsStep};
 ghost use Rattle.hprof_reach.specs.Roots.{AreRootsOf};
 
-/// An identifier has one distance, or none, and one path, or none.
+/// An identifier has at most one distance and at most one path.
 pub fn one_distance_and_path()
     ensures distance { (ids : IdSize) (facts : List FactValue) (id : ℕ) (one other : Option ℕ)
         → IsDistanceFromRoots ids facts id one → IsDistanceFromRoots ids facts id other → one ≡ other }
@@ -18,8 +18,8 @@ pub fn one_distance_and_path()
         → IsPathFromRoots ids facts id one → IsPathFromRoots ids facts id other → one ≡ other }
 {}
 
-/// A path leads from a node that a root keeps alive to its end, by as many steps as that is distant; no walk there is shorter; and
-/// each node of it is the least of those that are as far off with a step to the next.
+/// The path to an identifier starts at a node that a root keeps alive, and has as many steps as the identifier's distance. No walk to it is
+/// shorter. Each node on the path is the least of the nodes at its distance that have a step to the next.
 pub fn path_is_shortest()
     ensures walk { (ids : IdSize) (facts : List FactValue) (id : ℕ) (nodes : List ℕ) → IsPathFromRoots ids facts id (Some nodes)
         → IsWalk (IsStart facts) (IsStep ids facts) nodes id }
@@ -34,8 +34,7 @@ pub fn path_is_shortest()
         → IsLeastBefore (IsStart facts) (IsStep ids facts) place (slice_index nodes place) (slice_index nodes (place + 1)) }
 {}
 
-/// An identifier that no root leads to is at the end of no walk from one; and one that has a distance is at the end of a walk of
-/// as many steps.
+/// No walk from a root leads to an identifier without a distance. An identifier with a distance has a walk to it with as many steps.
 pub fn no_distance_no_walk()
     ensures none { (ids : IdSize) (facts : List FactValue) (id : ℕ) (nodes : List ℕ) → IsDistanceFromRoots ids facts id None
         → IsWalk (IsStart facts) (IsStep ids facts) nodes id → ⊥ }
@@ -43,7 +42,7 @@ pub fn no_distance_no_walk()
         → (nodes : List ℕ) × IsWalk (IsStart facts) (IsStep ids facts) nodes id × (length nodes ≡ distance + 1) }
 {}
 
-/// Of facts that agree each identifier has a distance, or none, and a path, or none.
+/// If facts agree, each identifier has a result for its distance and for its path, which may be that there is none.
 pub fn some_distance_and_path()
     ensures distance { (ids : IdSize) (facts : List FactValue) (id : ℕ) → IsConsistent facts
         → (distance : Option ℕ) × IsDistanceFromRoots ids facts id distance }
@@ -51,7 +50,7 @@ pub fn some_distance_and_path()
         → (path : Option (List ℕ)) × IsPathFromRoots ids facts id path }
 {}
 
-/// An object has one list of roots, and of facts in canonical order there is one.
+/// An object has at most one list of roots, and exactly one if the facts are in canonical order.
 pub fn one_list_of_roots()
     ensures exists { (facts : List FactValue) (id : ℕ) → IsCanonicalOrder facts → (roots : List Root) × AreRootsOf facts id roots }
     ensures once { (facts : List FactValue) (id : ℕ) (one other : List Root) → AreRootsOf facts id one → AreRootsOf facts id other

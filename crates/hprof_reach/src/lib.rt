@@ -1,5 +1,5 @@
-//! The objects that GC roots reach: the least number of references that lead to each, and the path.
-//! What refers to an identifier, from an index that is made of a whole heap once.
+//! The objects that GC roots reach, each with its distance and a shortest path to it; and the referrers of an identifier, from an index of
+//! the whole heap.
 #![tactic(auto)]
 
 mod from_roots;

@@ -1,4 +1,4 @@
-//! The nodes of a heap.
+//! The nodes of a heap: its classes and objects.
 
 ghost use Rattle.std.specs.Prelude.{◌≡◌, ◌≢◌, ◌↔◌, ◌⊎◌, ℕ, IfOk, OnOk, Contains};
 ghost use Rattle.std.specs.List.Sorted.{IsStrictlyIncreasing};
@@ -12,7 +12,7 @@ use hprof_heap::{Heap, ObjectDump, Table, table_facts, table_len, to_class_dump,
 use hprof_items::Fact;
 use std::alloc::{AllocError, Global};
 
-/// Puts an identifier behind others, except 0.
+/// Appends an identifier, unless it is 0.
 fn push_node(nodes: &mut Vec<u64>, id: u64) -> Result<(), AllocError>
     ensures { OnOk result ((node : ℕ) → Contains nodes.new.items node ↔ (Contains nodes.old.items node ⊎ ((node ≢ 0) × (id ≡ node)))) }
 {
@@ -33,7 +33,7 @@ fn id_of(dump: &ObjectDump<'_>) -> u64
     }
 }
 
-/// Puts the identifiers that have a class dump behind others.
+/// Appends the identifiers that have a class dump.
 fn push_classes(heap: &Heap, nodes: &mut Vec<u64>) -> Result<(), AllocError>
     ensures { OnOk result ((node : ℕ) → Contains nodes.new.items node
         ↔ (Contains nodes.old.items node ⊎ IsClassNode (facts_of heap.now) node)) }
@@ -46,7 +46,7 @@ fn push_classes(heap: &Heap, nodes: &mut Vec<u64>) -> Result<(), AllocError>
     Ok(())
 }
 
-/// Puts the identifiers that have an object dump behind others.
+/// Appends the identifiers that have an object dump.
 fn push_objects(heap: &Heap, nodes: &mut Vec<u64>) -> Result<(), AllocError>
     ensures { OnOk result ((node : ℕ) → Contains nodes.new.items node
         ↔ (Contains nodes.old.items node ⊎ IsObjectNode (facts_of heap.now) node)) }
@@ -61,7 +61,7 @@ fn push_objects(heap: &Heap, nodes: &mut Vec<u64>) -> Result<(), AllocError>
     Ok(())
 }
 
-/// Puts numbers in order, each once. Those of each table ascend, so that two runs are merged. If memory runs out, the answer is
+/// Sorts numbers, and removes repetitions. The numbers of each table ascend, so this merges two runs. If memory runs out, the answer is
 /// `AllocError`.
 fn sort_once(nodes: &mut Vec<u64>) -> Result<(), AllocError>
     ensures ascend { OnOk result (IsStrictlyIncreasing nodes.new.items) }
@@ -72,7 +72,7 @@ fn sort_once(nodes: &mut Vec<u64>) -> Result<(), AllocError>
     Ok(())
 }
 
-/// Returns the nodes of a heap that have a class dump, in ascending order. If memory runs out, the answer is `AllocError`.
+/// Returns the nodes of a heap that have a class dump, sorted. If memory runs out, the answer is `AllocError`.
 pub(crate) fn class_nodes(alloc: Global, heap: &Heap) -> Result<Vec<u64>, AllocError>
     ensures ascend { IfOk result (λ nodes. IsStrictlyIncreasing nodes.items) }
     ensures all { IfOk result (λ nodes. (node : ℕ) → Contains nodes.items node ↔ IsClassNode (facts_of heap.now) node) }
@@ -83,7 +83,7 @@ pub(crate) fn class_nodes(alloc: Global, heap: &Heap) -> Result<Vec<u64>, AllocE
     Ok(nodes)
 }
 
-/// Returns all nodes of a heap, in ascending order. If memory runs out, the answer is `AllocError`.
+/// Returns all nodes of a heap, sorted. If memory runs out, the answer is `AllocError`.
 pub fn nodes_of(alloc: Global, heap: &Heap) -> Result<Vec<u64>, AllocError>
     ensures ascend { IfOk result (λ nodes. IsStrictlyIncreasing nodes.items) }
     ensures all { IfOk result (λ nodes. (node : ℕ) → Contains nodes.items node ↔ IsNode (facts_of heap.now) node) }

@@ -22,18 +22,18 @@ pub struct Reach {
 }
 
 impl Reach {
-    /// Returns the least number of references that lead from a GC root to an identifier, or `None` if no root leads there or it has
-    /// no dump. Nothing is allocated.
+    /// Returns the least number of references from a GC root to an identifier, or `None` if no root leads to it or it has no dump.
+    /// Allocates nothing.
     pub fn distance(&self, id: u64) -> Option<u64>
         ensures { (ids : IdSize) (facts : List FactValue) → IsReach ids facts self.now → IsDistanceFromRoots ids facts id result }
     {
         self.search.distance::<FromRoots>(id)
     }
 
-    /// Returns a shortest path from a GC root to an identifier, or `None` if no root leads there.
+    /// Returns a shortest path from a GC root to an identifier, or `None` if no root leads to it.
     ///
-    /// Of several shortest paths it is the one whose nodes, from its end back, are the least that they can be. If memory runs out, the
-    /// answer is `AllocError`.
+    /// Of several shortest paths it is the one that has, from its end back, the least identifier each time. If memory runs out, the answer
+    /// is `AllocError`.
     pub fn path(&self, alloc: Global, id: u64) -> Result<Option<Vec<u64>>, AllocError>
         ensures { IfOk result (λ path. (ids : IdSize) (facts : List FactValue) → IsReach ids facts self.now
             → IsPathFromRoots ids facts id (option_map (λ nodes. nodes.items) path)) }
@@ -42,8 +42,7 @@ impl Reach {
     }
 }
 
-/// Searches a heap from its GC roots, by the number of references. Each reference is looked at once. If memory runs out, the answer is
-/// `AllocError`.
+/// Searches a heap from its GC roots, breadth first. Each reference is looked at once. If memory runs out, the answer is `AllocError`.
 pub fn reach_of(alloc: Global, heap: &Heap) -> Result<Reach, AllocError>
     ensures { IfOk result (IsReach (size_of heap.now) (facts_of heap.now)) }
 {

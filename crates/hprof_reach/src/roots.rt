@@ -1,4 +1,4 @@
-//! The roots of an object.
+//! The GC roots of an object.
 
 ghost use Rattle.std.specs.Prelude.{◌≡◌, ◌++◌, IfOk, OnOk};
 ghost use Rattle.hprof_items.specs.FactValue.{value_of};
@@ -11,7 +11,7 @@ use hprof_items::Fact;
 use hprof_values::Root;
 use std::alloc::{AllocError, Global};
 
-/// Puts the root that a fact is behind others, if it keeps the object alive.
+/// Appends the root that a fact states, if it keeps the object alive.
 fn push_root(roots: &mut Vec<Root>, fact: &Fact<'_>, id: u64) -> Result<(), AllocError>
     ensures { OnOk result (roots.new.items ≡ roots.old.items ++ roots_here id (root_in (value_of fact.now))) }
 {
@@ -23,7 +23,7 @@ fn push_root(roots: &mut Vec<Root>, fact: &Fact<'_>, id: u64) -> Result<(), Allo
     Ok(())
 }
 
-/// Returns the roots that keep an object alive, in canonical order. If memory runs out, the answer is `AllocError`.
+/// Returns the GC roots that keep an object alive, in canonical order. If memory runs out, the answer is `AllocError`.
 pub fn roots_of(alloc: Global, heap: &Heap, id: u64) -> Result<Vec<Root>, AllocError>
     ensures { IfOk result (λ roots. AreRootsOf (facts_of heap.now) id roots.items) }
 {

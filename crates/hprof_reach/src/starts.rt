@@ -1,4 +1,4 @@
-//! The objects that roots keep alive.
+//! The objects that GC roots keep alive.
 
 ghost use Rattle.std.specs.Prelude.{◌≡◌, ◌↔◌, ℕ, IfOk, Contains};
 ghost use Rattle.hprof_heap.specs.HeapFacts.{facts_of};
@@ -26,7 +26,7 @@ pub(crate) fn root_id(root: Root) -> u64
     }
 }
 
-/// Returns the objects that the roots of a heap keep alive, in whatever order and however often. If memory runs out, the answer is
+/// Returns the objects that the roots of a heap keep alive, in any order. Repetitions are possible. If memory runs out, the answer is
 /// `AllocError`.
 pub(crate) fn starts_of(alloc: Global, heap: &Heap) -> Result<Vec<u64>, AllocError>
     ensures { IfOk result (λ starts. (id : ℕ) → Contains starts.items id ↔ IsRooted (facts_of heap.now) id) }

@@ -1,16 +1,16 @@
-//! The targets of edges.
+//! A collector of the targets of edges.
 
 use hprof_edges::{Collect, Edge};
 use hprof_layouts::Wanted;
 use std::alloc::AllocError;
 
-/// The targets of edges that were put, in that order.
+/// The targets of the edges that were put, in that order.
 #[derive(Drop)]
 pub(crate) struct Targets {
     pub(crate) list: Vec<u64>,
 }
 
-/// It keeps their targets alone.
+/// Collects the targets of all edges.
 impl Collect for Targets {
     ghost use Rattle.std.specs.Prelude.{◌≡◌, map};
     ghost use Rattle.hprof_reach.specs.KeptTargets.{targets_alike};
@@ -19,7 +19,7 @@ impl Collect for Targets {
 
     ghost same_kept = { targets_alike };
 
-    /// It wants all edges.
+    /// Wants all edges.
     #[inline(always)]
     fn wanted(&self) -> Wanted {
         Wanted::All

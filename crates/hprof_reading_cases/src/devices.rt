@@ -1,4 +1,4 @@
-//! Devices that stop or fail.
+//! Devices that get stuck or fail.
 
 ghost use Rattle.std.specs.Prelude.{◌≤◌, IfOk};
 

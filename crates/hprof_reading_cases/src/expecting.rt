@@ -1,5 +1,4 @@
-//! What tests expect. Each comparison stands in a function of its own: written out in a test, it costs the prover as much as
-//! several calls.
+//! Assertions. Each comparison is a function of its own: written out in a test, it costs the prover as much as several calls.
 
 ghost use Rattle.std.specs.Prelude.{IsTrue};
 
@@ -11,7 +10,7 @@ pub(crate) fn equal<T: PartialEq + Debug + Drop>(rt: &impl Abort, found: T, expe
     assert_eq!(rt; found, expected);
 }
 
-/// Asserts the same at one of several cases, which is printed if it fails.
+/// Asserts that the value found is the expected one, in one of several cases. Prints the case if it fails.
 pub(crate) fn equal_at<C: Debug + Drop, T: PartialEq + Debug + Drop>(
     rt: &impl Abort,
     case: C,

@@ -1,4 +1,4 @@
-//! Facts that are read and written one by one.
+//! Reading and writing facts.
 
 use crate::expecting::{equal, equal_at};
 use hprof_devices::Device;

@@ -3,7 +3,7 @@
 use hprof_search::{Graph, WalksOf};
 use std::alloc::AllocError;
 
-/// Edges, each from the one to the other.
+/// Edges, each from a node to a node.
 #[derive(Clone, Copy)]
 pub(crate) struct Edges<'a> {
     pub(crate) edges: &'a [(u64, u64)],
@@ -27,7 +27,7 @@ impl Graph for Edges<'_> {
     }
 }
 
-/// Walks from starts along edges, which are told by both lists.
+/// Walks along the edges of a list, from the starts of another.
 pub(crate) struct AlongEdges;
 
 impl WalksOf for AlongEdges {

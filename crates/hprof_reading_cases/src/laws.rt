@@ -2,7 +2,7 @@
 
 use hprof_search::laws::{Walks, no_distance_no_walk, one_distance, one_path, path_is_shortest};
 
-/// Numbers, each of which leads to the next.
+/// The numbers as a graph: each leads to the next.
 struct Numbers;
 
 impl Walks for Numbers {

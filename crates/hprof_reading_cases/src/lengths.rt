@@ -1,4 +1,4 @@
-//! Items that declare much, of which little comes, and long ones: by how much the process grows, and how long they take.
+//! Items that declare a great length and have few bytes, and long items: by how much the process grows, and how long they take.
 
 ghost use Rattle.std.specs.Prelude.{◌<◌};
 

@@ -1,6 +1,5 @@
-//! Tests of the libraries that read parts, from hprof_text to hprof_stream, and of hprof_tables and hprof_search, through public calls:
-//! types, lists and iterators, pushes and pulls, a reader that is fed in pieces, and tables of rows. What one line can say stands in the
-//! table of hprof_worked.
+//! Tests of the crates that read parts, and of hprof_tables and hprof_search, through public calls: types, lists and iterators, pushes and
+//! pulls, a reader that is fed in pieces, and tables of rows. Tests that fit one line are in the table of hprof_worked.
 #![tactic(auto)]
 
 #[cfg(test)]

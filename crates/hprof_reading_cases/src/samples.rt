@@ -14,7 +14,7 @@ pub(crate) const HEADER: Header = Header {
     millis: 1,
 };
 
-/// Keeps a number of each fact, up to a number of facts.
+/// A sink that stores a number for each fact, up to a number of facts.
 #[derive(Drop)]
 pub(crate) struct Seen {
     pub(crate) numbers: Vec<u64>,
@@ -77,7 +77,7 @@ impl Sink for Seen {
     }
 }
 
-/// Feeds the bytes in pieces, and answers the greatest number that were held.
+/// Feeds the bytes in pieces, and returns the largest number of bytes that the reader held.
 pub(crate) fn feed_in(
     reader: &mut PartReader,
     bytes: &[u8],

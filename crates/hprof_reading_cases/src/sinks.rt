@@ -1,4 +1,4 @@
-//! Sinks that refuse: the number of their calls, and the faults that are told.
+//! Sinks that refuse: how often they are called, and which faults are returned.
 
 use crate::expecting::{equal, equal_at};
 use crate::samples::{HEADER, Seen};

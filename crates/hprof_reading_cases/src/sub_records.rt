@@ -1,4 +1,4 @@
-//! Walks over sub-records whose bytes come one by one.
+//! Walks over sub-records whose bytes come one at a time.
 
 ghost use Rattle.std.specs.Prelude.{◌≡◌, ◌≤◌, length};
 

@@ -1,4 +1,4 @@
-//! Tables of rows, and maps that guess the place of a key.
+//! Tables of rows, and maps with hints.
 
 use crate::expecting::{equal, holds};
 use hprof_rows::LoadRow;

@@ -1,4 +1,4 @@
-//! Names as units. Expected values are by hand, from the table of the Java Virtual Machine Specification, section 4.4.7.
+//! Names as units. Expected values were worked out by hand, from the table in the Java Virtual Machine Specification, section 4.4.7.
 
 use crate::expecting::{equal, equal_at};
 use hprof_text::{encode_units, is_modified, units};

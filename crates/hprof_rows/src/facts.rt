@@ -1,4 +1,4 @@
-//! The facts of a table, one after the other.
+//! An iterator over the facts of a table.
 
 ghost use Rattle.hprof_rows.specs.TableRows.{AreReadable, AreReadable-prop};
 
@@ -6,7 +6,7 @@ use crate::table_rows::{TableRows, next_fact, next_fact_into};
 use hprof_items::Fact;
 use hprof_values::IdSize;
 
-/// The facts of a table, in canonical order. They borrow from the heap.
+/// An iterator over the facts of a table, in canonical order. The facts borrow from the heap.
 #[derive(Drop)]
 pub struct Facts<'a> {
     ids: IdSize,
@@ -21,7 +21,7 @@ impl<'a> Facts<'a> {
     ghost use Rattle.hprof_rows.specs.TableRows.{facts_in_rows};
     ghost use Rattle.hprof_rows.specs.FactsLeft.{facts_left, facts_ids};
 
-    /// Returns the facts of those rows.
+    /// Returns the facts of these rows.
     pub fn new(ids: IdSize, rows: TableRows<'a>) -> Self
         requires { AreReadable ids rows }
         ensures all { facts_left result ≡ facts_in_rows ids rows.entry }
@@ -30,8 +30,8 @@ impl<'a> Facts<'a> {
         Facts { ids, rows }
     }
 
-    /// Puts the first of the facts in the place of another, and returns whether there was one. So no fact is moved from call to call, as it
-    /// is when `next` takes it. If there was none, the place is unchanged.
+    /// Stores the next fact in `fact`, and returns whether there is one. If there is none, `fact` is unchanged. Unlike with `next`, no fact
+    /// is moved from call to call.
     #[inline(always)]
     pub fn next_into(&mut self, fact: &mut Fact<'a>) -> bool
         ensures some { result ≡ true → facts_left self.old ≡ value_of fact.new ∷ facts_left self.new }

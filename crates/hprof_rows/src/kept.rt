@@ -1,4 +1,4 @@
-//! Instances and arrays, which are kept without their identifiers: these are their keys.
+//! Instances and arrays as a heap stores them: by identifier, with the rest of their sub-record.
 
 ghost use Rattle.std.specs.Prelude.{◌≡◌, ◌+◌, ◌%◌, ◌≤◌, ℕ, length, drop, Some};
 ghost use Rattle.byteorder.specs.Endian.{big_number};
@@ -12,7 +12,7 @@ use hprof_items::Fact;
 use hprof_values::number::{byte_at, id_at, split_u32};
 use hprof_values::{Basic, IdList, IdSize, SubTag};
 
-/// Puts the instance with that identifier in the place of a fact. The bytes are those behind the identifier.
+/// Stores the instance with this identifier in `fact`. The bytes are those after the identifier.
 #[inline(always)]
 fn kept_instance<'a>(id: u64, bytes: &'a [u8], ids: IdSize, fact: &mut Fact<'a>)
     requires { 8 + width_of ids ≤ length bytes.now }
@@ -30,7 +30,7 @@ fn kept_instance<'a>(id: u64, bytes: &'a [u8], ids: IdSize, fact: &mut Fact<'a>)
     };
 }
 
-/// Puts the array of objects with that identifier in the place of a fact. The bytes are those behind the identifier.
+/// Stores the object array with this identifier in `fact`. The bytes are those after the identifier.
 #[inline(always)]
 fn kept_obj_array<'a>(id: u64, bytes: &'a [u8], ids: IdSize, fact: &mut Fact<'a>)
     requires front { 8 + width_of ids ≤ length bytes.now }
@@ -50,7 +50,7 @@ fn kept_obj_array<'a>(id: u64, bytes: &'a [u8], ids: IdSize, fact: &mut Fact<'a>
     };
 }
 
-/// Puts the array of numbers or truth values with that identifier in the place of a fact. The bytes are those behind the identifier.
+/// Stores the primitive array with this identifier in `fact`. The bytes are those after the identifier.
 #[inline(always)]
 fn kept_prim_array<'a>(id: u64, bytes: &'a [u8], ids: IdSize, fact: &mut Fact<'a>)
     requires front { 9 ≤ length bytes.now }
@@ -73,8 +73,7 @@ fn kept_prim_array<'a>(id: u64, bytes: &'a [u8], ids: IdSize, fact: &mut Fact<'a
     };
 }
 
-/// Puts the instance or the array with that identifier, of which these bytes are kept, in the place of another fact. They are its
-/// sub-record without the identifier.
+/// Stores the instance or the array with this identifier in `fact`. The bytes are its sub-record without the identifier.
 #[inline(always)]
 pub(crate) fn kept_fact_into<'a>(id: u64, kept: &'a [u8], ids: IdSize, fact: &mut Fact<'a>)
     requires { (value : FactValue) × KeepsObject ids id value kept.now }
@@ -92,7 +91,7 @@ pub(crate) fn kept_fact_into<'a>(id: u64, kept: &'a [u8], ids: IdSize, fact: &mu
     }
 }
 
-/// Returns the instance or the array with that identifier, of which these bytes are kept: its sub-record without the identifier.
+/// Returns the instance or the array with this identifier. The bytes are its sub-record without the identifier.
 #[inline(always)]
 pub fn kept_fact(id: u64, kept: &[u8], ids: IdSize) -> Fact<'_>
     requires { (value : FactValue) × KeepsObject ids id value kept.now }

@@ -1,19 +1,19 @@
-//! Keys: two facts that agree may not both have one.
+//! The keys of facts. Facts of one heap that have the same key are equal.
 
 ghost use Rattle.std.specs.Prelude.{◌≡◌};
 
-/// The key of a fact. Keys are ordered as they are listed here, and then by number.
+/// The key of a fact. Keys are ordered by kind, in the order below, and then by number.
 #[derive(Clone, Copy, Debug, PartialEq, Eq, PartialOrd, Ord)]
 pub enum Key {
     /// A name, by its identifier.
     Name(u64),
-    /// A loaded class, by its serial.
+    /// A loaded class, by its serial number.
     Load(u32),
     /// A stack frame, by its identifier.
     Frame(u64),
-    /// A stack trace, by its serial.
+    /// A stack trace, by its serial number.
     Trace(u32),
-    /// A thread that was started, by its serial.
+    /// A thread that was started, by its serial number.
     Thread(u32),
     /// A class dump, by the identifier of its class.
     Class(u64),
@@ -24,7 +24,7 @@ pub enum Key {
 impl Key {
     ghost use Rattle.hprof_rows.specs.Key.{lesser_key};
 
-    /// Returns the key that comes first.
+    /// Returns the lesser of two keys.
     pub fn lesser(self, other: Key) -> Key
         ensures { result ≡ lesser_key self other }
     {

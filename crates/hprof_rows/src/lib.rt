@@ -1,4 +1,4 @@
-//! The rows of a heap's tables: the keys and contents of facts, the rows that keep facts, and the facts that are read from rows.
+//! The rows of a heap's tables: the key and the content of each fact, the rows that store facts, and the facts that are read from rows.
 #![tactic(auto)]
 
 mod facts;

@@ -1,4 +1,4 @@
-//! Rows of numbers: loads, frames and starts, and rows that say nothing beside their keys.
+//! Rows of numbers: loaded classes, frames and started threads, and rows that consist of their key.
 
 ghost use Rattle.hprof_rows.specs.NumberRows.{load_numbers, frame_numbers, start_numbers};
 ghost use Rattle.std.specs.Prelude.{[]};
@@ -7,12 +7,12 @@ use hprof_items::Fact;
 use hprof_tables::Content;
 use std::alloc::{AllocError, Global};
 
-/// A class that was loaded, under its serial.
+/// A loaded class, by its serial number.
 #[derive(Clone, Copy, Debug, PartialEq, Eq)]
 pub struct LoadRow {
     /// The class object.
     pub class: u64,
-    /// The serial of the stack trace.
+    /// The serial number of the stack trace.
     pub trace: u32,
     /// The identifier of its name.
     pub name: u64,
@@ -23,7 +23,7 @@ impl LoadRow {
     ghost use Rattle.hprof_items.specs.FactValue.{Load, ListsHave, value_of};
     ghost use Rattle.hprof_values.specs.declared.ids.IdSize.{IdSize};
 
-    /// Returns the fact of the row under a serial.
+    /// Returns the fact of the row with this serial number.
     pub fn fact<'a>(self, serial: u32) -> Fact<'a>
         ensures value { value_of result ≡ Load serial self.class self.trace self.name }
         ensures lists { (ids : IdSize) → ListsHave ids result }
@@ -51,7 +51,7 @@ impl Content for LoadRow {
     }
 }
 
-/// A frame of a stack, under its identifier.
+/// A stack frame, by its identifier.
 #[derive(Clone, Copy, Debug, PartialEq, Eq)]
 pub struct FrameRow {
     /// The identifier of the method's name.
@@ -60,9 +60,9 @@ pub struct FrameRow {
     pub signature: u64,
     /// The identifier of the source file's name.
     pub source: u64,
-    /// The serial of the class.
+    /// The serial number of the class.
     pub class_serial: u32,
-    /// The line, above 0; -1 if it is unknown, -2 in a compiled method, -3 in a native one.
+    /// The line number, above 0; -1 if it is unknown, -2 in a compiled method, -3 in a native method.
     pub line: i32,
 }
 
@@ -71,7 +71,7 @@ impl FrameRow {
     ghost use Rattle.hprof_items.specs.FactValue.{Frame, ListsHave, value_of};
     ghost use Rattle.hprof_values.specs.declared.ids.IdSize.{IdSize};
 
-    /// Returns the fact of the row under an identifier.
+    /// Returns the fact of the row with this identifier.
     pub fn fact<'a>(self, id: u64) -> Fact<'a>
         ensures value { value_of result ≡ Frame id self.method self.signature self.source self.class_serial self.line }
         ensures lists { (ids : IdSize) → ListsHave ids result }
@@ -101,18 +101,18 @@ impl Content for FrameRow {
     }
 }
 
-/// A thread that was started, under its serial.
+/// A thread that was started, by its serial number.
 #[derive(Clone, Copy, Debug, PartialEq, Eq)]
 pub struct StartRow {
     /// The thread object.
     pub object: u64,
-    /// The serial of the stack trace.
+    /// The serial number of the stack trace.
     pub trace: u32,
     /// The identifier of its name.
     pub name: u64,
-    /// The identifier of its group's name.
+    /// The identifier of the name of its thread group.
     pub group: u64,
-    /// The identifier of the name of its group's parent.
+    /// The identifier of the name of the group's parent.
     pub parent_group: u64,
 }
 
@@ -121,7 +121,7 @@ impl StartRow {
     ghost use Rattle.hprof_items.specs.FactValue.{Start, ListsHave, value_of};
     ghost use Rattle.hprof_values.specs.declared.ids.IdSize.{IdSize};
 
-    /// Returns the fact of the row under a serial.
+    /// Returns the fact of the row with this serial number.
     pub fn fact<'a>(self, thread: u32) -> Fact<'a>
         ensures value { value_of result ≡ Start thread self.object self.trace self.name self.group self.parent_group }
         ensures lists { (ids : IdSize) → ListsHave ids result }
@@ -151,7 +151,7 @@ impl Content for StartRow {
     }
 }
 
-/// A row whose key says all: an unloaded class, a thread that ended.
+/// A row that consists of its key: an unloaded class, or a thread that ended.
 #[derive(Clone, Copy, Debug, PartialEq, Eq)]
 pub struct KeyRow;
 

@@ -1,4 +1,4 @@
-//! The set of roots.
+//! The set of GC roots.
 
 ghost use Rattle.std.specs.Prelude.{◌≡◌, ◌↔◌, [], length, false, IfOk, OnErr, IsTrue};
 ghost use Rattle.std.specs.List.{list_any};
@@ -11,7 +11,7 @@ use hprof_values::Root;
 use std::alloc::{AllocError, Global};
 use std::collections::{BTreeSet, btree_set};
 
-/// Roots, each once, in the order of their spellings.
+/// GC roots, each once, ordered as the bytes that encode them.
 #[derive(Drop)]
 pub struct RootSet {
     roots: BTreeSet<Root>,
@@ -22,7 +22,7 @@ pub struct RootSet {
 impl RootSet {
     ghost use Rattle.hprof_rows.specs.RootSet.{roots_of, IsUnionOfRoots, LacksRoot, StatesRoot};
 
-    /// Returns a set with no roots. It takes no memory yet.
+    /// Returns an empty set. Allocates nothing.
     pub fn new(alloc: Global) -> Self
         ensures { roots_of result ≡ [] }
     {
@@ -32,7 +32,7 @@ impl RootSet {
         }
     }
 
-    /// States a root. One that is there takes no memory.
+    /// States a root. If it is present, nothing is allocated.
     pub fn state(&mut self, root: Root) -> Result<Stated, AllocError>
         ensures ok { IfOk result (λ stated. StatesRoot (roots_of self.old) root stated (roots_of self.new)) }
         ensures err { OnErr result (roots_of self.new ≡ roots_of self.old) }
@@ -52,15 +52,15 @@ impl RootSet {
         self.roots.len()
     }
 
-    /// Returns whether both have the same roots.
+    /// Returns whether both sets have the same roots.
     pub fn same(&self, other: &Self) -> bool
         ensures { IsTrue result ↔ (roots_of self.now ≡ roots_of other.now) }
     {
         self.roots == other.roots
     }
 
-    /// Takes the roots of another. Both are gone over side by side. If memory runs out, nothing changes. No memory is needed if all of them
-    /// are there.
+    /// Adds the roots of another set, in one pass over both. If none is new, nothing is allocated. If memory runs out, the set is
+    /// unchanged.
     pub fn join(&mut self, other: &Self) -> Result<(), AllocError>
         ensures ok { IfOk result (λ _. IsUnionOfRoots (roots_of self.old) (roots_of other.now) (roots_of self.new)) }
         ensures err { OnErr result (roots_of self.new ≡ roots_of self.old) }
@@ -75,7 +75,7 @@ impl RootSet {
         Ok(())
     }
 
-    /// Returns the roots, in order.
+    /// Returns an iterator over the roots, in order.
     pub fn iter(&self) -> btree_set::Iter<'_, Root>
         ensures { result ≡ roots_of self.now }
     {

@@ -1,4 +1,4 @@
-//! Classes, which are kept as they are spelled.
+//! Class dumps, which a heap stores as their sub-records.
 
 ghost use Rattle.std.specs.Prelude.{◌≡◌};
 ghost use Rattle.hprof_items.specs.FactValue.{FactValue, ListsHave, value_of};
@@ -7,7 +7,7 @@ ghost use Rattle.hprof_rows.specs.Spelled.{Spells};
 use hprof_items::{Fact, read_sub_into};
 use hprof_values::IdSize;
 
-/// Returns the fact that the bytes of a sub-record spell.
+/// Returns the fact of a sub-record.
 #[inline(always)]
 pub fn spelled_fact(bytes: &[u8], ids: IdSize) -> Fact<'_>
     requires { (value : FactValue) × Spells ids value bytes.now }

@@ -1,4 +1,4 @@
-//! A sub-record, as a heap keeps it.
+//! A sub-record, as a heap stores it.
 
 ghost use Rattle.std.specs.Prelude.{◌≡◌, ◌+◌, ◌++◌, ◌<◌, ◌≤◌, ◌⊎◌, length, drop, IfSome, None};
 ghost use Rattle.hprof_rows.specs.Content.{object_fact};
@@ -14,12 +14,12 @@ use hprof_items::Fact;
 use hprof_values::{IdSize, Number, Root, put_numbers};
 use hprof_writing::{spelled_len, write_fact};
 
-/// A root, or a class with its bytes, or an object with its kept bytes.
+/// A sub-record, as a heap stores it.
 #[derive(Clone, Copy)]
 pub enum SubRow<'a> {
     /// A root.
     Root(Root),
-    /// The sub-record of a class.
+    /// The sub-record of a class dump.
     Class(&'a [u8]),
     /// An instance or an array.
     Object {
@@ -30,7 +30,7 @@ pub enum SubRow<'a> {
     },
 }
 
-/// Puts an instance or an array at the front: its tag with its identifier, and the bytes behind them.
+/// Writes an instance or an array to the front: its tag, its identifier, and the bytes after them.
 #[inline(always)]
 fn put_object(id: u64, kept: &[u8], ids: IdSize, out: &mut [u8])
     requires kept { IsObject ids (id, kept.now) }
@@ -45,10 +45,10 @@ fn put_object(id: u64, kept: &[u8], ids: IdSize, out: &mut [u8])
     behind[..rest.len()].copy_from_slice(rest);
 }
 
-/// The greatest length of a tag with an identifier.
+/// The largest number of bytes of a tag and an identifier.
 const FRONT_LEN: usize = 9;
 
-/// Writes an instance or an array: its tag and its identifier in one piece, and then the bytes behind them.
+/// Writes an instance or an array: its tag and its identifier in one piece, and then the bytes after them.
 fn write_object<W: Target>(
     id: u64,
     kept: &[u8],
@@ -72,7 +72,7 @@ fn write_object<W: Target>(
 impl SubRow<'_> {
     ghost use Rattle.hprof_rows.specs.SubRow.{sub_fact, IsWritable, IsNoObject};
 
-    /// Returns the number of its bytes.
+    /// Returns the number of bytes of the sub-record.
     pub fn len(self, ids: IdSize) -> u64
         requires { IsWritable ids self }
         ensures value { result ≡ length (dump_bytes ids (sub_fact ids self.entry)) }
@@ -86,8 +86,9 @@ impl SubRow<'_> {
         }
     }
 
-    /// Puts an instance or an array at the front of `out`, and returns the number of its bytes. If it is neither, or `out` has no room for
-    /// it, the answer is `None`, and nothing is put.
+    /// Writes an instance or an array to the front of `out`, and returns the number of its bytes.
+    ///
+    /// Returns `None` and leaves `out` unchanged if the row is neither, or if `out` is too short.
     #[inline(always)]
     pub fn put(self, ids: IdSize, out: &mut [u8]) -> Option<usize>
         requires { IsWritable ids self }
@@ -106,7 +107,7 @@ impl SubRow<'_> {
         Some(count)
     }
 
-    /// Writes it. A class is written as it lies. At a fault some of it was written, from the front.
+    /// Writes the sub-record. If this fails, a prefix of it was written.
     pub fn write<W: Target>(self, ids: IdSize, target: &mut W) -> Result<(), WriteFault>
         requires well { W.health target.old ≡ Well }
         requires writable { IsWritable ids self }

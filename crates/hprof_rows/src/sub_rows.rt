@@ -1,4 +1,4 @@
-//! The sub-records of a heap, one after the other.
+//! An iterator over the sub-records of a heap.
 
 ghost use Rattle.hprof_tables.specs.BytesTable.{byte_rows_left};
 ghost use Rattle.hprof_rows.specs.SubRow.{AreWritable, AreWritable-prop, HasEnded, HasEnded-prop};
@@ -8,7 +8,7 @@ use hprof_tables::BytesRows;
 use hprof_values::{IdSize, Root};
 use std::collections::btree_set;
 
-/// The sub-records of a heap that are still to come, in canonical order: its roots, its classes, its objects.
+/// An iterator over the sub-records of a heap, in canonical order: roots, classes, objects.
 #[derive(Drop)]
 pub struct SubRows<'a> {
     ids: IdSize,
@@ -28,7 +28,7 @@ impl<'a> SubRows<'a> {
     ghost use Rattle.hprof_rows.specs.SubRow.{facts_of_subs};
     ghost use Rattle.hprof_rows.specs.SubRows.{YieldsSub, subs_left, subs_ids};
 
-    /// Returns the sub-records of those tables.
+    /// Returns the sub-records of these tables.
     pub fn new(
         ids: IdSize,
         roots: btree_set::Iter<'a, Root>,
@@ -55,7 +55,7 @@ impl<'a> SubRows<'a> {
         self.ids
     }
 
-    /// Takes the first.
+    /// Returns the next sub-record.
     #[inline(always)]
     pub fn next(&mut self) -> Option<SubRow<'a>>
         ensures { YieldsSub self.old result self.new }

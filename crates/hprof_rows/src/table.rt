@@ -1,25 +1,25 @@
 //! The tables of a heap.
 
-/// A kind of facts that a heap keeps together. Tables stand in this order in a dump.
+/// A table of a heap: a kind of facts. The variants are in the order in which a dump has the tables.
 #[derive(Clone, Copy, Debug, PartialEq, Eq)]
 pub enum Table {
     /// The names, by identifier.
     Names,
-    /// The classes that were loaded, by serial.
+    /// The loaded classes, by serial number.
     Loads,
-    /// The classes that were unloaded, by serial.
+    /// The unloaded classes, by serial number.
     Unloads,
-    /// The frames of stacks, by identifier.
+    /// The stack frames, by identifier.
     Frames,
-    /// The stacks, by serial.
+    /// The stack traces, by serial number.
     Traces,
-    /// The threads that were started, by serial.
+    /// The threads that were started, by serial number.
     Starts,
-    /// The threads that ended, by serial.
+    /// The threads that ended, by serial number.
     Ends,
-    /// The roots, in the order of their spellings.
+    /// The GC roots, ordered as the bytes that encode them.
     Roots,
-    /// The classes, by identifier.
+    /// The class dumps, by identifier.
     Classes,
     /// The instances and arrays, by identifier.
     Objects,

@@ -1,4 +1,4 @@
-//! The rows of one table, whichever it is, and the facts that are read from them.
+//! An iterator over the rows of any table, and the facts that are read from rows.
 
 ghost use Rattle.std.specs.Prelude.{◌≡◌, ◌<◌, ◌∷◌, [], true, false, IfSome};
 ghost use Rattle.std.specs.Iterator.{YieldsFirstBy};
@@ -24,27 +24,27 @@ use std::collections::btree_set;
 pub enum TableRows<'a> {
     /// Names, by identifier.
     Names(BytesRows<'a>),
-    /// Classes that were loaded, by serial.
+    /// Loaded classes, by serial number.
     Loads(Rows<'a, LoadRow>),
-    /// Classes that were unloaded, by serial.
+    /// Unloaded classes, by serial number.
     Unloads(Rows<'a, KeyRow>),
-    /// Frames of stacks, by identifier.
+    /// Stack frames, by identifier.
     Frames(Rows<'a, FrameRow>),
-    /// Stacks, by serial.
+    /// Stack traces, by serial number.
     Traces(BytesRows<'a>),
-    /// Threads that were started, by serial.
+    /// Threads that were started, by serial number.
     Starts(Rows<'a, StartRow>),
-    /// Threads that ended, by serial.
+    /// Threads that ended, by serial number.
     Ends(Rows<'a, KeyRow>),
-    /// Roots.
+    /// GC roots.
     Roots(btree_set::Iter<'a, Root>),
-    /// Classes, by identifier.
+    /// Class dumps, by identifier.
     Classes(BytesRows<'a>),
     /// Instances and arrays, by identifier.
     Objects(BytesRows<'a>),
 }
 
-/// Returns the fact of the first row. The rows behind it are left.
+/// Takes the next row, and returns its fact.
 #[inline(always)]
 pub(crate) fn next_fact<'a>(rows: &mut TableRows<'a>, ids: IdSize) -> Option<Fact<'a>>
     requires { AreReadable ids rows.old }
@@ -66,8 +66,7 @@ pub(crate) fn next_fact<'a>(rows: &mut TableRows<'a>, ids: IdSize) -> Option<Fac
     }
 }
 
-/// Puts the fact of the first row in the place of another, and returns whether there is one. The rows behind it are left. If there is none,
-/// the place is unchanged.
+/// Takes the next row, stores its fact in `fact`, and returns whether there is one. If there is none, `fact` is unchanged.
 #[inline(always)]
 pub(crate) fn next_fact_into<'a>(rows: &mut TableRows<'a>, ids: IdSize, fact: &mut Fact<'a>) -> bool
     requires { AreReadable ids rows.old }
@@ -83,7 +82,7 @@ pub(crate) fn next_fact_into<'a>(rows: &mut TableRows<'a>, ids: IdSize, fact: &m
     }
 }
 
-/// Does the same for a fact that is no instance and no array.
+/// Does the same as [`next_fact_into`] for a fact that is neither an instance nor an array.
 fn put_next<'a>(rows: &mut TableRows<'a>, ids: IdSize, fact: &mut Fact<'a>) -> bool
     requires { AreReadable ids rows.old }
     ensures some { result ≡ true → facts_in_rows ids rows.old ≡ value_of fact.new ∷ facts_in_rows ids rows.new }
@@ -99,7 +98,7 @@ fn put_next<'a>(rows: &mut TableRows<'a>, ids: IdSize, fact: &mut Fact<'a>) -> b
     true
 }
 
-/// Returns the first name.
+/// Takes the next row, and returns its name.
 #[inline(always)]
 fn next_name<'a>(rows: &mut BytesRows<'a>) -> Option<Fact<'a>>
     ensures first { YieldsFirstBy value_of (λ rows. name_facts (byte_rows_left rows)) rows.old result rows.new }
@@ -109,7 +108,7 @@ fn next_name<'a>(rows: &mut BytesRows<'a>) -> Option<Fact<'a>>
     Some(Fact::Name { id, text })
 }
 
-/// Returns the first class that was loaded.
+/// Takes the next row, and returns its loaded class.
 fn next_load<'a>(rows: &mut Rows<'a, LoadRow>) -> Option<Fact<'a>>
     requires { AreSerials (rows_left rows.old) }
     ensures first { YieldsFirstBy value_of (λ rows. load_facts (rows_left rows)) rows.old result rows.new }
@@ -120,7 +119,7 @@ fn next_load<'a>(rows: &mut Rows<'a, LoadRow>) -> Option<Fact<'a>>
     Some(row.fact(serial as u32))
 }
 
-/// Returns the first class that was unloaded.
+/// Takes the next row, and returns its unloaded class.
 fn next_unload<'a>(rows: &mut Rows<'a, KeyRow>) -> Option<Fact<'a>>
     requires { AreSerials (rows_left rows.old) }
     ensures first { YieldsFirstBy value_of (λ rows. unload_facts (rows_left rows)) rows.old result rows.new }
@@ -133,7 +132,7 @@ fn next_unload<'a>(rows: &mut Rows<'a, KeyRow>) -> Option<Fact<'a>>
     })
 }
 
-/// Returns the first frame.
+/// Takes the next row, and returns its stack frame.
 fn next_frame<'a>(rows: &mut Rows<'a, FrameRow>) -> Option<Fact<'a>>
     ensures first { YieldsFirstBy value_of (λ rows. frame_facts (rows_left rows)) rows.old result rows.new }
     ensures lists { (ids : IdSize) → IfSome result (ListsHave ids) }
@@ -142,7 +141,7 @@ fn next_frame<'a>(rows: &mut Rows<'a, FrameRow>) -> Option<Fact<'a>>
     Some(row.fact(id))
 }
 
-/// Returns the first stack.
+/// Takes the next row, and returns its stack trace.
 fn next_trace<'a>(rows: &mut BytesRows<'a>, ids: IdSize) -> Option<Fact<'a>>
     requires { AreWhole ids (byte_rows_left rows.old) }
     ensures first { YieldsFirstBy value_of (λ rows. trace_facts ids (byte_rows_left rows)) rows.old result rows.new }
@@ -153,7 +152,7 @@ fn next_trace<'a>(rows: &mut BytesRows<'a>, ids: IdSize) -> Option<Fact<'a>>
     Some(kept_trace(serial as u32, kept, ids))
 }
 
-/// Returns the first thread that was started.
+/// Takes the next row, and returns its started thread.
 fn next_start<'a>(rows: &mut Rows<'a, StartRow>) -> Option<Fact<'a>>
     requires { AreSerials (rows_left rows.old) }
     ensures first { YieldsFirstBy value_of (λ rows. start_facts (rows_left rows)) rows.old result rows.new }
@@ -164,7 +163,7 @@ fn next_start<'a>(rows: &mut Rows<'a, StartRow>) -> Option<Fact<'a>>
     Some(row.fact(thread as u32))
 }
 
-/// Returns the first thread that ended.
+/// Takes the next row, and returns its ended thread.
 fn next_end<'a>(rows: &mut Rows<'a, KeyRow>) -> Option<Fact<'a>>
     requires { AreSerials (rows_left rows.old) }
     ensures first { YieldsFirstBy value_of (λ rows. end_facts (rows_left rows)) rows.old result rows.new }
@@ -177,7 +176,7 @@ fn next_end<'a>(rows: &mut Rows<'a, KeyRow>) -> Option<Fact<'a>>
     })
 }
 
-/// Returns the first root.
+/// Takes the next root.
 fn next_root<'a>(roots: &mut btree_set::Iter<'a, Root>) -> Option<Fact<'a>>
     ensures first { YieldsFirstBy value_of root_facts roots.old result roots.new }
     ensures lists { (ids : IdSize) → IfSome result (ListsHave ids) }
@@ -186,7 +185,7 @@ fn next_root<'a>(roots: &mut btree_set::Iter<'a, Root>) -> Option<Fact<'a>>
     Some(Fact::Root(*root))
 }
 
-/// Puts the first instance or array in the place of another fact.
+/// Takes the next row, and stores its instance or array in `fact`.
 #[inline(always)]
 fn next_object_into<'a>(rows: &mut BytesRows<'a>, ids: IdSize, fact: &mut Fact<'a>) -> bool
     requires { AreObjects ids (byte_rows_left rows.old) }
@@ -203,7 +202,7 @@ fn next_object_into<'a>(rows: &mut BytesRows<'a>, ids: IdSize, fact: &mut Fact<'
     true
 }
 
-/// Returns the first class.
+/// Takes the next row, and returns its class dump.
 #[inline(always)]
 fn next_spelled<'a>(rows: &mut BytesRows<'a>, ids: IdSize) -> Option<Fact<'a>>
     requires { AreSpelled ids (byte_rows_left rows.old) }
@@ -215,7 +214,7 @@ fn next_spelled<'a>(rows: &mut BytesRows<'a>, ids: IdSize) -> Option<Fact<'a>>
     Some(spelled_fact(bytes, ids))
 }
 
-/// Returns the first instance or array.
+/// Takes the next row, and returns its instance or array.
 #[inline(always)]
 fn next_object<'a>(rows: &mut BytesRows<'a>, ids: IdSize) -> Option<Fact<'a>>
     requires { AreObjects ids (byte_rows_left rows.old) }

@@ -1,4 +1,4 @@
-//! Stacks, which are kept as the serials of their threads with the identifiers of their frames behind them.
+//! Stack traces as a heap stores them: the serial number of the thread, and the identifiers of the frames.
 
 ghost use Rattle.std.specs.Prelude.{◌≡◌};
 ghost use Rattle.byteorder.specs.Endian.{big_bytes};
@@ -11,7 +11,7 @@ use hprof_items::Fact;
 use hprof_values::number::split_u32;
 use hprof_values::{IdList, IdSize};
 
-/// Returns the first four of the bytes that are kept of a stack: the serial of its thread.
+/// Returns the first four stored bytes of a stack trace: the serial number of its thread.
 pub fn thread_bytes(thread: u32) -> [u8; 4]
     ensures { result ≡ big_bytes 4 thread }
 {
@@ -20,7 +20,7 @@ pub fn thread_bytes(thread: u32) -> [u8; 4]
     bytes
 }
 
-/// Returns the stack with that serial, of which these bytes are kept.
+/// Returns the stack trace with this serial number, from its stored bytes.
 pub fn kept_trace(serial: u32, kept: &[u8], ids: IdSize) -> Fact<'_>
     requires { IsTrace ids kept.now }
     ensures value { value_of result ≡ trace_fact ids serial kept.now }

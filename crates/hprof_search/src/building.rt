@@ -1,4 +1,4 @@
-//! Sources, made of a graph.
+//! Making the sources of a graph.
 
 ghost use Rattle.std.specs.Prelude.{◌≡◌, ℕ, Contains, IfOk};
 ghost use Rattle.hprof_search.specs.Numbered.{nodes_in};
@@ -12,7 +12,8 @@ use crate::pairs::Pairs;
 use crate::sources::Sources;
 use std::alloc::{AllocError, Global};
 
-/// Returns for each node of a graph the nodes that lead to it, by one pass over all edges. If memory runs out, the answer is `AllocError`.
+/// Returns for each node of a graph the nodes with an edge to it, in one pass over all edges. If memory runs out, the answer is
+/// `AllocError`.
 pub fn sources_of<G: Graph>(
     alloc: Global,
     graph: &mut G,

@@ -1,4 +1,4 @@
-//! Targets are followed to nodes that were not found before.
+//! Following edges to nodes that were not found before.
 
 ghost use Rattle.std.specs.Prelude.{◌≡◌, ◌<◌, OnOk, IfSome, length};
 ghost use Rattle.hprof_search.specs.Finds.{Follows, LeadsTo, finds_of};
@@ -7,8 +7,8 @@ use crate::numbered::Numbered;
 use crate::trail::Trail;
 use std::alloc::AllocError;
 
-/// Finds the nodes that are among the targets: from one number, or if that is `None`, as starts, each from its own. If memory runs out,
-/// nothing holds of the nodes that were found.
+/// Finds the nodes among the targets. Each is found from the number `from`, or from itself, as a start, if `from` is `None`. If memory runs
+/// out, the answer is `AllocError` and `trail` is unspecified.
 #[inline(always)]
 pub(crate) fn follow(
     numbered: &Numbered,

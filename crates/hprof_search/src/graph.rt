@@ -2,7 +2,7 @@
 
 use std::alloc::AllocError;
 
-/// Edges between nodes, which are told by numbers.
+/// The edges between nodes, which are numbers.
 pub trait Graph {
     ghost use Rattle.std.specs.Prelude.{◌↔◌, ℕ, OnOk, Contains};
 
@@ -12,8 +12,8 @@ pub trait Graph {
     // what holds of a graph that tells its edges
     ghost stands: { Self → Type 0 };
 
-    /// Sets `targets` to the targets of the edges of a node, in whatever order and however often. If memory runs out, nothing holds of the
-    /// targets.
+    /// Sets `targets` to the targets of a node's edges, in any order. Repetitions are allowed. If memory runs out, the answer is
+    /// `AllocError` and the contents of `targets` are unspecified.
     fn targets_of(&mut self, from: u64, targets: &mut Vec<u64>) -> Result<(), AllocError>
         requires { stands self.old }
         ensures ok { OnOk result ((to : ℕ) → Contains targets.new.items to ↔ leads self.old from to) }

@@ -1,4 +1,4 @@
-//! Hints at the place of a node in a list of nodes that ascend. Only the speed of finding it rests on them.
+//! Hints at the place of a node in a sorted list of nodes. They affect only speed.
 
 ghost use Rattle.std.specs.Prelude.{◌≡◌, ◌+◌, ◌^◌, ◌<◌, ◌≤◌, IfOk, IfSome, length};
 
@@ -12,13 +12,14 @@ const FEW: usize = 20;
 
 const BEFORE: usize = 4;
 
-/// The range of the nodes in equal parts, and the place where each part begins.
+/// Divides the range of the nodes into equal parts, and has the place where each part begins.
 #[derive(Drop)]
 pub(crate) struct Hints {
     least: u64,
-    /// A part is as wide as two to this power.
+    /// The width of a part is two to this power.
     shift: u32,
-    /// Of each part the first number whose node is in it or behind it, and then the number of nodes. None is greater than fits.
+    /// For each part the number of the first node in it or after it, and at the end the number of nodes. Numbers that do not fit are cut
+    /// off to the greatest that does.
     firsts: Vec<u32>,
     ghost shifts: { shift < 64 },
 }
@@ -112,7 +113,7 @@ fn place_near(nodes: &[u64], low: usize, high: usize, near: usize, node: u64) ->
 }
 
 impl Hints {
-    /// Returns the hints for nodes that ascend. If memory runs out, the answer is `AllocError`.
+    /// Returns the hints for sorted nodes. If memory runs out, the answer is `AllocError`.
     pub(crate) fn new(alloc: Global, nodes: &[u64]) -> Result<Hints, AllocError> {
         let least = nodes.first().copied().unwrap_or(0);
         let greatest = nodes.last().copied().unwrap_or(0);
@@ -125,7 +126,7 @@ impl Hints {
         })
     }
 
-    /// Returns the place of the node, if the hints lead there, or else the place where it would stand. It may be wrong.
+    /// Returns a guess of the place of a node, or of the place where it would be inserted.
     #[inline(always)]
     pub(crate) fn place(&self, nodes: &[u64], node: u64) -> usize
         ensures { result ≤ length nodes.now }

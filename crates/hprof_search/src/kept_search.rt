@@ -1,4 +1,4 @@
-//! The data that a search keeps, and its answers.
+//! The result of a search.
 
 use crate::node_hasher::NodeHasher;
 use crate::numbered::find;
@@ -8,16 +8,16 @@ use indexmap::IndexSet;
 use std::alloc::{AllocError, Global};
 use std::hash::BuildHasherDefault;
 
-/// A search by levels that was made: the number of steps that lead to each node from a start, and the path.
+/// The result of a search by levels: the distance of each node from the starts, and a shortest path to it.
 #[derive(Drop)]
 pub struct Search {
     /// All nodes, in ascending order. The number of a node is its place here.
     pub(crate) nodes: Vec<u64>,
     /// For each number, whether its node was found.
     pub(crate) found: Vec<bool>,
-    /// Of each number that was found the one that it was found from; of a start, its own.
+    /// For each number that was found, the number it was found from: its own for a start.
     pub(crate) before: Numbers,
-    /// The numbers that were found, in the order in which they were found: by their distances.
+    /// The numbers that were found, in the order in which they were found, which is that of their distances.
     pub(crate) order: IndexSet<u32, BuildHasherDefault<NodeHasher>>,
     /// The number of levels.
     pub(crate) levels: usize,
@@ -66,8 +66,7 @@ impl Search {
         Ok(nodes)
     }
 
-    /// Returns the least number of steps that lead to a node from a start, or `None` if no start leads there or it is no node. It takes no
-    /// memory.
+    /// Returns the least number of steps from a start to a node, or `None` if no start leads to it or it is no node. Allocates nothing.
     pub fn distance<W: WalksOf>(&self, node: u64) -> Option<u64>
         ensures { (told : W.Told) → IsSearch (W.starts told) (W.steps told) self.now
             → HasDistance (W.starts told) (W.steps told) node result }
@@ -83,8 +82,10 @@ impl Search {
         Some(self.levels as u64)
     }
 
-    /// Returns the path to a node from a start, or `None` if no start leads there or it is no node. From its end each node before is the
-    /// least one of those that are as far off and have a step to it. If memory runs out, the answer is `AllocError`.
+    /// Returns a shortest path from a start to a node, or `None` if no start leads to it or it is no node.
+    ///
+    /// Of several shortest paths it is the one that has, from its end back, the least node each time. If memory runs out, the answer is
+    /// `AllocError`.
     pub fn path<W: WalksOf>(&self, alloc: Global, node: u64) -> Result<Option<Vec<u64>>, AllocError>
         ensures { IfOk result (λ path. (told : W.Told) → IsSearch (W.starts told) (W.steps told) self.now
             → IsPath (W.starts told) (W.steps told) node (option_map (λ nodes. nodes.items) path)) }

@@ -1,29 +1,29 @@
-//! Laws of the definitions. None of these functions does anything.
+//! Laws of the definitions. The contract of each function is a theorem; its body is empty.
 
 ghost use Rattle.std.specs.Prelude.{◌≡◌, ◌+◌, ◌<◌, ◌≤◌, ℕ, List, Option, Some, None, length, slice_index};
 ghost use Rattle.hprof_search.specs.Walks.{HasDistance, IsLeastBefore, IsPath, IsWalk};
 
-/// Starts and steps from node to node, whatever they are.
+/// Any starts, and any steps from node to node.
 pub trait Walks {
     ghost starts: { ℕ → Type 0 };
 
     ghost steps: { ℕ → ℕ → Type 0 };
 }
 
-/// A node has one distance, or none.
+/// A node has at most one distance.
 pub fn one_distance<W: Walks>()
     ensures { (node : ℕ) (one other : Option ℕ) → HasDistance W.starts W.steps node one → HasDistance W.starts W.steps node other
         → one ≡ other }
 {}
 
-/// A node has one path, or none.
+/// A node has at most one path.
 pub fn one_path<W: Walks>()
     ensures { (node : ℕ) (one other : Option (List ℕ)) → IsPath W.starts W.steps node one → IsPath W.starts W.steps node other
         → one ≡ other }
 {}
 
-/// A path is a walk of as many steps as the distance of its end, no walk there is shorter, and each node of it is, of those
-/// as far off, the least with a step to the next.
+/// The path to a node is a walk with as many steps as the node's distance, and no walk to the node is shorter. Each node on the path is the
+/// least of the nodes at its distance that have a step to the next.
 pub fn path_is_shortest<W: Walks>()
     ensures walk { (node : ℕ) (nodes : List ℕ) → IsPath W.starts W.steps node (Some nodes) → IsWalk W.starts W.steps nodes node }
     ensures counted { (node distance : ℕ) (nodes : List ℕ) → IsPath W.starts W.steps node (Some nodes)
@@ -34,7 +34,7 @@ pub fn path_is_shortest<W: Walks>()
         → IsLeastBefore W.starts W.steps place (slice_index nodes place) (slice_index nodes (place + 1)) }
 {}
 
-/// A node that has no distance is at the end of no walk; and one that has a distance is at the end of a walk of as many steps.
+/// No walk leads to a node without a distance. A node with a distance has a walk to it with as many steps.
 pub fn no_distance_no_walk<W: Walks>()
     ensures none { (node : ℕ) (nodes : List ℕ) → HasDistance W.starts W.steps node None → IsWalk W.starts W.steps nodes node → ⊥ }
     ensures some { (node distance : ℕ) → HasDistance W.starts W.steps node (Some distance)

@@ -1,4 +1,4 @@
-//! The targets of the nodes of a level.
+//! Following the edges of the nodes of a level.
 
 ghost use Rattle.std.specs.Prelude.{◌≡◌, ◌↔◌, ◌<◌, ℕ, OnOk, All, length};
 ghost use Rattle.std.specs.List.Sorted.{IsNonDecreasing};
@@ -10,8 +10,8 @@ use crate::numbered::Numbered;
 use crate::trail::Trail;
 use std::alloc::AllocError;
 
-/// Finds the nodes that the edges of a level lead to. The targets are used to gather them. If memory runs out, nothing holds of the
-/// targets, nor of the nodes that were found.
+/// Finds the nodes that the edges of a level lead to. `targets` is scratch space. If memory runs out, the answer is `AllocError`, and
+/// `targets` and `trail` are unspecified.
 pub(crate) fn lead_on<G: Graph>(
     graph: &mut G,
     numbered: &Numbered,

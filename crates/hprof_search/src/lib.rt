@@ -1,5 +1,5 @@
-//! A search by levels over any graph: the least number of steps that lead to each node from a start, and the path.
-//! The nodes of a graph that lead to a node.
+//! A breadth-first search over any graph, with the distance of each node from the starts and a shortest path to it; and for each node of a
+//! graph the nodes with an edge to it.
 #![tactic(auto)]
 
 mod building;

@@ -1,4 +1,4 @@
-//! A hash of node numbers.
+//! A hash function for node numbers.
 
 ghost use Rattle.std.specs.Prelude.{◌≡◌};
 ghost use Rattle.hprof_search.specs.NodeHash.{hash_of_number, written};
@@ -13,10 +13,10 @@ const TAG_BIT: u32 = 28;
 
 /// Hashes node numbers for an `IndexSet`.
 ///
-/// The set takes the group from the low bits of the hash, and from its highest byte of 32 bits the tag that tells the
-/// numbers of a group apart. So nine numbers in a row share a group, each with a tag of its own, and the next nine take the
-/// next group: memory is touched in the order of the numbers. Numbers are dense, from 0 on, so that in a set with room for
-/// all of them no group gets more than nine, and no dump can make them collide. Nothing rests on it but speed.
+/// The set takes the group of a number from the low bits of the hash. From the highest byte of 32 bits it takes the tag that tells the
+/// numbers of a group apart. Nine consecutive numbers share a group, each with its own tag, and the next nine are in the next group, so
+/// memory is accessed in the order of the numbers. Numbers are dense, from 0 on. So in a set with room for all of them no group gets more
+/// than nine, and no dump can make them collide. The hash affects only speed.
 #[derive(Clone, Copy)]
 pub(crate) struct NodeHasher {
     number: u32,

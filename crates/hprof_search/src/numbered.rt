@@ -1,4 +1,4 @@
-//! Nodes and their numbers: the number of a node is its place among all nodes.
+//! Nodes and their numbers. The number of a node is its place among all nodes.
 
 ghost use Rattle.std.specs.Prelude.{◌≡◌, ◌<◌, ◌≤◌, ◌↔◌, Contains, IfOk, IsTrue, length, slice_index};
 ghost use Rattle.std.specs.List.Sorted.{IsStrictlyIncreasing};
@@ -7,7 +7,7 @@ ghost use Rattle.hprof_search.specs.Kept.{IsMissingAt, number_in};
 use crate::hints::Hints;
 use std::alloc::{AllocError, Global};
 
-/// Nodes in ascending order, and hints at their places, so that the number of a node is mostly found without a search.
+/// Sorted nodes, with hints that find the number of most nodes without a search.
 #[derive(Drop)]
 pub struct Numbered {
     pub(crate) nodes: Vec<u64>,
@@ -15,7 +15,7 @@ pub struct Numbered {
     ghost ascend: { IsStrictlyIncreasing nodes.items },
 }
 
-/// Returns the number of a node, found by halves, or `None` if it is no node.
+/// Returns the number of a node, by binary search, or `None` if it is no node.
 pub(crate) fn find(nodes: &[u64], node: u64) -> Option<usize>
     requires { IsStrictlyIncreasing nodes.now }
     ensures { result ≡ number_in nodes.now node }
@@ -43,7 +43,7 @@ fn is_missing_at(nodes: &[u64], place: usize, node: u64) -> bool
 impl Numbered {
     ghost use Rattle.hprof_search.specs.Numbered.{nodes_in};
 
-    /// Returns nodes in ascending order, by their numbers. If memory runs out, the answer is `AllocError`.
+    /// Returns sorted nodes with their numbers. If memory runs out, the answer is `AllocError`.
     pub fn new(alloc: Global, nodes: Vec<u64>) -> Result<Numbered, AllocError>
         requires { IsStrictlyIncreasing nodes.items }
         ensures { IfOk result (λ numbered. nodes_in numbered ≡ nodes.items) }
@@ -59,7 +59,7 @@ impl Numbered {
         self.nodes.len()
     }
 
-    /// Returns the node that has a number.
+    /// Returns the node with this number.
     pub fn node(&self, number: usize) -> u64
         requires { number < length (nodes_in self.now) }
         ensures { result ≡ slice_index (nodes_in self.now) number }
@@ -67,7 +67,7 @@ impl Numbered {
         self.nodes[number]
     }
 
-    /// Returns whether it is one of the nodes.
+    /// Returns whether the node is one of the nodes.
     #[inline(always)]
     pub fn has(&self, node: u64) -> bool
         ensures { IsTrue result ↔ Contains (nodes_in self.now) node }
@@ -75,7 +75,7 @@ impl Numbered {
         self.number_of(node).is_some()
     }
 
-    /// Returns the number of a node, or `None` if it is no node. If the hints do not lead there, it is found by halves.
+    /// Returns the number of a node, or `None` if it is no node. Tries the hints first, then a binary search.
     #[inline(always)]
     pub fn number_of(&self, node: u64) -> Option<usize>
         ensures { result ≡ number_in (nodes_in self.now) node }

@@ -1,4 +1,4 @@
-//! Lists of numbers that take few bytes.
+//! Lists of numbers, of four or eight bytes each.
 
 ghost use Rattle.std.specs.Prelude.{◌≡◌, ◌<◌, ◌≤◌, ◌++◌, ◌∷◌, [], IfOk, OnOk, length, replicate, slice_index, slice_set};
 ghost use Rattle.hprof_search.specs.Numbers.{items_in, bound_of};
@@ -8,7 +8,7 @@ use std::alloc::{AllocError, Global};
 // How many numbers fit four bytes.
 const NARROW: usize = 1 << 32;
 
-/// Numbers, of four bytes each if that is enough.
+/// A list of numbers, of four bytes each if that is enough.
 #[derive(Drop)]
 pub enum Numbers {
     /// Of four bytes each.
@@ -18,7 +18,7 @@ pub enum Numbers {
 }
 
 impl Numbers {
-    /// Returns `count` zeros, in the place of which numbers below the bound can be put. If memory runs out, the answer is `AllocError`.
+    /// Returns a list of `count` zeros that can hold numbers below `bound`. If memory runs out, the answer is `AllocError`.
     pub fn zeros(alloc: Global, count: usize, bound: usize) -> Result<Numbers, AllocError>
         ensures items { IfOk result (λ numbers. items_in numbers ≡ replicate count 0) }
         ensures bound { IfOk result (λ numbers. bound ≤ bound_of numbers) }
@@ -30,7 +30,7 @@ impl Numbers {
         }
     }
 
-    /// Returns an empty list, to which numbers below the bound can be pushed. It takes no memory.
+    /// Returns an empty list that can hold numbers below `bound`. Allocates nothing.
     pub fn empty(alloc: Global, bound: usize) -> Numbers
         ensures items { items_in result ≡ [] }
         ensures bound { bound ≤ bound_of result }
@@ -52,7 +52,7 @@ impl Numbers {
         }
     }
 
-    /// Puts a number behind the others. If memory runs out, nothing holds of them.
+    /// Appends a number. If memory runs out, the answer is `AllocError` and the list is unspecified.
     pub fn push(&mut self, number: usize) -> Result<(), AllocError>
         requires fits { number < bound_of self.old }
         ensures items { OnOk result (items_in self.new ≡ items_in self.old ++ number ∷ []) }
@@ -77,7 +77,7 @@ impl Numbers {
         }
     }
 
-    /// Puts a number at a place.
+    /// Sets the number at a place.
     #[inline(always)]
     pub fn set(&mut self, place: usize, number: usize)
         requires within { place < length (items_in self.old) }

@@ -1,4 +1,4 @@
-//! Pairs of a node and one that it leads to, by the numbers of their lists.
+//! The edges of a graph, as pairs of numbers.
 
 ghost use Rattle.std.specs.Prelude.{◌≡◌, ◌<◌, ◌≤◌, ◌+◌, ◌++◌, [], List, ℕ, OnOk, length, map, replicate};
 ghost use Rattle.hprof_search.specs.Numbered.{nodes_in};
@@ -10,7 +10,7 @@ use crate::numbered::Numbered;
 use crate::numbers::Numbers;
 use std::alloc::AllocError;
 
-/// Pairs of numbers, each of one that leads and one that it leads to.
+/// Pairs of numbers: of a node, and of the list of a node that it leads to.
 #[derive(Drop)]
 pub(crate) struct Pairs {
     pub(crate) froms: Numbers,
@@ -18,7 +18,7 @@ pub(crate) struct Pairs {
 }
 
 impl Pairs {
-    /// Puts a pair for each target behind the others. If memory runs out, nothing holds of them.
+    /// Appends a pair for each target of a node. If memory runs out, the answer is `AllocError` and the pairs are unspecified.
     fn put(&mut self, nodes: &Numbered, number: usize, targets: &[u64]) -> Result<(), AllocError>
         requires from { number < length (nodes_in nodes.now) }
         requires froms_bound { length (nodes_in nodes.now) < bound_of self.old.froms }
@@ -36,8 +36,8 @@ impl Pairs {
         Ok(())
     }
 
-    /// Puts a pair for each node of a graph and each of its targets, of which `targets` is the room. If memory runs out, nothing holds
-    /// of the pairs.
+    /// Appends a pair for each edge of a graph. `targets` is scratch space. If memory runs out, the answer is `AllocError` and the pairs
+    /// are unspecified.
     pub(crate) fn put_all<G: Graph>(
         &mut self,
         graph: &mut G,

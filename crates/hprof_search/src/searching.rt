@@ -1,4 +1,4 @@
-//! A search by levels.
+//! A breadth-first search.
 
 ghost use Rattle.std.specs.Prelude.{IfOk, Contains};
 ghost use Rattle.std.specs.List.Sorted.{IsStrictlyIncreasing};
@@ -12,10 +12,11 @@ use crate::numbered::Numbered;
 use crate::trail::Trail;
 use std::alloc::{AllocError, Global};
 
-/// Goes from the starts that are nodes along the edges of a graph that lead to nodes, level by level.
+/// Searches a graph level by level, from those starts that are nodes, along the edges that lead to nodes.
 ///
-/// The nodes are given in ascending order. Edges to identifiers that are no nodes are not followed, and each edge is looked at once. If
-/// memory runs out, or there are more than 9 * 2^28 nodes, the answer is `AllocError`: an `IndexSet` has room for no more.
+/// `nodes` is sorted. Edges to identifiers that are no nodes are ignored, and each edge is looked at once.
+///
+/// The answer is `AllocError` if memory runs out, or if there are more than 9 * 2^28 nodes, the most that an `IndexSet` has room for.
 pub fn search<G: Graph>(
     alloc: Global,
     graph: &mut G,

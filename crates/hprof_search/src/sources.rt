@@ -1,4 +1,4 @@
-//! The nodes that lead to a node.
+//! The sources of each node: the nodes with an edge to it.
 
 ghost use Rattle.std.specs.Prelude.{◌≡◌, ◌<◌, ◌≤◌, ◌+◌, ℕ, IfNone, IfSome, MatchOption, length, slice_index};
 ghost use Rattle.hprof_search.specs.Numbered.{nodes_in};
@@ -7,7 +7,7 @@ ghost use Rattle.hprof_search.specs.Numbers.{items_in};
 use crate::lists::Lists;
 use crate::numbered::Numbered;
 
-/// For each node the nodes that may lead to it. Each that does is there; whoever asks looks at the edges of each.
+/// For each node the nodes that may have an edge to it. All that have one are there. A caller checks the edges of each.
 #[derive(Drop)]
 pub struct Sources {
     pub(crate) nodes: Numbered,
@@ -20,7 +20,7 @@ pub struct Sources {
 impl Sources {
     ghost use Rattle.hprof_search.specs.Sources.{end_of, nodes_of, number_at, start_of};
 
-    /// Returns the place at which the nodes begin that may lead to a node.
+    /// Returns the place where the sources of a node begin.
     pub fn start(&self, node: u64) -> usize
         ensures { result ≡ start_of self.now node }
     {
@@ -31,7 +31,7 @@ impl Sources {
         }
     }
 
-    /// Returns the place at which the nodes end that may lead to a node.
+    /// Returns the place where the sources of a node end.
     pub fn end(&self, node: u64) -> usize
         ensures { result ≡ end_of self.now node }
     {
@@ -39,7 +39,7 @@ impl Sources {
         self.lists.ends.get(list)
     }
 
-    /// Returns the node at a place, if one stands there.
+    /// Returns the node at a place, or `None` if the places end before it.
     pub fn node_at(&self, place: usize) -> Option<u64>
         ensures listed { (from to : ℕ) → place < end_of self.now to → number_at self.now place < length (nodes_of self.now)
             → slice_index (nodes_of self.now) (number_at self.now place) ≡ from → MatchOption result ⊥ (λ node. node ≡ from) }

@@ -1,4 +1,4 @@
-//! The nodes that were found, by their numbers: the place of each among all nodes.
+//! The nodes that were found, by number.
 
 ghost use Rattle.std.specs.Prelude.{◌≡◌, ◌≤◌, length};
 ghost use Rattle.hprof_search.specs.Numbers.{items_in, bound_of};
@@ -13,13 +13,13 @@ use std::hash::BuildHasherDefault;
 /// The nodes that were found so far.
 #[derive(Drop)]
 pub(crate) struct Trail {
-    /// For each number, whether its node was found, so that no edge to a node that was found costs a look-up.
+    /// For each number, whether its node was found. An edge to a found node costs no look-up.
     pub(crate) found: Vec<bool>,
-    /// Of each number that was found the one that it was found from; of a start, its own.
+    /// For each number that was found, the number it was found from: its own for a start.
     pub(crate) before: Numbers,
-    /// The numbers that were found, in the order in which they were found. Each fits four bytes, since an `IndexSet` holds fewer than 2^32.
+    /// The numbers that were found, in that order. Four bytes are enough, since an `IndexSet` holds fewer than 2^32.
     pub(crate) order: IndexSet<u32, BuildHasherDefault<NodeHasher>>,
-    /// The place in the order at which the next level begins.
+    /// The place in the order where the next level begins.
     next: usize,
     ghost paired: { length (items_in before) ≡ length found.items },
     ghost back: { LeadsBack (items_in before) },
@@ -34,8 +34,9 @@ impl Trail {
     ghost use Rattle.std.specs.List.{IsDistinct};
     ghost use Rattle.hprof_search.specs.Finds.{Arrives, Follows, finds_of, next_in};
 
-    /// Returns a trail of `count` nodes of which none was found, with room for all in the order. If memory runs out, or there are more than
-    /// 9 * 2^28 nodes, the answer is `AllocError`.
+    /// Returns a trail of `count` nodes, none of which is found. It has room for all of them in the order.
+    ///
+    /// The answer is `AllocError` if memory runs out, or if there are more than 9 * 2^28 nodes.
     pub(crate) fn new(alloc: Global, count: usize) -> Result<Trail, AllocError>
         ensures found { IfOk result (λ trail. trail.found.items ≡ replicate count false) }
         ensures order { IfOk result (λ trail. trail.order.keys ≡ []) }
@@ -48,8 +49,9 @@ impl Trail {
         })
     }
 
-    /// Finds a number from another, if it was not found before, and puts it behind the order then. If memory runs out, or the number does
-    /// not fit four bytes, the answer is `AllocError`, and nothing holds of the nodes that were found.
+    /// Finds a number from another, unless it was found before, and appends it to the order.
+    ///
+    /// If memory runs out, or the number does not fit four bytes, the answer is `AllocError` and the trail is unspecified.
     #[inline(always)]
     pub(crate) fn arrive(&mut self, number: usize, from: usize) -> Result<(), AllocError>
         requires within { number < length self.old.found.items }
@@ -67,8 +69,8 @@ impl Trail {
         Ok(())
     }
 
-    /// Makes a list the next level, in ascending order. Then the next level is empty, and begins where the order ends. If memory runs out,
-    /// nothing holds of the list.
+    /// Sets `level` to the sorted numbers of the next level, and begins a new, empty level. If memory runs out, the answer is `AllocError`
+    /// and the contents of `level` are unspecified.
     pub(crate) fn take_next(&mut self, level: &mut Vec<u32>) -> Result<(), AllocError>
         ensures ascend { OnOk result (IsNonDecreasing level.new.items) }
         ensures same { OnOk result ((number : ℕ) → Contains level.new.items number ↔ Contains (next_in self.old) number) }

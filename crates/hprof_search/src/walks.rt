@@ -1,7 +1,7 @@
-//! Walks that something tells.
+//! Walks in a graph that is described by something.
 
-/// Starts, and steps from node to node, as something tells them: facts, or a list of edges. It is named where a search is
-/// asked, whose answers are those of each walks that it is a search of.
+/// Starts, and steps from node to node, as a description gives them: facts, or a list of edges. A caller that asks a search for a distance
+/// or a path names this type, and gets an answer for every description that the search fits.
 pub trait WalksOf {
     ghost use Rattle.std.specs.Prelude.{ℕ};
 

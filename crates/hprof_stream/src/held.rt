@@ -1,4 +1,4 @@
-//! The bytes of an item that is not whole yet.
+//! The bytes of an incomplete item.
 
 ghost use Rattle.std.specs.Prelude.{◌≡◌, ◌⊎◌, ◌+◌, ◌<◌, ◌≤◌, ◌++◌, ℕ, List, [], length, vec_len, vec_capacity, min, max, true, None, Some};
 ghost use Rattle.std.specs.Prelude.{Err, IfOk, OnOk, OnErr, IfSome};
@@ -20,7 +20,7 @@ use crate::sink::Sink;
 use hprof_items::{Fact, HEAD_LEN, HEADER_LEN, HeadKind, Step, Stop, go_on, read_head};
 use hprof_values::BoundedBytes;
 
-/// Adds bytes to those that are held.
+/// Appends bytes to the held ones.
 fn hold(held: &mut Vec<u8>, bytes: &[u8]) -> Result<(), PartFault>
     ensures ok { OnOk result (held.new.items ≡ held.old.items ++ bytes.now) }
     ensures err { OnErr result ((result ≡ Err PartFault.OutOfMemory) × (held.new.items ≡ held.old.items) × (0 < length bytes.now)) }
@@ -33,7 +33,8 @@ fn hold(held: &mut Vec<u8>, bytes: &[u8]) -> Result<(), PartFault>
     }
 }
 
-/// Returns the number of bytes that are added to the held ones at once: as many again, and no more than an item may still have.
+/// Returns the number of bytes to append to the held ones at once: as many as are held, but at least 4,096, and no more than the item may
+/// still need.
 fn portion(held: usize, longest: u32) -> usize
     ensures some { 0 < result }
     ensures within { held + result ≤ max (longest_held longest) (held + 1) }
@@ -42,7 +43,7 @@ fn portion(held: usize, longest: u32) -> usize
     bound.saturating_sub(held).min(held.max(4_096)).max(1)
 }
 
-/// Returns the seen part of the record at the front, if the record is passed over and its head is there.
+/// Returns how much of the record at the front has come, if the record is skipped and its head is there.
 fn passing_at(progress: &Progress, bytes: &[u8]) -> Option<Passing>
     ensures passing { result ≡ passing_of progress.now.limits.max_item (place_of progress.now) bytes.now }
     ensures bytes { IsBytes bytes.now }
@@ -65,7 +66,7 @@ fn passing_at(progress: &Progress, bytes: &[u8]) -> Option<Passing>
     })
 }
 
-/// Goes on with the walk over a sub-record that is held, and returns whether it needs more bytes.
+/// Resumes the walk over a held sub-record. Returns whether it needs more bytes.
 fn walks_short(progress: &Progress, rest: &mut Rest) -> bool
     requires sound { IsSound rest.old }
     ensures sound { IsSound rest.new }
@@ -95,7 +96,7 @@ fn walks_short(progress: &Progress, rest: &mut Rest) -> bool
     matches!(end, Err(Stop::Short))
 }
 
-/// Counts the bytes that are held, if they are the head of a record that is passed over.
+/// If the held bytes are the head of a record that is skipped, counts them instead of holding them.
 fn count_passed(progress: &Progress, rest: &mut Rest)
     requires sound { IsSound rest.old }
     ensures sound { IsSound rest.new }
@@ -113,8 +114,8 @@ fn count_passed(progress: &Progress, rest: &mut Rest)
     }
 }
 
-/// Adds bytes to the item that is held, and hands it to the sink if it is whole then. Returns the bytes behind the item, or those that were
-/// not yet added to it.
+/// Appends bytes to the held item, and hands it to the sink once it is complete. Returns the bytes after the item, or those that were not
+/// yet appended.
 fn finish_once<'a, S: Sink>(
     progress: &mut Progress,
     rest: &mut Rest,
@@ -156,7 +157,7 @@ fn finish_once<'a, S: Sink>(
     Ok(behind)
 }
 
-/// Makes the item that is held whole, as far as the bytes go, and hands it to the sink. Returns the bytes behind the item.
+/// Completes the held item, as far as there are bytes, and hands it to the sink. Returns the bytes after the item.
 fn finish_held<'a, S: Sink>(
     progress: &mut Progress,
     rest: &mut Rest,
@@ -185,7 +186,7 @@ fn finish_held<'a, S: Sink>(
     Ok(left)
 }
 
-/// Steps over the whole items at the front of the kept bytes and those behind them, and returns the bytes that are left.
+/// Reads the complete items at the front of the held bytes followed by `bytes`. Returns the bytes that are left.
 pub(crate) fn read_on<'a, S: Sink>(
     progress: &mut Progress,
     rest: &mut Rest,
@@ -214,7 +215,7 @@ pub(crate) fn read_on<'a, S: Sink>(
     progress.walk(left, sink)
 }
 
-/// Keeps the rest behind the last whole item: its bytes, or the number of bytes seen of a record that is passed over.
+/// Holds the rest after the last complete item: its bytes, or the number of bytes that have come of a record that is skipped.
 pub(crate) fn keep(progress: &Progress, rest: &mut Rest, left: &[u8]) -> Result<(), PartFault>
     requires counted { IsCounted progress.now (rest_len rest.old + length left.now) }
     requires sound { IsSound rest.old }

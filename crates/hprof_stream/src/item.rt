@@ -1,4 +1,4 @@
-//! Reading the item at the front of some bytes.
+//! Reading one item: the header, a record, or the head of a heap dump record.
 
 ghost use Rattle.std.specs.Prelude.{◌≡◌, Some, None};
 ghost use Rattle.hprof_items.specs.Head.{kind_of};
@@ -13,19 +13,18 @@ use hprof_items::{
     Fact, HEAD_LEN, Head, HeadKind, Header, Step, read_body_into, read_head, read_header,
 };
 
-/// A header or a record at the front, as one item. The fact that it states is put beside it, so that no fact is moved from
-/// call to call.
+/// The header or a record. Its fact is stored separately, so that no fact is moved from call to call.
 #[derive(Clone, Copy)]
 pub(crate) enum Item {
     /// The header.
     Header(Header),
     /// A record that states a fact.
     Fact,
-    /// The head of a heap dump, with the number of bytes of its sub-records.
+    /// The head of a heap dump record, with the number of bytes of its sub-records.
     Dump(u32),
     /// The end of a heap dump.
     End,
-    /// A record that is passed over.
+    /// A record that is skipped.
     Skipped,
 }
 
@@ -44,7 +43,7 @@ pub(crate) fn first_item(bytes: &[u8], longest: u32) -> Step<Item>
     }
 }
 
-/// Reads a record with a fact, whose head was read.
+/// Reads a record that states a fact. Its head was read.
 fn fact_item<'a>(header: &Header, head: &Head, bytes: &'a [u8], fact: &mut Fact<'a>) -> Step<Item>
     requires whole { IsRightHead header.now.ids longest_body head.now }
     requires kind { kind_of head.now.tag ≡ HeadKind.FactRecord }
@@ -63,7 +62,7 @@ fn fact_item<'a>(header: &Header, head: &Head, bytes: &'a [u8], fact: &mut Fact<
     }
 }
 
-/// Reads a record that is passed over, whose head was read.
+/// Reads a record that is skipped. Its head was read.
 fn skipped_item(header: &Header, head: &Head, bytes: &[u8]) -> Step<Item>
     ensures found { (fact : Fact) → IsFound (Between header.now) (step_with result fact)
         (found_record header.now HeadKind.Skipped head.now bytes.now) }
@@ -76,7 +75,7 @@ fn skipped_item(header: &Header, head: &Head, bytes: &[u8]) -> Step<Item>
     Step::Whole(Item::Skipped, len)
 }
 
-/// Reads the item between two records. The fact that it states is put in the place of the fact.
+/// Reads the item at the front, between two records. Stores its fact in `fact`.
 #[tactic(auto, unfolding(crate::specs::Item::item_at))]
 pub(crate) fn record_item<'a>(
     header: &Header,

@@ -1,4 +1,4 @@
-//! A part of a heap dump, read in pieces: its header and facts are handed to a sink as they become whole.
+//! Reads one part of a heap dump from pieces, and hands its header and its facts to a sink as they are complete.
 #![tactic(auto)]
 
 mod held;

@@ -1,20 +1,20 @@
-//! Limits for the reading of a part.
+//! Limits on the reading of a part.
 
 ghost use Rattle.std.specs.Prelude.{◌≡◌};
 
-/// The limits of one part. All are this project's own.
+/// The limits on the reading of one part. They are this project's own.
 #[derive(Clone, Copy, Debug, PartialEq, Eq)]
 pub struct Limits {
-    /// The longest item that is taken, in bytes: the body of a record that states a fact.
+    /// The longest accepted item, in bytes: the body of a record that states one fact, or a sub-record.
     pub max_item: u32,
-    /// The most reads that are made.
+    /// The largest number of reads.
     pub max_reads: u64,
-    /// The most bytes that a part may have.
+    /// The largest number of bytes of the part.
     pub max_bytes: u64,
 }
 
 impl Limits {
-    /// Returns the limits of the program: every length that a record can say, 2^40 reads, 2^64 - 1 bytes.
+    /// Returns the limits of the program: every length that a record can state, 2^40 reads, 2^64 - 1 bytes.
     pub fn usual() -> Self
         ensures item { result.max_item ≡ 4294967295 }
         ensures reads { result.max_reads ≡ 1099511627776 }

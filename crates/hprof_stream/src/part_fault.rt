@@ -4,18 +4,18 @@ use crate::sink::SinkFault;
 use hprof_items::Reason;
 use thiserror::Error;
 
-/// The reason why a part was refused. An offset counts the bytes of the part before the item that is at fault.
+/// The reason why a part was refused. An offset is the number of bytes before the faulty item.
 #[derive(Clone, Copy, Debug, PartialEq, Eq, Error)]
 pub enum PartFault {
-    /// The item at that offset is not whole or not right.
+    /// The item at this offset is incomplete or invalid.
     #[error("malformed at {at}: {reason:?}")]
     Malformed {
         /// The offset of the item.
         at: u64,
-        /// The reason why it is malformed.
+        /// The reason.
         reason: Reason,
     },
-    /// The item at that offset is longer than the longest that is taken.
+    /// The item at this offset is longer than the longest accepted item.
     #[error("item too long at {at}")]
     ItemTooLong {
         /// The offset of the item.
@@ -27,16 +27,16 @@ pub enum PartFault {
     /// The sink refused the header or a fact.
     #[error("{0}")]
     Sink(SinkFault),
-    /// The part had been refused before.
+    /// The part was refused before.
     #[error("reader failed")]
     Failed,
     /// The source failed.
     #[error("read failed")]
     Read,
-    /// The part takes more reads than are made.
+    /// The part needs more reads than the limit.
     #[error("too many reads")]
     ReadsExceeded,
-    /// The part has more bytes than it may have.
+    /// The part has more bytes than the limit.
     #[error("too many bytes")]
     BytesExceeded,
 }

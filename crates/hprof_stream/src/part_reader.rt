@@ -1,4 +1,4 @@
-//! Reading a part that comes in pieces.
+//! Reading a part from pieces.
 
 ghost use Rattle.std.specs.Prelude.{◌≡◌, ℕ, ◌+◌, ◌≤◌, List, [], length, Option, Some, true, false, OnOk, OnErr};
 ghost use Rattle.hprof_items.specs.declared.header.Header.{Header};
@@ -17,7 +17,7 @@ use crate::summary::PartSummary;
 use hprof_items::{Header, Reason};
 use std::alloc::Global;
 
-/// Reads a part from pieces of it, cut anywhere. It holds the bytes of an item that is not whole yet, and no others.
+/// Reads a part from pieces, cut anywhere. It holds the bytes of an incomplete item, and no others.
 #[derive(Drop)]
 pub struct PartReader {
     progress: Progress,
@@ -34,7 +34,7 @@ impl PartReader {
     ghost use Rattle.hprof_stream.specs.Rest.{NeedsGrowth};
     ghost use Rattle.hprof_stream.specs.declared.limits.Limits.{Limits};
 
-    /// Returns a reader that was fed nothing. It takes no memory yet.
+    /// Returns a reader at the start of a part. Allocates nothing.
     pub fn new(alloc: Global, limits: Limits) -> Self
         ensures read { HasRead limits [] [] result }
         ensures ready { (begun : Option IdSize) → IsReady result begun }
@@ -47,12 +47,12 @@ impl PartReader {
         }
     }
 
-    /// Reads the next piece, and hands the header and the facts of all items that are whole now to the sink, in order. After a fault the
-    /// reader has failed, and answers `Failed` to each later call.
+    /// Reads the next piece, and hands the header and the facts of all complete items to the sink, in order.
     ///
-    /// The first item that is not whole and right is refused, as soon as no further byte could change that; then more bytes than the limit.
-    /// If memory runs out, that fault comes before later tests. If the header was read before, the sink was begun with its size and with no
-    /// other since.
+    /// Refuses the first incomplete or invalid item as soon as no further byte can change that, then a part with more bytes than the limit.
+    /// If memory runs out, that is the fault, even if a later test would fail. After a fault, each later call returns `Failed`.
+    ///
+    /// If the header was read before, `sink` must have been begun with its identifier size, and with no other since.
     pub fn feed<S: Sink>(&mut self, piece: &[u8], sink: &mut S) -> Result<(), PartFault>
         requires { IsReady self.old (S.begun sink.old) }
         ensures fed { (limits : Limits) (bytes : List ℕ) (facts : List FactValue) → HasRead limits bytes facts self.old
@@ -84,14 +84,14 @@ impl PartReader {
         outcome
     }
 
-    /// Returns the header as soon as it was read, even if the sink refuses it. It stays after a fault.
+    /// Returns the header once it is read, even if the sink refuses it. It is still returned after a fault.
     pub fn header(&self) -> Option<Header>
         ensures { result ≡ header_of self.now }
     {
         self.progress.header
     }
 
-    /// Returns the number of bytes that are held: those of an item that is not whole yet, and none after a fault.
+    /// Returns the number of bytes that are held: those of an incomplete item, and none after a fault.
     pub fn buffered(&self) -> usize
         ensures held { (limits : Limits) (bytes : List ℕ) (facts : List FactValue) → HasRead limits bytes facts self.now
             → IsUnfinished limits.max_item bytes result × (result ≤ length bytes) × (result ≤ longest_held limits.max_item) }
@@ -100,8 +100,10 @@ impl PartReader {
         self.rest.held.len()
     }
 
-    /// Ends the part, and returns its summary if the bytes end behind an item and a header is there. Otherwise the part is truncated, at
-    /// the offset of the item that is not whole. A reader that has failed answers `Failed`.
+    /// Ends the part. Returns its summary if the bytes end after an item and there is a header.
+    ///
+    /// - `Malformed` with `Truncated`: the bytes end within an item; the offset is that of the item.
+    /// - `Failed`: the reader has failed before.
     pub fn finish(self) -> Result<PartSummary, PartFault>
         ensures finished { (limits : Limits) (bytes : List ℕ) (facts : List FactValue) → HasRead limits bytes facts self
             → Finishes limits bytes facts (header_of self) result }

@@ -16,21 +16,21 @@ use crate::part_fault::PartFault;
 use crate::sink::{Sink, SinkFault};
 use hprof_items::{Fact, Header, IdSize, Step, Stop, read_sub_into};
 
-/// The progress of reading a part: its whole items from the front.
+/// The progress of reading a part: the complete items from its start.
 #[derive(Clone, Copy)]
 pub(crate) struct Progress {
     pub(crate) limits: Limits,
-    /// The header, once it was read.
+    /// The header, once it is read.
     pub(crate) header: Option<Header>,
-    /// The number of bytes that a heap dump record has left, if the next item stands within one; otherwise 0.
+    /// The number of bytes left in the heap dump record that the next item is in; 0 if it is in none.
     pub(crate) room: u32,
     /// The offset of the next item.
     pub(crate) at: u64,
-    /// The number of records.
+    /// The number of records so far.
     pub(crate) records: u64,
-    /// The number of facts.
+    /// The number of facts so far.
     pub(crate) facts: u64,
-    /// True if a record ended a heap dump.
+    /// True if one of the records ended a heap dump.
     pub(crate) ended: bool,
 }
 
@@ -38,7 +38,7 @@ impl Progress {
     ghost use Rattle.hprof_stream.specs.Progress.{start_of, place_of, advanced, IsCounted, IsNext, IsOutside};
     ghost use Rattle.hprof_stream.specs.Walking.{StepsOver, WalksSubs, WalksAll, told_by, seen};
 
-    /// Returns the progress before anything was read.
+    /// Returns the progress at the start of a part.
     pub(crate) fn start(limits: Limits) -> Self
         ensures { result ≡ start_of limits }
     {
@@ -53,7 +53,7 @@ impl Progress {
         }
     }
 
-    /// Reads the header or the record at the front. The fact that it states is put in the place of the fact.
+    /// Reads the header or the record at the front. Stores its fact in `fact`.
     fn item<'a>(&self, bytes: &'a [u8], fact: &mut Fact<'a>) -> Step<Item>
         requires { IsOutside self.now }
         ensures found { IsFound (place_of self.now) (step_with result fact.new)
@@ -68,7 +68,7 @@ impl Progress {
         }
     }
 
-    /// Tells the header that was read, even if the sink refuses it.
+    /// Notes the header, even if the sink refuses it.
     fn tell(&mut self, item: &Item)
         ensures { self.new ≡ record self.old { header = told_by self.old.header (bare item.now) } }
     {
@@ -105,8 +105,7 @@ impl Progress {
         }
     }
 
-    /// Steps over the sub-record at the front of the bytes, as [`Progress::step`] does, within a heap dump behind that
-    /// header.
+    /// Steps over the sub-record at the front, in a part with this header, as [`Progress::step`] does.
     #[inline(always)]
     fn step_sub<'a, S: Sink>(
         &mut self,
@@ -140,8 +139,8 @@ impl Progress {
         }
     }
 
-    /// Steps over the header or the record at the front of the bytes, as [`Progress::step`] does. Few items are headers or records, so it
-    /// stands apart from the loop over them.
+    /// Steps over the header or the record at the front, as [`Progress::step`] does. It is not inlined into the loop over items, since few
+    /// items are headers or records.
     #[inline(never)]
     fn step_outside<'a, S: Sink>(
         &mut self,
@@ -172,11 +171,10 @@ impl Progress {
         }
     }
 
-    /// Steps over the item at the front of the bytes and hands it to the sink. Returns the number of its bytes, or `None` if it needs more
-    /// bytes than there are.
+    /// Steps over the item at the front and hands it to the sink. Returns the number of its bytes, or `None` if it needs more bytes.
     ///
-    /// The fact that it states is put in the place of the fact; the value there before and after has no meaning. Few items come in two
-    /// pieces, so it stands apart from the feeding of them.
+    /// The item's fact is stored in `fact`, whose value before and after is unspecified. It is not inlined, since few items come in two
+    /// pieces.
     #[inline(never)]
     pub(crate) fn step<'a, S: Sink>(
         &mut self,
@@ -198,7 +196,7 @@ impl Progress {
         }
     }
 
-    /// Returns whether the next item stands within no heap dump record.
+    /// Returns whether the next item is outside of every heap dump record.
     #[inline(always)]
     fn is_outside(&self) -> bool
         ensures outside { result ≡ true → IsOutside self.now }
@@ -209,8 +207,8 @@ impl Progress {
         self.header.is_none() || room == 0
     }
 
-    /// Steps over the whole sub-records at the front of the bytes, as far as the heap dump record has room left, and returns the bytes
-    /// behind them: all if it has none. That header was read before.
+    /// Steps over the complete sub-records at the front, as far as the heap dump record reaches, and returns the bytes after them. Outside
+    /// of a heap dump record these are all bytes. The part has this header.
     #[inline(always)]
     fn walk_within<'a, S: Sink>(
         &mut self,
@@ -242,8 +240,7 @@ impl Progress {
         Ok(rest)
     }
 
-    /// Steps over the whole sub-records at the front of the bytes, as [`Progress::walk_within`] does. There is no sub-record before the
-    /// header.
+    /// Steps over the complete sub-records at the front, as [`Progress::walk_within`] does. Before the header there is none.
     #[inline(always)]
     fn walk_subs<'a, S: Sink>(
         &mut self,
@@ -282,7 +279,7 @@ impl Progress {
         }
     }
 
-    /// Steps over the whole items at the front of the bytes, and returns the bytes behind them.
+    /// Steps over the complete items at the front, and returns the bytes after them.
     pub(crate) fn walk<'a, S: Sink>(
         &mut self,
         bytes: &'a [u8],
@@ -309,7 +306,7 @@ impl Progress {
     }
 }
 
-/// Hands a header or a record, which states the fact, to the sink.
+/// Hands a header, or the fact of a record, to the sink.
 fn give<S: Sink>(item: &Item, fact: &Fact<'_>, sink: &mut S) -> Result<(), SinkFault>
     requires { GivesFit (S.begun sink.old) (with_fact item.now fact.now) }
     ensures gives { OnOk result (Gives S.begins S.steps sink.old (with_fact item.now fact.now) sink.new) }

@@ -18,7 +18,7 @@ use std::alloc::Global;
 /// The number of bytes that a read asks for.
 const PIECE_LEN: usize = 65_536;
 
-/// Feeds the source's pieces to the reader, to the source's end.
+/// Feeds the pieces of the source to the reader, up to the source's end.
 fn feed_all<R: Source, S: Sink>(
     reader: &mut PartReader,
     source: &mut R,
@@ -48,8 +48,8 @@ fn feed_all<R: Source, S: Sink>(
     Err(PartFault::ReadsExceeded)
 }
 
-/// Reads a part to its end, in pieces of 65,536 bytes, and hands its header and facts to the sink. The bytes that
-/// came are judged before a failed read or too many reads are answered.
+/// Reads a part to its end, in pieces of 65,536 bytes, and hands its header and facts to the sink. A fault in the bytes comes before a
+/// failed read and before too many reads.
 pub fn read_part<R: Source, S: Sink>(
     alloc: Global,
     source: &mut R,

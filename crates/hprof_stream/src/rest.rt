@@ -1,4 +1,4 @@
-//! The beginning of an item that is not whole yet.
+//! The beginning of an incomplete item.
 
 ghost use Rattle.std.specs.Prelude.{◌≡◌, ◌==◌, ◌+◌, ◌^◌, ◌<◌, ◌≤◌, ℕ, List, [], length, vec_capacity, Some, None};
 ghost use Rattle.hprof_stream.specs.declared.rest.Passing.{Passing};
@@ -12,16 +12,16 @@ use crate::progress::Progress;
 use hprof_items::Walk;
 use std::alloc::Global;
 
-/// The seen part of a record that is passed over. Nothing of it is held.
+/// The progress within a record that is skipped. None of its bytes are held.
 #[derive(Clone, Copy)]
 pub(crate) struct Passing {
-    /// The number of its bytes that came, with its head.
+    /// The number of its bytes that have come, with its head.
     pub(crate) seen: u64,
     /// The number of its bytes that are still to come.
     pub(crate) left: u32,
 }
 
-/// The beginning of an item that is not whole yet: its bytes, or the number of bytes seen of a record that is passed over.
+/// The beginning of an incomplete item: its bytes, or the number of bytes that have come of a record that is skipped.
 #[derive(Drop)]
 pub(crate) struct Rest {
     pub(crate) held: Vec<u8>,
@@ -31,7 +31,7 @@ pub(crate) struct Rest {
 }
 
 impl Rest {
-    /// Returns a rest with nothing there.
+    /// Returns an empty rest.
     pub(crate) fn new(alloc: Global) -> Self
         ensures held { result.held.items ≡ [] }
         ensures walk { result.walk ≡ Walk.Front }
@@ -45,7 +45,7 @@ impl Rest {
         }
     }
 
-    /// Returns the number of bytes of the part that it stands for.
+    /// Returns the number of bytes of the part that are in the rest.
     pub(crate) fn len(&self) -> u64
         requires { rest_len self.now < 2 ^ 64 }
         ensures { result ≡ rest_len self.now }
@@ -54,7 +54,7 @@ impl Rest {
         passed + self.held.len() as u64
     }
 
-    /// Returns whether nothing is there.
+    /// Returns whether the rest is empty.
     pub(crate) fn is_empty(&self) -> bool
         requires { IsSound self.now }
         ensures { result ≡ (rest_len self.now == 0) }
@@ -62,7 +62,7 @@ impl Rest {
         self.passing.is_none() && self.held.is_empty()
     }
 
-    /// Forgets the bytes that are held.
+    /// Drops the held bytes.
     pub(crate) fn clear(&mut self)
         ensures held { self.new.held.items ≡ [] }
         ensures walk { self.new.walk ≡ Walk.Front }
@@ -74,7 +74,7 @@ impl Rest {
     }
 }
 
-/// Passes over as many bytes as the record that is passed over has left, and returns the bytes behind them.
+/// Skips the bytes that belong to the skipped record, and returns the bytes after them.
 pub(crate) fn pass_over<'a>(progress: &mut Progress, rest: &mut Rest, bytes: &'a [u8]) -> &'a [u8]
     requires counted { IsCounted progress.old (rest_len rest.old + length bytes.now) }
     requires sound { IsSound rest.old }

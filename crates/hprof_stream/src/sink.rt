@@ -1,4 +1,4 @@
-//! Sinks, which take a part's header and facts.
+//! Sinks, which take the header and the facts of a part.
 
 ghost use Rattle.std.specs.Prelude.{◌≡◌, [], ◌∷◌, List, Bool, true, false, Option, Some, Err, OnOk, IfErr};
 ghost use Rattle.hprof_items.specs.FactValue.{FactValue, value_of};
@@ -17,8 +17,7 @@ pub enum SinkFault {
     Failed,
 }
 
-/// A sink, which takes the header of a part and then its facts, in order. After a fault the sink has failed, and answers `Failed` to every
-/// later call.
+/// Takes the header of a part, and then its facts, in order. After a fault, each later call returns `Failed`.
 pub trait Sink {
     ghost use Rattle.hprof_items.specs.declared.header.Header.{Header};
     ghost use Rattle.hprof_values.specs.declared.ids.IdSize.{IdSize};
@@ -48,9 +47,10 @@ pub trait Sink {
         ensures well { OnOk result ((failed self.old ≡ false) × (failed self.new ≡ false)) }
         ensures err { IfErr result (λ fault. refuses self.old [] fault self.new × (failed self.new ≡ true) × (fault ≡ SinkFault.Failed)) };
 
-    /// Takes a fact of the part that was begun last, which fits its size, and whose lists have identifiers of that size.
-    /// With it come the bytes of the sub-record that states it, so that they need not be spelled again; none come with a
-    /// fact that a record states.
+    /// Takes a fact of the part that was begun last. Its identifiers have the size of that part.
+    ///
+    /// `spelled` has the bytes of the sub-record that states the fact, so that they need not be encoded again. It is empty for the fact of
+    /// a record.
     fn take(&mut self, fact: &Fact<'_>, spelled: &[u8]) -> Result<(), SinkFault>
         requires fits { FitsBegun (begun self.old) (value_of fact.now) }
         requires lists { ListsHaveBegun (begun self.old) fact.now }

@@ -9,8 +9,8 @@ pub struct PartSummary {
     pub header: Header,
     /// The number of records.
     pub records: u64,
-    /// The number of facts, each as often as the part states it.
+    /// The number of facts. A fact counts as often as the part states it.
     pub facts: u64,
-    /// True if one of the records ends a heap dump.
+    /// True if a record ended a heap dump.
     pub ended: bool,
 }

@@ -7,15 +7,15 @@ ghost use Rattle.hprof_stream.specs.Tally.{form_of};
 use crate::sink::{Sink, SinkFault};
 use hprof_items::{Fact, Header, IdSize};
 
-/// A sink that counts the facts of each form that it is given. It never fails, and takes no memory.
+/// A sink that counts the facts of each kind. It never fails and never allocates.
 #[derive(Clone, Copy, Debug, PartialEq, Eq)]
 pub struct Tally {
     counts: [u64; 12],
     begun: Option<IdSize>,
 }
 
-/// Returns the place of a fact's form: names, loads, unloads, frames, traces, starts and ends of threads, roots, classes, instances, arrays
-/// of objects, arrays of numbers or truth values.
+/// Returns the index of a fact's kind: names, loads, unloads, frames, stack traces, thread starts, thread ends, roots, classes, instances,
+/// object arrays, primitive arrays.
 fn form_of(fact: &Fact<'_>) -> usize
     ensures form { result ≡ form_of (value_of fact.now) }
     ensures below { result < 12 }
@@ -41,7 +41,7 @@ impl Tally {
     ghost use Rattle.hprof_items.specs.FactValue.{FactValue};
     ghost use Rattle.hprof_stream.specs.Tally.{Counts, HasCounted, begun_with};
 
-    /// Returns a tally that was given nothing.
+    /// Returns a tally of no facts.
     pub fn new() -> Self
         ensures counts { HasCounted result [] }
         ensures begun { begun_with result ≡ None }
@@ -52,9 +52,8 @@ impl Tally {
         }
     }
 
-    /// Returns the number of facts of each form that it was given, in the order of the forms: names, loads, unloads, frames, traces, starts
-    /// and ends of threads, roots, classes, instances, arrays of objects, arrays of numbers or truth values. A count stops at the greatest
-    /// number.
+    /// Returns the number of facts of each kind, in this order: names, loads, unloads, frames, stack traces, thread starts, thread ends,
+    /// roots, classes, instances, object arrays, primitive arrays. A count saturates at `u64::MAX`.
     pub fn counts(&self) -> [u64; 12]
         ensures { (facts : List FactValue) → HasCounted self.now facts → Counts facts result }
     {

@@ -1,4 +1,4 @@
-//! The tables of names, stacks, classes and objects: bytes by key.
+//! Tables of bytes by key: names, stack traces, classes and objects.
 
 ghost use Rattle.std.specs.Prelude.{◌≡◌, ◌↔◌, ◌++◌, ◌+◌, ◌<◌, ◌≤◌, ◌⊎◌, List, [], length, IfOk, OnOk, OnErr, IsTrue, Some, None, vec_len};
 ghost use Rattle.std.specs.Prelude.{◌^◌, ◌∷◌, drop, take, vec_capacity};
@@ -19,8 +19,8 @@ use crate::side_by_side::{LentBytes, first_difference, missing_rows, same_rows};
 use crate::sorted_table::SortedTable;
 use std::alloc::{AllocError, Global};
 
-/// Rows of bytes by key, in order of key. The bytes of all rows lie in one vector, each row's behind their length, as they came,
-/// so that a row takes no memory of its own.
+/// Rows of bytes by key, in order of key. One vector holds the bytes of all rows, each after its length, in the order in which they came,
+/// so a row needs no allocation of its own.
 #[derive(Drop)]
 pub struct BytesTable {
     rows: SortedTable<Span>,
@@ -37,7 +37,7 @@ impl BytesTable {
     ghost use Rattle.hprof_tables.specs.SortedRows.{IsAscending};
     ghost use Rattle.hprof_tables.specs.Union.{AreApart, AreUnion};
 
-    /// Returns a table with no rows. It takes no memory yet.
+    /// Returns an empty table. Allocates nothing.
     pub fn new(alloc: Global) -> Self
         ensures none { byte_rows result ≡ [] }
         ensures no_room { HasNoRoom result }
@@ -67,7 +67,7 @@ impl BytesTable {
         }
     }
 
-    /// States bytes under a key. A key that is there takes no memory, and keeps its row.
+    /// States bytes under a key. If the key is present, its row stays and nothing is allocated.
     #[inline(always)]
     pub fn state(&mut self, key: u64, bytes: &[u8]) -> Result<Stated, AllocError>
         ensures ok { IfOk result (λ stated. States the_bytes (byte_rows self.old) key bytes.now stated (byte_rows self.new)) }
@@ -87,8 +87,7 @@ impl BytesTable {
         )
     }
 
-    /// States bytes under a key, the first of which stands apart from the others. A key that is there takes no memory, and keeps
-    /// its row.
+    /// States bytes under a key, as [`BytesTable::state`] does. The first byte is given separately.
     #[inline(always)]
     pub fn state_apart(&mut self, key: u64, first: u8, rest: &[u8]) -> Result<Stated, AllocError>
         ensures ok { IfOk result (λ stated. States the_bytes (byte_rows self.old) key (first ∷ rest.now) stated (byte_rows self.new)) }
@@ -108,8 +107,7 @@ impl BytesTable {
         )
     }
 
-    /// States bytes under a key, the first four of which stand apart from the others. A key that is there takes no memory, and keeps
-    /// its row.
+    /// States bytes under a key, as [`BytesTable::state`] does. The first four bytes are given separately.
     pub fn state_four_apart(
         &mut self,
         key: u64,
@@ -140,8 +138,8 @@ impl BytesTable {
         self.get_near(key, &mut Finger::start())
     }
 
-    /// Returns the bytes under a key, which are looked for near a finger. Their place is noted there, so that keys that come in order are
-    /// found one behind the other.
+    /// Returns the bytes under a key, looking near the finger first, and moves the finger there. Keys that are asked for in order are found
+    /// one after the other.
     #[inline(always)]
     pub fn get_near(&self, key: u64, near: &mut Finger) -> Option<&[u8]>
         ensures { option_copied result ≡ lookup (is_at (nat_cmp key)) (byte_rows self.now) }
@@ -157,22 +155,22 @@ impl BytesTable {
         self.rows.len()
     }
 
-    /// Returns whether both have the same rows.
+    /// Returns whether both tables have the same rows.
     pub fn same(&self, other: &Self) -> bool
         ensures { IsTrue result ↔ (byte_rows self.now ≡ byte_rows other.now) }
     {
         same_rows(self.rows(), other.rows())
     }
 
-    /// Returns the least key under which both have a row, with different bytes.
+    /// Returns the least key whose bytes differ in the two tables.
     pub fn first_difference(&self, other: &Self) -> Option<u64>
         ensures { IsFirstDifference (byte_rows self.now) (byte_rows other.now) result }
     {
         first_difference(self.rows(), other.rows())
     }
 
-    /// Takes rows whose keys are new. If memory runs out, some of their bytes were put behind those of the rows. If there is no row, no
-    /// memory is needed.
+    /// Adds rows whose keys are new. If there are none, nothing is allocated. If memory runs out, no row is added, but the vector may have
+    /// grown by some of their bytes.
     fn take_rows(&mut self, lent: Vec<(u64, LentBytes<'_>)>) -> Result<(), AllocError>
         requires ascending { IsAscending (contents_of (λ row. row.0.now) lent.items) }
         requires apart { AreApart (byte_rows self.old) (contents_of (λ row. row.0.now) lent.items) }
@@ -190,8 +188,8 @@ impl BytesTable {
         self.rows.merge(self.alloc, fresh)
     }
 
-    /// Takes the rows of another whose keys are new. Both are gone over side by side. If memory runs out, nothing changes. No memory is
-    /// needed if no key is new.
+    /// Adds the rows of another table whose keys are new, in one pass over both. If no key is new, nothing is allocated. If memory runs
+    /// out, the rows are unchanged.
     pub fn join(&mut self, other: &Self) -> Result<(), AllocError>
         ensures ok { IfOk result (λ _. AreUnion (byte_rows self.old) (byte_rows other.now) (byte_rows self.new)) }
         ensures err { OnErr result (byte_rows self.new ≡ byte_rows self.old) }
@@ -210,7 +208,7 @@ impl BytesTable {
         taken
     }
 
-    /// Returns the rows, in order of key.
+    /// Returns an iterator over the rows, in order of key.
     pub fn rows(&self) -> BytesRows<'_>
         ensures all { byte_rows_left result ≡ byte_rows self.now }
         ensures ascending { IsAscending (byte_rows_left result) }
@@ -222,7 +220,7 @@ impl BytesTable {
     }
 }
 
-/// The rows of a table with their keys, in order of key.
+/// An iterator over the rows of a table, in order of key.
 #[derive(Drop)]
 pub struct BytesRows<'a> {
     entries: Entries<'a, Span>,

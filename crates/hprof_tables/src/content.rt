@@ -1,10 +1,10 @@
-//! The contents of rows, under their keys.
+//! The contents of rows.
 
 ghost use Rattle.std.specs.Prelude.{◌≡◌, ◌↔◌, ℕ, List, IsTrue, IfOk, OnErr};
 
 use std::alloc::{AllocError, Global};
 
-/// The content of a row: all of its fact but the key.
+/// The content of a row: its fact without the key.
 pub trait Content {
     // The content as a list of numbers, one list for one content.
     ghost content: { Self → List ℕ };

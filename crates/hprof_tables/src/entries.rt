@@ -1,4 +1,4 @@
-//! The rows of the pages of a table, in order of key.
+//! An iterator over the rows of a table's pages.
 
 ghost use Rattle.std.specs.Prelude.{◌≡◌, [], slice_get};
 ghost use Rattle.hprof_tables.specs.Pages.{rows_in};
@@ -6,7 +6,7 @@ ghost use Rattle.hprof_tables.specs.Pages.{rows_in};
 use crate::page::Page;
 use std::collections::btree_map::Values;
 
-/// Returns the rows of the page of that number.
+/// Returns the rows of the page with this number.
 #[inline(always)]
 fn rows_of_page<V>(pages: &[Page<V>], number: usize) -> &[(u64, V)]
     ensures { result.now ≡ rows_in (slice_get pages.now number) }
@@ -17,12 +17,12 @@ fn rows_of_page<V>(pages: &[Page<V>], number: usize) -> &[(u64, V)]
     }
 }
 
-/// The rows of a table with their keys, in order of key.
+/// An iterator over the rows of a table, in order of key.
 #[derive(Drop)]
 pub(crate) struct Entries<'a, V> {
-    /// Those of a page that are still to come.
+    /// The rows of the current page that are still to come.
     pub(crate) rows: &'a [(u64, V)],
-    /// The numbers of the pages behind it.
+    /// The numbers of the pages after it.
     pub(crate) numbers: Values<'a, u64, usize>,
     pub(crate) pages: &'a [Page<V>],
 }
@@ -31,7 +31,7 @@ impl<'a, V> Entries<'a, V> {
     ghost use Rattle.std.specs.Iterator.{YieldsFirstBy};
     ghost use Rattle.hprof_tables.specs.SortedTable.{entries_left};
 
-    /// Takes the first row of the next page that has one.
+    /// Goes to the next page that has a row, and takes its first row.
     #[inline(never)]
     fn next_of_page(&mut self) -> Option<(u64, &'a V)>
         requires { self.old.rows.now ≡ [] }

@@ -1,19 +1,19 @@
-//! Where a row was found, so that the next one is looked for from there.
+//! The place where a row was found, from which the next search starts.
 
 ghost use Rattle.std.specs.Prelude.{◌≡◌};
 
-/// Where a row was found in a table: the number of its page, and its place there. Keys that come in order are found one behind the other
-/// from there on; the answers are the same for all fingers.
+/// The place of a row in a table: the number of its page, and its place there. A search that starts there finds keys that come in order
+/// faster. The answers are the same for all fingers.
 #[derive(Clone, Copy, Debug, PartialEq, Eq)]
 pub struct Finger {
-    /// The number of a page of the table.
+    /// The number of the page.
     pub page: usize,
-    /// The place of a row of the page.
+    /// The place of the row in the page.
     pub place: usize,
 }
 
 impl Finger {
-    /// Returns the finger from which a first key is looked for.
+    /// Returns the finger to start with.
     pub fn start() -> Finger
         ensures page { result.page ≡ 0 }
         ensures place { result.place ≡ 0 }

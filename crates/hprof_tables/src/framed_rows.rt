@@ -1,4 +1,4 @@
-//! Rows of bytes, each behind its length, as they lie one behind the other.
+//! Rows of bytes in one vector, each after its length.
 
 ghost use Rattle.std.specs.Prelude.{◌≡◌, ◌↔◌, ◌++◌, ◌+◌, ◌<◌, ◌≤◌, length, IfOk, OnOk, OnErr, IsTrue, Some, vec_len};
 ghost use Rattle.std.specs.Prelude.{◌^◌, drop, take, vec_capacity};
@@ -12,16 +12,16 @@ use crate::side_by_side::LentBytes;
 use crate::visit::Visit;
 use std::alloc::{AllocError, Global};
 
-/// The place of a row: its length and its bytes start there.
+/// The place of a row: the offset of its length, which its bytes follow.
 #[derive(Clone, Copy)]
 pub(crate) struct Span {
     start: usize,
 }
 
-/// Lengths below this one are spelled in one byte. Of a longer one the first byte is this number, and eight more follow.
+/// Shorter lengths are stored in one byte. For longer ones this byte and eight more are stored.
 const LONG: usize = 255;
 
-/// Returns the bytes behind a length of eight bytes.
+/// Returns the bytes after a length of eight bytes.
 #[inline(never)]
 fn long_row(bytes: &[u8]) -> Option<&[u8]>
     ensures { 8 + long_length bytes.now ≤ length bytes.now
@@ -31,7 +31,7 @@ fn long_row(bytes: &[u8]) -> Option<&[u8]>
     rest.get(..u64::from_be_bytes(*spelled) as usize)
 }
 
-/// Returns the bytes behind the length that stands in front.
+/// Returns the bytes after the length at the front.
 #[inline(always)]
 fn first_row(bytes: &[u8]) -> Option<&[u8]>
     ensures { HasFrontRow bytes.now → option_copied result ≡ Some (front_row bytes.now) }
@@ -54,11 +54,11 @@ impl Span {
     }
 }
 
-/// Fewer bytes than this get twice the room when they grow: the system moves them without a copy, and room that is not touched costs
-/// addresses alone. The room for more of them grows by an eighth, so that no request is for much more than there is.
+/// A shorter vector doubles its capacity when it grows: the system moves it without a copy, and capacity that is not touched costs only
+/// address space. A longer vector grows by an eighth, so that no request is for much more than is used.
 const MOST_DOUBLED: usize = 268_435_456;
 
-/// Makes room for `count` bytes behind others. If there is none, more is taken, for those that follow.
+/// Makes room for `count` more bytes. If there is none, the capacity grows by more than that.
 fn make_room(bytes: &mut Vec<u8>, count: usize) -> Result<(), AllocError>
     requires small { count < 2 ^ 63 + 13 }
     ensures same { bytes.new.items ≡ bytes.old.items }
@@ -76,7 +76,7 @@ fn make_room(bytes: &mut Vec<u8>, count: usize) -> Result<(), AllocError>
     bytes.reserve_exact(count + more)
 }
 
-/// Puts bytes behind others. There is room for them.
+/// Appends bytes. There is room for them.
 #[inline(always)]
 fn put_reserved(bytes: &mut Vec<u8>, more: &[u8])
     requires { vec_len bytes.old + length more.now ≤ vec_capacity bytes.old }
@@ -88,7 +88,7 @@ fn put_reserved(bytes: &mut Vec<u8>, more: &[u8])
     };
 }
 
-/// Puts four bytes behind others. There is room for them.
+/// Appends four bytes. There is room for them.
 #[inline(always)]
 fn put_four(bytes: &mut Vec<u8>, front: [u8; 4])
     requires { vec_len bytes.old + 4 ≤ vec_capacity bytes.old }
@@ -102,28 +102,28 @@ fn put_four(bytes: &mut Vec<u8>, front: [u8; 4])
     bytes.push_reserved(fourth);
 }
 
-/// The first bytes of a row that is stated, where they stand apart from the others.
+/// The first bytes of a row, if they are given separately.
 #[derive(Clone, Copy)]
 pub(crate) enum Front {
-    /// None stands apart.
+    /// No byte is given separately.
     Nothing,
-    /// One does.
+    /// One byte.
     One(u8),
-    /// Four do.
+    /// Four bytes.
     Four([u8; 4]),
 }
 
-/// A row that is stated: its bytes, the first of which may stand apart from the others.
+/// The bytes of a row, the first of which may be given separately.
 #[derive(Clone, Copy)]
 pub(crate) struct StatedBytes<'a> {
-    /// The first bytes, if they stand apart.
+    /// The first bytes, if they are given separately.
     pub(crate) front: Front,
-    /// The others.
+    /// The other bytes.
     pub(crate) rest: &'a [u8],
 }
 
 impl StatedBytes<'_> {
-    /// Returns the number of its bytes.
+    /// Returns the number of bytes.
     #[inline(always)]
     fn len(self) -> usize
         ensures value { result ≡ length (bytes_of self.entry) }
@@ -136,7 +136,7 @@ impl StatedBytes<'_> {
         }
     }
 
-    /// Returns whether these are its bytes.
+    /// Returns whether the row has these bytes.
     #[inline(always)]
     fn is(self, bytes: &[u8]) -> bool
         ensures { IsTrue result ↔ (bytes.now ≡ bytes_of self.entry) }
@@ -154,7 +154,7 @@ impl StatedBytes<'_> {
         }
     }
 
-    /// Puts its bytes behind others. There is room for them.
+    /// Appends the bytes of the row. There is room for them.
     #[inline(always)]
     fn put(self, bytes: &mut Vec<u8>)
         requires { vec_len bytes.old + length (bytes_of self) ≤ vec_capacity bytes.old }
@@ -170,8 +170,7 @@ impl StatedBytes<'_> {
     }
 }
 
-/// Puts any row behind others: its length, and its bytes. If there is no room left for them, more is taken than they need, for those that
-/// follow.
+/// Appends a row: its length, and its bytes. If there is no room for them, the capacity grows by more than they need.
 #[inline(never)]
 fn append_any(bytes: &mut Vec<u8>, row: StatedBytes<'_>) -> Result<(), AllocError>
     ensures ok { IfOk result (λ _. bytes.new.items ≡ bytes.old.items ++ framed (bytes_of row.entry)) }
@@ -195,7 +194,7 @@ fn append_any(bytes: &mut Vec<u8>, row: StatedBytes<'_>) -> Result<(), AllocErro
     Ok(())
 }
 
-/// Puts a row behind others, as `append_any` does. A short row is put there in line if there is room for it.
+/// Appends a row, as `append_any` does. Inlined for a short row for which there is room.
 #[inline(always)]
 fn append(bytes: &mut Vec<u8>, row: StatedBytes<'_>) -> Result<(), AllocError>
     ensures ok { IfOk result (λ _. bytes.new.items ≡ bytes.old.items ++ framed (bytes_of row.entry)) }
@@ -215,7 +214,7 @@ fn append(bytes: &mut Vec<u8>, row: StatedBytes<'_>) -> Result<(), AllocError>
     append_any(bytes, row)
 }
 
-/// A row that visits its key: the bytes that lie there are compared with its own, and else these are put behind all others.
+/// Visits a key: compares the bytes that are stored under it with the row, or appends the row to all others.
 impl Visit<Span> for StatedBytes<'_> {
     type Answer = bool;
 
@@ -249,8 +248,8 @@ impl Visit<Span> for StatedBytes<'_> {
     }
 }
 
-/// Puts the bytes of rows behind others, and tells where they lie. If memory runs out, some of them were put there. If there is no row, no
-/// memory is needed.
+/// Appends the bytes of rows, and returns where they lie. If there are none, nothing is allocated. If memory runs out, the bytes of some
+/// rows have been appended.
 pub(crate) fn append_rows(
     alloc: Global,
     bytes: &mut Vec<u8>,

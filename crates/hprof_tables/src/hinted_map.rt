@@ -1,4 +1,4 @@
-//! A map by number, in which a key that was put in is mostly found without a search.
+//! A map from numbers that finds most keys without a search.
 
 ghost use Rattle.std.specs.Prelude.{◌≡◌, ◌↔◌, ◌++◌, ◌∷◌, ◌<◌, ◌==◌, ℕ, [], length, IsTrue, IfNone, IfSome, OnErr, OnOk, Some, None, is_some, nat_eq};
 ghost use Rattle.std.specs.Prelude.{Contains, if◌then◌else◌, slice_get, vec_capacity};
@@ -13,10 +13,10 @@ use std::collections::BTreeMap;
 /// The number of hints.
 pub(crate) const HINTS: usize = 65_536;
 
-/// An odd number: the first bits of a key's product with it tell the slot of its hint.
+/// An odd number. The first bits of a key's product with it are the slot of its hint.
 const SPREAD: u64 = 0x9E37_79B9_7F4A_7C15;
 
-/// Returns the slot of a key's hint. Other keys may have it too.
+/// Returns the slot of a key's hint. Several keys may share a slot.
 #[inline(always)]
 pub(crate) fn slot_of(key: u64) -> usize
     ensures { result < HINTS }
@@ -24,22 +24,22 @@ pub(crate) fn slot_of(key: u64) -> usize
     (key.wrapping_mul(SPREAD) >> 48) as usize
 }
 
-/// Leaves the place of a key in its slot.
+/// Stores the place of a key in its slot.
 fn leave_hint(hints: &mut [usize], key: u64, place: usize) {
     if let Some(hint) = hints.get_mut(slot_of(key)) {
         *hint = place;
     }
 }
 
-/// Values by key. The place of a key is guessed first: each key that is put in leaves its place as a hint, in a slot that it may share with
-/// others. If the guess is wrong, the key is searched for.
+/// A map from numbers to values. Each insertion stores the place of its key as a hint, in a slot that other keys may share. A look-up tries
+/// the hint first, and searches if it is wrong.
 #[derive(Drop)]
 pub struct HintedMap<V> {
-    /// The keys with their values, in the order in which the keys came.
+    /// The keys with their values, in order of insertion.
     rows: Vec<(u64, V)>,
     /// The place of each key among the rows.
     places: BTreeMap<u64, usize>,
-    /// In each slot the place of the last key that came with it. There is no slot before the first key comes.
+    /// For each slot the place of the last key that was stored in it. Empty until the first key is inserted.
     hints: Vec<usize>,
     ghost sound: { ArePlaces (keys_of rows.items) places.entries } by { ArePlaces-prop (keys_of rows.items) places.entries },
 }
@@ -47,7 +47,7 @@ pub struct HintedMap<V> {
 impl<V> HintedMap<V> {
     ghost use Rattle.hprof_tables.specs.HintedMap.{keys_in, rows_in, value_in};
 
-    /// Returns a map without keys. It takes no memory yet.
+    /// Returns an empty map. Allocates nothing.
     pub fn new(alloc: Global) -> Self
         ensures none { (key : ℕ) → value_in result key ≡ None }
         ensures no_rows { rows_in result ≡ [] }
@@ -60,7 +60,7 @@ impl<V> HintedMap<V> {
         }
     }
 
-    /// Returns whether the key stands at that place.
+    /// Returns whether the key is at this place.
     #[inline(always)]
     fn is_at(&self, key: u64, place: usize) -> bool
         ensures { IsTrue result ↔ (slice_get (keys_in self.now) place ≡ Some key) }
@@ -71,7 +71,7 @@ impl<V> HintedMap<V> {
         }
     }
 
-    /// Returns the place of a key, by a search. It is seldom wanted, so that it stands apart from what is inlined.
+    /// Returns the place of a key, by a search. It is not inlined, since it is seldom needed.
     #[inline(never)]
     fn listed_place(&self, key: u64) -> Option<usize>
         ensures some { IfSome result (λ place. slice_get (keys_in self.now) place ≡ Some key) }
@@ -104,7 +104,7 @@ impl<V> HintedMap<V> {
         Some(&self.rows[place].1)
     }
 
-    /// Returns whether there is a value under the key.
+    /// Returns whether the map has the key.
     #[inline(always)]
     pub fn contains_key(&self, key: u64) -> bool
         ensures { result ≡ is_some (value_in self.now key) }
@@ -112,7 +112,7 @@ impl<V> HintedMap<V> {
         self.get(key).is_some()
     }
 
-    /// Puts a value under a key that is new.
+    /// Inserts a new key with its value.
     fn add(&mut self, key: u64, value: V) -> Result<(), AllocError>
     where
         V: Drop,
@@ -131,9 +131,9 @@ impl<V> HintedMap<V> {
         Ok(())
     }
 
-    /// Puts a value under a key, in the place of one that is there.
+    /// Sets the value of a key.
     ///
-    /// Memory can run out only if the key is new. Then nothing changes.
+    /// Memory can run out only if the key is new. The map is then unchanged.
     pub fn insert(&mut self, key: u64, value: V) -> Result<(), AllocError>
     where
         V: Drop,
@@ -157,7 +157,7 @@ impl<V> HintedMap<V> {
         self.rows.len()
     }
 
-    /// Returns the keys with their values, each key once.
+    /// Returns the keys with their values. Each key is there once.
     pub fn rows(&self) -> &[(u64, V)]
         ensures all { result.now ≡ rows_in self.now }
         ensures once { IsDistinct nat_eq (keys_of result.now) }

@@ -1,5 +1,5 @@
-//! Tables of rows by key, which know nothing of facts: rows of any content, and rows of bytes, which lie in one vector. And
-//! values by key, of which most are found without a search.
+//! Tables of rows by key, independent of what the rows mean: rows of any content, rows of bytes in one vector, and a map that finds most
+//! keys without a search.
 #![tactic(auto)]
 
 mod bytes_table;

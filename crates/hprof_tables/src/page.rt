@@ -1,4 +1,4 @@
-//! A page of a table: all rows whose keys lie from one key to another.
+//! A page of a table: all rows whose keys are in one range.
 
 ghost use Rattle.std.specs.Prelude.{◌≡◌, ◌+◌, ◌↔◌, ◌++◌, ◌<◌, ◌≤◌, ◌^◌, ◌⊎◌, ℕ, List, []};
 ghost use Rattle.std.specs.Prelude.{length, take, drop, true, false, IsTrue, IfOk, IfErr};
@@ -12,23 +12,23 @@ ghost use Rattle.hprof_tables.specs.SortedRows.{AreKeys, IsAscending, row_at};
 use std::alloc::{AllocError, Global};
 use std::mem;
 
-/// A page of so many rows is cut before a row goes among them, which moves those behind it.
+/// A page with this many rows is split before a row is inserted between others, which moves those after it.
 const MOST_AMONG: usize = 64;
 
-/// A page of so many rows is cut before a row goes behind them, which moves none.
+/// A page with this many rows is split before a row is appended, which moves none.
 const MOST: usize = 1024;
 
-/// The room for so many rows is taken at once.
+/// The number of rows that capacity is taken for at once.
 const SPARE: usize = 16;
 
-/// Where a page is cut in two: in front of the row at a place, and at a key.
+/// Where a page is split: before the row at this place, and at this key.
 #[derive(Clone, Copy)]
 pub(crate) struct Cut {
     pub(crate) place: usize,
     pub(crate) key: u64,
 }
 
-/// All rows whose keys lie from one key to another, in order of key.
+/// All rows whose keys are in one range, in order of key.
 #[derive(Drop)]
 pub(crate) struct Page<V> {
     pub(crate) from: u64,
@@ -37,7 +37,7 @@ pub(crate) struct Page<V> {
     ghost sound: { IsPage from to rows.items } by { IsPage-prop from to rows.items },
 }
 
-/// Returns the key of the last row, and 0 where there is none.
+/// Returns the key of the last row, or 0 if the page is empty.
 #[inline(always)]
 fn last_key<V>(rows: &[(u64, V)]) -> u64
     requires { IsAscending rows.now }
@@ -52,7 +52,7 @@ fn last_key<V>(rows: &[(u64, V)]) -> u64
 impl<V> Page<V> {
     ghost use Rattle.hprof_tables.specs.Page.{CutsFor, HasRoom, IsCutAt};
 
-    /// Returns a page of all keys, with those rows.
+    /// Returns a page for all keys, with these rows.
     pub(crate) fn of(rows: Vec<(u64, V)>) -> Self
         requires { IsAscending rows.items }
         ensures from { result.from ≡ 0 }
@@ -68,7 +68,7 @@ impl<V> Page<V> {
         }
     }
 
-    /// Returns whether the key is one of its keys.
+    /// Returns whether the key is in the page's range.
     #[inline(always)]
     pub(crate) fn has(&self, key: u64) -> bool
         ensures { IsTrue result ↔ ((self.now.from ≤ key) × (key ≤ self.now.to)) }
@@ -76,7 +76,7 @@ impl<V> Page<V> {
         self.from <= key && key <= self.to
     }
 
-    /// Returns whether all rows have keys below that one.
+    /// Returns whether all rows have lesser keys.
     #[inline(always)]
     fn ends_below(&self, key: u64) -> bool
         ensures { result ≡ true → AreKeys (λ other. other < key) self.now.rows.items }
@@ -84,7 +84,7 @@ impl<V> Page<V> {
         self.rows.is_empty() || last_key(&self.rows) < key
     }
 
-    /// Returns the place of the row under a key, or the one in front of which it goes.
+    /// Returns the place of the row under a key, or the place where it would be inserted.
     #[inline(always)]
     pub(crate) fn place_of(&self, key: u64) -> Result<usize, usize>
         ensures there { IfOk result (λ place. (place < length self.now.rows.items)
@@ -108,8 +108,8 @@ impl<V> Page<V> {
         }
     }
 
-    /// Returns a place at which a key may stand, or in front of which it lies. It is looked for from a place on, by doubled steps and then
-    /// by halves, and among all if it lies before that place. It is a guess.
+    /// Guesses the place of a key, or the place where it would be inserted. Starts at `near`, and doubles its steps, then searches the last
+    /// step by binary search. Searches from the first row if the key lies before `near`.
     #[inline(always)]
     fn guess(&self, key: u64, near: usize) -> usize {
         let rows = self.rows.as_slice();
@@ -126,7 +126,7 @@ impl<V> Page<V> {
         from + rows[from..to].partition_point(|row| row.0 < key)
     }
 
-    /// Returns whether the key is above that of the row before a place.
+    /// Returns whether the key is greater than the key before a place.
     #[inline(always)]
     fn lies_behind(&self, key: u64, place: usize) -> bool
         requires { place < length self.now.rows.items }
@@ -138,7 +138,7 @@ impl<V> Page<V> {
         }
     }
 
-    /// Returns the row under a key, as `get` does. It is looked for near a place, and its place is noted there.
+    /// Returns the row under a key, as `get` does. Looks near a place first, and sets `near` to the place.
     #[inline(always)]
     pub(crate) fn get_near(&self, key: u64, near: &mut usize) -> Option<&V>
         ensures { option_copied result ≡ row_at key self.now.rows.items }
@@ -157,7 +157,7 @@ impl<V> Page<V> {
         self.get(key)
     }
 
-    /// Returns whether there is room behind the last row for one under that key, so that it is put there without a search.
+    /// Returns whether a row with this key can be appended without a split, a search or an allocation.
     #[inline(always)]
     pub(crate) fn has_end_for(&self, key: u64) -> bool
         ensures goes { result ≡ true → GoesTo key (length self.now.rows.items) self.now.rows.items }
@@ -167,7 +167,7 @@ impl<V> Page<V> {
         len < MOST && len < self.rows.capacity() && self.ends_below(key)
     }
 
-    /// Returns whether a row may go to a place without a cut.
+    /// Returns whether a row can be inserted at a place without a split.
     #[inline(always)]
     pub(crate) fn takes(&self, place: usize) -> bool
         ensures { result ≡ false → (64 ≤ length self.now.rows.items)
@@ -177,7 +177,7 @@ impl<V> Page<V> {
         len < MOST_AMONG || (place == len && len < MOST)
     }
 
-    /// Makes room for one row more.
+    /// Makes room for one more row.
     #[inline(always)]
     pub(crate) fn make_room(&mut self) -> Result<(), AllocError>
         ensures from { self.new.from ≡ self.old.from }
@@ -195,7 +195,7 @@ impl<V> Page<V> {
         self.rows.reserve(1)
     }
 
-    /// Puts a row at the place where it goes. There is room for it.
+    /// Inserts a row at its place. There is room for it.
     #[inline(always)]
     pub(crate) fn put(&mut self, place: usize, key: u64, row: V)
     where
@@ -216,8 +216,8 @@ impl<V> Page<V> {
         };
     }
 
-    /// Returns where the page is cut for a row that goes to a place: there, if it goes before or behind all others, so that keys that
-    /// ascend or descend leave full pages; else in the middle.
+    /// Returns where the page is split for a row that is inserted at a place. A row before or after all others splits there, so that
+    /// ascending or descending keys leave full pages; any other row splits the page in the middle.
     pub(crate) fn cut_for(&self, key: u64, place: usize) -> Cut
         requires has { (self.now.from ≤ key) × (key ≤ self.now.to) }
         requires goes { GoesTo key place self.now.rows.items }
@@ -232,7 +232,7 @@ impl<V> Page<V> {
         Cut { place: half, key }
     }
 
-    /// Cuts the page in two. It keeps the keys and rows before the cut; the page that is returned has the others.
+    /// Splits the page. It keeps the keys and rows before the split, and the new page has the others.
     pub(crate) fn cut(&mut self, cut: Cut) -> Result<Self, AllocError>
         requires { CutsFor self.old cut }
         ensures ok { IfOk result (λ next. IsCutAt cut.key self.old self.new next) }

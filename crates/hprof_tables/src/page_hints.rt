@@ -1,26 +1,26 @@
-//! Where the page of a key may be, so that it is mostly found without a search.
+//! Hints at the page of a key.
 
 ghost use Rattle.std.specs.Prelude.{◌≡◌, vec_capacity};
 
 use crate::hinted_map::{HINTS, slot_of};
 use std::alloc::Global;
 
-/// With so many pages there are hints.
+/// The number of pages from which there are hints.
 const MANY: usize = 64;
 
-/// In each slot the number of the page that had the last key which came with it. It is a guess, which is tested where it is used. There is
-/// no slot as long as there are few pages.
+/// For each slot the number of a page: that of the last key that was stored in the slot. It is a guess, and its user tests it. There are no
+/// slots while there are few pages.
 #[derive(Drop)]
 pub(crate) struct PageHints {
     pub(crate) numbers: Vec<usize>,
-    /// Keys that differ in so many last bits alone have one slot.
+    /// Keys that differ only in their lowest `shift` bits share a slot.
     shift: u32,
-    /// The number of pages for which the slots were spread.
+    /// The number of pages that the slots were spread for.
     count: usize,
 }
 
 impl PageHints {
-    /// Returns no hints. They take no memory yet.
+    /// Returns no hints. Allocates nothing.
     pub(crate) fn new(alloc: Global) -> Self
         ensures { vec_capacity result.numbers ≡ 0 }
     {
@@ -31,7 +31,7 @@ impl PageHints {
         }
     }
 
-    /// Returns the slot of a key. Other keys may have it too.
+    /// Returns the slot of a key. Several keys may share a slot.
     #[inline(always)]
     fn slot(&self, key: u64) -> usize {
         slot_of(key.wrapping_shr(self.shift))
@@ -43,7 +43,7 @@ impl PageHints {
         self.numbers.get(self.slot(key)).copied()
     }
 
-    /// Leaves the number of the page that has a key.
+    /// Stores the number of the page that has a key.
     #[inline(always)]
     pub(crate) fn leave(&mut self, key: u64, number: usize) {
         let slot = self.slot(key);
@@ -52,14 +52,14 @@ impl PageHints {
         }
     }
 
-    /// Returns whether the slots are spread for so many pages, or there are so few that none is needed.
+    /// Returns whether the slots suit this number of pages, or there are too few pages for hints.
     #[inline(always)]
     pub(crate) fn suit(&self, count: usize) -> bool {
         count < MANY || count / 2 < self.count
     }
 
-    /// Makes slots, if there is none, and spreads them over so many keys that are in so many pages: about two go to a page. If memory is
-    /// refused, there is no slot.
+    /// Makes slots if there are none, and spreads them over a range of keys in this many pages, about two slots a page. If memory is
+    /// refused, there are no slots.
     #[inline(never)]
     pub(crate) fn spread(&mut self, keys: u64, count: usize) {
         self.count = count;

@@ -15,18 +15,18 @@ use crate::sorted_table::SortedTable;
 use crate::visit::Visit;
 use std::alloc::{AllocError, Global};
 
-/// The result of stating a fact.
+/// The result of stating a row.
 #[derive(Clone, Copy, Debug, PartialEq, Eq)]
 pub enum Stated {
-    /// The key was new, and the row was added.
+    /// The key was new, and its row was added.
     New,
-    /// The key was there with the same content.
+    /// The key is present with the same content.
     Same,
-    /// The key was there with another content.
+    /// The key is present with another content.
     Differs,
 }
 
-/// A visit that leaves the place of a row under its key.
+/// A visit that stores a place under its key.
 #[derive(Clone, Copy)]
 struct Placing {
     place: usize,
@@ -55,7 +55,7 @@ impl Visit<usize> for Placing {
     }
 }
 
-/// Returns the keys of rows with places that count up from the first one.
+/// Returns the keys of rows, with places that count up from `first`.
 fn number<V>(
     alloc: Global,
     first: usize,
@@ -107,7 +107,7 @@ impl<V: Content + Drop> Relation<V> {
     ghost use Rattle.hprof_tables.specs.SortedRows.{IsAscending};
     ghost use Rattle.hprof_tables.specs.Relation.{HasNoRoom, MayNeedMemory};
 
-    /// Returns a table with no rows. It takes no memory yet.
+    /// Returns an empty table. Allocates nothing.
     pub fn new(alloc: Global) -> Self
         ensures none { rows_of result ≡ [] }
         ensures no_room { HasNoRoom result }
@@ -119,7 +119,7 @@ impl<V: Content + Drop> Relation<V> {
         }
     }
 
-    /// States a row under a key. A key that is there takes no memory, and keeps its row.
+    /// States a row under a key. If the key is present, its row stays and nothing is allocated.
     pub fn state(&mut self, key: u64, row: V) -> Result<Stated, AllocError>
         ensures ok { IfOk result (λ stated. States V.content (rows_of self.old) key (V.content row) stated (rows_of self.new)) }
         ensures err { OnErr result (rows_of self.new ≡ rows_of self.old) }
@@ -137,7 +137,7 @@ impl<V: Content + Drop> Relation<V> {
         }
     }
 
-    /// Adds a row under a key that is new. If memory runs out, no row changes.
+    /// Adds a row under a new key. If memory runs out, the rows are unchanged.
     fn add(&mut self, key: u64, row: V) -> Result<(), AllocError>
         requires { lookup (is_at (nat_cmp key)) (rows_of self.old) ≡ None }
         ensures ok { IfOk result (λ _. rows_of self.new ≡ insert_entry nat_cmp (rows_of self.old) key row) }
@@ -168,21 +168,21 @@ impl<V: Content + Drop> Relation<V> {
         self.places.len()
     }
 
-    /// Returns whether both have the same keys with the same contents.
+    /// Returns whether both tables have the same keys with the same contents.
     pub fn same(&self, other: &Self) -> bool
         ensures { IsTrue result ↔ (contents_of V.content (rows_of self.now) ≡ contents_of V.content (rows_of other.now)) }
     {
         same_rows(self.rows(), other.rows())
     }
 
-    /// Returns the least key under which both have a row, with different contents.
+    /// Returns the least key whose contents differ in the two tables.
     pub fn first_difference(&self, other: &Self) -> Option<u64>
         ensures { IsFirstDifference (contents_of V.content (rows_of self.now)) (contents_of V.content (rows_of other.now)) result }
     {
         first_difference(self.rows(), other.rows())
     }
 
-    /// Takes copies of rows whose keys are new. If memory runs out, no row changes.
+    /// Adds copies of rows whose keys are new. If memory runs out, the rows are unchanged.
     fn take_rows(&mut self, lent: Vec<(u64, &V)>) -> Result<(), AllocError>
         requires ascending { IsAscending (contents_of (λ row. V.content row.now) lent.items) }
         requires apart { AreApart (contents_of V.content (rows_of self.old)) (contents_of (λ row. V.content row.now) lent.items) }
@@ -200,8 +200,8 @@ impl<V: Content + Drop> Relation<V> {
         Ok(())
     }
 
-    /// Takes the rows of another whose keys are new. Both are gone over side by side. If memory runs out, nothing changes. No memory is
-    /// needed if no key is new.
+    /// Adds the rows of another table whose keys are new, in one pass over both. If no key is new, nothing is allocated. If memory runs
+    /// out, the rows are unchanged.
     pub fn join(&mut self, other: &Self) -> Result<(), AllocError>
         ensures ok { IfOk result (λ _. AreUnion (contents_of V.content (rows_of self.old)) (contents_of V.content (rows_of other.now))
             (contents_of V.content (rows_of self.new))) }
@@ -217,7 +217,7 @@ impl<V: Content + Drop> Relation<V> {
         self.take_rows(missing)
     }
 
-    /// Returns the rows, in order of key.
+    /// Returns an iterator over the rows, in order of key.
     pub fn rows(&self) -> Rows<'_, V>
         ensures all { rows_left result ≡ rows_of self.now }
         ensures ascending { IsAscending (rows_left result) }

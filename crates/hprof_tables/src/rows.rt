@@ -1,11 +1,11 @@
-//! The rows of a table, one after the other.
+//! An iterator over the rows of a table.
 
 ghost use Rattle.hprof_tables.specs.PlacedRows.{AreWithin, AreWithin-prop};
 ghost use Rattle.hprof_tables.specs.SortedTable.{entries_left};
 
 use crate::entries::Entries;
 
-/// The rows of a table with their keys, in order of key.
+/// An iterator over the rows of a table with their keys, in order of key.
 #[derive(Drop)]
 pub struct Rows<'a, V> {
     /// The keys that are still to come, with the places of their rows.
@@ -20,7 +20,7 @@ impl<'a, V> Rows<'a, V> {
     ghost use Rattle.hprof_tables.specs.PlacedRows.{rows_at};
     ghost use Rattle.hprof_tables.specs.Rows.{rows_left};
 
-    /// Returns the rows that stand at the places of entries.
+    /// Returns the rows at the places of these entries.
     pub(crate) fn new(entries: Entries<'a, usize>, rows: &'a [V]) -> Self
         requires { AreWithin rows.now (entries_left entries) }
         ensures { rows_left result ≡ rows_at rows.entry.now (entries_left entries.entry) }

@@ -1,4 +1,4 @@
-//! Two tables, gone over side by side.
+//! Two tables, walked in one pass.
 
 ghost use Rattle.std.specs.Prelude.{◌≡◌, ◌↔◌, ℕ, List, IfOk, OnErr, IsTrue};
 ghost use Rattle.hprof_tables.specs.SideBySide.{AreMissing, IsFirstDifference, LacksOne};
@@ -15,7 +15,7 @@ use crate::rows::Rows;
 use std::alloc::{AllocError, Global};
 use std::cmp::Ordering;
 
-/// Rows with their keys, whatever they are.
+/// An iterator over rows of any kind, with their keys.
 pub(crate) trait KeyedRows<R: Content> {
     // The keys and contents that are still to come.
     ghost left: { Self → List (ℕ × List ℕ) };
@@ -92,7 +92,7 @@ pub(crate) fn same_rows<R: Content + Drop, I: KeyedRows<R> + Drop>(
     others.next_row().is_none()
 }
 
-/// Returns the least key that both have with different contents. Each is gone over once.
+/// Returns the least key whose contents differ. Walks over each once.
 pub(crate) fn first_difference<R: Content + Drop, I: KeyedRows<R> + Drop>(
     mut rows: I,
     mut others: I,
@@ -128,7 +128,7 @@ pub(crate) fn first_difference<R: Content + Drop, I: KeyedRows<R> + Drop>(
     None
 }
 
-/// Returns the rows of the others whose keys these lack. Each is gone over once. If there is no such row, no memory is needed.
+/// Returns the rows of `others` whose keys `rows` lacks. Walks over each once. If there are none, nothing is allocated.
 pub(crate) fn missing_rows<S, I, R, J>(
     alloc: Global,
     mut rows: I,

@@ -1,4 +1,4 @@
-//! A table of rows by key, which keeps them in pages: a key that comes near the one before is mostly in the same page.
+//! A table of rows by key, in pages. A key that is near the one before it is mostly in the same page.
 
 ghost use Rattle.std.specs.Prelude.{◌≡◌, ◌+◌, ◌++◌, ◌≤◌, ◌^◌, ◌⊎◌, ℕ, List, [], length};
 ghost use Rattle.std.specs.Prelude.{IfOk, IfSome, OnOk, OnErr, None, ◌<◌};
@@ -23,20 +23,20 @@ use std::collections::BTreeMap;
 use std::collections::btree_map::Entry;
 use std::mem;
 
-/// Where the row of a key goes: the number of the page that has the key, and the place among its rows.
+/// The place for the row of a key: the number of its page, and the place among the page's rows.
 #[derive(Clone, Copy)]
 pub(crate) struct Spot {
     pub(crate) page: usize,
     pub(crate) place: usize,
 }
 
-/// Rows by key, in pages. Each key is in one page; the page of the last key is tried first.
+/// Rows by key, in pages. Each key belongs to one page. The page of the last key is tried first.
 #[derive(Drop)]
 pub(crate) struct SortedTable<V> {
     pages: Vec<Page<V>>,
-    /// The number of each page, by its first key.
+    /// The number of each page, by its least key.
     places: BTreeMap<u64, usize>,
-    /// The number of the page that had the last key.
+    /// The number of the page of the last key.
     last: usize,
     hints: PageHints,
     /// The number of rows.
@@ -46,7 +46,7 @@ pub(crate) struct SortedTable<V> {
     ghost count: { len ≡ length (rows_along pages.items (values_of places.entries)) },
 }
 
-/// Cuts a page in two, and lists the part above the cut under its first key.
+/// Splits a page, and lists the new page under its least key.
 #[inline(never)]
 fn cut_page<V: Drop>(
     pages: &mut Vec<Page<V>>,
@@ -75,7 +75,7 @@ fn cut_page<V: Drop>(
     }
 }
 
-/// Moves the rows of pages behind others, for which there is room, in the order in which the pages are listed.
+/// Appends the rows of all pages, in the order in which the pages are listed. There is room for them.
 fn move_rows<V: Drop>(
     alloc: Global,
     pages: Vec<Page<V>>,
@@ -97,7 +97,7 @@ fn move_rows<V: Drop>(
 impl<V> SortedTable<V> {
     ghost use Rattle.hprof_tables.specs.SortedTable.{HasNoSpace, HasRoomAt, IsSpot, LacksRoom, entries_of, entries_left};
 
-    /// Returns a table with no rows. It takes no memory yet.
+    /// Returns an empty table. Allocates nothing.
     pub(crate) fn new(alloc: Global) -> Self
         ensures none { entries_of result ≡ [] }
         ensures no_room { HasNoSpace result }
@@ -112,7 +112,7 @@ impl<V> SortedTable<V> {
         }
     }
 
-    /// Returns the number of the page that has a key, by a search. There is a page.
+    /// Returns the number of the page of a key, by a search. There is at least one page.
     #[inline(never)]
     fn listed_page(&self, key: u64) -> usize
         requires { 0 < length self.now.pages.items }
@@ -124,7 +124,7 @@ impl<V> SortedTable<V> {
         }
     }
 
-    /// Returns whether the page of that number has a key.
+    /// Returns whether the page with this number has a key in its range.
     #[inline(always)]
     fn has_page(&self, number: usize, key: u64) -> bool
         ensures { result ≡ true → HasKey (slice_get self.now.pages.items number) key }
@@ -135,7 +135,7 @@ impl<V> SortedTable<V> {
         }
     }
 
-    /// Returns the number of the page that has a key, which is looked for by its hint first. There is a page.
+    /// Returns the number of the page of a key. Tries its hint first. There is at least one page.
     #[inline(always)]
     fn hinted_page(&self, key: u64) -> usize
         requires { 0 < length self.now.pages.items }
@@ -147,7 +147,7 @@ impl<V> SortedTable<V> {
         }
     }
 
-    /// Returns the number of the page that has a key, which is looked for at a number first. There is a page.
+    /// Returns the number of the page of a key. Tries the page `near` first. There is at least one page.
     #[inline(always)]
     fn page_near(&self, key: u64, near: usize) -> usize
         requires { 0 < length self.now.pages.items }
@@ -159,7 +159,7 @@ impl<V> SortedTable<V> {
         self.hinted_page(key)
     }
 
-    /// Spreads the hints, if there are many pages, and again when they have doubled.
+    /// Spreads the hints once there are many pages, and again each time their number has doubled.
     #[inline(always)]
     fn spread_hints(&mut self)
         ensures pages { self.new.pages ≡ self.old.pages }
@@ -176,7 +176,7 @@ impl<V> SortedTable<V> {
         }
     }
 
-    /// Turns to the page that has a key, if there is a page, so that it is found at once when the key comes next.
+    /// Makes the page of a key the first to be tried.
     #[inline(always)]
     pub(crate) fn turn_to(&mut self, key: u64)
         ensures has { 0 < length self.old.pages.items → HasKey (slice_get self.new.pages.items self.new.last) key }
@@ -206,7 +206,7 @@ impl<V> SortedTable<V> {
         self.pages[self.page_near(key, self.last)].get(key)
     }
 
-    /// Returns the row under a key, which is looked for near a finger. Its place is noted there.
+    /// Returns the row under a key, looking near the finger first, and moves the finger there.
     #[inline(always)]
     pub(crate) fn get_near(&self, key: u64, near: &mut Finger) -> Option<&V>
         ensures { option_copied result ≡ row_at key (entries_of self.now) }
@@ -221,7 +221,7 @@ impl<V> SortedTable<V> {
         self.pages[page].get_near(key, &mut near.place)
     }
 
-    /// Makes a page of all keys, if there is none.
+    /// Adds a page for all keys if there is no page.
     #[inline(always)]
     fn begin(&mut self) -> Result<(), AllocError>
     where
@@ -240,7 +240,7 @@ impl<V> SortedTable<V> {
         Ok(())
     }
 
-    /// Returns the spot behind the last row of the page that had the last key, if a row of the key goes there and has room.
+    /// Returns the end of the page of the last key, if the row of this key belongs there and there is room for it.
     #[inline(always)]
     fn end_spot(&self, key: u64) -> Option<Spot>
         ensures spot { IfSome result (λ spot. IsSpot self.now.pages.items key spot) }
@@ -257,7 +257,7 @@ impl<V> SortedTable<V> {
         None
     }
 
-    /// Returns the spot of a key in its page. There is no row of the key.
+    /// Returns the spot of a new key in its page.
     fn spot_in(&self, key: u64, page: usize) -> Spot
         requires has { HasKey (slice_get self.now.pages.items page) key }
         requires new { row_at key (entries_of self.now) ≡ None }
@@ -269,7 +269,7 @@ impl<V> SortedTable<V> {
         }
     }
 
-    /// Returns a spot of a key whose page may take a row there: this one, or one in the page that is left or made where the page is cut.
+    /// Returns a spot for the row of a key, in a page that can take it: the given spot, or one in a half of the page, which is then split.
     fn cut_spot(&mut self, key: u64, spot: Spot) -> Result<Spot, AllocError>
     where
         V: Drop,
@@ -292,7 +292,7 @@ impl<V> SortedTable<V> {
         Ok(self.spot_in(key, count))
     }
 
-    /// Returns a spot of a key at which there is room for its row. Pages may be cut for it; the rows stay.
+    /// Returns a spot for the row of a key, with room for it. Pages may be split; the rows stay.
     fn room_for(&mut self, key: u64, spot: Spot) -> Result<Spot, AllocError>
     where
         V: Drop,
@@ -311,7 +311,7 @@ impl<V> SortedTable<V> {
         Ok(spot)
     }
 
-    /// Makes a row and puts it at its spot, where there is room for it.
+    /// Makes a row and inserts it at its spot. There is room for it.
     #[inline(always)]
     fn make_at<T: Visit<V> + Drop>(
         &mut self,
@@ -339,7 +339,7 @@ impl<V> SortedTable<V> {
         Ok(())
     }
 
-    /// Asks the row under a key, or makes one if there is none, as `visit` does.
+    /// Visits the row under a key, or makes one, as `visit` does.
     #[inline(never)]
     fn visit_within<T: Visit<V> + Drop>(
         &mut self,
@@ -372,7 +372,7 @@ impl<V> SortedTable<V> {
         }
     }
 
-    /// Asks the row under a key, or makes one if there is none.
+    /// Visits the row under a key, or makes one if there is none.
     #[inline(always)]
     pub(crate) fn visit<T: Visit<V> + Drop>(
         &mut self,
@@ -398,8 +398,8 @@ impl<V> SortedTable<V> {
         Ok(None)
     }
 
-    /// Takes rows whose keys are new. They and those of the table are gone over once, side by side, and stand in a single page then. If
-    /// there is no row, no memory is needed.
+    /// Adds rows whose keys are new, in one pass over them and the table, which has a single page then. If there are no rows, nothing is
+    /// allocated.
     pub(crate) fn merge(&mut self, alloc: Global, fresh: Vec<(u64, V)>) -> Result<(), AllocError>
     where
         V: Drop,
@@ -446,7 +446,7 @@ impl<V> SortedTable<V> {
         self.len
     }
 
-    /// Returns the rows, in order of key.
+    /// Returns an iterator over the rows, in order of key.
     pub(crate) fn iter(&self) -> Entries<'_, V>
         ensures all { entries_left result ≡ entries_of self.now }
         ensures ascending { IsAscending (entries_of self.now) }

@@ -1,15 +1,15 @@
-//! Visits of a key of a table: a row that is there is asked, and one is made if there is none.
+//! Visits of a key: a row that is present is asked, and a missing one is made.
 
 ghost use Rattle.std.specs.Prelude.{◌≡◌, ℕ, List, IfOk, OnErr};
 
 use std::alloc::AllocError;
 
-/// A visit of a key: a row that is there is asked, and one is made if there is none.
+/// Visits a key: asks the row that is present, or makes one.
 pub(crate) trait Visit<V> {
-    /// The answer of a row that is there.
+    /// The answer of a row.
     type Answer;
 
-    /// The room for the data that rows have outside the table.
+    /// The storage for the parts of rows that lie outside the table.
     type Room;
 
     // The bytes of the room.
@@ -27,11 +27,11 @@ pub(crate) trait Visit<V> {
     // What becomes of the room that was had, used or to spare.
     ghost grows: { Self.Room → Self.Room → Type 0 };
 
-    /// Asks the row that is there.
+    /// Asks the row that is present.
     fn ask(self, row: &V, room: &Self::Room) -> Self::Answer
         ensures { answers self (held room.now) row.now result };
 
-    /// Makes the row. If memory runs out, the room keeps what it had.
+    /// Makes the row. If memory runs out, the storage keeps its contents.
     fn make(self, room: &mut Self::Room) -> Result<V, AllocError>
         ensures ok { IfOk result (λ row. makes self (held room.old) row (held room.new)) }
         ensures err { OnErr result (held room.new ≡ held room.old) }

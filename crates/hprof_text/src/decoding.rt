@@ -1,4 +1,4 @@
-//! Modified UTF-8 into units, by the Java Virtual Machine Specification, section 4.4.7.
+//! Decoding modified UTF-8 into UTF-16 units (Java Virtual Machine Specification, section 4.4.7).
 
 ghost use Rattle.std.specs.Prelude.{◌≡◌, ◌≢◌, ◌↔◌, ℕ, ◌+◌, ◌<◌, ◌≤◌, List, ◌∷◌, ◌++◌, length, IsTrue, IfSome, IfNone, IfOk, OnErr};
 ghost use Rattle.std.specs.Option.{option_map};
@@ -72,7 +72,7 @@ pub(crate) fn first_unit(bytes: &[u8]) -> Option<(u16, &[u8])>
     }
 }
 
-/// Returns whether the bytes are modified UTF-8 in its shortest forms, by the Java Virtual Machine Specification, section 4.4.7.
+/// Returns whether the bytes are modified UTF-8, each unit in its shortest form (Java Virtual Machine Specification, section 4.4.7).
 pub fn is_modified(bytes: &[u8]) -> bool
     ensures { IsTrue result ↔ HasUnits bytes.now }
 {
@@ -100,10 +100,10 @@ fn decoded(alloc: Global, bytes: &[u8]) -> Result<Option<Vec<u16>>, AllocError>
     }
 }
 
-/// Returns the 16-bit units of modified UTF-8 in its shortest forms, by the Java Virtual Machine Specification, section 4.4.7, or `None` if
-/// the bytes are no such text.
+/// Returns the UTF-16 units of modified UTF-8 in its shortest forms (Java Virtual Machine Specification, section 4.4.7), or `None` if the
+/// bytes are not modified UTF-8.
 ///
-/// A lone surrogate is a unit like any other. If memory runs out, the answer is `AllocError`, which comes only if there are units.
+/// A lone surrogate is a unit like any other. If memory runs out, the answer is `AllocError`; this happens only if there are units.
 pub fn units(alloc: Global, bytes: &[u8]) -> Result<Option<Vec<u16>>, AllocError>
     ensures ok { IfOk result (λ found. DecodesTo bytes.now (option_map (λ v. v.items) found)) }
     ensures err { OnErr result (HasUnits bytes.now) }

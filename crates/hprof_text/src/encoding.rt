@@ -1,4 +1,4 @@
-//! Units into modified UTF-8, by the Java Virtual Machine Specification, section 4.4.7.
+//! Encoding UTF-16 units as modified UTF-8 (Java Virtual Machine Specification, section 4.4.7).
 
 ghost use Rattle.std.specs.Prelude.{◌≡◌, ◌++◌, length, IfOk, OnOk};
 ghost use Rattle.std.specs.List.{flat_map};
@@ -47,9 +47,9 @@ fn encoded_len(units: &[u16]) -> usize
     len
 }
 
-/// Returns the modified UTF-8 of 16-bit units in its shortest forms, by the Java Virtual Machine Specification, section 4.4.7.
+/// Returns the modified UTF-8 of UTF-16 units, each in its shortest form (Java Virtual Machine Specification, section 4.4.7).
 ///
-/// Memory is asked for once. If it runs out, the answer is `AllocError`.
+/// Allocates once. If memory runs out, the answer is `AllocError`.
 pub fn encode_units(alloc: Global, units: &[u16]) -> Result<Vec<u8>, AllocError>
     ensures { IfOk result (λ bytes. IsModifiedUtf8 units.now bytes.items) }
 {

@@ -1,4 +1,4 @@
-//! Identifiers as text, this project's own: hexadecimal digits.
+//! Identifiers as hexadecimal text. The form is this project's own.
 
 ghost use Rattle.std.specs.Prelude.{◌≡◌, false, ℕ, ◌<◌, ◌^◌, ◌++◌, Some, OnOk, OnErr};
 ghost use Rattle.std.specs.Fmt.{digit_glyph};
@@ -21,8 +21,8 @@ fn hex_digit(value: u64) -> u8
     }
 }
 
-/// Appends an identifier in lower-case hexadecimal without leading zeros, `0` for 0, which is this project's own form. If memory runs out,
-/// the answer is `AllocError`, and the text is unchanged.
+/// Appends an identifier in lower-case hexadecimal without leading zeros, `0` for 0. If memory runs out, the answer is `AllocError` and the
+/// text is unchanged.
 pub fn push_id(text: &mut String, id: u64) -> Result<(), AllocError>
     ensures ok { OnOk result (string_bytes text.new ≡ string_bytes text.old ++ id_digits id) }
     ensures err { OnErr result (string_bytes text.new ≡ string_bytes text.old) }
@@ -39,8 +39,8 @@ pub fn push_id(text: &mut String, id: u64) -> Result<(), AllocError>
     text.push_str(str::from_utf8(&digits[start..]).unwrap())
 }
 
-/// Returns the identifier that one to sixteen hexadecimal digits of either case write, or `None` for any other text: a sign, a prefix or a
-/// space is not taken.
+/// Returns the identifier that one to sixteen hexadecimal digits of either case stand for, or `None` for any other text. A sign, a prefix
+/// or a space is not accepted.
 pub fn parse_id(text: &str) -> Option<u64>
     ensures value { SomeIff result (IsIdText text.now) (id_value text.now) }
     ensures digits { (id : ℕ) → id < 2 ^ 64 → text.now ≡ id_digits id → result ≡ Some id }

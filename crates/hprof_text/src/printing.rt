@@ -1,4 +1,4 @@
-//! Names in print, which is this project's own form.
+//! The printed form of names, which is this project's own.
 
 ghost use Rattle.std.specs.Prelude.{◌≡◌, false, ◌++◌, [], slice_get, IsTrue, IfSome, IfOk, OnOk, IsAscii};
 ghost use Rattle.std.specs.List.{AllPass};
@@ -48,7 +48,7 @@ fn push_escape(text: &mut Vec<u8>, unit: u16) -> Result<(), AllocError>
     Ok(())
 }
 
-/// Appends a unit in print, which is ASCII and this project's own form. If memory runs out, the answer is `AllocError`.
+/// Appends the printed form of a unit, which is ASCII. If memory runs out, the answer is `AllocError`.
 #[tactic(auto, unfolding(crate::specs::Printed::printed_unit))]
 pub fn push_unit(text: &mut Vec<u8>, unit: u16) -> Result<(), AllocError>
     ensures { OnOk result (text.new.items ≡ text.old.items ++ printed_unit unit) }
@@ -105,10 +105,11 @@ fn printed_text(alloc: Global, bytes: &[u8]) -> Result<Vec<u8>, AllocError>
     Ok(text)
 }
 
-/// Returns the printed form of a name, which is ASCII and this project's own.
+/// Returns the printed form of a name, which is ASCII.
 ///
-/// Of modified UTF-8 each unit from 0x20 to 0x7e but the backslash is itself, and each other unit is `\u` and four lower-case hexadecimal
-/// digits. Other bytes are `\x` and all bytes in lower-case hexadecimal. If memory runs out, the answer is `AllocError`.
+/// If the name is modified UTF-8, each unit from 0x20 to 0x7e except the backslash stands for itself, and each other unit is printed as
+/// `\u` and four lower-case hexadecimal digits. Otherwise the name is printed as `\x` and all its bytes in lower-case hexadecimal. If
+/// memory runs out, the answer is `AllocError`.
 pub fn printed(alloc: Global, bytes: &[u8]) -> Result<String, AllocError>
     ensures form { IfOk result (λ text. IsPrinted bytes.now (string_bytes text)) }
     ensures ascii { IfOk result (λ text. IsAscii (string_bytes text)) }

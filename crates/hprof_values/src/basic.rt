@@ -4,30 +4,29 @@ ghost use Rattle.std.specs.Prelude.{◌≡◌, ◌↔◌};
 
 use crate::ids::IdSize;
 
-/// A type of values, by the table of basic types in heapDumper.cpp, "HPROF binary format". Types are ordered by
-/// their codes.
+/// The type of a value: a basic type of heapDumper.cpp, "HPROF binary format". Types are ordered by their codes.
 #[derive(Clone, Copy, Debug, PartialEq, Eq, PartialOrd, Ord)]
 pub enum Basic {
-    /// An array. Its value is an identifier. This type stands for no element of an array; that it may stand for
-    /// constants and fields is this project's own rule.
+    /// An array. Its value is an identifier. The elements of an array cannot have this type; this project allows it for constants and
+    /// fields.
     Array,
     /// An object. Its value is an identifier.
     Object,
-    /// A truth value: one byte, of any value.
+    /// A boolean: one byte, of any value.
     Boolean,
     /// A UTF-16 code unit.
     Char,
-    /// A floating-point number of 32 bits.
+    /// A 32-bit floating-point number.
     Float,
-    /// A floating-point number of 64 bits.
+    /// A 64-bit floating-point number.
     Double,
-    /// A signed number of 8 bits.
+    /// A signed 8-bit number.
     Byte,
-    /// A signed number of 16 bits.
+    /// A signed 16-bit number.
     Short,
-    /// A signed number of 32 bits.
+    /// A signed 32-bit number.
     Int,
-    /// A signed number of 64 bits.
+    /// A signed 64-bit number.
     Long,
 }
 
@@ -35,7 +34,7 @@ impl Basic {
     ghost use Rattle.hprof_values.specs.declared.basic.Basic.{Basic};
     ghost use Rattle.hprof_values.specs.Basic.{code_of_basic, basic_of_code, width_of_basic};
 
-    /// Returns the code that stands for the type in a dump.
+    /// Returns the code of the type in a dump.
     pub fn code(self) -> u8
         ensures { result ≡ code_of_basic self }
     {
@@ -53,7 +52,7 @@ impl Basic {
         }
     }
 
-    /// Returns the type that the code stands for, if it stands for one.
+    /// Returns the type with this code, or `None` if there is none.
     #[inline(always)]
     pub fn from_code(code: u8) -> Option<Basic>
         ensures exact { result ≡ basic_of_code code }

@@ -1,4 +1,4 @@
-//! The fields of an item, and the bounds within which they may lie.
+//! The fields of an item, read within bounds.
 
 ghost use Rattle.std.specs.Prelude.{◌≡◌, ◌+◌, ◌<◌, ◌^◌, sum};
 ghost use Rattle.hprof_values.specs.FieldGroups.{field_end, reached};
@@ -7,14 +7,14 @@ ghost use Rattle.hprof_values.specs.BoundedBytes.{bounds_of};
 use crate::reason::Reason;
 use crate::stop::Stop;
 
-/// The bytes from an item's first on, with the bounds within which it may lie, counted from there.
+/// The bytes of an item, with the bounds within which it must end. Bounds and places are counted from the item's first byte.
 #[derive(Clone, Copy, Debug)]
 pub struct BoundedBytes<'a> {
-    /// The bytes that are there.
+    /// The bytes that are available.
     pub bytes: &'a [u8],
     /// The number of bytes that the record has left.
     pub room: usize,
-    /// The number of bytes of the longest item that is taken.
+    /// The number of bytes of the longest accepted item.
     pub longest: usize,
 }
 
@@ -27,7 +27,7 @@ fn total(widths: &[usize]) -> usize
 }
 
 impl BoundedBytes<'_> {
-    /// Tests the end of a field: it lies within the record, then within the longest item, and then its bytes are there.
+    /// Tests the end of a field. It must lie within the record, then within the longest item, and then its bytes must be available.
     #[inline(always)]
     fn field_end(&self, end: usize) -> Result<usize, Stop>
         ensures { result ≡ field_end (bounds_of self.now) end }
@@ -43,8 +43,8 @@ impl BoundedBytes<'_> {
         }
     }
 
-    /// Returns the end of fields of those widths that begin there, each tested before the next. It stands in its callers in line, so that
-    /// they need no place in memory for the item and the widths, even if it does not run.
+    /// Returns the end of fields of these widths that begin at a place. Each field is tested before the next. It is inlined, so that its
+    /// callers need no memory for the item and the widths if it does not run.
     #[inline(always)]
     fn each_end(&self, at: usize, widths: &[usize]) -> Result<usize, Stop>
         requires { at + sum widths.now < 2 ^ 64 }
@@ -59,7 +59,7 @@ impl BoundedBytes<'_> {
         Ok(end)
     }
 
-    /// Returns the end of fields of those widths that begin there, or the first of their tests that fails.
+    /// Returns the end of fields of these widths that begin at a place, or the failure of the first test that fails.
     #[tactic(auto, using(crate::proofs::FieldGroups::reached_within))]
     #[inline(always)]
     pub fn end_of(&self, at: usize, widths: &[usize]) -> Result<usize, Stop>

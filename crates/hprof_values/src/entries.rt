@@ -1,4 +1,4 @@
-//! Entries, one behind the other.
+//! Entries, one after the other.
 
 ghost use Rattle.std.specs.Prelude.{◌≡◌, ◌-◌, ◌<◌, ◌≤◌, List, ◌∷◌, slice_get, IfSome, IsSomeAnd};
 ghost use Rattle.std.specs.Result.{result_ok};
@@ -10,10 +10,10 @@ use crate::bounded_bytes::BoundedBytes;
 use crate::entry::{Entry, EntryKind, entry_at, entry_end};
 use crate::ids::IdSize;
 
-/// The greatest number of entries that its field can hold.
+/// The greatest count of entries that a dump can state.
 const MOST_ENTRIES: usize = u16::MAX as usize;
 
-/// Returns the number of bytes of the entry at the front, if one stands there.
+/// Returns the number of bytes of the first entry, or `None` if the bytes do not begin with a whole, valid one.
 fn first_len(bytes: &[u8], kind: EntryKind, ids: IdSize) -> Option<usize>
     ensures { result ≡ result_ok (entry_end ids kind (exactly bytes.now) bytes.now 0) }
 {
@@ -45,7 +45,7 @@ pub fn count_entries(bytes: &[u8], kind: EntryKind, ids: IdSize) -> Option<usize
     Some(count)
 }
 
-/// Returns the first of the `left` entries that fill the bytes, and the bytes that the others fill.
+/// Returns the first of `left` entries that fill the bytes, and the bytes of the others.
 pub fn next_entry(bytes: &[u8], left: usize, kind: EntryKind, ids: IdSize) -> (Entry, &[u8])
     requires some { 0 < left }
     requires spelled { bytes.now ≡ entries_bytes ids kind (entries_in ids kind left bytes.now) }
@@ -59,7 +59,7 @@ pub fn next_entry(bytes: &[u8], left: usize, kind: EntryKind, ids: IdSize) -> (E
     (entry, rest)
 }
 
-/// Returns the entry at a place among those that fill the bytes.
+/// Returns the entry at a place among the entries that fill the bytes.
 pub fn nth_entry(
     bytes: &[u8],
     count: usize,

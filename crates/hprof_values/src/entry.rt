@@ -1,4 +1,4 @@
-//! The entries of a class dump: constants, static fields and own instance fields, by the fields that they have in common.
+//! The entries of a class dump: constants, static fields and own instance fields, with the fields that all three share.
 
 ghost use Rattle.std.specs.Prelude.{◌≡◌, ◌+◌, ◌<◌, ◌≤◌, List, length, IfOk};
 ghost use Rattle.hprof_values.specs.Entries.{lead_width, bits_width, entry_len, entry_in, EntryFits, entry_end};
@@ -12,14 +12,14 @@ use crate::reason::Reason;
 use crate::stop::Stop;
 use byteorder::{BigEndian, ByteOrder};
 
-/// The list of a class dump that an entry stands in, one of three.
+/// The list of a class dump that an entry belongs to.
 #[derive(Clone, Copy, Debug, PartialEq, Eq)]
 pub enum EntryKind {
     /// A constant.
     Constant,
     /// A static field.
     Static,
-    /// A field of the instances.
+    /// An instance field.
     Field,
 }
 
@@ -30,12 +30,12 @@ pub struct Entry {
     pub number: u64,
     /// The type.
     pub basic: Basic,
-    /// The raw bits of the value; 0 of a field of the instances, which has none here.
+    /// The raw bits of the value. 0 for an instance field, which has no value in a class dump.
     pub bits: u64,
 }
 
 impl EntryKind {
-    /// Returns the number of bytes of the index or of the name.
+    /// Returns the number of bytes of the index or the name identifier.
     pub fn lead_width(self, ids: IdSize) -> usize
         ensures { result ≡ lead_width ids self }
     {
@@ -45,7 +45,7 @@ impl EntryKind {
         }
     }
 
-    /// Returns the number of bytes of a value of that type.
+    /// Returns the number of bytes of a value of this type.
     pub fn bits_width(self, basic: Basic, ids: IdSize) -> usize
         ensures { result ≡ bits_width ids self basic }
     {
@@ -56,7 +56,7 @@ impl EntryKind {
     }
 }
 
-/// Returns the end of the entry that begins there, or the first of its tests that fails.
+/// Returns the end of the entry that begins at a place, or the failure of the first test that fails.
 #[tactic(auto, unfolding(crate::specs::Entries::entry_end))]
 pub fn entry_end(
     item: &BoundedBytes<'_>,
@@ -76,7 +76,7 @@ pub fn entry_end(
     item.end_of(front, &[kind.bits_width(basic, ids)])
 }
 
-/// Returns the entry at the front.
+/// Returns the entry at the front of the bytes.
 pub fn entry_at(bytes: &[u8], kind: EntryKind, ids: IdSize) -> Entry
     requires { entry_len ids kind (entry_in ids kind bytes.now) ≤ length bytes.now }
     ensures entry { result ≡ entry_in ids kind bytes.now }

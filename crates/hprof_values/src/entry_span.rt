@@ -1,4 +1,4 @@
-//! Entries of a class dump behind their count.
+//! The entries of a class dump, read with their count.
 
 ghost use Rattle.byteorder.specs.Endian.{big_number};
 ghost use Rattle.hprof_values.specs.Ids.{IsBytes};
@@ -12,20 +12,20 @@ use crate::ids::IdSize;
 use crate::stop::Stop;
 use byteorder::{BigEndian, ByteOrder};
 
-/// A number of entries, over the bytes that spell them.
+/// The bytes of some entries, and their number.
 #[derive(Clone, Copy, Debug)]
 pub struct EntrySpan<'a> {
     /// The bytes of the entries, without their count.
     pub bytes: &'a [u8],
     /// The number of entries.
     pub count: u16,
-    /// The place in the item at which they end.
+    /// The place in the item where they end.
     pub end: usize,
     ghost range: { IsBytes bytes.now },
     ghost few: { count < 2 ^ 16 },
 }
 
-/// Returns the count that stands there.
+/// Returns the count that is stored at a place.
 fn count_at(bytes: &[u8], at: usize) -> u16
     requires { at + 2 ≤ length bytes.now }
     ensures count { result ≡ big_number 2 (drop at bytes.now) }
@@ -35,7 +35,7 @@ fn count_at(bytes: &[u8], at: usize) -> u16
     BigEndian::read_u16(fields)
 }
 
-/// Returns the end of the last of that many entries, or the first of their tests that fails.
+/// Returns the end of this many entries, or the failure of the first test that fails.
 fn entries_end(
     item: &BoundedBytes<'_>,
     at: usize,
@@ -56,7 +56,7 @@ fn entries_end(
     Ok(end)
 }
 
-/// Reads the list whose count stands there.
+/// Reads the list whose count is stored at a place.
 #[tactic(auto, unfolding(crate::specs::Entries::list_end))]
 pub fn list_at<'a>(
     item: &BoundedBytes<'a>,

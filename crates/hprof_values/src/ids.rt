@@ -2,8 +2,7 @@
 
 ghost use Rattle.std.specs.Prelude.{◌≡◌};
 
-/// The number of bytes of an identifier. The header of a dump says it. Other sizes than these two are refused, which is this project's own
-/// rule.
+/// The number of bytes of an identifier, from the header of the dump. This project refuses sizes other than these two.
 #[derive(Clone, Copy, Debug, PartialEq, Eq)]
 pub enum IdSize {
     /// Four bytes.

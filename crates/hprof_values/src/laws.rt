@@ -1,4 +1,4 @@
-//! Laws of the definitions. None of these functions does anything.
+//! Laws of the definitions. The contract of each function is a theorem; its body is empty.
 
 ghost use Rattle.std.specs.Prelude.{◌≡◌, ◌+◌, ◌<◌, ◌≤◌, ◌⊎◌, ◌↔◌, List, ℕ, ◌++◌, length, drop, sum};
 ghost use Rattle.std.specs.Cmp.Lexicographic.{slice_cmp};
@@ -22,18 +22,18 @@ ghost use Rattle.hprof_values.specs.declared.stop.Stop.TheVariants as stops;
 use crate::basic::Basic;
 use crate::root::Root;
 
-/// Roots are in the order of the bytes that spell them.
+/// Roots compare as the bytes that encode them.
 pub fn roots_in_order()
     ensures { (ids : IdSize) (root other : Root) → RootFits ids root → RootFits ids other
         → ⟦<Root as Ord>⟧.cmp root other ≡ slice_cmp nat_cmp (root_bytes ids root) (root_bytes ids other) }
 {}
 
-/// Types of values are in the order of their codes.
+/// Types compare as their codes.
 pub fn types_in_order()
     ensures { (basic other : Basic) → ⟦<Basic as Ord>⟧.cmp basic other ≡ nat_cmp (code_of_basic basic) (code_of_basic other) }
 {}
 
-/// Numbers that are spelled in fields are read, whatever follows, and those that are read are spelled so.
+/// Numbers that are written into fields read back, whatever follows, and numbers that are read write the same bytes.
 pub fn fields_read_back()
     ensures again { (widths numbers rest : List ℕ) → FitFields widths numbers
         → (fields_in widths (field_bytes widths numbers ++ rest) ≡ numbers)
@@ -42,8 +42,8 @@ pub fn fields_read_back()
         → FitFields widths (fields_in widths bytes) × (bytes ≡ field_bytes widths (fields_in widths bytes) ++ drop (sum widths) bytes) }
 {}
 
-/// Fields that lie within all bounds end where their widths say; of those of which a front is there, more bytes are
-/// needed and nothing is wrong; and with more bytes no other answer changes.
+/// Fields that lie within all bounds end where their widths say. If only their beginning is available, the answer is that more bytes are
+/// needed. More bytes change no other answer.
 pub fn fronts_are_short()
     ensures whole { (bounds : Bounds) (at : ℕ) (widths : List ℕ) → IsWithin bounds (at + sum widths)
         → reached bounds at widths ≡ Ok (at + sum widths) }
@@ -53,8 +53,8 @@ pub fn fronts_are_short()
         → (reached bounds at widths ≡ Err stops.Short) ⊎ (reached (with_more bounds more) at widths ≡ reached bounds at widths) }
 {}
 
-/// Fields, one or more, end where their widths say, exactly if that lies within all bounds. Otherwise the answer is that of the test of the
-/// first field that does not end within them.
+/// One or more fields end where their widths say exactly if that place lies within all bounds. Otherwise the answer is that of the first
+/// field that does not end within them.
 pub fn fields_end_or_stop()
     ensures end { (bounds : Bounds) (at end : ℕ) (widths : List ℕ) → 0 < length widths
         → (reached bounds at widths ≡ Ok end) ↔ ((end ≡ at + sum widths) × IsWithin bounds end) }
@@ -62,7 +62,7 @@ pub fn fields_end_or_stop()
         → (reached bounds at widths ≡ Err stop) ↔ IsFirstStop bounds at widths stop }
 {}
 
-/// Bytes spell one list of entries of a kind, and one list of identifiers.
+/// The same bytes encode one list of entries of a kind, and one list of identifiers.
 pub fn one_list()
     ensures entries { (ids : IdSize) (kind : EntryKind) (entries others : List Entry) (bytes : List ℕ)
         → IsEntryList ids kind entries bytes → IsEntryList ids kind others bytes → entries ≡ others }
@@ -70,8 +70,8 @@ pub fn one_list()
         → IsIdList ids numbers bytes → IsIdList ids others bytes → numbers ≡ others }
 {}
 
-/// Entries end at a place exactly if that many of them lie from the first up to there, within all bounds. Otherwise the answer is that of
-/// the tests of one of them, before which the others end.
+/// Entries end at a place exactly if this many entries lie before it, one after the other, within all bounds. Otherwise the answer is that
+/// of the tests of the first entry that does not end within them.
 pub fn entries_end_or_stop()
     ensures end { (ids : IdSize) (kind : EntryKind) (bounds : Bounds) (bytes : List ℕ) (count at end : ℕ) → IsBytes bytes
         → bounds.there ≤ length bytes → IsWithin bounds at

@@ -1,9 +1,8 @@
-//! The elements of the items of an HPROF heap dump: identifiers, types of values, tags of records and sub-records, roots, and fields that
-//! are read within bounds. The format is that of the comment "HPROF binary format" in OpenJDK's heapDumper.cpp. No call of this crate takes
-//! memory.
-//! Lists as they lie in the bytes of an HPROF heap dump: lists of identifiers, and the entries of a class dump
-//! (constants, static fields and fields of the instances), read within bounds and gone over in place. No call of this
-//! crate takes memory.
+//! The parts that records and sub-records of an HPROF heap dump are made of: identifiers, types, tags, GC roots, bounded fields, lists of
+//! identifiers, and the entries of a class dump (constants, static fields and instance fields). Lists borrow the bytes of the dump and are
+//! read in place.
+//!
+//! The format is that of the comment "HPROF binary format" in OpenJDK's heapDumper.cpp. No call of this crate allocates.
 #![tactic(auto)]
 
 mod basic;

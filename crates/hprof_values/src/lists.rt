@@ -1,4 +1,4 @@
-//! Lists of entries and of identifiers, over the bytes that spell them.
+//! Lists of entries and of identifiers, over their bytes.
 
 mod among;
 pub mod constants;

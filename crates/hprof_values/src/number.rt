@@ -1,4 +1,4 @@
-//! Numbers at the front of some bytes, the highest byte first.
+//! Big-endian numbers at the front of a slice.
 
 ghost use Rattle.std.specs.Prelude.{◌≡◌, ◌+◌, ◌*◌, ◌^◌, ◌<◌, ◌≤◌, length, drop};
 ghost use Rattle.byteorder.specs.Endian.{big_number};
@@ -21,7 +21,7 @@ pub fn id_at(bytes: &[u8], ids: IdSize) -> u64
     }
 }
 
-/// Returns the identifier at the front, and the bytes behind it.
+/// Returns the identifier at the front, and the bytes after it.
 #[inline(always)]
 pub fn split_id(bytes: &[u8], ids: IdSize) -> (u64, &[u8])
     requires { width_of ids ≤ length bytes.now }
@@ -34,7 +34,7 @@ pub fn split_id(bytes: &[u8], ids: IdSize) -> (u64, &[u8])
     (id, rest)
 }
 
-/// Returns the number of four bytes at the front, and the bytes behind it.
+/// Returns the four-byte number at the front, and the bytes after it.
 #[inline(always)]
 pub fn split_u32(bytes: &[u8]) -> (u32, &[u8])
     requires { 4 ≤ length bytes.now }
@@ -82,7 +82,7 @@ pub fn values_len(count: u32, basic: Basic, ids: IdSize) -> usize
     }
 }
 
-/// Returns the raw bits of the value of that type at the front.
+/// Returns the raw bits of the value of this type at the front.
 pub fn bits_at(bytes: &[u8], basic: Basic, ids: IdSize) -> u64
     requires { width_of_basic ids basic ≤ length bytes.now }
     ensures { result ≡ big_number (width_of_basic ids basic) bytes.now }

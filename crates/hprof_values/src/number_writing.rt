@@ -1,4 +1,4 @@
-//! Numbers put at the front of some bytes, the highest byte first.
+//! Big-endian numbers, written to the front of a slice.
 
 ghost use Rattle.std.specs.Prelude.{◌≡◌, ◌↔◌, IsTrue, ◌<◌, ◌≤◌, ◌^◌, ◌++◌, length, drop, sum};
 ghost use Rattle.byteorder.specs.Endian.{big_bytes};
@@ -9,21 +9,21 @@ ghost use Rattle.hprof_values.specs.Numbers.{width_of_number, number_value, numb
 use crate::ids::IdSize;
 use byteorder::{BigEndian, ByteOrder};
 
-/// A number in a field, by the kind of the field.
+/// A number that a field holds, with the kind of the field.
 #[derive(Clone, Copy, Debug, PartialEq, Eq)]
 pub enum Number {
     /// An identifier.
     Id(u64),
-    /// A number of four bytes.
+    /// A four-byte number.
     Four(u32),
-    /// A number of two bytes.
+    /// A two-byte number.
     Two(u16),
-    /// A number of one byte.
+    /// A one-byte number.
     One(u8),
 }
 
 impl Number {
-    /// Returns the number of bytes that the number takes.
+    /// Returns the number of bytes of the field.
     #[inline(always)]
     pub fn width(self, ids: IdSize) -> usize
         ensures { result ≡ width_of_number ids self }
@@ -36,7 +36,7 @@ impl Number {
         }
     }
 
-    /// Returns whether the number lies in the range of its field. Only an identifier may be too great.
+    /// Returns whether the number fits its field. Only an identifier can be too large.
     fn fits(self, ids: IdSize) -> bool
         ensures { IsTrue result ↔ (number_value self < 256 ^ width_of_number ids self) }
     {
@@ -47,7 +47,7 @@ impl Number {
     }
 }
 
-/// Returns whether each of the numbers lies in the range of its field.
+/// Returns whether each of the numbers fits its field.
 pub fn numbers_fit(numbers: &[Number], ids: IdSize) -> bool
     ensures { IsTrue result ↔ FitFields (number_widths ids numbers.now) (number_values numbers.now) }
 {
@@ -59,7 +59,7 @@ pub fn numbers_fit(numbers: &[Number], ids: IdSize) -> bool
     true
 }
 
-/// Puts an identifier at the front.
+/// Writes an identifier to the front.
 #[inline(always)]
 fn put_id(id: u64, ids: IdSize, out: &mut [u8])
     requires room { width_of ids ≤ length out.old }
@@ -72,7 +72,7 @@ fn put_id(id: u64, ids: IdSize, out: &mut [u8])
     }
 }
 
-/// Puts a number at the front.
+/// Writes a number to the front.
 #[inline(always)]
 fn put_number(number: Number, ids: IdSize, out: &mut [u8])
     requires room { width_of_number ids number ≤ length out.old }
@@ -87,7 +87,7 @@ fn put_number(number: Number, ids: IdSize, out: &mut [u8])
     }
 }
 
-/// Returns the number of bytes that the numbers take.
+/// Returns the number of bytes of the fields.
 #[inline(always)]
 pub fn numbers_len(numbers: &[Number], ids: IdSize) -> usize
     requires { sum (number_widths ids numbers.now) < 2 ^ 64 }
@@ -96,7 +96,7 @@ pub fn numbers_len(numbers: &[Number], ids: IdSize) -> usize
     numbers.iter().map(|number| number.width(ids)).sum()
 }
 
-/// Puts the numbers at the front, one behind the other.
+/// Writes the numbers to the front, one after the other.
 #[inline(always)]
 pub fn put_numbers(numbers: &[Number], ids: IdSize, out: &mut [u8])
     requires room { sum (number_widths ids numbers.now) ≤ length out.old }

@@ -1,9 +1,9 @@
-//! Reasons why bytes are no dump.
+//! Reasons why bytes are not a heap dump.
 
-/// The reason why bytes are no dump.
+/// The reason why bytes are not a heap dump.
 #[derive(Clone, Copy, Debug, PartialEq, Eq)]
 pub enum Reason {
-    /// The text in front is neither of the two.
+    /// The file does not begin with the text of either version.
     BadMagic,
     /// The identifier size is neither 4 nor 8.
     BadIdSize,
@@ -11,10 +11,10 @@ pub enum Reason {
     Truncated,
     /// A record has a length that its tag does not allow.
     BadLength,
-    /// A sub-record has a tag that stands for none.
+    /// A sub-record has an unknown tag.
     BadSubTag,
-    /// A sub-record passes the end of its record.
+    /// A sub-record ends past the end of its record.
     PastEnd,
-    /// A value has a type that stands for none, or that may not stand there.
+    /// A value has an unknown type, or a type that is not allowed there.
     BadType,
 }

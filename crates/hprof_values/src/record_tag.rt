@@ -1,4 +1,4 @@
-//! The tags of records that state one fact, by the comment "HPROF binary format" in heapDumper.cpp.
+//! The tags of records that state one fact, from the comment "HPROF binary format" in heapDumper.cpp.
 
 ghost use Rattle.std.specs.Prelude.{◌≡◌, ◌↔◌};
 
@@ -11,9 +11,9 @@ pub enum RecordTag {
     LoadClass,
     /// UNLOAD_CLASS: a class that was unloaded.
     UnloadClass,
-    /// FRAME: a frame of a stack.
+    /// FRAME: a stack frame.
     Frame,
-    /// TRACE: a stack.
+    /// TRACE: a stack trace.
     Trace,
     /// START_THREAD: a thread that was started.
     StartThread,
@@ -25,7 +25,7 @@ impl RecordTag {
     ghost use Rattle.hprof_values.specs.declared.record_tag.RecordTag.{RecordTag};
     ghost use Rattle.hprof_values.specs.RecordTag.{code_of_record, record_of_code};
 
-    /// Returns the byte that stands for it.
+    /// Returns the tag byte.
     pub fn code(self) -> u8
         ensures { result ≡ code_of_record self }
     {
@@ -40,7 +40,7 @@ impl RecordTag {
         }
     }
 
-    /// Returns the kind of record that the byte stands for, if it stands for one. A record with any other tag states no fact of its own.
+    /// Returns the kind of record with this tag byte, or `None` if the record states no fact of its own.
     pub fn from_code(code: u8) -> Option<RecordTag>
         ensures exact { result ≡ record_of_code code }
         ensures both { (tag : RecordTag) → (result ≡ Some tag) ↔ (code ≡ code_of_record tag) }

@@ -2,39 +2,39 @@
 
 use crate::sub_tag::SubTag;
 
-/// A GC root, by the sub-records of heapDumper.cpp, "HPROF binary format". Roots are ordered as the bytes that spell them.
+/// A GC root, from the sub-records in heapDumper.cpp, "HPROF binary format". Roots are ordered as the bytes that encode them.
 #[derive(Clone, Copy, Debug, PartialEq, Eq, PartialOrd, Ord)]
 pub enum Root {
     /// A JNI global reference.
     JniGlobal {
         /// The object.
         id: u64,
-        /// The identifier of the reference.
+        /// The identifier of the JNI reference.
         reference: u64,
     },
     /// A JNI local reference.
     JniLocal {
         /// The object.
         id: u64,
-        /// The thread's serial.
+        /// The serial number of the thread.
         thread: u32,
-        /// The frame's number in the stack; 4294967295 if there is none.
+        /// The number of the frame in the stack; 4294967295 if there is none.
         frame: u32,
     },
     /// A Java frame.
     JavaFrame {
         /// The object.
         id: u64,
-        /// The thread's serial.
+        /// The serial number of the thread.
         thread: u32,
-        /// The frame's number in the stack; 4294967295 if there is none.
+        /// The number of the frame in the stack; 4294967295 if there is none.
         frame: u32,
     },
     /// A native stack.
     NativeStack {
         /// The object.
         id: u64,
-        /// The thread's serial.
+        /// The serial number of the thread.
         thread: u32,
     },
     /// A class that is never unloaded.
@@ -46,7 +46,7 @@ pub enum Root {
     Block {
         /// The object.
         id: u64,
-        /// The thread's serial.
+        /// The serial number of the thread.
         thread: u32,
     },
     /// A monitor in use.
@@ -58,12 +58,12 @@ pub enum Root {
     ThreadObject {
         /// The object. It may be 0.
         id: u64,
-        /// The thread's serial.
+        /// The serial number of the thread.
         thread: u32,
-        /// The serial of the stack trace.
+        /// The serial number of the stack trace.
         trace: u32,
     },
-    /// A root of which no more is known. Its tag is the highest, so it stands last.
+    /// A root of unknown kind. Its tag is the highest, so it is the last variant.
     Unknown {
         /// The object.
         id: u64,
@@ -74,7 +74,7 @@ impl Root {
     ghost use Rattle.std.specs.Prelude.{◌≡◌};
     ghost use Rattle.hprof_values.specs.Root.{tag_of_root};
 
-    /// Returns the tag of its sub-record.
+    /// Returns the tag of the sub-record.
     pub fn tag(self) -> SubTag
         ensures { result ≡ tag_of_root self }
     {

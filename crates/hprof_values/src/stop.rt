@@ -1,14 +1,14 @@
-//! Reasons why the reading of an item ends before its last byte.
+//! Reasons why an item is not read to its end.
 
 use crate::reason::Reason;
 
-/// The reason why an item is not whole and right.
+/// The reason why an item is not read to its end.
 #[derive(Clone, Copy, Debug, PartialEq, Eq)]
 pub enum Stop {
-    /// Nothing is wrong so far, and more bytes are needed.
+    /// The item is right so far; more bytes are needed.
     Short,
-    /// It is longer than the longest that is taken.
+    /// The item is longer than the longest accepted item.
     TooLong,
-    /// It is wrong, whatever follows.
+    /// The item is wrong, whatever follows.
     Fault(Reason),
 }

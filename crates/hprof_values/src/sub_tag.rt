@@ -1,4 +1,4 @@
-//! The tags of sub-records, by the comment "HPROF binary format" in heapDumper.cpp.
+//! The tags of sub-records, from the comment "HPROF binary format" in heapDumper.cpp.
 
 ghost use Rattle.std.specs.Prelude.{◌≡◌, ◌↔◌};
 
@@ -21,15 +21,15 @@ pub enum SubTag {
     RootMonitor,
     /// A thread object.
     RootThreadObject,
-    /// A class.
+    /// A class dump.
     ClassDump,
     /// An instance.
     InstanceDump,
-    /// An array of objects.
+    /// An object array.
     ObjArrayDump,
-    /// An array of numbers or truth values.
+    /// A primitive array.
     PrimArrayDump,
-    /// A root of which no more is known.
+    /// A root of unknown kind.
     RootUnknown,
 }
 
@@ -37,7 +37,7 @@ impl SubTag {
     ghost use Rattle.hprof_values.specs.declared.sub_tag.SubTag.{SubTag};
     ghost use Rattle.hprof_values.specs.SubTag.{code_of_tag, tag_of_code};
 
-    /// Returns the byte that stands for it.
+    /// Returns the tag byte.
     pub fn code(self) -> u8
         ensures { result ≡ code_of_tag self }
     {
@@ -58,7 +58,7 @@ impl SubTag {
         }
     }
 
-    /// Returns the kind of sub-record that the byte stands for, if it stands for one. A sub-record with any other tag is refused.
+    /// Returns the kind of sub-record with this tag byte, or `None` if there is none. Sub-records with unknown tags are refused.
     #[inline(always)]
     pub fn from_code(code: u8) -> Option<SubTag>
         ensures exact { result ≡ tag_of_code code }

@@ -1,4 +1,4 @@
-//! Values, and the entries of a class dump with their own fields.
+//! Values, and the three kinds of entries of a class dump.
 
 ghost use Rattle.std.specs.Prelude.{◌≡◌, ◌<◌, ◌^◌};
 ghost use Rattle.hprof_values.specs.Value.{constant_of, static_of, field_of};
@@ -6,12 +6,12 @@ ghost use Rattle.hprof_values.specs.Value.{constant_of, static_of, field_of};
 use crate::basic::Basic;
 use crate::entry::Entry;
 
-/// A value of a type.
+/// A value with its type.
 #[derive(Clone, Copy, Debug, PartialEq, Eq)]
 pub struct Value {
     /// The type.
     pub basic: Basic,
-    /// The raw bits, the lowest of the number. A boolean is any byte.
+    /// The raw bits, right-aligned. The byte of a boolean may have any value.
     pub bits: u64,
 }
 
@@ -33,7 +33,7 @@ pub struct Static {
     pub value: Value,
 }
 
-/// A field of the instances of a class, of those that the class itself declares.
+/// An instance field that the class itself declares.
 #[derive(Clone, Copy, Debug, PartialEq, Eq)]
 pub struct Field {
     /// The identifier of its name.
@@ -74,7 +74,7 @@ impl Static {
 }
 
 impl Field {
-    /// Returns the entry as a field of the instances.
+    /// Returns the entry as an instance field.
     pub fn of(entry: Entry) -> Field
         ensures { result ≡ field_of entry }
     {

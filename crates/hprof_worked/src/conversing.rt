@@ -16,7 +16,7 @@ use hprof_naming::type_word;
 use hprof_stream::Limits;
 use std::alloc::{AllocError, Global};
 
-/// The text of the fault with which a dialogue ended.
+/// Returns the text of the fault that ended a dialogue.
 fn text_of_asking(alloc: Global, fault: AskFault) -> Result<String, AllocError> {
     match fault {
         AskFault::Parts(fault) => text_of_fault(alloc, fault),
@@ -28,7 +28,7 @@ fn text_of_asking(alloc: Global, fault: AskFault) -> Result<String, AllocError> 
     }
 }
 
-/// The line that asks for what a call writes, if there is one.
+/// Returns the question that asks for the same as a call, if there is one.
 fn question_of(alloc: Global, call: Call) -> Result<Option<String>, AllocError> {
     let line = match call {
         Call::Check => String::from_str(alloc, "check\n")?,
@@ -49,7 +49,7 @@ fn question_of(alloc: Global, call: Call) -> Result<Option<String>, AllocError> 
     Ok(Some(line))
 }
 
-/// The bytes one behind the other.
+/// Returns the pieces, one after the other.
 fn joined(alloc: Global, pieces: &[&[u8]]) -> Result<Vec<u8>, AllocError> {
     let mut bytes = Vec::new(alloc);
     for piece in pieces {
@@ -58,8 +58,8 @@ fn joined(alloc: Global, pieces: &[&[u8]]) -> Result<Vec<u8>, AllocError> {
     Ok(bytes)
 }
 
-/// Asks for what a call writes, before and behind a question that is not understood, and checks that it comes both times, or that the parts
-/// are refused as before.
+/// Asks for the same as a call, before and after a question that is not understood. Checks that both answers are the call's output, or that
+/// the parts are refused as before.
 pub(crate) fn check_asked(
     alloc: Global,
     call: Call,
@@ -91,7 +91,7 @@ pub(crate) fn check_asked(
     asked.check_says(alloc, whole, &answers)
 }
 
-/// Asks the questions of the input, and gives the answer of the call.
+/// Asks the questions of the input, and returns the result of the call.
 pub(crate) fn conversed(
     alloc: Global,
     readers: &mut [Device<Reader<'_>>],

@@ -1,4 +1,4 @@
-//! Calls on the heap that parts state: the edges from an identifier, and the layout of a class.
+//! Calls on the heap of parts: the edges from an identifier, and the layout of a class.
 
 ghost use Rattle.std.specs.Prelude.{◌≡◌, All};
 ghost use Rattle.hprof_devices.specs.declared.health.Health.TheVariants.{Well};
@@ -40,7 +40,7 @@ fn lines_of_edges(alloc: Global, heap: &Heap, id: u64) -> Result<String, AllocEr
     Ok(lines)
 }
 
-/// Returns a line for each slot of a class, or one that says why there are none.
+/// Returns a line for each slot of a class, or one that says why it has none.
 fn lines_of_layout(alloc: Global, heap: &Heap, class: u64) -> Result<String, AllocError> {
     let slots = match layout(alloc, heap, class)? {
         Layout::Known(slots) => slots,
@@ -55,7 +55,7 @@ fn lines_of_layout(alloc: Global, heap: &Heap, class: u64) -> Result<String, All
     Ok(lines)
 }
 
-/// Reads all parts into a heap, and writes the answer.
+/// Reads all parts into a heap, and writes the answer to a question.
 pub(crate) fn ask(
     alloc: Global,
     question: Question,

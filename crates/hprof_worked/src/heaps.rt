@@ -1,4 +1,4 @@
-//! Heaps of one part each, joined one after the other into the first.
+//! Heaps of one part each, joined into the first.
 
 ghost use Rattle.std.specs.Prelude.{◌≡◌};
 ghost use Rattle.hprof_devices.specs.declared.health.Health.TheVariants.{Well};
@@ -31,7 +31,7 @@ fn fault_of_join(refusal: JoinRefusal) -> ToolFault {
     }
 }
 
-/// Returns the heap of a part. A reader that is not well is not read.
+/// Returns the heap of a part. Does not read from a reader that has failed.
 fn heap_of(
     alloc: Global,
     index: usize,
@@ -68,7 +68,7 @@ fn heaps_of(
     Ok(heaps)
 }
 
-/// Joins another heap into a heap. If memory runs out, it joins them once more.
+/// Joins another heap into a heap. If memory runs out, joins them once more.
 fn join(heap: &mut Heap, other: &Heap) -> Result<(), JoinRefusal> {
     match heap.join(other) {
         Err(JoinRefusal::OutOfMemory) => heap.join(other),
@@ -76,7 +76,7 @@ fn join(heap: &mut Heap, other: &Heap) -> Result<(), JoinRefusal> {
     }
 }
 
-/// Joins the others into a heap, up to the first that is refused.
+/// Joins other heaps into a heap, up to the first that is refused.
 fn join_all(heap: &mut Heap, others: &[Heap]) -> Result<(), ToolFault> {
     for other in others {
         if let Err(refusal) = join(heap, other) {
@@ -86,8 +86,8 @@ fn join_all(heap: &mut Heap, others: &[Heap]) -> Result<(), ToolFault> {
     Ok(())
 }
 
-/// Joins the heaps of the other parts into that of the first, and writes its dump, also where a join was refused. It answers the
-/// number of its facts.
+/// Joins the heaps of the other parts into that of the first, and writes its dump, even if a join was refused. Returns the number of its
+/// facts.
 pub(crate) fn unite_to(
     alloc: Global,
     readers: &mut [Device<Reader<'_>>],

@@ -5,7 +5,7 @@ use hprof_stream::{Sink, SinkFault};
 use std::alloc::{AllocError, Global};
 use std::fmt::Debug;
 
-/// Lists each header and each fact that it is given, one a line.
+/// A sink that lists each header and each fact, one a line.
 #[derive(Drop)]
 pub(crate) struct Listing {
     alloc: Global,

@@ -1,4 +1,4 @@
-//! Parts that are read, one after the other, into one sink.
+//! Reading parts into one sink.
 
 use crate::engine::Answer;
 use crate::listing::Listing;
@@ -7,7 +7,7 @@ use hprof_devices::{Device, Health};
 use hprof_stream::{Limits, PartSummary, Sink, Tally, read_part};
 use std::alloc::{AllocError, Global};
 
-/// The forms of facts, in the order in which a tally counts them.
+/// The kinds of facts, in the order in which a tally counts them.
 const FORMS: [&str; 12] = [
     "names",
     "loads",
@@ -29,8 +29,8 @@ fn text_of_summary(alloc: Global, summary: PartSummary) -> Result<String, AllocE
     format!(in alloc; "records {records} facts {facts} end {end}")
 }
 
-/// Reads the parts up to the first that is refused. It answers the text of the fault, or what was read of the last part. A reader that is
-/// not well is not read.
+/// Reads the parts up to the first that is refused. Returns the text of the fault, or the summary of the last part. Does not read from a
+/// reader that has failed.
 fn read_into<S: Sink>(
     alloc: Global,
     readers: &mut [Device<Reader<'_>>],

@@ -1,4 +1,4 @@
-//! The fields of a class's sub-record, and the lists behind them.
+//! The fields and the lists of a class dump.
 
 ghost use Rattle.std.specs.Prelude.{◌≡◌, ◌↔◌, IsTrue, IfSome, Some, None};
 ghost use Rattle.hprof_values.specs.declared.sub_tag.SubTag.TheVariants as tags;
@@ -13,29 +13,29 @@ use hprof_items::Fact;
 use hprof_values::Number::{Four, Id, One};
 use hprof_values::{ConstantList, FieldList, IdSize, Number, StaticList, SubTag};
 
-/// A list of a class: the number of its entries, and the bytes that spell them.
+/// A list of a class dump: the number of its entries, and their bytes.
 #[derive(Clone, Copy)]
 pub(crate) struct ListFront<'a> {
     /// The number of entries.
     pub count: u16,
-    /// The bytes that spell them.
+    /// The bytes of the entries.
     pub bytes: &'a [u8],
 }
 
-/// The tag and the fields of a class's sub-record, and the lists behind them.
+/// The tag, the fields and the lists of a class dump.
 #[derive(Clone, Copy)]
 pub(crate) struct ClassFront<'a> {
-    /// The tag, and the fields behind it.
+    /// The tag, and the fields after it.
     pub fields: [Number; 10],
     /// The constants.
     pub constants: ListFront<'a>,
     /// The static fields.
     pub statics: ListFront<'a>,
-    /// The fields that its instances have of their own.
+    /// The own instance fields.
     pub own: ListFront<'a>,
 }
 
-/// Returns whether the lists of a class have identifiers of that size, and so a spelling.
+/// Returns whether the lists of a class dump have identifiers of this size, so that it can be encoded.
 fn lists_fit(
     constants: &ConstantList<'_>,
     statics: &StaticList<'_>,
@@ -56,7 +56,7 @@ fn lists_fit(
     fields.id_size() == ids
 }
 
-/// Returns the front of the class's sub-record, or `None` if a list of it has identifiers of another size. The lists are never too long.
+/// Returns the fields and the lists of a class dump, or `None` if a list has identifiers of another size. A list is never too long.
 pub(crate) fn class_front<'a>(fact: &Fact<'a>, ids: IdSize) -> Option<ClassFront<'a>>
     requires is { object_of (value_of fact.now) ≡ Some tags.ClassDump }
     ensures some { IfSome result (λ front. IsClassFront ids fact.now front.fields (counted front.constants.count front.constants.bytes.now)

@@ -1,4 +1,4 @@
-//! Writing the sub-record of a class.
+//! Writing a class dump.
 
 ghost use Rattle.std.specs.Prelude.{◌≡◌, ◌≤◌, ◌++◌, sum, Some};
 ghost use Rattle.hprof_devices.specs.declared.health.Health.TheVariants.{Well};
@@ -17,7 +17,7 @@ use hprof_devices::{Target, WriteFault};
 use hprof_items::Fact;
 use hprof_values::{IdSize, Number};
 
-/// Writes some fields, the number of entries of a list, and the entries.
+/// Writes some fields, the count of a list, and its entries.
 fn write_list<W: Target>(
     head: &[Number],
     list: ListFront<'_>,
@@ -34,7 +34,7 @@ fn write_list<W: Target>(
     write_front(head, &[Number::Two(list.count)], list.bytes, ids, target)
 }
 
-/// Writes the sub-record of a class.
+/// Writes a class dump.
 pub(crate) fn write_class<W: Target>(
     fact: &Fact<'_>,
     ids: IdSize,

@@ -13,7 +13,7 @@ use hprof_devices::{Target, WriteFault};
 use hprof_items::Fact;
 use hprof_values::IdSize;
 
-/// Writes the fact's spelling. At a fault some of it was written, from the front. Nothing is flushed.
+/// Writes the record or the sub-record of a fact. Does not flush. If this fails, a prefix of it was written.
 pub fn write_fact<W: Target>(fact: &Fact<'_>, ids: IdSize, target: &mut W) -> Result<(), WriteFault>
     requires well { W.health target.old ≡ Well }
     requires fits { Fits ids (value_of fact.now) }

@@ -1,4 +1,4 @@
-//! The facts that have a spelling, and its length.
+//! The facts that can be encoded, and the lengths of their encodings.
 
 ghost use Rattle.std.specs.Prelude.{◌≡◌, ◌↔◌, IsTrue, length};
 ghost use Rattle.hprof_items.specs.Spelling.{spelling, Fits};
@@ -10,8 +10,8 @@ use crate::record_fitting::record_fits;
 use hprof_items::Fact;
 use hprof_values::IdSize;
 
-/// Returns whether the fact has a spelling under that size of identifiers: its identifiers and its lists have that size, no element of an
-/// array is cut, and its length fits the field for it.
+/// Returns whether a fact can be encoded with this identifier size: its identifiers and lists have that size, no element of an array is
+/// cut, and its length fits the length field.
 pub fn fits(fact: &Fact<'_>, ids: IdSize) -> bool
     ensures { IsTrue result ↔ (Fits ids (value_of fact.now) × ListsHave ids fact.now) }
 {
@@ -32,7 +32,7 @@ pub fn fits(fact: &Fact<'_>, ids: IdSize) -> bool
     }
 }
 
-/// Returns the number of bytes in the fact's spelling.
+/// Returns the number of bytes of a fact's encoding.
 pub fn spelled_len(fact: &Fact<'_>, ids: IdSize) -> u64
     requires fits { Fits ids (value_of fact.now) }
     requires lists { ListsHave ids fact.now }

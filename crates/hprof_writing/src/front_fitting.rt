@@ -1,4 +1,4 @@
-//! Tests whether fields, and the bytes behind them, can be spelled.
+//! Tests whether fields, and the bytes after them, can be encoded.
 
 ghost use Rattle.std.specs.Prelude.{◌↔◌, IsTrue, ◌+◌, ◌≤◌, length, sum};
 ghost use Rattle.hprof_values.specs.FieldGroups.{FitFields};
@@ -7,10 +7,10 @@ ghost use Rattle.hprof_items.specs.Spelling.{longest_body};
 
 use hprof_values::{IdSize, Number, numbers_fit, numbers_len};
 
-/// The greatest length that its field can hold.
+/// The greatest length that a length field can hold.
 const LONGEST: usize = 4294967295;
 
-/// Returns whether each field lies in its range, and the fields with `more` bytes are not too long.
+/// Returns whether each number fits its field, and the fields with `more` bytes after them are not too long.
 #[inline(always)]
 pub(crate) fn front_fits(fields: &[Number], more: usize, ids: IdSize) -> bool
     requires { length fields.now ≤ 10 }

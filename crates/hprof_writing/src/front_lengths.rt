@@ -1,4 +1,4 @@
-//! The lengths of the records and the sub-records of facts.
+//! The lengths of records and sub-records.
 
 ghost use Rattle.std.specs.Prelude.{◌≡◌, length, IsSome, Some};
 ghost use Rattle.hprof_values.specs.declared.sub_tag.SubTag.TheVariants as tags;
@@ -14,7 +14,7 @@ use crate::sub_front::sub_front;
 use hprof_items::{Fact, HEAD_LEN};
 use hprof_values::{IdSize, numbers_len};
 
-/// Returns the number of bytes in the fact's record.
+/// Returns the number of bytes of a fact's record.
 #[inline(always)]
 pub(crate) fn record_len(fact: &Fact<'_>, ids: IdSize) -> usize
     requires is { IsSome (record_of (value_of fact.now)) }
@@ -28,7 +28,7 @@ pub(crate) fn record_len(fact: &Fact<'_>, ids: IdSize) -> usize
     HEAD_LEN + numbers_len(&front.fields[..front.count], ids) + front.more.len()
 }
 
-/// Returns the number of bytes in the sub-record of a root, an instance or an array.
+/// Returns the number of bytes of the sub-record of a root, an instance or an array.
 #[inline(always)]
 pub(crate) fn sub_len(fact: &Fact<'_>, ids: IdSize) -> usize
     requires has { HasSubFront (value_of fact.now) }
@@ -42,7 +42,7 @@ pub(crate) fn sub_len(fact: &Fact<'_>, ids: IdSize) -> usize
     1 + numbers_len(&front.fields[..front.count], ids) + front.more.len()
 }
 
-/// Returns the number of bytes in the sub-record of a class.
+/// Returns the number of bytes of a class dump.
 pub(crate) fn class_len(fact: &Fact<'_>, ids: IdSize) -> usize
     requires is { object_of (value_of fact.now) ≡ Some tags.ClassDump }
     requires fits { Fits ids (value_of fact.now) }

@@ -1,4 +1,4 @@
-//! Writing fields, and the bytes behind them.
+//! Writing fields, and the bytes after them.
 
 ghost use Rattle.std.specs.Prelude.{◌≡◌, ◌+◌, ◌≤◌, ◌++◌, sum};
 ghost use Rattle.hprof_devices.specs.declared.health.Health.TheVariants.{Well};
@@ -9,10 +9,10 @@ ghost use Rattle.hprof_devices.specs.Device.{Writes, LeavesHealth};
 use hprof_devices::{Target, WriteFault, push_all};
 use hprof_values::{IdSize, Number, numbers_len, put_numbers};
 
-/// The greatest number of bytes in the fields that are put together.
+/// The largest number of bytes of the fields that are written in one piece.
 const FRONT_LEN: usize = 80;
 
-/// Writes the fields of a head and those behind it in one piece, and then the bytes behind them.
+/// Writes the fields of a head and those after it in one piece, and then the bytes after them.
 #[inline(always)]
 pub(crate) fn write_front<W: Target>(
     head: &[Number],

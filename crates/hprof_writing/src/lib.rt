@@ -1,5 +1,6 @@
-//! Headers, heads of records and facts, written to a target: whether they fit, the number of their bytes, and the writing itself. No call
-//! of this crate takes memory.
+//! Writes headers, record heads and facts to a target, and tells whether they can be encoded and how long they are.
+//!
+//! No call of this crate allocates.
 #![tactic(auto)]
 
 mod class_front;

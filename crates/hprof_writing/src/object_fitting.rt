@@ -1,4 +1,4 @@
-//! Tests whether a fact has a sub-record.
+//! Tests whether the sub-record of a fact can be encoded.
 
 ghost use Rattle.std.specs.Prelude.{◌≡◌, ◌↔◌, IsTrue, Some};
 ghost use Rattle.hprof_values.specs.declared.sub_tag.SubTag.TheVariants as tags;
@@ -13,7 +13,7 @@ use crate::sub_front::sub_front;
 use hprof_items::Fact;
 use hprof_values::{IdSize, numbers_fit};
 
-/// Returns whether a root, an instance or an array has a spelling.
+/// Returns whether a root, an instance or an array can be encoded.
 #[inline(always)]
 pub(crate) fn sub_fits(fact: &Fact<'_>, ids: IdSize) -> bool
     requires { HasSubFront (value_of fact.now) }
@@ -25,7 +25,7 @@ pub(crate) fn sub_fits(fact: &Fact<'_>, ids: IdSize) -> bool
     front_fits(&front.fields[..front.count], front.more.len() + 1, ids)
 }
 
-/// Returns whether a class has a spelling. Its lists are never too long.
+/// Returns whether a class dump can be encoded. Its lists are never too long.
 pub(crate) fn class_fits(fact: &Fact<'_>, ids: IdSize) -> bool
     requires { object_of (value_of fact.now) ≡ Some tags.ClassDump }
     ensures { IsTrue result ↔ (Fits ids (value_of fact.now) × ListsHave ids fact.now) }

@@ -16,7 +16,7 @@ use hprof_devices::{Target, WriteFault};
 use hprof_items::Fact;
 use hprof_values::{IdSize, Number, SubTag};
 
-/// Writes a sub-record: some fields behind its tag, and the bytes behind them.
+/// Writes a sub-record: the fields after its tag, and the bytes after them.
 #[inline(always)]
 fn write_sub_record<W: Target>(
     tag: SubTag,

@@ -1,4 +1,4 @@
-//! Tests whether a fact has a record.
+//! Tests whether the record of a fact can be encoded.
 
 ghost use Rattle.std.specs.Prelude.{◌↔◌, IsTrue, IsSome};
 ghost use Rattle.hprof_items.specs.FactValue.{value_of, ListsHave};
@@ -10,7 +10,7 @@ use crate::record_front::record_front;
 use hprof_items::Fact;
 use hprof_values::IdSize;
 
-/// Returns whether the fact's record has a spelling.
+/// Returns whether the record of a fact can be encoded.
 #[inline(always)]
 pub(crate) fn record_fits(fact: &Fact<'_>, ids: IdSize) -> bool
     requires { IsSome (record_of (value_of fact.now)) }

@@ -1,4 +1,4 @@
-//! The fields of each record that states one fact, and the bytes behind them.
+//! The fields of each record that states one fact, and the bytes after them.
 
 ghost use Rattle.std.specs.Prelude.{◌≡◌, ◌≤◌, take, IsSome, IfSome, None};
 ghost use Rattle.hprof_items.specs.Spelling.{Fits};
@@ -11,21 +11,21 @@ use hprof_items::Fact;
 use hprof_values::Number::{Four, Id};
 use hprof_values::{IdSize, Number, RecordTag};
 
-/// A record's tag, the fields of its body, and the bytes behind them.
+/// The tag of a record, the fields of its body, and the bytes after them.
 #[derive(Clone, Copy)]
 pub(crate) struct RecordFront<'a> {
     /// The tag.
     pub tag: RecordTag,
-    /// The fields, and then some that are not there.
+    /// The fields, followed by unused ones.
     pub fields: [Number; 6],
-    /// The number of fields that are there.
+    /// The number of used fields.
     pub count: usize,
-    /// The bytes behind them.
+    /// The bytes after the fields.
     pub more: &'a [u8],
 }
 
-/// Returns the front of the fact's record, or `None` if its frames have identifiers of another size, or are too many for the field that
-/// counts them.
+/// Returns the tag, the fields and the bytes of a fact's record, or `None` if its frames have identifiers of another size, or are too many
+/// for the field that counts them.
 #[inline(always)]
 pub(crate) fn record_front<'a>(fact: &Fact<'a>, ids: IdSize) -> Option<RecordFront<'a>>
     requires is { IsSome (record_of (value_of fact.now)) }

@@ -17,7 +17,7 @@ use hprof_devices::{Target, WriteFault};
 use hprof_items::Fact;
 use hprof_values::{IdSize, Number, RecordTag, numbers_len};
 
-/// Writes a record with time 0, whose body is some fields and the bytes behind them.
+/// Writes a record with time 0. Its body is some fields, and the bytes after them.
 #[inline(always)]
 fn write_record<W: Target>(
     tag: RecordTag,
@@ -43,7 +43,7 @@ fn write_record<W: Target>(
     write_front(&head, fields, more, ids, target)
 }
 
-/// Writes the fact's record.
+/// Writes the record of a fact.
 #[inline(always)]
 pub(crate) fn write_stated<W: Target>(
     fact: &Fact<'_>,

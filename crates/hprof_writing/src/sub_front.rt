@@ -1,4 +1,4 @@
-//! The fields behind the tag of each sub-record of a root, an instance or an array, and the bytes behind them.
+//! The fields of the sub-record of a root, an instance or an array, and the bytes after them.
 
 ghost use Rattle.std.specs.Prelude.{◌≡◌, ◌≤◌, [], take, IfSome, None};
 ghost use Rattle.hprof_values.specs.declared.ids.IdSize.{IdSize};
@@ -13,20 +13,20 @@ use hprof_items::Fact;
 use hprof_values::Number::{Four, Id, One};
 use hprof_values::{Basic, IdSize, Number, Root, SubTag};
 
-/// A sub-record's tag, the fields behind it, and the bytes behind them.
+/// The tag of a sub-record, the fields after it, and the bytes after them.
 #[derive(Clone, Copy)]
 pub(crate) struct SubFront<'a> {
     /// The tag.
     pub tag: SubTag,
-    /// The fields, and then some that are not there.
+    /// The fields, followed by unused ones.
     pub fields: [Number; 4],
-    /// The number of fields that are there.
+    /// The number of used fields.
     pub count: usize,
-    /// The bytes behind them.
+    /// The bytes after the fields.
     pub more: &'a [u8],
 }
 
-/// Returns the front of a root's sub-record, behind which no bytes stand.
+/// Returns the tag and the fields of a root's sub-record. No bytes follow them.
 #[inline(always)]
 fn root_front<'a>(root: Root) -> SubFront<'a>
     ensures few { result.count ≤ 4 }
@@ -60,8 +60,8 @@ fn root_front<'a>(root: Root) -> SubFront<'a>
     }
 }
 
-/// Returns the front of the fact's sub-record, or `None` if its elements have identifiers of another size, are too many for the field that
-/// counts them, are cut, or are of no type that elements have.
+/// Returns the tag, the fields and the bytes of a fact's sub-record, or `None` if it cannot be encoded: its elements have identifiers of
+/// another size, are too many for the field that counts them, are cut, or have a type that elements cannot have.
 #[inline(always)]
 pub(crate) fn sub_front<'a>(fact: &Fact<'a>, ids: IdSize) -> Option<SubFront<'a>>
     requires has { HasSubFront (value_of fact.now) }

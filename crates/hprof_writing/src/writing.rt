@@ -1,4 +1,4 @@
-//! Writing a header, a head or a fact.
+//! Writing a header, a record head or a fact.
 
 ghost use Rattle.std.specs.Prelude.{◌≡◌, ◌≤◌, ◌++◌, length, drop};
 ghost use Rattle.hprof_devices.specs.declared.health.Health.TheVariants.{Well};
@@ -22,7 +22,7 @@ fn version_text(version: Version) -> &'static [u8; 19]
     }
 }
 
-/// Puts the 31 bytes of the header at the front.
+/// Stores the 31 bytes of the header at the front of `out`.
 fn put_header(header: &Header, out: &mut [u8])
     requires { 31 ≤ length out.old }
     ensures { out.new ≡ header_bytes header.now ++ drop 31 out.old }
@@ -32,7 +32,7 @@ fn put_header(header: &Header, out: &mut [u8])
     BigEndian::write_u64(&mut out[SIZED_LEN..], header.millis);
 }
 
-/// Writes the 31 bytes of the header. At a fault some of them were written, from the front. Nothing is flushed.
+/// Writes the 31 bytes of the header. Does not flush. If this fails, a prefix of them was written.
 pub fn write_header<W: Target>(header: &Header, target: &mut W) -> Result<(), WriteFault>
     requires { W.health target.old ≡ Well }
     ensures bytes { Writes (W.written target.old) (W.written target.new) result (header_bytes header.now) }
@@ -43,7 +43,7 @@ pub fn write_header<W: Target>(header: &Header, target: &mut W) -> Result<(), Wr
     push_all(&bytes, target)
 }
 
-/// Puts a head with time 0 at the front.
+/// Stores a record head with time 0 at the front of `out`.
 fn put_head(tag: u8, len: u32, out: &mut [u8])
     requires { 9 ≤ length out.old }
     ensures { out.new ≡ head_bytes tag 0 len ++ drop 9 out.old }
@@ -53,8 +53,7 @@ fn put_head(tag: u8, len: u32, out: &mut [u8])
     BigEndian::write_u32(&mut out[5..], len);
 }
 
-/// Writes the nine bytes of a head with time 0. At a fault some of them were written, from the front. Nothing is
-/// flushed.
+/// Writes the nine bytes of a record head with time 0. Does not flush. If this fails, a prefix of them was written.
 pub fn write_head<W: Target>(tag: u8, len: u32, target: &mut W) -> Result<(), WriteFault>
     requires { W.health target.old ≡ Well }
     ensures bytes { Writes (W.written target.old) (W.written target.new) result (head_bytes tag 0 len) }

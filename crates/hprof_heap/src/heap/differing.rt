@@ -1,4 +1,4 @@
-//! The least key whose facts differ in two heaps.
+//! The least key whose facts differ between two heaps.
 
 ghost use Rattle.std.specs.Prelude.{◌≡◌, ◌++◌, None, Some};
 ghost use Rattle.hprof_rows.specs.declared.key.Key.{Key};
@@ -20,7 +20,7 @@ const KEYED: [Table; 7] = [
     Table::Objects,
 ];
 
-/// Returns the key of the facts under a number of a table.
+/// Returns the key of the facts with this number in a table.
 fn key_under(table: Table, number: u64) -> Option<Key>
     requires { IsNumberIn table number }
     ensures { result ≡ key_in table number }
@@ -38,7 +38,7 @@ fn key_under(table: Table, number: u64) -> Option<Key>
 }
 
 impl Heap {
-    /// Returns the least key under which both have facts that differ. The tables of both are gone over side by side, each once.
+    /// Returns the least key whose facts differ between two heaps. Walks over the tables of both once.
     pub(crate) fn first_difference(&self, other: &Heap) -> Option<Key>
         requires { (heap_of self.now).ids ≡ (heap_of other.now).ids }
         ensures none { result ≡ None → IsConsistent ((heap_of self.now).facts ++ (heap_of other.now).facts) }

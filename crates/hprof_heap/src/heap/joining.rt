@@ -26,7 +26,7 @@ const TABLES: [Table; 10] = [
 ];
 
 impl Heap {
-    /// Takes the facts of one table of another heap. If memory runs out, nothing changes.
+    /// Adds the facts of one table of another heap. If memory runs out, the facts are unchanged.
     fn join_table(&mut self, table: Table, other: &Heap) -> Result<(), AllocError>
         requires ids { (heap_of self.old).ids ≡ (heap_of other.now).ids }
         requires agree { IsConsistent ((heap_of self.old).facts ++ (heap_of other.now).facts) }
@@ -37,7 +37,7 @@ impl Heap {
         self.tables.join(table, &other.tables)
     }
 
-    /// Takes the facts of another heap, table by table. If memory runs out, it has some of them.
+    /// Adds the facts of another heap, table by table. If memory runs out, some of them have been added.
     fn join_tables(&mut self, other: &Heap) -> Result<(), AllocError>
         requires ids { (heap_of self.old).ids ≡ (heap_of other.now).ids }
         requires agree { IsConsistent ((heap_of self.old).facts ++ (heap_of other.now).facts) }
@@ -51,11 +51,11 @@ impl Heap {
         Ok(())
     }
 
-    /// Takes the facts of another heap, and the earlier of both times. A refusal is found before anything is taken: two sizes of
-    /// identifiers, or the least key with two contents. The tables of both are gone over side by side.
+    /// Adds the facts of another heap, and takes the earlier of both times. If the other heap has no new facts, nothing is allocated.
     ///
-    /// If memory runs out, the heap has some of the other's facts, and the same join can be made again. No memory is needed if it has all
-    /// of them.
+    /// - `IdSizes`: the heaps have two identifier sizes. The heap is unchanged.
+    /// - `Conflict`: the least key whose facts differ. The heap is unchanged.
+    /// - `OutOfMemory`: the heap has some of the other's facts, and the same join can be made again.
     pub fn join(&mut self, other: &Heap) -> Result<(), JoinRefusal>
         ensures { JoinsInto (heap_of self.old) (heap_of other.now) result (heap_of self.new) }
     {

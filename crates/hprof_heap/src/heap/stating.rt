@@ -1,4 +1,4 @@
-//! Stating facts into a heap.
+//! Adding facts to a heap.
 
 ghost use Rattle.std.specs.Prelude.{◌≡◌, OnErr, IfOk};
 ghost use Rattle.hprof_items.specs.FactValue.{ListsHave, value_of};
@@ -13,8 +13,8 @@ use hprof_tables::Stated;
 use std::alloc::AllocError;
 
 impl Heap {
-    /// States a fact; the bytes are those of the sub-record that spells it, if it is one of a heap dump. One that is there takes no memory.
-    /// If memory runs out, nothing changes.
+    /// Adds a fact. `bytes` is its sub-record, if a sub-record states it, and empty otherwise. If the fact is present, nothing is
+    /// allocated. If memory runs out, the heap is unchanged.
     #[inline(always)]
     pub(crate) fn state(&mut self, fact: &Fact<'_>, bytes: &[u8]) -> Result<Stated, AllocError>
         requires fits { Fits (heap_of self.old).ids (value_of fact.now) }

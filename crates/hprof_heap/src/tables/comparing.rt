@@ -1,4 +1,4 @@
-//! Comparing a table with that of others.
+//! Comparing a table with the same table of another heap.
 
 ghost use Rattle.hprof_heap.specs.Tables.{Differs, rows_in_tables};
 
@@ -6,7 +6,7 @@ use super::Tables;
 use hprof_rows::Table;
 
 impl Tables {
-    /// Returns the least key under which both have a row in a table, with different contents. Roots have no keys.
+    /// Returns the least key whose contents differ between two tables. Roots have no keys.
     pub(crate) fn first_difference(&self, table: Table, other: &Tables) -> Option<u64>
         ensures { Differs table (rows_in_tables self.now) (rows_in_tables other.now) result }
     {

@@ -1,4 +1,4 @@
-//! Joining a table with that of others.
+//! Joining a table with the same table of another heap.
 
 ghost use Rattle.hprof_rows.specs.EachTable.{JoinsTable};
 ghost use Rattle.hprof_heap.specs.Tables.{rows_in_tables};
@@ -8,7 +8,7 @@ use hprof_rows::Table;
 use std::alloc::AllocError;
 
 impl Tables {
-    /// Takes the rows of one table of others whose keys are new. If memory runs out, nothing changes.
+    /// Adds the rows of one table of another heap whose keys are new. If memory runs out, the rows are unchanged.
     pub(crate) fn join(&mut self, table: Table, other: &Tables) -> Result<(), AllocError>
         ensures { JoinsTable table (rows_in_tables self.old) (rows_in_tables other.now) result (rows_in_tables self.new) }
     {

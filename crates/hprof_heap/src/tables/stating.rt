@@ -1,4 +1,4 @@
-//! Stating facts into tables.
+//! Adding facts to tables.
 
 ghost use Rattle.std.specs.Prelude.{◌≡◌, [], ◌∷◌};
 ghost use Rattle.hprof_values.specs.Lists.{identifiers_of, identifiers_size};
@@ -21,7 +21,7 @@ use hprof_values::IdList;
 use std::alloc::AllocError;
 
 impl Tables {
-    /// States a stack. It is kept as the serial of its thread with the identifiers of its frames behind it.
+    /// Adds a stack trace. It is stored as the serial number of its thread, followed by the identifiers of its frames.
     fn state_trace(
         &mut self,
         serial: u32,
@@ -35,7 +35,7 @@ impl Tables {
             .state_four_apart(serial as u64, thread_bytes(thread), frames.bytes())
     }
 
-    /// States an instance or an array, which is spelled by these bytes. They are kept without the identifier.
+    /// Adds an instance or an array with these sub-record bytes. They are stored without the identifier.
     #[inline(always)]
     fn state_object(&mut self, id: u64, fact: &Fact<'_>, bytes: &[u8]) -> Result<Stated, AllocError>
         requires order { order_of (value_of fact.now) ≡ 9 ∷ id ∷ [] }
@@ -52,7 +52,7 @@ impl Tables {
         self.objects.state_apart(id, *tag, rest)
     }
 
-    /// States a fact as [`Tables::state`] does. Few facts are no objects, so this stands apart from the loop over the facts of a part.
+    /// Adds a fact as [`Tables::state`] does. It is not inlined into the loop over the facts of a part, since few facts are not objects.
     #[inline(never)]
     fn state_any(&mut self, fact: &Fact<'_>, bytes: &[u8]) -> Result<Stated, AllocError>
         requires fits { Fits self.old.ids (value_of fact.now) }
@@ -120,8 +120,8 @@ impl Tables {
         }
     }
 
-    /// States a fact; the bytes are those of the sub-record that spells it, if it is one of a heap dump. One that is there takes no memory.
-    /// If memory runs out, nothing changes.
+    /// Adds a fact. `bytes` is its sub-record, if a sub-record states it, and empty otherwise. If the fact is present, nothing is
+    /// allocated. If memory runs out, the tables are unchanged.
     #[inline(always)]
     pub(crate) fn state(&mut self, fact: &Fact<'_>, bytes: &[u8]) -> Result<Stated, AllocError>
         requires fits { Fits self.old.ids (value_of fact.now) }

@@ -1,4 +1,4 @@
-//! The search for an identifier among others.
+//! Searching a list of identifiers.
 
 ghost use Rattle.std.specs.Prelude.{◌≡◌, ◌%◌, ◌↔◌, length, Contains, IsTrue};
 ghost use Rattle.hprof_values.specs.Ids.{width_of};
@@ -7,7 +7,8 @@ ghost use Rattle.hprof_values.specs.Lists.{ids_in};
 use crate::ids::IdSize;
 use crate::number::id_at;
 
-/// Returns whether an identifier is among those that the bytes spell. All are compared with it, so that several are at once.
+/// Returns whether an identifier is among those that the bytes encode. All are compared, without an early exit, so that the loop can be
+/// vectorized.
 #[inline(always)]
 pub(super) fn is_among(bytes: &[u8], ids: IdSize, id: u64) -> bool
     requires { length bytes.now % width_of ids ≡ 0 }

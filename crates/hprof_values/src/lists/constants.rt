@@ -11,7 +11,7 @@ use crate::entry_span::EntrySpan;
 use crate::ids::IdSize;
 use crate::value::Constant;
 
-/// The constants of a class, over the bytes that spell them, without their count.
+/// The constants of a class, over their bytes, without the count.
 #[derive(Clone, Copy, Debug, PartialEq, Eq)]
 pub struct ConstantList<'a> {
     bytes: &'a [u8],
@@ -30,8 +30,8 @@ impl<'a> ConstantList<'a> {
     ghost use Rattle.hprof_values.specs.Value.{constant_of};
     ghost use Rattle.hprof_values.specs.Lists.{constants_of, constants_left, constants_size};
 
-    /// Returns the list that the bytes spell. The answer is `None` if an entry ends past them or has a type that stands for none, or if
-    /// there are more than 65,535 entries.
+    /// Returns the list that the bytes encode. Returns `None` if an entry ends past them or has an invalid type, or if there are more than
+    /// 65,535 entries.
     pub fn new(bytes: &'a [u8], ids: IdSize) -> Option<ConstantList<'a>>
         ensures found { IfSome result (λ list. IsEntryList ids EntryKind.Constant (constants_of list) bytes.now) }
         ensures size { IfSome result (λ list. constants_size list ≡ ids) }
@@ -46,7 +46,7 @@ impl<'a> ConstantList<'a> {
         })
     }
 
-    /// Returns the list that was read.
+    /// Returns the constants of a span that was read.
     pub fn of_span(span: EntrySpan<'a>, ids: IdSize) -> ConstantList<'a>
         requires { span.bytes.now ≡ entries_bytes ids kinds.Constant (entries_in ids kinds.Constant span.count span.bytes.now) }
         ensures entries { constants_of result ≡ entries_in ids kinds.Constant span.entry.count span.entry.bytes.now }
@@ -73,7 +73,7 @@ impl<'a> ConstantList<'a> {
         self.len == 0
     }
 
-    /// Returns the constant at that place, found by a walk over those before it.
+    /// Returns the constant at a place. Walks over those before it.
     pub fn get(&self, place: usize) -> Option<Constant>
         ensures { result ≡ option_map constant_of (slice_get (constants_of self.now) place) }
     {
@@ -87,14 +87,14 @@ impl<'a> ConstantList<'a> {
         Some(Constant::of(entry))
     }
 
-    /// Returns the bytes that spell the constants, without their count.
+    /// Returns the bytes of the constants, without the count.
     pub fn bytes(&self) -> &'a [u8]
         ensures spelled { IsEntryList (constants_size self.now) EntryKind.Constant (constants_of self.now) result.now }
     {
         self.bytes
     }
 
-    /// Returns the size of identifiers among the constants. They have a spelling under it.
+    /// Returns the size of the identifiers among the constants. The constants can be encoded with it.
     pub fn id_size(&self) -> IdSize
         ensures size { result ≡ constants_size self.now }
         ensures fits { ListFits result EntryKind.Constant (constants_of self.now) }
@@ -102,7 +102,7 @@ impl<'a> ConstantList<'a> {
         self.ids
     }
 
-    /// Returns the constants in their order, in one walk over the bytes.
+    /// Returns an iterator over the constants, in order. It walks over the bytes once.
     pub fn iter(&self) -> Constants<'a>
         ensures all { constants_left result ≡ constants_of self.now }
         ensures few { length (constants_of self.now) < 2 ^ 16 }

@@ -1,4 +1,4 @@
-//! The fields that the instances have of a class.
+//! The own instance fields of a class.
 
 ghost use Rattle.std.specs.Prelude.{◌≡◌, ◌<◌, ◌^◌};
 ghost use Rattle.hprof_values.specs.Ids.{IsBytes};
@@ -11,7 +11,7 @@ use crate::entry_span::EntrySpan;
 use crate::ids::IdSize;
 use crate::value::Field;
 
-/// The fields that the instances have of a class, over the bytes that spell them, without their count.
+/// The own instance fields of a class, over their bytes, without the count.
 #[derive(Clone, Copy, Debug, PartialEq, Eq)]
 pub struct FieldList<'a> {
     bytes: &'a [u8],
@@ -30,8 +30,8 @@ impl<'a> FieldList<'a> {
     ghost use Rattle.hprof_values.specs.Value.{field_of};
     ghost use Rattle.hprof_values.specs.Lists.{fields_of, fields_left, fields_size};
 
-    /// Returns the list that the bytes spell. The answer is `None` if an entry ends past them or has a type that stands for none, or if
-    /// there are more than 65,535 entries.
+    /// Returns the list that the bytes encode. Returns `None` if an entry ends past them or has an invalid type, or if there are more than
+    /// 65,535 entries.
     pub fn new(bytes: &'a [u8], ids: IdSize) -> Option<FieldList<'a>>
         ensures found { IfSome result (λ list. IsEntryList ids EntryKind.Field (fields_of list) bytes.now) }
         ensures size { IfSome result (λ list. fields_size list ≡ ids) }
@@ -46,7 +46,7 @@ impl<'a> FieldList<'a> {
         })
     }
 
-    /// Returns the list that was read.
+    /// Returns the fields of a span that was read.
     pub fn of_span(span: EntrySpan<'a>, ids: IdSize) -> FieldList<'a>
         requires { span.bytes.now ≡ entries_bytes ids kinds.Field (entries_in ids kinds.Field span.count span.bytes.now) }
         ensures entries { fields_of result ≡ entries_in ids kinds.Field span.entry.count span.entry.bytes.now }
@@ -73,7 +73,7 @@ impl<'a> FieldList<'a> {
         self.len == 0
     }
 
-    /// Returns the field at that place, found by a walk over those before it.
+    /// Returns the field at a place. Walks over those before it.
     pub fn get(&self, place: usize) -> Option<Field>
         ensures { result ≡ option_map field_of (slice_get (fields_of self.now) place) }
     {
@@ -87,14 +87,14 @@ impl<'a> FieldList<'a> {
         Some(Field::of(entry))
     }
 
-    /// Returns the bytes that spell the fields, without their count.
+    /// Returns the bytes of the fields, without the count.
     pub fn bytes(&self) -> &'a [u8]
         ensures spelled { IsEntryList (fields_size self.now) EntryKind.Field (fields_of self.now) result.now }
     {
         self.bytes
     }
 
-    /// Returns the size of identifiers among the fields. They have a spelling under it.
+    /// Returns the size of the identifiers among the fields. The fields can be encoded with it.
     pub fn id_size(&self) -> IdSize
         ensures size { result ≡ fields_size self.now }
         ensures fits { ListFits result EntryKind.Field (fields_of self.now) }
@@ -102,7 +102,7 @@ impl<'a> FieldList<'a> {
         self.ids
     }
 
-    /// Returns the fields of the instances in their order, in one walk over the bytes.
+    /// Returns an iterator over the fields, in order. It walks over the bytes once.
     pub fn iter(&self) -> OwnFields<'a>
         ensures all { fields_left result ≡ fields_of self.now }
         ensures few { length (fields_of self.now) < 2 ^ 16 }
@@ -115,7 +115,7 @@ impl<'a> FieldList<'a> {
     }
 }
 
-/// An iterator over the fields that the instances have of a class.
+/// An iterator over the own instance fields of a class.
 #[derive(Drop)]
 pub struct OwnFields<'a> {
     rest: &'a [u8],

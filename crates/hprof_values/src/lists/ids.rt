@@ -7,7 +7,7 @@ use super::among::is_among;
 use crate::ids::IdSize;
 use crate::number::id_at;
 
-/// Identifiers, over the bytes that spell them.
+/// A list of identifiers, over their bytes.
 #[derive(Clone, Copy, Debug, PartialEq, Eq)]
 pub struct IdList<'a> {
     bytes: &'a [u8],
@@ -22,7 +22,7 @@ impl<'a> IdList<'a> {
     ghost use Rattle.std.specs.Prelude.{◌↔◌, Contains, IsTrue, List, ℕ, [], slice_get, IfSome, IsSomeAnd};
     ghost use Rattle.hprof_values.specs.Lists.{IsIdList, ids_in, identifiers_of, identifiers_left, identifiers_size};
 
-    /// Returns the list that the bytes spell, or `None` if they end within an identifier.
+    /// Returns the list that the bytes encode, or `None` if they end within an identifier.
     pub fn new(bytes: &'a [u8], ids: IdSize) -> Option<IdList<'a>>
         ensures found { IfSome result (λ list. IsIdList ids (identifiers_of list) bytes.now) }
         ensures size { IfSome result (λ list. identifiers_size list ≡ ids) }
@@ -35,7 +35,7 @@ impl<'a> IdList<'a> {
         Some(IdList { bytes, ids })
     }
 
-    /// Returns the list that whole identifiers spell.
+    /// Returns the list that the bytes of whole identifiers encode.
     pub fn of_whole(bytes: &'a [u8], ids: IdSize) -> IdList<'a>
         requires { length bytes.now % width_of ids ≡ 0 }
         ensures identifiers { identifiers_of result ≡ ids_in ids bytes.now }
@@ -58,7 +58,7 @@ impl<'a> IdList<'a> {
         self.bytes.is_empty()
     }
 
-    /// Returns the identifier at that place.
+    /// Returns the identifier at a place.
     pub fn get(&self, place: usize) -> Option<u64>
         ensures { result ≡ slice_get (identifiers_of self.now) place }
     {
@@ -70,7 +70,7 @@ impl<'a> IdList<'a> {
         Some(id_at(rest, self.ids))
     }
 
-    /// Returns whether that identifier is in the list.
+    /// Returns whether the list contains an identifier.
     pub fn contains(&self, id: u64) -> bool
         ensures { IsTrue result ↔ Contains (identifiers_of self.now) id }
     {
@@ -80,7 +80,7 @@ impl<'a> IdList<'a> {
         }
     }
 
-    /// Returns the bytes that spell the identifiers.
+    /// Returns the bytes of the identifiers.
     pub fn bytes(&self) -> &'a [u8]
         ensures spelled { IsIdList (identifiers_size self.now) (identifiers_of self.now) result.now }
     {
@@ -94,7 +94,7 @@ impl<'a> IdList<'a> {
         self.ids
     }
 
-    /// Returns the identifiers in their order.
+    /// Returns an iterator over the identifiers, in order.
     pub fn iter(&self) -> Ids<'a>
         ensures all { identifiers_left result ≡ identifiers_of self.now }
         ensures few { length (identifiers_of self.now) < 2 ^ 64 }

@@ -11,7 +11,7 @@ use crate::entry_span::EntrySpan;
 use crate::ids::IdSize;
 use crate::value::Static;
 
-/// The static fields of a class, over the bytes that spell them, without their count.
+/// The static fields of a class, over their bytes, without the count.
 #[derive(Clone, Copy, Debug, PartialEq, Eq)]
 pub struct StaticList<'a> {
     bytes: &'a [u8],
@@ -30,8 +30,8 @@ impl<'a> StaticList<'a> {
     ghost use Rattle.hprof_values.specs.Value.{static_of};
     ghost use Rattle.hprof_values.specs.Lists.{statics_of, statics_left, statics_size};
 
-    /// Returns the list that the bytes spell. The answer is `None` if an entry ends past them or has a type that stands for none, or if
-    /// there are more than 65,535 entries.
+    /// Returns the list that the bytes encode. Returns `None` if an entry ends past them or has an invalid type, or if there are more than
+    /// 65,535 entries.
     pub fn new(bytes: &'a [u8], ids: IdSize) -> Option<StaticList<'a>>
         ensures found { IfSome result (λ list. IsEntryList ids EntryKind.Static (statics_of list) bytes.now) }
         ensures size { IfSome result (λ list. statics_size list ≡ ids) }
@@ -46,7 +46,7 @@ impl<'a> StaticList<'a> {
         })
     }
 
-    /// Returns the list that was read.
+    /// Returns the static fields of a span that was read.
     pub fn of_span(span: EntrySpan<'a>, ids: IdSize) -> StaticList<'a>
         requires { span.bytes.now ≡ entries_bytes ids kinds.Static (entries_in ids kinds.Static span.count span.bytes.now) }
         ensures entries { statics_of result ≡ entries_in ids kinds.Static span.entry.count span.entry.bytes.now }
@@ -73,7 +73,7 @@ impl<'a> StaticList<'a> {
         self.len == 0
     }
 
-    /// Returns the static field at that place, found by a walk over those before it.
+    /// Returns the static field at a place. Walks over those before it.
     pub fn get(&self, place: usize) -> Option<Static>
         ensures { result ≡ option_map static_of (slice_get (statics_of self.now) place) }
     {
@@ -87,14 +87,14 @@ impl<'a> StaticList<'a> {
         Some(Static::of(entry))
     }
 
-    /// Returns the bytes that spell the static fields, without their count.
+    /// Returns the bytes of the static fields, without the count.
     pub fn bytes(&self) -> &'a [u8]
         ensures spelled { IsEntryList (statics_size self.now) EntryKind.Static (statics_of self.now) result.now }
     {
         self.bytes
     }
 
-    /// Returns the size of identifiers among the static fields. They have a spelling under it.
+    /// Returns the size of the identifiers among the static fields. The static fields can be encoded with it.
     pub fn id_size(&self) -> IdSize
         ensures size { result ≡ statics_size self.now }
         ensures fits { ListFits result EntryKind.Static (statics_of self.now) }
@@ -102,7 +102,7 @@ impl<'a> StaticList<'a> {
         self.ids
     }
 
-    /// Returns the static fields in their order, in one walk over the bytes.
+    /// Returns an iterator over the static fields, in order. It walks over the bytes once.
     pub fn iter(&self) -> Statics<'a>
         ensures all { statics_left result ≡ statics_of self.now }
         ensures few { length (statics_of self.now) < 2 ^ 16 }
