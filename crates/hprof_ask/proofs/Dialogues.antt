@@ -55,7 +55,7 @@ module _ (IsAnswer : Question → List ℕ → Type 0) {Q W : Type 0} (left : Q 
 
     -- so more may be read
     pub may_read_on : (flushed : W → Type 0) (may_read : Q → W → Type 0)
-        → LetsReadOn IsAnswer left written flushed may_read was before → flushed mid → may_read is mid
+        → LetsReadOn IsAnswer left written flushed may_read was (written before) → flushed mid → may_read is mid
     may_read_on flushed may_read leave all = leave so_far.bytes is mid so_far.consumed
         (heard_ended IsAnswer so_far.bytes (written before) (written mid) kept so_far.holds) all
 

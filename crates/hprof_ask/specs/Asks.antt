@@ -102,9 +102,10 @@ pub record Asks {R Q W : Type 0} (left : R → Option (List ℕ)) (health : R �
       → IsAnsweredOrConflict ended
 
 -- the leave to read questions on, over the heap that the parts state and over their summaries
+--   start: what the writer held before
 abbrev pub LetsAsk : {R Q W : Type 0} → (left : R → Option (List ℕ)) → (asked : Q → Option (List ℕ)) → (written : W → Option (List ℕ))
-    → (flushed : W → Type 0) → (may_read : Q → W → Type 0) → List R → Q → W → Type 0
-LetsAsk left asked written flushed may_read readers was before = (heap : HeapValue) (summaries : List PartSummary)
+    → (flushed : W → Type 0) → (may_read : Q → W → Type 0) → List R → Q → (start : Option (List ℕ)) → Type 0
+LetsAsk left asked written flushed may_read readers was start = (heap : HeapValue) (summaries : List PartSummary)
     → ((parts : List (List ℕ)) → Tell left readers parts → Agree parts heap.ids heap.millis heap.facts)
     → ((parts : List (List ℕ)) → Tell left readers parts → AreSummaries parts summaries)
-    → LetsReadOn (IsHeapAnswer summaries heap.ids heap.facts) asked written flushed may_read was before
+    → LetsReadOn (IsHeapAnswer summaries heap.ids heap.facts) asked written flushed may_read was start

@@ -84,9 +84,10 @@ module _ (IsAnswer : Question → List ℕ → Type 0) where
     EndsDialogue (Err stops.OutOfMemory) = Came (AnswersSome (IsAtEnd (left is))) × (asking is ≡ healths.Well) × (well after ≡ healths.Well)
 
   -- the leave to read on: all lines that ended in what came are answered, and all answers were flushed
-  --   flushed: nothing of what was written is held back;  may_read: the source may be read while the writer is that
+  --   start: what the writer held before;  flushed: nothing of what was written is held back
+  --   may_read: the source may be read on while that is the writer
   module _ {Q W : Type 0} (left : Q → Option (List ℕ)) (written : W → Option (List ℕ)) (flushed : W → Type 0)
-      (may_read : Q → W → Type 0) (was : Q) (before : W) where
+      (may_read : Q → W → Type 0) (was : Q) (start : Option (List ℕ)) where
     abbrev pub LetsReadOn : Type 0
     LetsReadOn = (bytes : List ℕ) (is : Q) (after : W) → Consumes (left was) (left is) bytes
-        → AnswersLines AreEndedLines bytes (written before) (written after) → flushed after → may_read is after
+        → AnswersLines AreEndedLines bytes start (written after) → flushed after → may_read is after

@@ -182,7 +182,7 @@ fn take_lines<A: Answers, Q: Asker<W>, W: Flush>(
     requires asking { Q.health questions.old ≡ Well }
     requires well { W.health target.old ≡ Well }
     requires kept { A.keeps answers.now kept.old }
-    requires leave { LetsReadOn (A.is_answer answers.now) Q.left W.written W.flushed Q.may_read questions.old target.old }
+    requires leave { LetsReadOn (A.is_answer answers.now) Q.left W.written W.flushed Q.may_read questions.old (W.written target.old) }
     requires some { 0 < length piece.old }
     requires empty { line.old.items ≡ [] }
     requires room { KEPT ≤ vec_capacity line.old }
@@ -226,7 +226,7 @@ pub fn converse<A: Answers, Q: Asker<W>, W: Flush>(
     requires well { W.health target.old ≡ Well }
     requires kept { A.keeps answers.now kept.old }
     // No more is read before all lines that ended are answered, and the answers were flushed.
-    requires leave { LetsReadOn (A.is_answer answers.now) Q.left W.written W.flushed Q.may_read questions.old target.old }
+    requires leave { LetsReadOn (A.is_answer answers.now) Q.left W.written W.flushed Q.may_read questions.old (W.written target.old) }
     ensures dialogue { EndsDialogue (A.is_answer answers.now) Q.left Q.health Q.pulls W.written W.health
         questions.old questions.new target.old target.new result }
     ensures flushed { PassesOn result (W.flushed target.new) }

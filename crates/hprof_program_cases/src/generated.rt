@@ -7,8 +7,8 @@ use hprof_devices::Device;
 use hprof_engine::{Joined, join_to};
 use hprof_fixtures::{END, HEADER, NAME_1_A, bytes_of};
 use hprof_heap::Gatherer;
-use hprof_reports::check_to;
 use hprof_stream::Limits;
+use hprof_tool::check_to;
 use std::alloc::{AllocError, Global};
 use std::test::Fail;
 

@@ -3,7 +3,7 @@
 use crate::expecting::{equal, equal_bytes};
 use crate::samples::readers_of;
 use hprof_devices::Device;
-use hprof_engine::{Joined, join_kept, join101_kept, read_heap, salvage_kept};
+use hprof_engine::{Joined, NoSummaries, join_kept, join101_kept, read_heap, salvage_kept};
 use hprof_fixtures::{HEADER, PLAIN, PLAIN_101, PLAIN_DUMP, bytes_of};
 use hprof_heap::{Gatherer, Heap};
 use hprof_naming::{ClassNames, class_label, label_of, name_text};
@@ -78,7 +78,14 @@ fn names_of_all_classes(rt: HostRuntime) -> Result<(), Fail> {
     let part = bytes_of(rt.alloc(), &[HEADER, LOADED])?;
     let mut readers = readers_of(rt.alloc(), &[&part])?;
     let gatherer = Gatherer::new(rt.alloc());
-    let Ok(heap) = read_heap(rt.alloc(), &mut readers, Limits::usual(), gatherer, &mut ()) else {
+    let Ok(heap) = read_heap(
+        rt.alloc(),
+        &mut readers,
+        Limits::usual(),
+        gatherer,
+        &NoSummaries,
+        &mut (),
+    ) else {
         return Err("the part was refused".into());
     };
     let names = ClassNames::of(rt.alloc(), &heap)?;

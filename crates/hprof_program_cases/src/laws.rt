@@ -1,9 +1,9 @@
 //! The laws of the engine and the reports.
 
+use hprof_ask::{Report, laws as ask_laws};
 use hprof_dump::laws as dump101_laws;
 use hprof_engine::{Dump, Dump101};
 use hprof_naming::laws as naming_laws;
-use hprof_reports::Check;
 use hprof_tool::laws;
 
 /// Calls each law of the engine, of the reports, of salvage, of names and of the 1.0.1 dump.
@@ -19,11 +19,14 @@ pub fn call_laws() {
     laws::what_is_saved_comes_to_one_thing();
     laws::what_is_saved_stands_before_the_fault();
     laws::one_text_is_made_of_parts(&Dump);
-    laws::one_text_is_made_of_parts(&Check);
+    laws::one_text_is_made_of_parts(&Report::Check);
     laws::one_text_is_made_of_parts(&Dump101);
     laws::what_comes_to_the_same_is_made_into_the_same(&Dump);
     laws::what_comes_to_the_same_is_made_into_the_same(&Dump101);
     dump101_laws::dump101_reads_back();
     dump101_laws::equal_dumps101_equal_facts();
     naming_laws::one_naming();
+    ask_laws::a_report_is_one_text();
+    ask_laws::a_line_asks_one_thing();
+    ask_laws::answers_over_parts_are_one_text();
 }

@@ -4,7 +4,7 @@ use crate::expecting::equal_at;
 use crate::samples::readers_of;
 use hprof_devices::Device;
 use hprof_dump::{DumpFault, write_v101};
-use hprof_engine::read_heap;
+use hprof_engine::{NoSummaries, read_heap};
 use hprof_fixtures::{HEADER, NAME_1_A, PLAIN, PLAIN_101, bytes_of, record};
 use hprof_heap::{Gatherer, Heap};
 use hprof_stream::Limits;
@@ -29,7 +29,14 @@ const WIDE_LOCAL: &[u8] = b"\x02\0\0\0\0\0\0\0\x07\0\0\0\x01\xff\xff\xff\xff";
 fn heap_of(alloc: Global, part: &[u8]) -> Result<Heap, Fail> {
     let mut readers = readers_of(alloc, &[part])?;
     let gatherer = Gatherer::new(alloc);
-    match read_heap(alloc, &mut readers, Limits::usual(), gatherer, &mut ()) {
+    match read_heap(
+        alloc,
+        &mut readers,
+        Limits::usual(),
+        gatherer,
+        &NoSummaries,
+        &mut (),
+    ) {
         Ok(heap) => Ok(heap),
         Err(fault) => Err(Fail::from(fault.text(alloc)?)),
     }

@@ -5,11 +5,11 @@ ghost use Rattle.std.specs.Prelude.{⊤};
 use crate::expecting::equal;
 use crate::samples::readers_of;
 use hprof_devices::{Device, Target};
-use hprof_engine::{Product, ToolFault, WriteStop, make_to};
+use hprof_engine::{Product, Summaries, ToolFault, WriteStop, make_to};
 use hprof_fixtures::HEADER;
-use hprof_heap::{Gatherer, Heap};
-use hprof_stream::Limits;
-use std::alloc::Global;
+use hprof_heap::Heap;
+use hprof_stream::{Limits, PartSummary};
+use std::alloc::{AllocError, Global};
 use std::process::Abort;
 use std::test::Fail;
 
@@ -17,6 +17,24 @@ use std::test::Fail;
 #[derive(Clone, Copy)]
 struct Stopped {
     stop: WriteStop,
+}
+
+impl Summaries for Stopped {
+    ghost has_room = { λ product kept more. ⊤ };
+
+    ghost holds = { λ product kept summaries. ⊤ };
+
+    ghost takes_room = { λ product parts. ⊥ };
+
+    type Kept = ();
+
+    fn with_room(&self, _alloc: Global, _parts: usize) -> Result<(), AllocError> {
+        Ok(())
+    }
+
+    fn keep(&self, _kept: &mut (), _summary: PartSummary) {}
+
+    ghost no_room = { λ product takes. takes };
 }
 
 impl Product for Stopped {
@@ -28,16 +46,6 @@ impl Product for Stopped {
     ghost is_too_long = { λ product heap. ⊤ };
 
     ghost takes_memory = { λ product. ⊤ };
-
-    ghost asks = { λ product id. ⊥ };
-
-    type Kept = ();
-
-    type Gatherer = Gatherer;
-
-    fn gatherer(&self, alloc: Global) -> Gatherer {
-        Gatherer::new(alloc)
-    }
 
     fn write<W: Target>(
         &self,

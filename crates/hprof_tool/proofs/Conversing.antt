@@ -18,19 +18,22 @@ use Rattle.hprof_ask.specs.declared.ask_fault.AskFault.TheVariants as faults
 use Rattle.hprof_ask.specs.HeapAnswers.{IsHeapAnswer}
 use Rattle.hprof_ask.specs.Asks.{Asks, PassesAnswersOn}
 use Rattle.hprof_ask.specs.Asks as asking
+use Rattle.hprof_ask.proofs.Hearing.{some_for}
 use Rattle.hprof_tool.specs.declared.program.refused.Refused.{Refused}
 use Rattle.hprof_tool.specs.declared.program.refused.Refused.TheVariants as refusals
 use Rattle.hprof_tool.specs.Folder.{Answered, AreOpened}
 use Rattle.hprof_tool.specs.Program.{IsOfOpening, IsReportRefusal, usual_limits}
 use Rattle.hprof_tool.specs.Conversing.{AnswersAll, LeavesAnswers, OfFront, OverFiles, OverReaders, SaysOfReaders, refused_asking}
+use Rattle.hprof_tool.proofs.Files.{of_reporting}
 use Rattle.hprof_tool.proofs.Making.{no_parts_told, none_added, part_refusal}
 
--- what came of known questions is a front of them
+-- what came of known questions is a front of them, and the rest is what is left
 front_of : (old new : Option (List ℕ)) (questions bytes : List ℕ) → old ≡ Some questions → Consumes old new bytes
-    → (rest : List ℕ) × (questions ≡ bytes ++ rest)
+    → (rest : List ℕ) × (questions ≡ bytes ++ rest) × (IsAtEnd new → rest ≡ [])
 front_of None new questions bytes known came = absurd cc
 front_of (Some all) None questions bytes known came = absurd came
-front_of (Some all) (Some rest) questions bytes known came = (rest, let same : questions ≡ all = cc in same ∙ came)
+front_of (Some all) (Some rest) questions bytes known came =
+    (rest, let same : questions ≡ all = cc in same ∙ came, λ none. none)
 
 -- and all of them where none is left
 all_of : (old new : Option (List ℕ)) (questions bytes : List ℕ) → old ≡ Some questions → Consumes old new bytes → IsAtEnd new
@@ -49,16 +52,19 @@ module _ {R Q W O : Type 0} (left : R → Option (List ℕ)) (health : R → Hea
   abbrev Over : ((Question → List ℕ → Type 0) → List ℕ → Type 0) → Type 0
   Over = OverReaders left asked readers was
 
-  -- what holds of a front of the questions, of what the writer held and holds
-  abbrev Fronts : (Holds : (Question → List ℕ → Type 0) → List ℕ → Option (List ℕ) → Option (List ℕ) → Type 0)
+  -- what holds of a front of the questions and of the rest, of what the writer held and holds
+  abbrev Fronts : (Holds : (Question → List ℕ → Type 0) → (front rest : List ℕ) → Option (List ℕ) → Option (List ℕ) → Type 0)
       → (start now : Option (List ℕ)) → Type 0
-  Fronts Holds start now = Over (λ IsAnswer questions. OfFront questions (λ bytes. Holds IsAnswer bytes start now))
+  Fronts Holds start now = Over (λ IsAnswer questions. OfFront questions (λ front rest. Holds IsAnswer front rest start now))
 
   -- what came is a front of the questions
-  fronts : (Holds : (Question → List ℕ → Type 0) → List ℕ → Option (List ℕ) → Option (List ℕ) → Type 0)
-      → asking.OverParts left readers (λ IsAnswer. Came IsAnswer asked how turns written well was is before after (Holds IsAnswer))
+  fronts : (Comes : (Question → List ℕ → Type 0) → List ℕ → Option (List ℕ) → Option (List ℕ) → Type 0)
+      (Holds : (Question → List ℕ → Type 0) → (front rest : List ℕ) → Option (List ℕ) → Option (List ℕ) → Type 0)
+      → ((IsAnswer : Question → List ℕ → Type 0) (front rest : List ℕ) (start now : Option (List ℕ)) → (IsAtEnd (asked is) → rest ≡ [])
+      → Comes IsAnswer front start now → Holds IsAnswer front rest start now)
+      → asking.OverParts left readers (λ IsAnswer. Came IsAnswer asked how turns written well was is before after (Comes IsAnswer))
       → Fronts Holds (written before) (written after)
-  fronts Holds over = λ parts told questions known.
+  fronts Comes Holds holds over = λ parts told questions known.
       let came = over.holds in
       let front = front_of (asked was) (asked is) questions came.bytes known came.consumed in
       record {
@@ -66,11 +72,33 @@ module _ {R Q W O : Type 0} (left : R → Option (List ℕ)) (health : R → Hea
         agree = over.agree parts told;
         summaries = over.summaries;
         of_parts = over.of_parts parts told;
-        holds = record { front = came.bytes; rest = front.0; is = front.1; holds = came.holds };
+        holds = record {
+          front = came.bytes;
+          rest = front.0;
+          is = front.1;
+          holds = holds (IsHeapAnswer over.summaries over.heap.ids over.heap.facts) came.bytes front.0 (written before) (written after)
+              front.2 came.holds;
+        };
       }
 
+  -- lines that ended are answered, and some answers were written
+  abbrev Ended : (Question → List ℕ → Type 0) → (front rest : List ℕ) → Option (List ℕ) → Option (List ℕ) → Type 0
+  Ended IsAnswer front rest start now = AnswersLines IsAnswer AreEndedLines front start now
+
+  abbrev First : (Question → List ℕ → Type 0) → (front rest : List ℕ) → Option (List ℕ) → Option (List ℕ) → Type 0
+  First IsAnswer front rest start now = AnswersSome IsAnswer (rest ≡ []) front start now
+
+  ended_fronts : asking.OverParts left readers (λ IsAnswer. Came IsAnswer asked how turns written well was is before after
+      (AnswersLines IsAnswer AreEndedLines)) → Fronts Ended (written before) (written after)
+  ended_fronts = fronts (λ IsAnswer. AnswersLines IsAnswer AreEndedLines) Ended (λ IsAnswer front rest start now end holds. holds)
+
+  first_fronts : asking.OverParts left readers (λ IsAnswer. Came IsAnswer asked how turns written well was is before after
+      (AnswersSome IsAnswer (IsAtEnd (asked is)))) → Fronts First (written before) (written after)
+  first_fronts = fronts (λ IsAnswer. AnswersSome IsAnswer (IsAtEnd (asked is))) First
+      (λ IsAnswer front rest start now end holds. some_for IsAnswer (IsAtEnd (asked is)) (rest ≡ []) end front start now holds)
+
   -- the same of the stream that was there at first, and is at last
-  of_streams : (Holds : (Question → List ℕ → Type 0) → List ℕ → Option (List ℕ) → Option (List ℕ) → Type 0)
+  of_streams : (Holds : (Question → List ℕ → Type 0) → (front rest : List ℕ) → Option (List ℕ) → Option (List ℕ) → Type 0)
       → (start now start' now' : Option (List ℕ)) → start ≡ start' → now ≡ now' → Fronts Holds start now → Fronts Holds start' now'
   of_streams Holds start now start' now' same_start same_now holds =
       subst (Fronts Holds start') same_now (subst (λ (s : Option (List ℕ)). Fronts Holds s now) same_start holds)
@@ -128,12 +156,12 @@ module _ {R Q W O : Type 0} (left : R → Option (List ℕ)) (health : R → Hea
         | inr none ↦ subst (λ (f : ToolFault). LeavesAnswers contents first Over (SaysOfReaders left readers)
             (refused_asking (faults.Parts f)) (Some last)) (sym none.0) (inl (same (a.refused fault refl).1))
       ]
-      stopped (faults.Dialogue (stops.Questions fault)) none a = of_streams (λ IsAnswer. AnswersLines IsAnswer AreEndedLines) _ _ _ _
-          at_first (none_left none) (fronts _ (a.questions fault refl).0)
+      stopped (faults.Dialogue (stops.Questions fault)) none a =
+          of_streams Ended _ _ _ _ at_first (none_left none) (ended_fronts (a.questions fault refl).0)
       stopped (faults.Dialogue (stops.Write fault)) passes a =
-          (unwritten, of_streams (λ IsAnswer. AnswersSome IsAnswer) _ _ _ _ at_first at_last (fronts _ (a.write fault refl).0))
+          (unwritten, of_streams First _ _ _ _ at_first at_last (first_fronts (a.write fault refl).0))
       stopped (faults.Dialogue stops.OutOfMemory) none a =
-          inr (of_streams (λ IsAnswer. AnswersSome IsAnswer) _ _ _ _ at_first (none_left none) (fronts _ (a.memory refl).0))
+          inr (of_streams First _ _ _ _ at_first (none_left none) (first_fronts (a.memory refl).0))
 
 -- ---- of files
 
@@ -154,28 +182,44 @@ module _ {F I Q O : Type 0} (answered : Answered F) (tells : F → Option (List 
   abbrev Says : Refused → Type 0
   Says = SaysOfReaders (λ part. tells (inner_of part)) parts
 
-  pub refuses_files : (refused : Refused) (new : Option O) → LeavesAnswers contents old OfReaders Says refused new
-      → LeavesAnswers contents old OfFiles (IsReportRefusal dump_making answered tells names) refused new
-  refuses_files refusals.Questions (Some new) leaves = over_files _ leaves
-  refuses_files refusals.Questions None leaves = leaves
-  refuses_files (refusals.Engine (tool.Write fault)) (Some new) leaves = (leaves.0, over_files _ leaves.1)
-  refuses_files (refusals.Engine (tool.Write fault)) None leaves = leaves
-  refuses_files refusals.OutOfMemory (Some new) leaves = elim leaves [
+  pub says_files : (refused : Refused) → Says refused → IsReportRefusal dump_making answered tells names refused
+  says_files refused says = of_reporting dump_making answered tells names parts opened refused says.0 says.1
+
+-- what a refusal leaves, where what holds of the answers holds over something else, too
+module _ {O : Type 0} (contents : O → Option (List ℕ)) (old : O) (From To : ((Question → List ℕ → Type 0) → List ℕ → Type 0) → Type 0)
+    (over : (Holds : (Question → List ℕ → Type 0) → List ℕ → Type 0) → From Holds → To Holds) (Says Tells : Refused → Type 0)
+    (says : (refused : Refused) → Says refused → Tells refused) where
+  pub leaves_over : (refused : Refused) (new : Option O) → LeavesAnswers contents old From Says refused new
+      → LeavesAnswers contents old To Tells refused new
+  leaves_over refusals.Questions (Some new) leaves = over _ leaves
+  leaves_over refusals.Questions None leaves = leaves
+  leaves_over (refusals.Engine (tool.Write fault)) (Some new) leaves = (leaves.0, over _ leaves.1)
+  leaves_over (refusals.Engine (tool.Write fault)) None leaves = leaves
+  leaves_over refusals.OutOfMemory (Some new) leaves = elim leaves [
     | inl none ↦ inl none
-    | inr some ↦ inr (over_files _ some)
+    | inr some ↦ inr (over _ some)
   ]
-  refuses_files refusals.OutOfMemory None leaves = tt
-  refuses_files (refusals.Engine (tool.Part index fault)) new leaves =
-      (record { parts = parts; opened = opened; holds = leaves.0.1 }, leaves.1)
-  refuses_files (refusals.Engine tool.NoParts) new leaves = (record { parts = parts; opened = opened; holds = leaves.0.1 }, leaves.1)
-  refuses_files (refusals.Engine tool.IdSizes) new leaves = (record { parts = parts; opened = opened; holds = leaves.0.1 }, leaves.1)
-  refuses_files (refusals.Engine (tool.Conflict key)) new leaves =
-      (record { parts = parts; opened = opened; holds = leaves.0.1 }, leaves.1)
-  refuses_files (refusals.Engine tool.DumpTooLong) new leaves = leaves
-  refuses_files (refusals.Engine tool.OutOfMemory) new leaves = leaves
-  refuses_files (refusals.Dump place fault) new leaves = leaves
-  refuses_files (refusals.Open index) new leaves = absurd leaves.0.0
-  refuses_files refusals.Create new leaves = leaves
+  leaves_over refusals.OutOfMemory None leaves = tt
+  leaves_over (refusals.Engine (tool.Part index fault)) new leaves = (says (refusals.Engine (tool.Part index fault)) leaves.0, leaves.1)
+  leaves_over (refusals.Engine tool.NoParts) new leaves = (says (refusals.Engine tool.NoParts) leaves.0, leaves.1)
+  leaves_over (refusals.Engine tool.IdSizes) new leaves = (says (refusals.Engine tool.IdSizes) leaves.0, leaves.1)
+  leaves_over (refusals.Engine (tool.Conflict key)) new leaves = (says (refusals.Engine (tool.Conflict key)) leaves.0, leaves.1)
+  leaves_over (refusals.Engine tool.DumpTooLong) new leaves = leaves
+  leaves_over (refusals.Engine tool.OutOfMemory) new leaves = leaves
+  leaves_over (refusals.Dump place fault) new leaves = leaves
+  leaves_over (refusals.Open index) new leaves = (says (refusals.Open index) leaves.0, leaves.1)
+  leaves_over refusals.Create new leaves = leaves
+
+-- the same questions, which another source gives
+module _ {F I Q O : Type 0} (answered : Answered F) (tells : F → Option (List ℕ)) (left : I → Option (List ℕ)) (asked : Q → Option (List ℕ))
+    (contents : O → Option (List ℕ)) (names : List (Bor (List ℕ))) (input : I) (source : Q) (old : O) (same : asked source ≡ left input) where
+  pub same_questions : (Holds : (Question → List ℕ → Type 0) → List ℕ → Type 0)
+      → OverFiles answered tells asked contents names source old Holds → OverFiles answered tells left contents names input old Holds
+  same_questions Holds over = record {
+    parts = over.parts;
+    opened = over.opened;
+    holds = λ told tell questions known. over.holds told tell questions (same ∙ known);
+  }
 
 -- where a part cannot be opened, the stream is as it was
 pub cannot_ask : {F O : Type 0} (answered : Answered F) (tells : F → Option (List ℕ)) (contents : O → Option (List ℕ))

@@ -1,7 +1,12 @@
 -- What answering questions about the heap of files comes to.
-use Rattle.std.specs.Prelude.{◌≡◌, ◌⊎◌, ◌++◌, ℕ, List, Option, Some, None, ⊤}
+use Rattle.std.specs.Prelude.{◌≡◌, ◌⊎◌, ◌++◌, ℕ, ◌-◌, ◌^◌, ◌≤◌, List, [], Option, Some, None, ⊤}
 use Rattle.std.specs.Borrow.{Bor}
 use Rattle.std.specs.Io.KnownBytes.{append_known}
+use Rattle.std.specs.Io.Buffered.{writer_buffer}
+use Rattle.hprof_devices.specs.Buffered.{buffered_of}
+use Rattle.hprof_devices.specs.declared.buffered.BufferedDevice.{BufferedDevice}
+use Rattle.hprof_devices.specs.declared.health.Health.{Health}
+use Rattle.hprof_devices.specs.declared.health.Health.TheVariants as healths
 use Rattle.hprof_stream.specs.declared.summary.PartSummary.{PartSummary}
 use Rattle.hprof_rows.specs.HeapValue.{HeapValue}
 use Rattle.hprof_engine.specs.declared.tool_fault.ToolFault.TheVariants as tool
@@ -28,6 +33,14 @@ refused_asking (faults.Dialogue (stops.Questions fault)) = refusals.Questions
 refused_asking (faults.Dialogue (stops.Write fault)) = refusals.Engine (tool.Write fault)
 refused_asking (faults.Dialogue stops.OutOfMemory) = refusals.OutOfMemory
 
+-- nothing is held back in the buffer before a stream
+abbrev pub is_flushed : {W : Type 0} → BufferedDevice W → Type 0
+is_flushed device = writer_buffer (buffered_of device) ≡ []
+
+-- the source of questions failed, or was pulled as often as can be counted
+abbrev pub CannotReadOn : {Q : Type 0} → (Q → Health) → (Q → ℕ) → Q → Type 0
+CannotReadOn health pulls source = (health source ≡ healths.Failed) ⊎ (2 ^ 64 - 1 ≤ pulls source)
+
 -- the parts agree, and that holds of the answers over the heap that they state and over their summaries
 pub record OverParts (Holds : (Question → List ℕ → Type 0) → Type 0) (parts : List (List ℕ)) : Type 0 where
   pub heap : HeapValue
@@ -36,12 +49,12 @@ pub record OverParts (Holds : (Question → List ℕ → Type 0) → Type 0) (pa
   pub of_parts : AreSummaries parts summaries
   pub holds : Holds (IsHeapAnswer summaries heap.ids heap.facts)
 
--- a front of the questions, of which that holds
-pub record OfFront (questions : List ℕ) (Holds : List ℕ → Type 0) : Type 0 where
+-- a front of the questions, and the rest of them, of which that holds
+pub record OfFront (questions : List ℕ) (Holds : (front rest : List ℕ) → Type 0) : Type 0 where
   pub front : List ℕ
   pub rest : List ℕ
   pub is : questions ≡ front ++ rest
-  pub holds : Holds front
+  pub holds : Holds front rest
 
 -- what is written of the answers
 --   contents, old: what a stream tells that it holds, and the stream before
@@ -53,11 +66,12 @@ module _ {O : Type 0} (contents : O → Option (List ℕ)) (old : O) (Over : ((Q
 
   -- the answers to the lines that had ended were written, when the questions could not be read on
   abbrev pub AnswersEnded : (holds : Option (List ℕ)) → Type 0
-  AnswersEnded holds = Over (λ IsAnswer questions. OfFront questions (λ bytes. AnswersLines IsAnswer AreEndedLines bytes (contents old) holds))
+  AnswersEnded holds = Over (λ IsAnswer questions. OfFront questions (λ front rest. AnswersLines IsAnswer AreEndedLines front (contents old) holds))
 
   -- the answers to the lines that were taken were written, to the last of them a front
   abbrev pub AnswersFirst : (holds : Option (List ℕ)) → Type 0
-  AnswersFirst holds = Over (λ IsAnswer questions. OfFront questions (λ bytes. AnswersSome IsAnswer bytes (contents old) holds))
+  AnswersFirst holds = Over (λ IsAnswer questions. OfFront questions
+      (λ front rest. AnswersSome IsAnswer (rest ≡ []) front (contents old) holds))
 
   -- what a refusal says, and leaves of the stream: behind what it held stand those answers, and if it failed all but some bytes at the end
   --   Says: what it says of the parts

@@ -9,3 +9,4 @@ pub mod Comparing
 pub mod Tasks
 pub mod Telling
 pub mod Words
+pub mod Commands

@@ -1,17 +1,12 @@
 -- What a task comes to.
-use Rattle.std.specs.Prelude.{◌≡◌, ◌≢◌, ℕ, List, Option, Some, codes}
+use Rattle.std.specs.Prelude.{◌≡◌, ℕ, List, Option, Some}
 use Rattle.std.specs.Io.KnownBytes.{Appends}
-use Rattle.hprof_text.specs.Identifier.{IsIdText, id_value}
 use Rattle.hprof_engine.specs.Makes.{IsDump, IsMadeOf}
-use Rattle.hprof_reports.specs.Checking.{IsCheckText, check_making}
-use Rattle.hprof_reports.specs.HistogramReporting.{IsHistogramReport, histogram_making}
-use Rattle.hprof_histogram.specs.declared.row.Kind.{Kind}
-use Rattle.hprof_ask.specs.Asked.{NamesKind}
-use Rattle.hprof_reports.specs.ClassesText.{IsClassesReport, classes_making}
-use Rattle.hprof_reports.specs.ObjectsText.{IsObjectsReport, objects_making}
+use Rattle.hprof_ask.specs.declared.report.Report.{Report}
+use Rattle.hprof_ask.specs.declared.subject.Misnamed.{Misnamed}
+use Rattle.hprof_ask.specs.Asked.{AsksReport, IsMisnamed}
+use Rattle.hprof_ask.specs.Report.{IsReportText, report_making}
 use Rattle.hprof_engine.specs.declared.salvaged.Salvaged.{Salvaged}
-use Rattle.hprof_tool.specs.declared.command.NewFile.TheVariants as files
-use Rattle.hprof_tool.specs.declared.command.Question.TheVariants as questions
 use Rattle.hprof_tool.specs.declared.command.Task.{Task}
 use Rattle.hprof_tool.specs.declared.command.Task.TheVariants as tasks
 use Rattle.hprof_tool.specs.declared.program.refused.Refused.{Refused}
@@ -22,34 +17,12 @@ use Rattle.hprof_tool.specs.Program.{IsMadeOfStream, IsMadeOfFiles, IsMadeInFile
 use Rattle.hprof_tool.specs.SalvagedFiles.{IsSalvagedFile}
 use Rattle.hprof_tool.specs.Streams.{RefusesStream, RefusesReport}
 use Rattle.hprof_tool.specs.Telling.{TellsFaults, RefusesSalvage}
-use Rattle.hprof_tool.specs.Words.{is_answer, is_new_file, answer_making}
+use Rattle.hprof_tool.specs.Words.{is_new_file}
 
--- the word asks for the task; all that is none of these words asks for the canonical dump, and of all the words that the program has
--- this is `join` alone
-abbrev pub AsksFor : List ℕ → Task → Type 0
-AsksFor word tasks.JoinInput = ⊥
-AsksFor word (tasks.Salvage out parts) = word ≡ codes "salvage"
-AsksFor word (tasks.Check parts) = word ≡ codes "check"
-AsksFor word (tasks.Histogram parts) = word ≡ codes "histo"
-AsksFor word (tasks.Classes parts) = word ≡ codes "classes"
-AsksFor word (tasks.Objects kind parts) = word ≡ codes "objects"
-AsksFor word (tasks.Compare older newer) = word ≡ codes "diff"
-AsksFor word (tasks.Converse parts) = word ≡ codes "ask"
-AsksFor word (tasks.Ask questions.Object id parts) = word ≡ codes "object"
-AsksFor word (tasks.Ask questions.Path id parts) = word ≡ codes "path"
-AsksFor word (tasks.Ask questions.Refs id parts) = word ≡ codes "refs"
-AsksFor word (tasks.Ask questions.Text id parts) = word ≡ codes "text"
-AsksFor word (tasks.Ask questions.Why id parts) = word ≡ codes "why"
-AsksFor word (tasks.Write files.Dump101 out parts) = word ≡ codes "join101"
-AsksFor word (tasks.Write files.Dump out parts) = (word ≢ codes "salvage") × (word ≢ codes "check") × (word ≢ codes "histo")
-    × (word ≢ codes "classes") × (word ≢ codes "objects") × (word ≢ codes "object") × (word ≢ codes "path") × (word ≢ codes "refs")
-    × (word ≢ codes "text") × (word ≢ codes "why") × (word ≢ codes "ask") × (word ≢ codes "diff") × (word ≢ codes "join101")
-
--- the identifier that the task is about is none, or the class or type
-abbrev pub IsMisnamed : Task → Type 0
-IsMisnamed (tasks.Objects kind parts) = (named : Kind) → NamesKind kind.now named → ⊥
-IsMisnamed (tasks.Ask question id parts) = ¬ (IsIdText id.now)
-IsMisnamed other = ⊥
+-- the text does not follow the word of the report that the task writes
+abbrev pub IsMisnamedTask : Task → Type 0
+IsMisnamedTask (tasks.Report word text parts) = (fault : Misnamed) × IsMisnamed word text.now fault
+IsMisnamedTask other = ⊥
 
 -- answered: what came of the names of files
 -- tells, holds: what a file has left to tell, and what one tells that it holds;  left, contents: the same of the streams
@@ -62,15 +35,10 @@ module _ {F I O : Type 0} (answered : Answered F) (tells holds : F → Option (L
   DoesTask (tasks.Salvage out parts) input old new = (salvaged : Salvaged)
       × ((file : F) × IsSalvagedFile answered tells holds parts.items out.now salvaged file)
       × ((text : List ℕ) × TellsFaults salvaged.faults.items text × Appends (contents old) (contents new) text)
-  DoesTask (tasks.Check parts) input old new = IsMadeOfFiles (IsMadeOf IsCheckText) answered tells contents parts.items old new
-  DoesTask (tasks.Histogram parts) input old new = IsMadeOfFiles (IsMadeOf IsHistogramReport) answered tells contents parts.items old new
-  DoesTask (tasks.Classes parts) input old new = IsMadeOfFiles (IsMadeOf IsClassesReport) answered tells contents parts.items old new
-  DoesTask (tasks.Objects kind parts) input old new = (named : Kind) × NamesKind kind.now named
-      × IsMadeOfFiles (IsMadeOf (IsObjectsReport named)) answered tells contents parts.items old new
+  DoesTask (tasks.Report word text parts) input old new = (report : Report) × AsksReport word text.now report
+      × IsMadeOfFiles (IsMadeOf (IsReportText report)) answered tells contents parts.items old new
   DoesTask (tasks.Compare older newer) input old new = ComparesFiles answered tells older.now newer.now contents old new
-  DoesTask (tasks.Converse parts) input old new = AnswersQuestions answered tells left contents parts.items input old new
-  DoesTask (tasks.Ask question id parts) input old new =
-      IsIdText id.now × IsMadeOfFiles (IsMadeOf (is_answer question (id_value id.now))) answered tells contents parts.items old new
+  DoesTask (tasks.Ask parts) input old new = AnswersQuestions answered tells left contents parts.items input old new
 
   -- the task is refused, and so much is left of the stream
   abbrev pub RefusesTask : Task → (input : I) → (old : O) → Refused → (new : Option O) → Type 0
@@ -78,12 +46,7 @@ module _ {F I O : Type 0} (answered : Answered F) (tells holds : F → Option (L
   RefusesTask (tasks.Write product out parts) input old why new = new ≡ Some old
   RefusesTask (tasks.Salvage out parts) input old why new =
       (after : O) × (new ≡ Some after) × RefusesSalvage answered tells holds parts.items out.now old after why
-  RefusesTask (tasks.Check parts) input old why new = RefusesReport check_making answered tells contents parts.items old why new
-  RefusesTask (tasks.Histogram parts) input old why new = RefusesReport histogram_making answered tells contents parts.items old why new
-  RefusesTask (tasks.Classes parts) input old why new = RefusesReport classes_making answered tells contents parts.items old why new
-  RefusesTask (tasks.Objects kind parts) input old why new = (named : Kind) × NamesKind kind.now named
-      × RefusesReport (objects_making named) answered tells contents parts.items old why new
+  RefusesTask (tasks.Report word text parts) input old why new = (report : Report) × AsksReport word text.now report
+      × RefusesReport (report_making report) answered tells contents parts.items old why new
   RefusesTask (tasks.Compare older newer) input old why new = RefusesDiff answered tells older.now newer.now contents old why new
-  RefusesTask (tasks.Converse parts) input old why new = RefusesQuestions answered tells left contents parts.items input old why new
-  RefusesTask (tasks.Ask question id parts) input old why new =
-      IsIdText id.now × RefusesReport (answer_making question (id_value id.now)) answered tells contents parts.items old why new
+  RefusesTask (tasks.Ask parts) input old why new = RefusesQuestions answered tells left contents parts.items input old why new

@@ -7,7 +7,10 @@ pub mod laws;
 mod program;
 mod status;
 
-pub use hprof_ask::{AskFault, DialogueStop, ask_to};
+pub use hprof_ask::{
+    AskFault, DialogueStop, ask_to, check_to, classes_to, histo_to, object_to, objects_to, path_to,
+    refs_to, text_to, why_to,
+};
 pub use hprof_devices::{Device, Health, Source, Target};
 pub use hprof_diff::{DiffFault, diff_to};
 pub use hprof_engine::{
@@ -15,9 +18,6 @@ pub use hprof_engine::{
     join101_kept, join101_to, salvage_kept, salvage_to,
 };
 pub use hprof_heap::Heap;
-pub use hprof_reports::{
-    check_to, classes_to, histo_to, object_to, objects_to, path_to, refs_to, text_to, why_to,
-};
 pub use hprof_stream::{Limits, PartFault};
 pub use program::run;
 pub use status::Status;

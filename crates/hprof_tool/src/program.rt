@@ -2,40 +2,36 @@
 
 ghost use Rattle.std.specs.Prelude.{◌≡◌, ◌≢◌, ℕ, List, Some, IfOk, IfErr};
 ghost use Rattle.std.specs.Io.KnownBytes.{Appends};
-ghost use Rattle.hprof_engine.specs.Makes.{IsDump, IsMadeOf, making_of};
-ghost use Rattle.hprof_text.specs.Identifier.{IsIdText, id_value};
-ghost use Rattle.hprof_histogram.specs.declared.row.Kind.{Kind};
-ghost use Rattle.hprof_ask.specs.Asked.{NamesKind};
-ghost use Rattle.hprof_reports.specs.ObjectsText.{IsObjectsReport, objects_making};
+ghost use Rattle.hprof_engine.specs.Makes.{IsDump, IsMadeOf};
+ghost use Rattle.hprof_ask.specs.declared.report.Report.{Report};
+ghost use Rattle.hprof_ask.specs.declared.subject.Misnamed.{Misnamed};
+ghost use Rattle.hprof_ask.specs.Asked.{AsksReport, IsMisnamed};
+ghost use Rattle.hprof_ask.specs.Report.{IsReportText, report_making};
 ghost use Rattle.hprof_tool.specs.Comparing.{ComparesFiles, RefusesDiff};
 ghost use Rattle.hprof_tool.specs.Conversing.{AnswersQuestions, RefusesQuestions};
 ghost use Rattle.hprof_tool.specs.Program.{IsMadeOfStream, IsMadeInFile, IsMadeOfFiles};
 ghost use Rattle.hprof_tool.specs.SalvagedFiles.{IsSalvagedFile};
 ghost use Rattle.hprof_tool.specs.Streams.{RefusesStream, RefusesReport};
-ghost use Rattle.hprof_tool.specs.Tasks.{DoesTask, IsMisnamed, RefusesTask};
+ghost use Rattle.hprof_tool.specs.Tasks.{DoesTask, IsMisnamedTask, RefusesTask};
 ghost use Rattle.hprof_tool.specs.Telling.{TellsFaults, RefusesSalvage};
-ghost use Rattle.hprof_tool.specs.Words.{is_answer, answer_making, is_new_file};
+ghost use Rattle.hprof_tool.specs.Words.{is_new_file};
 ghost use Rattle.hprof_tool.specs.declared.program.salvaging.Written.{Written};
 
-use crate::command::{NewFile, Question, Task, task_of};
+use crate::command::{Misunderstood, NewFile, Task, task_of};
 use crate::status::Status;
 use answers::{
-    Ended, answer_no_id, answer_no_kind, answer_no_words, answer_outcome, answer_stream,
+    Ended, answer_misnamed, answer_no_command, answer_no_words, answer_outcome, answer_stream,
     answer_words,
 };
 use comparing::compare_files;
 use conversing::ask_files;
 use folder::Folder;
-use hprof_ask::kind_of;
+use hprof_ask::ReportWord;
 use hprof_engine::{Dump, Dump101, Product};
-use hprof_reports::{
-    Check, ClassesReport, HistogramReport, ObjectReport, ObjectsReport, PathReport, RefsReport,
-    TextReport, WhyReport,
-};
-use hprof_text::parse_id;
 use joining::{join_stream, report_files, write_file};
 use meter::Meter;
 use metered::{Clearing, Metered};
+use prompting::Prompting;
 use refused::Refused;
 use salvaging::{Written, salvage_file, tell_faults};
 use std::alloc::Global;
@@ -135,27 +131,39 @@ fn salvage<F: Folder, O: Write, E: Write>(
     )
 }
 
-/// Writes a report on parts in files to `output`, which it gives back.
-fn report<P: Product, F: Folder, O: Write + Drop, E: Write>(
+/// Writes the report that a word asks for on parts in files to `output`, which it gives back. A text that does not follow the word is told
+/// before any part is opened.
+fn report<F: Folder, O: Write + Drop, E: Write>(
     alloc: Global,
     files: &F,
-    report: &P,
+    word: ReportWord,
+    text: &str,
     names: &[&str],
     output: O,
     errors: &mut E,
 ) -> Ended<O>
-    ensures done { result.status ≡ Status.Done → (written : O) × (result.output ≡ Some written)
-        × IsMadeOfFiles (IsMadeOf (P.is_text report.now)) (F.answered files.now) F.File.remaining O.contents names.now output written }
-    ensures refused { result.status ≡ Status.Refused → (why : Refused) × RefusesReport
-        (making_of (P.is_text report.now) (P.is_too_long report.now) P.Kept.takes_room (P.takes_memory report.now))
-        (F.answered files.now) F.File.remaining O.contents names.now output why result.output }
-    ensures understood { result.status ≢ Status.NotUnderstood }
+    ensures done { result.status ≡ Status.Done → (report : Report) × AsksReport word text.now report
+        × ((written : O) × (result.output ≡ Some written) × IsMadeOfFiles (IsMadeOf (IsReportText report)) (F.answered files.now)
+        F.File.remaining O.contents names.now output written) }
+    ensures refused { result.status ≡ Status.Refused → (report : Report) × AsksReport word text.now report
+        × ((why : Refused) × RefusesReport (report_making report) (F.answered files.now) F.File.remaining O.contents names.now output why
+        result.output) }
+    ensures understood { (report : Report) → AsksReport word text.now report → result.status ≢ Status.NotUnderstood }
+    ensures misnamed { (fault : Misnamed) → IsMisnamed word text.now fault
+        → (result.status ≡ Status.NotUnderstood) × (result.output ≡ Some output) }
+    ensures why { result.status ≡ Status.NotUnderstood → (fault : Misnamed) × IsMisnamed word text.now fault }
 {
-    answer_stream(
-        alloc,
-        report_files(alloc, files, report, names, output),
-        errors,
-    )
+    match word.report(text.as_bytes()) {
+        Ok(report) => answer_stream(
+            alloc,
+            report_files(alloc, files, &report, names, output),
+            errors,
+        ),
+        Err(fault) => Ended {
+            status: answer_misnamed(fault, errors),
+            output: Some(output),
+        },
+    }
 }
 
 /// Writes the dump that is asked for of parts in files to a new file.
@@ -177,68 +185,6 @@ fn write_dump<F: Folder, E: Write>(
     }
 }
 
-/// Writes the report that is asked for on an identifier to `output`, which it gives back. An identifier that is none is told before
-/// any part is opened.
-fn ask<F: Folder, O: Write + Drop, E: Write>(
-    alloc: Global,
-    files: &F,
-    question: Question,
-    id: &str,
-    names: &[&str],
-    output: O,
-    errors: &mut E,
-) -> Ended<O>
-    ensures done { result.status ≡ Status.Done → IsIdText id.now × ((written : O) × (result.output ≡ Some written)
-        × IsMadeOfFiles (IsMadeOf (is_answer question (id_value id.now))) (F.answered files.now) F.File.remaining O.contents names.now
-        output written) }
-    ensures refused { result.status ≡ Status.Refused → IsIdText id.now × ((why : Refused)
-        × RefusesReport (answer_making question (id_value id.now)) (F.answered files.now) F.File.remaining O.contents names.now
-        output why result.output) }
-    ensures understood { IsIdText id.now → result.status ≢ Status.NotUnderstood }
-    ensures no_id { ¬ (IsIdText id.now) → (result.status ≡ Status.NotUnderstood) × (result.output ≡ Some output) }
-{
-    let Some(id) = parse_id(id) else {
-        return Ended {
-            status: answer_no_id(errors),
-            output: Some(output),
-        };
-    };
-    match question {
-        Question::Object => report(alloc, files, &ObjectReport { id }, names, output, errors),
-        Question::Path => report(alloc, files, &PathReport { id }, names, output, errors),
-        Question::Refs => report(alloc, files, &RefsReport { id }, names, output, errors),
-        Question::Text => report(alloc, files, &TextReport { id }, names, output, errors),
-        Question::Why => report(alloc, files, &WhyReport { id }, names, output, errors),
-    }
-}
-
-/// Writes the report `objects` on a class or a type to `output`, which it gives back. A word that names neither is told before any part is
-/// opened.
-fn objects<F: Folder, O: Write + Drop, E: Write>(
-    alloc: Global,
-    files: &F,
-    kind: &str,
-    names: &[&str],
-    output: O,
-    errors: &mut E,
-) -> Ended<O>
-    ensures done { result.status ≡ Status.Done → (named : Kind) × NamesKind kind.now named × ((written : O) × (result.output ≡ Some written)
-        × IsMadeOfFiles (IsMadeOf (IsObjectsReport named)) (F.answered files.now) F.File.remaining O.contents names.now output written) }
-    ensures refused { result.status ≡ Status.Refused → (named : Kind) × NamesKind kind.now named × ((why : Refused)
-        × RefusesReport (objects_making named) (F.answered files.now) F.File.remaining O.contents names.now output why result.output) }
-    ensures understood { (named : Kind) → NamesKind kind.now named → result.status ≢ Status.NotUnderstood }
-    ensures no_kind { ((named : Kind) → NamesKind kind.now named → ⊥)
-        → (result.status ≡ Status.NotUnderstood) × (result.output ≡ Some output) }
-{
-    let Some(kind) = kind_of(kind.as_bytes()) else {
-        return Ended {
-            status: answer_no_kind(errors),
-            output: Some(output),
-        };
-    };
-    report(alloc, files, &ObjectsReport { kind }, names, output, errors)
-}
-
 /// Answers questions that come as lines of `input` about the heap of parts in files, on `output`, which it gives back.
 fn converse<F: Folder, I: Read + Drop, P: Write + Drop, O: Write + Drop, E: Write>(
     alloc: Global,
@@ -255,9 +201,10 @@ fn converse<F: Folder, I: Read + Drop, P: Write + Drop, O: Write + Drop, E: Writ
         I.remaining O.contents names.now input output why result.output }
     ensures understood { result.status ≢ Status.NotUnderstood }
 {
+    let mut questions = Prompting::new(input, prompts);
     answer_stream(
         alloc,
-        ask_files(alloc, files, names, input, prompts, output),
+        ask_files(alloc, files, names, &mut questions, output),
         errors,
     )
 }
@@ -304,7 +251,7 @@ fn perform<F: Folder, I: Read + Drop, O: Write + Drop, E: Write, P: Write + Drop
     ensures refused { result.status ≡ Status.Refused → (why : Refused) × RefusesTask (F.answered files.now)
         F.File.remaining F.File.contents I.remaining O.contents task.entry input output why result.output }
     ensures understood { result.status ≡ Status.NotUnderstood → result.output ≡ Some output }
-    ensures misnamed { result.status ≡ Status.NotUnderstood → IsMisnamed task.entry }
+    ensures misnamed { result.status ≡ Status.NotUnderstood → IsMisnamedTask task.entry }
 {
     match task {
         Task::JoinInput => join_input(alloc, input, output, errors),
@@ -320,21 +267,11 @@ fn perform<F: Folder, I: Read + Drop, O: Write + Drop, E: Write, P: Write + Drop
             status: salvage(alloc, files, out, &parts, &mut output, errors),
             output: Some(output),
         },
-        Task::Check { parts } => report(alloc, files, &Check, &parts, output, errors),
-        Task::Histogram { parts } => {
-            report(alloc, files, &HistogramReport, &parts, output, errors)
+        Task::Report { word, text, parts } => {
+            report(alloc, files, word, text, &parts, output, errors)
         }
-        Task::Classes { parts } => { report(alloc, files, &ClassesReport, &parts, output, errors) }
-        Task::Objects { kind, parts } => { objects(alloc, files, kind, &parts, output, errors) }
         Task::Compare { older, newer } => { compare(alloc, files, older, newer, output, errors) }
-        Task::Converse { parts } => {
-            converse(alloc, files, &parts, input, prompts, output, errors)
-        }
-        Task::Ask {
-            question,
-            id,
-            parts,
-        } => ask(alloc, files, question, id, &parts, output, errors),
+        Task::Ask { parts } => { converse(alloc, files, &parts, input, prompts, output, errors) }
     }
 }
 
@@ -401,6 +338,7 @@ pub fn run<S: Files + Clock, I: Read + Drop, O: Write + Drop, E: Write, P: Write
         Ok(task) => perform_metered(
             alloc, system, task, input, output, errors, prompts, terminal,
         ),
-        Err(error) => answer_words(alloc, &error, &mut output, errors),
+        Err(Misunderstood::Words(error)) => answer_words(alloc, &error, &mut output, errors),
+        Err(Misunderstood::NoCommand) => answer_no_command(errors),
     }
 }

@@ -8,7 +8,7 @@ use crate::engine::{Answer, Call, Given, Ways, made, plain, text_of_fault};
 use crate::outcome::Outcome;
 use crate::streams::{Reader, Writer};
 use crate::trouble::Trouble;
-use hprof_ask::{AskFault, DialogueStop, ask_to};
+use hprof_ask::{AskFault, DialogueStop, Report, ask_to};
 use hprof_devices::Device;
 use hprof_engine::ToolFault;
 use hprof_histogram::Kind;
@@ -28,25 +28,23 @@ fn text_of_asking(alloc: Global, fault: AskFault) -> Result<String, AllocError> 
     }
 }
 
-/// Returns the question that asks for the same as a call, if there is one.
-fn question_of(alloc: Global, call: Call) -> Result<Option<String>, AllocError> {
-    let line = match call {
-        Call::Check => String::from_str(alloc, "check\n")?,
-        Call::Histo => String::from_str(alloc, "histo\n")?,
-        Call::Classes => String::from_str(alloc, "classes\n")?,
-        Call::Objects(Kind::Class(class)) => format!(in alloc; "objects {class:x}\n")?,
-        Call::Objects(Kind::Prim(elem)) => {
+/// Returns the line that asks for a report.
+fn question_of(alloc: Global, report: Report) -> Result<String, AllocError> {
+    match report {
+        Report::Check => String::from_str(alloc, "check\n"),
+        Report::Histogram => String::from_str(alloc, "histo\n"),
+        Report::Classes => String::from_str(alloc, "classes\n"),
+        Report::Objects(Kind::Class(class)) => format!(in alloc; "objects {class:x}\n"),
+        Report::Objects(Kind::Prim(elem)) => {
             let word = type_word(elem);
-            format!(in alloc; "objects {word}[]\n")?
+            format!(in alloc; "objects {word}[]\n")
         }
-        Call::Object(id) => format!(in alloc; "object {id:x}\n")?,
-        Call::Path(id) => format!(in alloc; "path {id:x}\n")?,
-        Call::Refs(id) => format!(in alloc; "refs {id:x}\n")?,
-        Call::Text(id) => format!(in alloc; "text {id:x}\n")?,
-        Call::Why(id) => format!(in alloc; "why {id:x}\n")?,
-        _ => return Ok(None),
-    };
-    Ok(Some(line))
+        Report::Object(id) => format!(in alloc; "object {id:x}\n"),
+        Report::Path(id) => format!(in alloc; "path {id:x}\n"),
+        Report::Refs(id) => format!(in alloc; "refs {id:x}\n"),
+        Report::Text(id) => format!(in alloc; "text {id:x}\n"),
+        Report::Why(id) => format!(in alloc; "why {id:x}\n"),
+    }
 }
 
 /// Returns the pieces, one after the other.
@@ -67,9 +65,10 @@ pub(crate) fn check_asked(
     ways: Ways,
     whole: &Outcome,
 ) -> Result<(), Trouble> {
-    let Some(line) = question_of(alloc, call)? else {
+    let Call::Report(report) = call else {
         return Ok(());
     };
+    let line = question_of(alloc, report)?;
     // Of that the lines of the case tell.
     if whole.is_out_of_memory() {
         return Ok(());

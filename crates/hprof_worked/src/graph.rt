@@ -7,7 +7,7 @@ ghost use Rattle.hprof_devices.specs.Device.{health_of};
 use crate::streams::{Reader, Writer};
 use hprof_devices::{Device, push_all};
 use hprof_edges::{Edge, edges_of};
-use hprof_engine::{ToolFault, read_heap};
+use hprof_engine::{NoSummaries, ToolFault, read_heap};
 use hprof_heap::{Gatherer, Heap};
 use hprof_layouts::{Layout, layout};
 use hprof_naming::type_word;
@@ -66,7 +66,14 @@ pub(crate) fn ask(
     requires readers { All (λ reader. health_of reader ≡ Well) readers.old }
     requires writer { health_of target.old ≡ Well }
 {
-    let heap = read_heap(alloc, readers, limits, Gatherer::new(alloc), &mut ())?;
+    let heap = read_heap(
+        alloc,
+        readers,
+        limits,
+        Gatherer::new(alloc),
+        &NoSummaries,
+        &mut (),
+    )?;
     let lines = match question {
         Question::Edges(id) => lines_of_edges(alloc, &heap, id),
         Question::Layout(class) => lines_of_layout(alloc, &heap, class),

@@ -10,6 +10,7 @@ use crate::program::refused::{Refused, Stopped, WRITE_FAILED};
 use crate::status::Status;
 use clap::Error;
 use clap::error::ErrorKind;
+use hprof_ask::Misnamed;
 use std::alloc::Global;
 use std::io;
 use std::io::Write;
@@ -101,18 +102,22 @@ pub(crate) fn answer_no_words<E: Write>(alloc: Global, error: &io::Error, errors
     Status::NotUnderstood
 }
 
-/// Answers that a word is no identifier.
-pub(crate) fn answer_no_id<E: Write>(errors: &mut E) -> Status
+/// Answers that a text does not follow the word of a report.
+pub(crate) fn answer_misnamed<E: Write>(fault: Misnamed, errors: &mut E) -> Status
     ensures { result ≡ Status.NotUnderstood }
 {
-    let _ = writeln!(errors, "hprof: not an identifier");
+    let text = match fault {
+        Misnamed::NoIdentifier => "not an identifier",
+        Misnamed::NoKind => "not a class or a type",
+    };
+    let _ = writeln!(errors, "hprof: {text}");
     Status::NotUnderstood
 }
 
-/// Answers that a word names neither a class nor a type.
-pub(crate) fn answer_no_kind<E: Write>(errors: &mut E) -> Status
+/// Answers that a word is none of the commands.
+pub(crate) fn answer_no_command<E: Write>(errors: &mut E) -> Status
     ensures { result ≡ Status.NotUnderstood }
 {
-    let _ = writeln!(errors, "hprof: not a class or a type");
+    let _ = writeln!(errors, "hprof: not a command");
     Status::NotUnderstood
 }

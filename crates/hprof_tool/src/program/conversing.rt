@@ -1,27 +1,29 @@
 //! Questions about the heap of parts in files.
 
-ghost use Rattle.std.specs.Prelude.{◌≡◌, [], All, None, IfOk, IfErr};
+ghost use Rattle.std.specs.Prelude.{◌≡◌, [], List, All, None, IfOk, IfErr};
 ghost use Rattle.std.specs.Io.Buffered.{writer_buffer, writer_contents};
 ghost use Rattle.hprof_devices.specs.Buffered.{buffered_health, buffered_of};
+ghost use Rattle.hprof_devices.specs.Device.{inner_of};
 ghost use Rattle.hprof_devices.specs.declared.health.Health.TheVariants.{Well};
-ghost use Rattle.hprof_ask.specs.Asks.{Asks, PassesAnswersOn, fault_of_asking};
-ghost use Rattle.hprof_tool.specs.Conversing.{AnswersAll, AnswersQuestions, LeavesAnswers, OverReaders, RefusesQuestions, SaysOfReaders};
+ghost use Rattle.hprof_ask.specs.Asks.{Asks, LetsAsk, PassesAnswersOn, fault_of_asking};
+ghost use Rattle.hprof_tool.specs.Conversing.{AnswersAll, AnswersQuestions, CannotReadOn, LeavesAnswers, OverReaders, RefusesQuestions};
+ghost use Rattle.hprof_tool.specs.Conversing.{SaysOfReaders, is_flushed};
+ghost use Rattle.hprof_tool.specs.Folder.{AreOpened};
 ghost use Rattle.hprof_tool.specs.Program.{usual_limits};
 
 use crate::program::folder::Folder;
 use crate::program::joining::open_parts;
-use crate::program::prompting::Prompting;
 use crate::program::refused::{Refused, Stopped};
 use crate::program::writing::BUFFER_LEN;
-use hprof_ask::{AskFault, ask_kept};
-use hprof_devices::{BufferedDevice, Source};
+use hprof_ask::{AskFault, Asker, ask_kept};
+use hprof_devices::{BufferedDevice, Device, Source};
 use hprof_stream::Limits;
 use std::alloc::Global;
-use std::io::{BufWriter, Read, Write};
+use std::io::{BufWriter, Write};
 use std::mem;
 
 /// Answers questions about the heap of the parts of the readers, which need not be freed row by row, since the process ends.
-fn ask_readers<R: Source, Q: Source, W: Write + Drop>(
+fn ask_readers<R: Source, Q: Asker<BufferedDevice<W>>, W: Write + Drop>(
     alloc: Global,
     readers: &mut [R],
     questions: &mut Q,
@@ -30,6 +32,8 @@ fn ask_readers<R: Source, Q: Source, W: Write + Drop>(
     requires readers { All (λ reader. R.health reader ≡ Well) readers.old }
     requires asking { Q.health questions.old ≡ Well }
     requires writer { buffered_health target.old ≡ Well }
+    requires leave { LetsAsk R.left Q.left (λ device. writer_contents W.contents (buffered_of device)) is_flushed Q.may_read
+        readers.old questions.old (writer_contents W.contents (buffered_of target.old)) }
     ensures asks { Asks R.left R.health R.pulls Q.left Q.health Q.pulls (λ device. writer_contents W.contents (buffered_of device))
         buffered_health usual_limits readers.old readers.new questions.old questions.new target.old target.new (fault_of_asking result) }
     ensures flushed { PassesAnswersOn (fault_of_asking result) (writer_buffer (buffered_of target.new) ≡ []) }
@@ -44,7 +48,7 @@ fn ask_readers<R: Source, Q: Source, W: Write + Drop>(
 }
 
 /// Answers questions about the heap of the parts of the readers into a writer, through a buffer, and gives the writer back.
-fn ask_through_buffer<R: Source, Q: Source, W: Write + Drop>(
+fn ask_through_buffer<R: Source, Q: Asker<BufferedDevice<W>>, W: Write + Drop>(
     alloc: Global,
     readers: &mut [R],
     questions: &mut Q,
@@ -52,9 +56,12 @@ fn ask_through_buffer<R: Source, Q: Source, W: Write + Drop>(
 ) -> Result<W, Stopped<W>>
     requires readers { All (λ reader. R.health reader ≡ Well) readers.old }
     requires asking { Q.health questions.old ≡ Well }
+    requires leave { LetsAsk R.left Q.left (λ device. writer_contents W.contents (buffered_of device)) is_flushed Q.may_read
+        readers.old questions.old (W.contents writer) }
     ensures ok { IfOk result (AnswersAll W.contents writer (OverReaders R.left Q.left readers.old questions.old)) }
     ensures stops { IfErr result (λ stopped. LeavesAnswers W.contents writer (OverReaders R.left Q.left readers.old questions.old)
         (SaysOfReaders R.left readers.old) stopped.why stopped.writer) }
+    ensures cause { IfErr result (λ stopped. stopped.why ≡ Refused.Questions → CannotReadOn Q.health Q.pulls questions.new) }
     ensures gone { IfErr result (λ stopped. stopped.writer ≡ None → (readers.new ≡ readers.old) × (questions.new ≡ questions.old)) }
 {
     let Ok(buffered) = BufWriter::with_capacity(alloc, BUFFER_LEN, writer) else {
@@ -77,19 +84,23 @@ fn ask_through_buffer<R: Source, Q: Source, W: Write + Drop>(
     }
 }
 
-/// Answers questions that come as lines of `input` about the heap of parts in files, on `output`, which it gives back. All parts are
-/// read before the first question is. A person is prompted for each line, if there are prompts.
-pub(crate) fn ask_files<F: Folder, I: Read + Drop, P: Write + Drop, O: Write + Drop>(
+/// Answers questions about the heap of parts in files, on `output`, which it gives back. All parts are read before the first question is.
+pub(crate) fn ask_files<F: Folder, Q: Asker<BufferedDevice<O>>, O: Write + Drop>(
     alloc: Global,
     files: &F,
     names: &[&str],
-    input: I,
-    prompts: Option<P>,
+    questions: &mut Q,
     output: O,
 ) -> Result<O, Stopped<O>>
-    ensures ok { IfOk result (AnswersQuestions (F.answered files.now) F.File.remaining I.remaining O.contents names.now input output) }
-    ensures refused { IfErr result (λ stopped. RefusesQuestions (F.answered files.now) F.File.remaining I.remaining O.contents names.now
-        input output stopped.why stopped.writer) }
+    requires asking { Q.health questions.old ≡ Well }
+    // No more of the questions is read before all lines that ended are answered, and the answers were flushed.
+    requires leave { (parts : List (Device F.File)) → AreOpened (F.answered files.now) names.now parts
+        → LetsAsk (λ part. F.File.remaining (inner_of part)) Q.left (λ device. writer_contents O.contents (buffered_of device)) is_flushed
+        Q.may_read parts questions.old (O.contents output) }
+    ensures ok { IfOk result (AnswersQuestions (F.answered files.now) F.File.remaining Q.left O.contents names.now questions.old output) }
+    ensures refused { IfErr result (λ stopped. RefusesQuestions (F.answered files.now) F.File.remaining Q.left O.contents names.now
+        questions.old output stopped.why stopped.writer) }
+    ensures cause { IfErr result (λ stopped. stopped.why ≡ Refused.Questions → CannotReadOn Q.health Q.pulls questions.new) }
 {
     let mut parts = match open_parts(alloc, files, names) {
         Ok(parts) => parts,
@@ -100,6 +111,5 @@ pub(crate) fn ask_files<F: Folder, I: Read + Drop, P: Write + Drop, O: Write + D
             });
         }
     };
-    let mut questions = Prompting::new(input, prompts);
-    ask_through_buffer(alloc, &mut parts, &mut questions, output)
+    ask_through_buffer(alloc, &mut parts, questions, output)
 }

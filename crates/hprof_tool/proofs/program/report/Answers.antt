@@ -1,16 +1,21 @@
-use Rattle.hprof_engine.specs.Makes.{making_of}
+use Rattle.hprof_ask.specs.Report.{report_making}
 use Rattle.hprof_tool.specs.Streams.{RefusesReport}
 use Rattle.hprof_tool.proofs.Ends.{done_of_stream, refused_of_stream}
 use Rattle.hprof_tool.proofs.program.report.Goals as goal
 
-pub returns-clause-done : goal.returns-clause-done
-returns-clause-done g c = done_of_stream _ c.report_files.result c.answer_stream.result c.report_files.ensures.ok
-    c.answer_stream.ensures.status c.answer_stream.ensures.output
+pub returns-in-Ok-clause-done : goal.returns-in-Ok-clause-done
+returns-in-Ok-clause-done g c = λ done. (
+  c.in-Ok.report,
+  c.in-Ok.ensures,
+  done_of_stream _ c.report_files.result c.answer_stream.result c.report_files.ensures.ok c.answer_stream.ensures.status
+      c.answer_stream.ensures.output done,
+)
 
-pub returns-clause-refused : goal.returns-clause-refused
-returns-clause-refused g c =
-    let making = making_of (g.P.Product.is_text c.args.report.now) (g.P.Product.is_too_long c.args.report.now) g.P.Kept.Summaries.takes_room
-    (g.P.Product.takes_memory c.args.report.now) in
-    refused_of_stream (λ why left. RefusesReport making (g.F.Folder.answered c.args.files.now) g.F.File.Read.remaining g.O.Write.contents
-    c.args.names.now c.args.output why left) c.report_files.result c.answer_stream.result c.report_files.ensures.refused
-    c.answer_stream.ensures.status c.answer_stream.ensures.output
+pub returns-in-Ok-clause-refused : goal.returns-in-Ok-clause-refused
+returns-in-Ok-clause-refused g c = λ refused. (
+  c.in-Ok.report,
+  c.in-Ok.ensures,
+  refused_of_stream (λ why left. RefusesReport (report_making c.in-Ok.report) (g.F.Folder.answered c.args.files.now) g.F.File.Read.remaining
+      g.O.Write.contents c.args.names.now c.args.output why left) c.report_files.result c.answer_stream.result c.report_files.ensures.refused
+      c.answer_stream.ensures.status c.answer_stream.ensures.output refused,
+)

@@ -1,11 +1,20 @@
-use Rattle.std.proofs.Common.{List, sym, subst}
+use Rattle.std.proofs.Common.{List, refl, sym, subst}
 use Rattle.hprof_devices.specs.declared.device.Device.{Device}
-use Rattle.hprof_tool.specs.Conversing.{OverFiles}
+use Rattle.hprof_devices.specs.Device.{inner_of}
+use Rattle.hprof_engine.specs.Makes.{dump_making}
+use Rattle.hprof_tool.specs.Conversing.{OverFiles, OverReaders, SaysOfReaders}
 use Rattle.hprof_tool.specs.Folder.{AreOpened}
-use Rattle.hprof_tool.specs.Prompting.{asked_of}
-use Rattle.hprof_tool.proofs.Conversing.{cannot_ask, over_files, refuses_files}
+use Rattle.hprof_tool.specs.Program.{IsReportRefusal}
+use Rattle.hprof_tool.proofs.Conversing.{cannot_ask, leaves_over, over_files, says_files}
 use Rattle.hprof_tool.proofs.Ends.{if_ok_more, if_err_more}
 use Rattle.hprof_tool.proofs.program.conversing.ask_files.Goals as goal
+
+pub ask_through_buffer-requires-leave : goal.ask_through_buffer-requires-leave
+ask_through_buffer-requires-leave g c =
+    let answered = g.F.Folder.answered c.args.files.now in
+    let opened = subst (λ (parts : List (Device _)). AreOpened answered c.args.names.now parts) (sym c.deref_mut.ensures.value)
+    c.in-Ok.ensures.opened in
+    c.requires.leave c.deref_mut.result.now opened
 
 pub returns-clause-ok : goal.returns-clause-ok
 returns-clause-ok g c =
@@ -13,23 +22,30 @@ returns-clause-ok g c =
     let opened = subst (λ (parts : List (Device _)). AreOpened answered c.args.names.now parts) (sym c.deref_mut.ensures.value)
     c.in-Ok.ensures.opened in
     if_ok_more _ _ c.ask_through_buffer.result
-    (λ written all. over_files answered g.F.File.Read.remaining g.I.Read.remaining g.O.Write.contents c.args.names.now c.args.input
-    c.args.output c.deref_mut.result.now opened (asked_of g.I.Read.remaining) c.new-questions.result c.new-questions.ensures.left _ all)
-    c.ask_through_buffer.ensures.ok
+    (λ written all. over_files answered g.F.File.Read.remaining g.Q.Asker.left g.O.Write.contents c.args.names.now c.args.questions.now
+    c.args.output c.deref_mut.result.now opened g.Q.Asker.left c.args.questions.now refl _ all) c.ask_through_buffer.ensures.ok
 
 pub returns-clause-refused : goal.returns-clause-refused
 returns-clause-refused g c =
     let answered = g.F.Folder.answered c.args.files.now in
-    let opened = subst (λ (parts : List (Device _)). AreOpened answered c.args.names.now parts) (sym c.deref_mut.ensures.value)
-    c.in-Ok.ensures.opened in
+    let left = g.F.File.Read.remaining in
+    let asked = g.Q.Asker.left in
+    let contents = g.O.Write.contents in
+    let names = c.args.names.now in
+    let source = c.args.questions.now in
+    let parts = c.deref_mut.result.now in
+    let opened = subst (λ (parts : List (Device _)). AreOpened answered names parts) (sym c.deref_mut.ensures.value) c.in-Ok.ensures.opened in
     if_err_more _ _ c.ask_through_buffer.result
-    (λ stopped leaves. refuses_files answered g.F.File.Read.remaining g.I.Read.remaining g.O.Write.contents c.args.names.now c.args.input
-    c.args.output c.deref_mut.result.now opened (asked_of g.I.Read.remaining) c.new-questions.result c.new-questions.ensures.left
-    stopped.why stopped.writer leaves) c.ask_through_buffer.ensures.stops
+    (λ stopped leaves. leaves_over contents c.args.output (OverReaders (λ part. left (inner_of part)) asked parts source)
+    (OverFiles answered left asked contents names source c.args.output)
+    (over_files answered left asked contents names source c.args.output parts opened asked source refl)
+    (SaysOfReaders (λ part. left (inner_of part)) parts) (IsReportRefusal dump_making answered left names)
+    (says_files answered left asked contents names source c.args.output parts opened asked source refl) stopped.why stopped.writer leaves)
+    c.ask_through_buffer.ensures.stops
 
 pub returns-in-Err-clause-refused : goal.returns-in-Err-clause-refused
 returns-in-Err-clause-refused g c =
     let answered = g.F.Folder.answered c.args.files.now in
     cannot_ask answered g.F.File.Read.remaining g.O.Write.contents c.args.names.now c.args.output
-    (OverFiles answered g.F.File.Read.remaining g.I.Read.remaining g.O.Write.contents c.args.names.now c.args.input c.args.output)
+    (OverFiles answered g.F.File.Read.remaining g.Q.Asker.left g.O.Write.contents c.args.names.now c.args.questions.now c.args.output)
     c.in-Err.why c.in-Err.ensures.kind

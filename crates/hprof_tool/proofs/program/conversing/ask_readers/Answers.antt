@@ -9,7 +9,7 @@ use Rattle.hprof_tool.proofs.program.conversing.ask_readers.Goals as goal
 pub returns-in-Ok-clause-asks : goal.returns-in-Ok-clause-asks
 returns-in-Ok-clause-asks g c =
     let usual = c.usual.ensures in
-    subst (λ (limits : Limits). Asks g.R.Source.left g.R.Source.health g.R.Source.pulls g.Q.Source.left g.Q.Source.health g.Q.Source.pulls
+    subst (λ (limits : Limits). Asks g.R.Source.left g.R.Source.health g.R.Source.pulls g.Q.Asker.left g.Q.Asker.health g.Q.Asker.pulls
     (λ device. writer_contents g.W.Write.contents (buffered_of device)) buffered_health limits c.args.readers.now c.ask_kept.new.readers
     c.args.questions.now c.ask_kept.new.questions c.args.target.now c.ask_kept.new.target None)
     (are_usual c.usual.result usual.item usual.reads usual.bytes) c.in-Ok.ensures.asks
@@ -17,7 +17,7 @@ returns-in-Ok-clause-asks g c =
 pub returns-in-Err-clause-asks : goal.returns-in-Err-clause-asks
 returns-in-Err-clause-asks g c =
     let usual = c.usual.ensures in
-    subst (λ (limits : Limits). Asks g.R.Source.left g.R.Source.health g.R.Source.pulls g.Q.Source.left g.Q.Source.health g.Q.Source.pulls
+    subst (λ (limits : Limits). Asks g.R.Source.left g.R.Source.health g.R.Source.pulls g.Q.Asker.left g.Q.Asker.health g.Q.Asker.pulls
     (λ device. writer_contents g.W.Write.contents (buffered_of device)) buffered_health limits c.args.readers.now c.ask_kept.new.readers
     c.args.questions.now c.ask_kept.new.questions c.args.target.now c.ask_kept.new.target (Some c.in-Err.fault))
     (are_usual c.usual.result usual.item usual.reads usual.bytes) c.in-Err.ensures.asks

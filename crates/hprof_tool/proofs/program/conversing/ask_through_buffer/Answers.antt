@@ -25,7 +25,7 @@ returns-in-Ok-outcome-clause-ok g c =
     ap (writer_contents contents) c.new-target.ensures.buffered ∙ empty in
     let at_last : writer_contents contents (buffered_of after) ≡ contents last =
     ap (append_known (contents inner)) c.in-Ok-outcome.ensures.flushed ∙ none_added (contents inner) ∙ ap contents (sym last_is) in
-    answered_all g.R.Source.left g.R.Source.health g.R.Source.pulls g.Q.Source.left g.Q.Source.health g.Q.Source.pulls
+    answered_all g.R.Source.left g.R.Source.health g.R.Source.pulls g.Q.Asker.left g.Q.Asker.health g.Q.Asker.pulls
     (λ device. writer_contents contents (buffered_of device)) buffered_health contents c.args.readers.now asked.new.readers
     c.args.questions.now asked.new.questions c.new-target.result after c.args.writer last at_first at_last c.in-Ok-outcome.ensures.asks
 
@@ -58,9 +58,9 @@ returns-in-Err g c =
     record {
       ok = tt;
       gone = λ none. absurd (subst is_there none tt);
-      stops = subst (λ (r : Refused). LeavesAnswers contents c.args.writer (OverReaders g.R.Source.left g.Q.Source.left c.args.readers.now
+      stops = subst (λ (r : Refused). LeavesAnswers contents c.args.writer (OverReaders g.R.Source.left g.Q.Asker.left c.args.readers.now
           c.args.questions.now) (SaysOfReaders g.R.Source.left c.args.readers.now) r (Some last)) (sym c.from.ensures)
-          (stopped g.R.Source.left g.R.Source.health g.R.Source.pulls g.Q.Source.left g.Q.Source.health g.Q.Source.pulls
+          (stopped g.R.Source.left g.R.Source.health g.R.Source.pulls g.Q.Asker.left g.Q.Asker.health g.Q.Asker.pulls
           (λ device. writer_contents contents (buffered_of device)) buffered_health contents c.args.readers.now asked.new.readers
           c.args.questions.now asked.new.questions c.new-target.result after c.args.writer last at_first unwritten at_last is_first
           c.in-Err.fault passes c.in-Err.ensures.asks);

@@ -25,7 +25,7 @@ pub returns-clause-refused : goal.returns-clause-refused
 returns-clause-refused g c =
     let is_text = g.P.Product.is_text c.args.report.now in
     let too_long = g.P.Product.is_too_long c.args.report.now in
-    let room = g.P.Kept.Summaries.takes_room in
+    let room = g.P.Summaries.takes_room c.args.report.now in
     let memory = g.P.Product.takes_memory c.args.report.now in
     let answered = g.F.Folder.answered c.args.files.now in
     let left = g.F.File.Read.remaining in
@@ -43,7 +43,7 @@ returns-clause-refused g c =
 pub returns-in-Err-clause-refused : goal.returns-in-Err-clause-refused
 returns-in-Err-clause-refused g c =
     let is_text = g.P.Product.is_text c.args.report.now in
-    let making = making_of is_text (g.P.Product.is_too_long c.args.report.now) g.P.Kept.Summaries.takes_room
+    let making = making_of is_text (g.P.Product.is_too_long c.args.report.now) (g.P.Summaries.takes_room c.args.report.now)
     (g.P.Product.takes_memory c.args.report.now) in
     let answered = g.F.Folder.answered c.args.files.now in (
       opening_reports making answered g.F.File.Read.remaining c.args.names.now c.in-Err.why c.in-Err.ensures.kind,

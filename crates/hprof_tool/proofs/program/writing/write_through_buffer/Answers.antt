@@ -12,7 +12,7 @@ returns-in-Ok-outcome-clause-ok g c =
     let contents = g.W.Write.contents in
     let made = c.write_and_flush-outcome in
     let making = making_of (g.P.Product.is_text c.args.product.now) (g.P.Product.is_too_long c.args.product.now)
-    g.P.Kept.Summaries.takes_room (g.P.Product.takes_memory c.args.product.now) in
+    (g.P.Summaries.takes_room c.args.product.now) (g.P.Product.takes_memory c.args.product.now) in
     let empty : writer_contents contents c.in-Ok.buffered ≡ contents c.args.writer =
     rw (c.in-Ok.ensures.inner, c.in-Ok.ensures.empty, none_added (contents c.args.writer)) in
     let flushed = rw c.in-Ok-outcome.is at made.ensures.flushed in
@@ -26,7 +26,7 @@ returns-in-Err g c =
     let contents = g.W.Write.contents in
     let made = c.write_and_flush-outcome in
     let making = making_of (g.P.Product.is_text c.args.product.now) (g.P.Product.is_too_long c.args.product.now)
-    g.P.Kept.Summaries.takes_room (g.P.Product.takes_memory c.args.product.now) in
+    (g.P.Summaries.takes_room c.args.product.now) (g.P.Product.takes_memory c.args.product.now) in
     let empty : writer_contents contents c.in-Ok.buffered ≡ contents c.args.writer =
     rw (c.in-Ok.ensures.inner, c.in-Ok.ensures.empty, none_added (contents c.args.writer)) in
     record {
