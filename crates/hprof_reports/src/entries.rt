@@ -37,12 +37,12 @@ pub(crate) trait Entries: Drop {
 }
 
 impl<'a> Entries for Constants<'a> {
-    ghost use Rattle.hprof_values.specs.Lists.{constants_left};
+    ghost use Rattle.hprof_values.specs.Lists.{entries_left};
     ghost use Rattle.hprof_values.specs.Value.{constant_of};
 
     type Item = Constant;
 
-    ghost left = { λ constants. map constant_of (constants_left constants) };
+    ghost left = { λ constants. map constant_of (entries_left constants) };
 
     fn next_entry(&mut self) -> Option<Constant> {
         self.next()
@@ -50,12 +50,12 @@ impl<'a> Entries for Constants<'a> {
 }
 
 impl<'a> Entries for Statics<'a> {
-    ghost use Rattle.hprof_values.specs.Lists.{statics_left};
+    ghost use Rattle.hprof_values.specs.Lists.{entries_left};
     ghost use Rattle.hprof_values.specs.Value.{static_of};
 
     type Item = Static;
 
-    ghost left = { λ statics. map static_of (statics_left statics) };
+    ghost left = { λ statics. map static_of (entries_left statics) };
 
     fn next_entry(&mut self) -> Option<Static> {
         self.next()
@@ -63,12 +63,12 @@ impl<'a> Entries for Statics<'a> {
 }
 
 impl<'a> Entries for OwnFields<'a> {
-    ghost use Rattle.hprof_values.specs.Lists.{fields_left};
+    ghost use Rattle.hprof_values.specs.Lists.{entries_left};
     ghost use Rattle.hprof_values.specs.Value.{field_of};
 
     type Item = Field;
 
-    ghost left = { λ fields. map field_of (fields_left fields) };
+    ghost left = { λ fields. map field_of (entries_left fields) };
 
     fn next_entry(&mut self) -> Option<Field> {
         self.next()

@@ -51,7 +51,7 @@ impl<'a, E: ListEntry> EntryList<'a, E> {
     ghost use Rattle.std.specs.Prelude.{◌↔◌, IsTrue, List, [], length, slice_get, option_map, IfSome, IsSomeAnd};
     ghost use Rattle.hprof_values.specs.declared.entry.Entry.{Entry};
     ghost use Rattle.hprof_values.specs.Entries.{IsEntryList, ListFits};
-    ghost use Rattle.hprof_values.specs.Lists.{entries_of, entries_left, entries_size};
+    ghost use Rattle.hprof_values.specs.Lists.{entries_left, entries_of, entries_size};
 
     /// Returns the list that the bytes spell. The answer is `None` if an entry ends past them or has a type that stands for none, or if
     /// there are more than 65,535 entries.
