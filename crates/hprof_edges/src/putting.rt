@@ -2,7 +2,7 @@
 
 ghost use Rattle.std.specs.Prelude.{◌≡◌, ◌++◌, ℕ, List, Contains, false, OnOk};
 ghost use Rattle.hprof_layouts.specs.References.{is_wanted};
-ghost use Rattle.hprof_values.specs.Lists.{constants_of, identifiers_of, statics_of};
+ghost use Rattle.hprof_values.specs.Lists.{entries_of, identifiers_of};
 ghost use Rattle.hprof_edges.specs.declared.edge.Edge.{Edge};
 ghost use Rattle.hprof_edges.specs.declared.edge.Via.TheVariants as vias;
 ghost use Rattle.hprof_edges.specs.EdgeLists.{numbered, reference_edges, target_of, targets_of_constants, targets_of_statics};
@@ -41,7 +41,7 @@ pub(crate) fn put_constants<C: Collect>(
     into: &mut C,
 ) -> Result<(), AllocError>
     ensures holds { OnOk result ((edges : List Edge) → C.holds into.old edges
-        → C.holds into.new (edges ++ numbered class vias.Constant 0 (targets_of_constants (constants_of constants.entry)))) }
+        → C.holds into.new (edges ++ numbered class vias.Constant 0 (targets_of_constants (entries_of constants.entry)))) }
     ensures keeps { OnOk result (C.keeps into.new ≡ C.keeps into.old) }
 {
     let mut position = 0;
@@ -65,7 +65,7 @@ pub(crate) fn put_statics<C: Collect>(
     into: &mut C,
 ) -> Result<(), AllocError>
     ensures holds { OnOk result ((edges : List Edge) → C.holds into.old edges
-        → C.holds into.new (edges ++ numbered class vias.Fixed 0 (targets_of_statics (statics_of statics.entry)))) }
+        → C.holds into.new (edges ++ numbered class vias.Fixed 0 (targets_of_statics (entries_of statics.entry)))) }
     ensures keeps { OnOk result (C.keeps into.new ≡ C.keeps into.old) }
 {
     let mut position = 0;

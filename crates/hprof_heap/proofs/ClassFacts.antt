@@ -2,9 +2,6 @@
 use Rattle.std.specs.List.{find}
 use Rattle.std.proofs.Common.{◌≡◌, ℕ, true, List, [], Option, Some, None, refl, sym, ap, subst, ◌∙◌}
 use Rattle.hprof_values.specs.declared.ids.IdSize.{IdSize}
-use Rattle.hprof_values.specs.declared.lists.constants.ConstantList.{ConstantList}
-use Rattle.hprof_values.specs.declared.lists.statics.StaticList.{StaticList}
-use Rattle.hprof_values.specs.declared.lists.fields.FieldList.{FieldList}
 use Rattle.hprof_items.specs.declared.fact.Fact.{Fact}
 use Rattle.hprof_items.specs.declared.fact.Fact.TheVariants as facts
 use Rattle.hprof_items.specs.FactValue.{FactValue, value_of, Name, Load, Unload, Frame, Trace, Start, End, Rooted, Class, Instance}
@@ -119,8 +116,8 @@ key_is_dump class (PrimArray id trace elem bytes) e = absurd cc
 
 -- a fact in hand that is no class states no class dump
 pub no_class_no_dump : (fact : Fact)
-    → ((id trace parent loader signers domain reserved1 reserved2 size : ℕ) (constants : ConstantList) (statics : StaticList)
-    (fields : FieldList) → fact ≡ facts.Class id trace parent loader signers domain reserved1 reserved2 size constants statics fields → ⊥)
+    → ((id trace parent loader signers domain reserved1 reserved2 size : ℕ) (constants : _) (statics : _) (fields : _)
+    → fact ≡ facts.Class id trace parent loader signers domain reserved1 reserved2 size constants statics fields → ⊥)
     → (dump : ClassValue) → fact_of_class dump ≡ value_of fact → ⊥
 no_class_no_dump (facts.Class id trace parent loader signers domain reserved1 reserved2 size constants statics fields) none dump e =
     none id trace parent loader signers domain reserved1 reserved2 size constants statics fields refl

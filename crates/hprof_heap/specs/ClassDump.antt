@@ -2,7 +2,7 @@
 use Rattle.std.specs.Prelude.{◌≡◌, ℕ, List, Option, IfNone, IfSome}
 use Rattle.hprof_values.specs.declared.ids.IdSize.{IdSize}
 use Rattle.hprof_items.specs.FactValue.{FactValue}
-use Rattle.hprof_values.specs.Lists.{constants_of, constants_size, statics_of, statics_size, fields_of, fields_size}
+use Rattle.hprof_values.specs.Lists.{entries_of, entries_size}
 use Rattle.hprof_heap.specs.declared.class_dump.ClassDump.{ClassDump}
 use Rattle.hprof_heap.specs.Classes.{ClassValue, HasDump, HasNoDump}
 
@@ -18,14 +18,14 @@ class_value dump = record {
   reserved1 = dump.reserved1;
   reserved2 = dump.reserved2;
   size = dump.size;
-  constants = constants_of dump.constants;
-  statics = statics_of dump.statics;
-  fields = fields_of dump.fields;
+  constants = entries_of dump.constants;
+  statics = entries_of dump.statics;
+  fields = entries_of dump.fields;
 }
 
 -- its lists have identifiers of that size
 abbrev pub ClassListsHave : IdSize → ClassDump → Type 0
-ClassListsHave ids dump = (constants_size dump.constants ≡ ids) × (statics_size dump.statics ≡ ids) × (fields_size dump.fields ≡ ids)
+ClassListsHave ids dump = (entries_size dump.constants ≡ ids) × (entries_size dump.statics ≡ ids) × (entries_size dump.fields ≡ ids)
 
 -- what is found of a class among facts whose identifiers have that size: its dump, or None if it has none
 pub record IsFoundClass (ids : IdSize) (facts : List FactValue) (class : ℕ) (answer : Option ClassDump) : Type 0 where

@@ -6,8 +6,7 @@ use Rattle.hprof_values.specs.declared.root.Root.{Root}
 use Rattle.hprof_values.specs.declared.ids.IdSize.{IdSize}
 use Rattle.hprof_items.specs.declared.fact.Fact.{Fact}
 use Rattle.hprof_items.specs.declared.fact.Fact.TheVariants as facts
-use Rattle.hprof_values.specs.Lists.{identifiers_of, identifiers_size, constants_of, constants_size, statics_of, statics_size, fields_of}
-use Rattle.hprof_values.specs.Lists.{fields_size}
+use Rattle.hprof_values.specs.Lists.{entries_of, entries_size, identifiers_of, identifiers_size}
 
 pub data FactValue : Type 0 where
   -- UTF8: the identifier of a name, and its bytes
@@ -46,7 +45,7 @@ value_of (facts.Start thread object trace name group parent_group) = Start threa
 value_of (facts.End thread) = End thread
 value_of (facts.Root root) = Rooted root
 value_of (facts.Class id trace parent loader signers domain reserved1 reserved2 size constants statics fields) =
-    Class id trace parent loader signers domain reserved1 reserved2 size (constants_of constants) (statics_of statics) (fields_of fields)
+    Class id trace parent loader signers domain reserved1 reserved2 size (entries_of constants) (entries_of statics) (entries_of fields)
 value_of (facts.Instance id trace class bytes) = Instance id trace class bytes.now
 value_of (facts.ObjArray id trace class elements) = ObjArray id trace class (identifiers_of elements)
 value_of (facts.PrimArray id trace elem bytes) = PrimArray id trace elem bytes.now
@@ -55,6 +54,6 @@ value_of (facts.PrimArray id trace elem bytes) = PrimArray id trace elem bytes.n
 abbrev pub ListsHave : IdSize → Fact → Type 0
 ListsHave ids (facts.Trace serial thread frames) = identifiers_size frames ≡ ids
 ListsHave ids (facts.Class id trace parent loader signers domain reserved1 reserved2 size constants statics fields) =
-    (constants_size constants ≡ ids) × (statics_size statics ≡ ids) × (fields_size fields ≡ ids)
+    (entries_size constants ≡ ids) × (entries_size statics ≡ ids) × (entries_size fields ≡ ids)
 ListsHave ids (facts.ObjArray id trace class elements) = identifiers_size elements ≡ ids
 ListsHave ids _ = ⊤

@@ -4,7 +4,7 @@ ghost use Rattle.std.specs.Prelude.{◌≡◌, ◌≤◌, length, sum, Ok, Err, 
 ghost use Rattle.hprof_values.specs.FieldGroups.{fields_in};
 ghost use Rattle.hprof_values.specs.BoundedBytes.{bounds_of};
 ghost use Rattle.hprof_values.specs.declared.ids.IdSize.{IdSize};
-ghost use Rattle.hprof_values.specs.Lists.{constants_of, constants_size, statics_of, statics_size, fields_of, fields_size};
+ghost use Rattle.hprof_values.specs.Lists.{entries_of, entries_size};
 ghost use Rattle.hprof_items.specs.ClassDump.{class_widths, class_of, class_at};
 ghost use Rattle.hprof_items.specs.Fronts.{class_front};
 ghost use Rattle.hprof_items.specs.FactValue.{value_of, ListsHave};
@@ -63,10 +63,10 @@ fn class_of<'a>(
     statics: StaticList<'a>,
     fields: FieldList<'a>,
 ) -> Fact<'a>
-    ensures fact { value_of result ≡ class_of (class_front front) (constants_of constants.entry) (statics_of statics.entry)
-        (fields_of fields.entry) }
-    ensures lists { (ids : IdSize) → constants_size constants.entry ≡ ids → statics_size statics.entry ≡ ids
-        → fields_size fields.entry ≡ ids → ListsHave ids result }
+    ensures fact { value_of result ≡ class_of (class_front front) (entries_of constants.entry) (entries_of statics.entry)
+        (entries_of fields.entry) }
+    ensures lists { (ids : IdSize) → entries_size constants.entry ≡ ids → entries_size statics.entry ≡ ids
+        → entries_size fields.entry ≡ ids → ListsHave ids result }
 {
     Fact::Class {
         id: front.id,

@@ -5,7 +5,7 @@ ghost use Rattle.hprof_heap.specs.HeapFacts.{facts_of, size_of};
 ghost use Rattle.hprof_naming.specs.Naming.{IsNaming, Naming};
 
 use hprof_heap::Heap;
-use hprof_values::{Constant, Constants, Field, Ids, OwnFields, Static, Statics};
+use hprof_values::{EntryIterator, Ids, ListEntry};
 use std::alloc::{AllocError, Global};
 
 /// An entry that a report prints in a line of its own.
@@ -36,41 +36,14 @@ pub(crate) trait Entries: Drop {
         ensures { MatchOption result (left self.old ≡ []) (λ entry. left self.old ≡ entry ∷ left self.new) };
 }
 
-impl<'a> Entries for Constants<'a> {
-    ghost use Rattle.hprof_values.specs.Lists.{constants_left};
-    ghost use Rattle.hprof_values.specs.Value.{constant_of};
+impl<'a, E: ListEntry + Entry> Entries for EntryIterator<'a, E> {
+    ghost use Rattle.hprof_values.specs.Lists.{entries_left};
 
-    type Item = Constant;
+    type Item = E;
 
-    ghost left = { λ constants. map constant_of (constants_left constants) };
+    ghost left = { λ entries. map E.of (entries_left entries) };
 
-    fn next_entry(&mut self) -> Option<Constant> {
-        self.next()
-    }
-}
-
-impl<'a> Entries for Statics<'a> {
-    ghost use Rattle.hprof_values.specs.Lists.{statics_left};
-    ghost use Rattle.hprof_values.specs.Value.{static_of};
-
-    type Item = Static;
-
-    ghost left = { λ statics. map static_of (statics_left statics) };
-
-    fn next_entry(&mut self) -> Option<Static> {
-        self.next()
-    }
-}
-
-impl<'a> Entries for OwnFields<'a> {
-    ghost use Rattle.hprof_values.specs.Lists.{fields_left};
-    ghost use Rattle.hprof_values.specs.Value.{field_of};
-
-    type Item = Field;
-
-    ghost left = { λ fields. map field_of (fields_left fields) };
-
-    fn next_entry(&mut self) -> Option<Field> {
+    fn next_entry(&mut self) -> Option<E> {
         self.next()
     }
 }

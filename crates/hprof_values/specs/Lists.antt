@@ -2,48 +2,24 @@
 use Rattle.std.specs.Prelude.{◌≡◌, ℕ, ◌/◌, List, length, replicate}
 use Rattle.hprof_values.specs.declared.ids.IdSize.{IdSize}
 use Rattle.hprof_values.specs.declared.entry.Entry.{Entry}
-use Rattle.hprof_values.specs.declared.entry.EntryKind.TheVariants as kinds
-use Rattle.hprof_values.specs.declared.lists.constants.ConstantList.{ConstantList}
-use Rattle.hprof_values.specs.declared.lists.constants.Constants.{Constants}
-use Rattle.hprof_values.specs.declared.lists.statics.StaticList.{StaticList}
-use Rattle.hprof_values.specs.declared.lists.statics.Statics.{Statics}
-use Rattle.hprof_values.specs.declared.lists.fields.FieldList.{FieldList}
-use Rattle.hprof_values.specs.declared.lists.fields.OwnFields.{OwnFields}
+use Rattle.hprof_values.specs.declared.value.ListEntry.{Ghosts as ListEntry}
+use Rattle.hprof_values.specs.declared.lists.entry_list.EntryList.{EntryList}
+use Rattle.hprof_values.specs.declared.lists.entry_list.EntryIterator.{EntryIterator}
 use Rattle.hprof_values.specs.declared.lists.ids.IdList.{IdList}
 use Rattle.hprof_values.specs.declared.lists.ids.Ids.{Ids}
 use Rattle.hprof_values.specs.Ids.{width_of}
 use Rattle.hprof_values.specs.FieldGroups.{field_bytes, fields_in, FitFields}
 use Rattle.hprof_values.specs.Entries.{entries_in}
 
--- the constants, those that are still to come, and the size of identifiers among them
-abbrev pub constants_of : ConstantList → List Entry
-constants_of list = entries_in list.ids kinds.Constant list.len list.bytes.now
+-- the entries of a list of a class, those that are still to come, and the size of identifiers among them
+abbrev pub entries_of : {E : Type 0} {entry : ListEntry E} → EntryList E entry → List Entry
+entries_of {entry = entry} list = entries_in list.ids entry.KIND list.len list.bytes.now
 
-abbrev pub constants_left : Constants → List Entry
-constants_left constants = entries_in constants.ids kinds.Constant constants.left constants.rest.now
+abbrev pub entries_left : {E : Type 0} {entry : ListEntry E} → EntryIterator E entry → List Entry
+entries_left {entry = entry} entries = entries_in entries.ids entry.KIND entries.left entries.rest.now
 
-abbrev pub constants_size : ConstantList → IdSize
-constants_size list = list.ids
-
--- the static fields, those that are still to come, and the size of identifiers among them
-abbrev pub statics_of : StaticList → List Entry
-statics_of list = entries_in list.ids kinds.Static list.len list.bytes.now
-
-abbrev pub statics_left : Statics → List Entry
-statics_left statics = entries_in statics.ids kinds.Static statics.left statics.rest.now
-
-abbrev pub statics_size : StaticList → IdSize
-statics_size list = list.ids
-
--- the fields that instances have, those that are still to come, and the size of identifiers among them
-abbrev pub fields_of : FieldList → List Entry
-fields_of list = entries_in list.ids kinds.Field list.len list.bytes.now
-
-abbrev pub fields_left : OwnFields → List Entry
-fields_left fields = entries_in fields.ids kinds.Field fields.left fields.rest.now
-
-abbrev pub fields_size : FieldList → IdSize
-fields_size list = list.ids
+abbrev pub entries_size : {E : Type 0} {entry : ListEntry E} → EntryList E entry → IdSize
+entries_size list = list.ids
 
 -- so many identifiers
 abbrev pub id_widths : IdSize → ℕ → List ℕ

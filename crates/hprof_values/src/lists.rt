@@ -1,7 +1,5 @@
 //! Lists of entries and of identifiers, over their bytes.
 
 mod among;
-pub mod constants;
-pub mod fields;
+pub mod entry_list;
 pub mod ids;
-pub mod statics;

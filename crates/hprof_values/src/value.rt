@@ -1,10 +1,11 @@
 //! Values, and the three kinds of entries of a class dump.
 
 ghost use Rattle.std.specs.Prelude.{◌≡◌, ◌<◌, ◌^◌};
+ghost use Rattle.hprof_values.specs.declared.entry.EntryKind.TheVariants as kinds;
 ghost use Rattle.hprof_values.specs.Value.{constant_of, static_of, field_of};
 
 use crate::basic::Basic;
-use crate::entry::Entry;
+use crate::entry::{Entry, EntryKind};
 
 /// A value with its type.
 #[derive(Clone, Copy, Debug, PartialEq, Eq)]
@@ -42,9 +43,36 @@ pub struct Field {
     pub basic: Basic,
 }
 
-impl Constant {
-    /// Returns the entry as a constant.
-    pub fn of(entry: Entry) -> Constant
+/// An entry of one of the three lists of a class dump, with its own fields.
+pub trait ListEntry: Copy {
+    ghost use Rattle.hprof_values.specs.declared.ids.IdSize.{IdSize};
+    ghost use Rattle.hprof_values.specs.declared.entry.EntryKind.{EntryKind};
+    ghost use Rattle.hprof_values.specs.declared.entry.Entry.{Entry};
+    ghost use Rattle.hprof_values.specs.Entries.{EntryFits};
+
+    // The list that it stands in.
+    ghost KIND: { EntryKind };
+
+    // What an entry is as one of that list.
+    ghost of: { Entry → Self };
+
+    /// The list that it stands in.
+    const KIND: EntryKind;
+
+    /// Returns the entry as one of that list.
+    fn of(entry: Entry) -> Self
+        requires { (ids : IdSize) × EntryFits ids KIND entry }
+        ensures { result ≡ of entry };
+}
+
+impl ListEntry for Constant {
+    ghost KIND = { kinds.Constant };
+
+    ghost of = { constant_of };
+
+    const KIND: EntryKind = EntryKind::Constant;
+
+    fn of(entry: Entry) -> Constant
         requires { entry.number < 2 ^ 16 }
         ensures { result ≡ constant_of entry }
     {
@@ -58,9 +86,14 @@ impl Constant {
     }
 }
 
-impl Static {
-    /// Returns the entry as a static field.
-    pub fn of(entry: Entry) -> Static
+impl ListEntry for Static {
+    ghost KIND = { kinds.Static };
+
+    ghost of = { static_of };
+
+    const KIND: EntryKind = EntryKind::Static;
+
+    fn of(entry: Entry) -> Static
         ensures { result ≡ static_of entry }
     {
         Static {
@@ -73,9 +106,14 @@ impl Static {
     }
 }
 
-impl Field {
-    /// Returns the entry as an instance field.
-    pub fn of(entry: Entry) -> Field
+impl ListEntry for Field {
+    ghost KIND = { kinds.Field };
+
+    ghost of = { field_of };
+
+    const KIND: EntryKind = EntryKind::Field;
+
+    fn of(entry: Entry) -> Field
         ensures { result ≡ field_of entry }
     {
         Field {

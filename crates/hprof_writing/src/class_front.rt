@@ -4,7 +4,7 @@ ghost use Rattle.std.specs.Prelude.{◌≡◌, ◌↔◌, IsTrue, IfSome, Some, 
 ghost use Rattle.hprof_values.specs.declared.sub_tag.SubTag.TheVariants as tags;
 ghost use Rattle.hprof_values.specs.declared.entry.EntryKind.TheVariants as kinds;
 ghost use Rattle.hprof_values.specs.Entries.{ListFits};
-ghost use Rattle.hprof_values.specs.Lists.{constants_of, constants_size, statics_of, statics_size, fields_of, fields_size};
+ghost use Rattle.hprof_values.specs.Lists.{entries_of, entries_size};
 ghost use Rattle.hprof_items.specs.ObjectTag.{object_of};
 ghost use Rattle.hprof_items.specs.FactValue.{value_of, ListsHave};
 ghost use Rattle.hprof_writing.specs.ClassFronts.{counted, IsClassFront};
@@ -42,10 +42,10 @@ fn lists_fit(
     fields: &FieldList<'_>,
     ids: IdSize,
 ) -> bool
-    ensures sizes { IsTrue result ↔ ((constants_size constants.now ≡ ids) × (statics_size statics.now ≡ ids)
-        × (fields_size fields.now ≡ ids)) }
-    ensures fit { IsTrue result → (ListFits ids kinds.Constant (constants_of constants.now)
-        × ListFits ids kinds.Static (statics_of statics.now) × ListFits ids kinds.Field (fields_of fields.now)) }
+    ensures sizes { IsTrue result ↔ ((entries_size constants.now ≡ ids) × (entries_size statics.now ≡ ids)
+        × (entries_size fields.now ≡ ids)) }
+    ensures fit { IsTrue result → (ListFits ids kinds.Constant (entries_of constants.now)
+        × ListFits ids kinds.Static (entries_of statics.now) × ListFits ids kinds.Field (entries_of fields.now)) }
 {
     if constants.id_size() != ids {
         return false;

@@ -1,5 +1,0 @@
-use Rattle.std.proofs.Common.{rules}
-use Rattle.hprof_values.proofs.lists.fields.FieldList.is_empty.Goals as goal
-
-pub returns : goal.returns
-returns c = search rules

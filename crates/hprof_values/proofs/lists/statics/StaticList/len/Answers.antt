@@ -1,7 +1,0 @@
-use Rattle.std.proofs.Common.{sym}
-use Rattle.hprof_values.specs.declared.entry.EntryKind.TheVariants as kinds
-use Rattle.hprof_values.proofs.EntryLists.{length-entries}
-use Rattle.hprof_values.proofs.lists.statics.StaticList.len.Goals as goal
-
-pub returns : goal.returns
-returns c = sym (length-entries c.args.self.now.ids kinds.Static c.args.self.now.len c.args.self.now.bytes.now)
