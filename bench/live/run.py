@@ -38,14 +38,14 @@ def crates_below(crates):
 
 def build(folder):
     """The program, over copies of the crates."""
-    crates = crates_below(["hprof_text", "hprof_live"])
+    crates = crates_below(["hprof_text", "hprof_graph"])
     for crate in crates:
         shutil.copytree(ROOT / "crates" / crate, folder / "crates" / crate, ignore=shutil.ignore_patterns("out"))
     program = folder / "crates" / "live_bench"
     (program / "src").mkdir(parents=True)
     shutil.copy(HERE / "main.rt.in", program / "src" / "main.rt")
     lines = [line for line in (ROOT / "crates.txt").read_text().split("\n") if line.split(":")[0] in crates]
-    lines.append("live_bench: hprof_text hprof_stream hprof_heap hprof_edges hprof_live")
+    lines.append("live_bench: hprof_text hprof_stream hprof_heap hprof_edges hprof_graph")
     (folder / "crates.txt").write_text("\n".join(lines) + "\n")
     built = subprocess.run(["rt", "run", "--jobs", "2"], cwd=program, capture_output=True, text=True)
     if built.returncode != 0:
