@@ -22,7 +22,7 @@ PAGES = [ROOT / "README.md", ROOT / "CONTRIBUTING.md", *sorted(ROOT.glob("docs/*
 PROGRAM = ROOT / "crates" / "hprof" / "out" / "hprof"
 SAMPLES = ROOT / "crates" / "hprof" / "data"
 MANUAL = ROOT / "docs" / "hprof.1"
-COMMAND = re.compile(r'Subcommand \{\s*name: "(\w+)"')
+COMMAND = re.compile(r'word: "(\w+)"')
 KIT = re.compile(r"rattle-kit-\w+ logic \w+")
 NAME = re.compile(r"[A-Za-z]\w*(::\w+)*(\(\))?")
 PLACES = re.compile(r"\b(hprof_\w+)(?:: |/specs/)(\w+\.antt(?:, \w+\.antt)*)")
@@ -91,7 +91,8 @@ def manual():
     """The commands that the program or the manual page has alone, what `--version` should say, and the warnings of man."""
     code = ROOT / "crates" / "hprof_tool" / "src" / "command"
     commands = set(re.findall(r"(?m)^\.SS (\w+)", MANUAL.read_text()))
-    yield from sorted(commands ^ set(COMMAND.findall((code / "subcommands.rt").read_text())))
+    tables = [code / "subcommands.rt", ROOT / "crates" / "hprof_ask" / "src" / "report_word.rt"]
+    yield from sorted(commands ^ {word for table in tables for word in COMMAND.findall(table.read_text())})
     yield from set(KIT.findall((ROOT / "README.md").read_text())) - set(KIT.findall((code / "help.rt").read_text()))
     if which("man"):
         show = ["man", "--warnings", "-E", "UTF-8", "-l", "-Tutf8", MANUAL]

@@ -1,7 +1,7 @@
 -- What the answers of a join say of the parts.
 use Rattle.std.proofs.Common.{◌≡◌, inl, inr, ℕ, suc, ◌≤◌, true, List, [], ◌∷◌, ◌++◌, length, take, map, Option, Some, Result, Ok, Err, refl}
 use Rattle.std.proofs.Common.{sym, ap, subst, ◌∙◌}
-use Rattle.std.specs.Prelude.{slice_get, ◌↔◌, None}
+use Rattle.std.specs.Prelude.{slice_get, ◌↔◌, None, IfOk}
 use Rattle.std.specs.List.{All, AllByRecursion}
 use Rattle.std.proofs.Math.Seq.{take-length}
 use Rattle.std.proofs.lemmas.Option.{get_or_from_slice_get, slice_get_within}
@@ -32,8 +32,9 @@ use Rattle.hprof_engine.specs.declared.tool_fault.ToolFault.{ToolFault}
 use Rattle.hprof_engine.specs.declared.tool_fault.ToolFault.TheVariants as tool
 use Rattle.hprof_engine.specs.Summaries.{AreSummaries, AreSummarised, HoldsFirst}
 use Rattle.hprof_engine.specs.Joining.{Tell, Agree, Disagree, IsPartFault, IsOfPart, IsAccepted, RefusesPart, AreGiven}
-use Rattle.hprof_engine.specs.Joining.{RefusesReader, AreReadOut, read_count, ReadsAll, is_want, IsHindered, IsOkOrConflict, IsOfReading}
+use Rattle.hprof_engine.specs.Joining.{RefusesReader, AreReadOut, fault_of, read_count, ReadsAll, is_want, IsHindered, IsOkOrConflict, IsOfReading}
 use Rattle.hprof_engine.specs.Makes.{Reads}
+use Rattle.hprof_engine.specs.Through.{TellsHeap}
 use Rattle.hprof_engine.proofs.PartFaults.{of_part}
 use Rattle.hprof_stream.proofs.Parts.{part_sound}
 use Rattle.hprof_stream.proofs.Smaller.{smaller_sound}
@@ -294,22 +295,7 @@ pub from_nothing : (from to : Gathered) (given : List Given) → from ≡ nothin
     → Gathers nothing_gathered given to
 from_nothing from to given e gathers = subst (λ (g : Gathered). Gathers g given to) e gathers
 
--- what is told at a refusal, where it is known which
-pub told_of : (given : List Given) (refusal known : Refusal) → refusal ≡ known → Tells given (Err refusal) → Tells given (Err known)
-told_of given refusal known e tells = subst (λ (r : Refusal). Tells given (Err r)) e tells
-
 -- ---- all parts were read, and the gatherer answered
-
--- the fault that a refusal of the gatherer is
-abbrev pub fault_of_refusal : Refusal → Option ToolFault
-fault_of_refusal refusals.NoParts = Some tool.NoParts
-fault_of_refusal refusals.IdSizes = Some tool.IdSizes
-fault_of_refusal (refusals.Conflict key) = Some (tool.Conflict key)
-fault_of_refusal refusals.Failed = None
-
-abbrev pub fault_of_answer : Result HeapValue Refusal → Option ToolFault
-fault_of_answer (Ok heap) = None
-fault_of_answer (Err refusal) = fault_of_refusal refusal
 
 --   given: what these gave
 module _ {R : Type 0} (left : R → Option (List ℕ)) (health : R → Health) (pulls : R → ℕ) (limits : Limits) (old new : List R)
@@ -330,44 +316,70 @@ module _ {R : Type 0} (left : R → Option (List ℕ)) (health : R → Health) (
     read_out = subst (λ (count : ℕ). AreReadOut left health pulls limits old new count) (sym all) out;
   }
 
-  pub answered : (answer : Result HeapValue Refusal) → Tells given answer
-      → Reads left health pulls limits old new (fault_of_answer answer)
-      × ((parts : List (List ℕ)) (ids : IdSize) (millis : ℕ) (facts : List FactValue) → Tell left old parts
-      → IsState parts ids millis facts → IsOkOrConflict (fault_of_answer answer))
-  answered (Ok heap) tells = (
-    reads_as None (
-      λ e. absurd cc,
-      λ none. absurd (let no : ◌≡◌ {A = Result HeapValue Refusal} (Ok heap) (Err refusals.NoParts) =
-          no_parts left limits old given of_readers none (Ok heap) tells in cc),
-    ) (λ e. absurd cc) (λ key e. absurd cc)
-        (λ index fault e. cc) refl,
-    λ parts ids millis facts told state. tt,
-  )
-  answered (Err refusals.NoParts) tells =
-      let none = no_readers left limits old given of_readers tells in (
-        reads_as (Some tool.NoParts) (λ e. none, λ e. refl) (λ e. absurd cc) (λ key e. absurd cc) (λ index fault e. cc) refl,
-        λ parts ids millis facts told state. absurd (some_parts left old parts ids millis facts told state none),
-      )
-  answered (Err refusals.IdSizes) tells = (
-    reads_as (Some tool.IdSizes) (
-      λ e. absurd cc,
-      λ none. absurd (let no : ◌≡◌ {A = Result HeapValue Refusal} (Err refusals.IdSizes)
-          (Err refusals.NoParts) = no_parts left limits old given of_readers none (Err refusals.IdSizes) tells in cc),
+  module _ {F : Type 0} (heap_in : F → HeapValue) where
+    pub answered : (answer : Result F ToolFault) → TellsHeap heap_in given answer
+        → Reads left health pulls limits old new (fault_of answer)
+        × ((parts : List (List ℕ)) (ids : IdSize) (millis : ℕ) (facts : List FactValue) → Tell left old parts
+        → IsState parts ids millis facts → IsOkOrConflict (fault_of answer))
+    answered (Ok found) tells = (
+      reads_as None (
+        λ e. absurd cc,
+        λ none. absurd (let no : ◌≡◌ {A = Result HeapValue Refusal} (Ok (heap_in found)) (Err refusals.NoParts) =
+            no_parts left limits old given of_readers none (Ok (heap_in found)) tells in cc),
+      ) (λ e. absurd cc) (λ key e. absurd cc)
+          (λ index fault e. cc) refl,
+      λ parts ids millis facts told state. tt,
     )
-        (λ e parts told. two_sizes left limits old given of_readers parts told tells) (λ key e. absurd cc)
-        (λ index fault e. cc) refl,
-    λ parts ids millis facts told state. absurd (not_two_sizes parts ids millis facts state
-        (two_sizes left limits old given of_readers parts told tells)),
-  )
-  answered (Err (refusals.Conflict key)) tells = (
-    reads_as (Some (tool.Conflict key)) (
-      λ e. absurd cc,
-      λ none. absurd (let no : ◌≡◌ {A = Result HeapValue Refusal}
-          (Err (refusals.Conflict key)) (Err refusals.NoParts) =
-          no_parts left limits old given of_readers none (Err (refusals.Conflict key)) tells in cc),
-    ) (λ e. absurd cc)
-        (λ named e parts told. let one : key ≡ named = cc in subst (Disagree parts) one
-        (disagree left limits old given of_readers parts told key tells)) (λ index fault e. cc) refl,
-    λ parts ids millis facts told state. tt,
-  )
-  answered (Err refusals.Failed) tells = absurd tells
+    answered (Err tool.NoParts) tells =
+        let none = no_readers left limits old given of_readers tells in (
+          reads_as (Some tool.NoParts) (λ e. none, λ e. refl) (λ e. absurd cc) (λ key e. absurd cc) (λ index fault e. cc) refl,
+          λ parts ids millis facts told state. absurd (some_parts left old parts ids millis facts told state none),
+        )
+    answered (Err tool.IdSizes) tells = (
+      reads_as (Some tool.IdSizes) (
+        λ e. absurd cc,
+        λ none. absurd (let no : ◌≡◌ {A = Result HeapValue Refusal} (Err refusals.IdSizes)
+            (Err refusals.NoParts) = no_parts left limits old given of_readers none (Err refusals.IdSizes) tells in cc),
+      )
+          (λ e parts told. two_sizes left limits old given of_readers parts told tells) (λ key e. absurd cc)
+          (λ index fault e. cc) refl,
+      λ parts ids millis facts told state. absurd (not_two_sizes parts ids millis facts state
+          (two_sizes left limits old given of_readers parts told tells)),
+    )
+    answered (Err (tool.Conflict key)) tells = (
+      reads_as (Some (tool.Conflict key)) (
+        λ e. absurd cc,
+        λ none. absurd (let no : ◌≡◌ {A = Result HeapValue Refusal}
+            (Err (refusals.Conflict key)) (Err refusals.NoParts) =
+            no_parts left limits old given of_readers none (Err (refusals.Conflict key)) tells in cc),
+      ) (λ e. absurd cc)
+          (λ named e parts told. let one : key ≡ named = cc in subst (Disagree parts) one
+          (disagree left limits old given of_readers parts told key tells)) (λ index fault e. cc) refl,
+      λ parts ids millis facts told state. tt,
+    )
+    answered (Err (tool.Part index fault)) tells = absurd tells
+    answered (Err tool.DumpTooLong) tells = absurd tells
+    answered (Err (tool.Write fault)) tells = absurd tells
+    answered (Err tool.OutOfMemory) tells = absurd tells
+
+--   given: what these gave
+module _ {F : Type 0} (given : List Given) (heap_in : F → HeapValue) where
+  -- it answers what reading alone answers, and all readers were read
+  pub reads_alone : (answer : Result F ToolFault) → TellsHeap heap_in given answer → IsOfReading (fault_of answer)
+      × ((all : ℕ) → read_count (fault_of answer) all ≡ all)
+  reads_alone (Ok found) tells = (tt, λ all. refl)
+  reads_alone (Err tool.NoParts) tells = (tt, λ all. refl)
+  reads_alone (Err tool.IdSizes) tells = (tt, λ all. refl)
+  reads_alone (Err (tool.Conflict key)) tells = (tt, λ all. refl)
+  reads_alone (Err (tool.Part index fault)) tells = absurd tells
+  reads_alone (Err tool.DumpTooLong) tells = absurd tells
+  reads_alone (Err (tool.Write fault)) tells = absurd tells
+  reads_alone (Err tool.OutOfMemory) tells = absurd tells
+
+  module _ {R : Type 0} (left : R → Option (List ℕ)) (limits : Limits) (old : List R)
+      (of_readers : AreGiven limits (map left (take (length old) old)) given) where
+    -- what was found is of what the parts state
+    pub found_agree : (answer : Result F ToolFault) → TellsHeap heap_in given answer → IfOk answer (λ found. (parts : List (List ℕ))
+        → Tell left old parts → let heap = heap_in found in Agree parts heap.ids heap.millis heap.facts)
+    found_agree (Ok found) tells = λ parts told. agree left limits old given of_readers parts told (heap_in found) tells
+    found_agree (Err fault) tells = tt

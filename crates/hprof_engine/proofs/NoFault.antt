@@ -39,6 +39,7 @@ use Rattle.hprof_engine.specs.declared.salvaged.Salvaged.{Salvaged}
 use Rattle.hprof_engine.specs.Saved.{AreSaved}
 use Rattle.hprof_engine.specs.Salvaging.{PartRead, is_want_of_memory, IsOfWhole, faults_from, EndsPart, IsReadSo, AreReadSo}
 use Rattle.hprof_engine.specs.Salvaging.{ReadsThrough, WantsAt, RefusesAll, Salvages}
+use Rattle.hprof_heap.specs.Heap.{heap_of}
 use Rattle.hprof_engine.specs.Through.{GathersSaved, ReadsParts, TellsHeap}
 use Rattle.hprof_engine.specs.Sound.{HaveNoFault, AnswersAsJoin}
 use Rattle.hprof_engine.proofs.AsJoined.{sound_front, sound_reads, as_joined}
@@ -115,7 +116,7 @@ module _ {R : Type 0} (left : R → Option (List ℕ)) (health : R → Health) (
       unwritten = refl;
     }
 
-    pub no_heap : (fault : ToolFault) → TellsHeap so.given (Err fault)
+    pub no_heap : (fault : ToolFault) → TellsHeap heap_of so.given (Err fault)
         → Salvages left health pulls limits old new written well target target (Err fault)
     no_heap tool.NoParts tells = refusal_told refusals.NoParts tells
     no_heap tool.IdSizes tells = refusal_told refusals.IdSizes tells

@@ -4,10 +4,9 @@ use Rattle.hprof_devices.specs.declared.health.Health.{Health}
 use Rattle.hprof_stream.specs.declared.limits.Limits.{Limits}
 use Rattle.hprof_stream.specs.declared.part_fault.PartFault.{PartFault}
 use Rattle.std.specs.Prelude.{Option}
-use Rattle.hprof_heap.specs.declared.heap.Heap.{Heap}
 use Rattle.hprof_heap.specs.declared.standing.Refusal.TheVariants as refusals
+use Rattle.hprof_rows.specs.HeapValue.{HeapValue}
 use Rattle.hprof_heap.specs.Gathering.{Gathered, Given, nothing_gathered, Gathers, Tells}
-use Rattle.hprof_heap.specs.Heap.{heap_of}
 use Rattle.hprof_engine.specs.declared.tool_fault.ToolFault.{ToolFault}
 use Rattle.hprof_engine.specs.declared.tool_fault.ToolFault.TheVariants as tool
 use Rattle.hprof_engine.specs.declared.salvaged.FaultedPart.{FaultedPart}
@@ -43,13 +42,13 @@ module _ {R : Type 0} (left : R → Option (List ℕ)) (health : R → Health) (
   ReadsParts gathered parts listed (Err tool.OutOfMemory) = WantsToList left health pulls limits old new
   ReadsParts gathered parts listed (Err other) = ⊥
 
--- the heap of the parts that a gatherer was given, or why there is none
-abbrev pub TellsHeap : List Given → Result Heap ToolFault → Type 0
-TellsHeap given (Ok heap) = Tells given (Ok (heap_of heap))
-TellsHeap given (Err tool.NoParts) = Tells given (Err refusals.NoParts)
-TellsHeap given (Err tool.IdSizes) = Tells given (Err refusals.IdSizes)
-TellsHeap given (Err (tool.Conflict key)) = Tells given (Err (refusals.Conflict key))
-TellsHeap given (Err other) = ⊥
+-- what was found with the heap of the parts that a gatherer was given, or why there is none
+abbrev pub TellsHeap : {F : Type 0} → (F → HeapValue) → List Given → Result F ToolFault → Type 0
+TellsHeap heap_in given (Ok found) = Tells given (Ok (heap_in found))
+TellsHeap heap_in given (Err tool.NoParts) = Tells given (Err refusals.NoParts)
+TellsHeap heap_in given (Err tool.IdSizes) = Tells given (Err refusals.IdSizes)
+TellsHeap heap_in given (Err (tool.Conflict key)) = Tells given (Err (refusals.Conflict key))
+TellsHeap heap_in given (Err other) = ⊥
 
 -- what was saved, without the heap
 abbrev pub salvaged_in : Result SalvagedHeap ToolFault → Result Salvaged ToolFault

@@ -4,11 +4,12 @@ ghost use Rattle.std.specs.Prelude.{◌≡◌, ℕ, List, [], length, All, IfOk}
 ghost use Rattle.hprof_devices.specs.declared.health.Health.TheVariants.{Well};
 ghost use Rattle.hprof_values.specs.declared.ids.IdSize.{IdSize};
 ghost use Rattle.hprof_items.specs.FactValue.{FactValue};
-ghost use Rattle.hprof_heap.specs.Gathering.{nothing_gathered};
+ghost use Rattle.hprof_heap.specs.Gathering.{Given, nothing_gathered, Gathers};
 ghost use Rattle.hprof_heap.specs.State.{IsState};
 ghost use Rattle.hprof_engine.specs.Joining.{Tell, Agree, fault_of, read_count, IsOfReading, IsHindered, IsOkOrConflict};
 ghost use Rattle.hprof_engine.specs.Makes.{Reads};
 ghost use Rattle.hprof_engine.specs.Summaries.{HoldsFirst};
+ghost use Rattle.hprof_engine.specs.Through.{TellsHeap};
 
 use crate::parts::read_parts;
 use crate::summaries::Summaries;
@@ -17,6 +18,22 @@ use hprof_devices::Source;
 use hprof_heap::{Gather, Refusal};
 use hprof_stream::Limits;
 use std::alloc::Global;
+
+/// Returns the heap of all facts that a gatherer was given, or why they have none.
+pub(crate) fn heap_of_all<G: Gather>(gatherer: G) -> Result<G::Found, ToolFault>
+    requires given { (given : List Given) × Gathers nothing_gathered given (G.gathered gatherer) }
+    ensures told { (given : List Given) → Gathers nothing_gathered given (G.gathered gatherer) → TellsHeap G.heap_in given result }
+    ensures listed { IfOk result (λ found. (id : ℕ) → G.watches gatherer id → G.lists found id) }
+{
+    match gatherer.finish() {
+        Ok(found) => Ok(found),
+        Err(Refusal::NoParts) => Err(ToolFault::NoParts),
+        Err(Refusal::IdSizes) => Err(ToolFault::IdSizes),
+        Err(Refusal::Conflict(key)) => Err(ToolFault::Conflict(key)),
+        // It has answered no fault.
+        Err(Refusal::Failed) => unreachable!(),
+    }
+}
 
 /// Reads all parts in order into a gatherer, and returns the heap of their facts with the data that the gatherer kept beside it.
 /// `summaries` takes the summary of each part that was read to its end, and keeps it in `kept`.
@@ -52,15 +69,6 @@ pub fn read_heap<R: Source, G: Gather + Drop, S: Summaries>(
         → All (λ reader. R.health reader ≡ Well) readers.new
         → (IsHindered (fault_of result) → ⊥) → IsOkOrConflict (fault_of result) }
 {
-    if let Err(fault) = read_parts(alloc, readers, limits, &mut gatherer, summaries, kept) {
-        return Err(fault);
-    }
-    match gatherer.finish() {
-        Ok(found) => Ok(found),
-        Err(Refusal::NoParts) => Err(ToolFault::NoParts),
-        Err(Refusal::IdSizes) => Err(ToolFault::IdSizes),
-        Err(Refusal::Conflict(key)) => Err(ToolFault::Conflict(key)),
-        // All parts were read, so it answered no fault.
-        Err(Refusal::Failed) => unreachable!(),
-    }
+    read_parts(alloc, readers, limits, &mut gatherer, summaries, kept)?;
+    heap_of_all(gatherer)
 }

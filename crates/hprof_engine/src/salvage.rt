@@ -1,40 +1,24 @@
 //! The salvage of parts.
 
-ghost use Rattle.std.specs.Prelude.{◌≡◌, ℕ, false, List, All, IfOk};
+ghost use Rattle.std.specs.Prelude.{◌≡◌, ℕ, List, All, IfOk};
 ghost use Rattle.std.specs.Io.KnownBytes.{Appends};
 ghost use Rattle.hprof_devices.specs.declared.health.Health.TheVariants.{Well};
 ghost use Rattle.hprof_dump.specs.Dump.{canonical_dump};
-ghost use Rattle.hprof_heap.specs.Gathering.{Given, gathered, nothing_gathered, Gathers};
 ghost use Rattle.hprof_heap.specs.Heap.{heap_of};
 ghost use Rattle.hprof_engine.specs.Salvaging.{Salvages, SavesAll};
 ghost use Rattle.hprof_engine.specs.Sound.{IsAsJoined, HaveNoFault, AnswersAsJoin};
-ghost use Rattle.hprof_engine.specs.Through.{TellsHeap, salvaged_in};
+ghost use Rattle.hprof_engine.specs.Through.{salvaged_in};
 
 use crate::counter::PartCounter;
 use crate::joined::Joined;
+use crate::read::heap_of_all;
 use crate::salvage_reading::read_through;
 use crate::salvaged::{Salvaged, SalvagedHeap};
 use crate::tool_fault::ToolFault;
 use hprof_devices::{Source, Target};
 use hprof_dump::write_canonical;
-use hprof_heap::{Gatherer, Heap, Refusal};
 use hprof_stream::Limits;
 use std::alloc::Global;
-
-/// Returns the heap of the facts that were gathered, or why there is none.
-fn heap_of_all(gatherer: Gatherer) -> Result<Heap, ToolFault>
-    requires { (gathered gatherer).failed ≡ false }
-    ensures { (given : List Given) → Gathers nothing_gathered given (gathered gatherer) → TellsHeap given result }
-{
-    match gatherer.finish() {
-        Ok(heap) => Ok(heap),
-        Err(Refusal::NoParts) => Err(ToolFault::NoParts),
-        Err(Refusal::IdSizes) => Err(ToolFault::IdSizes),
-        Err(Refusal::Conflict(key)) => Err(ToolFault::Conflict(key)),
-        // No fault was answered but for want of memory, which ended the call.
-        Err(Refusal::Failed) => unreachable!(),
-    }
-}
 
 /// Does what [`salvage_to`] does, and returns the heap that was written, too: a program that ends need not free it row by row.
 pub fn salvage_kept<R: Source, W: Target>(

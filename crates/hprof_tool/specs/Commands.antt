@@ -1,5 +1,5 @@
 -- The words of the commands.
-use Rattle.std.specs.Prelude.{◌≡◌, ◌≢◌, ℕ, List, Option, Some, None, Result, Ok, Err, codes}
+use Rattle.std.specs.Prelude.{◌≡◌, ◌≢◌, ℕ, List, Option, Some, None, codes}
 use Rattle.hprof_ask.specs.Words.{word_of}
 use Rattle.hprof_tool.specs.declared.command.NewFile.TheVariants as files
 use Rattle.hprof_tool.specs.declared.command.Misunderstood.{Misunderstood}
@@ -35,8 +35,3 @@ IsTaskOf (Some word) task = AsksFor word task
 abbrev pub IsNoCommand : Option (List ℕ) → Misunderstood → Type 0
 IsNoCommand found misunderstood.NoCommand = (word : List ℕ) × (found ≡ Some word) × ((command : CommandWord) → word ≢ command_word command)
 IsNoCommand found (misunderstood.Words error) = Unit {0}
-
--- what the words come to, as far as clap found a command among them
-abbrev pub TakesWords : {E : Type 0} → Option (List ℕ) → Result Task E → Type 0
-TakesWords found (Ok task) = IsTaskOf found task
-TakesWords found (Err error) = Unit {0}

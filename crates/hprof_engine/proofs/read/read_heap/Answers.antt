@@ -1,61 +1,97 @@
-use Rattle.std.proofs.Common.{◌≤◌, arith}
+use Rattle.std.proofs.Common.{◌≡◌, ◌≤◌, ℕ, List, Result, Ok, Err, arith, sym, subst, length}
+use Rattle.std.specs.List.{All}
+use Rattle.hprof_devices.specs.declared.health.Health.TheVariants as healths
+use Rattle.hprof_values.specs.declared.ids.IdSize.{IdSize}
+use Rattle.hprof_items.specs.FactValue.{FactValue}
 use Rattle.hprof_items.specs.Spelling.{longest_body}
-use Rattle.hprof_heap.specs.declared.standing.Refusal.TheVariants as refusals
-use Rattle.std.proofs.Common.{Ok, Err}
-use Rattle.hprof_engine.proofs.Answers.{agree, from_nothing, stopped, answered, told_of}
+use Rattle.hprof_heap.specs.State.{IsState}
+use Rattle.hprof_engine.specs.declared.tool_fault.ToolFault.{ToolFault}
+use Rattle.hprof_engine.specs.Joining.{Tell, fault_of, read_count, IsHindered, IsOkOrConflict, IsOfReading}
+use Rattle.hprof_engine.specs.Makes.{Reads}
+use Rattle.hprof_engine.specs.Summaries.{HoldsFirst}
+use Rattle.hprof_engine.proofs.Answers.{from_nothing, stopped, answered, reads_alone, found_agree}
+use Rattle.hprof_engine.proofs.Going.{of_fault}
 use Rattle.hprof_engine.proofs.read.read_heap.Goals as goal
 
-pub returns-in-Err-clause-reads : goal.returns-in-Err-clause-reads
-returns-in-Err-clause-reads g c =
-    (stopped g.R.Source.left g.R.Source.health g.R.Source.pulls c.args.limits c.args.readers.now c.read_parts.new.readers c.in-Err.fault
-    (g.G.Gather.gathered c.args.gatherer) (g.G.Gather.gathered c.read_parts.new.gatherer) c.in-Err.ensures.read).1
+-- reading ended with a fault
 
-pub returns-in-Err-clause-no_other : goal.returns-in-Err-clause-no_other
-returns-in-Err-clause-no_other g c =
+pub returns-in_err-read_parts-clause-reads : goal.returns-in_err-read_parts-clause-reads
+returns-in_err-read_parts-clause-reads g c =
+    of_fault (λ (r : Result g.G.Gather.Found ToolFault). Reads g.R.Source.left g.R.Source.health g.R.Source.pulls c.args.limits
+    c.args.readers.now c.read_parts.new.readers (fault_of r)) c.from_residual.result c.in_err-read_parts.field-0.0 c.from_residual.ensures.1
+    (stopped g.R.Source.left g.R.Source.health g.R.Source.pulls c.args.limits c.args.readers.now c.read_parts.new.readers
+    c.in_err-read_parts.field-0.0 (g.G.Gather.gathered c.args.gatherer) (g.G.Gather.gathered c.read_parts.new.gatherer)
+    c.in_err-read_parts.ensures.read).1
+
+pub returns-in_err-read_parts-clause-kind : goal.returns-in_err-read_parts-clause-kind
+returns-in_err-read_parts-clause-kind g c =
+    of_fault (λ (r : Result g.G.Gather.Found ToolFault). IsOfReading (fault_of r)) c.from_residual.result c.in_err-read_parts.field-0.0
+    c.from_residual.ensures.1
+    (stopped g.R.Source.left g.R.Source.health g.R.Source.pulls c.args.limits c.args.readers.now c.read_parts.new.readers
+    c.in_err-read_parts.field-0.0 (g.G.Gather.gathered c.args.gatherer) (g.G.Gather.gathered c.read_parts.new.gatherer)
+    c.in_err-read_parts.ensures.read).0
+
+pub returns-in_err-read_parts-clause-told : goal.returns-in_err-read_parts-clause-told
+returns-in_err-read_parts-clause-told g c =
+    of_fault (λ (r : Result g.G.Gather.Found ToolFault). HoldsFirst g.R.Source.left (g.S.Summaries.holds c.args.summaries.now)
+    c.args.readers.now (read_count (fault_of r) (length c.args.readers.now)) c.read_parts.new.kept) c.from_residual.result
+    c.in_err-read_parts.field-0.0 c.from_residual.ensures.1 c.in_err-read_parts.ensures.summaries
+
+pub returns-in_err-read_parts-clause-no_other : goal.returns-in_err-read_parts-clause-no_other
+returns-in_err-read_parts-clause-no_other g c = λ parts ids millis facts told state well unhindered.
+    let fault = c.in_err-read_parts.field-0.0 in
     let le : c.args.limits.max_item ≤ longest_body = omega arith in
-    (stopped g.R.Source.left g.R.Source.health g.R.Source.pulls c.args.limits c.args.readers.now c.read_parts.new.readers c.in-Err.fault
-    (g.G.Gather.gathered c.args.gatherer) (g.G.Gather.gathered c.read_parts.new.gatherer) c.in-Err.ensures.read).2 le
+    of_fault (λ (r : Result g.G.Gather.Found ToolFault). (IsHindered (fault_of r) → ⊥) → IsOkOrConflict (fault_of r)) c.from_residual.result
+    fault c.from_residual.ensures.1
+    ((stopped g.R.Source.left g.R.Source.health g.R.Source.pulls c.args.limits c.args.readers.now c.read_parts.new.readers fault
+    (g.G.Gather.gathered c.args.gatherer) (g.G.Gather.gathered c.read_parts.new.gatherer) c.in_err-read_parts.ensures.read).2 le
+    parts ids millis facts told state well) unhindered
 
-pub returns-in-Ok-clause-ok : goal.returns-in-Ok-clause-ok
-returns-in-Ok-clause-ok g c = λ parts told.
-    let read = c.in_default.ensures.read.0 in
-    let gathers = from_nothing (g.G.Gather.gathered c.args.gatherer) (g.G.Gather.gathered c.read_parts.new.gatherer) read.given c.requires.nothing
-    read.gathers in
-    agree g.R.Source.left c.args.limits c.args.readers.now read.given read.of_readers parts told (g.G.Gather.heap_in c.in-Ok.found)
-    (c.in-Ok.ensures.told read.given gathers)
+-- all parts were read
 
-pub returns-in-Ok-clause-reads : goal.returns-in-Ok-clause-reads
-returns-in-Ok-clause-reads g c =
-    let read = c.in_default.ensures.read in
-    let gathers = from_nothing (g.G.Gather.gathered c.args.gatherer) (g.G.Gather.gathered c.read_parts.new.gatherer) read.0.given c.requires.nothing
-    read.0.gathers in
+pub heap_of_all-requires-given : goal.heap_of_all-requires-given
+heap_of_all-requires-given g c =
+    let read = c.in_ok-read_parts.ensures.read.0 in
+    (read.given, from_nothing (g.G.Gather.gathered c.args.gatherer) (g.G.Gather.gathered c.read_parts.new.gatherer) read.given
+    c.requires.nothing read.gathers)
+
+pub returns-clause-ok : goal.returns-clause-ok
+returns-clause-ok g c =
+    let read = c.in_ok-read_parts.ensures.read.0 in
+    let gathers = from_nothing (g.G.Gather.gathered c.args.gatherer) (g.G.Gather.gathered c.read_parts.new.gatherer) read.given
+        c.requires.nothing read.gathers in
+    found_agree read.given g.G.Gather.heap_in g.R.Source.left c.args.limits c.args.readers.now read.of_readers c.heap_of_all.result
+    (c.heap_of_all.ensures.told read.given gathers)
+
+pub returns-clause-reads : goal.returns-clause-reads
+returns-clause-reads g c =
+    let read = c.in_ok-read_parts.ensures.read in
+    let gathers = from_nothing (g.G.Gather.gathered c.args.gatherer) (g.G.Gather.gathered c.read_parts.new.gatherer) read.0.given
+        c.requires.nothing read.0.gathers in
     (answered g.R.Source.left g.R.Source.health g.R.Source.pulls c.args.limits c.args.readers.now c.read_parts.new.readers read.0.given
-    read.0.of_readers read.1 (Ok (g.G.Gather.heap_in c.in-Ok.found))
-    (c.in-Ok.ensures.told read.0.given gathers)).0
+    read.0.of_readers read.1 g.G.Gather.heap_in c.heap_of_all.result (c.heap_of_all.ensures.told read.0.given gathers)).0
 
-pub returns-in-Err-IdSizes-clause-reads : goal.returns-in-Err-IdSizes-clause-reads
-returns-in-Err-IdSizes-clause-reads g c =
-    let read = c.in_default.ensures.read in
-    let gathers = from_nothing (g.G.Gather.gathered c.args.gatherer) (g.G.Gather.gathered c.read_parts.new.gatherer) read.0.given c.requires.nothing
-    read.0.gathers in
-    (answered g.R.Source.left g.R.Source.health g.R.Source.pulls c.args.limits c.args.readers.now c.read_parts.new.readers read.0.given
-    read.0.of_readers read.1 (Err refusals.IdSizes)
-    (told_of read.0.given c.in-Err-IdSizes.field-0 refusals.IdSizes c.in-Err-IdSizes.field-0-is (c.in-Err-IdSizes.ensures.told read.0.given gathers))).0
+pub returns-clause-kind : goal.returns-clause-kind
+returns-clause-kind g c =
+    let read = c.in_ok-read_parts.ensures.read in
+    let gathers = from_nothing (g.G.Gather.gathered c.args.gatherer) (g.G.Gather.gathered c.read_parts.new.gatherer) read.0.given
+        c.requires.nothing read.0.gathers in
+    (reads_alone read.0.given g.G.Gather.heap_in c.heap_of_all.result (c.heap_of_all.ensures.told read.0.given gathers)).0
 
-pub returns-in-Err-IdSizes-clause-no_other : goal.returns-in-Err-IdSizes-clause-no_other
-returns-in-Err-IdSizes-clause-no_other g c = λ parts ids millis facts told state well unhindered.
-    let read = c.in_default.ensures.read in
-    let gathers = from_nothing (g.G.Gather.gathered c.args.gatherer) (g.G.Gather.gathered c.read_parts.new.gatherer) read.0.given c.requires.nothing
-    read.0.gathers in
-    (answered g.R.Source.left g.R.Source.health g.R.Source.pulls c.args.limits c.args.readers.now c.read_parts.new.readers read.0.given
-    read.0.of_readers read.1 (Err refusals.IdSizes)
-    (told_of read.0.given c.in-Err-IdSizes.field-0 refusals.IdSizes c.in-Err-IdSizes.field-0-is (c.in-Err-IdSizes.ensures.told read.0.given gathers))).1 parts ids millis facts told state
+pub returns-clause-told : goal.returns-clause-told
+returns-clause-told g c =
+    let read = c.in_ok-read_parts.ensures.read in
+    let gathers = from_nothing (g.G.Gather.gathered c.args.gatherer) (g.G.Gather.gathered c.read_parts.new.gatherer) read.0.given
+        c.requires.nothing read.0.gathers in
+    let all = (reads_alone read.0.given g.G.Gather.heap_in c.heap_of_all.result (c.heap_of_all.ensures.told read.0.given gathers)).1 in
+    subst (λ (count : ℕ). HoldsFirst g.R.Source.left (g.S.Summaries.holds c.args.summaries.now) c.args.readers.now count
+    c.read_parts.new.kept) (sym (all (length c.args.readers.now))) c.in_ok-read_parts.ensures.summaries
 
-pub returns-in-Err-Conflict-clause-reads : goal.returns-in-Err-Conflict-clause-reads
-returns-in-Err-Conflict-clause-reads g c =
-    let read = c.in_default.ensures.read in
-    let gathers = from_nothing (g.G.Gather.gathered c.args.gatherer) (g.G.Gather.gathered c.read_parts.new.gatherer) read.0.given c.requires.nothing
-    read.0.gathers in
+pub returns-clause-no_other : goal.returns-clause-no_other
+returns-clause-no_other g c = λ parts ids millis facts told state well unhindered.
+    let read = c.in_ok-read_parts.ensures.read in
+    let gathers = from_nothing (g.G.Gather.gathered c.args.gatherer) (g.G.Gather.gathered c.read_parts.new.gatherer) read.0.given
+        c.requires.nothing read.0.gathers in
     (answered g.R.Source.left g.R.Source.health g.R.Source.pulls c.args.limits c.args.readers.now c.read_parts.new.readers read.0.given
-    read.0.of_readers read.1 (Err (refusals.Conflict c.in-Err-Conflict.key))
-    (told_of read.0.given c.in-Err-Conflict.field-0 (refusals.Conflict c.in-Err-Conflict.key) c.in-Err-Conflict.field-0-is (c.in-Err-Conflict.ensures.told read.0.given gathers))).0
+    read.0.of_readers read.1 g.G.Gather.heap_in c.heap_of_all.result (c.heap_of_all.ensures.told read.0.given gathers)).1
+    parts ids millis facts told state

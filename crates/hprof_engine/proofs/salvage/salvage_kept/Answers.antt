@@ -34,7 +34,7 @@ returns-in_err-heap-clause-no_fault g c = λ parts have.
     g.W.Target.written g.W.Target.health c.args.target.now c.args.target.now parts have (Err fault)
     (no_heap g.R.Source.left g.R.Source.health g.R.Source.pulls c.args.limits c.args.readers.now c.read_through.new.readers
     g.W.Target.written g.W.Target.health c.args.target.now (gathered c.read_through.new.counter.gatherer)
-    c.read_through.new.counter.parts c.read_through.new.faults.items so fault (c.in_err-heap.ensures so.given so.gathers)))
+    c.read_through.new.counter.parts c.read_through.new.faults.items so fault (c.in_err-heap.ensures.told so.given so.gathers)))
 
 pub returns-in-Err-clause-no_fault : goal.returns-in-Err-clause-no_fault
 returns-in-Err-clause-no_fault g c = λ parts have.
@@ -48,7 +48,7 @@ returns-in-Err-clause-no_fault g c = λ parts have.
       through = record {
         each = so.each;
         all = so.all;
-        saves = record { given = so.given; saved = so.saved; tells = c.in_ok-heap.ensures so.given so.gathers };
+        saves = record { given = so.given; saved = so.saved; tells = c.in_ok-heap.ensures.told so.given so.gathers };
       };
       count = w.bytes.0;
       wrote = w.bytes.2;
@@ -58,7 +58,7 @@ returns-in-Err-clause-no_fault g c = λ parts have.
 pub returns-clause-salvages : goal.returns-clause-salvages
 returns-clause-salvages g c =
     let so = c.in_ok-read_through.ensures in
-    let tells = c.in_ok-heap.ensures so.given so.gathers in
+    let tells = c.in_ok-heap.ensures.told so.given so.gathers in
     let w = c.in_default.ensures in
     record {
       reads = so.reads;
