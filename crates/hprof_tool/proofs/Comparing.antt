@@ -1,7 +1,5 @@
 -- What comparing the parts of two heaps tells.
 use Rattle.std.proofs.Common.{◌≡◌, ◌⊎◌, inl, inr, ℕ, List, [], Option, Some, None, refl}
-use Rattle.hprof_devices.specs.declared.device.Device.{Device}
-use Rattle.hprof_devices.specs.Device.{inner_of}
 use Rattle.hprof_devices.specs.declared.health.Health.{Health}
 use Rattle.hprof_engine.specs.declared.tool_fault.ToolFault.{ToolFault}
 use Rattle.hprof_engine.specs.declared.tool_fault.ToolFault.TheVariants as tool
@@ -141,7 +139,7 @@ dump_leaves contents IsFront before refusals.OutOfMemory after leaves = leaves
 
 -- ---- files
 
-module _ {F O : Type 0} (answered : Answered F) (tells : F → Option (List ℕ)) (older newer : List ℕ) (contents : O → Option (List ℕ))
+module _ {P W O : Type 0} (answered : Answered P W) (tells : P → Option (List ℕ)) (older newer : List ℕ) (contents : O → Option (List ℕ))
     (before : O) where
   abbrev Refuses : Refused → Option O → Type 0
   Refuses why after = RefusesDiff answered tells older newer contents before why after
@@ -155,38 +153,35 @@ module _ {F O : Type 0} (answered : Answered F) (tells : F → Option (List ℕ)
   older_unopened refusals.Questions is = absurd is
   older_unopened refusals.OutOfMemory is = (tt, ([], inl (none_added (contents before))))
 
-  pub newer_unopened : (olds : List (Device F)) → IsOneOpened answered older olds → (why : Refused) → IsOfOpeningOne answered newer 1 why
+  pub newer_unopened : (olds : List P) → IsOneOpened answered older olds → (why : Refused) → IsOfOpeningOne answered newer 1 why
       → Refuses why (Some before)
   newer_unopened olds opened (refusals.Engine fault) is = absurd is
   newer_unopened olds opened (refusals.Dump place fault) is = absurd is
-  newer_unopened olds opened (refusals.Open place) is = (inr (is.0, (inner_of opened.0, opened.2), is.1), refl)
+  newer_unopened olds opened (refusals.Open place) is = (inr (is.0, (opened.0, opened.2), is.1), refl)
   newer_unopened olds opened refusals.Create is = absurd is
   newer_unopened olds opened refusals.Questions is = absurd is
   newer_unopened olds opened refusals.OutOfMemory is = (tt, ([], inl (none_added (contents before))))
 
-  module _ (olds news : List (Device F)) (opened : IsOneOpened answered older olds) (opened_too : IsOneOpened answered newer news) where
-    abbrev left : Device F → Option (List ℕ)
-    left part = tells (inner_of part)
-
+  module _ (olds news : List P) (opened : IsOneOpened answered older olds) (opened_too : IsOneOpened answered newer news) where
     -- what holds of what the readers tell holds of the files
-    pub over_dumps : (Holds : List (List ℕ) → List (List ℕ) → Type 0) → OverBoth left olds news Holds
+    pub over_dumps : (Holds : List (List ℕ) → List (List ℕ) → Type 0) → OverBoth tells olds news Holds
         → OfDumps answered tells older newer Holds
     over_dumps Holds over = record {
-      old = inner_of opened.0;
-      new = inner_of opened_too.0;
+      old = opened.0;
+      new = opened_too.0;
       old_opened = opened.2;
       new_opened = opened_too.2;
-      holds = λ one other told told_too. over _ _ (one_told tells olds opened.0 (inner_of opened.0) one opened.1 refl told)
-          (one_told tells news opened_too.0 (inner_of opened_too.0) other opened_too.1 refl told_too);
+      holds = λ one other told told_too. over _ _ (one_told tells olds opened.0 one opened.1 told)
+          (one_told tells news opened_too.0 other opened_too.1 told_too);
     }
 
     abbrev FrontOfDumps : (held holds : Option (List ℕ)) → Type 0
     FrontOfDumps held holds = OfDumps answered tells older newer (λ one other. WritesFront (IsDifferenceOf one) other held holds)
 
-    front_of_dumps : (held holds : Option (List ℕ)) → IsFrontOfBoth left olds news held holds → FrontOfDumps held holds
+    front_of_dumps : (held holds : Option (List ℕ)) → IsFrontOfBoth tells olds news held holds → FrontOfDumps held holds
     front_of_dumps held holds front = over_dumps (λ one other. WritesFront (IsDifferenceOf one) other held holds) front
 
-    dumps_left : (why : Refused) (after : Option O) → IsOfComparing why → Leaves contents (IsFrontOfBoth left olds news) why before after
+    dumps_left : (why : Refused) (after : Option O) → IsOfComparing why → Leaves contents (IsFrontOfBoth tells olds news) why before after
         → Leaves contents FrontOfDumps why before after
     dumps_left (refusals.Engine (tool.Write fault)) (Some after) kind leaves = (leaves.0, front_of_dumps _ _ leaves.1)
     dumps_left (refusals.Engine (tool.Write fault)) None kind leaves = leaves
@@ -209,7 +204,7 @@ module _ {F O : Type 0} (answered : Answered F) (tells : F → Option (List ℕ)
     )
     dumps_left refusals.OutOfMemory None kind leaves = leaves
 
-    pub dumps_refused : (why : Refused) (after : Option O) → StopsComparing left olds news contents before why after → Refuses why after
+    pub dumps_refused : (why : Refused) (after : Option O) → StopsComparing tells olds news contents before why after → Refuses why after
     dumps_refused (refusals.Engine (tool.Write fault)) after stops =
         (over_dumps _ stops.1, dumps_left (refusals.Engine (tool.Write fault)) after stops.0 stops.2)
     dumps_refused (refusals.Engine (tool.Part index fault)) after stops = absurd stops.0

@@ -2,9 +2,7 @@
 use Rattle.std.proofs.Common.{◌≡◌, inl, inr, ℕ, List, [], ◌++◌, append-nil, Option, Some, None, refl, sym, ap, subst, ◌∙◌}
 use Rattle.std.specs.Borrow.{Bor}
 use Rattle.std.specs.Io.KnownBytes.{Consumes, IsAtEnd, append_known}
-use Rattle.hprof_devices.specs.declared.device.Device.{Device}
 use Rattle.hprof_devices.specs.declared.health.Health.{Health}
-use Rattle.hprof_devices.specs.Device.{inner_of}
 use Rattle.hprof_engine.specs.declared.tool_fault.ToolFault.{ToolFault}
 use Rattle.hprof_engine.specs.declared.tool_fault.ToolFault.TheVariants as tool
 use Rattle.hprof_engine.specs.Joining.{IsOfReading}
@@ -137,11 +135,11 @@ module _ {R Q W O : Type 0} (left : R → Option (List ℕ)) (health : R → Hea
 
 -- ---- of files
 
-module _ {F I Q O : Type 0} (answered : Answered F) (tells : F → Option (List ℕ)) (left : I → Option (List ℕ)) (contents : O → Option (List ℕ))
-    (names : List (Bor (List ℕ))) (input : I) (old : O) (parts : List (Device F)) (opened : AreOpened answered names parts)
+module _ {P W I Q O : Type 0} (answered : Answered P W) (tells : P → Option (List ℕ)) (left : I → Option (List ℕ))
+    (contents : O → Option (List ℕ)) (names : List (Bor (List ℕ))) (input : I) (old : O) (parts : List P) (opened : AreOpened answered names parts)
     (asked : Q → Option (List ℕ)) (source : Q) (same : asked source ≡ left input) where
   abbrev OfReaders : ((Question → List ℕ → Type 0) → List ℕ → Type 0) → Type 0
-  OfReaders = OverReaders (λ part. tells (inner_of part)) asked parts source
+  OfReaders = OverReaders tells asked parts source
 
   abbrev OfFiles : ((Question → List ℕ → Type 0) → List ℕ → Type 0) → Type 0
   OfFiles = OverFiles answered tells left contents names input old
@@ -152,7 +150,7 @@ module _ {F I Q O : Type 0} (answered : Answered F) (tells : F → Option (List 
       record { parts = parts; opened = opened; holds = λ told tell questions known. over told tell questions (same ∙ known) }
 
   abbrev Says : Refused → Type 0
-  Says = SaysOfReaders (λ part. tells (inner_of part)) parts
+  Says = SaysOfReaders tells parts
 
   pub refuses_files : (refused : Refused) (new : Option O) → LeavesAnswers contents old OfReaders Says refused new
       → LeavesAnswers contents old OfFiles (IsReportRefusal dump_making answered tells names) refused new
@@ -178,7 +176,7 @@ module _ {F I Q O : Type 0} (answered : Answered F) (tells : F → Option (List 
   refuses_files refusals.Create new leaves = leaves
 
 -- where a part cannot be opened, the stream is as it was
-pub cannot_ask : {F O : Type 0} (answered : Answered F) (tells : F → Option (List ℕ)) (contents : O → Option (List ℕ))
+pub cannot_ask : {P W O : Type 0} (answered : Answered P W) (tells : P → Option (List ℕ)) (contents : O → Option (List ℕ))
     (names : List (Bor (List ℕ))) (old : O) (Holding : ((Question → List ℕ → Type 0) → List ℕ → Type 0) → Type 0) (refused : Refused)
     → IsOfOpening answered names refused
     → LeavesAnswers contents old Holding (IsReportRefusal dump_making answered tells names) refused (Some old)

@@ -37,8 +37,8 @@ no_parts_of (tool.Write fault) same = absurd cc
 no_parts_of tool.OutOfMemory same = absurd cc
 
 -- where a part cannot be opened, the stream is as it was
-pub kept_at_opening : {F O : Type 0} (contents : O → Option (List ℕ)) (IsFront : Option (List ℕ) → Option (List ℕ) → Type 0)
-    (answered : Answered F) (names : List (Bor (List ℕ))) (refused : Refused) (old : O) → IsOfOpening answered names refused
+pub kept_at_opening : {P W O : Type 0} (contents : O → Option (List ℕ)) (IsFront : Option (List ℕ) → Option (List ℕ) → Type 0)
+    (answered : Answered P W) (names : List (Bor (List ℕ))) (refused : Refused) (old : O) → IsOfOpening answered names refused
     → Leaves contents IsFront refused old (Some old)
 kept_at_opening contents IsFront answered names (refusals.Engine fault) old is = absurd is
 kept_at_opening contents IsFront answered names (refusals.Dump place fault) old is = absurd is

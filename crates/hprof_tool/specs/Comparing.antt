@@ -1,7 +1,5 @@
 -- What comparing two dumps comes to.
 use Rattle.std.specs.Prelude.{◌≡◌, ◌⊎◌, ℕ, List, [], ◌∷◌, Option, Some, ⊤}
-use Rattle.hprof_devices.specs.declared.device.Device.{Device}
-use Rattle.hprof_devices.specs.Device.{inner_of}
 use Rattle.hprof_rows.specs.HeapValue.{HeapValue}
 use Rattle.hprof_engine.specs.declared.tool_fault.ToolFault.{ToolFault}
 use Rattle.hprof_engine.specs.declared.tool_fault.ToolFault.TheVariants as tool
@@ -54,31 +52,31 @@ StopsComparing left olds news contents old why new = IsOfComparing why
 
 -- ---- files
 
--- the only part is the file of that name, as it came of opening it
-abbrev pub IsOneOpened : {F : Type 0} → Answered F → List ℕ → List (Device F) → Type 0
-IsOneOpened {F} answered name parts = (part : Device F) × (parts ≡ part ∷ []) × answered.IsOpened name (inner_of part)
+-- the only part is that of that name, as it came of opening it
+abbrev pub IsOneOpened : {P W : Type 0} → Answered P W → List ℕ → List P → Type 0
+IsOneOpened {P} answered name parts = (part : P) × (parts ≡ part ∷ []) × answered.IsOpened name part
 
--- the file of that name could not be opened, or there was no memory
-abbrev pub IsOfOpeningOne : {F : Type 0} → Answered F → List ℕ → (place : ℕ) → Refused → Type 0
+-- the part of that name could not be opened, or there was no memory
+abbrev pub IsOfOpeningOne : {P W : Type 0} → Answered P W → List ℕ → (place : ℕ) → Refused → Type 0
 IsOfOpeningOne answered name place (refusals.Open other) = (other ≡ place) × answered.CannotOpen name
 IsOfOpeningOne answered name place refusals.OutOfMemory = ⊤
 IsOfOpeningOne answered name place other = ⊥
 
--- answered: what came of the names of files;  tells: what a file has left to tell
+-- answered: what came of the names of files;  tells: what a part has left to tell
 -- older, newer: the names of the dumps
-module _ {F : Type 0} (answered : Answered F) (tells : F → Option (List ℕ)) (older newer : List ℕ) where
-  -- the files of these names were opened, and this holds of what they tell
+module _ {P W : Type 0} (answered : Answered P W) (tells : P → Option (List ℕ)) (older newer : List ℕ) where
+  -- the dumps of these names were opened, and this holds of what they tell
   pub record OfDumps (Holds : List (List ℕ) → List (List ℕ) → Type 0) : Type 0 where
-    pub old : F
-    pub new : F
+    pub old : P
+    pub new : P
     pub old_opened : answered.IsOpened older old
     pub new_opened : answered.IsOpened newer new
     pub holds : (one other : List ℕ) → tells old ≡ Some one → tells new ≡ Some other → Holds (one ∷ []) (other ∷ [])
 
-  -- the file of the older name could not be opened, or that of the newer one
+  -- the dump of the older name could not be opened, or that of the newer one
   abbrev pub CannotOpenDump : ℕ → Type 0
   CannotOpenDump place = ((place ≡ 0) × answered.CannotOpen older)
-      ⊎ ((place ≡ 1) × ((old : F) × answered.IsOpened older old) × answered.CannotOpen newer)
+      ⊎ ((place ≡ 1) × ((old : P) × answered.IsOpened older old) × answered.CannotOpen newer)
 
   -- what a refusal to compare them says
   abbrev pub IsDiffRefusal : Refused → Type 0

@@ -87,11 +87,11 @@ abbrev pub SaysOfReaders : {R : Type 0} → (R → Option (List ℕ)) → List R
 SaysOfReaders left readers refused =
     IsOfMaking refused × ((parts : List (List ℕ)) → Tell left readers parts → IsRefusal dump_making refused parts)
 
--- answered: what came of the names of files;  tells: what a file has left to tell
+-- answered: what came of the names of files;  tells: what a part has left to tell
 -- left, contents: what the questions have left to tell, and what a stream tells that it holds
-module _ {F I O : Type 0} (answered : Answered F) (tells : F → Option (List ℕ)) (left : I → Option (List ℕ)) (contents : O → Option (List ℕ))
-    (names : List (Bor (List ℕ))) (input : I) (old : O) where
-  -- that holds of the answers over the heap of the files of these names
+module _ {P W I O : Type 0} (answered : Answered P W) (tells : P → Option (List ℕ)) (left : I → Option (List ℕ))
+    (contents : O → Option (List ℕ)) (names : List (Bor (List ℕ))) (input : I) (old : O) where
+  -- that holds of the answers over the heap of the parts of these names
   abbrev pub OverFiles : ((Question → List ℕ → Type 0) → List ℕ → Type 0) → Type 0
   OverFiles Holds = OfParts answered tells names
       (λ parts. (questions : List ℕ) → left input ≡ Some questions → OverParts (λ IsAnswer. Holds IsAnswer questions) parts)

@@ -4,8 +4,6 @@ use Rattle.std.specs.Borrow.{Bor}
 use Rattle.std.specs.List.{AllByRecursion}
 use Rattle.clap.specs.declared.error.ErrorKind.{ErrorKind}
 use Rattle.clap.specs.declared.error.ErrorKind.TheVariants as kinds
-use Rattle.hprof_devices.specs.declared.device.Device.{Device}
-use Rattle.hprof_devices.specs.Device.{inner_of}
 use Rattle.hprof_stream.specs.declared.limits.Limits.{Limits}
 use Rattle.hprof_stream.specs.declared.part_fault.PartFault.{PartFault}
 use Rattle.hprof_stream.specs.declared.part_fault.PartFault.TheVariants as faults
@@ -63,13 +61,13 @@ IsRefusal making refusals.Create parts = ⊥
 IsRefusal making refusals.Questions parts = ⊥
 IsRefusal making refusals.OutOfMemory parts = ⊤
 
--- the files of these names were opened, and this holds of what they tell
---   answered: what came of the names;  remaining: what a file has left to tell
-pub record OfParts {F : Type 0} (answered : Answered F) (remaining : F → Option (List ℕ)) (names : List (Bor (List ℕ)))
+-- the parts of these names were opened, and this holds of what they tell
+--   answered: what came of the names;  left: what a part has left to tell
+pub record OfParts {P W : Type 0} (answered : Answered P W) (left : P → Option (List ℕ)) (names : List (Bor (List ℕ)))
     (Holds : List (List ℕ) → Type 0) : Type 0 where
-  pub parts : List (Device F)
+  pub parts : List P
   pub opened : AreOpened answered names parts
-  pub holds : (told : List (List ℕ)) → Tell (λ part. remaining (inner_of part)) parts told → Holds told
+  pub holds : (told : List (List ℕ)) → Tell left parts told → Holds told
 
 -- what is made of the part that a stream gave, where it told one, was written to another
 --   IsMade: the text is made of the parts
@@ -79,35 +77,35 @@ abbrev pub IsMadeOfStream : {I O : Type 0} → (IsMade : List (List ℕ) → Lis
 IsMadeOfStream IsMade remaining contents input old new =
     (part : List ℕ) → remaining input ≡ Some part → WritesAll IsMade (part ∷ []) (contents old) (contents new)
 
--- what is made of the files of these names was written to a stream
-abbrev pub IsMadeOfFiles : {F O : Type 0} → (IsMade : List (List ℕ) → List ℕ → Type 0) → Answered F → (F → Option (List ℕ))
+-- what is made of the parts of these names was written to a stream
+abbrev pub IsMadeOfFiles : {P W O : Type 0} → (IsMade : List (List ℕ) → List ℕ → Type 0) → Answered P W → (P → Option (List ℕ))
     → (O → Option (List ℕ)) → List (Bor (List ℕ)) → O → O → Type 0
-IsMadeOfFiles IsMade answered remaining contents names old new =
-    OfParts answered remaining names (λ parts. WritesAll IsMade parts (contents old) (contents new))
+IsMadeOfFiles IsMade answered left contents names old new =
+    OfParts answered left names (λ parts. WritesAll IsMade parts (contents old) (contents new))
 
--- what is made of the files of these names was written to the one of that name, to what it held as it was created, and this it is now
-abbrev pub IsMadeInFile : {F : Type 0} → (IsMade : List (List ℕ) → List ℕ → Type 0) → Answered F → (F → Option (List ℕ))
-    → (F → Option (List ℕ)) → List (Bor (List ℕ)) → List ℕ → F → Type 0
-IsMadeInFile {F} IsMade answered remaining contents names out new =
-    (old : F) × answered.IsCreated out old × IsMadeOfFiles IsMade answered remaining contents names old new
+-- what is made of the parts of these names was written to the file of that name, to what it held as it was created, and this it is now
+abbrev pub IsMadeInFile : {P W : Type 0} → (IsMade : List (List ℕ) → List ℕ → Type 0) → Answered P W → (P → Option (List ℕ))
+    → (W → Option (List ℕ)) → List (Bor (List ℕ)) → List ℕ → W → Type 0
+IsMadeInFile {P} {W} IsMade answered left contents names out new =
+    (old : W) × answered.IsCreated out old × IsMadeOfFiles IsMade answered left contents names old new
 
--- what a refusal to report on the files of these names says
-abbrev pub IsReportRefusal : {F : Type 0} → Making → Answered F → (F → Option (List ℕ)) → List (Bor (List ℕ)) → Refused → Type 0
-IsReportRefusal making answered remaining names (refusals.Engine tool.OutOfMemory) = ⊥
-IsReportRefusal making answered remaining names (refusals.Engine fault) =
-    OfParts answered remaining names (IsRefusal making (refusals.Engine fault))
-IsReportRefusal making answered remaining names (refusals.Dump place fault) = ⊥
-IsReportRefusal making answered remaining names (refusals.Open index) = CannotOpenAt answered names index
-IsReportRefusal making answered remaining names refusals.Create = ⊥
-IsReportRefusal making answered remaining names refusals.Questions = ⊥
-IsReportRefusal making answered remaining names refusals.OutOfMemory = ⊤
+-- what a refusal to report on the parts of these names says
+abbrev pub IsReportRefusal : {P W : Type 0} → Making → Answered P W → (P → Option (List ℕ)) → List (Bor (List ℕ)) → Refused → Type 0
+IsReportRefusal making answered left names (refusals.Engine tool.OutOfMemory) = ⊥
+IsReportRefusal making answered left names (refusals.Engine fault) = OfParts answered left names (IsRefusal making (refusals.Engine fault))
+IsReportRefusal making answered left names (refusals.Dump place fault) = ⊥
+IsReportRefusal making answered left names (refusals.Open index) = CannotOpenAt answered names index
+IsReportRefusal making answered left names refusals.Create = ⊥
+IsReportRefusal making answered left names refusals.Questions = ⊥
+IsReportRefusal making answered left names refusals.OutOfMemory = ⊤
 
 -- what a refusal to make something of them, in a new file of that name, says: behind one of the engine it was tried to remove the file
-abbrev pub IsFilesRefusal : {F : Type 0} → Making → Answered F → (F → Option (List ℕ)) → List (Bor (List ℕ)) → List ℕ → Refused → Type 0
-IsFilesRefusal making answered remaining names out refusals.Create = answered.CannotCreate out
-IsFilesRefusal making answered remaining names out (refusals.Engine fault) =
-    IsReportRefusal making answered remaining names (refusals.Engine fault) × answered.IsRemoved out
-IsFilesRefusal making answered remaining names out other = IsReportRefusal making answered remaining names other
+abbrev pub IsFilesRefusal : {P W : Type 0} → Making → Answered P W → (P → Option (List ℕ)) → List (Bor (List ℕ)) → List ℕ → Refused
+    → Type 0
+IsFilesRefusal making answered left names out refusals.Create = answered.CannotCreate out
+IsFilesRefusal making answered left names out (refusals.Engine fault) =
+    IsReportRefusal making answered left names (refusals.Engine fault) × answered.IsRemoved out
+IsFilesRefusal making answered left names out other = IsReportRefusal making answered left names other
 
 -- how the program refuses what the engine refuses: want of memory is the program's own
 abbrev pub refused_of : ToolFault → Refused
@@ -143,10 +141,16 @@ IsOfMaking refusals.OutOfMemory = ⊤
 IsOfMaking other = ⊥
 
 -- the first of these files that could not be opened is told, or there was no memory
-abbrev pub IsOfOpening : {F : Type 0} → Answered F → List (Bor (List ℕ)) → Refused → Type 0
+abbrev pub IsOfOpening : {P W : Type 0} → Answered P W → List (Bor (List ℕ)) → Refused → Type 0
 IsOfOpening answered names (refusals.Open index) = CannotOpenAt answered names index
 IsOfOpening answered names refusals.OutOfMemory = ⊤
 IsOfOpening answered names other = ⊥
+
+-- the file of that name could not be created, or there was no memory
+abbrev pub IsOfCreating : {P W : Type 0} → Answered P W → (out : List ℕ) → Refused → Type 0
+IsOfCreating answered out refusals.Create = answered.CannotCreate out
+IsOfCreating answered out refusals.OutOfMemory = ⊤
+IsOfCreating answered out other = ⊥
 
 -- as `Makes` with the usual limits, for a stream whose health nothing tells
 --   held, holds: what the stream and the buffer before it hold, before and afterwards, where the stream tells

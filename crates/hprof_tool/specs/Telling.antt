@@ -1,6 +1,7 @@
 -- What is told of the faults of parts.
-use Rattle.std.specs.Prelude.{◌≡◌, ◌⊎◌, ℕ, List, [], ◌∷◌, ◌++◌, Option, ⊤}
+use Rattle.std.specs.Prelude.{◌≡◌, ◌⊎◌, ℕ, List, [], ◌∷◌, ◌++◌, Option, Some, None, ⊤}
 use Rattle.std.specs.Borrow.{Bor}
+use Rattle.hprof_devices.specs.declared.health.Health.{Health}
 use Rattle.hprof_devices.specs.declared.health.WriteFault.TheVariants as write_faults
 use Rattle.hprof_engine.specs.declared.tool_fault.ToolFault.TheVariants as tool
 use Rattle.hprof_engine.specs.FaultText.{IsFaultText}
@@ -26,15 +27,19 @@ abbrev pub IsOfTelling : Refused → Type 0
 IsOfTelling (refusals.Engine (tool.Write write_faults.Failed)) = ⊤
 IsOfTelling other = ⊥
 
-module _ {F : Type 0} (answered : Answered F) (remaining contents : F → Option (List ℕ)) (names : List (Bor (List ℕ))) (out : List ℕ) where
-  -- what is saved of the files of these names was written to a new one, which stays, and then a fault could not be told
-  pub record CannotTell (why : Refused) : Type 0 where
+module _ {P W : Type 0} (answered : Answered P W) (left : P → Option (List ℕ)) (health : P → Health) (pulls : P → ℕ)
+    (contents : W → Option (List ℕ)) (names : List (Bor (List ℕ))) (out : List ℕ) where
+  -- what is saved of the parts of these names was written to this new file, which is given back, and then a fault could not be told
+  pub record CannotTell (file : Option W) (why : Refused) : Type 0 where
     pub salvaged : Salvaged
-    pub file : F
-    pub saved : IsSalvagedFile answered remaining contents names out salvaged file
+    pub written : W
+    pub given_back : file ≡ Some written
+    pub saved : IsSalvagedFile answered left health pulls contents names out salvaged written
     pub failed : IsOfTelling why
 
-  -- what a refusal to save what can be saved of them and to tell their faults says: nothing is told where nothing was saved
-  --   old, new: the stream on which the faults are told
-  abbrev pub RefusesSalvage : {O : Type 0} → (old new : O) → Refused → Type 0
-  RefusesSalvage old new why = (IsSalvageRefusal answered remaining names out why × (new ≡ old)) ⊎ CannotTell why
+  -- what a refusal to save what can be saved of them and to tell their faults says: nothing is told, and no file is given back, where
+  -- nothing was saved
+  --   file: the file that is given back;  old, new: the stream on which the faults are told
+  abbrev pub RefusesSalvage : {O : Type 0} → (file : Option W) → (old new : O) → Refused → Type 0
+  RefusesSalvage file old new why =
+      (IsSalvageRefusal answered left health pulls contents names out why × (new ≡ old) × (file ≡ None)) ⊎ CannotTell file why

@@ -1,6 +1,6 @@
 //! The program: the task that its words ask for, over files and standard streams that the caller passes.
 
-ghost use Rattle.std.specs.Prelude.{◌≡◌, ◌≢◌, ℕ, List, Some, IfOk, IfErr};
+ghost use Rattle.std.specs.Prelude.{◌≡◌, ◌≢◌, ℕ, List, Some, None};
 ghost use Rattle.std.specs.Io.KnownBytes.{Appends};
 ghost use Rattle.hprof_engine.specs.Makes.{IsDump, IsMadeOf, making_of};
 ghost use Rattle.hprof_text.specs.Identifier.{IsIdText, id_value};
@@ -9,19 +9,20 @@ ghost use Rattle.hprof_ask.specs.Asked.{NamesKind};
 ghost use Rattle.hprof_reports.specs.ObjectsText.{IsObjectsReport, objects_making};
 ghost use Rattle.hprof_tool.specs.Comparing.{ComparesFiles, RefusesDiff};
 ghost use Rattle.hprof_tool.specs.Conversing.{AnswersQuestions, RefusesQuestions};
-ghost use Rattle.hprof_tool.specs.Program.{IsMadeOfStream, IsMadeInFile, IsMadeOfFiles};
+ghost use Rattle.hprof_engine.specs.declared.salvaged.Salvaged.{Salvaged};
+ghost use Rattle.hprof_tool.specs.Folder.{MayCreateBehind};
+ghost use Rattle.hprof_tool.specs.Program.{IsMadeOfStream, IsMadeInFile, IsMadeOfFiles, IsFilesRefusal};
 ghost use Rattle.hprof_tool.specs.SalvagedFiles.{IsSalvagedFile};
 ghost use Rattle.hprof_tool.specs.Streams.{RefusesStream, RefusesReport};
-ghost use Rattle.hprof_tool.specs.Tasks.{DoesTask, IsMisnamed, RefusesTask};
+ghost use Rattle.hprof_tool.specs.Tasks.{DoesTask, IsMisnamed, MayDo, RefusesTask, WritesNoFile, new_file_making};
 ghost use Rattle.hprof_tool.specs.Telling.{TellsFaults, RefusesSalvage};
 ghost use Rattle.hprof_tool.specs.Words.{is_answer, answer_making, is_new_file};
-ghost use Rattle.hprof_tool.specs.declared.program.salvaging.Written.{Written};
 
 use crate::command::{NewFile, Question, Task, task_of};
 use crate::status::Status;
 use answers::{
-    Ended, answer_no_id, answer_no_kind, answer_no_words, answer_outcome, answer_stream,
-    answer_words,
+    Ended, EndedFile, answer_no_id, answer_no_kind, answer_no_words, answer_stream, answer_words,
+    refuse,
 };
 use comparing::compare_files;
 use conversing::ask_files;
@@ -57,22 +58,23 @@ mod salvaging;
 mod writing;
 
 /// Joins the part on `input` to `output`, which it gives back.
-fn join_input<I: Read + Drop, O: Write + Drop, E: Write>(
+fn join_input<I: Read + Drop, O: Write + Drop, W, E: Write>(
     alloc: Global,
     input: I,
     output: O,
     errors: &mut E,
-) -> Ended<O>
+) -> Ended<O, W>
     ensures done { result.status ≡ Status.Done → (written : O) × (result.output ≡ Some written)
         × IsMadeOfStream IsDump I.remaining O.contents input output written }
     ensures refused { result.status ≡ Status.Refused → (why : Refused)
         × RefusesStream I.remaining O.contents input output why result.output }
     ensures understood { result.status ≢ Status.NotUnderstood }
+    ensures no_file { result.file ≡ None }
 {
     answer_stream(alloc, join_stream(alloc, input, output), errors)
 }
 
-/// Writes the product of parts in files to a new file.
+/// Writes the product of parts in files to a new file, which it gives back.
 fn write_new_file<P: Product, F: Folder, E: Write>(
     alloc: Global,
     files: &F,
@@ -80,38 +82,29 @@ fn write_new_file<P: Product, F: Folder, E: Write>(
     out: &str,
     names: &[&str],
     errors: &mut E,
-) -> Status
-    ensures done { result ≡ Status.Done → (written : F.File)
-        × IsMadeInFile (IsMadeOf (P.is_text product.now)) (F.answered files.now) F.File.remaining F.File.contents names.now out.now written }
-    ensures understood { result ≢ Status.NotUnderstood }
+) -> EndedFile<F::Out>
+    requires { MayCreateBehind (F.answered files.now) names.now out.now }
+    ensures done { result.status ≡ Status.Done → (written : F.Out) × (result.file ≡ Some written)
+        × IsMadeInFile (IsMadeOf (P.is_text product.now)) (F.answered files.now) F.Part.left F.Out.contents names.now out.now written }
+    ensures refused { result.status ≡ Status.Refused → (result.file ≡ None) × ((why : Refused) × IsFilesRefusal
+        (making_of (P.is_text product.now) (P.is_too_long product.now) P.Kept.takes_room (P.takes_memory product.now))
+        (F.answered files.now) F.Part.left names.now out.now why) }
+    ensures understood { result.status ≢ Status.NotUnderstood }
 {
-    answer_outcome(alloc, write_file(alloc, files, product, out, names), errors)
-}
-
-/// Salvages parts in files to a new file, which it gives back, and then tells the faults of the parts on `output`. If a fault cannot be
-/// told, the new file stays: it is whole.
-fn salvage_and_tell<F: Folder, O: Write>(
-    alloc: Global,
-    files: &F,
-    out: &str,
-    names: &[&str],
-    output: &mut O,
-) -> Result<Written<F::File>, Refused>
-    ensures saved { IfOk result (λ written. IsSalvagedFile (F.answered files.now) F.File.remaining F.File.contents names.now out.now
-        written.salvaged written.writer) }
-    ensures told { IfOk result (λ written. (text : List ℕ) × TellsFaults written.salvaged.faults.items text
-        × Appends (O.contents output.old) (O.contents output.new) text) }
-    ensures refused { IfErr result (RefusesSalvage (F.answered files.now) F.File.remaining F.File.contents names.now out.now
-        output.old output.new) }
-{
-    let written = salvage_file(alloc, files, out, names)?;
-    match tell_faults(&written.salvaged.faults, output) {
-        Ok(()) => Ok(written),
-        Err(why) => Err(why),
+    match write_file(alloc, files, product, out, names) {
+        Ok(file) => EndedFile {
+            status: Status::Done,
+            file: Some(file),
+        },
+        Err(why) => EndedFile {
+            status: refuse(alloc, &why, errors),
+            file: None,
+        },
     }
 }
 
-/// Salvages parts in files to a new file, and tells the faults of the parts on `output`, one a line.
+/// Salvages parts in files to a new file, which it gives back, and then tells the faults of the parts on `output`, one a line. If a fault
+/// cannot be told, the new file stays: it is whole.
 fn salvage<F: Folder, O: Write, E: Write>(
     alloc: Global,
     files: &F,
@@ -119,20 +112,35 @@ fn salvage<F: Folder, O: Write, E: Write>(
     names: &[&str],
     output: &mut O,
     errors: &mut E,
-) -> Status
-    ensures done { result ≡ Status.Done → (written : Written F.File)
-        × (IsSalvagedFile (F.answered files.now) F.File.remaining F.File.contents names.now out.now written.salvaged written.writer
-        × ((text : List ℕ) × TellsFaults written.salvaged.faults.items text
-        × Appends (O.contents output.old) (O.contents output.new) text)) }
-    ensures refused { result ≡ Status.Refused → (why : Refused) × RefusesSalvage (F.answered files.now) F.File.remaining
-        F.File.contents names.now out.now output.old output.new why }
-    ensures understood { result ≢ Status.NotUnderstood }
+) -> EndedFile<F::Out>
+    requires { MayCreateBehind (F.answered files.now) names.now out.now }
+    ensures done { result.status ≡ Status.Done → (salvaged : Salvaged) × ((written : F.Out) × (result.file ≡ Some written)
+        × IsSalvagedFile (F.answered files.now) F.Part.left F.Part.health F.Part.pulls F.Out.contents names.now out.now salvaged written)
+        × ((text : List ℕ) × TellsFaults salvaged.faults.items text
+        × Appends (O.contents output.old) (O.contents output.new) text) }
+    ensures refused { result.status ≡ Status.Refused → (why : Refused) × RefusesSalvage (F.answered files.now) F.Part.left F.Part.health
+        F.Part.pulls F.Out.contents names.now out.now result.file output.old output.new why }
+    ensures understood { result.status ≢ Status.NotUnderstood }
 {
-    answer_outcome(
-        alloc,
-        salvage_and_tell(alloc, files, out, names, output),
-        errors,
-    )
+    let Written { salvaged, writer } = match salvage_file(alloc, files, out, names) {
+        Ok(written) => written,
+        Err(why) => {
+            return EndedFile {
+                status: refuse(alloc, &why, errors),
+                file: None,
+            };
+        }
+    };
+    match tell_faults(&salvaged.faults, output) {
+        Ok(()) => EndedFile {
+            status: Status::Done,
+            file: Some(writer),
+        },
+        Err(why) => EndedFile {
+            status: refuse(alloc, &why, errors),
+            file: Some(writer),
+        },
+    }
 }
 
 /// Writes a report on parts in files to `output`, which it gives back.
@@ -143,13 +151,14 @@ fn report<P: Product, F: Folder, O: Write + Drop, E: Write>(
     names: &[&str],
     output: O,
     errors: &mut E,
-) -> Ended<O>
+) -> Ended<O, F::Out>
     ensures done { result.status ≡ Status.Done → (written : O) × (result.output ≡ Some written)
-        × IsMadeOfFiles (IsMadeOf (P.is_text report.now)) (F.answered files.now) F.File.remaining O.contents names.now output written }
+        × IsMadeOfFiles (IsMadeOf (P.is_text report.now)) (F.answered files.now) F.Part.left O.contents names.now output written }
     ensures refused { result.status ≡ Status.Refused → (why : Refused) × RefusesReport
         (making_of (P.is_text report.now) (P.is_too_long report.now) P.Kept.takes_room (P.takes_memory report.now))
-        (F.answered files.now) F.File.remaining O.contents names.now output why result.output }
+        (F.answered files.now) F.Part.left O.contents names.now output why result.output }
     ensures understood { result.status ≢ Status.NotUnderstood }
+    ensures no_file { result.file ≡ None }
 {
     answer_stream(
         alloc,
@@ -158,7 +167,7 @@ fn report<P: Product, F: Folder, O: Write + Drop, E: Write>(
     )
 }
 
-/// Writes the dump that is asked for of parts in files to a new file.
+/// Writes the dump that is asked for of parts in files to a new file, which it gives back.
 fn write_dump<F: Folder, E: Write>(
     alloc: Global,
     files: &F,
@@ -166,10 +175,13 @@ fn write_dump<F: Folder, E: Write>(
     out: &str,
     names: &[&str],
     errors: &mut E,
-) -> Status
-    ensures done { result ≡ Status.Done → (written : F.File)
-        × IsMadeInFile (IsMadeOf (is_new_file product)) (F.answered files.now) F.File.remaining F.File.contents names.now out.now written }
-    ensures understood { result ≢ Status.NotUnderstood }
+) -> EndedFile<F::Out>
+    requires { MayCreateBehind (F.answered files.now) names.now out.now }
+    ensures done { result.status ≡ Status.Done → (written : F.Out) × (result.file ≡ Some written)
+        × IsMadeInFile (IsMadeOf (is_new_file product)) (F.answered files.now) F.Part.left F.Out.contents names.now out.now written }
+    ensures refused { result.status ≡ Status.Refused → (result.file ≡ None) × ((why : Refused) × IsFilesRefusal
+        (new_file_making product) (F.answered files.now) F.Part.left names.now out.now why) }
+    ensures understood { result.status ≢ Status.NotUnderstood }
 {
     match product {
         NewFile::Dump => write_new_file(alloc, files, &Dump, out, names, errors),
@@ -187,20 +199,22 @@ fn ask<F: Folder, O: Write + Drop, E: Write>(
     names: &[&str],
     output: O,
     errors: &mut E,
-) -> Ended<O>
+) -> Ended<O, F::Out>
     ensures done { result.status ≡ Status.Done → IsIdText id.now × ((written : O) × (result.output ≡ Some written)
-        × IsMadeOfFiles (IsMadeOf (is_answer question (id_value id.now))) (F.answered files.now) F.File.remaining O.contents names.now
+        × IsMadeOfFiles (IsMadeOf (is_answer question (id_value id.now))) (F.answered files.now) F.Part.left O.contents names.now
         output written) }
     ensures refused { result.status ≡ Status.Refused → IsIdText id.now × ((why : Refused)
-        × RefusesReport (answer_making question (id_value id.now)) (F.answered files.now) F.File.remaining O.contents names.now
+        × RefusesReport (answer_making question (id_value id.now)) (F.answered files.now) F.Part.left O.contents names.now
         output why result.output) }
     ensures understood { IsIdText id.now → result.status ≢ Status.NotUnderstood }
     ensures no_id { ¬ (IsIdText id.now) → (result.status ≡ Status.NotUnderstood) × (result.output ≡ Some output) }
+    ensures no_file { result.file ≡ None }
 {
     let Some(id) = parse_id(id) else {
         return Ended {
             status: answer_no_id(errors),
             output: Some(output),
+            file: None,
         };
     };
     match question {
@@ -221,19 +235,21 @@ fn objects<F: Folder, O: Write + Drop, E: Write>(
     names: &[&str],
     output: O,
     errors: &mut E,
-) -> Ended<O>
+) -> Ended<O, F::Out>
     ensures done { result.status ≡ Status.Done → (named : Kind) × NamesKind kind.now named × ((written : O) × (result.output ≡ Some written)
-        × IsMadeOfFiles (IsMadeOf (IsObjectsReport named)) (F.answered files.now) F.File.remaining O.contents names.now output written) }
+        × IsMadeOfFiles (IsMadeOf (IsObjectsReport named)) (F.answered files.now) F.Part.left O.contents names.now output written) }
     ensures refused { result.status ≡ Status.Refused → (named : Kind) × NamesKind kind.now named × ((why : Refused)
-        × RefusesReport (objects_making named) (F.answered files.now) F.File.remaining O.contents names.now output why result.output) }
+        × RefusesReport (objects_making named) (F.answered files.now) F.Part.left O.contents names.now output why result.output) }
     ensures understood { (named : Kind) → NamesKind kind.now named → result.status ≢ Status.NotUnderstood }
     ensures no_kind { ((named : Kind) → NamesKind kind.now named → ⊥)
         → (result.status ≡ Status.NotUnderstood) × (result.output ≡ Some output) }
+    ensures no_file { result.file ≡ None }
 {
     let Some(kind) = kind_of(kind.as_bytes()) else {
         return Ended {
             status: answer_no_kind(errors),
             output: Some(output),
+            file: None,
         };
     };
     report(alloc, files, &ObjectsReport { kind }, names, output, errors)
@@ -248,12 +264,13 @@ fn converse<F: Folder, I: Read + Drop, P: Write + Drop, O: Write + Drop, E: Writ
     prompts: Option<P>,
     output: O,
     errors: &mut E,
-) -> Ended<O>
+) -> Ended<O, F::Out>
     ensures done { result.status ≡ Status.Done → (written : O) × (result.output ≡ Some written)
-        × AnswersQuestions (F.answered files.now) F.File.remaining I.remaining O.contents names.now input output written }
-    ensures refused { result.status ≡ Status.Refused → (why : Refused) × RefusesQuestions (F.answered files.now) F.File.remaining
+        × AnswersQuestions (F.answered files.now) F.Part.left I.remaining O.contents names.now input output written }
+    ensures refused { result.status ≡ Status.Refused → (why : Refused) × RefusesQuestions (F.answered files.now) F.Part.left
         I.remaining O.contents names.now input output why result.output }
     ensures understood { result.status ≢ Status.NotUnderstood }
+    ensures no_file { result.file ≡ None }
 {
     answer_stream(
         alloc,
@@ -270,12 +287,13 @@ fn compare<F: Folder, O: Write + Drop, E: Write>(
     newer: &str,
     output: O,
     errors: &mut E,
-) -> Ended<O>
+) -> Ended<O, F::Out>
     ensures done { result.status ≡ Status.Done → (written : O) × (result.output ≡ Some written)
-        × ComparesFiles (F.answered files.now) F.File.remaining older.now newer.now O.contents output written }
-    ensures refused { result.status ≡ Status.Refused → (why : Refused) × RefusesDiff (F.answered files.now) F.File.remaining
+        × ComparesFiles (F.answered files.now) F.Part.left older.now newer.now O.contents output written }
+    ensures refused { result.status ≡ Status.Refused → (why : Refused) × RefusesDiff (F.answered files.now) F.Part.left
         older.now newer.now O.contents output why result.output }
     ensures understood { result.status ≢ Status.NotUnderstood }
+    ensures no_file { result.file ≡ None }
 {
     answer_stream(
         alloc,
@@ -289,7 +307,8 @@ fn list_of(alloc: Global, words: io::Result<Args>) -> io::Result<Vec<String>> {
     Ok(words?.collect(alloc)?)
 }
 
-/// Does what a task asks for. It gives `output` back, unless there was no memory for the buffer before it.
+/// Does what a task asks for. It gives `output` back, unless there was no memory for the buffer before it, and the new file that it wrote, if
+/// it wrote one.
 fn perform<F: Folder, I: Read + Drop, O: Write + Drop, E: Write, P: Write + Drop>(
     alloc: Global,
     files: &F,
@@ -298,13 +317,15 @@ fn perform<F: Folder, I: Read + Drop, O: Write + Drop, E: Write, P: Write + Drop
     mut output: O,
     errors: &mut E,
     prompts: Option<P>,
-) -> Ended<O>
+) -> Ended<O, F::Out>
+    requires { MayDo (F.answered files.now) task }
     ensures done { result.status ≡ Status.Done → (after : O) × (result.output ≡ Some after) × DoesTask (F.answered files.now)
-        F.File.remaining F.File.contents I.remaining O.contents task.entry input output after }
+        F.Part.left F.Part.health F.Part.pulls F.Out.contents I.remaining O.contents result.file task.entry input output after }
     ensures refused { result.status ≡ Status.Refused → (why : Refused) × RefusesTask (F.answered files.now)
-        F.File.remaining F.File.contents I.remaining O.contents task.entry input output why result.output }
+        F.Part.left F.Part.health F.Part.pulls F.Out.contents I.remaining O.contents result.file task.entry input output why result.output }
     ensures understood { result.status ≡ Status.NotUnderstood → result.output ≡ Some output }
     ensures misnamed { result.status ≡ Status.NotUnderstood → IsMisnamed task.entry }
+    ensures no_file { WritesNoFile task.entry → result.file ≡ None }
 {
     match task {
         Task::JoinInput => join_input(alloc, input, output, errors),
@@ -312,14 +333,22 @@ fn perform<F: Folder, I: Read + Drop, O: Write + Drop, E: Write, P: Write + Drop
             product,
             out,
             parts,
-        } => Ended {
-            status: write_dump(alloc, files, product, out, &parts, errors),
-            output: Some(output),
-        },
-        Task::Salvage { out, parts } => Ended {
-            status: salvage(alloc, files, out, &parts, &mut output, errors),
-            output: Some(output),
-        },
+        } => {
+            let ended = write_dump(alloc, files, product, out, &parts, errors);
+            Ended {
+                status: ended.status,
+                output: Some(output),
+                file: ended.file,
+            }
+        }
+        Task::Salvage { out, parts } => {
+            let ended = salvage(alloc, files, out, &parts, &mut output, errors);
+            Ended {
+                status: ended.status,
+                output: Some(output),
+                file: ended.file,
+            }
+        }
         Task::Check { parts } => report(alloc, files, &Check, &parts, output, errors),
         Task::Histogram { parts } => {
             report(alloc, files, &HistogramReport, &parts, output, errors)

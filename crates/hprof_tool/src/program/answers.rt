@@ -1,6 +1,6 @@
 //! The texts of the program beside the dump, and the status that it ends with.
 
-ghost use Rattle.std.specs.Prelude.{◌≡◌, ◌≢◌, Some, MatchResult};
+ghost use Rattle.std.specs.Prelude.{◌≡◌, ◌≢◌, Some, None, MatchResult};
 ghost use Rattle.std.specs.IoError.{error_kind};
 ghost use Rattle.std.specs.declared.io.ErrorKind.TheVariants.{OutOfMemory};
 ghost use Rattle.clap.specs.Values.{kind_of};
@@ -14,15 +14,24 @@ use std::alloc::Global;
 use std::io;
 use std::io::Write;
 
-/// The end of a task that writes to a stream, and the stream, which is gone if there was no memory for the buffer before it.
+/// The end of a task, the stream that it may have written to, which is gone if there was no memory for the buffer before it, and the new
+/// file that it wrote, if it wrote one.
 #[derive(Drop)]
-pub(crate) struct Ended<O> {
+pub(crate) struct Ended<O, W> {
     pub(crate) status: Status,
     pub(crate) output: Option<O>,
+    pub(crate) file: Option<W>,
+}
+
+/// The end of a task that writes a new file, and the file, if it was written.
+#[derive(Drop)]
+pub(crate) struct EndedFile<W> {
+    pub(crate) status: Status,
+    pub(crate) file: Option<W>,
 }
 
 /// Says in one line why the program refused. If memory runs out for the text, the line says that.
-fn refuse<E: Write>(alloc: Global, refused: &Refused, errors: &mut E) -> Status
+pub(crate) fn refuse<E: Write>(alloc: Global, refused: &Refused, errors: &mut E) -> Status
     ensures { result ≡ Status.Refused }
 {
     let _ = match refused.text(alloc) {
@@ -32,37 +41,26 @@ fn refuse<E: Write>(alloc: Global, refused: &Refused, errors: &mut E) -> Status
     Status::Refused
 }
 
-/// Ends a task.
-pub(crate) fn answer_outcome<T: Drop, E: Write>(
-    alloc: Global,
-    outcome: Result<T, Refused>,
-    errors: &mut E,
-) -> Status
-    ensures { MatchResult outcome (λ _. result ≡ Status.Done) (λ _. result ≡ Status.Refused) }
-{
-    match outcome {
-        Ok(_) => Status::Done,
-        Err(refused) => refuse(alloc, &refused, errors),
-    }
-}
-
 /// Ends a task that writes to a stream.
-pub(crate) fn answer_stream<O, E: Write>(
+pub(crate) fn answer_stream<O, W, E: Write>(
     alloc: Global,
     outcome: Result<O, Stopped<O>>,
     errors: &mut E,
-) -> Ended<O>
+) -> Ended<O, W>
     ensures status { MatchResult outcome (λ _. result.status ≡ Status.Done) (λ _. result.status ≡ Status.Refused) }
     ensures output { MatchResult outcome (λ written. result.output ≡ Some written) (λ stopped. result.output ≡ stopped.writer) }
+    ensures no_file { result.file ≡ None }
 {
     match outcome {
         Ok(written) => Ended {
             status: Status::Done,
             output: Some(written),
+            file: None,
         },
         Err(Stopped { why, writer }) => Ended {
             status: refuse(alloc, &why, errors),
             output: writer,
+            file: None,
         },
     }
 }

@@ -2,7 +2,6 @@
 
 ghost use Rattle.std.specs.Prelude.{◌≡◌, All, IfOk, IfErr};
 ghost use Rattle.hprof_devices.specs.declared.health.Health.TheVariants.{Well};
-ghost use Rattle.hprof_devices.specs.Device.{health_of};
 ghost use Rattle.hprof_engine.specs.declared.tool_fault.ToolFault.{ToolFault};
 ghost use Rattle.hprof_engine.specs.Makes.{WritesAll};
 ghost use Rattle.hprof_diff.specs.DifferenceText.{IsDifferenceOf};
@@ -11,7 +10,7 @@ ghost use Rattle.hprof_tool.specs.Comparing.{ComparesFiles, IsOfOpeningOne, IsOn
 use crate::program::folder::Folder;
 use crate::program::refused::{Refused, Stopped};
 use crate::program::writing::write_through_buffer;
-use hprof_devices::{Device, Source};
+use hprof_devices::Source;
 use hprof_diff::{GrowthReport, count_parts};
 use hprof_stream::Limits;
 use std::alloc::Global;
@@ -49,22 +48,22 @@ fn compare_readers<R: Source, W: Write + Drop>(
     }
 }
 
-/// Opens the file of the dump at that place of two, as the only part of a heap.
+/// Opens the dump at that place of two, as the only part of a heap.
 fn open_dump<F: Folder>(
     alloc: Global,
     files: &F,
     name: &str,
     place: usize,
-) -> Result<Vec<Device<F::File>>, Refused>
+) -> Result<Vec<F::Part>, Refused>
     ensures opened { IfOk result (λ parts. IsOneOpened (F.answered files.now) name.now parts.items) }
-    ensures well { IfOk result (λ parts. All (λ part. health_of part ≡ Well) parts.items) }
+    ensures well { IfOk result (λ parts. All (λ part. F.Part.health part ≡ Well) parts.items) }
     ensures kind { IfErr result (IsOfOpeningOne (F.answered files.now) name.now place) }
 {
-    let Ok(file) = files.open_part(name) else {
+    let Ok(part) = files.open_part(name) else {
         return Err(Refused::Open(place));
     };
     let mut parts = Vec::new(alloc);
-    parts.push(Device::new(file))?;
+    parts.push(part)?;
     Ok(parts)
 }
 
@@ -76,8 +75,8 @@ pub(crate) fn compare_files<F: Folder, O: Write + Drop>(
     newer: &str,
     output: O,
 ) -> Result<O, Stopped<O>>
-    ensures ok { IfOk result (ComparesFiles (F.answered files.now) F.File.remaining older.now newer.now O.contents output) }
-    ensures refused { IfErr result (λ stopped. RefusesDiff (F.answered files.now) F.File.remaining older.now newer.now O.contents
+    ensures ok { IfOk result (ComparesFiles (F.answered files.now) F.Part.left older.now newer.now O.contents output) }
+    ensures refused { IfErr result (λ stopped. RefusesDiff (F.answered files.now) F.Part.left older.now newer.now O.contents
         output stopped.why stopped.writer) }
 {
     let mut olds = match open_dump(alloc, files, older, 0) {

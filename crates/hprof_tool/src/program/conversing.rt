@@ -87,8 +87,8 @@ pub(crate) fn ask_files<F: Folder, I: Read + Drop, P: Write + Drop, O: Write + D
     prompts: Option<P>,
     output: O,
 ) -> Result<O, Stopped<O>>
-    ensures ok { IfOk result (AnswersQuestions (F.answered files.now) F.File.remaining I.remaining O.contents names.now input output) }
-    ensures refused { IfErr result (λ stopped. RefusesQuestions (F.answered files.now) F.File.remaining I.remaining O.contents names.now
+    ensures ok { IfOk result (AnswersQuestions (F.answered files.now) F.Part.left I.remaining O.contents names.now input output) }
+    ensures refused { IfErr result (λ stopped. RefusesQuestions (F.answered files.now) F.Part.left I.remaining O.contents names.now
         input output stopped.why stopped.writer) }
 {
     let mut parts = match open_parts(alloc, files, names) {

@@ -8,6 +8,6 @@ returns-clause-done g c = done_of_stream _ c.ask_files.result c.answer_stream.re
 
 pub returns-clause-refused : goal.returns-clause-refused
 returns-clause-refused g c =
-    refused_of_stream (λ why left. RefusesQuestions (g.F.Folder.answered c.args.files.now) g.F.File.Read.remaining g.I.Read.remaining
+    refused_of_stream (λ why left. RefusesQuestions (g.F.Folder.answered c.args.files.now) g.F.Part.Source.left g.I.Read.remaining
     g.O.Write.contents c.args.names.now c.args.input c.args.output why left) c.ask_files.result c.answer_stream.result
     c.ask_files.ensures.refused c.answer_stream.ensures.status c.answer_stream.ensures.output

@@ -11,6 +11,6 @@ pub returns-clause-refused : goal.returns-clause-refused
 returns-clause-refused g c =
     let making = making_of (g.P.Product.is_text c.args.report.now) (g.P.Product.is_too_long c.args.report.now) g.P.Kept.Summaries.takes_room
     (g.P.Product.takes_memory c.args.report.now) in
-    refused_of_stream (λ why left. RefusesReport making (g.F.Folder.answered c.args.files.now) g.F.File.Read.remaining g.O.Write.contents
+    refused_of_stream (λ why left. RefusesReport making (g.F.Folder.answered c.args.files.now) g.F.Part.Source.left g.O.Write.contents
     c.args.names.now c.args.output why left) c.report_files.result c.answer_stream.result c.report_files.ensures.refused
     c.answer_stream.ensures.status c.answer_stream.ensures.output
