@@ -21,7 +21,7 @@ use Rattle.hprof_tool.specs.declared.program.refused.Refused.TheVariants as refu
 use Rattle.hprof_tool.specs.Folder.{Answered, AreOpened}
 use Rattle.hprof_tool.specs.Program.{IsOfOpening, IsReportRefusal, usual_limits}
 use Rattle.hprof_tool.specs.Conversing.{AnswersAll, LeavesAnswers, OfFront, OverFiles, OverReaders, SaysOfReaders, refused_asking}
-use Rattle.hprof_tool.proofs.Making.{no_parts_told, none_added, part_refusal}
+use Rattle.hprof_tool.proofs.Making.{no_parts_told, none_added}
 
 -- what came of known questions is a front of them
 front_of : (old new : Option (List ℕ)) (questions bytes : List ℕ) → old ≡ Some questions → Consumes old new bytes
@@ -100,9 +100,9 @@ module _ {R Q W O : Type 0} (left : R → Option (List ℕ)) (health : R → Hea
 
       -- a fault of reading is none of writing
       of_parts_refused : (fault : ToolFault) → Asked (Some (faults.Parts fault)) → IsOfReading (Some fault)
-          → LeavesAnswers contents first Over (SaysOfReaders left readers) (refused_asking (faults.Parts fault)) (Some last)
+          → LeavesAnswers contents first Over (SaysOfReaders left health pulls readers new) (refused_asking (faults.Parts fault)) (Some last)
       of_parts_refused (tool.Part index fault) a kind = (
-        (tt, λ parts told. part_refusal left health pulls parts readers new index fault (a.reads.part index fault refl parts told)),
+        (tt, λ parts told. a.reads.part index fault refl parts told),
         refused_parts (tool.Part index fault) a,
       )
       of_parts_refused tool.NoParts a kind =
@@ -120,10 +120,10 @@ module _ {R Q W O : Type 0} (left : R → Option (List ℕ)) (health : R → Hea
 
       -- what stopped says, and leaves
       pub stopped : (fault : AskFault) → PassesAnswersOn (Some fault) (unwritten ≡ []) → Asked (Some fault)
-          → LeavesAnswers contents first Over (SaysOfReaders left readers) (refused_asking fault) (Some last)
+          → LeavesAnswers contents first Over (SaysOfReaders left health pulls readers new) (refused_asking fault) (Some last)
       stopped (faults.Parts fault) passes a = elim (a.kind fault refl) [
         | inl kind ↦ of_parts_refused fault a kind
-        | inr none ↦ subst (λ (f : ToolFault). LeavesAnswers contents first Over (SaysOfReaders left readers)
+        | inr none ↦ subst (λ (f : ToolFault). LeavesAnswers contents first Over (SaysOfReaders left health pulls readers new)
             (refused_asking (faults.Parts f)) (Some last)) (sym none.0) (inl (same (a.refused fault refl).1))
       ]
       stopped (faults.Dialogue (stops.Questions fault)) none a = of_streams (λ IsAnswer. AnswersLines IsAnswer AreEndedLines) _ _ _ _
@@ -135,14 +135,15 @@ module _ {R Q W O : Type 0} (left : R → Option (List ℕ)) (health : R → Hea
 
 -- ---- of files
 
-module _ {P W I Q O : Type 0} (answered : Answered P W) (tells : P → Option (List ℕ)) (left : I → Option (List ℕ))
-    (contents : O → Option (List ℕ)) (names : List (Bor (List ℕ))) (input : I) (old : O) (parts : List P) (opened : AreOpened answered names parts)
+module _ {P W I Q O : Type 0} (answered : Answered P W) (tells : P → Option (List ℕ)) (health : P → Health) (pulls : P → ℕ)
+    (left : I → Option (List ℕ)) (contents : O → Option (List ℕ)) (names : List (Bor (List ℕ))) (input : I) (old : O) (parts read : List P)
+    (opened : AreOpened answered names parts)
     (asked : Q → Option (List ℕ)) (source : Q) (same : asked source ≡ left input) where
   abbrev OfReaders : ((Question → List ℕ → Type 0) → List ℕ → Type 0) → Type 0
   OfReaders = OverReaders tells asked parts source
 
   abbrev OfFiles : ((Question → List ℕ → Type 0) → List ℕ → Type 0) → Type 0
-  OfFiles = OverFiles answered tells left contents names input old
+  OfFiles = OverFiles answered tells health pulls left contents names input old
 
   -- what holds of the readers of these files holds of the files
   pub over_files : (Holds : (Question → List ℕ → Type 0) → List ℕ → Type 0) → OfReaders Holds → OfFiles Holds
@@ -150,10 +151,10 @@ module _ {P W I Q O : Type 0} (answered : Answered P W) (tells : P → Option (L
       record { parts = parts; opened = opened; holds = λ told tell questions known. over told tell questions (same ∙ known) }
 
   abbrev Says : Refused → Type 0
-  Says = SaysOfReaders tells parts
+  Says = SaysOfReaders tells health pulls parts read
 
   pub refuses_files : (refused : Refused) (new : Option O) → LeavesAnswers contents old OfReaders Says refused new
-      → LeavesAnswers contents old OfFiles (IsReportRefusal dump_making answered tells names) refused new
+      → LeavesAnswers contents old OfFiles (IsReportRefusal dump_making answered tells health pulls names) refused new
   refuses_files refusals.Questions (Some new) leaves = over_files _ leaves
   refuses_files refusals.Questions None leaves = leaves
   refuses_files (refusals.Engine (tool.Write fault)) (Some new) leaves = (leaves.0, over_files _ leaves.1)
@@ -164,11 +165,11 @@ module _ {P W I Q O : Type 0} (answered : Answered P W) (tells : P → Option (L
   ]
   refuses_files refusals.OutOfMemory None leaves = tt
   refuses_files (refusals.Engine (tool.Part index fault)) new leaves =
-      (record { parts = parts; opened = opened; holds = leaves.0.1 }, leaves.1)
-  refuses_files (refusals.Engine tool.NoParts) new leaves = (record { parts = parts; opened = opened; holds = leaves.0.1 }, leaves.1)
-  refuses_files (refusals.Engine tool.IdSizes) new leaves = (record { parts = parts; opened = opened; holds = leaves.0.1 }, leaves.1)
+      (record { old = parts; new = read; opened = opened; holds = leaves.0.1 }, leaves.1)
+  refuses_files (refusals.Engine tool.NoParts) new leaves = (record { old = parts; new = read; opened = opened; holds = leaves.0.1 }, leaves.1)
+  refuses_files (refusals.Engine tool.IdSizes) new leaves = (record { old = parts; new = read; opened = opened; holds = leaves.0.1 }, leaves.1)
   refuses_files (refusals.Engine (tool.Conflict key)) new leaves =
-      (record { parts = parts; opened = opened; holds = leaves.0.1 }, leaves.1)
+      (record { old = parts; new = read; opened = opened; holds = leaves.0.1 }, leaves.1)
   refuses_files (refusals.Engine tool.DumpTooLong) new leaves = leaves
   refuses_files (refusals.Engine tool.OutOfMemory) new leaves = leaves
   refuses_files (refusals.Dump place fault) new leaves = leaves
@@ -176,13 +177,13 @@ module _ {P W I Q O : Type 0} (answered : Answered P W) (tells : P → Option (L
   refuses_files refusals.Create new leaves = leaves
 
 -- where a part cannot be opened, the stream is as it was
-pub cannot_ask : {P W O : Type 0} (answered : Answered P W) (tells : P → Option (List ℕ)) (contents : O → Option (List ℕ))
+pub cannot_ask : {P W O : Type 0} (answered : Answered P W) (tells : P → Option (List ℕ)) (health : P → Health) (pulls : P → ℕ) (contents : O → Option (List ℕ))
     (names : List (Bor (List ℕ))) (old : O) (Holding : ((Question → List ℕ → Type 0) → List ℕ → Type 0) → Type 0) (refused : Refused)
     → IsOfOpening answered names refused
-    → LeavesAnswers contents old Holding (IsReportRefusal dump_making answered tells names) refused (Some old)
-cannot_ask answered tells contents names old Holding (refusals.Engine fault) is = absurd is
-cannot_ask answered tells contents names old Holding (refusals.Dump place fault) is = absurd is
-cannot_ask answered tells contents names old Holding (refusals.Open index) is = (is, refl)
-cannot_ask answered tells contents names old Holding refusals.Create is = absurd is
-cannot_ask answered tells contents names old Holding refusals.Questions is = absurd is
-cannot_ask answered tells contents names old Holding refusals.OutOfMemory is = inl refl
+    → LeavesAnswers contents old Holding (IsReportRefusal dump_making answered tells health pulls names) refused (Some old)
+cannot_ask answered tells health pulls contents names old Holding (refusals.Engine fault) is = absurd is
+cannot_ask answered tells health pulls contents names old Holding (refusals.Dump place fault) is = absurd is
+cannot_ask answered tells health pulls contents names old Holding (refusals.Open index) is = (is, refl)
+cannot_ask answered tells health pulls contents names old Holding refusals.Create is = absurd is
+cannot_ask answered tells health pulls contents names old Holding refusals.Questions is = absurd is
+cannot_ask answered tells health pulls contents names old Holding refusals.OutOfMemory is = inl refl

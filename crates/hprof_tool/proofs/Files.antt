@@ -3,6 +3,7 @@ use Rattle.std.proofs.Common.{◌≡◌, ℕ, zero, suc, List, [], ◌∷◌, �
 use Rattle.std.specs.Prelude.{IfErr, IsErrAnd, slice_get}
 use Rattle.std.specs.Borrow.{Bor}
 use Rattle.std.proofs.lemmas.Option.{slice_get-get_or}
+use Rattle.hprof_devices.specs.declared.health.Health.{Health}
 use Rattle.hprof_tool.specs.declared.program.refused.Refused.{Refused}
 use Rattle.hprof_tool.specs.declared.program.refused.Refused.TheVariants as refusals
 use Rattle.hprof_engine.specs.declared.tool_fault.ToolFault.{ToolFault}
@@ -65,9 +66,10 @@ creating_not_of_engine answered out refusals.Create fault is same = cc
 creating_not_of_engine answered out refusals.Questions fault is same = is
 creating_not_of_engine answered out refusals.OutOfMemory fault is same = cc
 
-module _ {P W : Type 0} (making : Making) (answered : Answered P W) (left : P → Option (List ℕ)) (names : List (Bor (List ℕ))) where
+module _ {P W : Type 0} (making : Making) (answered : Answered P W) (left : P → Option (List ℕ)) (health : P → Health)
+    (pulls : P → ℕ) (names : List (Bor (List ℕ))) where
   -- a refusal to open is one to report
-  pub opening_reports : (refused : Refused) → IsOfOpening answered names refused → IsReportRefusal making answered left names refused
+  pub opening_reports : (refused : Refused) → IsOfOpening answered names refused → IsReportRefusal making answered left health pulls names refused
   opening_reports (refusals.Engine fault) is = absurd is
   opening_reports (refusals.Dump place fault) is = absurd is
   opening_reports (refusals.Open index) is = is
@@ -77,7 +79,7 @@ module _ {P W : Type 0} (making : Making) (answered : Answered P W) (left : P �
 
   -- and one to make something in a file
   pub of_opening : (out : List ℕ) (refused : Refused) → IsOfOpening answered names refused
-      → IsFilesRefusal making answered left names out refused
+      → IsFilesRefusal making answered left health pulls names out refused
   of_opening out (refusals.Engine fault) is = absurd is
   of_opening out (refusals.Dump place fault) is = absurd is
   of_opening out (refusals.Open index) is = is
@@ -87,7 +89,7 @@ module _ {P W : Type 0} (making : Making) (answered : Answered P W) (left : P �
 
   -- so is one to create the file
   pub of_creating : (out : List ℕ) (refused : Refused) → IsOfCreating answered out refused
-      → IsFilesRefusal making answered left names out refused
+      → IsFilesRefusal making answered left health pulls names out refused
   of_creating out (refusals.Engine fault) is = absurd is
   of_creating out (refusals.Dump place fault) is = absurd is
   of_creating out (refusals.Open index) is = absurd is
@@ -96,17 +98,17 @@ module _ {P W : Type 0} (making : Making) (answered : Answered P W) (left : P �
   of_creating out refusals.OutOfMemory is = tt
 
   -- a refusal to make something of the parts that were opened is one to report
-  module _ (parts : List P) (opened : AreOpened answered names parts) where
+  module _ (old new : List P) (opened : AreOpened answered names old) where
     abbrev Says : Refused → Type 0
-    Says refused = (told : List (List ℕ)) → Tell left parts told → IsRefusal making refused told
+    Says refused = (told : List (List ℕ)) → Tell left old told → IsRefusal left health pulls old new making refused told
 
-    pub of_reporting : (refused : Refused) → IsOfMaking refused → Says refused → IsReportRefusal making answered left names refused
-    of_reporting (refusals.Engine (tool.Part index fault)) kind says = record { parts = parts; opened = opened; holds = says }
-    of_reporting (refusals.Engine tool.NoParts) kind says = record { parts = parts; opened = opened; holds = says }
-    of_reporting (refusals.Engine tool.IdSizes) kind says = record { parts = parts; opened = opened; holds = says }
-    of_reporting (refusals.Engine (tool.Conflict key)) kind says = record { parts = parts; opened = opened; holds = says }
-    of_reporting (refusals.Engine tool.DumpTooLong) kind says = record { parts = parts; opened = opened; holds = says }
-    of_reporting (refusals.Engine (tool.Write fault)) kind says = record { parts = parts; opened = opened; holds = says }
+    pub of_reporting : (refused : Refused) → IsOfMaking refused → Says refused → IsReportRefusal making answered left health pulls names refused
+    of_reporting (refusals.Engine (tool.Part index fault)) kind says = record { old = old; new = new; opened = opened; holds = says }
+    of_reporting (refusals.Engine tool.NoParts) kind says = record { old = old; new = new; opened = opened; holds = says }
+    of_reporting (refusals.Engine tool.IdSizes) kind says = record { old = old; new = new; opened = opened; holds = says }
+    of_reporting (refusals.Engine (tool.Conflict key)) kind says = record { old = old; new = new; opened = opened; holds = says }
+    of_reporting (refusals.Engine tool.DumpTooLong) kind says = record { old = old; new = new; opened = opened; holds = says }
+    of_reporting (refusals.Engine (tool.Write fault)) kind says = record { old = old; new = new; opened = opened; holds = says }
     of_reporting (refusals.Engine tool.OutOfMemory) kind says = absurd kind
     of_reporting (refusals.Dump place fault) kind says = absurd kind
     of_reporting (refusals.Open index) kind says = absurd kind
@@ -116,7 +118,7 @@ module _ {P W : Type 0} (making : Making) (answered : Answered P W) (left : P �
 
     -- and where the new file was removed, one to make something in it
     pub of_making : (out : List ℕ) (refused : Refused) → IsOfMaking refused → Says refused → answered.IsRemoved out
-        → IsFilesRefusal making answered left names out refused
+        → IsFilesRefusal making answered left health pulls names out refused
     of_making out (refusals.Engine fault) kind says removed = (of_reporting (refusals.Engine fault) kind says, removed)
     of_making out (refusals.Dump place fault) kind says removed = absurd kind
     of_making out (refusals.Open index) kind says removed = absurd kind

@@ -2,6 +2,7 @@
 use Rattle.std.specs.Prelude.{◌≡◌, ◌⊎◌, ◌++◌, ℕ, List, Option, Some, None, ⊤}
 use Rattle.std.specs.Borrow.{Bor}
 use Rattle.std.specs.Io.KnownBytes.{append_known}
+use Rattle.hprof_devices.specs.declared.health.Health.{Health}
 use Rattle.hprof_stream.specs.declared.summary.PartSummary.{PartSummary}
 use Rattle.hprof_rows.specs.HeapValue.{HeapValue}
 use Rattle.hprof_engine.specs.declared.tool_fault.ToolFault.TheVariants as tool
@@ -83,14 +84,16 @@ module _ {R Q : Type 0} (left : R → Option (List ℕ)) (asked : Q → Option (
       → OverParts (λ IsAnswer. Holds IsAnswer questions) parts
 
 -- what a refusal says of what readers tell: it is none of opening
-abbrev pub SaysOfReaders : {R : Type 0} → (R → Option (List ℕ)) → List R → Refused → Type 0
-SaysOfReaders left readers refused =
-    IsOfMaking refused × ((parts : List (List ℕ)) → Tell left readers parts → IsRefusal dump_making refused parts)
+--   old, new: the readers, before and afterwards
+abbrev pub SaysOfReaders : {R : Type 0} → (R → Option (List ℕ)) → (R → Health) → (R → ℕ) → (old new : List R) → Refused → Type 0
+SaysOfReaders left health pulls old new refused = IsOfMaking refused
+    × ((parts : List (List ℕ)) → Tell left old parts → IsRefusal left health pulls old new dump_making refused parts)
 
--- answered: what came of the names of files;  tells: what a part has left to tell
+-- answered: what came of the names of files
+-- tells, health, pulls: what a part has left to tell, how it is doing, how often it was pulled
 -- left, contents: what the questions have left to tell, and what a stream tells that it holds
-module _ {P W I O : Type 0} (answered : Answered P W) (tells : P → Option (List ℕ)) (left : I → Option (List ℕ))
-    (contents : O → Option (List ℕ)) (names : List (Bor (List ℕ))) (input : I) (old : O) where
+module _ {P W I O : Type 0} (answered : Answered P W) (tells : P → Option (List ℕ)) (health : P → Health) (pulls : P → ℕ)
+    (left : I → Option (List ℕ)) (contents : O → Option (List ℕ)) (names : List (Bor (List ℕ))) (input : I) (old : O) where
   -- that holds of the answers over the heap of the parts of these names
   abbrev pub OverFiles : ((Question → List ℕ → Type 0) → List ℕ → Type 0) → Type 0
   OverFiles Holds = OfParts answered tells names
@@ -102,4 +105,4 @@ module _ {P W I O : Type 0} (answered : Answered P W) (tells : P → Option (Lis
 
   -- what a refusal says, and leaves of the stream
   abbrev pub RefusesQuestions : Refused → (new : Option O) → Type 0
-  RefusesQuestions = LeavesAnswers contents old OverFiles (IsReportRefusal dump_making answered tells names)
+  RefusesQuestions = LeavesAnswers contents old OverFiles (IsReportRefusal dump_making answered tells health pulls names)

@@ -1,6 +1,8 @@
 -- What a task comes to.
 use Rattle.std.specs.Prelude.{◌≡◌, ◌≢◌, ℕ, List, Option, Some, None, ⊤, codes}
 use Rattle.std.specs.Io.KnownBytes.{Appends}
+use Rattle.hprof_devices.specs.declared.device.Device.{Device}
+use Rattle.hprof_devices.specs.Device.{inner_of, health_of, pulls_of}
 use Rattle.hprof_devices.specs.declared.health.Health.{Health}
 use Rattle.hprof_text.specs.Identifier.{IsIdText, id_value}
 use Rattle.hprof_engine.specs.Makes.{IsDump, IsMadeOf, Making, dump_making}
@@ -93,23 +95,24 @@ module _ {P W I O : Type 0} (answered : Answered P W) (tells : P → Option (Lis
   DoesTask (tasks.Objects kind parts) input old new = (named : Kind) × NamesKind kind.now named
       × IsMadeOfFiles (IsMadeOf (IsObjectsReport named)) answered tells contents parts.items old new
   DoesTask (tasks.Compare older newer) input old new = ComparesFiles answered tells older.now newer.now contents old new
-  DoesTask (tasks.Converse parts) input old new = AnswersQuestions answered tells left contents parts.items input old new
+  DoesTask (tasks.Converse parts) input old new = AnswersQuestions answered tells health pulls left contents parts.items input old new
   DoesTask (tasks.Ask question id parts) input old new =
       IsIdText id.now × IsMadeOfFiles (IsMadeOf (is_answer question (id_value id.now))) answered tells contents parts.items old new
 
   -- the task is refused, and so much is left of the stream
   abbrev pub RefusesTask : Task → (input : I) → (old : O) → Refused → (new : Option O) → Type 0
-  RefusesTask tasks.JoinInput input old why new = RefusesStream left contents input old why new
-  RefusesTask (tasks.Write product out parts) input old why new = IsFilesRefusal (new_file_making product) answered tells parts.items out.now why
-      × (new ≡ Some old) × (file ≡ None)
+  RefusesTask tasks.JoinInput input old why new = (reader : Device I) × (inner_of reader ≡ input)
+      × RefusesStream (λ it. left (inner_of it)) health_of pulls_of contents reader old why new
+  RefusesTask (tasks.Write product out parts) input old why new =
+      IsFilesRefusal (new_file_making product) answered tells health pulls parts.items out.now why × (new ≡ Some old) × (file ≡ None)
   RefusesTask (tasks.Salvage out parts) input old why new =
-      (after : O) × (new ≡ Some after) × RefusesSalvage answered tells health pulls holds parts.items out.now file old after why
-  RefusesTask (tasks.Check parts) input old why new = RefusesReport check_making answered tells contents parts.items old why new
-  RefusesTask (tasks.Histogram parts) input old why new = RefusesReport histogram_making answered tells contents parts.items old why new
-  RefusesTask (tasks.Classes parts) input old why new = RefusesReport classes_making answered tells contents parts.items old why new
+      (after : O) × (new ≡ Some after) × RefusesSalvage answered tells health pulls holds parts.items out.now contents file old after why
+  RefusesTask (tasks.Check parts) input old why new = RefusesReport check_making answered tells health pulls contents parts.items old why new
+  RefusesTask (tasks.Histogram parts) input old why new = RefusesReport histogram_making answered tells health pulls contents parts.items old why new
+  RefusesTask (tasks.Classes parts) input old why new = RefusesReport classes_making answered tells health pulls contents parts.items old why new
   RefusesTask (tasks.Objects kind parts) input old why new = (named : Kind) × NamesKind kind.now named
-      × RefusesReport (objects_making named) answered tells contents parts.items old why new
-  RefusesTask (tasks.Compare older newer) input old why new = RefusesDiff answered tells older.now newer.now contents old why new
-  RefusesTask (tasks.Converse parts) input old why new = RefusesQuestions answered tells left contents parts.items input old why new
+      × RefusesReport (objects_making named) answered tells health pulls contents parts.items old why new
+  RefusesTask (tasks.Compare older newer) input old why new = RefusesDiff answered tells older.now newer.now contents old health pulls why new
+  RefusesTask (tasks.Converse parts) input old why new = RefusesQuestions answered tells health pulls left contents parts.items input old why new
   RefusesTask (tasks.Ask question id parts) input old why new =
-      IsIdText id.now × RefusesReport (answer_making question (id_value id.now)) answered tells contents parts.items old why new
+      IsIdText id.now × RefusesReport (answer_making question (id_value id.now)) answered tells health pulls contents parts.items old why new

@@ -2,6 +2,7 @@
 
 ghost use Rattle.std.specs.Prelude.{◌≡◌, ◌≢◌, ℕ, List, Some, None};
 ghost use Rattle.std.specs.Io.KnownBytes.{Appends};
+ghost use Rattle.hprof_devices.specs.declared.health.Health.TheVariants.{Well};
 ghost use Rattle.hprof_engine.specs.Makes.{IsDump, IsMadeOf, making_of};
 ghost use Rattle.hprof_text.specs.Identifier.{IsIdText, id_value};
 ghost use Rattle.hprof_histogram.specs.declared.row.Kind.{Kind};
@@ -15,7 +16,7 @@ ghost use Rattle.hprof_tool.specs.Program.{IsMadeOfStream, IsMadeInFile, IsMadeO
 ghost use Rattle.hprof_tool.specs.SalvagedFiles.{IsSalvagedFile};
 ghost use Rattle.hprof_tool.specs.Streams.{RefusesStream, RefusesReport};
 ghost use Rattle.hprof_tool.specs.Tasks.{DoesTask, IsMisnamed, MayDo, RefusesTask, WritesNoFile, new_file_making};
-ghost use Rattle.hprof_tool.specs.Telling.{TellsFaults, RefusesSalvage};
+ghost use Rattle.hprof_tool.specs.Telling.{TellsFaults, RefusesSalvage, TellsRefusal};
 ghost use Rattle.hprof_tool.specs.Words.{is_answer, answer_making, is_new_file};
 
 use crate::command::{NewFile, Question, Task, task_of};
@@ -28,6 +29,7 @@ use comparing::compare_files;
 use conversing::ask_files;
 use folder::Folder;
 use hprof_ask::kind_of;
+use hprof_devices::{Device, Source};
 use hprof_engine::{Dump, Dump101, Product};
 use hprof_reports::{
     Check, ClassesReport, HistogramReport, ObjectReport, ObjectsReport, PathReport, RefsReport,
@@ -55,19 +57,22 @@ mod metered;
 mod prompting;
 mod refused;
 mod salvaging;
+mod telling;
 mod writing;
 
 /// Joins the part on `input` to `output`, which it gives back.
-fn join_input<I: Read + Drop, O: Write + Drop, W, E: Write>(
+fn join_input<I: Source + Drop, O: Write + Drop, W, E: Write>(
     alloc: Global,
     input: I,
     output: O,
     errors: &mut E,
 ) -> Ended<O, W>
+    requires { I.health input ≡ Well }
     ensures done { result.status ≡ Status.Done → (written : O) × (result.output ≡ Some written)
-        × IsMadeOfStream IsDump I.remaining O.contents input output written }
+        × IsMadeOfStream IsDump I.left O.contents input output written }
     ensures refused { result.status ≡ Status.Refused → (why : Refused)
-        × RefusesStream I.remaining O.contents input output why result.output }
+        × RefusesStream I.left I.health I.pulls O.contents input output why result.output
+        × TellsRefusal why (E.contents errors.old) (E.contents errors.new) }
     ensures understood { result.status ≢ Status.NotUnderstood }
     ensures no_file { result.file ≡ None }
 {
@@ -88,7 +93,8 @@ fn write_new_file<P: Product, F: Folder, E: Write>(
         × IsMadeInFile (IsMadeOf (P.is_text product.now)) (F.answered files.now) F.Part.left F.Out.contents names.now out.now written }
     ensures refused { result.status ≡ Status.Refused → (result.file ≡ None) × ((why : Refused) × IsFilesRefusal
         (making_of (P.is_text product.now) (P.is_too_long product.now) P.Kept.takes_room (P.takes_memory product.now))
-        (F.answered files.now) F.Part.left names.now out.now why) }
+        (F.answered files.now) F.Part.left F.Part.health F.Part.pulls names.now out.now why
+        × TellsRefusal why (E.contents errors.old) (E.contents errors.new)) }
     ensures understood { result.status ≢ Status.NotUnderstood }
 {
     match write_file(alloc, files, product, out, names) {
@@ -119,7 +125,8 @@ fn salvage<F: Folder, O: Write, E: Write>(
         × ((text : List ℕ) × TellsFaults salvaged.faults.items text
         × Appends (O.contents output.old) (O.contents output.new) text) }
     ensures refused { result.status ≡ Status.Refused → (why : Refused) × RefusesSalvage (F.answered files.now) F.Part.left F.Part.health
-        F.Part.pulls F.Out.contents names.now out.now result.file output.old output.new why }
+        F.Part.pulls F.Out.contents names.now out.now O.contents result.file output.old output.new why
+        × TellsRefusal why (E.contents errors.old) (E.contents errors.new) }
     ensures understood { result.status ≢ Status.NotUnderstood }
 {
     let Written { salvaged, writer } = match salvage_file(alloc, files, out, names) {
@@ -156,7 +163,8 @@ fn report<P: Product, F: Folder, O: Write + Drop, E: Write>(
         × IsMadeOfFiles (IsMadeOf (P.is_text report.now)) (F.answered files.now) F.Part.left O.contents names.now output written }
     ensures refused { result.status ≡ Status.Refused → (why : Refused) × RefusesReport
         (making_of (P.is_text report.now) (P.is_too_long report.now) P.Kept.takes_room (P.takes_memory report.now))
-        (F.answered files.now) F.Part.left O.contents names.now output why result.output }
+        (F.answered files.now) F.Part.left F.Part.health F.Part.pulls O.contents names.now output why result.output
+        × TellsRefusal why (E.contents errors.old) (E.contents errors.new) }
     ensures understood { result.status ≢ Status.NotUnderstood }
     ensures no_file { result.file ≡ None }
 {
@@ -180,7 +188,8 @@ fn write_dump<F: Folder, E: Write>(
     ensures done { result.status ≡ Status.Done → (written : F.Out) × (result.file ≡ Some written)
         × IsMadeInFile (IsMadeOf (is_new_file product)) (F.answered files.now) F.Part.left F.Out.contents names.now out.now written }
     ensures refused { result.status ≡ Status.Refused → (result.file ≡ None) × ((why : Refused) × IsFilesRefusal
-        (new_file_making product) (F.answered files.now) F.Part.left names.now out.now why) }
+        (new_file_making product) (F.answered files.now) F.Part.left F.Part.health F.Part.pulls names.now out.now why
+        × TellsRefusal why (E.contents errors.old) (E.contents errors.new)) }
     ensures understood { result.status ≢ Status.NotUnderstood }
 {
     match product {
@@ -204,8 +213,8 @@ fn ask<F: Folder, O: Write + Drop, E: Write>(
         × IsMadeOfFiles (IsMadeOf (is_answer question (id_value id.now))) (F.answered files.now) F.Part.left O.contents names.now
         output written) }
     ensures refused { result.status ≡ Status.Refused → IsIdText id.now × ((why : Refused)
-        × RefusesReport (answer_making question (id_value id.now)) (F.answered files.now) F.Part.left O.contents names.now
-        output why result.output) }
+        × RefusesReport (answer_making question (id_value id.now)) (F.answered files.now) F.Part.left F.Part.health F.Part.pulls
+        O.contents names.now output why result.output × TellsRefusal why (E.contents errors.old) (E.contents errors.new)) }
     ensures understood { IsIdText id.now → result.status ≢ Status.NotUnderstood }
     ensures no_id { ¬ (IsIdText id.now) → (result.status ≡ Status.NotUnderstood) × (result.output ≡ Some output) }
     ensures no_file { result.file ≡ None }
@@ -239,7 +248,8 @@ fn objects<F: Folder, O: Write + Drop, E: Write>(
     ensures done { result.status ≡ Status.Done → (named : Kind) × NamesKind kind.now named × ((written : O) × (result.output ≡ Some written)
         × IsMadeOfFiles (IsMadeOf (IsObjectsReport named)) (F.answered files.now) F.Part.left O.contents names.now output written) }
     ensures refused { result.status ≡ Status.Refused → (named : Kind) × NamesKind kind.now named × ((why : Refused)
-        × RefusesReport (objects_making named) (F.answered files.now) F.Part.left O.contents names.now output why result.output) }
+        × RefusesReport (objects_making named) (F.answered files.now) F.Part.left F.Part.health F.Part.pulls O.contents names.now output
+        why result.output × TellsRefusal why (E.contents errors.old) (E.contents errors.new)) }
     ensures understood { (named : Kind) → NamesKind kind.now named → result.status ≢ Status.NotUnderstood }
     ensures no_kind { ((named : Kind) → NamesKind kind.now named → ⊥)
         → (result.status ≡ Status.NotUnderstood) × (result.output ≡ Some output) }
@@ -266,9 +276,11 @@ fn converse<F: Folder, I: Read + Drop, P: Write + Drop, O: Write + Drop, E: Writ
     errors: &mut E,
 ) -> Ended<O, F::Out>
     ensures done { result.status ≡ Status.Done → (written : O) × (result.output ≡ Some written)
-        × AnswersQuestions (F.answered files.now) F.Part.left I.remaining O.contents names.now input output written }
+        × AnswersQuestions (F.answered files.now) F.Part.left F.Part.health F.Part.pulls I.remaining O.contents names.now input output
+        written }
     ensures refused { result.status ≡ Status.Refused → (why : Refused) × RefusesQuestions (F.answered files.now) F.Part.left
-        I.remaining O.contents names.now input output why result.output }
+        F.Part.health F.Part.pulls I.remaining O.contents names.now input output why result.output
+        × TellsRefusal why (E.contents errors.old) (E.contents errors.new) }
     ensures understood { result.status ≢ Status.NotUnderstood }
     ensures no_file { result.file ≡ None }
 {
@@ -291,7 +303,8 @@ fn compare<F: Folder, O: Write + Drop, E: Write>(
     ensures done { result.status ≡ Status.Done → (written : O) × (result.output ≡ Some written)
         × ComparesFiles (F.answered files.now) F.Part.left older.now newer.now O.contents output written }
     ensures refused { result.status ≡ Status.Refused → (why : Refused) × RefusesDiff (F.answered files.now) F.Part.left
-        older.now newer.now O.contents output why result.output }
+        older.now newer.now O.contents output F.Part.health F.Part.pulls why result.output
+        × TellsRefusal why (E.contents errors.old) (E.contents errors.new) }
     ensures understood { result.status ≢ Status.NotUnderstood }
     ensures no_file { result.file ≡ None }
 {
@@ -322,13 +335,14 @@ fn perform<F: Folder, I: Read + Drop, O: Write + Drop, E: Write, P: Write + Drop
     ensures done { result.status ≡ Status.Done → (after : O) × (result.output ≡ Some after) × DoesTask (F.answered files.now)
         F.Part.left F.Part.health F.Part.pulls F.Out.contents I.remaining O.contents result.file task.entry input output after }
     ensures refused { result.status ≡ Status.Refused → (why : Refused) × RefusesTask (F.answered files.now)
-        F.Part.left F.Part.health F.Part.pulls F.Out.contents I.remaining O.contents result.file task.entry input output why result.output }
+        F.Part.left F.Part.health F.Part.pulls F.Out.contents I.remaining O.contents result.file task.entry input output why result.output
+        × TellsRefusal why (E.contents errors.old) (E.contents errors.new) }
     ensures understood { result.status ≡ Status.NotUnderstood → result.output ≡ Some output }
     ensures misnamed { result.status ≡ Status.NotUnderstood → IsMisnamed task.entry }
     ensures no_file { WritesNoFile task.entry → result.file ≡ None }
 {
     match task {
-        Task::JoinInput => join_input(alloc, input, output, errors),
+        Task::JoinInput => join_input(alloc, Device::new(input), output, errors),
         Task::Write {
             product,
             out,

@@ -1,12 +1,14 @@
 //! The texts of the program beside the dump, and the status that it ends with.
 
-ghost use Rattle.std.specs.Prelude.{◌≡◌, ◌≢◌, Some, None, MatchResult};
+ghost use Rattle.std.specs.Prelude.{◌≡◌, ◌≢◌, Some, None, IfErr, MatchResult, codes};
 ghost use Rattle.std.specs.IoError.{error_kind};
 ghost use Rattle.std.specs.declared.io.ErrorKind.TheVariants.{OutOfMemory};
 ghost use Rattle.clap.specs.Values.{kind_of};
 ghost use Rattle.hprof_tool.specs.Program.{IsStatusOfWords};
+ghost use Rattle.hprof_tool.specs.Telling.{TellsFront, TellsRefusal, told_line};
 
 use crate::program::refused::{Refused, Stopped, WRITE_FAILED};
+use crate::program::telling::tell_line;
 use crate::status::Status;
 use clap::Error;
 use clap::error::ErrorKind;
@@ -30,14 +32,22 @@ pub(crate) struct EndedFile<W> {
     pub(crate) file: Option<W>,
 }
 
-/// Says in one line why the program refused. If memory runs out for the text, the line says that.
-pub(crate) fn refuse<E: Write>(alloc: Global, refused: &Refused, errors: &mut E) -> Status
-    ensures { result ≡ Status.Refused }
+/// Tells in one line why the program refused. If memory runs out for the text, the line says that.
+fn tell_refusal<E: Write>(alloc: Global, refused: &Refused, errors: &mut E)
+    ensures { TellsRefusal refused.now (E.contents errors.old) (E.contents errors.new) }
 {
-    let _ = match refused.text(alloc) {
-        Ok(text) => writeln!(errors, "hprof: {text}"),
-        Err(_) => writeln!(errors, "hprof: out of memory"),
-    };
+    match refused.text(alloc) {
+        Ok(text) => tell_line(&text, errors),
+        Err(_) => tell_line("out of memory", errors),
+    }
+}
+
+/// Ends a task that was refused, and tells why.
+pub(crate) fn refuse<E: Write>(alloc: Global, refused: &Refused, errors: &mut E) -> Status
+    ensures status { result ≡ Status.Refused }
+    ensures told { TellsRefusal refused.now (E.contents errors.old) (E.contents errors.new) }
+{
+    tell_refusal(alloc, refused, errors);
     Status::Refused
 }
 
@@ -50,6 +60,7 @@ pub(crate) fn answer_stream<O, W, E: Write>(
     ensures status { MatchResult outcome (λ _. result.status ≡ Status.Done) (λ _. result.status ≡ Status.Refused) }
     ensures output { MatchResult outcome (λ written. result.output ≡ Some written) (λ stopped. result.output ≡ stopped.writer) }
     ensures no_file { result.file ≡ None }
+    ensures told { IfErr outcome (λ stopped. TellsRefusal stopped.why (E.contents errors.old) (E.contents errors.new)) }
 {
     match outcome {
         Ok(written) => Ended {
@@ -95,22 +106,24 @@ pub(crate) fn answer_no_words<E: Write>(alloc: Global, error: &io::Error, errors
     if error.kind() == io::ErrorKind::OutOfMemory {
         return refuse(alloc, &Refused::OutOfMemory, errors);
     }
-    let _ = writeln!(errors, "hprof: the words are no text");
+    tell_line("the words are no text", errors);
     Status::NotUnderstood
 }
 
 /// Answers that a word is no identifier.
 pub(crate) fn answer_no_id<E: Write>(errors: &mut E) -> Status
-    ensures { result ≡ Status.NotUnderstood }
+    ensures status { result ≡ Status.NotUnderstood }
+    ensures told { TellsFront (told_line (codes "not an identifier")) (E.contents errors.old) (E.contents errors.new) }
 {
-    let _ = writeln!(errors, "hprof: not an identifier");
+    tell_line("not an identifier", errors);
     Status::NotUnderstood
 }
 
 /// Answers that a word names neither a class nor a type.
 pub(crate) fn answer_no_kind<E: Write>(errors: &mut E) -> Status
-    ensures { result ≡ Status.NotUnderstood }
+    ensures status { result ≡ Status.NotUnderstood }
+    ensures told { TellsFront (told_line (codes "not a class or a type")) (E.contents errors.old) (E.contents errors.new) }
 {
-    let _ = writeln!(errors, "hprof: not a class or a type");
+    tell_line("not a class or a type", errors);
     Status::NotUnderstood
 }

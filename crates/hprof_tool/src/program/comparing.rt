@@ -27,7 +27,8 @@ fn compare_readers<R: Source, W: Write + Drop>(
     requires news { All (λ reader. R.health reader ≡ Well) news.old }
     ensures ok { IfOk result (λ written. OverBoth R.left olds.old news.old
         (λ old_parts new_parts. WritesAll (IsDifferenceOf old_parts) new_parts (W.contents writer) (W.contents written))) }
-    ensures stops { IfErr result (λ stopped. StopsComparing R.left olds.old news.old W.contents writer stopped.why stopped.writer) }
+    ensures stops { IfErr result (λ stopped. StopsComparing R.left R.health R.pulls olds.old olds.new news.old news.new
+        W.contents writer stopped.why stopped.writer) }
     ensures unread { IfErr result (λ stopped. (fault : ToolFault) → stopped.why ≡ Refused.Dump 0 fault → news.new ≡ news.old) }
 {
     let old = match count_parts(alloc, olds, Limits::usual()) {
@@ -77,7 +78,7 @@ pub(crate) fn compare_files<F: Folder, O: Write + Drop>(
 ) -> Result<O, Stopped<O>>
     ensures ok { IfOk result (ComparesFiles (F.answered files.now) F.Part.left older.now newer.now O.contents output) }
     ensures refused { IfErr result (λ stopped. RefusesDiff (F.answered files.now) F.Part.left older.now newer.now O.contents
-        output stopped.why stopped.writer) }
+        output F.Part.health F.Part.pulls stopped.why stopped.writer) }
 {
     let mut olds = match open_dump(alloc, files, older, 0) {
         Ok(parts) => parts,

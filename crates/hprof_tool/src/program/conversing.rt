@@ -54,7 +54,7 @@ fn ask_through_buffer<R: Source, Q: Source, W: Write + Drop>(
     requires asking { Q.health questions.old ≡ Well }
     ensures ok { IfOk result (AnswersAll W.contents writer (OverReaders R.left Q.left readers.old questions.old)) }
     ensures stops { IfErr result (λ stopped. LeavesAnswers W.contents writer (OverReaders R.left Q.left readers.old questions.old)
-        (SaysOfReaders R.left readers.old) stopped.why stopped.writer) }
+        (SaysOfReaders R.left R.health R.pulls readers.old readers.new) stopped.why stopped.writer) }
     ensures gone { IfErr result (λ stopped. stopped.writer ≡ None → (readers.new ≡ readers.old) × (questions.new ≡ questions.old)) }
 {
     let Ok(buffered) = BufWriter::with_capacity(alloc, BUFFER_LEN, writer) else {
@@ -87,9 +87,10 @@ pub(crate) fn ask_files<F: Folder, I: Read + Drop, P: Write + Drop, O: Write + D
     prompts: Option<P>,
     output: O,
 ) -> Result<O, Stopped<O>>
-    ensures ok { IfOk result (AnswersQuestions (F.answered files.now) F.Part.left I.remaining O.contents names.now input output) }
-    ensures refused { IfErr result (λ stopped. RefusesQuestions (F.answered files.now) F.Part.left I.remaining O.contents names.now
-        input output stopped.why stopped.writer) }
+    ensures ok { IfOk result (AnswersQuestions (F.answered files.now) F.Part.left F.Part.health F.Part.pulls I.remaining O.contents
+        names.now input output) }
+    ensures refused { IfErr result (λ stopped. RefusesQuestions (F.answered files.now) F.Part.left F.Part.health F.Part.pulls I.remaining
+        O.contents names.now input output stopped.why stopped.writer) }
 {
     let mut parts = match open_parts(alloc, files, names) {
         Ok(parts) => parts,

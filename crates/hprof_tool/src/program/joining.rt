@@ -11,23 +11,24 @@ ghost use Rattle.hprof_tool.specs.Streams.{RefusesStream, RefusesReport};
 use crate::program::folder::Folder;
 use crate::program::refused::{Refused, Stopped};
 use crate::program::writing::{write_buffered, write_through_buffer};
-use hprof_devices::Device;
+use hprof_devices::Source;
 use hprof_engine::{Dump, Product, ToolFault};
 use std::alloc::Global;
-use std::io::{Read, Write};
+use std::io::Write;
 
-/// Joins the one part that a stream gives into another, which it gives back.
-pub(crate) fn join_stream<I: Read + Drop, O: Write + Drop>(
+/// Joins the one part that a reader gives into a stream, which it gives back.
+pub(crate) fn join_stream<I: Source + Drop, O: Write + Drop>(
     alloc: Global,
     input: I,
     output: O,
 ) -> Result<O, Stopped<O>>
-    ensures ok { IfOk result (IsMadeOfStream IsDump I.remaining O.contents input output) }
+    requires { I.health input ≡ Well }
+    ensures ok { IfOk result (IsMadeOfStream IsDump I.left O.contents input output) }
     ensures kind { IfErr result (λ stopped. IsOfMaking stopped.why) }
-    ensures refused { IfErr result (λ stopped. RefusesStream I.remaining O.contents input output stopped.why stopped.writer) }
+    ensures refused { IfErr result (λ stopped. RefusesStream I.left I.health I.pulls O.contents input output stopped.why stopped.writer) }
 {
     let mut part = Vec::new(alloc);
-    let Ok(()) = part.push(Device::new(input)) else {
+    let Ok(()) = part.push(input) else {
         return Err(Stopped {
             why: Refused::OutOfMemory,
             writer: Some(output),
@@ -72,7 +73,7 @@ pub(crate) fn write_file<P: Product, F: Folder>(
     ensures no_parts { result ≡ Err (Refused.Engine ToolFault.NoParts) → length names.now ≡ 0 }
     ensures refused { IfErr result (IsFilesRefusal
         (making_of (P.is_text product.now) (P.is_too_long product.now) P.Kept.takes_room (P.takes_memory product.now))
-        (F.answered files.now) F.Part.left names.now out.now) }
+        (F.answered files.now) F.Part.left F.Part.health F.Part.pulls names.now out.now) }
 {
     let mut parts = open_parts(alloc, files, names)?;
     let buffered = files.create_out(alloc, out)?;
@@ -98,7 +99,7 @@ pub(crate) fn report_files<P: Product, F: Folder, O: Write + Drop>(
     ensures no_parts { IfErr result (λ stopped. stopped.why ≡ Refused.Engine ToolFault.NoParts → length names.now ≡ 0) }
     ensures refused { IfErr result (λ stopped. RefusesReport
         (making_of (P.is_text report.now) (P.is_too_long report.now) P.Kept.takes_room (P.takes_memory report.now))
-        (F.answered files.now) F.Part.left O.contents names.now output stopped.why stopped.writer) }
+        (F.answered files.now) F.Part.left F.Part.health F.Part.pulls O.contents names.now output stopped.why stopped.writer) }
 {
     let mut parts = match open_parts(alloc, files, names) {
         Ok(parts) => parts,

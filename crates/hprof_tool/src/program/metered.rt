@@ -6,8 +6,9 @@ use crate::program::refused::Refused;
 use crate::program::writing::BUFFER_LEN;
 use hprof_devices::{Device, ReadFault, Source};
 use std::alloc::Global;
-use std::fs::File;
+use std::fs::{File, OpenOptions};
 use std::io::{BufWriter, Read, Write};
+use std::os::unix::fs::OpenOptionsExt;
 use std::rt::{Clock, Files};
 use std::{fs, io};
 
@@ -46,6 +47,16 @@ impl<F: Read, S: Clock, T: Write> Source for MeteredPart<'_, F, S, T> {
     }
 }
 
+/// The permissions of a new file: its owner reads and writes it, and no one else does, since a heap may hold secrets.
+const OUT_MODE: u32 = 0o600;
+
+/// Creates a new file, if there is none.
+fn create_private<S: Files>(system: &S, name: &str) -> io::Result<S::File> {
+    let mut options = OpenOptions::new();
+    options.write(true).create_new(true).mode(OUT_MODE);
+    options.open(system, name)
+}
+
 impl<'a, S: Files + Clock, T: Write + Drop> Folder for Metered<'a, S, T> {
     ghost use Rattle.hprof_tool.specs.Folder.{nothing_told};
 
@@ -71,7 +82,7 @@ impl<'a, S: Files + Clock, T: Write + Drop> Folder for Metered<'a, S, T> {
         alloc: Global,
         name: &str,
     ) -> Result<BufWriter<Clearing<'a, S::File, T>>, Refused> {
-        let Ok(file) = File::create_new(self.system, name) else {
+        let Ok(file) = create_private(self.system, name) else {
             return Err(Refused::Create);
         };
         let file = Clearing {

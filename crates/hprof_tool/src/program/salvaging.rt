@@ -1,6 +1,6 @@
 //! The salvage of parts in files.
 
-ghost use Rattle.std.specs.Prelude.{◌≡◌, List, [], ◌∷◌, ◌++◌, ℕ, All, OnOk, IfOk, IfErr};
+ghost use Rattle.std.specs.Prelude.{◌≡◌, List, [], ◌∷◌, ◌++◌, ℕ, All, OnOk, OnErr, IfOk, IfErr};
 ghost use Rattle.std.specs.Io.KnownBytes.{Appends, append_known};
 ghost use Rattle.std.specs.Io.Buffered.{writer_contents};
 ghost use Rattle.hprof_devices.specs.declared.health.Health.TheVariants.{Well};
@@ -10,11 +10,12 @@ ghost use Rattle.hprof_engine.specs.Salvaging.{Salvages};
 ghost use Rattle.hprof_tool.specs.Program.{usual_limits};
 ghost use Rattle.hprof_tool.specs.Folder.{MayCreateBehind};
 ghost use Rattle.hprof_tool.specs.SalvagedFiles.{SalvagesStream, IsSalvagedFile, IsSalvageRefusal};
-ghost use Rattle.hprof_tool.specs.Telling.{TellsFaults, IsOfTelling, line_end};
+ghost use Rattle.hprof_tool.specs.Telling.{TellsFaults, TellsFront, TellsSomeFaults, IsOfTelling, line_end};
 
 use crate::program::folder::Folder;
 use crate::program::joining::open_parts;
 use crate::program::refused::{Refused, WRITE_FAILED};
+use crate::program::telling::write_part_line;
 use crate::program::writing::end_of_writing;
 use hprof_devices::{Device, Source};
 use hprof_engine::{FaultedPart, Salvaged, ToolFault, salvage_kept};
@@ -118,26 +119,31 @@ pub(crate) fn salvage_file<F: Folder>(
 /// The number of bytes of room for the reason why a part is refused. Each such text is shorter.
 const WHY_LEN: usize = 64;
 
-/// Tells the fault of a part in a line, as it is told when the part is refused. It takes no memory.
+/// Tells the fault of a part in a line, as it is told when the part is refused. It takes no memory. If it cannot be written, a front of it is
+/// told.
 fn tell_fault<O: Write>(fault: FaultedPart, output: &mut O) -> Result<(), Refused>
     ensures told { OnOk result ((line : List ℕ) × IsFaultText (ToolFault.Part fault.index fault.fault) line
         × Appends (O.contents output.old) (O.contents output.new) (line ++ line_end ∷ [])) }
     ensures failed { IfErr result IsOfTelling }
+    ensures front { OnErr result ((line : List ℕ) × IsFaultText (ToolFault.Part fault.index fault.fault) line
+        × TellsFront (line ++ line_end ∷ []) (O.contents output.old) (O.contents output.new)) }
 {
     let FaultedPart { index, fault } = fault;
     let text = InlineText::<WHY_LEN>::of(fault);
     let why = text.as_str();
-    match writeln!(output, "part {index}: {why}") {
+    match write_part_line(index, why, output) {
         Ok(()) => Ok(()),
         Err(_) => Err(WRITE_FAILED),
     }
 }
 
-/// Tells the faults of parts, one a line. It takes no memory, so a fault of the output alone keeps it from telling them.
+/// Tells the faults of parts, one a line. It takes no memory, so a fault of the output alone keeps it from telling them, and a front of them
+/// is told then.
 pub(crate) fn tell_faults<O: Write>(faults: &[FaultedPart], output: &mut O) -> Result<(), Refused>
     ensures told { OnOk result ((text : List ℕ) × TellsFaults faults.now text
         × Appends (O.contents output.old) (O.contents output.new) text) }
     ensures failed { IfErr result IsOfTelling }
+    ensures front { OnErr result (TellsSomeFaults faults.now (O.contents output.old) (O.contents output.new)) }
 {
     for fault in faults {
         tell_fault(*fault, output)?;

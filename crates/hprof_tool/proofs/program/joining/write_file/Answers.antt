@@ -17,7 +17,7 @@ pub returns-in_err-parts-clause-refused : goal.returns-in_err-parts-clause-refus
 returns-in_err-parts-clause-refused g c =
     let making = making_of (g.P.Product.is_text c.args.product.now) (g.P.Product.is_too_long c.args.product.now) g.P.Kept.Summaries.takes_room
     (g.P.Product.takes_memory c.args.product.now) in
-    if_the_error _ c.from_residual.result c.in_err-parts.field-0.0 (of_opening making _ _ _ _ _ c.in_err-parts.ensures.kind)
+    if_the_error _ c.from_residual.result c.in_err-parts.field-0.0 (of_opening making _ _ _ _ _ _ _ c.in_err-parts.ensures.kind)
     c.from_residual.ensures.1
 
 pub create_out-requires : goal.create_out-requires
@@ -32,7 +32,7 @@ pub returns-in_err-buffered-clause-refused : goal.returns-in_err-buffered-clause
 returns-in_err-buffered-clause-refused g c =
     let making = making_of (g.P.Product.is_text c.args.product.now) (g.P.Product.is_too_long c.args.product.now) g.P.Kept.Summaries.takes_room
     (g.P.Product.takes_memory c.args.product.now) in
-    if_the_error _ c.from_residual-2.result c.in_err-buffered.field-0.0 (of_creating making _ _ _ _ _ c.in_err-buffered.ensures.fails)
+    if_the_error _ c.from_residual-2.result c.in_err-buffered.field-0.0 (of_creating making _ _ _ _ _ _ _ c.in_err-buffered.ensures.fails)
     c.from_residual-2.ensures.1
 
 pub returns-in-Ok-clause-ok : goal.returns-in-Ok-clause-ok
@@ -60,7 +60,8 @@ returns-clause-refused g c =
     let left = c.in-Err.left in
     let opened = subst (λ (parts : List _). AreOpened answered c.args.names.now parts) (sym c.deref_mut.ensures.value)
     c.in_ok-parts.ensures.opened in
-    of_making (making_of is_text too_long room memory) answered g.F.Part.Source.left c.args.names.now c.deref_mut.result.now opened
+    of_making (making_of is_text too_long room memory) answered g.F.Part.Source.left g.F.Part.Source.health g.F.Part.Source.pulls c.args.names.now
+    c.deref_mut.result.now c.write_buffered.new.readers opened
     c.args.out.now left.why
     (stream_kind _ _ _ _ _ is_text too_long room memory _ _ left.why (Some left.writer) c.in-Err.ensures.stops)
     (stream_refusal _ _ _ _ _ is_text too_long room memory _ _ left.why (Some left.writer) c.in-Err.ensures.stops) c.remove_out.ensures
