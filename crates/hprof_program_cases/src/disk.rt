@@ -5,6 +5,7 @@ use crate::words::words_of;
 use hprof_fixtures::{END, HEADER, NAME_1_A, bytes_of};
 use hprof_tool::run;
 use std::alloc::{AllocError, Global};
+use std::os::unix::fs::MetadataExt;
 use std::process::Abort;
 use std::test::Fail;
 use std::{env, fs};
@@ -88,6 +89,20 @@ fn files_are_joined_to_a_new_file(rt: HostRuntime) -> Result<(), Fail> {
     expect_ran(&rt, &rt, &words, 1, b"hprof: cannot create the output\n")?;
     equal_bytes(&rt, &fs::read(&rt, out.as_str())?, &dump);
     remove(&rt, &words[1..])
+}
+
+#[test]
+fn new_files_are_private(rt: HostRuntime) -> Result<(), Fail> {
+    let part = written(&rt, "secret", &[HEADER, NAME_1_A])?;
+    let out = path_of(&rt, "private")?;
+    for command in ["join", "join101", "salvage"] {
+        let words = [command, out.as_str(), part.as_str()];
+        expect_ran(&rt, &rt, &words, 0, b"")?;
+        let mode = fs::metadata(&rt, out.as_str())?.mode();
+        equal_at(&rt, command, mode & 0o777, 0o600);
+        remove(&rt, &words[1..2])?;
+    }
+    remove(&rt, &[part.as_str()])
 }
 
 /// Returns the paths of `count` parts, each of one name, from 1 on.

@@ -1,7 +1,5 @@
 -- What comparing the parts of two heaps tells.
 use Rattle.std.proofs.Common.{◌≡◌, ◌⊎◌, inl, inr, ℕ, List, [], Option, Some, None, refl}
-use Rattle.hprof_devices.specs.declared.device.Device.{Device}
-use Rattle.hprof_devices.specs.Device.{inner_of}
 use Rattle.hprof_devices.specs.declared.health.Health.{Health}
 use Rattle.hprof_engine.specs.declared.tool_fault.ToolFault.{ToolFault}
 use Rattle.hprof_engine.specs.declared.tool_fault.ToolFault.TheVariants as tool
@@ -17,7 +15,7 @@ use Rattle.hprof_tool.specs.Folder.{Answered}
 use Rattle.hprof_tool.specs.Program.{IsOfMaking, IsRefusal, of_dump, refused_of, usual_limits}
 use Rattle.hprof_tool.specs.Streams.{Leaves}
 use Rattle.hprof_tool.proofs.Files.{one_told}
-use Rattle.hprof_tool.proofs.Making.{no_parts_told, none_added, part_refusal}
+use Rattle.hprof_tool.proofs.Making.{no_parts_told, none_added}
 
 -- ---- what kind of refusal it is
 
@@ -71,16 +69,15 @@ module _ {R : Type 0} (left : R → Option (List ℕ)) (health : R → Health) (
   never (inl kind) none other = none kind
   never (inr wants) none other = other wants.0
 
-  pub old_says : (fault : ToolFault) → Counted fault → (olds news : List (List ℕ)) → Tell left old olds
-      → SaysOfTwo olds news (of_dump 0 (refused_of fault))
-  old_says (tool.Part index fault) counts olds news told =
-      inl (refl, part_refusal left health pulls olds old new index fault (counts.reads.part index fault refl olds told))
-  old_says tool.NoParts counts olds news told = inl (refl, no_parts_told left old olds (counts.reads.no_parts.0 refl) told)
-  old_says tool.IdSizes counts olds news told = inl (refl, counts.reads.id_sizes refl olds told)
-  old_says (tool.Conflict key) counts olds news told = inl (refl, counts.reads.conflict key refl olds told)
-  old_says (tool.Write fault) counts olds news told = absurd (never counts.kind (λ k. k) (λ same. cc))
-  old_says tool.DumpTooLong counts olds news told = absurd (never counts.kind (λ k. k) (λ same. cc))
-  old_says tool.OutOfMemory counts olds news told = tt
+  pub old_says : (others others_then : List R) (fault : ToolFault) → Counted fault → (olds news : List (List ℕ)) → Tell left old olds
+      → SaysOfTwo left health pulls old new others others_then (of_dump 0 (refused_of fault)) olds news
+  old_says others others_then (tool.Part index fault) counts olds news told = inl (refl, counts.reads.part index fault refl olds told)
+  old_says others others_then tool.NoParts counts olds news told = inl (refl, no_parts_told left old olds (counts.reads.no_parts.0 refl) told)
+  old_says others others_then tool.IdSizes counts olds news told = inl (refl, counts.reads.id_sizes refl olds told)
+  old_says others others_then (tool.Conflict key) counts olds news told = inl (refl, counts.reads.conflict key refl olds told)
+  old_says others others_then (tool.Write fault) counts olds news told = absurd (never counts.kind (λ k. k) (λ same. cc))
+  old_says others others_then tool.DumpTooLong counts olds news told = absurd (never counts.kind (λ k. k) (λ same. cc))
+  old_says others others_then tool.OutOfMemory counts olds news told = tt
 
   -- the stream is as it was
   pub old_leaves : {O : Type 0} (contents : O → Option (List ℕ)) (IsFront : Option (List ℕ) → Option (List ℕ) → Type 0) (before : O)
@@ -107,20 +104,21 @@ module _ (totals : Totals) (olds : List (List ℕ)) (are : AreTotalsOf olds tota
     is = made.is.is;
   }
 
-  pub new_says : (why : Refused) → IsOfMaking why → (news : List (List ℕ)) → IsRefusal (growth_making totals) why news
-      → SaysOfTwo olds news (of_dump 1 why)
-  new_says (refusals.Engine (tool.Part index fault)) kind news says = inr (refl, (are.heap, are.agree), says)
-  new_says (refusals.Engine tool.NoParts) kind news says = inr (refl, (are.heap, are.agree), says)
-  new_says (refusals.Engine tool.IdSizes) kind news says = inr (refl, (are.heap, are.agree), says)
-  new_says (refusals.Engine (tool.Conflict key)) kind news says = inr (refl, (are.heap, are.agree), says)
-  new_says (refusals.Engine (tool.Write fault)) kind news says = (says.0, difference_made news says.0 says.1)
-  new_says (refusals.Engine tool.DumpTooLong) kind news says = absurd says.1
-  new_says (refusals.Engine tool.OutOfMemory) kind news says = absurd kind
-  new_says (refusals.Dump place fault) kind news says = absurd kind
-  new_says (refusals.Open index) kind news says = absurd kind
-  new_says refusals.Create kind news says = absurd kind
-  new_says refusals.Questions kind news says = absurd kind
-  new_says refusals.OutOfMemory kind news says = tt
+  pub new_says : {R : Type 0} (left : R → Option (List ℕ)) (health : R → Health) (pulls : R → ℕ) (others others_then old new : List R)
+      (why : Refused) → IsOfMaking why → (news : List (List ℕ)) → IsRefusal left health pulls old new (growth_making totals) why news
+      → SaysOfTwo left health pulls others others_then old new (of_dump 1 why) olds news
+  new_says left health pulls others others_then old new (refusals.Engine (tool.Part index fault)) kind news says = inr (refl, (are.heap, are.agree), says)
+  new_says left health pulls others others_then old new (refusals.Engine tool.NoParts) kind news says = inr (refl, (are.heap, are.agree), says)
+  new_says left health pulls others others_then old new (refusals.Engine tool.IdSizes) kind news says = inr (refl, (are.heap, are.agree), says)
+  new_says left health pulls others others_then old new (refusals.Engine (tool.Conflict key)) kind news says = inr (refl, (are.heap, are.agree), says)
+  new_says left health pulls others others_then old new (refusals.Engine (tool.Write fault)) kind news says = (says.0, difference_made news says.0 says.1)
+  new_says left health pulls others others_then old new (refusals.Engine tool.DumpTooLong) kind news says = absurd says.1
+  new_says left health pulls others others_then old new (refusals.Engine tool.OutOfMemory) kind news says = absurd kind
+  new_says left health pulls others others_then old new (refusals.Dump place fault) kind news says = absurd kind
+  new_says left health pulls others others_then old new (refusals.Open index) kind news says = absurd kind
+  new_says left health pulls others others_then old new refusals.Create kind news says = absurd kind
+  new_says left health pulls others others_then old new refusals.Questions kind news says = absurd kind
+  new_says left health pulls others others_then old new refusals.OutOfMemory kind news says = tt
 
 -- the stream is left as it is where the dump is not told
 pub dump_leaves : {O : Type 0} (contents : O → Option (List ℕ)) (IsFront : Option (List ℕ) → Option (List ℕ) → Type 0) (before : O)
@@ -141,10 +139,11 @@ dump_leaves contents IsFront before refusals.OutOfMemory after leaves = leaves
 
 -- ---- files
 
-module _ {F O : Type 0} (answered : Answered F) (tells : F → Option (List ℕ)) (older newer : List ℕ) (contents : O → Option (List ℕ))
+module _ {P W O : Type 0} (answered : Answered P W) (tells : P → Option (List ℕ)) (health : P → Health) (pulls : P → ℕ)
+    (older newer : List ℕ) (contents : O → Option (List ℕ))
     (before : O) where
   abbrev Refuses : Refused → Option O → Type 0
-  Refuses why after = RefusesDiff answered tells older newer contents before why after
+  Refuses why after = RefusesDiff answered tells older newer contents before health pulls why after
 
   -- a dump could not be opened
   pub older_unopened : (why : Refused) → IsOfOpeningOne answered older 0 why → Refuses why (Some before)
@@ -155,38 +154,35 @@ module _ {F O : Type 0} (answered : Answered F) (tells : F → Option (List ℕ)
   older_unopened refusals.Questions is = absurd is
   older_unopened refusals.OutOfMemory is = (tt, ([], inl (none_added (contents before))))
 
-  pub newer_unopened : (olds : List (Device F)) → IsOneOpened answered older olds → (why : Refused) → IsOfOpeningOne answered newer 1 why
+  pub newer_unopened : (olds : List P) → IsOneOpened answered older olds → (why : Refused) → IsOfOpeningOne answered newer 1 why
       → Refuses why (Some before)
   newer_unopened olds opened (refusals.Engine fault) is = absurd is
   newer_unopened olds opened (refusals.Dump place fault) is = absurd is
-  newer_unopened olds opened (refusals.Open place) is = (inr (is.0, (inner_of opened.0, opened.2), is.1), refl)
+  newer_unopened olds opened (refusals.Open place) is = (inr (is.0, (opened.0, opened.2), is.1), refl)
   newer_unopened olds opened refusals.Create is = absurd is
   newer_unopened olds opened refusals.Questions is = absurd is
   newer_unopened olds opened refusals.OutOfMemory is = (tt, ([], inl (none_added (contents before))))
 
-  module _ (olds news : List (Device F)) (opened : IsOneOpened answered older olds) (opened_too : IsOneOpened answered newer news) where
-    abbrev left : Device F → Option (List ℕ)
-    left part = tells (inner_of part)
-
+  module _ (olds news : List P) (opened : IsOneOpened answered older olds) (opened_too : IsOneOpened answered newer news) where
     -- what holds of what the readers tell holds of the files
-    pub over_dumps : (Holds : List (List ℕ) → List (List ℕ) → Type 0) → OverBoth left olds news Holds
+    pub over_dumps : (Holds : List (List ℕ) → List (List ℕ) → Type 0) → OverBoth tells olds news Holds
         → OfDumps answered tells older newer Holds
     over_dumps Holds over = record {
-      old = inner_of opened.0;
-      new = inner_of opened_too.0;
+      old = opened.0;
+      new = opened_too.0;
       old_opened = opened.2;
       new_opened = opened_too.2;
-      holds = λ one other told told_too. over _ _ (one_told tells olds opened.0 (inner_of opened.0) one opened.1 refl told)
-          (one_told tells news opened_too.0 (inner_of opened_too.0) other opened_too.1 refl told_too);
+      holds = λ one other told told_too. over _ _ (one_told tells olds opened.0 one opened.1 told)
+          (one_told tells news opened_too.0 other opened_too.1 told_too);
     }
 
     abbrev FrontOfDumps : (held holds : Option (List ℕ)) → Type 0
     FrontOfDumps held holds = OfDumps answered tells older newer (λ one other. WritesFront (IsDifferenceOf one) other held holds)
 
-    front_of_dumps : (held holds : Option (List ℕ)) → IsFrontOfBoth left olds news held holds → FrontOfDumps held holds
+    front_of_dumps : (held holds : Option (List ℕ)) → IsFrontOfBoth tells olds news held holds → FrontOfDumps held holds
     front_of_dumps held holds front = over_dumps (λ one other. WritesFront (IsDifferenceOf one) other held holds) front
 
-    dumps_left : (why : Refused) (after : Option O) → IsOfComparing why → Leaves contents (IsFrontOfBoth left olds news) why before after
+    dumps_left : (why : Refused) (after : Option O) → IsOfComparing why → Leaves contents (IsFrontOfBoth tells olds news) why before after
         → Leaves contents FrontOfDumps why before after
     dumps_left (refusals.Engine (tool.Write fault)) (Some after) kind leaves = (leaves.0, front_of_dumps _ _ leaves.1)
     dumps_left (refusals.Engine (tool.Write fault)) None kind leaves = leaves
@@ -209,18 +205,29 @@ module _ {F O : Type 0} (answered : Answered F) (tells : F → Option (List ℕ)
     )
     dumps_left refusals.OutOfMemory None kind leaves = leaves
 
-    pub dumps_refused : (why : Refused) (after : Option O) → StopsComparing left olds news contents before why after → Refuses why after
-    dumps_refused (refusals.Engine (tool.Write fault)) after stops =
+    pub dumps_refused : (olds_then news_then : List P) (why : Refused) (after : Option O)
+        → StopsComparing tells health pulls olds olds_then news news_then contents before why after → Refuses why after
+    dumps_refused olds_then news_then (refusals.Engine (tool.Write fault)) after stops =
         (over_dumps _ stops.1, dumps_left (refusals.Engine (tool.Write fault)) after stops.0 stops.2)
-    dumps_refused (refusals.Engine (tool.Part index fault)) after stops = absurd stops.0
-    dumps_refused (refusals.Engine tool.NoParts) after stops = absurd stops.0
-    dumps_refused (refusals.Engine tool.IdSizes) after stops = absurd stops.0
-    dumps_refused (refusals.Engine (tool.Conflict key)) after stops = absurd stops.0
-    dumps_refused (refusals.Engine tool.DumpTooLong) after stops = absurd stops.0
-    dumps_refused (refusals.Engine tool.OutOfMemory) after stops = absurd stops.0
-    dumps_refused (refusals.Dump place fault) after stops =
-        (over_dumps _ stops.1, dumps_left (refusals.Dump place fault) after stops.0 stops.2)
-    dumps_refused (refusals.Open index) after stops = absurd stops.0
-    dumps_refused refusals.Create after stops = absurd stops.0
-    dumps_refused refusals.Questions after stops = absurd stops.0
-    dumps_refused refusals.OutOfMemory after stops = (tt, dumps_left refusals.OutOfMemory after stops.0 stops.2)
+    dumps_refused olds_then news_then (refusals.Engine (tool.Part index fault)) after stops = absurd stops.0
+    dumps_refused olds_then news_then (refusals.Engine tool.NoParts) after stops = absurd stops.0
+    dumps_refused olds_then news_then (refusals.Engine tool.IdSizes) after stops = absurd stops.0
+    dumps_refused olds_then news_then (refusals.Engine (tool.Conflict key)) after stops = absurd stops.0
+    dumps_refused olds_then news_then (refusals.Engine tool.DumpTooLong) after stops = absurd stops.0
+    dumps_refused olds_then news_then (refusals.Engine tool.OutOfMemory) after stops = absurd stops.0
+    dumps_refused olds_then news_then (refusals.Dump place fault) after stops = (
+      record {
+        olds = olds;
+        olds_then = olds_then;
+        news = news;
+        news_then = news_then;
+        old_opened = opened;
+        new_opened = opened_too;
+        holds = stops.1;
+      },
+      dumps_left (refusals.Dump place fault) after stops.0 stops.2,
+    )
+    dumps_refused olds_then news_then (refusals.Open index) after stops = absurd stops.0
+    dumps_refused olds_then news_then refusals.Create after stops = absurd stops.0
+    dumps_refused olds_then news_then refusals.Questions after stops = absurd stops.0
+    dumps_refused olds_then news_then refusals.OutOfMemory after stops = (tt, dumps_left refusals.OutOfMemory after stops.0 stops.2)

@@ -2,9 +2,7 @@
 use Rattle.std.proofs.Common.{◌≡◌, inl, inr, ℕ, List, [], ◌++◌, append-nil, Option, Some, None, refl, sym, ap, subst, ◌∙◌}
 use Rattle.std.specs.Borrow.{Bor}
 use Rattle.std.specs.Io.KnownBytes.{Consumes, IsAtEnd, append_known}
-use Rattle.hprof_devices.specs.declared.device.Device.{Device}
 use Rattle.hprof_devices.specs.declared.health.Health.{Health}
-use Rattle.hprof_devices.specs.Device.{inner_of}
 use Rattle.hprof_engine.specs.declared.tool_fault.ToolFault.{ToolFault}
 use Rattle.hprof_engine.specs.declared.tool_fault.ToolFault.TheVariants as tool
 use Rattle.hprof_engine.specs.Joining.{IsOfReading}
@@ -25,7 +23,7 @@ use Rattle.hprof_tool.specs.Folder.{Answered, AreOpened}
 use Rattle.hprof_tool.specs.Program.{IsOfOpening, IsReportRefusal, usual_limits}
 use Rattle.hprof_tool.specs.Conversing.{AnswersAll, LeavesAnswers, OfFront, OverFiles, OverReaders, SaysOfReaders, refused_asking}
 use Rattle.hprof_tool.proofs.Files.{of_reporting}
-use Rattle.hprof_tool.proofs.Making.{no_parts_told, none_added, part_refusal}
+use Rattle.hprof_tool.proofs.Making.{no_parts_told, none_added}
 
 -- what came of known questions is a front of them, and the rest is what is left
 front_of : (old new : Option (List ℕ)) (questions bytes : List ℕ) → old ≡ Some questions → Consumes old new bytes
@@ -130,9 +128,9 @@ module _ {R Q W O : Type 0} (left : R → Option (List ℕ)) (health : R → Hea
 
       -- a fault of reading is none of writing
       of_parts_refused : (fault : ToolFault) → Asked (Some (faults.Parts fault)) → IsOfReading (Some fault)
-          → LeavesAnswers contents first Over (SaysOfReaders left readers) (refused_asking (faults.Parts fault)) (Some last)
+          → LeavesAnswers contents first Over (SaysOfReaders left health pulls readers new) (refused_asking (faults.Parts fault)) (Some last)
       of_parts_refused (tool.Part index fault) a kind = (
-        (tt, λ parts told. part_refusal left health pulls parts readers new index fault (a.reads.part index fault refl parts told)),
+        (tt, λ parts told. a.reads.part index fault refl parts told),
         refused_parts (tool.Part index fault) a,
       )
       of_parts_refused tool.NoParts a kind =
@@ -150,10 +148,10 @@ module _ {R Q W O : Type 0} (left : R → Option (List ℕ)) (health : R → Hea
 
       -- what stopped says, and leaves
       pub stopped : (fault : AskFault) → PassesAnswersOn (Some fault) (unwritten ≡ []) → Asked (Some fault)
-          → LeavesAnswers contents first Over (SaysOfReaders left readers) (refused_asking fault) (Some last)
+          → LeavesAnswers contents first Over (SaysOfReaders left health pulls readers new) (refused_asking fault) (Some last)
       stopped (faults.Parts fault) passes a = elim (a.kind fault refl) [
         | inl kind ↦ of_parts_refused fault a kind
-        | inr none ↦ subst (λ (f : ToolFault). LeavesAnswers contents first Over (SaysOfReaders left readers)
+        | inr none ↦ subst (λ (f : ToolFault). LeavesAnswers contents first Over (SaysOfReaders left health pulls readers new)
             (refused_asking (faults.Parts f)) (Some last)) (sym none.0) (inl (same (a.refused fault refl).1))
       ]
       stopped (faults.Dialogue (stops.Questions fault)) none a =
@@ -165,11 +163,11 @@ module _ {R Q W O : Type 0} (left : R → Option (List ℕ)) (health : R → Hea
 
 -- ---- of files
 
-module _ {F I Q O : Type 0} (answered : Answered F) (tells : F → Option (List ℕ)) (left : I → Option (List ℕ)) (contents : O → Option (List ℕ))
-    (names : List (Bor (List ℕ))) (input : I) (old : O) (parts : List (Device F)) (opened : AreOpened answered names parts)
-    (asked : Q → Option (List ℕ)) (source : Q) (same : asked source ≡ left input) where
+module _ {P W I Q O : Type 0} (answered : Answered P W) (tells : P → Option (List ℕ)) (left : I → Option (List ℕ))
+    (contents : O → Option (List ℕ)) (names : List (Bor (List ℕ))) (input : I) (old : O) (parts : List P)
+    (opened : AreOpened answered names parts) (asked : Q → Option (List ℕ)) (source : Q) (same : asked source ≡ left input) where
   abbrev OfReaders : ((Question → List ℕ → Type 0) → List ℕ → Type 0) → Type 0
-  OfReaders = OverReaders (λ part. tells (inner_of part)) asked parts source
+  OfReaders = OverReaders tells asked parts source
 
   abbrev OfFiles : ((Question → List ℕ → Type 0) → List ℕ → Type 0) → Type 0
   OfFiles = OverFiles answered tells left contents names input old
@@ -179,11 +177,12 @@ module _ {F I Q O : Type 0} (answered : Answered F) (tells : F → Option (List 
   over_files Holds over =
       record { parts = parts; opened = opened; holds = λ told tell questions known. over told tell questions (same ∙ known) }
 
-  abbrev Says : Refused → Type 0
-  Says = SaysOfReaders (λ part. tells (inner_of part)) parts
-
-  pub says_files : (refused : Refused) → Says refused → IsReportRefusal dump_making answered tells names refused
-  says_files refused says = of_reporting dump_making answered tells names parts opened refused says.0 says.1
+-- what a refusal says of the readers of these files it says of the files
+pub says_files : {P W : Type 0} (answered : Answered P W) (tells : P → Option (List ℕ)) (health : P → Health) (pulls : P → ℕ)
+    (names : List (Bor (List ℕ))) (parts read : List P) → AreOpened answered names parts → (refused : Refused)
+    → SaysOfReaders tells health pulls parts read refused → IsReportRefusal dump_making answered tells health pulls names refused
+says_files answered tells health pulls names parts read opened refused says =
+    of_reporting dump_making answered tells health pulls names parts read opened refused says.0 says.1
 
 -- what a refusal leaves, where what holds of the answers holds over something else, too
 module _ {O : Type 0} (contents : O → Option (List ℕ)) (old : O) (From To : ((Question → List ℕ → Type 0) → List ℕ → Type 0) → Type 0)
@@ -211,7 +210,7 @@ module _ {O : Type 0} (contents : O → Option (List ℕ)) (old : O) (From To : 
   leaves_over refusals.Create new leaves = leaves
 
 -- the same questions, which another source gives
-module _ {F I Q O : Type 0} (answered : Answered F) (tells : F → Option (List ℕ)) (left : I → Option (List ℕ)) (asked : Q → Option (List ℕ))
+module _ {P W I Q O : Type 0} (answered : Answered P W) (tells : P → Option (List ℕ)) (left : I → Option (List ℕ)) (asked : Q → Option (List ℕ))
     (contents : O → Option (List ℕ)) (names : List (Bor (List ℕ))) (input : I) (source : Q) (old : O) (same : asked source ≡ left input) where
   pub same_questions : (Holds : (Question → List ℕ → Type 0) → List ℕ → Type 0)
       → OverFiles answered tells asked contents names source old Holds → OverFiles answered tells left contents names input old Holds
@@ -222,13 +221,13 @@ module _ {F I Q O : Type 0} (answered : Answered F) (tells : F → Option (List 
   }
 
 -- where a part cannot be opened, the stream is as it was
-pub cannot_ask : {F O : Type 0} (answered : Answered F) (tells : F → Option (List ℕ)) (contents : O → Option (List ℕ))
+pub cannot_ask : {P W O : Type 0} (answered : Answered P W) (tells : P → Option (List ℕ)) (health : P → Health) (pulls : P → ℕ) (contents : O → Option (List ℕ))
     (names : List (Bor (List ℕ))) (old : O) (Holding : ((Question → List ℕ → Type 0) → List ℕ → Type 0) → Type 0) (refused : Refused)
     → IsOfOpening answered names refused
-    → LeavesAnswers contents old Holding (IsReportRefusal dump_making answered tells names) refused (Some old)
-cannot_ask answered tells contents names old Holding (refusals.Engine fault) is = absurd is
-cannot_ask answered tells contents names old Holding (refusals.Dump place fault) is = absurd is
-cannot_ask answered tells contents names old Holding (refusals.Open index) is = (is, refl)
-cannot_ask answered tells contents names old Holding refusals.Create is = absurd is
-cannot_ask answered tells contents names old Holding refusals.Questions is = absurd is
-cannot_ask answered tells contents names old Holding refusals.OutOfMemory is = inl refl
+    → LeavesAnswers contents old Holding (IsReportRefusal dump_making answered tells health pulls names) refused (Some old)
+cannot_ask answered tells health pulls contents names old Holding (refusals.Engine fault) is = absurd is
+cannot_ask answered tells health pulls contents names old Holding (refusals.Dump place fault) is = absurd is
+cannot_ask answered tells health pulls contents names old Holding (refusals.Open index) is = (is, refl)
+cannot_ask answered tells health pulls contents names old Holding refusals.Create is = absurd is
+cannot_ask answered tells health pulls contents names old Holding refusals.Questions is = absurd is
+cannot_ask answered tells health pulls contents names old Holding refusals.OutOfMemory is = inl refl

@@ -3,8 +3,7 @@ use Rattle.std.proofs.Common.{◌≡◌, ℕ, zero, suc, List, [], ◌∷◌, �
 use Rattle.std.specs.Prelude.{IfErr, IsErrAnd, slice_get}
 use Rattle.std.specs.Borrow.{Bor}
 use Rattle.std.proofs.lemmas.Option.{slice_get-get_or}
-use Rattle.hprof_devices.specs.declared.device.Device.{Device}
-use Rattle.hprof_devices.specs.Device.{inner_of}
+use Rattle.hprof_devices.specs.declared.health.Health.{Health}
 use Rattle.hprof_tool.specs.declared.program.refused.Refused.{Refused}
 use Rattle.hprof_tool.specs.declared.program.refused.Refused.TheVariants as refusals
 use Rattle.hprof_engine.specs.declared.tool_fault.ToolFault.{ToolFault}
@@ -13,32 +12,31 @@ use Rattle.hprof_engine.specs.Joining.{Tell}
 use Rattle.hprof_engine.specs.Makes.{Making}
 use Rattle.hprof_tool.specs.Folder.{Answered, AreOpened, CannotOpenAt}
 use Rattle.hprof_tool.specs.Program.{IsRefusal, IsFilesRefusal}
-use Rattle.hprof_tool.specs.Program.{IsReportRefusal, IsOfOpening, IsOfMaking}
+use Rattle.hprof_tool.specs.Program.{IsReportRefusal, IsOfOpening, IsOfCreating, IsOfMaking}
 
--- one more file is opened
-pub opened_more : {F : Type 0} (answered : Answered F) (names : List (Bor (List ℕ))) (index : ℕ) (name : Bor (List ℕ))
-    (parts : List (Device F)) (part : Device F) → slice_get names index ≡ Some name → AreOpened answered (take index names) parts
-    → answered.IsOpened name.now (inner_of part) → AreOpened answered (take (suc index) names) (parts ++ part ∷ [])
+-- one more part is opened
+pub opened_more : {P W : Type 0} (answered : Answered P W) (names : List (Bor (List ℕ))) (index : ℕ) (name : Bor (List ℕ))
+    (parts : List P) (part : P) → slice_get names index ≡ Some name → AreOpened answered (take index names) parts
+    → answered.IsOpened name.now part → AreOpened answered (take (suc index) names) (parts ++ part ∷ [])
 opened_more answered [] index name parts part at opened is = absurd cc
 opened_more answered (first ∷ names) zero name [] part at opened is =
-    let same : first ≡ name = cc in (subst (λ (n : Bor (List ℕ)). answered.IsOpened n.now (inner_of part)) (sym same) is, tt)
+    let same : first ≡ name = cc in (subst (λ (n : Bor (List ℕ)). answered.IsOpened n.now part) (sym same) is, tt)
 opened_more answered (first ∷ names) zero name (other ∷ parts) part at opened is = absurd opened
 opened_more answered (first ∷ names) (suc index) name [] part at opened is = absurd opened
 opened_more answered (first ∷ names) (suc index) name (other ∷ parts) part at opened is =
     (opened.0, opened_more answered names index name parts part at opened.1 is)
 
 -- the same, of the name that stands at that place
-pub opened_at : {F : Type 0} (answered : Answered F) (names : List (Bor (List ℕ))) (index : ℕ) (default : Bor (List ℕ))
-    (parts : List (Device F)) (part : Device F) (file : F) → index < length names → answered.IsOpened (get_or names index default).now file
-    → inner_of part ≡ file → AreOpened answered (take index names) parts → AreOpened answered (take (index + 1) names) (parts ++ part ∷ [])
-opened_at {F} answered names index default parts part file within is inner opened =
+pub opened_at : {P W : Type 0} (answered : Answered P W) (names : List (Bor (List ℕ))) (index : ℕ) (default : Bor (List ℕ))
+    (parts : List P) (part : P) → index < length names → answered.IsOpened (get_or names index default).now part
+    → AreOpened answered (take index names) parts → AreOpened answered (take (index + 1) names) (parts ++ part ∷ [])
+opened_at answered names index default parts part within is opened =
     subst (λ (n : ℕ). AreOpened answered (take n names) (parts ++ part ∷ [])) (sym (add-one index))
-    (opened_more answered names index (get_or names index default) parts part (slice_get-get_or names index default within) opened
-    (subst (λ (f : F). answered.IsOpened (get_or names index default).now f) (sym inner) is))
+    (opened_more answered names index (get_or names index default) parts part (slice_get-get_or names index default within) opened is)
 
--- the file of the name that stands at that place could not be opened
-pub cannot_open : {F : Type 0} (answered : Answered F) (names : List (Bor (List ℕ))) (index : ℕ) (default : Bor (List ℕ))
-    (parts : List (Device F)) → index < length names → answered.CannotOpen (get_or names index default).now
+-- the part of the name that stands at that place could not be opened
+pub cannot_open : {P W : Type 0} (answered : Answered P W) (names : List (Bor (List ℕ))) (index : ℕ) (default : Bor (List ℕ))
+    (parts : List P) → index < length names → answered.CannotOpen (get_or names index default).now
     → AreOpened answered (take index names) parts → CannotOpenAt answered names index
 cannot_open answered names index default parts within fails opened = record {
   name = get_or names index default;
@@ -49,7 +47,7 @@ cannot_open answered names index default parts within fails opened = record {
 }
 
 -- opening answers no refusal of the engine
-pub not_of_engine : {F : Type 0} (answered : Answered F) (names : List (Bor (List ℕ))) (refused : Refused) (fault : ToolFault)
+pub not_of_engine : {P W : Type 0} (answered : Answered P W) (names : List (Bor (List ℕ))) (refused : Refused) (fault : ToolFault)
     → IsOfOpening answered names refused → refused ≡ refusals.Engine fault → ⊥
 not_of_engine answered names (refusals.Engine known) fault is same = is
 not_of_engine answered names (refusals.Dump place why) fault is same = is
@@ -58,9 +56,20 @@ not_of_engine answered names refusals.Create fault is same = cc
 not_of_engine answered names refusals.Questions fault is same = cc
 not_of_engine answered names refusals.OutOfMemory fault is same = cc
 
-module _ {F : Type 0} (making : Making) (answered : Answered F) (remaining : F → Option (List ℕ)) (names : List (Bor (List ℕ))) where
+-- nor does creating
+pub creating_not_of_engine : {P W : Type 0} (answered : Answered P W) (out : List ℕ) (refused : Refused) (fault : ToolFault)
+    → IsOfCreating answered out refused → refused ≡ refusals.Engine fault → ⊥
+creating_not_of_engine answered out (refusals.Engine known) fault is same = is
+creating_not_of_engine answered out (refusals.Dump place why) fault is same = is
+creating_not_of_engine answered out (refusals.Open index) fault is same = is
+creating_not_of_engine answered out refusals.Create fault is same = cc
+creating_not_of_engine answered out refusals.Questions fault is same = is
+creating_not_of_engine answered out refusals.OutOfMemory fault is same = cc
+
+module _ {P W : Type 0} (making : Making) (answered : Answered P W) (left : P → Option (List ℕ)) (health : P → Health)
+    (pulls : P → ℕ) (names : List (Bor (List ℕ))) where
   -- a refusal to open is one to report
-  pub opening_reports : (refused : Refused) → IsOfOpening answered names refused → IsReportRefusal making answered remaining names refused
+  pub opening_reports : (refused : Refused) → IsOfOpening answered names refused → IsReportRefusal making answered left health pulls names refused
   opening_reports (refusals.Engine fault) is = absurd is
   opening_reports (refusals.Dump place fault) is = absurd is
   opening_reports (refusals.Open index) is = is
@@ -70,7 +79,7 @@ module _ {F : Type 0} (making : Making) (answered : Answered F) (remaining : F �
 
   -- and one to make something in a file
   pub of_opening : (out : List ℕ) (refused : Refused) → IsOfOpening answered names refused
-      → IsFilesRefusal making answered remaining names out refused
+      → IsFilesRefusal making answered left health pulls names out refused
   of_opening out (refusals.Engine fault) is = absurd is
   of_opening out (refusals.Dump place fault) is = absurd is
   of_opening out (refusals.Open index) is = is
@@ -78,18 +87,28 @@ module _ {F : Type 0} (making : Making) (answered : Answered F) (remaining : F �
   of_opening out refusals.Questions is = absurd is
   of_opening out refusals.OutOfMemory is = tt
 
-  -- a refusal to make something of the files that were opened is one to report
-  module _ (parts : List (Device F)) (opened : AreOpened answered names parts) where
-    abbrev Says : Refused → Type 0
-    Says refused = (told : List (List ℕ)) → Tell (λ part. remaining (inner_of part)) parts told → IsRefusal making refused told
+  -- so is one to create the file
+  pub of_creating : (out : List ℕ) (refused : Refused) → IsOfCreating answered out refused
+      → IsFilesRefusal making answered left health pulls names out refused
+  of_creating out (refusals.Engine fault) is = absurd is
+  of_creating out (refusals.Dump place fault) is = absurd is
+  of_creating out (refusals.Open index) is = absurd is
+  of_creating out refusals.Create is = is
+  of_creating out refusals.Questions is = absurd is
+  of_creating out refusals.OutOfMemory is = tt
 
-    pub of_reporting : (refused : Refused) → IsOfMaking refused → Says refused → IsReportRefusal making answered remaining names refused
-    of_reporting (refusals.Engine (tool.Part index fault)) kind says = record { parts = parts; opened = opened; holds = says }
-    of_reporting (refusals.Engine tool.NoParts) kind says = record { parts = parts; opened = opened; holds = says }
-    of_reporting (refusals.Engine tool.IdSizes) kind says = record { parts = parts; opened = opened; holds = says }
-    of_reporting (refusals.Engine (tool.Conflict key)) kind says = record { parts = parts; opened = opened; holds = says }
-    of_reporting (refusals.Engine tool.DumpTooLong) kind says = record { parts = parts; opened = opened; holds = says }
-    of_reporting (refusals.Engine (tool.Write fault)) kind says = record { parts = parts; opened = opened; holds = says }
+  -- a refusal to make something of the parts that were opened is one to report
+  module _ (old new : List P) (opened : AreOpened answered names old) where
+    abbrev Says : Refused → Type 0
+    Says refused = (told : List (List ℕ)) → Tell left old told → IsRefusal left health pulls old new making refused told
+
+    pub of_reporting : (refused : Refused) → IsOfMaking refused → Says refused → IsReportRefusal making answered left health pulls names refused
+    of_reporting (refusals.Engine (tool.Part index fault)) kind says = record { old = old; new = new; opened = opened; holds = says }
+    of_reporting (refusals.Engine tool.NoParts) kind says = record { old = old; new = new; opened = opened; holds = says }
+    of_reporting (refusals.Engine tool.IdSizes) kind says = record { old = old; new = new; opened = opened; holds = says }
+    of_reporting (refusals.Engine (tool.Conflict key)) kind says = record { old = old; new = new; opened = opened; holds = says }
+    of_reporting (refusals.Engine tool.DumpTooLong) kind says = record { old = old; new = new; opened = opened; holds = says }
+    of_reporting (refusals.Engine (tool.Write fault)) kind says = record { old = old; new = new; opened = opened; holds = says }
     of_reporting (refusals.Engine tool.OutOfMemory) kind says = absurd kind
     of_reporting (refusals.Dump place fault) kind says = absurd kind
     of_reporting (refusals.Open index) kind says = absurd kind
@@ -99,7 +118,7 @@ module _ {F : Type 0} (making : Making) (answered : Answered F) (remaining : F �
 
     -- and where the new file was removed, one to make something in it
     pub of_making : (out : List ℕ) (refused : Refused) → IsOfMaking refused → Says refused → answered.IsRemoved out
-        → IsFilesRefusal making answered remaining names out refused
+        → IsFilesRefusal making answered left health pulls names out refused
     of_making out (refusals.Engine fault) kind says removed = (of_reporting (refusals.Engine fault) kind says, removed)
     of_making out (refusals.Dump place fault) kind says removed = absurd kind
     of_making out (refusals.Open index) kind says removed = absurd kind
@@ -107,13 +126,11 @@ module _ {F : Type 0} (making : Making) (answered : Answered F) (remaining : F �
     of_making out refusals.Questions kind says removed = absurd kind
     of_making out refusals.OutOfMemory kind says removed = tt
 
--- a stream that is the only part tells it
-pub one_told : {F : Type 0} (remaining : F → Option (List ℕ)) (parts : List (Device F)) (device : Device F) (input : F) (part : List ℕ)
-    → parts ≡ device ∷ [] → inner_of device ≡ input → remaining input ≡ Some part
-    → Tell (λ it. remaining (inner_of it)) parts (part ∷ [])
-one_told {F} remaining parts device input part one of told =
-    subst (λ (ps : List (Device F)). Tell (λ it. remaining (inner_of it)) ps (part ∷ [])) (sym one)
-    (ap (λ (l : Option (List ℕ)). l ∷ []) (ap remaining of ∙ told))
+-- a reader that is the only part tells it
+pub one_told : {R : Type 0} (left : R → Option (List ℕ)) (readers : List R) (reader : R) (part : List ℕ) → readers ≡ reader ∷ []
+    → left reader ≡ Some part → Tell left readers (part ∷ [])
+one_told {R} left readers reader part one told =
+    subst (λ (rs : List R). Tell left rs (part ∷ [])) (sym one) (ap (λ (l : Option (List ℕ)). l ∷ []) told)
 
 -- what holds of the only error holds of each
 pub if_the_error : {A : Type 0} (P : Refused → Type 0) (outcome : Result A Refused) (refused : Refused) → P refused

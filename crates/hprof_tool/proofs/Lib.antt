@@ -6,3 +6,4 @@ pub mod Saving
 pub mod Streams
 pub mod Telling
 pub mod Comparing
+pub mod Tasks

@@ -11,17 +11,13 @@ use Rattle.hprof_devices.specs.declared.health.WriteFault.{WriteFault}
 use Rattle.hprof_devices.specs.declared.health.WriteFault.TheVariants as write_faults
 use Rattle.hprof_devices.specs.Device.{health_after}
 use Rattle.hprof_stream.specs.declared.limits.Limits.{Limits}
-use Rattle.hprof_stream.specs.declared.part_fault.PartFault.{PartFault}
-use Rattle.hprof_stream.specs.declared.part_fault.PartFault.TheVariants as part_faults
-use Rattle.hprof_stream.specs.declared.sink.SinkFault.TheVariants as sinks
 use Rattle.hprof_stream.specs.declared.summary.PartSummary.{PartSummary}
 use Rattle.hprof_rows.specs.HeapValue.{HeapValue}
-use Rattle.hprof_heap.specs.Gathering.{Given}
 use Rattle.hprof_engine.specs.declared.tool_fault.ToolFault.{ToolFault}
 use Rattle.hprof_engine.specs.declared.tool_fault.ToolFault.TheVariants as tool
-use Rattle.hprof_engine.specs.Joining.{Tell, IsPartFault, RefusesPart, IsBeforeWriting, fault_of}
+use Rattle.hprof_engine.specs.Joining.{Tell, IsBeforeWriting, fault_of}
 use Rattle.hprof_engine.specs.Makes.{Making, Makes, making_of}
-use Rattle.hprof_tool.specs.Program.{IsPartRefusal, IsFirstAnswer, IsRefusal, MakesStream, usual_limits, refused_of}
+use Rattle.hprof_tool.specs.Program.{IsRefusal, MakesStream, usual_limits, refused_of}
 
 -- no reader tells no part
 pub no_parts_told : {R : Type 0} (left : R → Option (List ℕ)) (readers : List R) (parts : List (List ℕ)) → readers ≡ []
@@ -42,35 +38,6 @@ are_usual limits item reads bytes =
     }) reads
     ∙ ap (λ (n : ℕ). record { max_item = 4294967295; max_reads = 1099511627776; max_bytes = n }) bytes
 
--- what a part is refused with is not answered for what failed before
-first_answer : {R : Type 0} (left : R → Option (List ℕ)) (health : R → Health) (pulls : R → ℕ) (limits : Limits) (earlier : List Given)
-    (was : R) (came : List ℕ) (is : R) (fault : PartFault)
-    → IsPartFault left health pulls limits earlier was came is fault → IsFirstAnswer fault
-first_answer left health pulls limits earlier was came is (part_faults.Malformed at reason) why = tt
-first_answer left health pulls limits earlier was came is (part_faults.ItemTooLong at) why = tt
-first_answer left health pulls limits earlier was came is part_faults.OutOfMemory why = tt
-first_answer left health pulls limits earlier was came is (part_faults.Sink sinks.OutOfMemory) why = tt
-first_answer left health pulls limits earlier was came is (part_faults.Sink sinks.Failed) why = absurd why
-first_answer left health pulls limits earlier was came is part_faults.Failed why = absurd why
-first_answer left health pulls limits earlier was came is part_faults.Read why = tt
-first_answer left health pulls limits earlier was came is part_faults.ReadsExceeded why = tt
-first_answer left health pulls limits earlier was came is part_faults.BytesExceeded why = tt
-
--- what the engine says of a part that it refuses
-pub part_refusal : {R : Type 0} (left : R → Option (List ℕ)) (health : R → Health) (pulls : R → ℕ) (parts : List (List ℕ))
-    (old new : List R) (index : ℕ) (fault : PartFault)
-    → RefusesPart left health pulls usual_limits parts old new index fault → IsPartRefusal parts index fault
-part_refusal left health pulls parts old new index fault is = record {
-  before = is.before;
-  bytes = is.bytes;
-  after = is.after;
-  in_order = is.in_order;
-  place = is.place;
-  accepted = is.accepted;
-  of_part = is.of_part;
-  is_first = first_answer left health pulls usual_limits is.given is.at.was is.at.came is.at.is fault is.at.refused;
-}
-
 -- a buffer that is empty adds nothing
 pub none_added : (known : Option (List ℕ)) → append_known known [] ≡ known
 none_added None = refl
@@ -83,9 +50,9 @@ module _ {R : Type 0} (left : R → Option (List ℕ)) (health : R → Health) (
       (TooLong : HeapValue → Type 0) (TakesRoom : ℕ → Type 0) (TakesMemory : Type 0) (before after : W) where
     pub refusal : (fault : ToolFault)
         → Makes left health pulls written well usual_limits (making_of IsText TooLong TakesRoom TakesMemory) old new before after
-        (Some fault) → (parts : List (List ℕ)) → Tell left old parts → IsRefusal (making_of IsText TooLong TakesRoom TakesMemory) (refused_of fault) parts
-    refusal (tool.Part index fault) m parts told = part_refusal left health pulls parts old new index fault
-        (m.reads.part index fault refl parts told)
+        (Some fault) → (parts : List (List ℕ)) → Tell left old parts
+        → IsRefusal left health pulls old new (making_of IsText TooLong TakesRoom TakesMemory) (refused_of fault) parts
+    refusal (tool.Part index fault) m parts told = m.reads.part index fault refl parts told
     refusal tool.NoParts m parts told = no_parts_told left old parts (m.reads.no_parts.0 refl) told
     refusal tool.IdSizes m parts told = m.reads.id_sizes refl parts told
     refusal (tool.Conflict key) m parts told = m.reads.conflict key refl parts told
@@ -99,7 +66,8 @@ module _ {R : Type 0} (left : R → Option (List ℕ)) (health : R → Health) (
       (held holds : Option (List ℕ)) (end : Health) (fault : ToolFault)
       → Makes {W = Option (List ℕ) × Health} left health pulls (λ s. s.0) (λ s. s.1) usual_limits
       (making_of IsText TooLong TakesRoom TakesMemory) old new (held, healths.Well) (holds, end) (Some fault)
-      → (parts : List (List ℕ)) → Tell left old parts → IsRefusal (making_of IsText TooLong TakesRoom TakesMemory) (refused_of fault) parts
+      → (parts : List (List ℕ)) → Tell left old parts
+      → IsRefusal left health pulls old new (making_of IsText TooLong TakesRoom TakesMemory) (refused_of fault) parts
   refused_by IsText TooLong TakesRoom TakesMemory held holds end fault m parts told =
       refusal {W = Option (List ℕ) × Health} (λ s. s.0) (λ s. s.1) IsText TooLong TakesRoom TakesMemory (held, healths.Well) (holds, end)
       fault m parts told

@@ -2,11 +2,9 @@
 use Rattle.std.proofs.Common.{◌≡◌, ℕ, List, length, Option, Result, Ok, Err, refl, sym, ap, subst}
 use Rattle.std.specs.Prelude.{IfOk, IfErr, OnOk, OnErr}
 use Rattle.std.specs.Borrow.{Bor}
-use Rattle.std.specs.Io.KnownBytes.{Appends, Keeps}
+use Rattle.std.specs.Io.KnownBytes.{Appends, Keeps, append_known}
 use Rattle.std.proofs.KnownBytes.{Appends-kept}
 use Rattle.std.proofs.Math.Seq.{take-length}
-use Rattle.hprof_devices.specs.declared.device.Device.{Device}
-use Rattle.hprof_devices.specs.Device.{inner_of, health_of, pulls_of}
 use Rattle.hprof_devices.specs.declared.health.Health.{Health}
 use Rattle.hprof_devices.specs.declared.health.Health.TheVariants as healths
 use Rattle.hprof_devices.specs.declared.health.WriteFault.TheVariants as write_faults
@@ -19,8 +17,8 @@ use Rattle.hprof_engine.specs.Salvaging.{RefusesAll, Salvages}
 use Rattle.hprof_tool.specs.Folder.{Answered, AreOpened}
 use Rattle.hprof_tool.specs.declared.program.refused.Refused.{Refused}
 use Rattle.hprof_tool.specs.declared.program.refused.Refused.TheVariants as refusals
-use Rattle.hprof_tool.specs.Program.{usual_limits, refused_of, IsOfOpening}
-use Rattle.hprof_tool.specs.SalvagedFiles.{SalvagesStream, SalvagesBuffered, SalvagesFiles, IsSalvageRefusal}
+use Rattle.hprof_tool.specs.Program.{usual_limits, refused_of, IsOfCreating, IsOfOpening}
+use Rattle.hprof_tool.specs.SalvagedFiles.{SalvagesStream, SalvagesFiles, IsSalvageRefusal}
 
 module _ {R : Type 0} (left : R → Option (List ℕ)) (health : R → Health) (pulls : R → ℕ) (old new : List R) where
   -- what saving came to, of a stream that held this and was so, and holds that and is so
@@ -133,19 +131,6 @@ module _ {R : Type 0} (left : R → Option (List ℕ)) (health : R → Health) (
               (subst (λ (h : Option (List ℕ)). OfStream held was h it.0 outcome) at_last it.1)),
         )
 
-  -- ---- room for the buffer
-
-  pub buffered_saving : (held holds : Option (List ℕ)) (ended : Result Salvaged ToolFault)
-      → SalvagesStream left health pulls old new held holds ended → SalvagesBuffered left health pulls old new held holds ended
-  buffered_saving held holds (Ok salvaged) saves = saves
-  buffered_saving held holds (Err (tool.Part index fault)) saves = saves
-  buffered_saving held holds (Err tool.NoParts) saves = saves
-  buffered_saving held holds (Err tool.IdSizes) saves = saves
-  buffered_saving held holds (Err (tool.Conflict key)) saves = saves
-  buffered_saving held holds (Err tool.DumpTooLong) saves = saves
-  buffered_saving held holds (Err (tool.Write fault)) saves = saves
-  buffered_saving held holds (Err tool.OutOfMemory) saves = tt
-
 -- after a refusal the buffered writer holds what it held
 pub unchanged_saving : {W : Type 0} (contents : W → Option (List ℕ)) (made : Result Salvaged ToolFault) (now was : W) → OnErr made (now ≡ was)
     → OnErr made (contents now ≡ contents was)
@@ -154,9 +139,13 @@ unchanged_saving contents (Err fault) now was same = ap contents same
 
 -- ---- files
 
-module _ {F : Type 0} (answered : Answered F) (remaining : F → Option (List ℕ)) (names : List (Bor (List ℕ))) (out : List ℕ) where
+module _ {P W : Type 0} (answered : Answered P W) (left : P → Option (List ℕ)) (health : P → Health) (pulls : P → ℕ)
+    (contents : W → Option (List ℕ)) (names : List (Bor (List ℕ))) (out : List ℕ) where
+  abbrev Refuses : Refused → Type 0
+  Refuses = IsSalvageRefusal answered left health pulls contents names out
+
   -- a refusal to open is one of these refusals
-  pub opening_saves : (refused : Refused) → IsOfOpening answered names refused → IsSalvageRefusal answered remaining names out refused
+  pub opening_saves : (refused : Refused) → IsOfOpening answered names refused → Refuses refused
   opening_saves (refusals.Engine fault) is = absurd is
   opening_saves (refusals.Dump place fault) is = absurd is
   opening_saves (refusals.Open index) is = is
@@ -164,21 +153,31 @@ module _ {F : Type 0} (answered : Answered F) (remaining : F → Option (List �
   opening_saves refusals.Questions is = absurd is
   opening_saves refusals.OutOfMemory is = tt
 
-  module _ (old new : List (Device F)) (opened : AreOpened answered names old) (held holds : Option (List ℕ)) where
-    -- what saving what can be saved of the files that were opened came to
-    pub files_saved : (ended : Result Salvaged ToolFault)
-        → SalvagesStream (λ part. remaining (inner_of part)) health_of pulls_of old new held holds ended
-        → SalvagesFiles answered remaining names held holds ended
-    files_saved ended saves = record { old = old; new = new; opened = opened; salvages = saves }
+  -- so is one to create the file
+  pub creating_saves : (refused : Refused) → IsOfCreating answered out refused → Refuses refused
+  creating_saves (refusals.Engine fault) is = absurd is
+  creating_saves (refusals.Dump place fault) is = absurd is
+  creating_saves (refusals.Open index) is = absurd is
+  creating_saves refusals.Create is = is
+  creating_saves refusals.Questions is = absurd is
+  creating_saves refusals.OutOfMemory is = tt
 
-    -- so does a refusal of the engine, where the new file was removed
-    pub engine_saves : (fault : ToolFault)
-        → SalvagesBuffered (λ part. remaining (inner_of part)) health_of pulls_of old new held holds (Err fault)
-        → answered.IsRemoved out → IsSalvageRefusal answered remaining names out (refused_of fault)
-    engine_saves (tool.Part index fault) saves removed = (held, holds, files_saved (Err (tool.Part index fault)) saves, removed)
-    engine_saves tool.NoParts saves removed = (held, holds, files_saved (Err tool.NoParts) saves, removed)
-    engine_saves tool.IdSizes saves removed = (held, holds, files_saved (Err tool.IdSizes) saves, removed)
-    engine_saves (tool.Conflict key) saves removed = (held, holds, files_saved (Err (tool.Conflict key)) saves, removed)
-    engine_saves tool.DumpTooLong saves removed = (held, holds, files_saved (Err tool.DumpTooLong) saves, removed)
-    engine_saves (tool.Write fault) saves removed = (held, holds, files_saved (Err (tool.Write fault)) saves, removed)
-    engine_saves tool.OutOfMemory saves removed = tt
+  module _ (old new : List P) (opened : AreOpened answered names old) (was is : W) (unwritten : List ℕ) where
+    -- what saving what can be saved of the parts that were opened came to
+    pub files_saved : (holds : Option (List ℕ)) (ended : Result Salvaged ToolFault)
+        → SalvagesStream left health pulls old new (contents was) holds ended
+        → SalvagesFiles answered left health pulls names (contents was) holds ended
+    files_saved holds ended saves = record { old = old; new = new; opened = opened; salvages = saves }
+
+    abbrev Ended : ToolFault → Type 0
+    Ended fault = SalvagesStream left health pulls old new (contents was) (append_known (contents is) unwritten) (Err fault)
+
+    -- a refusal of the engine is one, where the new file was removed
+    pub engine_saves : (fault : ToolFault) → Ended fault → answered.IsCreated out was → answered.IsRemoved out → Refuses (refused_of fault)
+    engine_saves (tool.Part index fault) saves created removed = (was, is, unwritten, created, files_saved _ _ saves, removed)
+    engine_saves tool.NoParts saves created removed = (was, is, unwritten, created, files_saved _ _ saves, removed)
+    engine_saves tool.IdSizes saves created removed = (was, is, unwritten, created, files_saved _ _ saves, removed)
+    engine_saves (tool.Conflict key) saves created removed = (was, is, unwritten, created, files_saved _ _ saves, removed)
+    engine_saves tool.DumpTooLong saves created removed = (was, is, unwritten, created, files_saved _ _ saves, removed)
+    engine_saves (tool.Write fault) saves created removed = (was, is, unwritten, created, files_saved _ _ saves, removed)
+    engine_saves tool.OutOfMemory saves created removed = tt

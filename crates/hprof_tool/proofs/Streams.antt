@@ -37,8 +37,8 @@ no_parts_of (tool.Write fault) same = absurd cc
 no_parts_of tool.OutOfMemory same = absurd cc
 
 -- where a part cannot be opened, the stream is as it was
-pub kept_at_opening : {F O : Type 0} (contents : O → Option (List ℕ)) (IsFront : Option (List ℕ) → Option (List ℕ) → Type 0)
-    (answered : Answered F) (names : List (Bor (List ℕ))) (refused : Refused) (old : O) → IsOfOpening answered names refused
+pub kept_at_opening : {P W O : Type 0} (contents : O → Option (List ℕ)) (IsFront : Option (List ℕ) → Option (List ℕ) → Type 0)
+    (answered : Answered P W) (names : List (Bor (List ℕ))) (refused : Refused) (old : O) → IsOfOpening answered names refused
     → Leaves contents IsFront refused old (Some old)
 kept_at_opening contents IsFront answered names (refusals.Engine fault) old is = absurd is
 kept_at_opening contents IsFront answered names (refusals.Dump place fault) old is = absurd is
@@ -56,13 +56,13 @@ module _ {R W : Type 0} (left : R → Option (List ℕ)) (health : R → Health)
 
   -- what that says of the parts
   pub stream_refusal : (refused : Refused) (after : Option W) → Stops refused after → (parts : List (List ℕ)) → Tell left old parts
-      → IsRefusal (making_of IsText TooLong TakesRoom TakesMemory) refused parts
+      → IsRefusal left health pulls old new (making_of IsText TooLong TakesRoom TakesMemory) refused parts
   stream_refusal refused (Some after) stops parts told =
-      subst (λ (r : Refused). IsRefusal (making_of IsText TooLong TakesRoom TakesMemory) r parts) (sym stops.is)
+      subst (λ (r : Refused). IsRefusal left health pulls old new (making_of IsText TooLong TakesRoom TakesMemory) r parts) (sym stops.is)
       (refused_by left health pulls old new IsText TooLong TakesRoom TakesMemory (contents before) (append_known (contents after) stops.unwritten)
       stops.makes.0 stops.fault stops.makes.1 parts told)
   stream_refusal refused None stops parts told =
-      subst (λ (r : Refused). IsRefusal (making_of IsText TooLong TakesRoom TakesMemory) r parts) (sym stops.0) tt
+      subst (λ (r : Refused). IsRefusal left health pulls old new (making_of IsText TooLong TakesRoom TakesMemory) r parts) (sym stops.0) tt
 
   pub stream_kind : (refused : Refused) (after : Option W) → Stops refused after → IsOfMaking refused
   stream_kind refused (Some after) stops = subst IsOfMaking (sym stops.is) (kind_of stops.fault)

@@ -1,7 +1,6 @@
 -- What comparing two dumps comes to.
 use Rattle.std.specs.Prelude.{◌≡◌, ◌⊎◌, ℕ, List, [], ◌∷◌, Option, Some, ⊤}
-use Rattle.hprof_devices.specs.declared.device.Device.{Device}
-use Rattle.hprof_devices.specs.Device.{inner_of}
+use Rattle.hprof_devices.specs.declared.health.Health.{Health}
 use Rattle.hprof_rows.specs.HeapValue.{HeapValue}
 use Rattle.hprof_engine.specs.declared.tool_fault.ToolFault.{ToolFault}
 use Rattle.hprof_engine.specs.declared.tool_fault.ToolFault.TheVariants as tool
@@ -15,18 +14,6 @@ use Rattle.hprof_tool.specs.Program.{IsRefusal}
 use Rattle.hprof_tool.specs.Streams.{Leaves}
 
 -- ---- parts
-
--- the older parts are refused with the fault, or they agree and the newer ones are
-abbrev pub RefusesDump : (olds news : List (List ℕ)) → (place : ℕ) → ToolFault → Type 0
-RefusesDump olds news place fault = ((place ≡ 0) × IsRefusal dump_making (refusals.Engine fault) olds)
-    ⊎ ((place ≡ 1) × ((heap : HeapValue) × Agree olds heap.ids heap.millis heap.facts) × IsRefusal dump_making (refusals.Engine fault) news)
-
--- what a refusal to compare parts says of them
-abbrev pub SaysOfTwo : (olds news : List (List ℕ)) → Refused → Type 0
-SaysOfTwo olds news (refusals.Engine (tool.Write fault)) = (text : List ℕ) × IsDifferenceOf olds news text
-SaysOfTwo olds news (refusals.Dump place fault) = RefusesDump olds news place fault
-SaysOfTwo olds news refusals.OutOfMemory = ⊤
-SaysOfTwo olds news other = ⊥
 
 -- the parts were refused, or the writer failed, or there was no memory
 abbrev pub IsOfComparing : Refused → Type 0
@@ -45,48 +32,75 @@ abbrev pub IsFrontOfBoth : {R : Type 0} → (R → Option (List ℕ)) → (olds 
 IsFrontOfBoth left olds news held holds =
     OverBoth left olds news (λ old_parts new_parts. WritesFront (IsDifferenceOf old_parts) new_parts held holds)
 
--- what a refusal to compare what readers tell says of it, and leaves of the stream that was to be written to
-abbrev pub StopsComparing : {R O : Type 0} → (R → Option (List ℕ)) → (olds news : List R) → (O → Option (List ℕ)) → (old : O)
-    → Refused → (new : Option O) → Type 0
-StopsComparing left olds news contents old why new = IsOfComparing why
-    × OverBoth left olds news (λ old_parts new_parts. SaysOfTwo old_parts new_parts why)
-    × Leaves contents (IsFrontOfBoth left olds news) why old new
+-- left, health, pulls: what a reader has left to tell, how it is doing, how often it was pulled
+-- olds, olds_then; news, news_then: the readers of the older and of the newer dump, before and afterwards
+module _ {R : Type 0} (left : R → Option (List ℕ)) (health : R → Health) (pulls : R → ℕ) (olds olds_then news news_then : List R) where
+  -- the older parts are refused with the fault, or they agree and the newer ones are
+  abbrev pub RefusesDump : (old_parts new_parts : List (List ℕ)) → (place : ℕ) → ToolFault → Type 0
+  RefusesDump old_parts new_parts place fault =
+      ((place ≡ 0) × IsRefusal left health pulls olds olds_then dump_making (refusals.Engine fault) old_parts)
+      ⊎ ((place ≡ 1) × ((heap : HeapValue) × Agree old_parts heap.ids heap.millis heap.facts)
+      × IsRefusal left health pulls news news_then dump_making (refusals.Engine fault) new_parts)
+
+  -- what a refusal to compare parts says of them
+  abbrev pub SaysOfTwo : Refused → (old_parts new_parts : List (List ℕ)) → Type 0
+  SaysOfTwo (refusals.Engine (tool.Write fault)) old_parts new_parts = (text : List ℕ) × IsDifferenceOf old_parts new_parts text
+  SaysOfTwo (refusals.Dump place fault) old_parts new_parts = RefusesDump old_parts new_parts place fault
+  SaysOfTwo refusals.OutOfMemory old_parts new_parts = ⊤
+  SaysOfTwo other old_parts new_parts = ⊥
+
+  -- what a refusal to compare what readers tell says of it, and leaves of the stream that was to be written to
+  abbrev pub StopsComparing : {O : Type 0} → (O → Option (List ℕ)) → (old : O) → Refused → (new : Option O) → Type 0
+  StopsComparing contents old why new = IsOfComparing why × OverBoth left olds news (SaysOfTwo why)
+      × Leaves contents (IsFrontOfBoth left olds news) why old new
 
 -- ---- files
 
--- the only part is the file of that name, as it came of opening it
-abbrev pub IsOneOpened : {F : Type 0} → Answered F → List ℕ → List (Device F) → Type 0
-IsOneOpened {F} answered name parts = (part : Device F) × (parts ≡ part ∷ []) × answered.IsOpened name (inner_of part)
+-- the only part is that of that name, as it came of opening it
+abbrev pub IsOneOpened : {P W : Type 0} → Answered P W → List ℕ → List P → Type 0
+IsOneOpened {P} answered name parts = (part : P) × (parts ≡ part ∷ []) × answered.IsOpened name part
 
--- the file of that name could not be opened, or there was no memory
-abbrev pub IsOfOpeningOne : {F : Type 0} → Answered F → List ℕ → (place : ℕ) → Refused → Type 0
+-- the part of that name could not be opened, or there was no memory
+abbrev pub IsOfOpeningOne : {P W : Type 0} → Answered P W → List ℕ → (place : ℕ) → Refused → Type 0
 IsOfOpeningOne answered name place (refusals.Open other) = (other ≡ place) × answered.CannotOpen name
 IsOfOpeningOne answered name place refusals.OutOfMemory = ⊤
 IsOfOpeningOne answered name place other = ⊥
 
--- answered: what came of the names of files;  tells: what a file has left to tell
+-- answered: what came of the names of files;  tells: what a part has left to tell
 -- older, newer: the names of the dumps
-module _ {F : Type 0} (answered : Answered F) (tells : F → Option (List ℕ)) (older newer : List ℕ) where
-  -- the files of these names were opened, and this holds of what they tell
+module _ {P W : Type 0} (answered : Answered P W) (tells : P → Option (List ℕ)) (older newer : List ℕ) where
+  -- the dumps of these names were opened, and this holds of what they tell
   pub record OfDumps (Holds : List (List ℕ) → List (List ℕ) → Type 0) : Type 0 where
-    pub old : F
-    pub new : F
+    pub old : P
+    pub new : P
     pub old_opened : answered.IsOpened older old
     pub new_opened : answered.IsOpened newer new
     pub holds : (one other : List ℕ) → tells old ≡ Some one → tells new ≡ Some other → Holds (one ∷ []) (other ∷ [])
 
-  -- the file of the older name could not be opened, or that of the newer one
+  -- the same, of the dumps as they were opened and as they were read, too
+  pub record OfReadDumps (Holds : (olds olds_then news news_then : List P) → List (List ℕ) → List (List ℕ) → Type 0) : Type 0 where
+    pub olds : List P
+    pub olds_then : List P
+    pub news : List P
+    pub news_then : List P
+    pub old_opened : IsOneOpened answered older olds
+    pub new_opened : IsOneOpened answered newer news
+    pub holds : OverBoth tells olds news (Holds olds olds_then news news_then)
+
+  -- the dump of the older name could not be opened, or that of the newer one
   abbrev pub CannotOpenDump : ℕ → Type 0
   CannotOpenDump place = ((place ≡ 0) × answered.CannotOpen older)
-      ⊎ ((place ≡ 1) × ((old : F) × answered.IsOpened older old) × answered.CannotOpen newer)
+      ⊎ ((place ≡ 1) × ((old : P) × answered.IsOpened older old) × answered.CannotOpen newer)
 
   -- what a refusal to compare them says
-  abbrev pub IsDiffRefusal : Refused → Type 0
-  IsDiffRefusal (refusals.Engine (tool.Write fault)) = OfDumps (λ olds news. (text : List ℕ) × IsDifferenceOf olds news text)
-  IsDiffRefusal (refusals.Dump place fault) = OfDumps (λ olds news. RefusesDump olds news place fault)
-  IsDiffRefusal (refusals.Open place) = CannotOpenDump place
-  IsDiffRefusal refusals.OutOfMemory = ⊤
-  IsDiffRefusal other = ⊥
+  --   health, pulls: how a part is doing, how often it was pulled
+  abbrev pub IsDiffRefusal : (P → Health) → (P → ℕ) → Refused → Type 0
+  IsDiffRefusal health pulls (refusals.Engine (tool.Write fault)) = OfDumps (λ olds news. (text : List ℕ) × IsDifferenceOf olds news text)
+  IsDiffRefusal health pulls (refusals.Dump place fault) = OfReadDumps
+      (λ olds olds_then news news_then. SaysOfTwo tells health pulls olds olds_then news news_then (refusals.Dump place fault))
+  IsDiffRefusal health pulls (refusals.Open place) = CannotOpenDump place
+  IsDiffRefusal health pulls refusals.OutOfMemory = ⊤
+  IsDiffRefusal health pulls other = ⊥
 
   module _ {O : Type 0} (contents : O → Option (List ℕ)) (before : O) where
     -- their difference was written
@@ -94,6 +108,6 @@ module _ {F : Type 0} (answered : Answered F) (tells : F → Option (List ℕ)) 
     ComparesFiles after = OfDumps (λ olds news. WritesAll (IsDifferenceOf olds) news (contents before) (contents after))
 
     -- what a refusal says, and leaves of the stream
-    abbrev pub RefusesDiff : Refused → (after : Option O) → Type 0
-    RefusesDiff why after = IsDiffRefusal why
+    abbrev pub RefusesDiff : (P → Health) → (P → ℕ) → Refused → (after : Option O) → Type 0
+    RefusesDiff health pulls why after = IsDiffRefusal health pulls why
         × Leaves contents (λ held holds. OfDumps (λ olds news. WritesFront (IsDifferenceOf olds) news held holds)) why before after

@@ -97,15 +97,17 @@ module _ {R Q : Type 0} (left : R → Option (List ℕ)) (asked : Q → Option (
       → OverParts (λ IsAnswer. Holds IsAnswer questions) parts
 
 -- what a refusal says of what readers tell: it is none of opening
-abbrev pub SaysOfReaders : {R : Type 0} → (R → Option (List ℕ)) → List R → Refused → Type 0
-SaysOfReaders left readers refused =
-    IsOfMaking refused × ((parts : List (List ℕ)) → Tell left readers parts → IsRefusal dump_making refused parts)
+--   old, new: the readers, before and afterwards
+abbrev pub SaysOfReaders : {R : Type 0} → (R → Option (List ℕ)) → (R → Health) → (R → ℕ) → (old new : List R) → Refused → Type 0
+SaysOfReaders left health pulls old new refused = IsOfMaking refused
+    × ((parts : List (List ℕ)) → Tell left old parts → IsRefusal left health pulls old new dump_making refused parts)
 
--- answered: what came of the names of files;  tells: what a file has left to tell
+-- answered: what came of the names of files
+-- tells: what a part has left to tell
 -- left, contents: what the questions have left to tell, and what a stream tells that it holds
-module _ {F I O : Type 0} (answered : Answered F) (tells : F → Option (List ℕ)) (left : I → Option (List ℕ)) (contents : O → Option (List ℕ))
-    (names : List (Bor (List ℕ))) (input : I) (old : O) where
-  -- that holds of the answers over the heap of the files of these names
+module _ {P W I O : Type 0} (answered : Answered P W) (tells : P → Option (List ℕ)) (left : I → Option (List ℕ))
+    (contents : O → Option (List ℕ)) (names : List (Bor (List ℕ))) (input : I) (old : O) where
+  -- that holds of the answers over the heap of the parts of these names
   abbrev pub OverFiles : ((Question → List ℕ → Type 0) → List ℕ → Type 0) → Type 0
   OverFiles Holds = OfParts answered tells names
       (λ parts. (questions : List ℕ) → left input ≡ Some questions → OverParts (λ IsAnswer. Holds IsAnswer questions) parts)
@@ -115,5 +117,6 @@ module _ {F I O : Type 0} (answered : Answered F) (tells : F → Option (List �
   AnswersQuestions = AnswersAll contents old OverFiles
 
   -- what a refusal says, and leaves of the stream
-  abbrev pub RefusesQuestions : Refused → (new : Option O) → Type 0
-  RefusesQuestions = LeavesAnswers contents old OverFiles (IsReportRefusal dump_making answered tells names)
+  --   health, pulls: how a part is doing, and how often it was pulled
+  abbrev pub RefusesQuestions : (health : P → Health) (pulls : P → ℕ) → Refused → (new : Option O) → Type 0
+  RefusesQuestions health pulls = LeavesAnswers contents old OverFiles (IsReportRefusal dump_making answered tells health pulls names)

@@ -1,15 +1,9 @@
 -- What the program's calls come to.
 use Rattle.std.specs.Prelude.{◌≡◌, ◌≢◌, ℕ, List, [], ◌∷◌, ◌++◌, length, Option, Some, ⊤, codes, decimal}
 use Rattle.std.specs.Borrow.{Bor}
-use Rattle.std.specs.List.{AllByRecursion}
 use Rattle.clap.specs.declared.error.ErrorKind.{ErrorKind}
 use Rattle.clap.specs.declared.error.ErrorKind.TheVariants as kinds
-use Rattle.hprof_devices.specs.declared.device.Device.{Device}
-use Rattle.hprof_devices.specs.Device.{inner_of}
 use Rattle.hprof_stream.specs.declared.limits.Limits.{Limits}
-use Rattle.hprof_stream.specs.declared.part_fault.PartFault.{PartFault}
-use Rattle.hprof_stream.specs.declared.part_fault.PartFault.TheVariants as faults
-use Rattle.hprof_stream.specs.declared.sink.SinkFault.TheVariants as sinks
 use Rattle.hprof_rows.specs.HeapValue.{HeapValue}
 use Rattle.hprof_heap.specs.State.{HaveTwoSizes}
 use Rattle.hprof_engine.specs.declared.tool_fault.ToolFault.{ToolFault}
@@ -19,7 +13,7 @@ use Rattle.hprof_tool.specs.declared.program.refused.Refused.{Refused}
 use Rattle.hprof_tool.specs.declared.program.refused.Refused.TheVariants as refusals
 use Rattle.hprof_tool.specs.declared.status.Status.{Status}
 use Rattle.hprof_tool.specs.declared.status.Status.TheVariants as statuses
-use Rattle.hprof_engine.specs.Joining.{Tell, Agree, Disagree, IsAccepted, IsOfPart}
+use Rattle.hprof_engine.specs.Joining.{Tell, Agree, Disagree, RefusesPart}
 use Rattle.hprof_engine.specs.Makes.{Making, Makes, WritesAll}
 use Rattle.hprof_devices.specs.declared.health.Health.{Health}
 use Rattle.hprof_devices.specs.declared.health.Health.TheVariants as healths
@@ -29,47 +23,40 @@ use Rattle.hprof_engine.specs.FaultText.{IsFaultText}
 abbrev pub usual_limits : Limits
 usual_limits = record { max_item = 4294967295; max_reads = 1099511627776; max_bytes = 18446744073709551615 }
 
--- a fault that is not answered for what failed before
-abbrev pub IsFirstAnswer : PartFault → Type 0
-IsFirstAnswer faults.Failed = ⊥
-IsFirstAnswer (faults.Sink sinks.Failed) = ⊥
-IsFirstAnswer other = ⊤
+-- left, health, pulls: what a reader has left to tell, how it is doing, how often it was pulled;  old, new: the readers, before and
+-- afterwards
+module _ {R : Type 0} (left : R → Option (List ℕ)) (health : R → Health) (pulls : R → ℕ) (old new : List R) where
+  -- what a refusal to make something of the parts that readers tell says of them: of a part that could not be read, that its reader failed
+  abbrev pub IsRefusal : Making → Refused → List (List ℕ) → Type 0
+  IsRefusal making (refusals.Engine (tool.Part index fault)) parts = RefusesPart left health pulls usual_limits parts old new index fault
+  IsRefusal making (refusals.Engine tool.NoParts) parts = parts ≡ []
+  IsRefusal making (refusals.Engine tool.IdSizes) parts = HaveTwoSizes parts
+  IsRefusal making (refusals.Engine (tool.Conflict key)) parts = Disagree parts key
+  IsRefusal making (refusals.Engine (tool.Write fault)) parts = (text : List ℕ) × making.IsMade parts text
+  IsRefusal making (refusals.Engine tool.DumpTooLong) parts =
+      (heap : HeapValue) × making.IsTooLong heap × Agree parts heap.ids heap.millis heap.facts
+  IsRefusal making (refusals.Engine tool.OutOfMemory) parts = ⊥
+  IsRefusal making (refusals.Dump place fault) parts = ⊥
+  IsRefusal making (refusals.Open index) parts = ⊥
+  IsRefusal making refusals.Create parts = ⊥
+  IsRefusal making refusals.Questions parts = ⊥
+  IsRefusal making refusals.OutOfMemory parts = ⊤
 
--- there is a part at that place; those before it are read to their ends, and a fault of an item is its first; it goes
--- beyond a limit where it is told so
-pub record IsPartRefusal (parts : List (List ℕ)) (index : ℕ) (fault : PartFault) : Type 0 where
-  pub before : List (List ℕ)
-  pub bytes : List ℕ
-  pub after : List (List ℕ)
-  pub in_order : parts ≡ before ++ bytes ∷ after
-  pub place : length before ≡ index
-  pub accepted : AllByRecursion (IsAccepted usual_limits) before
-  pub of_part : IsOfPart usual_limits bytes fault
-  pub is_first : IsFirstAnswer fault
-
--- what a refusal to make something of parts says of them
-abbrev pub IsRefusal : Making → Refused → List (List ℕ) → Type 0
-IsRefusal making (refusals.Engine (tool.Part index fault)) parts = IsPartRefusal parts index fault
-IsRefusal making (refusals.Engine tool.NoParts) parts = parts ≡ []
-IsRefusal making (refusals.Engine tool.IdSizes) parts = HaveTwoSizes parts
-IsRefusal making (refusals.Engine (tool.Conflict key)) parts = Disagree parts key
-IsRefusal making (refusals.Engine (tool.Write fault)) parts = (text : List ℕ) × making.IsMade parts text
-IsRefusal making (refusals.Engine tool.DumpTooLong) parts =
-    (heap : HeapValue) × making.IsTooLong heap × Agree parts heap.ids heap.millis heap.facts
-IsRefusal making (refusals.Engine tool.OutOfMemory) parts = ⊥
-IsRefusal making (refusals.Dump place fault) parts = ⊥
-IsRefusal making (refusals.Open index) parts = ⊥
-IsRefusal making refusals.Create parts = ⊥
-IsRefusal making refusals.Questions parts = ⊥
-IsRefusal making refusals.OutOfMemory parts = ⊤
-
--- the files of these names were opened, and this holds of what they tell
---   answered: what came of the names;  remaining: what a file has left to tell
-pub record OfParts {F : Type 0} (answered : Answered F) (remaining : F → Option (List ℕ)) (names : List (Bor (List ℕ)))
+-- the parts of these names were opened, and this holds of what they tell
+--   answered: what came of the names;  left: what a part has left to tell
+pub record OfParts {P W : Type 0} (answered : Answered P W) (left : P → Option (List ℕ)) (names : List (Bor (List ℕ)))
     (Holds : List (List ℕ) → Type 0) : Type 0 where
-  pub parts : List (Device F)
+  pub parts : List P
   pub opened : AreOpened answered names parts
-  pub holds : (told : List (List ℕ)) → Tell (λ part. remaining (inner_of part)) parts told → Holds told
+  pub holds : (told : List (List ℕ)) → Tell left parts told → Holds told
+
+-- the same, of the parts as they were opened and as they were read, too
+pub record OfReadParts {P W : Type 0} (answered : Answered P W) (left : P → Option (List ℕ)) (names : List (Bor (List ℕ)))
+    (Holds : (old new : List P) → List (List ℕ) → Type 0) : Type 0 where
+  pub old : List P
+  pub new : List P
+  pub opened : AreOpened answered names old
+  pub holds : (told : List (List ℕ)) → Tell left old told → Holds old new told
 
 -- what is made of the part that a stream gave, where it told one, was written to another
 --   IsMade: the text is made of the parts
@@ -79,35 +66,37 @@ abbrev pub IsMadeOfStream : {I O : Type 0} → (IsMade : List (List ℕ) → Lis
 IsMadeOfStream IsMade remaining contents input old new =
     (part : List ℕ) → remaining input ≡ Some part → WritesAll IsMade (part ∷ []) (contents old) (contents new)
 
--- what is made of the files of these names was written to a stream
-abbrev pub IsMadeOfFiles : {F O : Type 0} → (IsMade : List (List ℕ) → List ℕ → Type 0) → Answered F → (F → Option (List ℕ))
+-- what is made of the parts of these names was written to a stream
+abbrev pub IsMadeOfFiles : {P W O : Type 0} → (IsMade : List (List ℕ) → List ℕ → Type 0) → Answered P W → (P → Option (List ℕ))
     → (O → Option (List ℕ)) → List (Bor (List ℕ)) → O → O → Type 0
-IsMadeOfFiles IsMade answered remaining contents names old new =
-    OfParts answered remaining names (λ parts. WritesAll IsMade parts (contents old) (contents new))
+IsMadeOfFiles IsMade answered left contents names old new =
+    OfParts answered left names (λ parts. WritesAll IsMade parts (contents old) (contents new))
 
--- what is made of the files of these names was written to the one of that name, to what it held as it was created, and this it is now
-abbrev pub IsMadeInFile : {F : Type 0} → (IsMade : List (List ℕ) → List ℕ → Type 0) → Answered F → (F → Option (List ℕ))
-    → (F → Option (List ℕ)) → List (Bor (List ℕ)) → List ℕ → F → Type 0
-IsMadeInFile {F} IsMade answered remaining contents names out new =
-    (old : F) × answered.IsCreated out old × IsMadeOfFiles IsMade answered remaining contents names old new
+-- what is made of the parts of these names was written to the file of that name, to what it held as it was created, and this it is now
+abbrev pub IsMadeInFile : {P W : Type 0} → (IsMade : List (List ℕ) → List ℕ → Type 0) → Answered P W → (P → Option (List ℕ))
+    → (W → Option (List ℕ)) → List (Bor (List ℕ)) → List ℕ → W → Type 0
+IsMadeInFile {P} {W} IsMade answered left contents names out new =
+    (old : W) × answered.IsCreated out old × IsMadeOfFiles IsMade answered left contents names old new
 
--- what a refusal to report on the files of these names says
-abbrev pub IsReportRefusal : {F : Type 0} → Making → Answered F → (F → Option (List ℕ)) → List (Bor (List ℕ)) → Refused → Type 0
-IsReportRefusal making answered remaining names (refusals.Engine tool.OutOfMemory) = ⊥
-IsReportRefusal making answered remaining names (refusals.Engine fault) =
-    OfParts answered remaining names (IsRefusal making (refusals.Engine fault))
-IsReportRefusal making answered remaining names (refusals.Dump place fault) = ⊥
-IsReportRefusal making answered remaining names (refusals.Open index) = CannotOpenAt answered names index
-IsReportRefusal making answered remaining names refusals.Create = ⊥
-IsReportRefusal making answered remaining names refusals.Questions = ⊥
-IsReportRefusal making answered remaining names refusals.OutOfMemory = ⊤
+-- answered: what came of the names of files;  left, health, pulls: what a part has left to tell, how it is doing, how often it was pulled
+module _ {P W : Type 0} (making : Making) (answered : Answered P W) (left : P → Option (List ℕ)) (health : P → Health) (pulls : P → ℕ)
+    (names : List (Bor (List ℕ))) where
+  -- what a refusal to report on the parts of these names says
+  abbrev pub IsReportRefusal : Refused → Type 0
+  IsReportRefusal (refusals.Engine tool.OutOfMemory) = ⊥
+  IsReportRefusal (refusals.Engine fault) =
+      OfReadParts answered left names (λ old new. IsRefusal left health pulls old new making (refusals.Engine fault))
+  IsReportRefusal (refusals.Dump place fault) = ⊥
+  IsReportRefusal (refusals.Open index) = CannotOpenAt answered names index
+  IsReportRefusal refusals.Create = ⊥
+  IsReportRefusal refusals.Questions = ⊥
+  IsReportRefusal refusals.OutOfMemory = ⊤
 
--- what a refusal to make something of them, in a new file of that name, says: behind one of the engine it was tried to remove the file
-abbrev pub IsFilesRefusal : {F : Type 0} → Making → Answered F → (F → Option (List ℕ)) → List (Bor (List ℕ)) → List ℕ → Refused → Type 0
-IsFilesRefusal making answered remaining names out refusals.Create = answered.CannotCreate out
-IsFilesRefusal making answered remaining names out (refusals.Engine fault) =
-    IsReportRefusal making answered remaining names (refusals.Engine fault) × answered.IsRemoved out
-IsFilesRefusal making answered remaining names out other = IsReportRefusal making answered remaining names other
+  -- what a refusal to make something of them, in a new file of that name, says: behind one of the engine it was tried to remove the file
+  abbrev pub IsFilesRefusal : (out : List ℕ) → Refused → Type 0
+  IsFilesRefusal out refusals.Create = answered.CannotCreate out
+  IsFilesRefusal out (refusals.Engine fault) = IsReportRefusal (refusals.Engine fault) × answered.IsRemoved out
+  IsFilesRefusal out other = IsReportRefusal other
 
 -- how the program refuses what the engine refuses: want of memory is the program's own
 abbrev pub refused_of : ToolFault → Refused
@@ -143,10 +132,16 @@ IsOfMaking refusals.OutOfMemory = ⊤
 IsOfMaking other = ⊥
 
 -- the first of these files that could not be opened is told, or there was no memory
-abbrev pub IsOfOpening : {F : Type 0} → Answered F → List (Bor (List ℕ)) → Refused → Type 0
+abbrev pub IsOfOpening : {P W : Type 0} → Answered P W → List (Bor (List ℕ)) → Refused → Type 0
 IsOfOpening answered names (refusals.Open index) = CannotOpenAt answered names index
 IsOfOpening answered names refusals.OutOfMemory = ⊤
 IsOfOpening answered names other = ⊥
+
+-- the file of that name could not be created, or there was no memory
+abbrev pub IsOfCreating : {P W : Type 0} → Answered P W → (out : List ℕ) → Refused → Type 0
+IsOfCreating answered out refusals.Create = answered.CannotCreate out
+IsOfCreating answered out refusals.OutOfMemory = ⊤
+IsOfCreating answered out other = ⊥
 
 -- as `Makes` with the usual limits, for a stream whose health nothing tells
 --   held, holds: what the stream and the buffer before it hold, before and afterwards, where the stream tells

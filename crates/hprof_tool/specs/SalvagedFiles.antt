@@ -1,8 +1,7 @@
 -- What saving what can be saved of files comes to.
 use Rattle.std.specs.Prelude.{ℕ, List, Option, Result, Ok, Err, ⊤}
 use Rattle.std.specs.Borrow.{Bor}
-use Rattle.hprof_devices.specs.declared.device.Device.{Device}
-use Rattle.hprof_devices.specs.Device.{inner_of, health_of, pulls_of}
+use Rattle.std.specs.Io.KnownBytes.{append_known}
 use Rattle.hprof_devices.specs.declared.health.Health.{Health}
 use Rattle.hprof_devices.specs.declared.health.Health.TheVariants as healths
 use Rattle.hprof_engine.specs.declared.tool_fault.ToolFault.{ToolFault}
@@ -11,7 +10,6 @@ use Rattle.hprof_engine.specs.declared.salvaged.Salvaged.{Salvaged}
 use Rattle.hprof_engine.specs.Salvaging.{Salvages}
 use Rattle.hprof_tool.specs.declared.program.refused.Refused.{Refused}
 use Rattle.hprof_tool.specs.declared.program.refused.Refused.TheVariants as refusals
-use Rattle.hprof_tool.specs.declared.program.salvaging.Written.{Written}
 use Rattle.hprof_tool.specs.Folder.{Answered, AreOpened, CannotOpenAt}
 use Rattle.hprof_tool.specs.Program.{usual_limits}
 
@@ -23,43 +21,33 @@ SalvagesStream left health pulls old new held holds ended = (end : Health)
     × Salvages left health pulls usual_limits old new {W = Option (List ℕ) × Health} (λ stream. stream.0) (λ stream. stream.1)
     (held, healths.Well) (holds, end) ended
 
--- the same, where memory may be wanted for a buffer first
-abbrev pub SalvagesBuffered : {R : Type 0} → (R → Option (List ℕ)) → (R → Health) → (R → ℕ) → (old new : List R)
-    → (held holds : Option (List ℕ)) → Result Salvaged ToolFault → Type 0
-SalvagesBuffered left health pulls old new held holds (Err tool.OutOfMemory) = ⊤
-SalvagesBuffered left health pulls old new held holds ended = SalvagesStream left health pulls old new held holds ended
-
--- what was saved, without the writer
-abbrev pub salvaged_with : {W : Type 0} → Result (Written W) ToolFault → Result Salvaged ToolFault
-salvaged_with (Ok written) = Ok written.salvaged
-salvaged_with (Err fault) = Err fault
-
--- the files of these names were opened, and saving what can be saved of them, to a stream that held this before and that afterwards,
+-- the parts of these names were opened, and saving what can be saved of them, to a stream that held this before and that afterwards,
 -- came to that
---   answered: what came of the names;  remaining: what a file has left to tell
-pub record SalvagesFiles {F : Type 0} (answered : Answered F) (remaining : F → Option (List ℕ)) (names : List (Bor (List ℕ)))
-    (held holds : Option (List ℕ)) (ended : Result Salvaged ToolFault) : Type 0 where
-  pub old : List (Device F)
-  pub new : List (Device F)
+--   answered: what came of the names;  left, health, pulls: what a part has left to tell, how it is doing, how often it was pulled
+pub record SalvagesFiles {P W : Type 0} (answered : Answered P W) (left : P → Option (List ℕ)) (health : P → Health) (pulls : P → ℕ)
+    (names : List (Bor (List ℕ))) (held holds : Option (List ℕ)) (ended : Result Salvaged ToolFault) : Type 0 where
+  pub old : List P
+  pub new : List P
   pub opened : AreOpened answered names old
-  pub salvages : SalvagesStream (λ part. remaining (inner_of part)) health_of pulls_of old new held holds ended
+  pub salvages : SalvagesStream left health pulls old new held holds ended
 
--- what is saved of the files of these names was written to the one of that name, to what it held as it was created, and this it is now
---   contents: what a file tells that it holds
-abbrev pub IsSalvagedFile : {F : Type 0} → Answered F → (remaining contents : F → Option (List ℕ)) → List (Bor (List ℕ)) → List ℕ
-    → Salvaged → F → Type 0
-IsSalvagedFile {F} answered remaining contents names out salvaged new = (old : F) × answered.IsCreated out old
-    × SalvagesFiles answered remaining names (contents old) (contents new) (Ok salvaged)
+-- contents: what a file tells that it holds
+module _ {P W : Type 0} (answered : Answered P W) (left : P → Option (List ℕ)) (health : P → Health) (pulls : P → ℕ)
+    (contents : W → Option (List ℕ)) (names : List (Bor (List ℕ))) (out : List ℕ) where
+  -- what is saved of the parts of these names was written to the file of that name, to what it held as it was created, and this it is now
+  abbrev pub IsSalvagedFile : Salvaged → W → Type 0
+  IsSalvagedFile salvaged new = (old : W) × answered.IsCreated out old
+      × SalvagesFiles answered left health pulls names (contents old) (contents new) (Ok salvaged)
 
--- what a refusal to save what can be saved of the files of these names, in a new one of that name, says: behind one of the engine it was tried to
--- remove the new file
-abbrev pub IsSalvageRefusal : {F : Type 0} → Answered F → (F → Option (List ℕ)) → List (Bor (List ℕ)) → List ℕ → Refused → Type 0
-IsSalvageRefusal answered remaining names out (refusals.Engine tool.OutOfMemory) = ⊥
-IsSalvageRefusal answered remaining names out (refusals.Engine fault) =
-    (held : Option (List ℕ)) × (holds : Option (List ℕ)) × SalvagesFiles answered remaining names held holds (Err fault)
-    × answered.IsRemoved out
-IsSalvageRefusal answered remaining names out (refusals.Dump place fault) = ⊥
-IsSalvageRefusal answered remaining names out (refusals.Open index) = CannotOpenAt answered names index
-IsSalvageRefusal answered remaining names out refusals.Create = answered.CannotCreate out
-IsSalvageRefusal answered remaining names out refusals.Questions = ⊥
-IsSalvageRefusal answered remaining names out refusals.OutOfMemory = ⊤
+  -- what a refusal to save what can be saved of them, in a new file of that name, says: behind one of the engine it was tried to remove
+  -- the file
+  abbrev pub IsSalvageRefusal : Refused → Type 0
+  IsSalvageRefusal (refusals.Engine tool.OutOfMemory) = ⊥
+  IsSalvageRefusal (refusals.Engine fault) = (old new : W) × (unwritten : List ℕ) × answered.IsCreated out old
+      × SalvagesFiles answered left health pulls names (contents old) (append_known (contents new) unwritten) (Err fault)
+      × answered.IsRemoved out
+  IsSalvageRefusal (refusals.Dump place fault) = ⊥
+  IsSalvageRefusal (refusals.Open index) = CannotOpenAt answered names index
+  IsSalvageRefusal refusals.Create = answered.CannotCreate out
+  IsSalvageRefusal refusals.Questions = ⊥
+  IsSalvageRefusal refusals.OutOfMemory = ⊤

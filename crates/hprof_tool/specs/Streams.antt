@@ -46,21 +46,22 @@ abbrev pub IsFrontOfStream : {I : Type 0} → (IsMade : List (List ℕ) → List
 IsFrontOfStream IsMade remaining input held holds =
     (part : List ℕ) → remaining input ≡ Some part → WritesFront IsMade (part ∷ []) held holds
 
--- a front of what is made of the files of these names
-abbrev pub IsFrontOfFiles : {F : Type 0} → (IsMade : List (List ℕ) → List ℕ → Type 0) → Answered F → (F → Option (List ℕ))
+-- a front of what is made of the parts of these names
+abbrev pub IsFrontOfFiles : {P W : Type 0} → (IsMade : List (List ℕ) → List ℕ → Type 0) → Answered P W → (P → Option (List ℕ))
     → List (Bor (List ℕ)) → (held holds : Option (List ℕ)) → Type 0
-IsFrontOfFiles IsMade answered remaining names held holds =
-    OfParts answered remaining names (λ parts. WritesFront IsMade parts held holds)
+IsFrontOfFiles IsMade answered left names held holds = OfParts answered left names (λ parts. WritesFront IsMade parts held holds)
 
--- what a refusal to join what a stream gave says of it, and leaves of the stream that was to be written to
-abbrev pub RefusesStream : {I O : Type 0} → (I → Option (List ℕ)) → (O → Option (List ℕ)) → I → (old : O) → Refused → (new : Option O)
-    → Type 0
-RefusesStream remaining contents input old why new =
-    ((part : List ℕ) → remaining input ≡ Some part → IsRefusal dump_making why (part ∷ []))
-    × Leaves contents (IsFrontOfStream IsDump remaining input) why old new
+-- what a refusal to join what a reader gave says of it, and leaves of the stream that was to be written to
+--   left, health, pulls: what a reader has left to tell, how it is doing, how often it was pulled
+abbrev pub RefusesStream : {I O : Type 0} → (I → Option (List ℕ)) → (I → Health) → (I → ℕ) → (O → Option (List ℕ)) → I → (old : O) → Refused
+    → (new : Option O) → Type 0
+RefusesStream {I} left health pulls contents input old why new =
+    ((read : List I) × ((part : List ℕ) → left input ≡ Some part
+    → IsRefusal left health pulls (input ∷ []) read dump_making why (part ∷ [])))
+    × Leaves contents (IsFrontOfStream IsDump left input) why old new
 
--- what a refusal to report on the files of these names says of them, and leaves of the stream
-abbrev pub RefusesReport : {F O : Type 0} → Making → Answered F → (F → Option (List ℕ)) → (O → Option (List ℕ)) → List (Bor (List ℕ))
-    → (old : O) → Refused → (new : Option O) → Type 0
-RefusesReport making answered remaining contents names old why new = IsReportRefusal making answered remaining names why
-    × Leaves contents (IsFrontOfFiles making.IsMade answered remaining names) why old new
+-- what a refusal to report on the parts of these names says of them, and leaves of the stream
+abbrev pub RefusesReport : {P W O : Type 0} → Making → Answered P W → (P → Option (List ℕ)) → (P → Health) → (P → ℕ)
+    → (O → Option (List ℕ)) → List (Bor (List ℕ)) → (old : O) → Refused → (new : Option O) → Type 0
+RefusesReport making answered left health pulls contents names old why new = IsReportRefusal making answered left health pulls names why
+    × Leaves contents (IsFrontOfFiles making.IsMade answered left names) why old new

@@ -1,7 +1,8 @@
 //! The program: the task that its words ask for, over files and standard streams that the caller passes.
 
-ghost use Rattle.std.specs.Prelude.{◌≡◌, ◌≢◌, ℕ, List, Some, IfOk, IfErr};
+ghost use Rattle.std.specs.Prelude.{◌≡◌, ◌≢◌, ℕ, List, Some, None};
 ghost use Rattle.std.specs.Io.KnownBytes.{Appends};
+ghost use Rattle.hprof_devices.specs.declared.health.Health.TheVariants.{Well};
 ghost use Rattle.hprof_engine.specs.Makes.{IsDump, IsMadeOf};
 ghost use Rattle.hprof_ask.specs.declared.report.Report.{Report};
 ghost use Rattle.hprof_ask.specs.declared.subject.Misnamed.{Misnamed};
@@ -9,24 +10,26 @@ ghost use Rattle.hprof_ask.specs.Asked.{AsksReport, IsMisnamed};
 ghost use Rattle.hprof_ask.specs.Report.{IsReportText, report_making};
 ghost use Rattle.hprof_tool.specs.Comparing.{ComparesFiles, RefusesDiff};
 ghost use Rattle.hprof_tool.specs.Conversing.{AnswersQuestions, RefusesQuestions};
-ghost use Rattle.hprof_tool.specs.Program.{IsMadeOfStream, IsMadeInFile, IsMadeOfFiles};
+ghost use Rattle.hprof_engine.specs.declared.salvaged.Salvaged.{Salvaged};
+ghost use Rattle.hprof_tool.specs.Folder.{MayCreateBehind};
+ghost use Rattle.hprof_tool.specs.Program.{IsMadeOfStream, IsMadeInFile, IsMadeOfFiles, IsFilesRefusal};
 ghost use Rattle.hprof_tool.specs.SalvagedFiles.{IsSalvagedFile};
 ghost use Rattle.hprof_tool.specs.Streams.{RefusesStream, RefusesReport};
-ghost use Rattle.hprof_tool.specs.Tasks.{DoesTask, IsMisnamedTask, RefusesTask};
-ghost use Rattle.hprof_tool.specs.Telling.{TellsFaults, RefusesSalvage};
+ghost use Rattle.hprof_tool.specs.Tasks.{DoesTask, IsMisnamedTask, MayDo, RefusesTask, WritesNoFile, new_file_making};
+ghost use Rattle.hprof_tool.specs.Telling.{TellsFaults, RefusesSalvage, TellsRefusal};
 ghost use Rattle.hprof_tool.specs.Words.{is_new_file};
-ghost use Rattle.hprof_tool.specs.declared.program.salvaging.Written.{Written};
 
 use crate::command::{Misunderstood, NewFile, Task, task_of};
 use crate::status::Status;
 use answers::{
-    Ended, answer_misnamed, answer_no_command, answer_no_words, answer_outcome, answer_stream,
-    answer_words,
+    Ended, EndedFile, answer_misnamed, answer_no_command, answer_no_words, answer_stream,
+    answer_words, refuse,
 };
 use comparing::compare_files;
 use conversing::ask_files;
 use folder::Folder;
 use hprof_ask::ReportWord;
+use hprof_devices::{Device, Source};
 use hprof_engine::{Dump, Dump101, Product};
 use joining::{join_stream, report_files, write_file};
 use meter::Meter;
@@ -50,25 +53,29 @@ mod metered;
 mod prompting;
 mod refused;
 mod salvaging;
+mod telling;
 mod writing;
 
 /// Joins the part on `input` to `output`, which it gives back.
-fn join_input<I: Read + Drop, O: Write + Drop, E: Write>(
+fn join_input<I: Source + Drop, O: Write + Drop, W, E: Write>(
     alloc: Global,
     input: I,
     output: O,
     errors: &mut E,
-) -> Ended<O>
+) -> Ended<O, W>
+    requires { I.health input ≡ Well }
     ensures done { result.status ≡ Status.Done → (written : O) × (result.output ≡ Some written)
-        × IsMadeOfStream IsDump I.remaining O.contents input output written }
+        × IsMadeOfStream IsDump I.left O.contents input output written }
     ensures refused { result.status ≡ Status.Refused → (why : Refused)
-        × RefusesStream I.remaining O.contents input output why result.output }
+        × RefusesStream I.left I.health I.pulls O.contents input output why result.output
+        × TellsRefusal why (E.contents errors.old) (E.contents errors.new) }
     ensures understood { result.status ≢ Status.NotUnderstood }
+    ensures no_file { result.file ≡ None }
 {
     answer_stream(alloc, join_stream(alloc, input, output), errors)
 }
 
-/// Writes the product of parts in files to a new file.
+/// Writes the product of parts in files to a new file, which it gives back.
 fn write_new_file<P: Product, F: Folder, E: Write>(
     alloc: Global,
     files: &F,
@@ -76,38 +83,30 @@ fn write_new_file<P: Product, F: Folder, E: Write>(
     out: &str,
     names: &[&str],
     errors: &mut E,
-) -> Status
-    ensures done { result ≡ Status.Done → (written : F.File)
-        × IsMadeInFile (IsMadeOf (P.is_text product.now)) (F.answered files.now) F.File.remaining F.File.contents names.now out.now written }
-    ensures understood { result ≢ Status.NotUnderstood }
+) -> EndedFile<F::Out>
+    requires { MayCreateBehind (F.answered files.now) names.now out.now }
+    ensures done { result.status ≡ Status.Done → (written : F.Out) × (result.file ≡ Some written)
+        × IsMadeInFile (IsMadeOf (P.is_text product.now)) (F.answered files.now) F.Part.left F.Out.contents names.now out.now written }
+    ensures refused { result.status ≡ Status.Refused → (result.file ≡ None) × ((why : Refused) × IsFilesRefusal
+        (making_of (P.is_text product.now) (P.is_too_long product.now) (P.takes_room product.now) (P.takes_memory product.now))
+        (F.answered files.now) F.Part.left F.Part.health F.Part.pulls names.now out.now why
+        × TellsRefusal why (E.contents errors.old) (E.contents errors.new)) }
+    ensures understood { result.status ≢ Status.NotUnderstood }
 {
-    answer_outcome(alloc, write_file(alloc, files, product, out, names), errors)
-}
-
-/// Salvages parts in files to a new file, which it gives back, and then tells the faults of the parts on `output`. If a fault cannot be
-/// told, the new file stays: it is whole.
-fn salvage_and_tell<F: Folder, O: Write>(
-    alloc: Global,
-    files: &F,
-    out: &str,
-    names: &[&str],
-    output: &mut O,
-) -> Result<Written<F::File>, Refused>
-    ensures saved { IfOk result (λ written. IsSalvagedFile (F.answered files.now) F.File.remaining F.File.contents names.now out.now
-        written.salvaged written.writer) }
-    ensures told { IfOk result (λ written. (text : List ℕ) × TellsFaults written.salvaged.faults.items text
-        × Appends (O.contents output.old) (O.contents output.new) text) }
-    ensures refused { IfErr result (RefusesSalvage (F.answered files.now) F.File.remaining F.File.contents names.now out.now
-        output.old output.new) }
-{
-    let written = salvage_file(alloc, files, out, names)?;
-    match tell_faults(&written.salvaged.faults, output) {
-        Ok(()) => Ok(written),
-        Err(why) => Err(why),
+    match write_file(alloc, files, product, out, names) {
+        Ok(file) => EndedFile {
+            status: Status::Done,
+            file: Some(file),
+        },
+        Err(why) => EndedFile {
+            status: refuse(alloc, &why, errors),
+            file: None,
+        },
     }
 }
 
-/// Salvages parts in files to a new file, and tells the faults of the parts on `output`, one a line.
+/// Salvages parts in files to a new file, which it gives back, and then tells the faults of the parts on `output`, one a line. If a fault
+/// cannot be told, the new file stays: it is whole.
 fn salvage<F: Folder, O: Write, E: Write>(
     alloc: Global,
     files: &F,
@@ -115,20 +114,36 @@ fn salvage<F: Folder, O: Write, E: Write>(
     names: &[&str],
     output: &mut O,
     errors: &mut E,
-) -> Status
-    ensures done { result ≡ Status.Done → (written : Written F.File)
-        × (IsSalvagedFile (F.answered files.now) F.File.remaining F.File.contents names.now out.now written.salvaged written.writer
-        × ((text : List ℕ) × TellsFaults written.salvaged.faults.items text
-        × Appends (O.contents output.old) (O.contents output.new) text)) }
-    ensures refused { result ≡ Status.Refused → (why : Refused) × RefusesSalvage (F.answered files.now) F.File.remaining
-        F.File.contents names.now out.now output.old output.new why }
-    ensures understood { result ≢ Status.NotUnderstood }
+) -> EndedFile<F::Out>
+    requires { MayCreateBehind (F.answered files.now) names.now out.now }
+    ensures done { result.status ≡ Status.Done → (salvaged : Salvaged) × ((written : F.Out) × (result.file ≡ Some written)
+        × IsSalvagedFile (F.answered files.now) F.Part.left F.Part.health F.Part.pulls F.Out.contents names.now out.now salvaged written)
+        × ((text : List ℕ) × TellsFaults salvaged.faults.items text
+        × Appends (O.contents output.old) (O.contents output.new) text) }
+    ensures refused { result.status ≡ Status.Refused → (why : Refused) × RefusesSalvage (F.answered files.now) F.Part.left F.Part.health
+        F.Part.pulls F.Out.contents names.now out.now O.contents result.file output.old output.new why
+        × TellsRefusal why (E.contents errors.old) (E.contents errors.new) }
+    ensures understood { result.status ≢ Status.NotUnderstood }
 {
-    answer_outcome(
-        alloc,
-        salvage_and_tell(alloc, files, out, names, output),
-        errors,
-    )
+    let Written { salvaged, writer } = match salvage_file(alloc, files, out, names) {
+        Ok(written) => written,
+        Err(why) => {
+            return EndedFile {
+                status: refuse(alloc, &why, errors),
+                file: None,
+            };
+        }
+    };
+    match tell_faults(&salvaged.faults, output) {
+        Ok(()) => EndedFile {
+            status: Status::Done,
+            file: Some(writer),
+        },
+        Err(why) => EndedFile {
+            status: refuse(alloc, &why, errors),
+            file: Some(writer),
+        },
+    }
 }
 
 /// Writes the report that a word asks for on parts in files to `output`, which it gives back. A text that does not follow the word is told
@@ -141,17 +156,18 @@ fn report<F: Folder, O: Write + Drop, E: Write>(
     names: &[&str],
     output: O,
     errors: &mut E,
-) -> Ended<O>
+) -> Ended<O, F::Out>
     ensures done { result.status ≡ Status.Done → (report : Report) × AsksReport word text.now report
         × ((written : O) × (result.output ≡ Some written) × IsMadeOfFiles (IsMadeOf (IsReportText report)) (F.answered files.now)
-        F.File.remaining O.contents names.now output written) }
+        F.Part.left O.contents names.now output written) }
     ensures refused { result.status ≡ Status.Refused → (report : Report) × AsksReport word text.now report
-        × ((why : Refused) × RefusesReport (report_making report) (F.answered files.now) F.File.remaining O.contents names.now output why
-        result.output) }
+        × ((why : Refused) × RefusesReport (report_making report) (F.answered files.now) F.Part.left F.Part.health F.Part.pulls
+        O.contents names.now output why result.output × TellsRefusal why (E.contents errors.old) (E.contents errors.new)) }
     ensures understood { (report : Report) → AsksReport word text.now report → result.status ≢ Status.NotUnderstood }
     ensures misnamed { (fault : Misnamed) → IsMisnamed word text.now fault
         → (result.status ≡ Status.NotUnderstood) × (result.output ≡ Some output) }
     ensures why { result.status ≡ Status.NotUnderstood → (fault : Misnamed) × IsMisnamed word text.now fault }
+    ensures no_file { result.file ≡ None }
 {
     match word.report(text.as_bytes()) {
         Ok(report) => answer_stream(
@@ -162,11 +178,12 @@ fn report<F: Folder, O: Write + Drop, E: Write>(
         Err(fault) => Ended {
             status: answer_misnamed(fault, errors),
             output: Some(output),
+            file: None,
         },
     }
 }
 
-/// Writes the dump that is asked for of parts in files to a new file.
+/// Writes the dump that is asked for of parts in files to a new file, which it gives back.
 fn write_dump<F: Folder, E: Write>(
     alloc: Global,
     files: &F,
@@ -174,10 +191,14 @@ fn write_dump<F: Folder, E: Write>(
     out: &str,
     names: &[&str],
     errors: &mut E,
-) -> Status
-    ensures done { result ≡ Status.Done → (written : F.File)
-        × IsMadeInFile (IsMadeOf (is_new_file product)) (F.answered files.now) F.File.remaining F.File.contents names.now out.now written }
-    ensures understood { result ≢ Status.NotUnderstood }
+) -> EndedFile<F::Out>
+    requires { MayCreateBehind (F.answered files.now) names.now out.now }
+    ensures done { result.status ≡ Status.Done → (written : F.Out) × (result.file ≡ Some written)
+        × IsMadeInFile (IsMadeOf (is_new_file product)) (F.answered files.now) F.Part.left F.Out.contents names.now out.now written }
+    ensures refused { result.status ≡ Status.Refused → (result.file ≡ None) × ((why : Refused) × IsFilesRefusal
+        (new_file_making product) (F.answered files.now) F.Part.left F.Part.health F.Part.pulls names.now out.now why
+        × TellsRefusal why (E.contents errors.old) (E.contents errors.new)) }
+    ensures understood { result.status ≢ Status.NotUnderstood }
 {
     match product {
         NewFile::Dump => write_new_file(alloc, files, &Dump, out, names, errors),
@@ -194,12 +215,14 @@ fn converse<F: Folder, I: Read + Drop, P: Write + Drop, O: Write + Drop, E: Writ
     prompts: Option<P>,
     output: O,
     errors: &mut E,
-) -> Ended<O>
+) -> Ended<O, F::Out>
     ensures done { result.status ≡ Status.Done → (written : O) × (result.output ≡ Some written)
-        × AnswersQuestions (F.answered files.now) F.File.remaining I.remaining O.contents names.now input output written }
-    ensures refused { result.status ≡ Status.Refused → (why : Refused) × RefusesQuestions (F.answered files.now) F.File.remaining
-        I.remaining O.contents names.now input output why result.output }
+        × AnswersQuestions (F.answered files.now) F.Part.left I.remaining O.contents names.now input output written }
+    ensures refused { result.status ≡ Status.Refused → (why : Refused) × RefusesQuestions (F.answered files.now) F.Part.left
+        I.remaining O.contents names.now input output F.Part.health F.Part.pulls why result.output
+        × TellsRefusal why (E.contents errors.old) (E.contents errors.new) }
     ensures understood { result.status ≢ Status.NotUnderstood }
+    ensures no_file { result.file ≡ None }
 {
     let mut questions = Prompting::new(input, prompts);
     answer_stream(
@@ -217,12 +240,14 @@ fn compare<F: Folder, O: Write + Drop, E: Write>(
     newer: &str,
     output: O,
     errors: &mut E,
-) -> Ended<O>
+) -> Ended<O, F::Out>
     ensures done { result.status ≡ Status.Done → (written : O) × (result.output ≡ Some written)
-        × ComparesFiles (F.answered files.now) F.File.remaining older.now newer.now O.contents output written }
-    ensures refused { result.status ≡ Status.Refused → (why : Refused) × RefusesDiff (F.answered files.now) F.File.remaining
-        older.now newer.now O.contents output why result.output }
+        × ComparesFiles (F.answered files.now) F.Part.left older.now newer.now O.contents output written }
+    ensures refused { result.status ≡ Status.Refused → (why : Refused) × RefusesDiff (F.answered files.now) F.Part.left
+        older.now newer.now O.contents output F.Part.health F.Part.pulls why result.output
+        × TellsRefusal why (E.contents errors.old) (E.contents errors.new) }
     ensures understood { result.status ≢ Status.NotUnderstood }
+    ensures no_file { result.file ≡ None }
 {
     answer_stream(
         alloc,
@@ -236,7 +261,8 @@ fn list_of(alloc: Global, words: io::Result<Args>) -> io::Result<Vec<String>> {
     Ok(words?.collect(alloc)?)
 }
 
-/// Does what a task asks for. It gives `output` back, unless there was no memory for the buffer before it.
+/// Does what a task asks for. It gives `output` back, unless there was no memory for the buffer before it, and the new file that it wrote, if
+/// it wrote one.
 fn perform<F: Folder, I: Read + Drop, O: Write + Drop, E: Write, P: Write + Drop>(
     alloc: Global,
     files: &F,
@@ -245,28 +271,39 @@ fn perform<F: Folder, I: Read + Drop, O: Write + Drop, E: Write, P: Write + Drop
     mut output: O,
     errors: &mut E,
     prompts: Option<P>,
-) -> Ended<O>
+) -> Ended<O, F::Out>
+    requires { MayDo (F.answered files.now) task }
     ensures done { result.status ≡ Status.Done → (after : O) × (result.output ≡ Some after) × DoesTask (F.answered files.now)
-        F.File.remaining F.File.contents I.remaining O.contents task.entry input output after }
+        F.Part.left F.Part.health F.Part.pulls F.Out.contents I.remaining O.contents result.file task.entry input output after }
     ensures refused { result.status ≡ Status.Refused → (why : Refused) × RefusesTask (F.answered files.now)
-        F.File.remaining F.File.contents I.remaining O.contents task.entry input output why result.output }
+        F.Part.left F.Part.health F.Part.pulls F.Out.contents I.remaining O.contents result.file task.entry input output why result.output
+        × TellsRefusal why (E.contents errors.old) (E.contents errors.new) }
     ensures understood { result.status ≡ Status.NotUnderstood → result.output ≡ Some output }
     ensures misnamed { result.status ≡ Status.NotUnderstood → IsMisnamedTask task.entry }
+    ensures no_file { WritesNoFile task.entry → result.file ≡ None }
 {
     match task {
-        Task::JoinInput => join_input(alloc, input, output, errors),
+        Task::JoinInput => join_input(alloc, Device::new(input), output, errors),
         Task::Write {
             product,
             out,
             parts,
-        } => Ended {
-            status: write_dump(alloc, files, product, out, &parts, errors),
-            output: Some(output),
-        },
-        Task::Salvage { out, parts } => Ended {
-            status: salvage(alloc, files, out, &parts, &mut output, errors),
-            output: Some(output),
-        },
+        } => {
+            let ended = write_dump(alloc, files, product, out, &parts, errors);
+            Ended {
+                status: ended.status,
+                output: Some(output),
+                file: ended.file,
+            }
+        }
+        Task::Salvage { out, parts } => {
+            let ended = salvage(alloc, files, out, &parts, &mut output, errors);
+            Ended {
+                status: ended.status,
+                output: Some(output),
+                file: ended.file,
+            }
+        }
         Task::Report { word, text, parts } => {
             report(alloc, files, word, text, &parts, output, errors)
         }

@@ -1,12 +1,15 @@
 //! The texts of the program beside the dump, and the status that it ends with.
 
-ghost use Rattle.std.specs.Prelude.{◌≡◌, ◌≢◌, Some, MatchResult};
+ghost use Rattle.std.specs.Prelude.{◌≡◌, ◌≢◌, Some, None, IfErr, MatchResult, codes};
 ghost use Rattle.std.specs.IoError.{error_kind};
 ghost use Rattle.std.specs.declared.io.ErrorKind.TheVariants.{OutOfMemory};
 ghost use Rattle.clap.specs.Values.{kind_of};
 ghost use Rattle.hprof_tool.specs.Program.{IsStatusOfWords};
+ghost use Rattle.hprof_tool.specs.Telling.{TellsFront, TellsRefusal, told_line};
+ghost use Rattle.hprof_tool.specs.Words.{misnamed_text};
 
 use crate::program::refused::{Refused, Stopped, WRITE_FAILED};
+use crate::program::telling::tell_line;
 use crate::status::Status;
 use clap::Error;
 use clap::error::ErrorKind;
@@ -15,55 +18,62 @@ use std::alloc::Global;
 use std::io;
 use std::io::Write;
 
-/// The end of a task that writes to a stream, and the stream, which is gone if there was no memory for the buffer before it.
+/// The end of a task, the stream that it may have written to, which is gone if there was no memory for the buffer before it, and the new
+/// file that it wrote, if it wrote one.
 #[derive(Drop)]
-pub(crate) struct Ended<O> {
+pub(crate) struct Ended<O, W> {
     pub(crate) status: Status,
     pub(crate) output: Option<O>,
+    pub(crate) file: Option<W>,
 }
 
-/// Says in one line why the program refused. If memory runs out for the text, the line says that.
-fn refuse<E: Write>(alloc: Global, refused: &Refused, errors: &mut E) -> Status
-    ensures { result ≡ Status.Refused }
-{
-    let _ = match refused.text(alloc) {
-        Ok(text) => writeln!(errors, "hprof: {text}"),
-        Err(_) => writeln!(errors, "hprof: out of memory"),
-    };
-    Status::Refused
+/// The end of a task that writes a new file, and the file, if it was written.
+#[derive(Drop)]
+pub(crate) struct EndedFile<W> {
+    pub(crate) status: Status,
+    pub(crate) file: Option<W>,
 }
 
-/// Ends a task.
-pub(crate) fn answer_outcome<T: Drop, E: Write>(
-    alloc: Global,
-    outcome: Result<T, Refused>,
-    errors: &mut E,
-) -> Status
-    ensures { MatchResult outcome (λ _. result ≡ Status.Done) (λ _. result ≡ Status.Refused) }
+/// Tells in one line why the program refused. If memory runs out for the text, the line says that.
+fn tell_refusal<E: Write>(alloc: Global, refused: &Refused, errors: &mut E)
+    ensures { TellsRefusal refused.now (E.contents errors.old) (E.contents errors.new) }
 {
-    match outcome {
-        Ok(_) => Status::Done,
-        Err(refused) => refuse(alloc, &refused, errors),
+    match refused.text(alloc) {
+        Ok(text) => tell_line(&text, errors),
+        Err(_) => tell_line("out of memory", errors),
     }
 }
 
+/// Ends a task that was refused, and tells why.
+pub(crate) fn refuse<E: Write>(alloc: Global, refused: &Refused, errors: &mut E) -> Status
+    ensures status { result ≡ Status.Refused }
+    ensures told { TellsRefusal refused.now (E.contents errors.old) (E.contents errors.new) }
+{
+    tell_refusal(alloc, refused, errors);
+    Status::Refused
+}
+
 /// Ends a task that writes to a stream.
-pub(crate) fn answer_stream<O, E: Write>(
+pub(crate) fn answer_stream<O, W, E: Write>(
     alloc: Global,
     outcome: Result<O, Stopped<O>>,
     errors: &mut E,
-) -> Ended<O>
+) -> Ended<O, W>
     ensures status { MatchResult outcome (λ _. result.status ≡ Status.Done) (λ _. result.status ≡ Status.Refused) }
     ensures output { MatchResult outcome (λ written. result.output ≡ Some written) (λ stopped. result.output ≡ stopped.writer) }
+    ensures no_file { result.file ≡ None }
+    ensures told { IfErr outcome (λ stopped. TellsRefusal stopped.why (E.contents errors.old) (E.contents errors.new)) }
 {
     match outcome {
         Ok(written) => Ended {
             status: Status::Done,
             output: Some(written),
+            file: None,
         },
         Err(Stopped { why, writer }) => Ended {
             status: refuse(alloc, &why, errors),
             output: writer,
+            file: None,
         },
     }
 }
@@ -98,26 +108,27 @@ pub(crate) fn answer_no_words<E: Write>(alloc: Global, error: &io::Error, errors
     if error.kind() == io::ErrorKind::OutOfMemory {
         return refuse(alloc, &Refused::OutOfMemory, errors);
     }
-    let _ = writeln!(errors, "hprof: the words are no text");
+    tell_line("the words are no text", errors);
     Status::NotUnderstood
 }
 
 /// Answers that a text does not follow the word of a report.
 pub(crate) fn answer_misnamed<E: Write>(fault: Misnamed, errors: &mut E) -> Status
-    ensures { result ≡ Status.NotUnderstood }
+    ensures status { result ≡ Status.NotUnderstood }
+    ensures told { TellsFront (told_line (misnamed_text fault)) (E.contents errors.old) (E.contents errors.new) }
 {
-    let text = match fault {
-        Misnamed::NoIdentifier => "not an identifier",
-        Misnamed::NoKind => "not a class or a type",
-    };
-    let _ = writeln!(errors, "hprof: {text}");
+    match fault {
+        Misnamed::NoIdentifier => tell_line("not an identifier", errors),
+        Misnamed::NoKind => tell_line("not a class or a type", errors),
+    }
     Status::NotUnderstood
 }
 
 /// Answers that a word is none of the commands.
 pub(crate) fn answer_no_command<E: Write>(errors: &mut E) -> Status
-    ensures { result ≡ Status.NotUnderstood }
+    ensures status { result ≡ Status.NotUnderstood }
+    ensures told { TellsFront (told_line (codes "not a command")) (E.contents errors.old) (E.contents errors.new) }
 {
-    let _ = writeln!(errors, "hprof: not a command");
+    tell_line("not a command", errors);
     Status::NotUnderstood
 }

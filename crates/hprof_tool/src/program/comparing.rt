@@ -2,7 +2,6 @@
 
 ghost use Rattle.std.specs.Prelude.{◌≡◌, All, IfOk, IfErr};
 ghost use Rattle.hprof_devices.specs.declared.health.Health.TheVariants.{Well};
-ghost use Rattle.hprof_devices.specs.Device.{health_of};
 ghost use Rattle.hprof_engine.specs.declared.tool_fault.ToolFault.{ToolFault};
 ghost use Rattle.hprof_engine.specs.Makes.{WritesAll};
 ghost use Rattle.hprof_diff.specs.DifferenceText.{IsDifferenceOf};
@@ -11,7 +10,7 @@ ghost use Rattle.hprof_tool.specs.Comparing.{ComparesFiles, IsOfOpeningOne, IsOn
 use crate::program::folder::Folder;
 use crate::program::refused::{Refused, Stopped};
 use crate::program::writing::write_through_buffer;
-use hprof_devices::{Device, Source};
+use hprof_devices::Source;
 use hprof_diff::{GrowthReport, count_parts};
 use hprof_stream::Limits;
 use std::alloc::Global;
@@ -28,7 +27,8 @@ fn compare_readers<R: Source, W: Write + Drop>(
     requires news { All (λ reader. R.health reader ≡ Well) news.old }
     ensures ok { IfOk result (λ written. OverBoth R.left olds.old news.old
         (λ old_parts new_parts. WritesAll (IsDifferenceOf old_parts) new_parts (W.contents writer) (W.contents written))) }
-    ensures stops { IfErr result (λ stopped. StopsComparing R.left olds.old news.old W.contents writer stopped.why stopped.writer) }
+    ensures stops { IfErr result (λ stopped. StopsComparing R.left R.health R.pulls olds.old olds.new news.old news.new
+        W.contents writer stopped.why stopped.writer) }
     ensures unread { IfErr result (λ stopped. (fault : ToolFault) → stopped.why ≡ Refused.Dump 0 fault → news.new ≡ news.old) }
 {
     let old = match count_parts(alloc, olds, Limits::usual()) {
@@ -49,22 +49,22 @@ fn compare_readers<R: Source, W: Write + Drop>(
     }
 }
 
-/// Opens the file of the dump at that place of two, as the only part of a heap.
+/// Opens the dump at that place of two, as the only part of a heap.
 fn open_dump<F: Folder>(
     alloc: Global,
     files: &F,
     name: &str,
     place: usize,
-) -> Result<Vec<Device<F::File>>, Refused>
+) -> Result<Vec<F::Part>, Refused>
     ensures opened { IfOk result (λ parts. IsOneOpened (F.answered files.now) name.now parts.items) }
-    ensures well { IfOk result (λ parts. All (λ part. health_of part ≡ Well) parts.items) }
+    ensures well { IfOk result (λ parts. All (λ part. F.Part.health part ≡ Well) parts.items) }
     ensures kind { IfErr result (IsOfOpeningOne (F.answered files.now) name.now place) }
 {
-    let Ok(file) = files.open_part(name) else {
+    let Ok(part) = files.open_part(name) else {
         return Err(Refused::Open(place));
     };
     let mut parts = Vec::new(alloc);
-    parts.push(Device::new(file))?;
+    parts.push(part)?;
     Ok(parts)
 }
 
@@ -76,9 +76,9 @@ pub(crate) fn compare_files<F: Folder, O: Write + Drop>(
     newer: &str,
     output: O,
 ) -> Result<O, Stopped<O>>
-    ensures ok { IfOk result (ComparesFiles (F.answered files.now) F.File.remaining older.now newer.now O.contents output) }
-    ensures refused { IfErr result (λ stopped. RefusesDiff (F.answered files.now) F.File.remaining older.now newer.now O.contents
-        output stopped.why stopped.writer) }
+    ensures ok { IfOk result (ComparesFiles (F.answered files.now) F.Part.left older.now newer.now O.contents output) }
+    ensures refused { IfErr result (λ stopped. RefusesDiff (F.answered files.now) F.Part.left older.now newer.now O.contents
+        output F.Part.health F.Part.pulls stopped.why stopped.writer) }
 {
     let mut olds = match open_dump(alloc, files, older, 0) {
         Ok(parts) => parts,

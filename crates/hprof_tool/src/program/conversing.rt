@@ -60,7 +60,7 @@ fn ask_through_buffer<R: Source, Q: Asker<BufferedDevice<W>>, W: Write + Drop>(
         readers.old questions.old (W.contents writer) }
     ensures ok { IfOk result (AnswersAll W.contents writer (OverReaders R.left Q.left readers.old questions.old)) }
     ensures stops { IfErr result (λ stopped. LeavesAnswers W.contents writer (OverReaders R.left Q.left readers.old questions.old)
-        (SaysOfReaders R.left readers.old) stopped.why stopped.writer) }
+        (SaysOfReaders R.left R.health R.pulls readers.old readers.new) stopped.why stopped.writer) }
     ensures cause { IfErr result (λ stopped. stopped.why ≡ Refused.Questions → CannotReadOn Q.health Q.pulls questions.new) }
     ensures gone { IfErr result (λ stopped. stopped.writer ≡ None → (readers.new ≡ readers.old) × (questions.new ≡ questions.old)) }
 {
@@ -94,12 +94,12 @@ pub(crate) fn ask_files<F: Folder, Q: Asker<BufferedDevice<O>>, O: Write + Drop>
 ) -> Result<O, Stopped<O>>
     requires asking { Q.health questions.old ≡ Well }
     // No more of the questions is read before all lines that ended are answered, and the answers were flushed.
-    requires leave { (parts : List (Device F.File)) → AreOpened (F.answered files.now) names.now parts
-        → LetsAsk (λ part. F.File.remaining (inner_of part)) Q.left (λ device. writer_contents O.contents (buffered_of device)) is_flushed
+    requires leave { (parts : List F.Part) → AreOpened (F.answered files.now) names.now parts
+        → LetsAsk F.Part.left Q.left (λ device. writer_contents O.contents (buffered_of device)) is_flushed
         Q.may_read parts questions.old (O.contents output) }
-    ensures ok { IfOk result (AnswersQuestions (F.answered files.now) F.File.remaining Q.left O.contents names.now questions.old output) }
-    ensures refused { IfErr result (λ stopped. RefusesQuestions (F.answered files.now) F.File.remaining Q.left O.contents names.now
-        questions.old output stopped.why stopped.writer) }
+    ensures ok { IfOk result (AnswersQuestions (F.answered files.now) F.Part.left Q.left O.contents names.now questions.old output) }
+    ensures refused { IfErr result (λ stopped. RefusesQuestions (F.answered files.now) F.Part.left Q.left O.contents names.now
+        questions.old output F.Part.health F.Part.pulls stopped.why stopped.writer) }
     ensures cause { IfErr result (λ stopped. stopped.why ≡ Refused.Questions → CannotReadOn Q.health Q.pulls questions.new) }
 {
     let mut parts = match open_parts(alloc, files, names) {

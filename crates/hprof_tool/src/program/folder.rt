@@ -1,31 +1,45 @@
 //! The files of the program.
 
-ghost use Rattle.std.specs.Prelude.{ℕ, List, IfOk, OnErr};
+ghost use Rattle.std.specs.Prelude.{◌≡◌, ℕ, List, [], IfOk, IfErr, OnErr};
+ghost use Rattle.std.specs.Io.Buffered.{writer_buffer, writer_inner};
+ghost use Rattle.hprof_devices.specs.declared.health.Health.TheVariants.{Well};
 ghost use Rattle.hprof_tool.specs.Folder.{Answered};
 
+use crate::program::refused::Refused;
+use hprof_devices::Source;
+use std::alloc::Global;
 use std::io;
-use std::io::{Read, Write};
+use std::io::{BufWriter, Write};
 
 /// The folder in which the program finds its files. The proofs hold for whatever a folder may tell of the files that it gives: they are
 /// about the very files that were opened and created by these names, and about no others.
 pub(crate) trait Folder {
-    /// An open file.
-    type File: Read + Write + Drop;
+    ghost use Rattle.hprof_tool.specs.Program.{IsOfCreating};
+
+    /// An open part.
+    type Part: Source + Drop;
+
+    /// A new file.
+    type Out: Write + Drop;
 
     // What came of the calls by names.
-    ghost answered: { Self → Answered Self.File };
+    ghost answered: { Self → Answered Self.Part Self.Out };
 
     /// Opens the file of a part.
-    fn open_part(&self, name: &str) -> io::Result<Self::File>
+    fn open_part(&self, name: &str) -> io::Result<Self::Part>
         ensures opened { IfOk result ((answered self.now).IsOpened name.now) }
+        ensures well { IfOk result (λ part. Self.Part.health part ≡ Well) }
         ensures fails { OnErr result ((answered self.now).CannotOpen name.now) };
 
-    /// Creates a new file, if there is none.
-    fn create_out(&self, name: &str) -> io::Result<Self::File>
-        ensures created { IfOk result ((answered self.now).IsCreated name.now) }
-        ensures fails { OnErr result ((answered self.now).CannotCreate name.now) };
+    /// Creates a new file, if there is none, behind a buffer. If there is no memory for the buffer, no new file is left.
+    fn create_out(&self, alloc: Global, name: &str) -> Result<BufWriter<Self::Out>, Refused>
+        requires { (answered self.now).MayCreate name.now }
+        ensures created { IfOk result (λ buffered. (answered self.now).IsCreated name.now (writer_inner buffered)) }
+        ensures empty { IfOk result (λ buffered. writer_buffer buffered ≡ []) }
+        ensures fails { IfErr result (IsOfCreating (answered self.now) name.now) };
 
-    /// Removes a file. If it cannot be removed, it stays.
-    fn remove_out(&self, name: &str)
+    /// Closes a new file that was created by that name, and removes it. If it cannot be removed, it stays.
+    fn remove_out(&self, name: &str, out: Self::Out)
+        requires { (created : Self.Out) × (answered self.now).IsCreated name.now created }
         ensures { (answered self.now).IsRemoved name.now };
 }

@@ -2,33 +2,33 @@
 
 ghost use Rattle.std.specs.Prelude.{◌≡◌, length, All, Err, IfOk, IfErr};
 ghost use Rattle.hprof_devices.specs.declared.health.Health.TheVariants.{Well};
-ghost use Rattle.hprof_devices.specs.Device.{health_of};
 ghost use Rattle.hprof_engine.specs.Makes.{IsDump, IsMadeOf, making_of};
-ghost use Rattle.hprof_tool.specs.Folder.{AreOpened};
+ghost use Rattle.hprof_tool.specs.Folder.{AreOpened, MayCreateBehind};
 ghost use Rattle.hprof_tool.specs.Program.{IsMadeOfStream, IsMadeInFile, IsMadeOfFiles, IsFilesRefusal};
 ghost use Rattle.hprof_tool.specs.Program.{IsOfMaking, IsOfOpening};
 ghost use Rattle.hprof_tool.specs.Streams.{RefusesStream, RefusesReport};
 
 use crate::program::folder::Folder;
 use crate::program::refused::{Refused, Stopped};
-use crate::program::writing::write_through_buffer;
-use hprof_devices::Device;
+use crate::program::writing::{write_buffered, write_through_buffer};
+use hprof_devices::Source;
 use hprof_engine::{Dump, Product, ToolFault};
 use std::alloc::Global;
-use std::io::{Read, Write};
+use std::io::Write;
 
-/// Joins the one part that a stream gives into another, which it gives back.
-pub(crate) fn join_stream<I: Read + Drop, O: Write + Drop>(
+/// Joins the one part that a reader gives into a stream, which it gives back.
+pub(crate) fn join_stream<I: Source + Drop, O: Write + Drop>(
     alloc: Global,
     input: I,
     output: O,
 ) -> Result<O, Stopped<O>>
-    ensures ok { IfOk result (IsMadeOfStream IsDump I.remaining O.contents input output) }
+    requires { I.health input ≡ Well }
+    ensures ok { IfOk result (IsMadeOfStream IsDump I.left O.contents input output) }
     ensures kind { IfErr result (λ stopped. IsOfMaking stopped.why) }
-    ensures refused { IfErr result (λ stopped. RefusesStream I.remaining O.contents input output stopped.why stopped.writer) }
+    ensures refused { IfErr result (λ stopped. RefusesStream I.left I.health I.pulls O.contents input output stopped.why stopped.writer) }
 {
     let mut part = Vec::new(alloc);
-    let Ok(()) = part.push(Device::new(input)) else {
+    let Ok(()) = part.push(input) else {
         return Err(Stopped {
             why: Refused::OutOfMemory,
             writer: Some(output),
@@ -42,46 +42,46 @@ pub(crate) fn open_parts<F: Folder>(
     alloc: Global,
     files: &F,
     names: &[&str],
-) -> Result<Vec<Device<F::File>>, Refused>
+) -> Result<Vec<F::Part>, Refused>
     ensures opened { IfOk result (λ parts. AreOpened (F.answered files.now) names.now parts.items) }
-    ensures well { IfOk result (λ parts. All (λ part. health_of part ≡ Well) parts.items) }
+    ensures well { IfOk result (λ parts. All (λ part. F.Part.health part ≡ Well) parts.items) }
     ensures count { IfOk result (λ parts. length parts.items ≡ length names.now) }
     ensures kind { IfErr result (IsOfOpening (F.answered files.now) names.now) }
 {
     let mut parts = Vec::new(alloc);
     for (index, name) in names.iter().enumerate() {
         match files.open_part(name) {
-            Ok(file) => parts.push(Device::new(file))?,
+            Ok(part) => parts.push(part)?,
             Err(_) => return Err(Refused::Open(index)),
         }
     }
     Ok(parts)
 }
 
-/// Writes the product of parts in files to a new file, which it gives back. After a refusal by the engine the new file is removed.
+/// Writes the product of parts in files to a new file, which it gives back. After a refusal by the engine the new file is removed. It is
+/// created once all parts are opened.
 pub(crate) fn write_file<P: Product, F: Folder>(
     alloc: Global,
     files: &F,
     product: &P,
     out: &str,
     names: &[&str],
-) -> Result<F::File, Refused>
-    ensures ok { IfOk result (IsMadeInFile (IsMadeOf (P.is_text product.now)) (F.answered files.now) F.File.remaining F.File.contents
+) -> Result<F::Out, Refused>
+    requires { MayCreateBehind (F.answered files.now) names.now out.now }
+    ensures ok { IfOk result (IsMadeInFile (IsMadeOf (P.is_text product.now)) (F.answered files.now) F.Part.left F.Out.contents
         names.now out.now) }
     ensures no_parts { result ≡ Err (Refused.Engine ToolFault.NoParts) → length names.now ≡ 0 }
     ensures refused { IfErr result (IsFilesRefusal
         (making_of (P.is_text product.now) (P.is_too_long product.now) (P.takes_room product.now) (P.takes_memory product.now))
-        (F.answered files.now) F.File.remaining names.now out.now) }
+        (F.answered files.now) F.Part.left F.Part.health F.Part.pulls names.now out.now) }
 {
     let mut parts = open_parts(alloc, files, names)?;
-    let Ok(file) = files.create_out(out) else {
-        return Err(Refused::Create);
-    };
-    match write_through_buffer(alloc, product, &mut parts, file) {
+    let buffered = files.create_out(alloc, out)?;
+    match write_buffered(alloc, product, &mut parts, buffered) {
         Ok(file) => Ok(file),
-        Err(stopped) => {
-            files.remove_out(out);
-            Err(stopped.why)
+        Err(left) => {
+            files.remove_out(out, left.writer);
+            Err(left.why)
         }
     }
 }
@@ -94,12 +94,12 @@ pub(crate) fn report_files<P: Product, F: Folder, O: Write + Drop>(
     names: &[&str],
     output: O,
 ) -> Result<O, Stopped<O>>
-    ensures ok { IfOk result (IsMadeOfFiles (IsMadeOf (P.is_text report.now)) (F.answered files.now) F.File.remaining O.contents
+    ensures ok { IfOk result (IsMadeOfFiles (IsMadeOf (P.is_text report.now)) (F.answered files.now) F.Part.left O.contents
         names.now output) }
     ensures no_parts { IfErr result (λ stopped. stopped.why ≡ Refused.Engine ToolFault.NoParts → length names.now ≡ 0) }
     ensures refused { IfErr result (λ stopped. RefusesReport
         (making_of (P.is_text report.now) (P.is_too_long report.now) (P.takes_room report.now) (P.takes_memory report.now))
-        (F.answered files.now) F.File.remaining O.contents names.now output stopped.why stopped.writer) }
+        (F.answered files.now) F.Part.left F.Part.health F.Part.pulls O.contents names.now output stopped.why stopped.writer) }
 {
     let mut parts = match open_parts(alloc, files, names) {
         Ok(parts) => parts,

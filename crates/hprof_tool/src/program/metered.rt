@@ -2,8 +2,13 @@
 
 use crate::program::folder::Folder;
 use crate::program::meter::{Meter, Part};
-use std::fs::File;
-use std::io::{Read, Write};
+use crate::program::refused::Refused;
+use crate::program::writing::BUFFER_LEN;
+use hprof_devices::{Device, ReadFault, Source};
+use std::alloc::Global;
+use std::fs::{File, OpenOptions};
+use std::io::{BufWriter, Read, Write};
+use std::os::unix::fs::OpenOptionsExt;
 use std::rt::{Clock, Files};
 use std::{fs, io};
 
@@ -14,76 +19,92 @@ pub(crate) struct Metered<'a, S, T> {
     pub(crate) meter: &'a Meter<T>,
 }
 
-/// An open file. The meter counts what is read of a part, and its line goes before a byte is written.
+/// A part in a file. The meter counts what is read of it.
 #[derive(Drop)]
-pub(crate) struct MeteredFile<'a, F, S, T> {
-    file: F,
+pub(crate) struct MeteredPart<'a, F, S, T> {
+    device: Device<F>,
     clock: &'a S,
     meter: &'a Meter<T>,
     /// The part, if the meter counts it.
     part: Option<Part>,
 }
 
-impl<F: Read, S: Clock, T: Write> Read for MeteredFile<'_, F, S, T> {
-    ghost remaining = { λ it. F.remaining it.file };
+impl<F: Read, S: Clock, T: Write> Source for MeteredPart<'_, F, S, T> {
+    ghost use Rattle.hprof_devices.specs.Device.{inner_of, health_of, pulls_of};
 
-    fn read(&mut self, piece: &mut [u8]) -> io::Result<usize> {
-        let outcome = self.file.read(piece);
+    ghost left = { λ it. F.remaining (inner_of it.device) };
+
+    ghost health = { λ it. health_of it.device };
+
+    ghost pulls = { λ it. pulls_of it.device };
+
+    fn pull(&mut self, piece: &mut [u8]) -> Result<usize, ReadFault> {
+        let count = self.device.pull(piece)?;
         if let Some(part) = &mut self.part {
-            if let Ok(count) = &outcome {
-                self.meter.has_read(part, *count, self.clock);
-            }
+            self.meter.has_read(part, count, self.clock);
         }
-        outcome
+        Ok(count)
     }
 }
 
-impl<F: Write, S: Clock, T: Write> Write for MeteredFile<'_, F, S, T> {
-    ghost contents = { λ it. F.contents it.file };
+/// The permissions of a new file: its owner reads and writes it, and no one else does, since a heap may hold secrets.
+const OUT_MODE: u32 = 0o600;
 
-    fn write(&mut self, bytes: &[u8]) -> io::Result<usize> {
-        self.meter.clear();
-        self.file.write(bytes)
-    }
-
-    fn flush(&mut self) -> io::Result<()> {
-        self.file.flush()
-    }
+/// Creates a new file, if there is none.
+fn create_private<S: Files>(system: &S, name: &str) -> io::Result<S::File> {
+    let mut options = OpenOptions::new();
+    options.write(true).create_new(true).mode(OUT_MODE);
+    options.open(system, name)
 }
 
 impl<'a, S: Files + Clock, T: Write + Drop> Folder for Metered<'a, S, T> {
     ghost use Rattle.hprof_tool.specs.Folder.{nothing_told};
 
-    type File = MeteredFile<'a, S::File, S, T>;
+    type Part = MeteredPart<'a, S::File, S, T>;
+
+    type Out = Clearing<'a, S::File, T>;
 
     ghost answered = { λ _. nothing_told };
 
-    fn open_part(&self, name: &str) -> io::Result<MeteredFile<'a, S::File, S, T>> {
+    fn open_part(&self, name: &str) -> io::Result<MeteredPart<'a, S::File, S, T>> {
         let file = File::open(self.system, name)?;
         let part = self.meter.opened(&file);
-        Ok(MeteredFile {
-            file,
+        Ok(MeteredPart {
+            device: Device::new(file),
             clock: self.system,
             meter: self.meter,
             part,
         })
     }
 
-    fn create_out(&self, name: &str) -> io::Result<MeteredFile<'a, S::File, S, T>> {
-        Ok(MeteredFile {
-            file: File::create_new(self.system, name)?,
-            clock: self.system,
+    fn create_out(
+        &self,
+        alloc: Global,
+        name: &str,
+    ) -> Result<BufWriter<Clearing<'a, S::File, T>>, Refused> {
+        let Ok(file) = create_private(self.system, name) else {
+            return Err(Refused::Create);
+        };
+        let file = Clearing {
             meter: self.meter,
-            part: None,
-        })
+            writer: file,
+        };
+        match BufWriter::with_capacity(alloc, BUFFER_LEN, file) {
+            Ok(buffered) => Ok(buffered),
+            Err(_) => {
+                let _ = fs::remove_file(self.system, name);
+                Err(Refused::OutOfMemory)
+            }
+        }
     }
 
-    fn remove_out(&self, name: &str) {
+    fn remove_out(&self, name: &str, out: Clearing<'a, S::File, T>) {
+        drop(out);
         let _ = fs::remove_file(self.system, name);
     }
 }
 
-/// A writer. The meter's line goes before a byte is written.
+/// A writer, or a new file. The meter's line goes before a byte is written.
 #[derive(Drop)]
 pub(crate) struct Clearing<'a, W, T> {
     pub(crate) meter: &'a Meter<T>,

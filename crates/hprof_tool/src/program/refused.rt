@@ -38,6 +38,13 @@ pub(crate) struct Stopped<W> {
     pub(crate) writer: Option<W>,
 }
 
+/// The reason why something that is written behind a buffer was refused, and the writer.
+#[derive(Drop)]
+pub(crate) struct Left<W> {
+    pub(crate) why: Refused,
+    pub(crate) writer: W,
+}
+
 /// The refusal when writing failed.
 pub(crate) const WRITE_FAILED: Refused = Refused::Engine(ToolFault::Write(WriteFault::Failed));
 

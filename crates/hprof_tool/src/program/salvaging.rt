@@ -1,6 +1,6 @@
 //! The salvage of parts in files.
 
-ghost use Rattle.std.specs.Prelude.{◌≡◌, List, [], ◌∷◌, ◌++◌, ℕ, All, Option, OnOk, IfOk, IfErr};
+ghost use Rattle.std.specs.Prelude.{◌≡◌, List, [], ◌∷◌, ◌++◌, ℕ, All, OnOk, OnErr, IfOk, IfErr};
 ghost use Rattle.std.specs.Io.KnownBytes.{Appends, append_known};
 ghost use Rattle.std.specs.Io.Buffered.{writer_contents};
 ghost use Rattle.hprof_devices.specs.declared.health.Health.TheVariants.{Well};
@@ -8,13 +8,15 @@ ghost use Rattle.hprof_devices.specs.Device.{inner_of, health_of};
 ghost use Rattle.hprof_engine.specs.FaultText.{IsFaultText};
 ghost use Rattle.hprof_engine.specs.Salvaging.{Salvages};
 ghost use Rattle.hprof_tool.specs.Program.{usual_limits};
-ghost use Rattle.hprof_tool.specs.SalvagedFiles.{SalvagesStream, SalvagesBuffered, salvaged_with, IsSalvagedFile, IsSalvageRefusal};
-ghost use Rattle.hprof_tool.specs.Telling.{TellsFaults, IsOfTelling, line_end};
+ghost use Rattle.hprof_tool.specs.Folder.{MayCreateBehind};
+ghost use Rattle.hprof_tool.specs.SalvagedFiles.{SalvagesStream, IsSalvagedFile, IsSalvageRefusal};
+ghost use Rattle.hprof_tool.specs.Telling.{TellsFaults, TellsFront, TellsSomeFaults, IsOfTelling, line_end};
 
 use crate::program::folder::Folder;
 use crate::program::joining::open_parts;
 use crate::program::refused::{Refused, WRITE_FAILED};
-use crate::program::writing::{BUFFER_LEN, end_of_writing};
+use crate::program::telling::write_part_line;
+use crate::program::writing::end_of_writing;
 use hprof_devices::{Device, Source};
 use hprof_engine::{FaultedPart, Salvaged, ToolFault, salvage_kept};
 use hprof_stream::Limits;
@@ -82,52 +84,33 @@ fn salvage_into<R: Source, W: Write + Drop>(
     }
 }
 
-/// Salvages the readers' parts into a writer, and gives the writer back.
-fn salvage_buffered<R: Source, W: Write + Drop>(
-    alloc: Global,
-    readers: &mut [R],
-    writer: W,
-) -> Result<Written<W>, ToolFault>
-    requires { All (λ reader. R.health reader ≡ Well) readers.old }
-    // What the writer holds is known where it is given back.
-    ensures { (holds : Option (List ℕ)) × SalvagesBuffered R.left R.health R.pulls readers.old readers.new (W.contents writer) holds
-        (salvaged_with result) × IfOk result (λ written. holds ≡ W.contents written.writer) }
-{
-    let Ok(buffered) = BufWriter::with_capacity(alloc, BUFFER_LEN, writer) else {
-        return Err(ToolFault::OutOfMemory);
-    };
-    let Saving {
-        outcome,
-        writer,
-        unwritten,
-    } = salvage_into(alloc, readers, buffered);
-    // To free this large block behind the rows would make the allocator go over all of them.
-    mem::forget(unwritten);
-    match outcome {
-        Ok(salvaged) => Ok(Written { salvaged, writer }),
-        Err(fault) => Err(fault),
-    }
-}
-
-/// Salvages parts in files to a new file, which it gives back. After a refusal by the engine the new file is removed.
+/// Salvages parts in files to a new file, which it gives back. After a refusal by the engine the new file is removed. It is created once
+/// all parts are opened.
 pub(crate) fn salvage_file<F: Folder>(
     alloc: Global,
     files: &F,
     out: &str,
     names: &[&str],
-) -> Result<Written<F::File>, Refused>
-    ensures ok { IfOk result (λ written. IsSalvagedFile (F.answered files.now) F.File.remaining F.File.contents names.now out.now
-        written.salvaged written.writer) }
-    ensures refused { IfErr result (IsSalvageRefusal (F.answered files.now) F.File.remaining names.now out.now) }
+) -> Result<Written<F::Out>, Refused>
+    requires { MayCreateBehind (F.answered files.now) names.now out.now }
+    ensures ok { IfOk result (λ written. IsSalvagedFile (F.answered files.now) F.Part.left F.Part.health F.Part.pulls F.Out.contents
+        names.now out.now written.salvaged written.writer) }
+    ensures refused { IfErr result (IsSalvageRefusal (F.answered files.now) F.Part.left F.Part.health F.Part.pulls F.Out.contents
+        names.now out.now) }
 {
     let mut parts = open_parts(alloc, files, names)?;
-    let Ok(file) = files.create_out(out) else {
-        return Err(Refused::Create);
-    };
-    match salvage_buffered(alloc, &mut parts, file) {
-        Ok(written) => Ok(written),
+    let buffered = files.create_out(alloc, out)?;
+    let Saving {
+        outcome,
+        writer,
+        unwritten,
+    } = salvage_into(alloc, &mut parts, buffered);
+    // To free this large block behind the rows would make the allocator go over all of them.
+    mem::forget(unwritten);
+    match outcome {
+        Ok(salvaged) => Ok(Written { salvaged, writer }),
         Err(fault) => {
-            files.remove_out(out);
+            files.remove_out(out, writer);
             Err(Refused::from(fault))
         }
     }
@@ -136,26 +119,31 @@ pub(crate) fn salvage_file<F: Folder>(
 /// The number of bytes of room for the reason why a part is refused. Each such text is shorter.
 const WHY_LEN: usize = 64;
 
-/// Tells the fault of a part in a line, as it is told when the part is refused. It takes no memory.
+/// Tells the fault of a part in a line, as it is told when the part is refused. It takes no memory. If it cannot be written, a front of it is
+/// told.
 fn tell_fault<O: Write>(fault: FaultedPart, output: &mut O) -> Result<(), Refused>
     ensures told { OnOk result ((line : List ℕ) × IsFaultText (ToolFault.Part fault.index fault.fault) line
         × Appends (O.contents output.old) (O.contents output.new) (line ++ line_end ∷ [])) }
     ensures failed { IfErr result IsOfTelling }
+    ensures front { OnErr result ((line : List ℕ) × IsFaultText (ToolFault.Part fault.index fault.fault) line
+        × TellsFront (line ++ line_end ∷ []) (O.contents output.old) (O.contents output.new)) }
 {
     let FaultedPart { index, fault } = fault;
     let text = InlineText::<WHY_LEN>::of(fault);
     let why = text.as_str();
-    match writeln!(output, "part {index}: {why}") {
+    match write_part_line(index, why, output) {
         Ok(()) => Ok(()),
         Err(_) => Err(WRITE_FAILED),
     }
 }
 
-/// Tells the faults of parts, one a line. It takes no memory, so a fault of the output alone keeps it from telling them.
+/// Tells the faults of parts, one a line. It takes no memory, so a fault of the output alone keeps it from telling them, and a front of them
+/// is told then.
 pub(crate) fn tell_faults<O: Write>(faults: &[FaultedPart], output: &mut O) -> Result<(), Refused>
     ensures told { OnOk result ((text : List ℕ) × TellsFaults faults.now text
         × Appends (O.contents output.old) (O.contents output.new) text) }
     ensures failed { IfErr result IsOfTelling }
+    ensures front { OnErr result (TellsSomeFaults faults.now (O.contents output.old) (O.contents output.new)) }
 {
     for fault in faults {
         tell_fault(*fault, output)?;

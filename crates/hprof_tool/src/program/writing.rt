@@ -8,9 +8,9 @@ ghost use Rattle.hprof_engine.specs.Joining.{fault_of, IsBeforeWriting};
 ghost use Rattle.hprof_devices.specs.Device.{inner_of, health_of};
 ghost use Rattle.hprof_engine.specs.Makes.{Makes, making_of};
 ghost use Rattle.hprof_tool.specs.Program.{MakesStream, usual_limits};
-ghost use Rattle.hprof_tool.specs.Streams.{StopsStream};
+ghost use Rattle.hprof_tool.specs.Streams.{LeavesStream, StopsStream};
 
-use crate::program::refused::{Refused, Stopped};
+use crate::program::refused::{Left, Refused, Stopped};
 use hprof_devices::{Device, Source, WriteFault};
 use hprof_engine::{Product, ToolFault, make_to};
 use hprof_stream::Limits;
@@ -104,6 +104,38 @@ fn write_and_flush<P: Product, R: Source, W: Write + Drop>(
     }
 }
 
+/// Makes something of the parts of the readers into a writer behind an empty buffer, flushes it, and gives the writer back.
+pub(crate) fn write_buffered<P: Product, R: Source, W: Write + Drop>(
+    alloc: Global,
+    product: &P,
+    readers: &mut [R],
+    buffered: BufWriter<W>,
+) -> Result<W, Left<W>>
+    requires readers { All (λ reader. R.health reader ≡ Well) readers.old }
+    requires empty { writer_buffer buffered ≡ [] }
+    ensures ok { IfOk result (λ written. MakesStream R.left R.health R.pulls
+        (making_of (P.is_text product.now) (P.is_too_long product.now) (P.takes_room product.now) (P.takes_memory product.now))
+        readers.old readers.new (W.contents (writer_inner buffered)) (W.contents written) None) }
+    ensures stops { IfErr result (λ left. LeavesStream R.left R.health R.pulls
+        (making_of (P.is_text product.now) (P.is_too_long product.now) (P.takes_room product.now) (P.takes_memory product.now))
+        readers.old readers.new W.contents (writer_inner buffered) left.why left.writer) }
+{
+    let Writing {
+        outcome,
+        writer,
+        unwritten,
+    } = write_and_flush(alloc, product, readers, buffered);
+    // To free this large block behind the rows would make the allocator go over all of them.
+    mem::forget(unwritten);
+    match outcome {
+        Ok(()) => Ok(writer),
+        Err(fault) => Err(Left {
+            why: Refused::from(fault),
+            writer,
+        }),
+    }
+}
+
 /// Makes something of the parts of the readers into a writer, and gives the writer back.
 pub(crate) fn write_through_buffer<P: Product, R: Source, W: Write + Drop>(
     alloc: Global,
@@ -125,18 +157,11 @@ pub(crate) fn write_through_buffer<P: Product, R: Source, W: Write + Drop>(
             writer: None,
         });
     };
-    let Writing {
-        outcome,
-        writer,
-        unwritten,
-    } = write_and_flush(alloc, product, readers, buffered);
-    // To free this large block behind the rows would make the allocator go over all of them.
-    mem::forget(unwritten);
-    match outcome {
-        Ok(()) => Ok(writer),
-        Err(fault) => Err(Stopped {
-            why: Refused::from(fault),
-            writer: Some(writer),
+    match write_buffered(alloc, product, readers, buffered) {
+        Ok(written) => Ok(written),
+        Err(left) => Err(Stopped {
+            why: left.why,
+            writer: Some(left.writer),
         }),
     }
 }

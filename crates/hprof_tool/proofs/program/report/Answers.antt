@@ -1,5 +1,6 @@
 use Rattle.hprof_ask.specs.Report.{report_making}
 use Rattle.hprof_tool.specs.Streams.{RefusesReport}
+use Rattle.hprof_tool.specs.Telling.{TellsRefusal}
 use Rattle.hprof_tool.proofs.Ends.{done_of_stream, refused_of_stream}
 use Rattle.hprof_tool.proofs.program.report.Goals as goal
 
@@ -15,7 +16,9 @@ pub returns-in-Ok-clause-refused : goal.returns-in-Ok-clause-refused
 returns-in-Ok-clause-refused g c = λ refused. (
   c.in-Ok.report,
   c.in-Ok.ensures,
-  refused_of_stream (λ why left. RefusesReport (report_making c.in-Ok.report) (g.F.Folder.answered c.args.files.now) g.F.File.Read.remaining
-      g.O.Write.contents c.args.names.now c.args.output why left) c.report_files.result c.answer_stream.result c.report_files.ensures.refused
-      c.answer_stream.ensures.status c.answer_stream.ensures.output refused,
+  refused_of_stream (λ why left. RefusesReport (report_making c.in-Ok.report) (g.F.Folder.answered c.args.files.now) g.F.Part.Source.left
+      g.F.Part.Source.health g.F.Part.Source.pulls g.O.Write.contents c.args.names.now c.args.output why left)
+      (λ why. TellsRefusal why (g.E.Write.contents c.args.errors.now) (g.E.Write.contents c.answer_stream.new.errors)) c.report_files.result
+      c.answer_stream.result c.report_files.ensures.refused c.answer_stream.ensures.status c.answer_stream.ensures.output
+      c.answer_stream.ensures.told refused,
 )

@@ -22,11 +22,11 @@ returns-in-Err-clause-stops g c =
     let usual = c.usual.ensures in
     let counts = subst (λ (limits : Limits). Counts left g.R.Source.health g.R.Source.pulls limits olds c.count_parts.new.readers
     (Some c.in-Err.fault)) (are_usual c.usual.result usual.item usual.reads usual.bytes) c.in-Err.ensures.counts in
-    subst (λ (why : Refused). StopsComparing left olds news contents c.args.writer why (Some c.args.writer))
-    (sym (c.of_dump.ensures ∙ ap (of_dump 0) c.from.ensures)) (
+    subst (λ (why : Refused). StopsComparing left g.R.Source.health g.R.Source.pulls olds c.count_parts.new.readers news news contents
+    c.args.writer why (Some c.args.writer)) (sym (c.of_dump.ensures ∙ ap (of_dump 0) c.from.ensures)) (
       old_kind c.in-Err.fault,
-      λ old_parts new_parts told told_too. old_says left g.R.Source.health g.R.Source.pulls olds c.count_parts.new.readers c.in-Err.fault
-          counts old_parts new_parts told,
+      λ old_parts new_parts told told_too. old_says left g.R.Source.health g.R.Source.pulls olds c.count_parts.new.readers news news
+          c.in-Err.fault counts old_parts new_parts told,
       old_leaves left g.R.Source.health g.R.Source.pulls olds c.count_parts.new.readers contents (IsFrontOfBoth left olds news) c.args.writer
           c.in-Err.fault counts,
     )
@@ -51,11 +51,16 @@ returns-clause-stops g c =
     stopped.writer stops in
     let says = stream_refusal left _ _ news _ (IsGrowthReport totals) (λ heap. ⊥) (λ parts. ⊥) ⊤ contents c.args.writer stopped.why
     stopped.writer stops in
-    subst (λ (why : Refused). StopsComparing left olds news contents c.args.writer why stopped.writer)
+    let health = g.R.Source.health in
+    let pulls = g.R.Source.pulls in
+    let olds_then = c.count_parts.new.readers in
+    let news_then = c.write_through_buffer.new.readers in
+    subst (λ (why : Refused). StopsComparing left health pulls olds olds_then news news_then contents c.args.writer why stopped.writer)
     (sym c.of_dump-in-Err-write_through_buffer.ensures) (
       new_kind stopped.why kind,
       λ old_parts new_parts told told_too.
-          new_says totals old_parts (c.in-Ok.ensures.totals old_parts told) stopped.why kind new_parts (says new_parts told_too),
+          new_says totals old_parts (c.in-Ok.ensures.totals old_parts told) left health pulls olds olds_then news news_then stopped.why kind
+          new_parts (says new_parts told_too),
       dump_leaves contents (IsFrontOfBoth left olds news) c.args.writer stopped.why stopped.writer
           (stream_left left _ _ news _ (IsGrowthReport totals) (λ heap. ⊥) (λ parts. ⊥) ⊤ contents c.args.writer
           (IsFrontOfBoth left olds news) (λ held holds writes old_parts new_parts told told_too.

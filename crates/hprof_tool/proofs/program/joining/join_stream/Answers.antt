@@ -1,6 +1,6 @@
-use Rattle.std.proofs.Common.{◌≡◌, ℕ, List, [], ◌∷◌, ◌++◌, Some, refl, ap, ◌∙◌}
-use Rattle.hprof_devices.specs.declared.device.Device.{Device}
-use Rattle.hprof_engine.specs.Makes.{IsDumpText, IsDump}
+use Rattle.std.proofs.Common.{◌≡◌, ℕ, List, [], ◌∷◌, ◌++◌, Some, refl, subst, sym, ap, ◌∙◌}
+use Rattle.hprof_engine.specs.Makes.{IsDumpText, IsDump, dump_making}
+use Rattle.hprof_tool.specs.Program.{IsRefusal}
 use Rattle.hprof_tool.specs.Streams.{IsFrontOfStream}
 use Rattle.hprof_tool.proofs.Ends.{if_ok_more, if_err_more}
 use Rattle.hprof_tool.proofs.Files.{one_told}
@@ -9,11 +9,11 @@ use Rattle.hprof_tool.proofs.program.joining.join_stream.Goals as goal
 
 pub returns-clause-ok : goal.returns-clause-ok
 returns-clause-ok g c =
-    let one : c.deref_mut.result.now ≡ c.new.result ∷ [] = c.deref_mut.ensures.value ∙ c.in-Ok.ensures.items
-    ∙ ap (λ (ds : List (Device g.row.I.Denot)). ds ++ c.new.result ∷ []) c.new-part.ensures.items in
+    let one : c.deref_mut.result.now ≡ c.args.input ∷ [] = c.deref_mut.ensures.value ∙ c.in-Ok.ensures.items
+    ∙ ap (λ (l : List g.row.I.Denot). l ++ c.args.input ∷ []) c.new-part.ensures.items in
     if_ok_more _ _ c.write_through_buffer.result
-    (λ written makes part told. (makes.1.ok refl).1 (part ∷ []) (one_told g.I.Read.remaining c.deref_mut.result.now c.new.result
-    c.args.input part one c.new.ensures.inner told)) c.write_through_buffer.ensures.ok
+    (λ written makes part told. (makes.1.ok refl).1 (part ∷ []) (one_told g.I.Source.left c.deref_mut.result.now c.args.input part one told))
+    c.write_through_buffer.ensures.ok
 
 pub returns-clause-kind : goal.returns-clause-kind
 returns-clause-kind g c = if_err_more _ _ c.write_through_buffer.result
@@ -22,13 +22,19 @@ returns-clause-kind g c = if_err_more _ _ c.write_through_buffer.result
 
 pub returns-clause-refused : goal.returns-clause-refused
 returns-clause-refused g c =
-    let one : c.deref_mut.result.now ≡ c.new.result ∷ [] = c.deref_mut.ensures.value ∙ c.in-Ok.ensures.items
-    ∙ ap (λ (ds : List (Device g.row.I.Denot)). ds ++ c.new.result ∷ []) c.new-part.ensures.items in
-    let told_by = λ (part : List ℕ) (told : g.I.Read.remaining c.args.input ≡ Some part). one_told g.I.Read.remaining c.deref_mut.result.now
-    c.new.result c.args.input part one c.new.ensures.inner told in
+    let read = c.write_through_buffer.new.readers in
+    let one : c.deref_mut.result.now ≡ c.args.input ∷ [] = c.deref_mut.ensures.value ∙ c.in-Ok.ensures.items
+    ∙ ap (λ (l : List g.row.I.Denot). l ++ c.args.input ∷ []) c.new-part.ensures.items in
+    let told_by = λ (part : List ℕ) (told : g.I.Source.left c.args.input ≡ Some part). one_told g.I.Source.left c.deref_mut.result.now
+    c.args.input part one told in
     if_err_more _ _ c.write_through_buffer.result (λ stopped stops. (
-      λ part told. stream_refusal _ _ _ _ _ IsDumpText (λ heap. ⊥) (λ parts. ⊥) ⊥ _ _ stopped.why stopped.writer stops (part ∷ [])
-          (told_by part told),
-      stream_left _ _ _ _ _ IsDumpText (λ heap. ⊥) (λ parts. ⊥) ⊥ _ _ (IsFrontOfStream IsDump g.I.Read.remaining c.args.input)
+      (
+        read,
+        λ part told. subst (λ (l : List g.row.I.Denot). IsRefusal g.I.Source.left g.I.Source.health g.I.Source.pulls l read dump_making
+            stopped.why (part ∷ [])) one
+            (stream_refusal _ _ _ _ _ IsDumpText (λ heap. ⊥) (λ parts. ⊥) ⊥ _ _ stopped.why stopped.writer stops (part ∷ [])
+            (told_by part told)),
+      ),
+      stream_left _ _ _ _ _ IsDumpText (λ heap. ⊥) (λ parts. ⊥) ⊥ _ _ (IsFrontOfStream IsDump g.I.Source.left c.args.input)
           (λ held holds writes part told. writes (part ∷ []) (told_by part told)) stopped.why stopped.writer stops,
     )) c.write_through_buffer.ensures.stops

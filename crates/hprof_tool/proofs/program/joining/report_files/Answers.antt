@@ -1,5 +1,4 @@
 use Rattle.std.proofs.Common.{List, length, refl, sym, ap, subst, ◌∙◌}
-use Rattle.hprof_devices.specs.declared.device.Device.{Device}
 use Rattle.hprof_engine.specs.Makes.{IsMadeOf, making_of}
 use Rattle.hprof_tool.specs.Folder.{AreOpened}
 use Rattle.hprof_tool.specs.Streams.{IsFrontOfFiles}
@@ -11,7 +10,7 @@ use Rattle.hprof_tool.proofs.program.joining.report_files.Goals as goal
 pub returns-clause-ok : goal.returns-clause-ok
 returns-clause-ok g c =
     let answered = g.F.Folder.answered c.args.files.now in
-    let opened = subst (λ (parts : List (Device _)). AreOpened answered c.args.names.now parts) (sym c.deref_mut.ensures.value)
+    let opened = subst (λ (parts : List _). AreOpened answered c.args.names.now parts) (sym c.deref_mut.ensures.value)
     c.in-Ok.ensures.opened in
     if_ok_more _ _ c.write_through_buffer.result
     (λ written makes. record { parts = c.deref_mut.result.now; opened = opened; holds = (makes.1.ok refl).1 }) c.write_through_buffer.ensures.ok
@@ -28,12 +27,13 @@ returns-clause-refused g c =
     let room = g.P.Summaries.takes_room c.args.report.now in
     let memory = g.P.Product.takes_memory c.args.report.now in
     let answered = g.F.Folder.answered c.args.files.now in
-    let left = g.F.File.Read.remaining in
+    let left = g.F.Part.Source.left in
     let parts = c.deref_mut.result.now in
-    let opened = subst (λ (parts : List (Device _)). AreOpened answered c.args.names.now parts) (sym c.deref_mut.ensures.value)
+    let opened = subst (λ (parts : List _). AreOpened answered c.args.names.now parts) (sym c.deref_mut.ensures.value)
     c.in-Ok.ensures.opened in
     if_err_more _ _ c.write_through_buffer.result (λ stopped stops. (
-      of_reporting (making_of is_text too_long room memory) answered left c.args.names.now parts opened stopped.why
+      of_reporting (making_of is_text too_long room memory) answered left g.F.Part.Source.health g.F.Part.Source.pulls c.args.names.now parts
+          c.write_through_buffer.new.readers opened stopped.why
           (stream_kind _ _ _ _ _ is_text too_long room memory _ _ stopped.why stopped.writer stops)
           (stream_refusal _ _ _ _ _ is_text too_long room memory _ _ stopped.why stopped.writer stops),
       stream_left _ _ _ _ _ is_text too_long room memory _ _ (IsFrontOfFiles (IsMadeOf is_text) answered left c.args.names.now)
@@ -46,7 +46,7 @@ returns-in-Err-clause-refused g c =
     let making = making_of is_text (g.P.Product.is_too_long c.args.report.now) (g.P.Summaries.takes_room c.args.report.now)
     (g.P.Product.takes_memory c.args.report.now) in
     let answered = g.F.Folder.answered c.args.files.now in (
-      opening_reports making answered g.F.File.Read.remaining c.args.names.now c.in-Err.why c.in-Err.ensures.kind,
-      kept_at_opening g.O.Write.contents (IsFrontOfFiles (IsMadeOf is_text) answered g.F.File.Read.remaining c.args.names.now) answered
+      opening_reports making answered g.F.Part.Source.left g.F.Part.Source.health g.F.Part.Source.pulls c.args.names.now c.in-Err.why c.in-Err.ensures.kind,
+      kept_at_opening g.O.Write.contents (IsFrontOfFiles (IsMadeOf is_text) answered g.F.Part.Source.left c.args.names.now) answered
           c.args.names.now c.in-Err.why c.args.output c.in-Err.ensures.kind,
     )

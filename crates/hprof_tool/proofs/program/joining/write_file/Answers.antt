@@ -1,10 +1,10 @@
-use Rattle.std.proofs.Common.{◌≡◌, List, length, refl, sym, ap, subst, ◌∙◌}
-use Rattle.hprof_devices.specs.declared.device.Device.{Device}
+use Rattle.std.proofs.Common.{◌≡◌, List, Some, length, refl, sym, ap, subst, ◌∙◌}
+use Rattle.std.specs.Io.Buffered.{writer_inner}
 use Rattle.hprof_engine.specs.declared.tool_fault.ToolFault.TheVariants as tool
 use Rattle.hprof_engine.specs.Makes.{making_of}
 use Rattle.hprof_tool.specs.Folder.{AreOpened}
 use Rattle.hprof_tool.specs.declared.program.refused.Refused.TheVariants as refusals
-use Rattle.hprof_tool.proofs.Files.{not_of_engine, of_opening, if_the_error, of_making}
+use Rattle.hprof_tool.proofs.Files.{creating_not_of_engine, not_of_engine, of_creating, of_opening, if_the_error, of_making}
 use Rattle.hprof_tool.proofs.Streams.{stream_refusal, stream_kind, stream_no_parts}
 use Rattle.hprof_tool.proofs.program.joining.write_file.Goals as goal
 
@@ -17,20 +17,38 @@ pub returns-in_err-parts-clause-refused : goal.returns-in_err-parts-clause-refus
 returns-in_err-parts-clause-refused g c =
     let making = making_of (g.P.Product.is_text c.args.product.now) (g.P.Product.is_too_long c.args.product.now) (g.P.Summaries.takes_room c.args.product.now)
     (g.P.Product.takes_memory c.args.product.now) in
-    if_the_error _ c.from_residual.result c.in_err-parts.field-0.0 (of_opening making _ _ _ _ _ c.in_err-parts.ensures.kind)
+    if_the_error _ c.from_residual.result c.in_err-parts.field-0.0 (of_opening making _ _ _ _ _ _ _ c.in_err-parts.ensures.kind)
     c.from_residual.ensures.1
 
-pub returns-in-Ok-write_through_buffer-clause-ok : goal.returns-in-Ok-write_through_buffer-clause-ok
-returns-in-Ok-write_through_buffer-clause-ok g c = (
-  c.in-Ok.file,
-  c.in-Ok.ensures.created,
+pub create_out-requires : goal.create_out-requires
+create_out-requires g c = c.requires c.in_ok-parts.parts.items c.in_ok-parts.ensures.opened
+
+pub returns-in_err-buffered-clause-no_parts : goal.returns-in_err-buffered-clause-no_parts
+returns-in_err-buffered-clause-no_parts g c = λ same.
+    let is = rw same at c.from_residual-2.ensures.1 in
+    absurd (creating_not_of_engine _ _ c.in_err-buffered.field-0.0 tool.NoParts c.in_err-buffered.ensures.fails (sym is))
+
+pub returns-in_err-buffered-clause-refused : goal.returns-in_err-buffered-clause-refused
+returns-in_err-buffered-clause-refused g c =
+    let making = making_of (g.P.Product.is_text c.args.product.now) (g.P.Product.is_too_long c.args.product.now) g.P.Kept.Summaries.takes_room
+    (g.P.Product.takes_memory c.args.product.now) in
+    if_the_error _ c.from_residual-2.result c.in_err-buffered.field-0.0 (of_creating making _ _ _ _ _ _ _ c.in_err-buffered.ensures.fails)
+    c.from_residual-2.ensures.1
+
+pub returns-in-Ok-clause-ok : goal.returns-in-Ok-clause-ok
+returns-in-Ok-clause-ok g c = (
+  writer_inner c.in_ok-buffered.buffered,
+  c.in_ok-buffered.ensures.created,
   record {
     parts = c.deref_mut.result.now;
-    opened = subst (λ (parts : List (Device _)). AreOpened (g.F.Folder.answered c.args.files.now) c.args.names.now parts)
+    opened = subst (λ (parts : List _). AreOpened (g.F.Folder.answered c.args.files.now) c.args.names.now parts)
         (sym c.deref_mut.ensures.value) c.in_ok-parts.ensures.opened;
-    holds = (c.in-Ok-write_through_buffer.ensures.ok.1.ok refl).1;
+    holds = (c.in-Ok.ensures.ok.1.ok refl).1;
   },
 )
+
+pub remove_out-requires : goal.remove_out-requires
+remove_out-requires g c = (writer_inner c.in_ok-buffered.buffered, c.in_ok-buffered.ensures.created)
 
 pub returns-clause-refused : goal.returns-clause-refused
 returns-clause-refused g c =
@@ -39,17 +57,18 @@ returns-clause-refused g c =
     let room = g.P.Summaries.takes_room c.args.product.now in
     let memory = g.P.Product.takes_memory c.args.product.now in
     let answered = g.F.Folder.answered c.args.files.now in
-    let stopped = c.in-Err.stopped in
-    let opened = subst (λ (parts : List (Device _)). AreOpened answered c.args.names.now parts) (sym c.deref_mut.ensures.value)
+    let left = c.in-Err.left in
+    let opened = subst (λ (parts : List _). AreOpened answered c.args.names.now parts) (sym c.deref_mut.ensures.value)
     c.in_ok-parts.ensures.opened in
-    of_making (making_of is_text too_long room memory) answered g.F.File.Read.remaining c.args.names.now c.deref_mut.result.now opened
-    c.args.out.now stopped.why
-    (stream_kind _ _ _ _ _ is_text too_long room memory _ _ stopped.why stopped.writer c.in-Err.ensures.stops)
-    (stream_refusal _ _ _ _ _ is_text too_long room memory _ _ stopped.why stopped.writer c.in-Err.ensures.stops) c.remove_out.ensures
+    of_making (making_of is_text too_long room memory) answered g.F.Part.Source.left g.F.Part.Source.health g.F.Part.Source.pulls c.args.names.now
+    c.deref_mut.result.now c.write_buffered.new.readers opened
+    c.args.out.now left.why
+    (stream_kind _ _ _ _ _ is_text too_long room memory _ _ left.why (Some left.writer) c.in-Err.ensures.stops)
+    (stream_refusal _ _ _ _ _ is_text too_long room memory _ _ left.why (Some left.writer) c.in-Err.ensures.stops) c.remove_out.ensures
 
 pub returns-clause-no_parts : goal.returns-clause-no_parts
 returns-clause-no_parts g c = λ same.
-    let stopped = c.in-Err.stopped in
-    let none : stopped.why ≡ refusals.Engine tool.NoParts = cc in
+    let left = c.in-Err.left in
+    let none : left.why ≡ refusals.Engine tool.NoParts = cc in
     sym c.in_ok-parts.ensures.count ∙ ap length (sym c.deref_mut.ensures.value)
-    ∙ stream_no_parts _ _ _ _ _ _ _ _ _ _ _ stopped.why stopped.writer c.in-Err.ensures.stops none
+    ∙ stream_no_parts _ _ _ _ _ _ _ _ _ _ _ left.why (Some left.writer) c.in-Err.ensures.stops none

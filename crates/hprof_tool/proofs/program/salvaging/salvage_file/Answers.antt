@@ -1,34 +1,73 @@
-use Rattle.std.proofs.Common.{List, ℕ, Option, Ok, sym, subst}
-use Rattle.hprof_devices.specs.declared.device.Device.{Device}
-use Rattle.hprof_devices.specs.Device.{inner_of, health_of, pulls_of}
+use Rattle.std.proofs.Common.{◌≡◌, List, ℕ, Option, Ok, Err, Result, sym, subst, ap}
+use Rattle.std.specs.Io.KnownBytes.{append_known}
+use Rattle.std.specs.Io.Buffered.{writer_contents, writer_inner}
+use Rattle.hprof_engine.specs.declared.salvaged.Salvaged.{Salvaged}
+use Rattle.hprof_engine.specs.declared.tool_fault.ToolFault.{ToolFault}
 use Rattle.hprof_tool.specs.Folder.{AreOpened}
 use Rattle.hprof_tool.specs.SalvagedFiles.{SalvagesStream, IsSalvageRefusal}
 use Rattle.hprof_tool.specs.declared.program.refused.Refused.{Refused}
-use Rattle.hprof_tool.proofs.Saving.{files_saved, engine_saves}
+use Rattle.hprof_tool.proofs.Files.{if_the_error}
+use Rattle.hprof_tool.proofs.Making.{none_added}
+use Rattle.hprof_tool.proofs.Saving.{creating_saves, engine_saves, files_saved, opening_saves}
 use Rattle.hprof_tool.proofs.program.salvaging.salvage_file.Goals as goal
 
-pub returns-in-Ok-salvage_buffered-clause-ok : goal.returns-in-Ok-salvage_buffered-clause-ok
-returns-in-Ok-salvage_buffered-clause-ok g c =
-    let e = c.in-Ok-salvage_buffered.ensures in
+pub returns-in_err-parts-clause-refused : goal.returns-in_err-parts-clause-refused
+returns-in_err-parts-clause-refused g c = if_the_error _ c.from_residual.result c.in_err-parts.field-0.0
+    (opening_saves (g.F.Folder.answered c.args.files.now) g.F.Part.Source.left g.F.Part.Source.health g.F.Part.Source.pulls
+    g.F.Out.Write.contents c.args.names.now c.args.out.now _ c.in_err-parts.ensures.kind) c.from_residual.ensures.1
+
+pub create_out-requires : goal.create_out-requires
+create_out-requires g c = c.requires c.in_ok-parts.parts.items c.in_ok-parts.ensures.opened
+
+pub returns-in_err-buffered-clause-refused : goal.returns-in_err-buffered-clause-refused
+returns-in_err-buffered-clause-refused g c = if_the_error _ c.from_residual-2.result c.in_err-buffered.field-0.0
+    (creating_saves (g.F.Folder.answered c.args.files.now) g.F.Part.Source.left g.F.Part.Source.health g.F.Part.Source.pulls
+    g.F.Out.Write.contents c.args.names.now c.args.out.now _ c.in_err-buffered.ensures.fails) c.from_residual-2.ensures.1
+
+pub remove_out-requires : goal.remove_out-requires
+remove_out-requires g c = (writer_inner c.in_ok-buffered.buffered, c.in_ok-buffered.ensures.created)
+
+pub returns-in-Ok-clause-ok : goal.returns-in-Ok-clause-ok
+returns-in-Ok-clause-ok g c =
     let answered = g.F.Folder.answered c.args.files.now in
-    let opened = subst (λ (parts : List (Device _)). AreOpened answered c.args.names.now parts) (sym c.deref_mut.ensures.value)
-    c.in_ok-parts.ensures.opened in (
-      c.in-Ok.file,
-      c.in-Ok.ensures.created,
-      files_saved answered g.F.File.Read.remaining c.args.names.now c.args.out.now c.deref_mut.result.now c.salvage_buffered.new.readers
-          opened (g.F.File.Write.contents c.in-Ok.file) (g.F.File.Write.contents c.in-Ok-salvage_buffered.written.writer)
-          (Ok c.in-Ok-salvage_buffered.written.salvaged)
-          (subst (λ (holds : Option (List ℕ)). SalvagesStream (λ part. g.F.File.Read.remaining (inner_of part)) health_of pulls_of
-          c.deref_mut.result.now c.salvage_buffered.new.readers (g.F.File.Write.contents c.in-Ok.file) holds
-          (Ok c.in-Ok-salvage_buffered.written.salvaged)) e.2 e.1),
+    let contents = g.F.Out.Write.contents in
+    let buffered = c.in_ok-buffered.buffered in
+    let made = c.salvage_into-outcome in
+    let opened = subst (λ (parts : List _). AreOpened answered c.args.names.now parts) (sym c.deref_mut.ensures.value)
+    c.in_ok-parts.ensures.opened in
+    let empty : writer_contents contents buffered ≡ contents (writer_inner buffered) =
+    rw (c.in_ok-buffered.ensures.empty, none_added (contents (writer_inner buffered))) in
+    let flushed = rw c.in-Ok.is at made.ensures.flushed in
+    let whole : append_known (contents made.result.writer) made.result.unwritten.items ≡ contents made.result.writer =
+    rw (flushed, none_added (contents made.result.writer)) in
+    let saves = rw c.in-Ok.is at made.ensures.salvages in (
+      writer_inner buffered,
+      c.in_ok-buffered.ensures.created,
+      files_saved answered g.F.Part.Source.left g.F.Part.Source.health g.F.Part.Source.pulls contents c.args.names.now c.args.out.now
+          c.deref_mut.result.now made.new.readers opened (writer_inner buffered) made.result.writer made.result.unwritten.items
+          (contents made.result.writer) (Ok c.in-Ok.salvaged)
+          (subst (λ (holds : Option (List ℕ)). SalvagesStream g.F.Part.Source.left g.F.Part.Source.health g.F.Part.Source.pulls
+          c.deref_mut.result.now made.new.readers (contents (writer_inner buffered)) holds (Ok c.in-Ok.salvaged)) whole
+          (subst (λ (held : Option (List ℕ)). SalvagesStream g.F.Part.Source.left g.F.Part.Source.health g.F.Part.Source.pulls
+          c.deref_mut.result.now made.new.readers held (append_known (contents made.result.writer) made.result.unwritten.items)
+          (Ok c.in-Ok.salvaged)) empty saves)),
     )
 
 pub returns-clause-refused : goal.returns-clause-refused
 returns-clause-refused g c =
-    let e = c.in-Err.ensures in
     let answered = g.F.Folder.answered c.args.files.now in
-    let opened = subst (λ (parts : List (Device _)). AreOpened answered c.args.names.now parts) (sym c.deref_mut.ensures.value)
+    let contents = g.F.Out.Write.contents in
+    let buffered = c.in_ok-buffered.buffered in
+    let made = c.salvage_into-outcome in
+    let opened = subst (λ (parts : List _). AreOpened answered c.args.names.now parts) (sym c.deref_mut.ensures.value)
     c.in_ok-parts.ensures.opened in
-    subst (λ (r : Refused). IsSalvageRefusal answered g.F.File.Read.remaining c.args.names.now c.args.out.now r) (sym c.from.ensures)
-    (engine_saves answered g.F.File.Read.remaining c.args.names.now c.args.out.now c.deref_mut.result.now c.salvage_buffered.new.readers
-    opened (g.F.File.Write.contents c.in-Ok.file) e.0 c.in-Err.fault e.1 c.remove_out.ensures)
+    let empty : writer_contents contents buffered ≡ contents (writer_inner buffered) =
+    rw (c.in_ok-buffered.ensures.empty, none_added (contents (writer_inner buffered))) in
+    let saves = rw c.in-Err.is at made.ensures.salvages in
+    subst (λ (r : Refused). IsSalvageRefusal answered g.F.Part.Source.left g.F.Part.Source.health g.F.Part.Source.pulls contents
+    c.args.names.now c.args.out.now r) (sym c.from.ensures)
+    (engine_saves answered g.F.Part.Source.left g.F.Part.Source.health g.F.Part.Source.pulls contents c.args.names.now c.args.out.now
+    c.deref_mut.result.now made.new.readers opened (writer_inner buffered) made.result.writer made.result.unwritten.items c.in-Err.fault
+    (subst (λ (held : Option (List ℕ)). SalvagesStream g.F.Part.Source.left g.F.Part.Source.health g.F.Part.Source.pulls
+    c.deref_mut.result.now made.new.readers held (append_known (contents made.result.writer) made.result.unwritten.items)
+    (Err c.in-Err.fault)) empty saves) c.in_ok-buffered.ensures.created c.remove_out.ensures)

@@ -1,44 +1,12 @@
-use Rattle.std.proofs.Common.{◌≡◌, ◌∙◌, refl, sym, subst, ap, Result}
-use Rattle.std.specs.Io.KnownBytes.{append_known}
-use Rattle.std.specs.Io.Buffered.{writer_contents}
-use Rattle.hprof_engine.specs.declared.tool_fault.ToolFault.{ToolFault}
-use Rattle.hprof_engine.specs.Joining.{IsBeforeWriting, fault_of}
+use Rattle.std.proofs.Common.{subst}
 use Rattle.hprof_engine.specs.Makes.{making_of}
-use Rattle.hprof_tool.proofs.Making.{none_added, same_stream}
+use Rattle.hprof_tool.specs.Streams.{LeavesStream}
 use Rattle.hprof_tool.proofs.program.writing.write_through_buffer.Goals as goal
 
-pub returns-in-Ok-outcome-clause-ok : goal.returns-in-Ok-outcome-clause-ok
-returns-in-Ok-outcome-clause-ok g c =
-    let contents = g.W.Write.contents in
-    let made = c.write_and_flush-outcome in
+pub returns-in-Err-clause-stops : goal.returns-in-Err-clause-stops
+returns-in-Err-clause-stops g c =
+    let made = c.write_buffered in
     let making = making_of (g.P.Product.is_text c.args.product.now) (g.P.Product.is_too_long c.args.product.now)
     (g.P.Summaries.takes_room c.args.product.now) (g.P.Product.takes_memory c.args.product.now) in
-    let empty : writer_contents contents c.in-Ok.buffered ≡ contents c.args.writer =
-    rw (c.in-Ok.ensures.inner, c.in-Ok.ensures.empty, none_added (contents c.args.writer)) in
-    let flushed = rw c.in-Ok-outcome.is at made.ensures.flushed in
-    let whole : append_known (contents made.result.writer) made.result.unwritten.items ≡ contents made.result.writer =
-    rw (flushed, none_added (contents made.result.writer)) in
-    same_stream g.R.Source.left g.R.Source.health g.R.Source.pulls c.args.readers.now made.new.readers making _ _ _ _ _ _ empty whole
-    (ap fault_of c.in-Ok-outcome.is) made.ensures.makes
-
-pub returns-in-Err : goal.returns-in-Err
-returns-in-Err g c =
-    let contents = g.W.Write.contents in
-    let made = c.write_and_flush-outcome in
-    let making = making_of (g.P.Product.is_text c.args.product.now) (g.P.Product.is_too_long c.args.product.now)
-    (g.P.Summaries.takes_room c.args.product.now) (g.P.Product.takes_memory c.args.product.now) in
-    let empty : writer_contents contents c.in-Ok.buffered ≡ contents c.args.writer =
-    rw (c.in-Ok.ensures.inner, c.in-Ok.ensures.empty, none_added (contents c.args.writer)) in
-    record {
-      ok = tt;
-      stops = record {
-        fault = c.in-Err.fault;
-        is = c.from.ensures;
-        unwritten = made.result.unwritten.items;
-        makes = same_stream g.R.Source.left g.R.Source.health g.R.Source.pulls c.args.readers.now made.new.readers making _ _ _ _ _ _ empty
-            refl (ap fault_of c.in-Err.is) made.ensures.makes;
-        untouched = λ none.
-            made.ensures.untouched (subst (λ (o : Result (Unit {0}) ToolFault). IsBeforeWriting (fault_of o)) (sym c.in-Err.is) none)
-            ∙ c.in-Ok.ensures.inner;
-      };
-    }
+    subst (λ (before : g.row.W.Denot). LeavesStream g.R.Source.left g.R.Source.health g.R.Source.pulls making c.args.readers.now
+    made.new.readers g.W.Write.contents before c.in-Err.left.why c.in-Err.left.writer) c.in-Ok.ensures.inner c.in-Err.ensures.stops
