@@ -13,6 +13,8 @@ use Rattle.hprof_heap.specs.declared.standing.Refusal.{Refusal}
 use Rattle.hprof_engine.specs.declared.tool_fault.ToolFault.{ToolFault}
 use Rattle.hprof_engine.specs.declared.tool_fault.ToolFault.TheVariants as tool
 use Rattle.hprof_engine.specs.declared.salvaged.Salvaged.{Salvaged}
+use Rattle.hprof_engine.specs.declared.salvaged.SalvagedHeap.{SalvagedHeap}
+use Rattle.hprof_engine.specs.Through.{salvaged_in}
 use Rattle.hprof_engine.specs.Salvaging.{RefusesAll, Salvages}
 use Rattle.hprof_tool.specs.Folder.{Answered, AreOpened}
 use Rattle.hprof_tool.specs.declared.program.refused.Refused.{Refused}
@@ -99,42 +101,43 @@ module _ {R : Type 0} (left : R → Option (List ℕ)) (health : R → Health) (
 
   module _ (held holds end : Option (List ℕ)) (was is : Health) where
     -- what was saved, and then flushed
-    flushed_saving : (made outcome : Result Salvaged ToolFault) → OfStream held was holds is made → IfOk outcome (λ value. made ≡ Ok value)
-        → OnOk made (OnErr outcome (outcome ≡ Err (tool.Write write_faults.Failed))) → IfErr made (λ fault. outcome ≡ Err fault)
-        → Keeps holds end → OnErr made (end ≡ holds) → (last : Health) × OfStream held was end last outcome
-    flushed_saving (Ok salvaged) (Ok value) saves done failed refused keeps same = (
+    flushed_saving : (made outcome : Result SalvagedHeap ToolFault) → OfStream held was holds is (salvaged_in made)
+        → IfOk outcome (λ value. made ≡ Ok value) → OnOk made (OnErr outcome (outcome ≡ Err (tool.Write write_faults.Failed)))
+        → IfErr made (λ fault. outcome ≡ Err fault) → Keeps holds end → OnErr made (end ≡ holds)
+        → (last : Health) × OfStream held was end last (salvaged_in outcome)
+    flushed_saving (Ok kept) (Ok value) saves done failed refused keeps same = (
       healths.Well,
-      subst (λ (o : Result Salvaged ToolFault). OfStream held was end healths.Well o) done
-          (kept_saving held holds end was is keeps salvaged saves),
+      subst (λ (o : Result SalvagedHeap ToolFault). OfStream held was end healths.Well (salvaged_in o)) done
+          (kept_saving held holds end was is keeps kept.salvaged saves),
     )
-    flushed_saving (Ok salvaged) (Err fault) saves done failed refused keeps same = (
+    flushed_saving (Ok kept) (Err fault) saves done failed refused keeps same = (
       healths.Failed,
-      subst (λ (o : Result Salvaged ToolFault). OfStream held was end healths.Failed o) (sym failed)
-          (failed_saving held holds end was is keeps salvaged saves),
+      subst (λ (o : Result SalvagedHeap ToolFault). OfStream held was end healths.Failed (salvaged_in o)) (sym failed)
+          (failed_saving held holds end was is keeps kept.salvaged saves),
     )
     flushed_saving (Err fault) outcome saves done failed refused keeps same = (
       is,
-      subst (λ (o : Result Salvaged ToolFault). OfStream held was end is o) (sym refused)
+      subst (λ (o : Result SalvagedHeap ToolFault). OfStream held was end is (salvaged_in o)) (sym refused)
           (subst (λ (h : Option (List ℕ)). OfStream held was h is (Err fault)) (sym same) saves),
     )
 
     -- the same of the stream that was there at first, and is at last
-    pub streamed_saving : (first last : Option (List ℕ)) (made outcome : Result Salvaged ToolFault) → held ≡ first → was ≡ healths.Well
-        → end ≡ last → OfStream held was holds is made → IfOk outcome (λ value. made ≡ Ok value)
+    pub streamed_saving : (first last : Option (List ℕ)) (made outcome : Result SalvagedHeap ToolFault) → held ≡ first
+        → was ≡ healths.Well → end ≡ last → OfStream held was holds is (salvaged_in made) → IfOk outcome (λ value. made ≡ Ok value)
         → OnOk made (OnErr outcome (outcome ≡ Err (tool.Write write_faults.Failed))) → IfErr made (λ fault. outcome ≡ Err fault)
-        → Keeps holds end → OnErr made (end ≡ holds) → SalvagesStream left health pulls old new first last outcome
+        → Keeps holds end → OnErr made (end ≡ holds) → SalvagesStream left health pulls old new first last (salvaged_in outcome)
     streamed_saving first last made outcome at_first well at_last saves done failed refused keeps same =
         let it = flushed_saving made outcome saves done failed refused keeps same in (
           it.0,
-          subst (λ (h : Option (List ℕ)). OfStream h healths.Well last it.0 outcome) at_first
-              (subst (λ (w : Health). OfStream held w last it.0 outcome) well
-              (subst (λ (h : Option (List ℕ)). OfStream held was h it.0 outcome) at_last it.1)),
+          subst (λ (h : Option (List ℕ)). OfStream h healths.Well last it.0 (salvaged_in outcome)) at_first
+              (subst (λ (w : Health). OfStream held w last it.0 (salvaged_in outcome)) well
+              (subst (λ (h : Option (List ℕ)). OfStream held was h it.0 (salvaged_in outcome)) at_last it.1)),
         )
 
 -- after a refusal the buffered writer holds what it held
-pub unchanged_saving : {W : Type 0} (contents : W → Option (List ℕ)) (made : Result Salvaged ToolFault) (now was : W) → OnErr made (now ≡ was)
-    → OnErr made (contents now ≡ contents was)
-unchanged_saving contents (Ok salvaged) now was same = tt
+pub unchanged_saving : {W : Type 0} (contents : W → Option (List ℕ)) (made : Result SalvagedHeap ToolFault) (now was : W)
+    → OnErr made (now ≡ was) → OnErr made (contents now ≡ contents was)
+unchanged_saving contents (Ok kept) now was same = tt
 unchanged_saving contents (Err fault) now was same = ap contents same
 
 -- ---- files

@@ -4,10 +4,8 @@ ghost use Rattle.std.specs.Prelude.{◌≡◌, List, [], ◌∷◌, ◌++◌, �
 ghost use Rattle.std.specs.Io.KnownBytes.{Appends, append_known};
 ghost use Rattle.std.specs.Io.Buffered.{writer_contents};
 ghost use Rattle.hprof_devices.specs.declared.health.Health.TheVariants.{Well};
-ghost use Rattle.hprof_devices.specs.Device.{inner_of, health_of};
 ghost use Rattle.hprof_engine.specs.FaultText.{IsFaultText};
-ghost use Rattle.hprof_engine.specs.Salvaging.{Salvages};
-ghost use Rattle.hprof_tool.specs.Program.{usual_limits};
+ghost use Rattle.hprof_engine.specs.Through.{salvaged_in};
 ghost use Rattle.hprof_tool.specs.Folder.{MayCreateBehind};
 ghost use Rattle.hprof_tool.specs.SalvagedFiles.{SalvagesStream, IsSalvagedFile, IsSalvageRefusal};
 ghost use Rattle.hprof_tool.specs.Telling.{TellsFaults, TellsFront, TellsSomeFaults, IsOfTelling, line_end};
@@ -18,7 +16,7 @@ use crate::program::refused::{Refused, WRITE_FAILED};
 use crate::program::telling::write_part_line;
 use crate::program::writing::end_of_writing;
 use hprof_devices::{Device, Source};
-use hprof_engine::{FaultedPart, Salvaged, ToolFault, salvage_kept};
+use hprof_engine::{FaultedPart, Salvaged, SalvagedHeap, ToolFault, salvage_kept};
 use hprof_stream::Limits;
 use std::alloc::Global;
 use std::fmt::InlineText;
@@ -35,29 +33,9 @@ pub(crate) struct Written<W> {
 /// The result of saving, with the writer and the bytes that did not reach it.
 #[derive(Drop)]
 struct Saving<W> {
-    outcome: Result<Salvaged, ToolFault>,
+    outcome: Result<SalvagedHeap, ToolFault>,
     writer: W,
     unwritten: Vec<u8>,
-}
-
-/// Salvages the readers' parts, without the heap, which need not be freed row by row, since the process ends.
-fn salvage<R: Source, W: Write + Drop>(
-    alloc: Global,
-    readers: &mut [R],
-    target: &mut Device<BufWriter<W>>,
-) -> Result<Salvaged, ToolFault>
-    requires readers { All (λ reader. R.health reader ≡ Well) readers.old }
-    requires writer { health_of target.old ≡ Well }
-    ensures { Salvages R.left R.health R.pulls usual_limits readers.old readers.new
-        (λ device. writer_contents W.contents (inner_of device)) health_of target.old target.new result }
-{
-    match salvage_kept(alloc, readers, target, Limits::usual()) {
-        Ok(kept) => {
-            mem::forget(kept.heap);
-            Ok(kept.salvaged)
-        }
-        Err(fault) => Err(fault),
-    }
 }
 
 /// Salvages the readers' parts into a buffered writer, and flushes it. A buffer that is dropped would write once more what it holds, so it
@@ -69,11 +47,11 @@ fn salvage_into<R: Source, W: Write + Drop>(
 ) -> Saving<W>
     requires { All (λ reader. R.health reader ≡ Well) readers.old }
     ensures salvages { SalvagesStream R.left R.health R.pulls readers.old readers.new (writer_contents W.contents buffered)
-        (append_known (W.contents result.writer) result.unwritten.items) result.outcome }
+        (append_known (W.contents result.writer) result.unwritten.items) (salvaged_in result.outcome) }
     ensures flushed { OnOk result.outcome (result.unwritten.items ≡ []) }
 {
     let mut target = Device::new(buffered);
-    let saved = salvage(alloc, readers, &mut target);
+    let saved = salvage_kept(alloc, readers, &mut target, Limits::usual());
     let mut buffered = target.into_inner();
     let outcome = end_of_writing(saved, &mut buffered);
     let (writer, unwritten) = buffered.into_parts();
@@ -108,7 +86,11 @@ pub(crate) fn salvage_file<F: Folder>(
     // To free this large block behind the rows would make the allocator go over all of them.
     mem::forget(unwritten);
     match outcome {
-        Ok(salvaged) => Ok(Written { salvaged, writer }),
+        Ok(SalvagedHeap { salvaged, heap }) => {
+            // It need not be freed row by row, since the process ends.
+            mem::forget(heap);
+            Ok(Written { salvaged, writer })
+        }
         Err(fault) => {
             files.remove_out(out, writer);
             Err(Refused::from(fault))
