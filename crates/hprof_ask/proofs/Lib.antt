@@ -7,3 +7,5 @@ pub mod OneLine
 pub mod OneQuestion
 pub mod OneText
 pub mod SomeQuestion
+pub mod WordLists
+pub mod Usages
