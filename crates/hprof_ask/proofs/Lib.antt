@@ -6,6 +6,6 @@ pub mod Dialogues
 pub mod OneLine
 pub mod OneQuestion
 pub mod OneText
-pub mod SomeQuestion
 pub mod WordLists
+pub mod SomeQuestion
 pub mod Usages

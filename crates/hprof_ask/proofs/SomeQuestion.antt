@@ -21,7 +21,9 @@ use Rattle.hprof_ask.specs.declared.subject.Misnamed.TheVariants as misnamed
 use Rattle.hprof_ask.specs.declared.question.Question.{Question}
 use Rattle.hprof_ask.specs.declared.question.Question.TheVariants as questions
 use Rattle.hprof_ask.specs.Asked.{Asks, IsFollowed, IsLineOf, IsNamed, IsQuestion, IsWord, NamesKind}
+use Rattle.hprof_ask.proofs.WordLists.{of_each}
 use Rattle.hprof_ask.specs.Words.{all_words, follows_of, word_of}
+use Rattle.hprof_ask.proofs.WordLists.{of_each}
 
 -- ---- what holds, or does not
 
@@ -206,17 +208,6 @@ module _ (P : ReportWord → Type 0) (either : (word : ReportWord) → P word �
     | inr fails ↦ elim (among rest) [ inl it ↦ inl it | inr none ↦ inr (fails, none) ]
   ]
 
-  each : AllByRecursion (λ word. P word → ⊥) all_words → (word : ReportWord) → P word → ⊥
-  each none words.Check = none.0
-  each none words.Histogram = none.1.0
-  each none words.Classes = none.1.1.0
-  each none words.Object = none.1.1.1.0
-  each none words.Refs = none.1.1.1.1.0
-  each none words.Path = none.1.1.1.1.1.0
-  each none words.Text = none.1.1.1.1.1.1.0
-  each none words.Why = none.1.1.1.1.1.1.1.0
-  each none words.Objects = none.1.1.1.1.1.1.1.1.0
-
 of_word : (line : List ℕ) (word : ReportWord) (text : List ℕ) → IsLineOf line word text
     → (question : Question) → IsNamed word text question → (question : Question) × IsQuestion line question
 of_word line word text is (questions.Report report) asks = (questions.Report report, (word, text, is, asks))
@@ -235,7 +226,7 @@ of_words line some no_help =
         (
           some,
           no_help,
-          λ word text is. each P (λ other. listed other (followed (follows_of other) line (word_of other))) none word (text, is),
+          λ word text is. of_each (λ other. P other → ⊥) none word (text, is),
         ),
       )
     ] where

@@ -8,7 +8,7 @@ use Rattle.hprof_ask.specs.Words.{all_words}
 
 module _ (P : ReportWord → Type 0) where
   -- what holds of all that stand in the list holds of each
-  of_each : AllByRecursion P all_words → (word : ReportWord) → P word
+  pub of_each : AllByRecursion P all_words → (word : ReportWord) → P word
   of_each all words.Check = all.0
   of_each all words.Histogram = all.1.0
   of_each all words.Classes = all.1.1.0
