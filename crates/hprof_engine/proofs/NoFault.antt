@@ -21,15 +21,15 @@ use Rattle.hprof_dump.specs.Dump.{canonical_dump}
 use Rattle.hprof_heap.specs.declared.standing.Refusal.{Refusal}
 use Rattle.hprof_heap.specs.declared.standing.Refusal.TheVariants as refusals
 use Rattle.hprof_heap.specs.State.{IsState}
-use Rattle.hprof_heap.specs.Gathering.{Gathered, Tells}
+use Rattle.hprof_heap.specs.Gathering.{Gathered, Given, Tells}
 use Rattle.hprof_engine.specs.declared.tool_fault.ToolFault.{ToolFault}
 use Rattle.hprof_engine.specs.declared.tool_fault.ToolFault.TheVariants as tool
 use Rattle.hprof_engine.specs.declared.product.WriteStop.{WriteStop}
 use Rattle.hprof_engine.specs.declared.product.WriteStop.TheVariants as stops
-use Rattle.hprof_engine.specs.Joining.{Tell, Agree, IsAccepted, AreGiven, AreReadOut, RefusesPart, is_want, IsOfReading, IsHindered, IsOkOrConflict}
+use Rattle.hprof_engine.specs.Joining.{Tell, Agree, IsAccepted, AreGiven, AreReadOut, RefusesPart, fault_of, is_want, IsOfReading, IsHindered, IsOkOrConflict}
 use Rattle.hprof_engine.specs.Makes.{Reads, Makes, dump_making, IsDumpText, EndsWriting}
 use Rattle.hprof_engine.specs.Summaries.{AreSummaries}
-use Rattle.hprof_engine.proofs.Answers.{agree, answered, fault_of_answer}
+use Rattle.hprof_engine.proofs.Answers.{agree, answered}
 use Rattle.hprof_engine.proofs.Making.{refused, fault_of_end, ended}
 use Rattle.hprof_engine.proofs.OneSummary.{some_summary_each}
 use Rattle.hprof_engine.proofs.PartFaults.{of_part}
@@ -93,6 +93,22 @@ hinders faults.BytesExceeded memory = absurd cc
 some_reader : {R : Type 0} (old : List R) (index : ℕ) (was : R) → slice_get old index ≡ Some was → old ≡ [] → ⊥
 some_reader [] index was there none = absurd cc
 some_reader (reader ∷ old) index was there none = cc
+
+-- ---- the fault that a refusal of the gatherer is
+
+abbrev as_fault : Result HeapValue Refusal → Result HeapValue ToolFault
+as_fault (Ok heap) = Ok heap
+as_fault (Err refusals.NoParts) = Err tool.NoParts
+as_fault (Err refusals.IdSizes) = Err tool.IdSizes
+as_fault (Err (refusals.Conflict key)) = Err (tool.Conflict key)
+as_fault (Err refusals.Failed) = Err tool.OutOfMemory
+
+tells_fault : (given : List Given) (answer : Result HeapValue Refusal) → Tells given answer → TellsHeap (λ heap. heap) given (as_fault answer)
+tells_fault given (Ok heap) tells = tells
+tells_fault given (Err refusals.NoParts) tells = tells
+tells_fault given (Err refusals.IdSizes) tells = tells
+tells_fault given (Err (refusals.Conflict key)) tells = tells
+tells_fault given (Err refusals.Failed) tells = tells
 
 module _ {R : Type 0} (left : R → Option (List ℕ)) (health : R → Health) (pulls : R → ℕ) (limits : Limits) (old new : List R)
     {W : Type 0} (written : W → Option (List ℕ)) (well : W → Health) (target : W) (gathered : Gathered) (parts : ℕ) (listed : List FaultedPart) where
@@ -249,10 +265,11 @@ module _ {R : Type 0} (left : R → Option (List ℕ)) (health : R → Health) (
       out : AreReadOut left health pulls limits old new (length old)
       out = subst (λ (n : ℕ). AreReadOut left health pulls limits old new n) through.all (read_out old new reads through.each sound)
 
-      all_read : Reads left health pulls limits old new (fault_of_answer answer)
+      all_read : Reads left health pulls limits old new (fault_of (as_fault answer))
           × ((others : List (List ℕ)) (ids : IdSize) (millis : ℕ) (facts : List FactValue) → Tell left old others
-          → IsState others ids millis facts → IsOkOrConflict (fault_of_answer answer))
-      all_read = answered left health pulls limits old new through.saves.given of_readers out answer through.saves.tells
+          → IsState others ids millis facts → IsOkOrConflict (fault_of (as_fault answer)))
+      all_read = answered left health pulls limits old new through.saves.given of_readers out (λ (heap : HeapValue). heap) (as_fault answer)
+          (tells_fault through.saves.given answer through.saves.tells)
 
     module _ {W : Type 0} (written : W → Option (List ℕ)) (well : W → Health) (before after : W) (parts : List (List ℕ))
         (have : HaveNoFault left health limits old new parts) where
@@ -266,7 +283,7 @@ module _ {R : Type 0} (left : R → Option (List ℕ)) (health : R → Health) (
           subst (λ (w : W). Makes left health pulls written well limits dump_making old new before w (Some fault)) (sym same)
           (refused left health pulls written well limits dump_making old new before fault kind reads no_other)
 
-      refuses : (refusal : Refusal) (fault : ToolFault) → fault_of_answer (Err refusal) ≡ Some fault → IsOfReading (Some fault)
+      refuses : (refusal : Refusal) (fault : ToolFault) → fault_of (as_fault (Err refusal)) ≡ Some fault → IsOfReading (Some fault)
           → RefusesAll left health pulls limits old new written well before after refusal
           → Makes left health pulls written well limits dump_making old new before after (Some fault)
       refuses refusal fault is kind all =

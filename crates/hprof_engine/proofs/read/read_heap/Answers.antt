@@ -17,7 +17,7 @@ use Rattle.hprof_engine.proofs.read.read_heap.Goals as goal
 
 pub returns-in_err-read_parts-clause-reads : goal.returns-in_err-read_parts-clause-reads
 returns-in_err-read_parts-clause-reads g c =
-    of_fault (λ (r : Result g.G.Gather.Found ToolFault). Reads g.R.Source.left g.R.Source.health g.R.Source.pulls c.args.limits
+    of_fault (λ (r : Result _ ToolFault). Reads g.R.Source.left g.R.Source.health g.R.Source.pulls c.args.limits
     c.args.readers.now c.read_parts.new.readers (fault_of r)) c.from_residual.result c.in_err-read_parts.field-0.0 c.from_residual.ensures.1
     (stopped g.R.Source.left g.R.Source.health g.R.Source.pulls c.args.limits c.args.readers.now c.read_parts.new.readers
     c.in_err-read_parts.field-0.0 (g.G.Gather.gathered c.args.gatherer) (g.G.Gather.gathered c.read_parts.new.gatherer)
@@ -25,7 +25,7 @@ returns-in_err-read_parts-clause-reads g c =
 
 pub returns-in_err-read_parts-clause-kind : goal.returns-in_err-read_parts-clause-kind
 returns-in_err-read_parts-clause-kind g c =
-    of_fault (λ (r : Result g.G.Gather.Found ToolFault). IsOfReading (fault_of r)) c.from_residual.result c.in_err-read_parts.field-0.0
+    of_fault (λ (r : Result _ ToolFault). IsOfReading (fault_of r)) c.from_residual.result c.in_err-read_parts.field-0.0
     c.from_residual.ensures.1
     (stopped g.R.Source.left g.R.Source.health g.R.Source.pulls c.args.limits c.args.readers.now c.read_parts.new.readers
     c.in_err-read_parts.field-0.0 (g.G.Gather.gathered c.args.gatherer) (g.G.Gather.gathered c.read_parts.new.gatherer)
@@ -33,7 +33,7 @@ returns-in_err-read_parts-clause-kind g c =
 
 pub returns-in_err-read_parts-clause-told : goal.returns-in_err-read_parts-clause-told
 returns-in_err-read_parts-clause-told g c =
-    of_fault (λ (r : Result g.G.Gather.Found ToolFault). HoldsFirst g.R.Source.left (g.S.Summaries.holds c.args.summaries.now)
+    of_fault (λ (r : Result _ ToolFault). HoldsFirst g.R.Source.left (g.S.Summaries.holds c.args.summaries.now)
     c.args.readers.now (read_count (fault_of r) (length c.args.readers.now)) c.read_parts.new.kept) c.from_residual.result
     c.in_err-read_parts.field-0.0 c.from_residual.ensures.1 c.in_err-read_parts.ensures.summaries
 
@@ -41,7 +41,7 @@ pub returns-in_err-read_parts-clause-no_other : goal.returns-in_err-read_parts-c
 returns-in_err-read_parts-clause-no_other g c = λ parts ids millis facts told state well unhindered.
     let fault = c.in_err-read_parts.field-0.0 in
     let le : c.args.limits.max_item ≤ longest_body = omega arith in
-    of_fault (λ (r : Result g.G.Gather.Found ToolFault). (IsHindered (fault_of r) → ⊥) → IsOkOrConflict (fault_of r)) c.from_residual.result
+    of_fault (λ (r : Result _ ToolFault). (IsHindered (fault_of r) → ⊥) → IsOkOrConflict (fault_of r)) c.from_residual.result
     fault c.from_residual.ensures.1
     ((stopped g.R.Source.left g.R.Source.health g.R.Source.pulls c.args.limits c.args.readers.now c.read_parts.new.readers fault
     (g.G.Gather.gathered c.args.gatherer) (g.G.Gather.gathered c.read_parts.new.gatherer) c.in_err-read_parts.ensures.read).2 le
@@ -49,8 +49,8 @@ returns-in_err-read_parts-clause-no_other g c = λ parts ids millis facts told s
 
 -- all parts were read
 
-pub heap_of_all-requires-given : goal.heap_of_all-requires-given
-heap_of_all-requires-given g c =
+pub heap_of_all-requires : goal.heap_of_all-requires
+heap_of_all-requires g c =
     let read = c.in_ok-read_parts.ensures.read.0 in
     (read.given, from_nothing (g.G.Gather.gathered c.args.gatherer) (g.G.Gather.gathered c.read_parts.new.gatherer) read.given
     c.requires.nothing read.gathers)
