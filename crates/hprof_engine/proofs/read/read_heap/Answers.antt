@@ -52,8 +52,13 @@ returns-in_err-read_parts-clause-no_other g c = λ parts ids millis facts told s
 pub heap_of_all-requires : goal.heap_of_all-requires
 heap_of_all-requires g c =
     let read = c.in_ok-read_parts.ensures.read.0 in
-    (read.given, from_nothing (g.G.Gather.gathered c.args.gatherer) (g.G.Gather.gathered c.read_parts.new.gatherer) read.given
-    c.requires.nothing read.gathers)
+    record {
+      given = (
+        read.given,
+        from_nothing (g.G.Gather.gathered c.args.gatherer) (g.G.Gather.gathered c.read_parts.new.gatherer) read.given c.requires.nothing
+            read.gathers,
+      );
+    }
 
 pub returns-clause-ok : goal.returns-clause-ok
 returns-clause-ok g c =
