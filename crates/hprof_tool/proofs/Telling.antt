@@ -52,7 +52,7 @@ some_told [] = ([], refl)
 some_told (fault ∷ faults) =
     let rest = some_told faults in
     let line : List ℕ = codes "part " ++ (decimal fault.index ++ (codes ": " ++ [])) in
-    (line ++ line_end ∷ rest.0, line, rest.0, ([], refl), refl, rest.1)
+    (line ++ line_end ∷ rest.0, (line, rest.0, ([], refl), refl, rest.1))
 
 -- a text tells them that goes on behind the faults so far, and the line of the next one
 record GoesOn (faults : List FaultedPart) (front : List ℕ) : Type 0 where
@@ -96,5 +96,8 @@ stopped_at faults index default text line old mid new within told written is fro
 -- all faults were told, and then the stream kept what it held
 pub told_and_kept : (faults : List FaultedPart) (text : List ℕ) (old mid new : Option (List ℕ)) → TellsFaults faults text
     → Appends old mid text → Keeps mid new → TellsSomeFaults faults old new
-told_and_kept faults text old mid new told written kept =
-    (text, told, length text, omega arith, subst (Appends old new) (sym (take-length text)) (Appends-kept old mid new text written kept))
+told_and_kept faults text old mid new told written kept = (
+  text,
+  told,
+  (length text, omega arith, subst (Appends old new) (sym (take-length text)) (Appends-kept old mid new text written kept)),
+)

@@ -86,10 +86,13 @@ pub(crate) fn salvage_file<F: Folder>(
     // To free this large block behind the rows would make the allocator go over all of them.
     mem::forget(unwritten);
     match outcome {
-        Ok(SalvagedHeap { salvaged, heap }) => {
-            // It need not be freed row by row, since the process ends.
-            mem::forget(heap);
-            Ok(Written { salvaged, writer })
+        Ok(kept) => {
+            // The heap need not be freed row by row, since the process ends.
+            mem::forget(kept.heap);
+            Ok(Written {
+                salvaged: kept.salvaged,
+                writer,
+            })
         }
         Err(fault) => {
             files.remove_out(out, writer);

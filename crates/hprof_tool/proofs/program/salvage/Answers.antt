@@ -9,17 +9,17 @@ returns-in-Err-clause-refused g c = λ refused. (c.in-Err.why, inl (c.in-Err.ens
 pub returns-in-Ok-tell_faults-clause-done : goal.returns-in-Ok-tell_faults-clause-done
 returns-in-Ok-tell_faults-clause-done g c = λ done.
     let told = c.in-Ok-tell_faults.ensures.told in (
-      c.in-Ok.salvaged,
-      (c.in-Ok.writer, refl, c.in-Ok.ensures.ok),
+      c.in-Ok.written.salvaged,
+      (c.in-Ok.written.writer, refl, c.in-Ok.ensures.ok),
       (told.0, subst (λ (faults : List FaultedPart). TellsFaults faults told.0) c.deref.ensures.value told.1, told.2),
     )
 
-pub returns-in-Err-tell_faults-clause-refused : goal.returns-in-Err-tell_faults-clause-refused
-returns-in-Err-tell_faults-clause-refused g c = λ refused. (
+pub returns-clause-refused : goal.returns-clause-refused
+returns-clause-refused g c = λ refused. (
   c.in-Err-tell_faults.why,
   inr (record {
-    salvaged = c.in-Ok.salvaged;
-    written = c.in-Ok.writer;
+    salvaged = c.in-Ok.written.salvaged;
+    written = c.in-Ok.written.writer;
     given_back = refl;
     saved = c.in-Ok.ensures.ok;
     told = subst (λ (faults : List FaultedPart). TellsSomeFaults faults (g.O.Write.contents c.args.output.now)

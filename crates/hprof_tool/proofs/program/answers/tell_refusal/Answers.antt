@@ -8,7 +8,7 @@ returns-in-Ok g c = (
   string_bytes c.in-Ok.text,
   inl c.in-Ok.ensures,
   subst (λ (text : List ℕ). TellsFront (told_line text) (g.E.Write.contents c.args.errors.now) (g.E.Write.contents c.tell_line.new.writer))
-      c.deref.ensures.value c.tell_line.ensures,
+      c.deref.ensures c.tell_line.ensures,
 )
 
 pub returns-in-Err : goal.returns-in-Err

@@ -1,9 +1,10 @@
-use Rattle.std.proofs.Common.{◌≡◌, ℕ, List, [], ◌∷◌, ◌++◌, Some, refl, subst, sym, ap, ◌∙◌}
+use Rattle.std.proofs.Common.{◌≡◌, ℕ, List, [], ◌∷◌, ◌++◌, Some, inl, refl, subst, ap, ◌∙◌}
 use Rattle.hprof_engine.specs.Makes.{IsDumpText, IsDump, dump_making}
 use Rattle.hprof_tool.specs.Program.{IsRefusal}
 use Rattle.hprof_tool.specs.Streams.{IsFrontOfStream}
 use Rattle.hprof_tool.proofs.Ends.{if_ok_more, if_err_more}
 use Rattle.hprof_tool.proofs.Files.{one_told}
+use Rattle.hprof_tool.proofs.Making.{none_added}
 use Rattle.hprof_tool.proofs.Streams.{stream_refusal, stream_kind, stream_left}
 use Rattle.hprof_tool.proofs.program.joining.join_stream.Goals as goal
 
@@ -38,3 +39,6 @@ returns-clause-refused g c =
       stream_left _ _ _ _ _ IsDumpText (λ heap. ⊥) (λ parts. ⊥) ⊥ _ _ (IsFrontOfStream IsDump g.I.Source.left c.args.input)
           (λ held holds writes part told. writes (part ∷ []) (told_by part told)) stopped.why stopped.writer stops,
     )) c.write_through_buffer.ensures.stops
+
+pub returns-in_default-clause-refused : goal.returns-in_default-clause-refused
+returns-in_default-clause-refused g c = (([], λ part told. tt), ([], inl (none_added (g.O.Write.contents c.args.output))))

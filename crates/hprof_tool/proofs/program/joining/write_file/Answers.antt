@@ -25,15 +25,17 @@ create_out-requires g c = c.requires c.in_ok-parts.parts.items c.in_ok-parts.ens
 
 pub returns-in_err-buffered-clause-no_parts : goal.returns-in_err-buffered-clause-no_parts
 returns-in_err-buffered-clause-no_parts g c = λ same.
-    let is = rw same at c.from_residual-2.ensures.1 in
-    absurd (creating_not_of_engine _ _ c.in_err-buffered.field-0.0 tool.NoParts c.in_err-buffered.ensures.fails (sym is))
+    let is = rw same at c.from_residual-in_err-buffered.ensures.1 in
+    absurd (creating_not_of_engine (g.F.Folder.answered c.args.files.now) c.args.out.now c.in_err-buffered.field-0.0 tool.NoParts c.in_err-buffered.ensures.fails (sym is))
 
 pub returns-in_err-buffered-clause-refused : goal.returns-in_err-buffered-clause-refused
 returns-in_err-buffered-clause-refused g c =
     let making = making_of (g.P.Product.is_text c.args.product.now) (g.P.Product.is_too_long c.args.product.now) g.P.Kept.Summaries.takes_room
     (g.P.Product.takes_memory c.args.product.now) in
-    if_the_error _ c.from_residual-2.result c.in_err-buffered.field-0.0 (of_creating making _ _ _ _ _ _ _ c.in_err-buffered.ensures.fails)
-    c.from_residual-2.ensures.1
+    if_the_error _ c.from_residual-in_err-buffered.result c.in_err-buffered.field-0.0 (of_creating making
+    (g.F.Folder.answered c.args.files.now) g.F.Part.Source.left g.F.Part.Source.health g.F.Part.Source.pulls c.args.names.now c.args.out.now
+    _ c.in_err-buffered.ensures.fails)
+    c.from_residual-in_err-buffered.ensures.1
 
 pub returns-in-Ok-clause-ok : goal.returns-in-Ok-clause-ok
 returns-in-Ok-clause-ok g c = (

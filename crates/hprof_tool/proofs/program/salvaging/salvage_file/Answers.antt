@@ -1,8 +1,6 @@
-use Rattle.std.proofs.Common.{◌≡◌, List, ℕ, Option, Ok, Err, Result, sym, subst, ap}
+use Rattle.std.proofs.Common.{◌≡◌, ◌∙◌, List, ℕ, Option, Ok, Err, sym, subst, ap}
 use Rattle.std.specs.Io.KnownBytes.{append_known}
 use Rattle.std.specs.Io.Buffered.{writer_contents, writer_inner}
-use Rattle.hprof_engine.specs.declared.salvaged.Salvaged.{Salvaged}
-use Rattle.hprof_engine.specs.declared.tool_fault.ToolFault.{ToolFault}
 use Rattle.hprof_tool.specs.Folder.{AreOpened}
 use Rattle.hprof_tool.specs.SalvagedFiles.{SalvagesStream, IsSalvageRefusal}
 use Rattle.hprof_tool.specs.declared.program.refused.Refused.{Refused}
@@ -20,9 +18,9 @@ pub create_out-requires : goal.create_out-requires
 create_out-requires g c = c.requires c.in_ok-parts.parts.items c.in_ok-parts.ensures.opened
 
 pub returns-in_err-buffered-clause-refused : goal.returns-in_err-buffered-clause-refused
-returns-in_err-buffered-clause-refused g c = if_the_error _ c.from_residual-2.result c.in_err-buffered.field-0.0
+returns-in_err-buffered-clause-refused g c = if_the_error _ c.from_residual-in_err-buffered.result c.in_err-buffered.field-0.0
     (creating_saves (g.F.Folder.answered c.args.files.now) g.F.Part.Source.left g.F.Part.Source.health g.F.Part.Source.pulls
-    g.F.Out.Write.contents c.args.names.now c.args.out.now _ c.in_err-buffered.ensures.fails) c.from_residual-2.ensures.1
+    g.F.Out.Write.contents c.args.names.now c.args.out.now _ c.in_err-buffered.ensures.fails) c.from_residual-in_err-buffered.ensures.1
 
 pub remove_out-requires : goal.remove_out-requires
 remove_out-requires g c = (writer_inner c.in_ok-buffered.buffered, c.in_ok-buffered.ensures.created)
@@ -36,7 +34,7 @@ returns-in-Ok-clause-ok g c =
     let opened = subst (λ (parts : List _). AreOpened answered c.args.names.now parts) (sym c.deref_mut.ensures.value)
     c.in_ok-parts.ensures.opened in
     let empty : writer_contents contents buffered ≡ contents (writer_inner buffered) =
-    rw (c.in_ok-buffered.ensures.empty, none_added (contents (writer_inner buffered))) in
+    ap (append_known (contents (writer_inner buffered))) c.in_ok-buffered.ensures.empty ∙ none_added (contents (writer_inner buffered)) in
     let flushed = rw c.in-Ok.is at made.ensures.flushed in
     let whole : append_known (contents made.result.writer) made.result.unwritten.items ≡ contents made.result.writer =
     rw (flushed, none_added (contents made.result.writer)) in
@@ -45,12 +43,12 @@ returns-in-Ok-clause-ok g c =
       c.in_ok-buffered.ensures.created,
       files_saved answered g.F.Part.Source.left g.F.Part.Source.health g.F.Part.Source.pulls contents c.args.names.now c.args.out.now
           c.deref_mut.result.now made.new.readers opened (writer_inner buffered) made.result.writer made.result.unwritten.items
-          (contents made.result.writer) (Ok c.in-Ok.salvaged)
+          (contents made.result.writer) (Ok c.in-Ok.kept.salvaged)
           (subst (λ (holds : Option (List ℕ)). SalvagesStream g.F.Part.Source.left g.F.Part.Source.health g.F.Part.Source.pulls
-          c.deref_mut.result.now made.new.readers (contents (writer_inner buffered)) holds (Ok c.in-Ok.salvaged)) whole
+          c.deref_mut.result.now made.new.readers (contents (writer_inner buffered)) holds (Ok c.in-Ok.kept.salvaged)) whole
           (subst (λ (held : Option (List ℕ)). SalvagesStream g.F.Part.Source.left g.F.Part.Source.health g.F.Part.Source.pulls
           c.deref_mut.result.now made.new.readers held (append_known (contents made.result.writer) made.result.unwritten.items)
-          (Ok c.in-Ok.salvaged)) empty saves)),
+          (Ok c.in-Ok.kept.salvaged)) empty saves)),
     )
 
 pub returns-clause-refused : goal.returns-clause-refused
@@ -62,7 +60,7 @@ returns-clause-refused g c =
     let opened = subst (λ (parts : List _). AreOpened answered c.args.names.now parts) (sym c.deref_mut.ensures.value)
     c.in_ok-parts.ensures.opened in
     let empty : writer_contents contents buffered ≡ contents (writer_inner buffered) =
-    rw (c.in_ok-buffered.ensures.empty, none_added (contents (writer_inner buffered))) in
+    ap (append_known (contents (writer_inner buffered))) c.in_ok-buffered.ensures.empty ∙ none_added (contents (writer_inner buffered)) in
     let saves = rw c.in-Err.is at made.ensures.salvages in
     subst (λ (r : Refused). IsSalvageRefusal answered g.F.Part.Source.left g.F.Part.Source.health g.F.Part.Source.pulls contents
     c.args.names.now c.args.out.now r) (sym c.from.ensures)

@@ -1,4 +1,4 @@
-use Rattle.std.proofs.Common.{◌≡◌, refl, sym, subst, ap, Result}
+use Rattle.std.proofs.Common.{◌≡◌, ◌∙◌, refl, sym, subst, ap, Result}
 use Rattle.std.specs.Io.KnownBytes.{append_known}
 use Rattle.std.specs.Io.Buffered.{writer_contents, writer_inner}
 use Rattle.hprof_engine.specs.declared.tool_fault.ToolFault.{ToolFault}
@@ -14,7 +14,7 @@ returns-in-Ok-clause-ok g c =
     let making = making_of (g.P.Product.is_text c.args.product.now) (g.P.Product.is_too_long c.args.product.now)
     g.P.Kept.Summaries.takes_room (g.P.Product.takes_memory c.args.product.now) in
     let empty : writer_contents contents c.args.buffered ≡ contents (writer_inner c.args.buffered) =
-    rw (c.requires.empty, none_added (contents (writer_inner c.args.buffered))) in
+    ap (append_known (contents (writer_inner c.args.buffered))) c.requires.empty ∙ none_added (contents (writer_inner c.args.buffered)) in
     let flushed = rw c.in-Ok.is at made.ensures.flushed in
     let whole : append_known (contents made.result.writer) made.result.unwritten.items ≡ contents made.result.writer =
     rw (flushed, none_added (contents made.result.writer)) in
@@ -28,7 +28,7 @@ returns-in-Err-clause-stops g c =
     let making = making_of (g.P.Product.is_text c.args.product.now) (g.P.Product.is_too_long c.args.product.now)
     g.P.Kept.Summaries.takes_room (g.P.Product.takes_memory c.args.product.now) in
     let empty : writer_contents contents c.args.buffered ≡ contents (writer_inner c.args.buffered) =
-    rw (c.requires.empty, none_added (contents (writer_inner c.args.buffered))) in
+    ap (append_known (contents (writer_inner c.args.buffered))) c.requires.empty ∙ none_added (contents (writer_inner c.args.buffered)) in
     record {
       fault = c.in-Err.fault;
       is = c.from.ensures;
