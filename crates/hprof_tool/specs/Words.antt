@@ -1,7 +1,5 @@
--- What is written to a new file, and what is told of a text that does not follow the word of a report.
-use Rattle.std.specs.Prelude.{ℕ, List, codes}
-use Rattle.hprof_ask.specs.declared.subject.Misnamed.{Misnamed}
-use Rattle.hprof_ask.specs.declared.subject.Misnamed.TheVariants as misnamed
+-- What is written to a new file.
+use Rattle.std.specs.Prelude.{ℕ, List}
 use Rattle.hprof_stream.specs.declared.summary.PartSummary.{PartSummary}
 use Rattle.hprof_rows.specs.HeapValue.{HeapValue}
 use Rattle.hprof_engine.specs.Joining101.{IsDump101Text}
@@ -13,7 +11,3 @@ use Rattle.hprof_tool.specs.declared.command.NewFile.TheVariants as files
 abbrev pub is_new_file : NewFile → List PartSummary → HeapValue → List ℕ → Type 0
 is_new_file files.Dump = IsDumpText
 is_new_file files.Dump101 = IsDump101Text
-
-abbrev pub misnamed_text : Misnamed → List ℕ
-misnamed_text misnamed.NoIdentifier = codes "not an identifier"
-misnamed_text misnamed.NoKind = codes "not a class or a type"

@@ -4,9 +4,9 @@ ghost use Rattle.std.specs.Prelude.{◌≡◌, ◌≢◌, Some, None, IfErr, Mat
 ghost use Rattle.std.specs.IoError.{error_kind};
 ghost use Rattle.std.specs.declared.io.ErrorKind.TheVariants.{OutOfMemory};
 ghost use Rattle.clap.specs.Values.{kind_of};
+ghost use Rattle.hprof_ask.specs.HeapAnswers.{misnamed_text};
 ghost use Rattle.hprof_tool.specs.Program.{IsStatusOfWords};
 ghost use Rattle.hprof_tool.specs.Telling.{TellsFront, TellsRefusal, told_line};
-ghost use Rattle.hprof_tool.specs.Words.{misnamed_text};
 
 use crate::program::refused::{Refused, Stopped, WRITE_FAILED};
 use crate::program::telling::tell_line;

@@ -1,0 +1,18 @@
+use Rattle.std.proofs.Common.{codes}
+use Rattle.std.specs.List.{flat_map}
+use Rattle.std.proofs.lemmas.Result.{err_from_is_err_and}
+use Rattle.hprof_reports.proofs.TextWriting.{text_stops, text_then}
+use Rattle.hprof_ask.specs.Words.{all_words, usage_line}
+use Rattle.hprof_ask.proofs.answers.write_help.Goals as goal
+
+pub returns-in_err-write_str-clause-bytes : goal.returns-in_err-write_str-clause-bytes
+returns-in_err-write_str-clause-bytes g c =
+    let p = err_from_is_err_and c.from_residual.result c.from_residual.ensures.1 in
+    text_stops c.from_residual.result (g.W.Target.written c.args.target.now) (g.W.Target.written c.write_str.new.target) p.0
+    (codes "help\n") (flat_map usage_line all_words) p.1 c.in_err-write_str.ensures.bytes
+
+pub returns-clause-bytes : goal.returns-clause-bytes
+returns-clause-bytes g c =
+    text_then c.write_usages.result (g.W.Target.written c.args.target.now) (g.W.Target.written c.write_str.new.target)
+    (g.W.Target.written c.write_usages.new.target) (codes "help\n") (flat_map usage_line all_words) c.in_ok-write_str.ensures.bytes
+    c.write_usages.ensures.bytes

@@ -1,0 +1,12 @@
+use Rattle.std.proofs.lemmas.Result.{err_from_is_err_and}
+use Rattle.hprof_reports.proofs.TextWriting.{text_stops, text_then}
+use Rattle.hprof_reports.specs.Stopping.{WritesText}
+use Rattle.std.proofs.Common.{subst}
+use Rattle.hprof_ask.specs.Words.{follows_of, follows_text, usage_line, word_of}
+use Rattle.hprof_ask.proofs.answers.write_usage.Goals as goal
+
+pub returns-in_err-write_str-clause-bytes : goal.returns-in_err-write_str-clause-bytes
+returns-in_err-write_str-clause-bytes g c =
+    let p = err_from_is_err_and c.from_residual.result c.from_residual.ensures.1 in
+    text_stops c.from_residual.result (g.W.Target.written c.args.target.now) (g.W.Target.written c.write_str.new.target) p.0
+    (word_of c.args.word) (follows_text (follows_of c.args.word)) p.1 (rw c.row.ensures.word at c.in_err-write_str.ensures.bytes)
