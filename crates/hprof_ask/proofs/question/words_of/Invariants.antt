@@ -5,4 +5,4 @@ use Rattle.hprof_ask.specs.Words.{all_words}
 use Rattle.hprof_ask.proofs.question.words_of.Given as goal
 
 abbrev pub invariant-loop-word : goal.invariant-loop-word
-invariant-loop-word l = AllByRecursion (λ word. (text : List ℕ) → IsLineOf l.line.now word text → ⊥) (take l.word-index all_words)
+invariant-loop-word l = AllByRecursion (λ word. (text : List ℕ) → IsLineOf l.line word text → ⊥) (take l.word-index all_words)

@@ -4,4 +4,4 @@ use Rattle.hprof_ask.specs.Words.{all_words, word_of}
 use Rattle.hprof_ask.proofs.report_word.ReportWord.of.Given as goal
 
 abbrev pub invariant-loop-report : goal.invariant-loop-report
-invariant-loop-report l = AllByRecursion (λ report. l.word.now ≢ word_of report) (take l.report-index all_words)
+invariant-loop-report l = AllByRecursion (λ report. l.word ≢ word_of report) (take l.report-index all_words)
