@@ -9,3 +9,4 @@ pub mod OneText
 pub mod WordLists
 pub mod SomeQuestion
 pub mod Usages
+pub mod Ends

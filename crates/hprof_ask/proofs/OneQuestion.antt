@@ -240,8 +240,8 @@ names_kind words.Why text report is same = absurd cc
 names_kind words.Objects text report is same = let it = asks_objects text report is in (it.0, it.2)
 
 misnames : (word : ReportWord) (text : List ℕ) (report : Report) (fault : Misnamed) → AsksReport word text report → IsMisnamed word text fault → ⊥
-misnames word text report misnamed.NoIdentifier is no = no.1 (names_id word text report is no.0)
-misnames word text report misnamed.NoKind is no = let it = names_kind word text report is no.0 in no.1 it.0 it.1
+misnames word text report misnamed.NoIdentifier is fails = fails.1 (names_id word text report is fails.0)
+misnames word text report misnamed.NoKind is fails = let it = names_kind word text report is fails.0 in fails.1 it.0 it.1
 
 both_follow : (word : ReportWord) → follows_of word ≡ follow.Identifier → follows_of word ≡ follow.ClassOrType → ⊥
 both_follow word one other = let no : follow.Identifier ≡ follow.ClassOrType = sym one ∙ other in cc

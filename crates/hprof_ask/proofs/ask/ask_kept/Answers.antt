@@ -19,7 +19,7 @@ returns-in-Ok-converse-clause-asks g c =
     asks g.R.Source.left g.R.Source.health g.R.Source.pulls g.Q.Asker.left g.Q.Asker.health g.Q.Asker.pulls g.W.Target.written
     g.W.Target.health c.args.limits c.args.readers.now c.read_heap.new.readers c.args.questions.now c.args.target.now
     (heap_of c.in-Ok-read_heap.heap) e.ok c.deref.result.now (λ parts told. held_are parts e.told.summaries
-    c.read_heap.new.summaries.items c.deref.result.now e.told.held c.deref.ensures.value
+    c.read_heap.new.kept.items c.deref.result.now e.told.held c.deref.ensures.value
     (summaries_held g.R.Source.left _ c.args.readers.now _ e.told parts told))
     e.reads c.converse.new.questions c.converse.new.target (Ok c.in-Ok-converse.field-0) c.in-Ok-converse.ensures.dialogue
 
@@ -30,6 +30,14 @@ returns-clause-asks g c =
     asks g.R.Source.left g.R.Source.health g.R.Source.pulls g.Q.Asker.left g.Q.Asker.health g.Q.Asker.pulls g.W.Target.written
     g.W.Target.health c.args.limits c.args.readers.now c.read_heap.new.readers c.args.questions.now c.args.target.now
     (heap_of c.in-Ok-read_heap.heap) e.ok c.deref.result.now (λ parts told. held_are parts e.told.summaries
-    c.read_heap.new.summaries.items c.deref.result.now e.told.held c.deref.ensures.value
+    c.read_heap.new.kept.items c.deref.result.now e.told.held c.deref.ensures.value
     (summaries_held g.R.Source.left _ c.args.readers.now _ e.told parts told))
     e.reads c.converse.new.questions c.converse.new.target (Err c.in-Err-converse.stop) c.in-Err-converse.ensures.dialogue
+
+pub converse-requires-clause-leave : goal.converse-requires-clause-leave
+unfolding facts_of size_of
+converse-requires-clause-leave g c =
+    let e = c.in-Ok-read_heap.ensures in
+    c.requires.leave (heap_of c.in-Ok-read_heap.heap) c.deref.result.now e.ok (λ parts told. held_are parts e.told.summaries
+    c.read_heap.new.kept.items c.deref.result.now e.told.held c.deref.ensures.value
+    (summaries_held g.R.Source.left _ c.args.readers.now _ e.told parts told))

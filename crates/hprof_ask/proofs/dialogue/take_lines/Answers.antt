@@ -2,7 +2,7 @@ use Rattle.std.proofs.Common.{◌<◌, ◌++◌, ℕ, length, take, sym, subst, 
 use Rattle.std.specs.Io.KnownBytes.{Consumes}
 use Rattle.hprof_ask.specs.Dialogue.{Heard}
 use Rattle.hprof_ask.proofs.Hearing.{some_still}
-use Rattle.hprof_ask.proofs.Dialogues.{ends_all, ends_flushing, ends_piece, so_far_more, so_far_flushed}
+use Rattle.hprof_ask.proofs.Dialogues.{ends_all, ends_flushing, ends_piece, may_read_on, so_far_more, so_far_flushed}
 use Rattle.hprof_ask.proofs.dialogue.take_lines.Goals as goal
 
 -- the answers could not be flushed
@@ -18,6 +18,19 @@ returns-in-Err-flush_all-clause-dialogue g c =
     ends_flushing (g.A.Answers.is_answer c.args.answers.now) g.Q.Asker.left g.Q.Asker.health g.Q.Asker.pulls g.W.Target.written
     g.W.Target.health c.args.questions.now c.args.target.now c.turns.questions c.turns.target c.turns.line.items c.turns.invariant.came
     c.flush_all-2.new.target c.in-Err-flush_all.stop c.flush_all-2.ensures.bytes c.turns.invariant.asking c.in-Err-flush_all.ensures.health
+
+-- all lines that ended are answered, and the answers were flushed
+pub read_on-requires-clause-leave : goal.read_on-requires-clause-leave
+read_on-requires-clause-leave g c =
+    let IA = g.A.Answers.is_answer c.args.answers.now in
+    let left = g.Q.Asker.left in
+    let written = g.W.Target.written in
+    let was = c.args.questions.now in
+    let before = c.args.target.now in
+    let flushed = so_far_flushed IA left g.Q.Asker.health g.Q.Asker.pulls written g.W.Target.health was before
+    c.turns.questions c.turns.target c.turns.line.items c.turns.invariant.came c.flush_all.new.target c.flush_all.ensures.bytes in
+    may_read_on IA left g.Q.Asker.health g.Q.Asker.pulls written g.W.Target.health was before c.turns.questions c.flush_all.new.target
+    c.turns.line.items flushed g.W.Flush.flushed g.Q.Asker.may_read c.requires.leave c.in_default.ensures.flushed
 
 -- nothing more came
 pub returns-then-count-eq0-clause-dialogue : goal.returns-then-count-eq0-clause-dialogue

@@ -1,0 +1,43 @@
+-- How the writing of a report ends.
+use Rattle.std.specs.Prelude.{⊤, Vec}
+use Rattle.std.proofs.Common.{◌≡◌, ℕ, List, Option, Result, Ok, Err, refl, subst, ◌∙◌}
+use Rattle.std.specs.declared.alloc.Global.{Global}
+use Rattle.hprof_devices.specs.declared.health.Health.{Health}
+use Rattle.hprof_values.specs.declared.ids.IdSize.{IdSize}
+use Rattle.hprof_items.specs.FactValue.{FactValue}
+use Rattle.hprof_stream.specs.declared.summary.PartSummary.{PartSummary}
+use Rattle.hprof_engine.specs.declared.product.WriteStop.{WriteStop}
+use Rattle.hprof_engine.specs.declared.product.WriteStop.TheVariants as stops
+use Rattle.hprof_engine.specs.Makes.{EndsWriting}
+use Rattle.hprof_reports.specs.Check.{IsCheck}
+use Rattle.hprof_reports.specs.Stopping.{LeavesTarget, WritesText}
+use Rattle.hprof_ask.specs.declared.report.Report.{Report}
+use Rattle.hprof_ask.specs.declared.report.Report.TheVariants as reports
+use Rattle.hprof_ask.specs.Report.{IsReport}
+use Rattle.hprof_ask.specs.Summarised.{Holds}
+
+-- memory: whether writing takes memory
+pub text_ends : {W : Type 0} (written : W → Option (List ℕ)) (well : W → Health) (IsText : List ℕ → Type 0) (memory : Type 0)
+    (before after : W) (r : Result (Unit {0}) WriteStop) (text : List ℕ) → IsText text → WritesText (written before) (written after) r text
+    → LeavesTarget r (well after) → (r ≡ Err stops.OutOfMemory → memory) → EndsWriting written well IsText ⊥ memory before after r
+text_ends written well IsText memory before after (Ok done) text is writes health wants = (health, (text, is, writes))
+text_ends written well IsText memory before after (Err (stops.Write fault)) text is front health wants =
+    (health, (text, front.0, is, front.2))
+text_ends written well IsText memory before after (Err stops.OutOfMemory) text is front health wants =
+    (wants refl, health, (text, front.0, is, front.2))
+text_ends written well IsText memory before after (Err stops.TooLong) text is front health wants = absurd health
+
+-- a report is of the summaries that are kept for it
+pub of_kept : (report : Report) (kept : Vec PartSummary Global) (held summaries : List PartSummary) (ids : IdSize) (facts : List FactValue)
+    (text : List ℕ) → held ≡ kept.items → Holds report kept summaries → IsReport held ids facts report text
+    → IsReport summaries ids facts report text
+of_kept reports.Check kept held summaries ids facts text same holds is =
+    subst (λ (those : List PartSummary). IsCheck those facts text) (same ∙ holds) is
+of_kept reports.Histogram kept held summaries ids facts text same holds is = is
+of_kept reports.Classes kept held summaries ids facts text same holds is = is
+of_kept (reports.Objects kind) kept held summaries ids facts text same holds is = is
+of_kept (reports.Object id) kept held summaries ids facts text same holds is = is
+of_kept (reports.Refs id) kept held summaries ids facts text same holds is = is
+of_kept (reports.Path id) kept held summaries ids facts text same holds is = is
+of_kept (reports.Text id) kept held summaries ids facts text same holds is = is
+of_kept (reports.Why id) kept held summaries ids facts text same holds is = is
