@@ -54,7 +54,8 @@ module _ {O : Type 0} (contents : O → Option (List ℕ)) (old : O) (Over : ((Q
 
   -- the answers to the lines that had ended were written, when the questions could not be read on
   abbrev pub AnswersEnded : (holds : Option (List ℕ)) → Type 0
-  AnswersEnded holds = Over (λ IsAnswer questions. OfFront questions (λ bytes. AnswersLines IsAnswer AreEndedLines bytes (contents old) holds))
+  AnswersEnded holds = Over (λ IsAnswer questions. OfFront questions (λ bytes. AnswersLines IsAnswer AreEndedLines bytes
+      (contents old) holds))
 
   -- the answers to the lines that were taken were written, to the last of them a front
   abbrev pub AnswersFirst : (holds : Option (List ℕ)) → Type 0
@@ -65,7 +66,8 @@ module _ {O : Type 0} (contents : O → Option (List ℕ)) (old : O) (Over : ((Q
   abbrev pub LeavesAnswers : (Says : Refused → Type 0) → Refused → (new : Option O) → Type 0
   LeavesAnswers Says refusals.Questions (Some new) = AnswersEnded (contents new)
   LeavesAnswers Says refusals.Questions None = ⊥
-  LeavesAnswers Says (refusals.Engine (tool.Write fault)) (Some new) = (unwritten : List ℕ) × AnswersFirst (append_known (contents new) unwritten)
+  LeavesAnswers Says (refusals.Engine (tool.Write fault)) (Some new) = (unwritten : List ℕ) × AnswersFirst (append_known
+      (contents new) unwritten)
   LeavesAnswers Says (refusals.Engine (tool.Write fault)) None = ⊥
   LeavesAnswers Says refusals.OutOfMemory (Some new) = (new ≡ old) ⊎ AnswersFirst (contents new)
   LeavesAnswers Says refusals.OutOfMemory None = ⊤

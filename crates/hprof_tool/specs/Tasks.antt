@@ -107,12 +107,18 @@ module _ {P W I O : Type 0} (answered : Answered P W) (tells : P → Option (Lis
       IsFilesRefusal (new_file_making product) answered tells health pulls parts.items out.now why × (new ≡ Some old) × (file ≡ None)
   RefusesTask (tasks.Salvage out parts) input old why new =
       (after : O) × (new ≡ Some after) × RefusesSalvage answered tells health pulls holds parts.items out.now contents file old after why
-  RefusesTask (tasks.Check parts) input old why new = RefusesReport check_making answered tells health pulls contents parts.items old why new
-  RefusesTask (tasks.Histogram parts) input old why new = RefusesReport histogram_making answered tells health pulls contents parts.items old why new
-  RefusesTask (tasks.Classes parts) input old why new = RefusesReport classes_making answered tells health pulls contents parts.items old why new
+  RefusesTask (tasks.Check parts) input old why new = RefusesReport check_making answered tells health pulls contents parts.items old why
+      new
+  RefusesTask (tasks.Histogram parts) input old why new = RefusesReport histogram_making answered tells health pulls contents parts.items
+      old why new
+  RefusesTask (tasks.Classes parts) input old why new = RefusesReport classes_making answered tells health pulls contents parts.items old
+      why new
   RefusesTask (tasks.Objects kind parts) input old why new = (named : Kind) × NamesKind kind.now named
       × RefusesReport (objects_making named) answered tells health pulls contents parts.items old why new
-  RefusesTask (tasks.Compare older newer) input old why new = RefusesDiff answered tells older.now newer.now contents old health pulls why new
-  RefusesTask (tasks.Converse parts) input old why new = RefusesQuestions answered tells health pulls left contents parts.items input old why new
+  RefusesTask (tasks.Compare older newer) input old why new = RefusesDiff answered tells older.now newer.now contents old health pulls why
+      new
+  RefusesTask (tasks.Converse parts) input old why new = RefusesQuestions answered tells health pulls left contents parts.items input old
+      why new
   RefusesTask (tasks.Ask question id parts) input old why new =
-      IsIdText id.now × RefusesReport (answer_making question (id_value id.now)) answered tells health pulls contents parts.items old why new
+      IsIdText id.now × RefusesReport (answer_making question (id_value id.now)) answered tells health pulls contents parts.items old why
+      new

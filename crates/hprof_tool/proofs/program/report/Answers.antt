@@ -15,4 +15,5 @@ returns-clause-refused g c =
     refused_of_stream (λ why left. RefusesReport making (g.F.Folder.answered c.args.files.now) g.F.Part.Source.left g.F.Part.Source.health
     g.F.Part.Source.pulls g.O.Write.contents c.args.names.now c.args.output why left)
     (λ why. TellsRefusal why (g.E.Write.contents c.args.errors.now) (g.E.Write.contents c.answer_stream.new.errors)) c.report_files.result
-    c.answer_stream.result c.report_files.ensures.refused c.answer_stream.ensures.status c.answer_stream.ensures.output c.answer_stream.ensures.told
+    c.answer_stream.result c.report_files.ensures.refused c.answer_stream.ensures.status c.answer_stream.ensures.output
+    c.answer_stream.ensures.told

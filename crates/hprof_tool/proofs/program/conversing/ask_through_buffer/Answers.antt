@@ -59,7 +59,8 @@ returns-in-Err g c =
       ok = tt;
       gone = λ none. absurd (subst is_there none tt);
       stops = subst (λ (r : Refused). LeavesAnswers contents c.args.writer (OverReaders g.R.Source.left g.Q.Source.left c.args.readers.now
-          c.args.questions.now) (SaysOfReaders g.R.Source.left g.R.Source.health g.R.Source.pulls c.args.readers.now asked.new.readers) r (Some last)) (sym c.from.ensures)
+          c.args.questions.now) (SaysOfReaders g.R.Source.left g.R.Source.health g.R.Source.pulls c.args.readers.now asked.new.readers) r
+          (Some last)) (sym c.from.ensures)
           (stopped g.R.Source.left g.R.Source.health g.R.Source.pulls g.Q.Source.left g.Q.Source.health g.Q.Source.pulls
           (λ device. writer_contents contents (buffered_of device)) buffered_health contents c.args.readers.now asked.new.readers
           c.args.questions.now asked.new.questions c.new-target.result after c.args.writer last at_first unwritten at_last is_first
