@@ -10,7 +10,8 @@ use Rattle.hprof_diff.specs.Comparing.{Counts}
 use Rattle.hprof_diff.specs.DifferenceText.{AreTotalsOf, IsDifferenceOf, IsGrowthReport, growth_making}
 use Rattle.hprof_tool.specs.declared.program.refused.Refused.{Refused}
 use Rattle.hprof_tool.specs.declared.program.refused.Refused.TheVariants as refusals
-use Rattle.hprof_tool.specs.Comparing.{IsFrontOfBoth, IsOfComparing, IsOfOpeningOne, IsOneOpened, OfDumps, OverBoth, RefusesDiff, SaysOfTwo, StopsComparing}
+use Rattle.hprof_tool.specs.Comparing.{IsFrontOfBoth, IsOfComparing, IsOfOpeningOne, IsOneOpened, OfDumps, OverBoth, RefusesDiff}
+use Rattle.hprof_tool.specs.Comparing.{SaysOfTwo, StopsComparing}
 use Rattle.hprof_tool.specs.Folder.{Answered}
 use Rattle.hprof_tool.specs.Program.{IsOfMaking, IsRefusal, of_dump, refused_of, usual_limits}
 use Rattle.hprof_tool.specs.Streams.{Leaves}
@@ -72,7 +73,11 @@ module _ {R : Type 0} (left : R → Option (List ℕ)) (health : R → Health) (
   pub old_says : (others others_then : List R) (fault : ToolFault) → Counted fault → (olds news : List (List ℕ)) → Tell left old olds
       → SaysOfTwo left health pulls old new others others_then (of_dump 0 (refused_of fault)) olds news
   old_says others others_then (tool.Part index fault) counts olds news told = inl (refl, counts.reads.part index fault refl olds told)
-  old_says others others_then tool.NoParts counts olds news told = inl (refl, no_parts_told left old olds (counts.reads.no_parts.0 refl) told)
+  old_says others others_then tool.NoParts counts olds news told = inl (
+    refl,
+    no_parts_told left old olds
+        (counts.reads.no_parts.0 refl) told,
+  )
   old_says others others_then tool.IdSizes counts olds news told = inl (refl, counts.reads.id_sizes refl olds told)
   old_says others others_then (tool.Conflict key) counts olds news told = inl (refl, counts.reads.conflict key refl olds told)
   old_says others others_then (tool.Write fault) counts olds news told = absurd (never counts.kind (λ k. k) (λ same. cc))
@@ -107,11 +112,28 @@ module _ (totals : Totals) (olds : List (List ℕ)) (are : AreTotalsOf olds tota
   pub new_says : {R : Type 0} (left : R → Option (List ℕ)) (health : R → Health) (pulls : R → ℕ) (others others_then old new : List R)
       (why : Refused) → IsOfMaking why → (news : List (List ℕ)) → IsRefusal left health pulls old new (growth_making totals) why news
       → SaysOfTwo left health pulls others others_then old new (of_dump 1 why) olds news
-  new_says left health pulls others others_then old new (refusals.Engine (tool.Part index fault)) kind news says = inr (refl, (are.heap, are.agree), says)
-  new_says left health pulls others others_then old new (refusals.Engine tool.NoParts) kind news says = inr (refl, (are.heap, are.agree), says)
-  new_says left health pulls others others_then old new (refusals.Engine tool.IdSizes) kind news says = inr (refl, (are.heap, are.agree), says)
-  new_says left health pulls others others_then old new (refusals.Engine (tool.Conflict key)) kind news says = inr (refl, (are.heap, are.agree), says)
-  new_says left health pulls others others_then old new (refusals.Engine (tool.Write fault)) kind news says = (says.0, difference_made news says.0 says.1)
+  new_says left health pulls others others_then old new (refusals.Engine (tool.Part index fault)) kind news says = inr (
+    refl,
+    (are.heap, are.agree),
+    says,
+  )
+  new_says left health pulls others others_then old new (refusals.Engine tool.NoParts) kind news says = inr (
+    refl,
+    (are.heap, are.agree),
+    says,
+  )
+  new_says left health pulls others others_then old new (refusals.Engine tool.IdSizes) kind news says = inr (
+    refl,
+    (are.heap, are.agree),
+    says,
+  )
+  new_says left health pulls others others_then old new (refusals.Engine (tool.Conflict key)) kind news says = inr (
+    refl,
+    (are.heap, are.agree),
+    says,
+  )
+  new_says left health pulls others others_then old new (refusals.Engine (tool.Write fault)) kind news says =
+      (says.0, difference_made news says.0 says.1)
   new_says left health pulls others others_then old new (refusals.Engine tool.DumpTooLong) kind news says = absurd says.1
   new_says left health pulls others others_then old new (refusals.Engine tool.OutOfMemory) kind news says = absurd kind
   new_says left health pulls others others_then old new (refusals.Dump place fault) kind news says = absurd kind

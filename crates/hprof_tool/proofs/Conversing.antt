@@ -122,13 +122,15 @@ module _ {R Q W O : Type 0} (left : R → Option (List ℕ)) (health : R → Hea
           holds = subst (λ (bytes : List ℕ). AnswersLines answers AreLines bytes (contents first) (contents last)) all at_end;
         }
 
-    module _ (unwritten : List ℕ) (at_last : written after ≡ append_known (contents last) unwritten) (same : after ≡ before → last ≡ first) where
+    module _ (unwritten : List ℕ) (at_last : written after ≡ append_known (contents last) unwritten) (same : after ≡ before
+        → last ≡ first) where
       refused_parts : (fault : ToolFault) → Asked (Some (faults.Parts fault)) → Some last ≡ Some first
       refused_parts fault a = ap Some (same (a.refused fault refl).1)
 
       -- a fault of reading is none of writing
       of_parts_refused : (fault : ToolFault) → Asked (Some (faults.Parts fault)) → IsOfReading (Some fault)
-          → LeavesAnswers contents first Over (SaysOfReaders left health pulls readers new) (refused_asking (faults.Parts fault)) (Some last)
+          → LeavesAnswers contents first Over (SaysOfReaders left health pulls readers new) (refused_asking (faults.Parts fault))
+          (Some last)
       of_parts_refused (tool.Part index fault) a kind = (
         (tt, λ parts told. a.reads.part index fault refl parts told),
         refused_parts (tool.Part index fault) a,
@@ -221,7 +223,8 @@ module _ {P W I Q O : Type 0} (answered : Answered P W) (tells : P → Option (L
   }
 
 -- where a part cannot be opened, the stream is as it was
-pub cannot_ask : {P W O : Type 0} (answered : Answered P W) (tells : P → Option (List ℕ)) (health : P → Health) (pulls : P → ℕ) (contents : O → Option (List ℕ))
+pub cannot_ask : {P W O : Type 0} (answered : Answered P W) (tells : P → Option (List ℕ)) (health : P → Health) (pulls : P → ℕ)
+    (contents : O → Option (List ℕ))
     (names : List (Bor (List ℕ))) (old : O) (Holding : ((Question → List ℕ → Type 0) → List ℕ → Type 0) → Type 0) (refused : Refused)
     → IsOfOpening answered names refused
     → LeavesAnswers contents old Holding (IsReportRefusal dump_making answered tells health pulls names) refused (Some old)

@@ -1,5 +1,6 @@
 -- What is made of files.
-use Rattle.std.proofs.Common.{◌≡◌, ℕ, zero, suc, List, [], ◌∷◌, ◌++◌, ◌+◌, ◌<◌, length, get_or, take, add-one, Option, Some, Result, Ok, Err, sym, ap, subst, ◌∙◌}
+use Rattle.std.proofs.Common.{◌≡◌, ℕ, zero, suc, List, [], ◌∷◌, ◌++◌, ◌+◌, ◌<◌, length, get_or, take, add-one, Option, Some, Result, Ok}
+use Rattle.std.proofs.Common.{Err, sym, ap, subst, ◌∙◌}
 use Rattle.std.specs.Prelude.{IfErr, IsErrAnd, slice_get}
 use Rattle.std.specs.Borrow.{Bor}
 use Rattle.std.proofs.lemmas.Option.{slice_get-get_or}
@@ -69,7 +70,8 @@ creating_not_of_engine answered out refusals.OutOfMemory fault is same = cc
 module _ {P W : Type 0} (making : Making) (answered : Answered P W) (left : P → Option (List ℕ)) (health : P → Health)
     (pulls : P → ℕ) (names : List (Bor (List ℕ))) where
   -- a refusal to open is one to report
-  pub opening_reports : (refused : Refused) → IsOfOpening answered names refused → IsReportRefusal making answered left health pulls names refused
+  pub opening_reports : (refused : Refused) → IsOfOpening answered names refused → IsReportRefusal making answered left health pulls names
+      refused
   opening_reports (refusals.Engine fault) is = absurd is
   opening_reports (refusals.Dump place fault) is = absurd is
   opening_reports (refusals.Open index) is = is
@@ -102,7 +104,8 @@ module _ {P W : Type 0} (making : Making) (answered : Answered P W) (left : P �
     abbrev Says : Refused → Type 0
     Says refused = (told : List (List ℕ)) → Tell left old told → IsRefusal left health pulls old new making refused told
 
-    pub of_reporting : (refused : Refused) → IsOfMaking refused → Says refused → IsReportRefusal making answered left health pulls names refused
+    pub of_reporting : (refused : Refused) → IsOfMaking refused → Says refused → IsReportRefusal making answered left health pulls names
+        refused
     of_reporting (refusals.Engine (tool.Part index fault)) kind says = record { old = old; new = new; opened = opened; holds = says }
     of_reporting (refusals.Engine tool.NoParts) kind says = record { old = old; new = new; opened = opened; holds = says }
     of_reporting (refusals.Engine tool.IdSizes) kind says = record { old = old; new = new; opened = opened; holds = says }

@@ -59,7 +59,8 @@ module _ {R W : Type 0} (left : R → Option (List ℕ)) (health : R → Health)
       → IsRefusal left health pulls old new (making_of IsText TooLong TakesRoom TakesMemory) refused parts
   stream_refusal refused (Some after) stops parts told =
       subst (λ (r : Refused). IsRefusal left health pulls old new (making_of IsText TooLong TakesRoom TakesMemory) r parts) (sym stops.is)
-      (refused_by left health pulls old new IsText TooLong TakesRoom TakesMemory (contents before) (append_known (contents after) stops.unwritten)
+      (refused_by left health pulls old new IsText TooLong TakesRoom TakesMemory (contents before) (append_known
+      (contents after) stops.unwritten)
       stops.makes.0 stops.fault stops.makes.1 parts told)
   stream_refusal refused None stops parts told =
       subst (λ (r : Refused). IsRefusal left health pulls old new (making_of IsText TooLong TakesRoom TakesMemory) r parts) (sym stops.0) tt
@@ -78,7 +79,8 @@ module _ {R W : Type 0} (left : R → Option (List ℕ)) (health : R → Health)
   -- what it leaves
   --   front: how a front of what is made of the parts is told
   module _ (IsFront : Option (List ℕ) → Option (List ℕ) → Type 0)
-      (front : (held holds : Option (List ℕ)) → ((parts : List (List ℕ)) → Tell left old parts → WritesFront (IsMadeOf IsText) parts held holds)
+      (front : (held holds : Option (List ℕ)) → ((parts : List (List ℕ)) → Tell left old parts → WritesFront
+      (IsMadeOf IsText) parts held holds)
       → IsFront held holds) where
     left_by : (fault : ToolFault) (after : W) (unwritten : List ℕ)
         → MakesStream left health pulls (making_of IsText TooLong TakesRoom TakesMemory) old new (contents before)

@@ -5,14 +5,14 @@ use Rattle.hprof_tool.specs.Folder.{nothing_told}
 use Rattle.hprof_tool.specs.Tasks.{MayDo}
 
 -- it lets every task do what it does
-pub may_do : {P W : Type 0} → (task : Task) → MayDo {P = P} {W = W} nothing_told task
-may_do tasks.JoinInput = tt
-may_do (tasks.Write product out parts) = λ opened are. tt
-may_do (tasks.Salvage out parts) = λ opened are. tt
-may_do (tasks.Check parts) = tt
-may_do (tasks.Histogram parts) = tt
-may_do (tasks.Classes parts) = tt
-may_do (tasks.Objects kind parts) = tt
-may_do (tasks.Compare older newer) = tt
-may_do (tasks.Converse parts) = tt
-may_do (tasks.Ask question id parts) = tt
+pub may_do : (P W : Type 0) (task : Task) → MayDo {P = P} {W = W} nothing_told task
+may_do P W tasks.JoinInput = tt
+may_do P W (tasks.Write product out parts) = λ opened are. tt
+may_do P W (tasks.Salvage out parts) = λ opened are. tt
+may_do P W (tasks.Check parts) = tt
+may_do P W (tasks.Histogram parts) = tt
+may_do P W (tasks.Classes parts) = tt
+may_do P W (tasks.Objects kind parts) = tt
+may_do P W (tasks.Compare older newer) = tt
+may_do P W (tasks.Converse parts) = tt
+may_do P W (tasks.Ask question id parts) = tt

@@ -1,5 +1,6 @@
 -- What is told of a refusal, and of the faults of parts.
-use Rattle.std.proofs.Common.{◌≡◌, ℕ, zero, suc, List, [], ◌∷◌, ◌++◌, take, Option, Some, Result, Ok, Err, refl, sym, ap, subst, append_assoc, ◌∙◌, ◌+◌, ◌<◌}
+use Rattle.std.proofs.Common.{◌≡◌, ℕ, zero, suc, List, [], ◌∷◌, ◌++◌, take, Option, Some, Result, Ok, Err, refl, sym, ap, subst}
+use Rattle.std.proofs.Common.{append_assoc, ◌∙◌, ◌+◌, ◌<◌}
 use Rattle.std.proofs.Common.{length, get_or, add-one, arith}
 use Rattle.std.specs.Prelude.{slice_get, codes, decimal}
 use Rattle.std.specs.Io.KnownBytes.{Appends, Keeps}
@@ -90,8 +91,12 @@ pub stopped_at : (faults : List FaultedPart) (index : ℕ) (default : FaultedPar
     → TellsFront (line ++ line_end ∷ []) mid new → TellsSomeFaults faults old new
 stopped_at faults index default text line old mid new within told written is front =
     let on = goes_on faults index (get_or faults index default) text line (slice_get-get_or faults index default within) told is in
-    let next = line ++ line_end ∷ [] in
-    ((text ++ next) ++ on.rest, on.tells, WritesFront-more old new (text ++ next) on.rest (WritesFront-then old mid new text next written front))
+    let next = line ++ line_end ∷ [] in (
+      (text ++ next) ++ on.rest,
+      on.tells,
+      WritesFront-more old new (text ++ next) on.rest (WritesFront-then old mid new text next written
+          front),
+    )
 
 -- all faults were told, and then the stream kept what it held
 pub told_and_kept : (faults : List FaultedPart) (text : List ℕ) (old mid new : Option (List ℕ)) → TellsFaults faults text

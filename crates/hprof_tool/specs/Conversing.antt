@@ -78,7 +78,8 @@ module _ {O : Type 0} (contents : O → Option (List ℕ)) (old : O) (Over : ((Q
   abbrev pub LeavesAnswers : (Says : Refused → Type 0) → Refused → (new : Option O) → Type 0
   LeavesAnswers Says refusals.Questions (Some new) = AnswersEnded (contents new)
   LeavesAnswers Says refusals.Questions None = ⊥
-  LeavesAnswers Says (refusals.Engine (tool.Write fault)) (Some new) = (unwritten : List ℕ) × AnswersFirst (append_known (contents new) unwritten)
+  LeavesAnswers Says (refusals.Engine (tool.Write fault)) (Some new) = (unwritten : List ℕ) × AnswersFirst (append_known
+      (contents new) unwritten)
   LeavesAnswers Says (refusals.Engine (tool.Write fault)) None = ⊥
   LeavesAnswers Says refusals.OutOfMemory (Some new) = (new ≡ old) ⊎ AnswersFirst (contents new)
   LeavesAnswers Says refusals.OutOfMemory None = ⊤

@@ -261,8 +261,8 @@ fn list_of(alloc: Global, words: io::Result<Args>) -> io::Result<Vec<String>> {
     Ok(words?.collect(alloc)?)
 }
 
-/// Does what a task asks for. It gives `output` back, unless there was no memory for the buffer before it, and the new file that it wrote, if
-/// it wrote one.
+/// Does what a task asks for. It gives back `output`, unless there was no memory for the buffer before it, and the new file, if it wrote
+/// one.
 fn perform<F: Folder, I: Read + Drop, O: Write + Drop, E: Write, P: Write + Drop>(
     alloc: Global,
     files: &F,

@@ -104,8 +104,8 @@ pub(crate) fn salvage_file<F: Folder>(
 /// The number of bytes of room for the reason why a part is refused. Each such text is shorter.
 const WHY_LEN: usize = 64;
 
-/// Tells the fault of a part in a line, as it is told when the part is refused. It takes no memory. If it cannot be written, a front of it is
-/// told.
+/// Tells the fault of a part in a line, as it is told when the part is refused. It takes no memory. If it cannot be written, a front of it
+/// is told.
 fn tell_fault<O: Write>(fault: FaultedPart, output: &mut O) -> Result<(), Refused>
     ensures told { OnOk result ((line : List ℕ) × IsFaultText (ToolFault.Part fault.index fault.fault) line
         × Appends (O.contents output.old) (O.contents output.new) (line ++ line_end ∷ [])) }
@@ -122,8 +122,8 @@ fn tell_fault<O: Write>(fault: FaultedPart, output: &mut O) -> Result<(), Refuse
     }
 }
 
-/// Tells the faults of parts, one a line. It takes no memory, so a fault of the output alone keeps it from telling them, and a front of them
-/// is told then.
+/// Tells the faults of parts, one a line. It takes no memory, so a fault of the output alone keeps it from telling them. Then a front of
+/// them is told.
 pub(crate) fn tell_faults<O: Write>(faults: &[FaultedPart], output: &mut O) -> Result<(), Refused>
     ensures told { OnOk result ((text : List ℕ) × TellsFaults faults.now text
         × Appends (O.contents output.old) (O.contents output.new) text) }

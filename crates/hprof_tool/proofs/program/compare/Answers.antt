@@ -12,4 +12,5 @@ returns-clause-refused g c =
     refused_of_stream (λ why left. RefusesDiff (g.F.Folder.answered c.args.files.now) g.F.Part.Source.left c.args.older.now c.args.newer.now
     g.O.Write.contents c.args.output g.F.Part.Source.health g.F.Part.Source.pulls why left)
     (λ why. TellsRefusal why (g.E.Write.contents c.args.errors.now) (g.E.Write.contents c.answer_stream.new.errors)) c.compare_files.result
-    c.answer_stream.result c.compare_files.ensures.refused c.answer_stream.ensures.status c.answer_stream.ensures.output c.answer_stream.ensures.told
+    c.answer_stream.result c.compare_files.ensures.refused c.answer_stream.ensures.status c.answer_stream.ensures.output
+    c.answer_stream.ensures.told

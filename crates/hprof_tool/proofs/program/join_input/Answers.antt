@@ -9,6 +9,8 @@ returns-clause-done g c = done_of_stream _ c.join_stream.result c.answer_stream.
 
 pub returns-clause-refused : goal.returns-clause-refused
 returns-clause-refused g c =
-    refused_of_stream (λ why left. RefusesStream g.I.Source.left g.I.Source.health g.I.Source.pulls g.O.Write.contents c.args.input c.args.output why left)
+    refused_of_stream (λ why left. RefusesStream g.I.Source.left g.I.Source.health g.I.Source.pulls g.O.Write.contents c.args.input
+    c.args.output why left)
     (λ why. TellsRefusal why (g.E.Write.contents c.args.errors.now) (g.E.Write.contents c.answer_stream.new.errors)) c.join_stream.result
-    c.answer_stream.result c.join_stream.ensures.refused c.answer_stream.ensures.status c.answer_stream.ensures.output c.answer_stream.ensures.told
+    c.answer_stream.result c.join_stream.ensures.refused c.answer_stream.ensures.status c.answer_stream.ensures.output
+    c.answer_stream.ensures.told

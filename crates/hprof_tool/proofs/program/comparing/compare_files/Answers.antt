@@ -6,12 +6,14 @@ use Rattle.hprof_tool.proofs.program.comparing.compare_files.Goals as goal
 
 pub returns-in-Err-clause-refused : goal.returns-in-Err-clause-refused
 returns-in-Err-clause-refused g c =
-    older_unopened (g.F.Folder.answered c.args.files.now) g.F.Part.Source.left g.F.Part.Source.health g.F.Part.Source.pulls c.args.older.now c.args.newer.now g.O.Write.contents
+    older_unopened (g.F.Folder.answered c.args.files.now) g.F.Part.Source.left g.F.Part.Source.health g.F.Part.Source.pulls
+    c.args.older.now c.args.newer.now g.O.Write.contents
     c.args.output c.in-Err.why c.in-Err.ensures.kind
 
 pub returns-in-Err-open_dump-clause-refused : goal.returns-in-Err-open_dump-clause-refused
 returns-in-Err-open_dump-clause-refused g c =
-    newer_unopened (g.F.Folder.answered c.args.files.now) g.F.Part.Source.left g.F.Part.Source.health g.F.Part.Source.pulls c.args.older.now c.args.newer.now g.O.Write.contents
+    newer_unopened (g.F.Folder.answered c.args.files.now) g.F.Part.Source.left g.F.Part.Source.health g.F.Part.Source.pulls
+    c.args.older.now c.args.newer.now g.O.Write.contents
     c.args.output c.in-Ok.parts.items c.in-Ok.ensures.opened c.in-Err-open_dump.why c.in-Err-open_dump.ensures.kind
 
 pub returns-clause-ok : goal.returns-clause-ok
@@ -22,7 +24,8 @@ returns-clause-ok g c =
     let opened_too = subst (λ (parts : List _). IsOneOpened answered c.args.newer.now parts) (sym c.deref_mut-2.ensures.value)
     c.in-Ok-open_dump.ensures.opened in
     if_ok_more _ _ c.compare_readers.result
-    (λ written all. over_dumps answered g.F.Part.Source.left g.F.Part.Source.health g.F.Part.Source.pulls c.args.older.now c.args.newer.now g.O.Write.contents c.args.output
+    (λ written all. over_dumps answered g.F.Part.Source.left g.F.Part.Source.health g.F.Part.Source.pulls c.args.older.now
+    c.args.newer.now g.O.Write.contents c.args.output
     c.deref_mut.result.now c.deref_mut-2.result.now opened opened_too _ all) c.compare_readers.ensures.ok
 
 pub returns-clause-refused : goal.returns-clause-refused
@@ -33,5 +36,7 @@ returns-clause-refused g c =
     let opened_too = subst (λ (parts : List _). IsOneOpened answered c.args.newer.now parts) (sym c.deref_mut-2.ensures.value)
     c.in-Ok-open_dump.ensures.opened in
     if_err_more _ _ c.compare_readers.result
-    (λ stopped stops. dumps_refused answered g.F.Part.Source.left g.F.Part.Source.health g.F.Part.Source.pulls c.args.older.now c.args.newer.now g.O.Write.contents c.args.output
-    c.deref_mut.result.now c.deref_mut-2.result.now opened opened_too c.compare_readers.new.olds c.compare_readers.new.news stopped.why stopped.writer stops) c.compare_readers.ensures.stops
+    (λ stopped stops. dumps_refused answered g.F.Part.Source.left g.F.Part.Source.health g.F.Part.Source.pulls c.args.older.now
+    c.args.newer.now g.O.Write.contents c.args.output
+    c.deref_mut.result.now c.deref_mut-2.result.now opened opened_too c.compare_readers.new.olds c.compare_readers.new.news stopped.why
+    stopped.writer stops) c.compare_readers.ensures.stops

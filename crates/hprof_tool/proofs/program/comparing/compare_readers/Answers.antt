@@ -27,7 +27,8 @@ returns-in-Err-clause-stops g c =
       old_kind c.in-Err.fault,
       λ old_parts new_parts told told_too. old_says left g.R.Source.health g.R.Source.pulls olds c.count_parts.new.readers news news
           c.in-Err.fault counts old_parts new_parts told,
-      old_leaves left g.R.Source.health g.R.Source.pulls olds c.count_parts.new.readers contents (IsFrontOfBoth left olds news) c.args.writer
+      old_leaves left g.R.Source.health g.R.Source.pulls olds c.count_parts.new.readers contents
+          (IsFrontOfBoth left olds news) c.args.writer
           c.in-Err.fault counts,
     )
 

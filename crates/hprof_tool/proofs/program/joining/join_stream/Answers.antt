@@ -13,7 +13,8 @@ returns-clause-ok g c =
     let one : c.deref_mut.result.now ≡ c.args.input ∷ [] = c.deref_mut.ensures.value ∙ c.in-Ok.ensures.items
     ∙ ap (λ (l : List g.row.I.Denot). l ++ c.args.input ∷ []) c.new-part.ensures.items in
     if_ok_more _ _ c.write_through_buffer.result
-    (λ written makes part told. (makes.1.ok refl).1 (part ∷ []) (one_told g.I.Source.left c.deref_mut.result.now c.args.input part one told))
+    (λ written makes part told. (makes.1.ok refl).1 (part ∷ []) (one_told g.I.Source.left c.deref_mut.result.now c.args.input part one
+    told))
     c.write_through_buffer.ensures.ok
 
 pub returns-clause-kind : goal.returns-clause-kind

@@ -13,7 +13,8 @@ returns-clause-ok g c =
     let opened = subst (λ (parts : List _). AreOpened answered c.args.names.now parts) (sym c.deref_mut.ensures.value)
     c.in-Ok.ensures.opened in
     if_ok_more _ _ c.write_through_buffer.result
-    (λ written makes. record { parts = c.deref_mut.result.now; opened = opened; holds = (makes.1.ok refl).1 }) c.write_through_buffer.ensures.ok
+    (λ written makes. record { parts = c.deref_mut.result.now; opened = opened; holds = (makes.1.ok refl).1 })
+    c.write_through_buffer.ensures.ok
 
 pub returns-clause-no_parts : goal.returns-clause-no_parts
 returns-clause-no_parts g c = if_err_more _ _ c.write_through_buffer.result
@@ -32,7 +33,8 @@ returns-clause-refused g c =
     let opened = subst (λ (parts : List _). AreOpened answered c.args.names.now parts) (sym c.deref_mut.ensures.value)
     c.in-Ok.ensures.opened in
     if_err_more _ _ c.write_through_buffer.result (λ stopped stops. (
-      of_reporting (making_of is_text too_long room memory) answered left g.F.Part.Source.health g.F.Part.Source.pulls c.args.names.now parts
+      of_reporting (making_of is_text too_long room memory) answered left g.F.Part.Source.health g.F.Part.Source.pulls c.args.names.now
+          parts
           c.write_through_buffer.new.readers opened stopped.why
           (stream_kind _ _ _ _ _ is_text too_long room memory _ _ stopped.why stopped.writer stops)
           (stream_refusal _ _ _ _ _ is_text too_long room memory _ _ stopped.why stopped.writer stops),
@@ -46,7 +48,8 @@ returns-in-Err-clause-refused g c =
     let making = making_of is_text (g.P.Product.is_too_long c.args.report.now) (g.P.Summaries.takes_room c.args.report.now)
     (g.P.Product.takes_memory c.args.report.now) in
     let answered = g.F.Folder.answered c.args.files.now in (
-      opening_reports making answered g.F.Part.Source.left g.F.Part.Source.health g.F.Part.Source.pulls c.args.names.now c.in-Err.why c.in-Err.ensures.kind,
+      opening_reports making answered g.F.Part.Source.left g.F.Part.Source.health g.F.Part.Source.pulls c.args.names.now c.in-Err.why
+          c.in-Err.ensures.kind,
       kept_at_opening g.O.Write.contents (IsFrontOfFiles (IsMadeOf is_text) answered g.F.Part.Source.left c.args.names.now) answered
           c.args.names.now c.in-Err.why c.args.output c.in-Err.ensures.kind,
     )

@@ -26,11 +26,13 @@ create_out-requires g c = c.requires c.in_ok-parts.parts.items c.in_ok-parts.ens
 pub returns-in_err-buffered-clause-no_parts : goal.returns-in_err-buffered-clause-no_parts
 returns-in_err-buffered-clause-no_parts g c = λ same.
     let is = rw same at c.from_residual-in_err-buffered.ensures.1 in
-    absurd (creating_not_of_engine (g.F.Folder.answered c.args.files.now) c.args.out.now c.in_err-buffered.field-0.0 tool.NoParts c.in_err-buffered.ensures.fails (sym is))
+    absurd (creating_not_of_engine (g.F.Folder.answered c.args.files.now) c.args.out.now c.in_err-buffered.field-0.0 tool.NoParts
+    c.in_err-buffered.ensures.fails (sym is))
 
 pub returns-in_err-buffered-clause-refused : goal.returns-in_err-buffered-clause-refused
 returns-in_err-buffered-clause-refused g c =
-    let making = making_of (g.P.Product.is_text c.args.product.now) (g.P.Product.is_too_long c.args.product.now) g.P.Kept.Summaries.takes_room
+    let making = making_of (g.P.Product.is_text c.args.product.now) (g.P.Product.is_too_long c.args.product.now)
+    (g.P.Summaries.takes_room c.args.product.now)
     (g.P.Product.takes_memory c.args.product.now) in
     if_the_error _ c.from_residual-in_err-buffered.result c.in_err-buffered.field-0.0 (of_creating making
     (g.F.Folder.answered c.args.files.now) g.F.Part.Source.left g.F.Part.Source.health g.F.Part.Source.pulls c.args.names.now c.args.out.now
@@ -62,7 +64,8 @@ returns-clause-refused g c =
     let left = c.in-Err.left in
     let opened = subst (λ (parts : List _). AreOpened answered c.args.names.now parts) (sym c.deref_mut.ensures.value)
     c.in_ok-parts.ensures.opened in
-    of_making (making_of is_text too_long room memory) answered g.F.Part.Source.left g.F.Part.Source.health g.F.Part.Source.pulls c.args.names.now
+    of_making (making_of is_text too_long room memory) answered g.F.Part.Source.left g.F.Part.Source.health g.F.Part.Source.pulls
+    c.args.names.now
     c.deref_mut.result.now c.write_buffered.new.readers opened
     c.args.out.now left.why
     (stream_kind _ _ _ _ _ is_text too_long room memory _ _ left.why (Some left.writer) c.in-Err.ensures.stops)

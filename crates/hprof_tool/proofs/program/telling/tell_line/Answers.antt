@@ -9,4 +9,5 @@ returns g c =
     let old = g.W.Write.contents c.args.writer.now in
     let new = g.W.Write.contents c.write_line_behind.new.writer in
     front_of old new c.write_line_behind.result (told_line c.args.text.now)
-    (subst (λ (text : List ℕ). Writes old new c.write_line_behind.result (told_line text)) c.as_bytes.ensures.value c.write_line_behind.ensures)
+    (subst (λ (text : List ℕ). Writes old new c.write_line_behind.result (told_line text)) c.as_bytes.ensures.value
+    c.write_line_behind.ensures)

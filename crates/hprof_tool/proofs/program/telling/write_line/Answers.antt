@@ -11,4 +11,5 @@ returns-in_err-write_bytes g c =
     Writes-stops _ _ c.from_residual.result is.0 (c.args.text.now) (line_end ∷ []) is.1 c.in_err-write_bytes.ensures
 
 pub returns : goal.returns
-returns g c = Writes-then _ _ _ (tt {0}) c.write_bytes-2.result (c.args.text.now) (line_end ∷ []) c.in_ok-write_bytes.ensures c.write_bytes-2.ensures
+returns g c = Writes-then _ _ _ (tt {0}) c.write_bytes-2.result (c.args.text.now) (line_end ∷ []) c.in_ok-write_bytes.ensures
+    c.write_bytes-2.ensures

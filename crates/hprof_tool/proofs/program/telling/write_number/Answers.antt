@@ -21,5 +21,6 @@ returns g c =
     let mid = g.W.Write.contents c.write_bytes.new.writer in
     let new = g.W.Write.contents c.write_line_behind.new.writer in
     let digits : c.as_bytes.result.now ≡ decimal c.args.number = c.as_bytes.ensures.value ∙ c.format.ensures.text in
-    Writes-then old mid new (tt {0}) c.write_line_behind.result (decimal c.args.number) (c.args.front.now ++ (c.args.text.now ++ line_end ∷ []))
+    Writes-then old mid new (tt {0}) c.write_line_behind.result (decimal c.args.number) (c.args.front.now ++
+    (c.args.text.now ++ line_end ∷ []))
     (subst (λ (bytes : List ℕ). Appends old mid bytes) digits c.in_ok-write_bytes.ensures) c.write_line_behind.ensures

@@ -9,7 +9,8 @@ use Rattle.hprof_tool.proofs.program.telling.write_part_line.Goals as goal
 pub returns-in_err-write_bytes : goal.returns-in_err-write_bytes
 returns-in_err-write_bytes g c =
     let is = err_from_is_err_and c.from_residual.result c.from_residual.ensures.1 in
-    Writes-stops _ _ c.from_residual.result is.0 (codes "part ") (decimal c.args.index ++ (codes ": " ++ (c.args.why.now ++ line_end ∷ []))) is.1 c.in_err-write_bytes.ensures
+    Writes-stops _ _ c.from_residual.result is.0 (codes "part ") (decimal c.args.index ++ (codes ": " ++
+    (c.args.why.now ++ line_end ∷ []))) is.1 c.in_err-write_bytes.ensures
 
 pub returns : goal.returns
 returns g c =

@@ -12,7 +12,7 @@ returns-in-Ok-clause-ok g c =
     let contents = g.W.Write.contents in
     let made = c.write_and_flush-outcome in
     let making = making_of (g.P.Product.is_text c.args.product.now) (g.P.Product.is_too_long c.args.product.now)
-    g.P.Kept.Summaries.takes_room (g.P.Product.takes_memory c.args.product.now) in
+    (g.P.Summaries.takes_room c.args.product.now) (g.P.Product.takes_memory c.args.product.now) in
     let empty : writer_contents contents c.args.buffered ≡ contents (writer_inner c.args.buffered) =
     ap (append_known (contents (writer_inner c.args.buffered))) c.requires.empty ∙ none_added (contents (writer_inner c.args.buffered)) in
     let flushed = rw c.in-Ok.is at made.ensures.flushed in
@@ -26,7 +26,7 @@ returns-in-Err-clause-stops g c =
     let contents = g.W.Write.contents in
     let made = c.write_and_flush-outcome in
     let making = making_of (g.P.Product.is_text c.args.product.now) (g.P.Product.is_too_long c.args.product.now)
-    g.P.Kept.Summaries.takes_room (g.P.Product.takes_memory c.args.product.now) in
+    (g.P.Summaries.takes_room c.args.product.now) (g.P.Product.takes_memory c.args.product.now) in
     let empty : writer_contents contents c.args.buffered ≡ contents (writer_inner c.args.buffered) =
     ap (append_known (contents (writer_inner c.args.buffered))) c.requires.empty ∙ none_added (contents (writer_inner c.args.buffered)) in
     record {
