@@ -1,4 +1,3 @@
-use Rattle.std.proofs.Common.{get_or}
 use Rattle.std.proofs.lemmas.Result.{err_from_is_err_and}
 use Rattle.hprof_ask.specs.declared.report_word.ReportWord.TheVariants.{Check}
 use Rattle.hprof_ask.specs.Words.{all_words, usage_line}

@@ -1,6 +1,6 @@
 use Rattle.std.specs.Prelude.{⊤, map}
 use Rattle.std.proofs.Common.{List, Result, Some, Ok, Err, refl, sym, subst}
-use Rattle.hprof_heap.specs.Heap.{heap_of}
+use Rattle.hprof_heap.specs.HeapFacts.{facts_of, size_of}
 use Rattle.hprof_engine.specs.declared.product.WriteStop.{WriteStop}
 use Rattle.hprof_engine.specs.declared.tool_fault.ToolFault.{ToolFault}
 use Rattle.hprof_engine.specs.Makes.{Makes}
@@ -21,6 +21,7 @@ returns-in-Err g c =
     c.args.readers.now c.read_heap.new.readers c.args.target.now c.in-Err.fault e.kind e.reads e.no_other
 
 pub returns-in-Ok-write_refs : goal.returns-in-Ok-write_refs
+unfolding facts_of size_of
 returns-in-Ok-write_refs g c =
     let e = c.in-Ok.ensures in
     let report = reports.Refs c.args.id in
@@ -39,6 +40,7 @@ returns-in-Ok-write_refs g c =
     }) c.in-Ok-write_refs.ensures.bytes c.in-Ok-write_refs.ensures.health (λ _. tt))
 
 pub returns : goal.returns
+unfolding facts_of size_of
 returns g c =
     let e = c.in-Ok.ensures in
     let report = reports.Refs c.args.id in

@@ -1,6 +1,6 @@
 use Rattle.std.proofs.Common.{◌≢◌}
 use Rattle.hprof_ask.specs.Words.{word_of}
-use Rattle.hprof_ask.proofs.WordLists.{of_all_words, one_more_word}
+use Rattle.hprof_ask.proofs.WordLists.{of_all_words}
 use Rattle.hprof_ask.proofs.report_word.ReportWord.of.Goals as goal
 
 pub returns : goal.returns
