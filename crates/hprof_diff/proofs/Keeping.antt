@@ -12,7 +12,7 @@ use Rattle.hprof_diff.specs.Labels.{AreBareLabels, kind_label}
 use Rattle.hprof_diff.specs.Sources.{AreSourceLabels, FitsCounted, IsPart, IsSourceLabel, both, counted_of_row, nothing, parts_under, rows_under, sum_of, sum_of_parts}
 use Rattle.hprof_diff.specs.Kept.{AreKept, kept_in}
 use Rattle.hprof_diff.proofs.Sums.{both_assoc, both_comm, both_nothing, has_it, has_not, if_has, moved_more, nothing_both, room_alone, under_cons, under_fits}
-use Rattle.hprof_diff.proofs.LabelTexts.{label_of_kind, one_source_label, source_labels_exist}
+use Rattle.hprof_diff.specs.LabelTexts.{label_of_kind, one_source_label, source_labels_exist}
 
 -- ---- rows that become parts
 

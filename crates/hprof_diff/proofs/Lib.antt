@@ -1,10 +1,5 @@
 pub mod NextChange
 pub mod Sums
-pub mod LabelTexts
 pub mod RowSums
 pub mod Keeping
-pub mod ChangeOrder
-pub mod OneTotal
-pub mod KeptLabels
-pub mod OneDifference
 pub mod OfHeap

@@ -17,7 +17,7 @@ use Rattle.hprof_diff.specs.Counts.{AreTotals}
 use Rattle.hprof_diff.specs.Kept.{AreKept, totals_in}
 use Rattle.hprof_diff.specs.Labels.{AreBareLabels, kind_label}
 use Rattle.hprof_diff.specs.Sources.{AreSourceLabels, FitsCounted, counted_of_row, parts_under, rows_under, sum_of, sum_of_parts}
-use Rattle.hprof_diff.proofs.LabelTexts.{labels_exist, source_labels_exist}
+use Rattle.hprof_diff.specs.LabelTexts.{labels_exist, source_labels_exist}
 use Rattle.hprof_diff.proofs.RowSums.{all_rows_fit}
 use Rattle.hprof_diff.proofs.Sums.{sum_of_filter, under_moved}
 

@@ -7,3 +7,8 @@ pub mod Difference
 pub mod Sources
 pub mod Kept
 pub mod Changes
+pub mod OneTotal
+pub mod ChangeOrder
+pub mod KeptLabels
+pub mod LabelTexts
+pub mod OneChanges

@@ -4,8 +4,8 @@ use Rattle.hprof_values.specs.declared.ids.IdSize.{IdSize}
 use Rattle.hprof_items.specs.FactValue.{FactValue}
 use Rattle.hprof_rows.proofs.Order.{one_order}
 use Rattle.hprof_diff.specs.Counts.{AreTotals, Totals}
-use Rattle.hprof_diff.proofs.OneDifference.{one_difference}
-use Rattle.hprof_diff.proofs.OneTotal.{one_total}
+use Rattle.hprof_diff.specs.OneChanges.{one_difference}
+use Rattle.hprof_diff.specs.OneTotal.{one_total}
 use Rattle.hprof_engine.proofs.Outcomes.{one_state}
 use Rattle.hprof_diff.specs.DifferenceText.{AreTotalsOf, IsDifferenceOf, IsDifferenceText, IsGrowthText, changes_text}
 

@@ -4,7 +4,6 @@ use Rattle.std.specs.Prelude.{IfOk, IfErr, OnErr, MatchResult}
 use Rattle.hprof_tool.specs.declared.program.refused.Refused.{Refused}
 use Rattle.hprof_tool.specs.declared.program.refused.Stopped.{Stopped}
 use Rattle.hprof_tool.specs.declared.program.answers.Ended.{Ended}
-use Rattle.hprof_tool.specs.declared.status.Status.{Status}
 use Rattle.hprof_tool.specs.declared.status.Status.TheVariants as statuses
 
 -- done comes of Ok alone, so what Ok says holds of the stream that was written to

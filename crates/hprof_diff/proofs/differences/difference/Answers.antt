@@ -5,8 +5,8 @@ use Rattle.hprof_diff.specs.declared.change.Change.{Change}
 use Rattle.hprof_diff.specs.Changes.{change_value, changes_among}
 use Rattle.hprof_diff.specs.Difference.{ChangeValue}
 use Rattle.hprof_diff.specs.Kept.{labels_in, totals_in}
-use Rattle.hprof_diff.proofs.ChangeOrder.{same_label}
-use Rattle.hprof_diff.proofs.OneDifference.{among_apart, among_is_difference, both_distinct, both_labels, differ_in_both, gathered}
+use Rattle.hprof_diff.specs.ChangeOrder.{same_label}
+use Rattle.hprof_diff.specs.OneChanges.{among_apart, among_is_difference, both_distinct, both_labels, differ_in_both, gathered}
 use Rattle.hprof_diff.proofs.differences.difference.Goals as goal
 
 pub sort_changes-requires : goal.sort_changes-requires

@@ -1,4 +1,4 @@
-use Rattle.hprof_diff.proofs.KeptLabels.{labels_distinct}
+use Rattle.hprof_diff.specs.KeptLabels.{labels_distinct}
 use Rattle.hprof_diff.proofs.differences.push_old.Goals as goal
 
 pub returns-clause-apart : goal.returns-clause-apart

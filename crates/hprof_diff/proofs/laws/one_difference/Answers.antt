@@ -1,4 +1,4 @@
-use Rattle.hprof_diff.proofs.OneDifference.{difference_exists, one_difference}
+use Rattle.hprof_diff.specs.OneChanges.{difference_exists, one_difference}
 use Rattle.hprof_diff.proofs.laws.one_difference.Goals as goal
 
 pub returns-clause-exists : goal.returns-clause-exists

@@ -1,4 +1,4 @@
-use Rattle.hprof_diff.proofs.OneTotal.{one_total, totals_exist}
+use Rattle.hprof_diff.specs.OneTotal.{one_total, totals_exist}
 use Rattle.hprof_diff.proofs.laws.one_total.Goals as goal
 
 pub returns-clause-exists : goal.returns-clause-exists

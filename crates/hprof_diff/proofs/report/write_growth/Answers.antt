@@ -2,8 +2,8 @@ use Rattle.std.proofs.Common.{refl}
 use Rattle.std.proofs.lemmas.Result.{err_from_is_err_and}
 use Rattle.hprof_heap.specs.HeapFacts.{facts_of, size_of}
 use Rattle.hprof_diff.specs.Kept.{totals_in}
-use Rattle.hprof_diff.proofs.OneDifference.{growth_exists}
-use Rattle.hprof_diff.proofs.OneTotal.{totals_exist}
+use Rattle.hprof_diff.specs.OneChanges.{growth_exists}
+use Rattle.hprof_diff.specs.OneTotal.{totals_exist}
 use Rattle.hprof_reports.proofs.TextWriting.{text_unwritten}
 use Rattle.hprof_diff.specs.DifferenceText.{changes_text}
 use Rattle.hprof_diff.proofs.report.write_growth.Goals as goal

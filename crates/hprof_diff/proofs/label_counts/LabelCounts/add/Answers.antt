@@ -3,7 +3,7 @@ use Rattle.std.proofs.lemmas.Map.Text.{btree_map_updates_text}
 use Rattle.hprof_diff.specs.declared.counted.Counted.{Counted}
 use Rattle.hprof_diff.specs.Sources.{both}
 use Rattle.hprof_diff.specs.Kept.{kept_in}
-use Rattle.hprof_diff.proofs.KeptLabels.{kept_updated}
+use Rattle.hprof_diff.specs.KeptLabels.{kept_updated}
 use Rattle.hprof_diff.proofs.label_counts.LabelCounts.add.Goals as goal
 
 pub returns : goal.returns

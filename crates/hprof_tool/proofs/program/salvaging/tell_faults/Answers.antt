@@ -1,4 +1,4 @@
-use Rattle.std.proofs.Common.{◌∷◌, [], ◌++◌, take, subst, List}
+use Rattle.std.proofs.Common.{◌∷◌, [], ◌++◌, subst, List}
 use Rattle.std.proofs.lemmas.List.{take_all}
 use Rattle.hprof_engine.specs.declared.salvaged.FaultedPart.{FaultedPart}
 use Rattle.hprof_tool.specs.Telling.{TellsFaults}

@@ -22,10 +22,10 @@ use Rattle.hprof_diff.specs.Counts.{AreTotals, Totals}
 use Rattle.hprof_diff.specs.Difference.{ChangeValue, Differs, IsDifference, change_cmp, change_of}
 use Rattle.hprof_diff.specs.Changes.{changes_among, differs}
 use Rattle.hprof_diff.specs.Kept.{has_label, labels_in, totals_in}
-use Rattle.hprof_diff.proofs.ChangeOrder.{change_cmp_total, same_label, tied_labels}
+use Rattle.hprof_diff.specs.ChangeOrder.{change_cmp_total, same_label, tied_labels}
 use Rattle.hprof_histogram.proofs.Joining.{join_one}
-use Rattle.hprof_diff.proofs.KeptLabels.{in_labels, label_in, none_kept}
-use Rattle.hprof_diff.proofs.OneTotal.{HasNone, counted_or_none, labels_of}
+use Rattle.hprof_diff.specs.KeptLabels.{in_labels, label_in, none_kept}
+use Rattle.hprof_diff.specs.OneTotal.{HasNone, counted_or_none, labels_of}
 
 -- ---- whether a change differs
 
