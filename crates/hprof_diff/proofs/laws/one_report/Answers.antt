@@ -1,8 +1,8 @@
 use Rattle.std.proofs.Common.{refl}
 use Rattle.hprof_diff.specs.DifferenceText.{changes_text}
 use Rattle.hprof_diff.specs.OneDifference.{one_report}
-use Rattle.hprof_diff.proofs.OneDifference.{difference_exists}
-use Rattle.hprof_diff.proofs.OneTotal.{totals_exist}
+use Rattle.hprof_diff.specs.OneChanges.{difference_exists}
+use Rattle.hprof_diff.specs.OneTotal.{totals_exist}
 use Rattle.hprof_diff.proofs.laws.one_report.Goals as goal
 
 pub returns-clause-some : goal.returns-clause-some
