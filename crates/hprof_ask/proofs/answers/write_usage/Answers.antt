@@ -19,6 +19,6 @@ returns-clause-bytes g c =
     let new = g.W.Target.written c.write_str-2.new.target in
     let first : Appends old mid (word_of c.args.word) = subst (Appends old mid) c.row-row.ensures.word c.in_ok-write_str.ensures.bytes in
     let behind : c.follows_text.result.now ≡ follows_text (follows_of c.args.word) =
-        c.follows_text.ensures ∙ ap follows_text c.row-row.ensures.follows in
+    c.follows_text.ensures ∙ ap follows_text c.row-row.ensures.follows in
     text_then c.write_str-2.result old mid new (word_of c.args.word) (follows_text (follows_of c.args.word)) first
     (subst (WritesText mid new c.write_str-2.result) behind c.write_str-2.ensures.bytes)

@@ -64,7 +64,7 @@ pub returns-clause-ok : goal.returns-clause-ok
 returns-clause-ok g c =
     let read = c.in_ok-read_parts.ensures.read.0 in
     let gathers = from_nothing (g.G.Gather.gathered c.args.gatherer) (g.G.Gather.gathered c.read_parts.new.gatherer) read.given
-        c.requires.nothing read.gathers in
+    c.requires.nothing read.gathers in
     found_agree read.given g.G.Gather.heap_in g.R.Source.left c.args.limits c.args.readers.now read.of_readers c.heap_of_all.result
     (c.heap_of_all.ensures.told read.given gathers)
 
@@ -72,7 +72,7 @@ pub returns-clause-reads : goal.returns-clause-reads
 returns-clause-reads g c =
     let read = c.in_ok-read_parts.ensures.read in
     let gathers = from_nothing (g.G.Gather.gathered c.args.gatherer) (g.G.Gather.gathered c.read_parts.new.gatherer) read.0.given
-        c.requires.nothing read.0.gathers in
+    c.requires.nothing read.0.gathers in
     (answered g.R.Source.left g.R.Source.health g.R.Source.pulls c.args.limits c.args.readers.now c.read_parts.new.readers read.0.given
     read.0.of_readers read.1 g.G.Gather.heap_in c.heap_of_all.result (c.heap_of_all.ensures.told read.0.given gathers)).0
 
@@ -80,14 +80,14 @@ pub returns-clause-kind : goal.returns-clause-kind
 returns-clause-kind g c =
     let read = c.in_ok-read_parts.ensures.read in
     let gathers = from_nothing (g.G.Gather.gathered c.args.gatherer) (g.G.Gather.gathered c.read_parts.new.gatherer) read.0.given
-        c.requires.nothing read.0.gathers in
+    c.requires.nothing read.0.gathers in
     (reads_alone read.0.given g.G.Gather.heap_in c.heap_of_all.result (c.heap_of_all.ensures.told read.0.given gathers)).0
 
 pub returns-clause-told : goal.returns-clause-told
 returns-clause-told g c =
     let read = c.in_ok-read_parts.ensures.read in
     let gathers = from_nothing (g.G.Gather.gathered c.args.gatherer) (g.G.Gather.gathered c.read_parts.new.gatherer) read.0.given
-        c.requires.nothing read.0.gathers in
+    c.requires.nothing read.0.gathers in
     let all = (reads_alone read.0.given g.G.Gather.heap_in c.heap_of_all.result (c.heap_of_all.ensures.told read.0.given gathers)).1 in
     subst (λ (count : ℕ). HoldsFirst g.R.Source.left (g.S.Summaries.holds c.args.summaries.now) c.args.readers.now count
     c.read_parts.new.kept) (sym (all (length c.args.readers.now))) c.in_ok-read_parts.ensures.summaries
@@ -96,7 +96,7 @@ pub returns-clause-no_other : goal.returns-clause-no_other
 returns-clause-no_other g c = λ parts ids millis facts told state well unhindered.
     let read = c.in_ok-read_parts.ensures.read in
     let gathers = from_nothing (g.G.Gather.gathered c.args.gatherer) (g.G.Gather.gathered c.read_parts.new.gatherer) read.0.given
-        c.requires.nothing read.0.gathers in
+    c.requires.nothing read.0.gathers in
     (answered g.R.Source.left g.R.Source.health g.R.Source.pulls c.args.limits c.args.readers.now c.read_parts.new.readers read.0.given
     read.0.of_readers read.1 g.G.Gather.heap_in c.heap_of_all.result (c.heap_of_all.ensures.told read.0.given gathers)).1
     parts ids millis facts told state
