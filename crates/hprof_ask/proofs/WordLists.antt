@@ -6,19 +6,23 @@ use Rattle.hprof_ask.specs.declared.report_word.ReportWord.{ReportWord}
 use Rattle.hprof_ask.specs.declared.report_word.ReportWord.TheVariants as words
 use Rattle.hprof_ask.specs.Words.{all_words}
 
--- one more holds
-all_more : {A : Type 0} (P : A → Type 0) (xs : List A) (place : ℕ) (default : A) → place < length xs → AllByRecursion P (take place xs)
+more : {A : Type 0} (P : A → Type 0) (xs : List A) (place : ℕ) (default : A) → place < length xs → AllByRecursion P (take place xs)
     → P (get_or xs place default) → AllByRecursion P (take (suc place) xs)
-all_more P [] place default within all one = absurd (omega (arith, within))
-all_more P (x ∷ xs) zero default within all one = (one, tt)
-all_more P (x ∷ xs) (suc place) default within all one = (all.0, all_more P xs place default (omega (arith, within)) all.1 one)
+more P [] place default within all one = absurd (omega (arith, within))
+more P (x ∷ xs) zero default within all one = (one, tt)
+more P (x ∷ xs) (suc place) default within all one = (all.0, more P xs place default (omega (arith, within)) all.1 one)
+
+-- a loop over a list has gone over one more
+pub one_more : {A : Type 0} (P : A → Type 0) (xs : List A) (place : ℕ) (default : A) → place < length xs
+    → AllByRecursion P (take place xs) → P (get_or xs place default) → AllByRecursion P (take (place + 1) xs)
+one_more P xs place default within all one =
+    subst (λ (n : ℕ). AllByRecursion P (take n xs)) (sym (add-one place)) (more P xs place default within all one)
 
 module _ (P : ReportWord → Type 0) where
-  -- a loop has gone over one more
+  -- a loop over the reports has
   pub one_more_word : (place : ℕ) → place < length all_words → AllByRecursion P (take place all_words)
       → P (get_or all_words place words.Check) → AllByRecursion P (take (place + 1) all_words)
-  one_more_word place within all one =
-      subst (λ (n : ℕ). AllByRecursion P (take n all_words)) (sym (add-one place)) (all_more P all_words place words.Check within all one)
+  one_more_word place within all one = one_more P all_words place words.Check within all one
 
   -- what holds of all that stand in the list holds of each
   pub of_each : AllByRecursion P all_words → (word : ReportWord) → P word

@@ -7,3 +7,4 @@ pub mod Streams
 pub mod Telling
 pub mod Comparing
 pub mod Tasks
+pub mod CommandWords

@@ -1,0 +1,39 @@
+-- Loops over the commands.
+use Rattle.std.proofs.Common.{◌≤◌, ℕ, List, [], ◌∷◌, take, length, subst}
+use Rattle.std.specs.List.{AllByRecursion}
+use Rattle.std.proofs.lemmas.List.{take_all}
+use Rattle.hprof_ask.specs.declared.report_word.ReportWord.TheVariants as words
+use Rattle.hprof_tool.specs.declared.command.NewFile.TheVariants as files
+use Rattle.hprof_tool.specs.declared.command.subcommands.CommandWord.{CommandWord}
+use Rattle.hprof_tool.specs.declared.command.subcommands.CommandWord.TheVariants as commands
+
+-- all of them, in the order of the program's help
+abbrev pub all_commands : List CommandWord
+all_commands =
+    commands.Write files.Dump ∷ commands.Write files.Dump101 ∷ commands.Salvage ∷ commands.Report words.Check
+    ∷ commands.Report words.Histogram ∷ commands.Report words.Classes ∷ commands.Report words.Objects ∷ commands.Compare
+    ∷ commands.Report words.Object ∷ commands.Report words.Path ∷ commands.Report words.Refs ∷ commands.Report words.Text
+    ∷ commands.Report words.Why ∷ commands.Ask ∷ []
+
+module _ (P : CommandWord → Type 0) where
+  -- what holds of all that stand in the list holds of each
+  of_each : AllByRecursion P all_commands → (command : CommandWord) → P command
+  of_each all (commands.Write files.Dump) = all.0
+  of_each all (commands.Write files.Dump101) = all.1.0
+  of_each all commands.Salvage = all.1.1.0
+  of_each all (commands.Report words.Check) = all.1.1.1.0
+  of_each all (commands.Report words.Histogram) = all.1.1.1.1.0
+  of_each all (commands.Report words.Classes) = all.1.1.1.1.1.0
+  of_each all (commands.Report words.Objects) = all.1.1.1.1.1.1.0
+  of_each all commands.Compare = all.1.1.1.1.1.1.1.0
+  of_each all (commands.Report words.Object) = all.1.1.1.1.1.1.1.1.0
+  of_each all (commands.Report words.Path) = all.1.1.1.1.1.1.1.1.1.0
+  of_each all (commands.Report words.Refs) = all.1.1.1.1.1.1.1.1.1.1.0
+  of_each all (commands.Report words.Text) = all.1.1.1.1.1.1.1.1.1.1.1.0
+  of_each all (commands.Report words.Why) = all.1.1.1.1.1.1.1.1.1.1.1.1.0
+  of_each all commands.Ask = all.1.1.1.1.1.1.1.1.1.1.1.1.1.0
+
+  -- so does what holds of those that a loop has gone over, at its end
+  pub of_all_commands : (place : ℕ) → length all_commands ≤ place → AllByRecursion P (take place all_commands) → (command : CommandWord)
+      → P command
+  of_all_commands place end all = of_each (subst (AllByRecursion P) (take_all place all_commands end) all)
