@@ -21,7 +21,8 @@ use Rattle.hprof_tool.specs.declared.program.refused.Refused.{Refused}
 use Rattle.hprof_tool.specs.declared.program.refused.Refused.TheVariants as refusals
 use Rattle.hprof_tool.specs.Folder.{Answered, AreOpened}
 use Rattle.hprof_tool.specs.Program.{IsOfOpening, IsReportRefusal, usual_limits}
-use Rattle.hprof_tool.specs.Conversing.{AnswersAll, LeavesAnswers, OfFront, OverFiles, OverReaders, SaysOfReaders, refused_asking}
+use Rattle.hprof_devices.specs.declared.health.ReadFault.{ReadFault}
+use Rattle.hprof_tool.specs.Conversing.{CannotReadOn, AnswersAll, LeavesAnswers, OfFront, OverFiles, OverReaders, SaysOfReaders, refused_asking}
 use Rattle.hprof_tool.proofs.Files.{of_reporting}
 use Rattle.hprof_tool.proofs.Making.{no_parts_told, none_added}
 
@@ -162,6 +163,23 @@ module _ {R Q W O : Type 0} (left : R → Option (List ℕ)) (health : R → Hea
           (unwritten, of_streams First _ _ _ _ at_first at_last (first_fronts (a.write fault refl).0))
       stopped (faults.Dialogue stops.OutOfMemory) none a =
           inr (of_streams First _ _ _ _ at_first (none_left none) (first_fronts (a.memory refl).0))
+
+-- ---- why questions are not read on
+
+-- the questions are refused only where their source cannot be read on
+pub cannot_read_on : {Q : Type 0} (asking : Q → Health) (turns : Q → ℕ) (is : Q) (fault : AskFault)
+    → ((why : ReadFault) → fault ≡ faults.Dialogue (stops.Questions why) → CannotReadOn asking turns is)
+    → refused_asking fault ≡ refusals.Questions → CannotReadOn asking turns is
+cannot_read_on asking turns is (faults.Dialogue (stops.Questions why)) cannot same = cannot why refl
+cannot_read_on asking turns is (faults.Dialogue (stops.Write why)) cannot same = absurd cc
+cannot_read_on asking turns is (faults.Dialogue stops.OutOfMemory) cannot same = absurd cc
+cannot_read_on asking turns is (faults.Parts (tool.Part index why)) cannot same = absurd cc
+cannot_read_on asking turns is (faults.Parts tool.NoParts) cannot same = absurd cc
+cannot_read_on asking turns is (faults.Parts tool.IdSizes) cannot same = absurd cc
+cannot_read_on asking turns is (faults.Parts (tool.Conflict key)) cannot same = absurd cc
+cannot_read_on asking turns is (faults.Parts tool.DumpTooLong) cannot same = absurd cc
+cannot_read_on asking turns is (faults.Parts (tool.Write why)) cannot same = absurd cc
+cannot_read_on asking turns is (faults.Parts tool.OutOfMemory) cannot same = absurd cc
 
 -- ---- of files
 

@@ -9,10 +9,6 @@ pub may_do : (P W : Type 0) (task : Task) → MayDo {P = P} {W = W} nothing_told
 may_do P W tasks.JoinInput = tt
 may_do P W (tasks.Write product out parts) = λ opened are. tt
 may_do P W (tasks.Salvage out parts) = λ opened are. tt
-may_do P W (tasks.Check parts) = tt
-may_do P W (tasks.Histogram parts) = tt
-may_do P W (tasks.Classes parts) = tt
-may_do P W (tasks.Objects kind parts) = tt
+may_do P W (tasks.Report word text parts) = tt
 may_do P W (tasks.Compare older newer) = tt
-may_do P W (tasks.Converse parts) = tt
-may_do P W (tasks.Ask question id parts) = tt
+may_do P W (tasks.Ask parts) = tt

@@ -7,8 +7,8 @@ use Rattle.hprof_tool.proofs.Conversing.{cannot_ask, leaves_over, over_files, sa
 use Rattle.hprof_tool.proofs.Ends.{if_ok_more, if_err_more}
 use Rattle.hprof_tool.proofs.program.conversing.ask_files.Goals as goal
 
-pub ask_through_buffer-requires-leave : goal.ask_through_buffer-requires-leave
-ask_through_buffer-requires-leave g c =
+pub ask_through_buffer-requires-clause-leave : goal.ask_through_buffer-requires-clause-leave
+ask_through_buffer-requires-clause-leave g c =
     let answered = g.F.Folder.answered c.args.files.now in
     let opened = subst (λ (parts : List _). AreOpened answered c.args.names.now parts) (sym c.deref_mut.ensures.value)
     c.in-Ok.ensures.opened in
