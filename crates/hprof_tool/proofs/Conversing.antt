@@ -167,12 +167,12 @@ module _ {R Q W O : Type 0} (left : R → Option (List ℕ)) (health : R → Hea
 -- ---- why questions are not read on
 
 -- the questions are refused only where their source cannot be read on
-pub cannot_read_on : {Q : Type 0} (asking : Q → Health) (turns : Q → ℕ) (is : Q) (fault : AskFault)
-    → ((why : ReadFault) → fault ≡ faults.Dialogue (stops.Questions why) → CannotReadOn asking turns is)
-    → refused_asking fault ≡ refusals.Questions → CannotReadOn asking turns is
-cannot_read_on asking turns is (faults.Dialogue (stops.Questions why)) cannot same = cannot why refl
-cannot_read_on asking turns is (faults.Dialogue (stops.Write why)) cannot same = absurd cc
-cannot_read_on asking turns is (faults.Dialogue stops.OutOfMemory) cannot same = absurd cc
+pub cannot_read_on : {Q : Type 0} (state : Q → Health) (turns : Q → ℕ) (is : Q) (fault : AskFault)
+    → ((why : ReadFault) → fault ≡ faults.Dialogue (stops.Questions why) → CannotReadOn state turns is)
+    → refused_state fault ≡ refusals.Questions → CannotReadOn state turns is
+cannot_read_on state turns is (faults.Dialogue (stops.Questions why)) cannot same = cannot why refl
+cannot_read_on state turns is (faults.Dialogue (stops.Write why)) cannot same = absurd cc
+cannot_read_on state turns is (faults.Dialogue stops.OutOfMemory) cannot same = absurd cc
 cannot_read_on asking turns is (faults.Parts (tool.Part index why)) cannot same = absurd cc
 cannot_read_on asking turns is (faults.Parts tool.NoParts) cannot same = absurd cc
 cannot_read_on asking turns is (faults.Parts tool.IdSizes) cannot same = absurd cc
